@@ -1,0 +1,94 @@
+//! The calls of the machine.
+
+ghost use Rattle.std.specs.Prelude.{◌↔◌, IsTrue};
+ghost use Rattle.tp_base.specs.Ranges.{IsCallInRange, IsEnvironInRange, IsRoutineInRange};
+
+use crate::ids::{GroupId, ObjectId, PoolId, RoutineId};
+
+/// The kind of a thread pool object.
+#[derive(Clone, Copy, Debug, PartialEq)]
+pub enum Kind {
+    Work,
+    Timer,
+    Wait,
+    Io,
+}
+
+/// The priority of a callback, as `TP_CALLBACK_PRIORITY`.
+#[derive(Clone, Copy, Debug, PartialEq)]
+pub enum Priority {
+    High,
+    Normal,
+    Low,
+}
+
+/// A callback environment, as `TP_CALLBACK_ENVIRON`.
+#[derive(Clone, Copy, Debug, PartialEq)]
+pub struct Environ {
+    pub pool: PoolId,
+    /// The cleanup group, or 0 for none.
+    pub group: GroupId,
+    /// The group's cancel routine for objects made with this environment, or 0 for none.
+    pub cancel: RoutineId,
+    pub priority: Priority,
+    /// Callbacks are expected to run long (`SetThreadpoolCallbackRunsLong`).
+    pub long: bool,
+}
+
+/// A call of one actor.
+#[derive(Clone, Copy, Debug, PartialEq)]
+pub enum Call {
+    /// Makes an object: `CreateThreadpoolWork` and its like for the other kinds.
+    Create {
+        kind: Kind,
+        routine: RoutineId,
+        context: u64,
+        env: Environ,
+    },
+    /// Makes one pending callback of a work object: `SubmitThreadpoolWork`.
+    SubmitWork {
+        object: ObjectId,
+    },
+    /// An unattached worker joins a pool that needs one.
+    Attach,
+    /// An idle worker takes the next pending callback of its pool and begins to run it.
+    Take,
+    /// A worker's callback returns.
+    Return,
+    /// A client makes no further call.
+    Finish,
+}
+
+impl RoutineId {
+    /// Whether this names a routine: 1 to 65,535.
+    pub fn in_range(&self) -> bool
+        ensures { IsTrue result ↔ IsRoutineInRange self.now.0 }
+    {
+        1 <= self.0 && self.0 <= 65_535
+    }
+}
+
+impl Environ {
+    /// Whether the numbers are at most 65,535, and no cancel routine stands without a group.
+    pub fn in_range(&self) -> bool
+        ensures { IsTrue result ↔ IsEnvironInRange self.now }
+    {
+        self.pool.0 <= 65_535
+            && self.group.0 <= 65_535
+            && self.cancel.0 <= 65_535
+            && (self.group.0 != 0 || self.cancel.0 == 0)
+    }
+}
+
+impl Call {
+    /// Whether a line can have the numbers of this call.
+    pub fn in_range(&self) -> bool
+        ensures { IsTrue result ↔ IsCallInRange self.now }
+    {
+        match self {
+            Call::Create { routine, env, .. } => routine.in_range() && env.in_range(),
+            Call::SubmitWork { object } => object.0 <= 65_535,
+            Call::Attach | Call::Take | Call::Return | Call::Finish => true,
+        }
+    }
+}
