@@ -1,0 +1,82 @@
+-- The conditions of the refusals that several calls share, with the actor or the thing named as their subject.
+use Rattle.std.specs.Prelude.{ℕ, ◌+◌, Bool, true, false, not, ◌||◌, ◌==◌, nat_lt, nat_le, List, length, slice_get, is_some, is_none, if◌then◌else◌, None, Some, Option}
+use Rattle.std.specs.List.{list_any}
+use Rattle.std.specs.Option.{option_map_or}
+use Rattle.tp_base.specs.declared.ids.Who.{Who}
+use Rattle.tp_base.specs.declared.ids.Who.TheVariants.{Client, Worker}
+use Rattle.tp_base.specs.declared.calls.Kind.{Kind}
+use Rattle.tp_base.specs.declared.calls.Kind.TheVariants.{Work}
+use Rattle.tp_base.specs.declared.rows.PoolRow.{PoolRow}
+use Rattle.tp_base.specs.declared.rows.GroupRow.{GroupRow}
+use Rattle.tp_base.specs.declared.rows.ObjectRow.{ObjectRow}
+use Rattle.tp_base.specs.declared.rows.WorkerRow.{WorkerRow}
+use Rattle.tp_base.specs.declared.rows.ClientRow.{ClientRow}
+use Rattle.tp_model.specs.World.{World, BegunWait}
+use Rattle.tp_model.specs.Counts.{numbered, slots}
+
+-- the row of a worker, and none for a client
+abbrev pub worker_of : World → Who → Option WorkerRow
+worker_of w (Client number) = None
+worker_of w (Worker number) = numbered w.workers number
+
+abbrev pub client_of : World → Who → Option ClientRow
+client_of w (Client number) = numbered w.clients number
+client_of w (Worker number) = None
+
+abbrev pub is_worker : Who → Bool
+is_worker (Client number) = false
+is_worker (Worker number) = true
+
+abbrev pub is_actor : World → Who → Bool
+is_actor w who = is_some (client_of w who) || is_some (worker_of w who)
+
+abbrev pub is_finished : World → Who → Bool
+is_finished w who = option_map_or (λ (r : ClientRow). r.finished) (client_of w who) false
+
+-- a worker that runs no callback
+abbrev pub is_without_callback : World → Who → Bool
+is_without_callback w who = option_map_or (λ (r : WorkerRow). is_none r.callback) (worker_of w who) false
+
+abbrev pub runs_callback : World → Who → Bool
+runs_callback w who = option_map_or (λ (r : WorkerRow). is_some r.callback) (worker_of w who) false
+
+abbrev pub is_attached : World → Who → Bool
+is_attached w who = option_map_or (λ (r : WorkerRow). is_some r.pool) (worker_of w who) false
+
+abbrev pub is_same_actor : Who → Who → Bool
+is_same_actor (Client a) (Client b) = a == b
+is_same_actor (Worker a) (Worker b) = a == b
+is_same_actor _ _ = false
+
+abbrev pub is_in_wait : World → Who → Bool
+is_in_wait w who = list_any (λ (b : BegunWait). is_same_actor b.actor who) w.waits
+
+abbrev pub is_pool : World → ℕ → Bool
+is_pool w pool = is_some (slice_get w.pools pool)
+
+abbrev pub is_closed_pool : World → ℕ → Bool
+is_closed_pool w pool = option_map_or (λ (p : PoolRow). p.closed) (slice_get w.pools pool) false
+
+-- group 0 stands for none
+abbrev pub is_no_group_or_group : World → ℕ → Bool
+is_no_group_or_group w group = (group == 0) || is_some (numbered w.groups group)
+
+abbrev pub is_closed_group : World → ℕ → Bool
+is_closed_group w group = option_map_or (λ (g : GroupRow). g.closed) (numbered w.groups group) false
+
+abbrev pub is_object : World → ℕ → Bool
+is_object w object = is_some (numbered w.objects object)
+
+abbrev pub is_work : Kind → Bool
+is_work Work = true
+is_work _ = false
+
+abbrev pub is_work_object : World → ℕ → Bool
+is_work_object w object = option_map_or (λ (o : ObjectRow). is_work o.kind) (numbered w.objects object) false
+
+abbrev pub is_released : World → ℕ → Bool
+is_released w object = option_map_or (λ (o : ObjectRow). o.released) (numbered w.objects object) false
+
+-- so many more callbacks would not fit
+abbrev pub lacks_slots_for : World → ℕ → Bool
+lacks_slots_for w count = nat_lt w.limits.slots (slots w + count)

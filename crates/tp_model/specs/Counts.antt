@@ -1,0 +1,131 @@
+-- What is counted in a world. Each count is the length of a filtered list.
+use Rattle.std.specs.Prelude.{ℕ, ◌+◌, ◌-◌, Bool, true, false, not, ◌&&◌, ◌||◌, ◌==◌, nat_lt, List, [], ◌∷◌, ◌++◌, length, slice_get, is_some, is_none, if◌then◌else◌, None, Some}
+use Rattle.std.specs.Prelude.{Option}
+use Rattle.std.specs.List.{filter, find, list_any, range_with_len}
+use Rattle.std.specs.Option.{option_map_or}
+use Rattle.std.specs.List.{sum_by}
+use Rattle.tp_base.specs.declared.calls.Priority.{Priority}
+use Rattle.tp_base.specs.declared.calls.Priority.TheVariants.{High, Normal, Low}
+use Rattle.tp_base.specs.declared.rows.PoolRow.{PoolRow}
+use Rattle.tp_base.specs.declared.rows.Status.{Status}
+use Rattle.tp_base.specs.declared.rows.Status.TheVariants.{Expected, Issued, Pending, Running, Returned, Cancelled}
+use Rattle.tp_base.specs.declared.rows.CallbackRow.{CallbackRow}
+use Rattle.tp_base.specs.declared.rows.WorkerRow.{WorkerRow}
+use Rattle.tp_base.specs.declared.rows.ClientRow.{ClientRow}
+use Rattle.tp_base.specs.declared.ids.PoolId.{PoolId}
+use Rattle.tp_model.specs.World.{World}
+
+-- the row of a number that counts from 1
+abbrev pub numbered : {R : Type 0} → List R → ℕ → Option R
+numbered rows number = if number == 0 then None else slice_get rows (number - 1)
+
+abbrev pub is_pending : Status → Bool
+is_pending Pending = true
+is_pending _ = false
+
+abbrev pub is_running : Status → Bool
+is_running (Running worker associated slots) = true
+is_running _ = false
+
+-- it may still run, or is being run
+abbrev pub is_live : Status → Bool
+is_live Expected = true
+is_live Issued = true
+is_live Pending = true
+is_live (Running worker associated slots) = true
+is_live Returned = false
+is_live Cancelled = false
+
+abbrev pub is_high : Priority → Bool
+is_high High = true
+is_high _ = false
+
+abbrev pub is_normal : Priority → Bool
+is_normal Normal = true
+is_normal _ = false
+
+abbrev pub is_low : Priority → Bool
+is_low Low = true
+is_low _ = false
+
+abbrev pub is_pending_in : ℕ → CallbackRow → Bool
+is_pending_in pool c = is_pending c.status && (c.pool.0 == pool)
+
+abbrev pub is_running_in : ℕ → CallbackRow → Bool
+is_running_in pool c = is_running c.status && (c.pool.0 == pool)
+
+-- the worker is attached to the pool
+abbrev pub is_attached_to : ℕ → WorkerRow → Bool
+is_attached_to pool worker = option_map_or (λ (p : PoolId). p.0 == pool) worker.pool false
+
+abbrev pub is_idle_in : ℕ → WorkerRow → Bool
+is_idle_in pool worker = is_attached_to pool worker && is_none worker.callback
+
+-- the callback that is running on the worker has the long mark
+abbrev pub runs_long : World → WorkerRow → Bool
+runs_long w worker = option_map_or (λ number. option_map_or (λ (c : CallbackRow). c.long) (numbered w.callbacks number) false) worker.callback false
+
+abbrev pub runs_long_in : World → ℕ → WorkerRow → Bool
+runs_long_in w pool worker = is_attached_to pool worker && runs_long w worker
+
+abbrev pub pending : World → ℕ → ℕ
+pending w pool = length (filter (is_pending_in pool) w.callbacks)
+
+abbrev pub running : World → ℕ → ℕ
+running w pool = length (filter (is_running_in pool) w.callbacks)
+
+abbrev pub attached : World → ℕ → ℕ
+attached w pool = length (filter (is_attached_to pool) w.workers)
+
+abbrev pub idle : World → ℕ → ℕ
+idle w pool = length (filter (is_idle_in pool) w.workers)
+
+-- the attached workers that don't run a long callback
+abbrev pub available : World → ℕ → ℕ
+available w pool = attached w pool - length (filter (runs_long_in w pool) w.workers)
+
+abbrev pub maximum : World → ℕ → ℕ
+maximum w pool = option_map_or (λ (p : PoolRow). p.maximum) (slice_get w.pools pool) 0
+
+-- that of a closed pool counts as 0
+abbrev pub minimum : World → ℕ → ℕ
+minimum w pool = option_map_or (λ (p : PoolRow). if p.closed then 0 else p.minimum) (slice_get w.pools pool) 0
+
+-- callbacks wait, no attached worker is free, and the pool may have another
+abbrev pub is_in_need : World → ℕ → Bool
+is_in_need w pool = nat_lt 0 (pending w pool) && (idle w pool == 0) && nat_lt (attached w pool) (maximum w pool)
+
+-- the pool has fewer workers for short callbacks than its minimum, and may have another
+abbrev pub is_below_minimum : World → ℕ → Bool
+is_below_minimum w pool = nat_lt (available w pool) (minimum w pool) && nat_lt (attached w pool) (maximum w pool)
+
+-- the pool of least number that passes the test
+abbrev pub least_pool : World → (ℕ → Bool) → Option ℕ
+least_pool w test = find test (range_with_len 0 (length w.pools))
+
+-- a pool's pending callbacks of the priorities that pass the test, by rising number
+abbrev pub waiting : World → ℕ → (Priority → Bool) → List CallbackRow
+waiting w pool test = filter (λ c. is_pending_in pool c && test c.priority) w.callbacks
+
+-- a pool's pending callbacks in the order in which they are taken
+abbrev pub queue : World → ℕ → List CallbackRow
+queue w pool = waiting w pool is_high ++ waiting w pool is_normal ++ waiting w pool is_low
+
+-- the callback that is taken next: of the highest priority, and of these the one of least number
+abbrev pub next : World → ℕ → Option CallbackRow
+next w pool = slice_get (queue w pool) 0
+
+-- callbacks that may still run or are being run, and armed waits, each of which holds a place for its callback
+abbrev pub slots : World → ℕ
+slots w = length (filter (λ c. is_live c.status) w.callbacks) + length w.armings
+
+-- the entries that the history must still have room for: each running callback returns, each begun wait gives
+-- its notices and ends, each attached worker detaches, each client finishes
+abbrev pub owed : World → ℕ
+owed w =
+    length (filter (λ c. is_running c.status) w.callbacks)
+    + length w.waits
+    + sum_by (λ b. length b.notices) w.waits
+    + length (filter (λ r. is_some r.pool) w.workers)
+    + length (filter (λ r. not r.finished) w.clients)
+    + w.given_up

@@ -1,0 +1,54 @@
+-- Histories: which are legal, and which outcomes a list of calls has.
+use Rattle.std.specs.Prelude.{◌≡◌, ℕ, ◌+◌, ◌-◌, Bool, true, false, List, [], ◌∷◌, if◌then◌else◌}
+use Rattle.tp_base.specs.declared.ids.Who.{Who}
+use Rattle.tp_base.specs.declared.calls.Call.{Call}
+use Rattle.tp_base.specs.declared.answers.Answer.{Answer}
+use Rattle.tp_base.specs.declared.answers.Answer.TheVariants.{Refused}
+use Rattle.tp_base.specs.declared.answers.Entry.{Entry}
+use Rattle.tp_base.specs.declared.answers.Outcome.{Outcome}
+use Rattle.tp_base.specs.declared.answers.Outcome.TheVariants.{Done}
+use Rattle.tp_base.specs.declared.limits.Limits.{Limits}
+use Rattle.tp_model.specs.World.{World, opening}
+use Rattle.tp_model.specs.Counts.{owed}
+use Rattle.tp_model.specs.Step.{Step, outcome_of, world_after, entries_of}
+use Rattle.tp_model.specs.Table.{row, step}
+
+-- what a history of a capacity with so many entries has left, less what the world owes it
+abbrev pub room : ℕ → World → ℕ → ℕ
+room capacity w entries = (capacity - entries) - owed w
+
+abbrev pub is_refusal : Answer → Bool
+is_refusal (Refused refusal) = true
+is_refusal _ = false
+
+-- the world that an accepted entry leads to
+abbrev pub led_to : World → Entry → World
+led_to w entry = if is_refusal entry.answer then w else world_after w (row w entry.who entry.call)
+
+abbrev pub after_from : World → List Entry → World
+after_from w [] = w
+after_from w (entry ∷ entries) = after_from (led_to w entry) entries
+
+-- the world after a history
+abbrev pub after : Limits → List Entry → World
+after limits history = after_from (opening limits) history
+
+-- each entry's answer is the machine's at its place
+abbrev pub IsLegalFrom : World → ℕ → ℕ → List Entry → Type 0
+IsLegalFrom w capacity entries [] = Unit {0}
+IsLegalFrom w capacity entries (entry ∷ rest) =
+    (outcome_of (step w (room capacity w entries) entry.who entry.call) ≡ Done entry.answer)
+    × IsLegalFrom (led_to w entry) capacity (entries + 1) rest
+
+abbrev pub IsLegal : Limits → ℕ → List Entry → Type 0
+IsLegal limits capacity history = IsLegalFrom (opening limits) capacity 0 history
+
+-- the outcomes of calls that are made one after another; accepted and refused ones become entries
+abbrev pub play_from : World → ℕ → ℕ → List (Who × Call) → List Outcome
+play_from w capacity entries [] = []
+play_from w capacity entries (made ∷ rest) =
+    let came = step w (room capacity w entries) made.0 made.1 in
+    outcome_of came ∷ play_from (world_after w came) capacity (entries + entries_of came) rest
+
+abbrev pub play : Limits → ℕ → List (Who × Call) → List Outcome
+play limits capacity calls = play_from (opening limits) capacity 0 calls

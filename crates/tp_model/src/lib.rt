@@ -1,0 +1,3 @@
+//! The machine as definitions: worlds, steps, histories.
+
+#![tactic(auto)]
