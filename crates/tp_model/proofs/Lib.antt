@@ -1,1 +1,6 @@
+pub mod Callbacks
 pub mod Examples
+pub mod Forgetting
+pub mod Lists
+pub mod Refusals
+pub mod Soundness

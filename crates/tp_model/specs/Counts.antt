@@ -27,6 +27,13 @@ abbrev pub is_running : Status → Bool
 is_running (Running worker associated slots) = true
 is_running _ = false
 
+-- the callback of a number
+abbrev pub has_number : ℕ → CallbackRow → Bool
+has_number number c = c.number == number
+
+abbrev pub callback_of : World → ℕ → Option CallbackRow
+callback_of w number = find (has_number number) w.callbacks
+
 -- it may still run, or is being run
 abbrev pub is_live : Status → Bool
 is_live Expected = true
@@ -54,19 +61,15 @@ is_pending_in pool c = is_pending c.status && (c.pool.0 == pool)
 abbrev pub is_running_in : ℕ → CallbackRow → Bool
 is_running_in pool c = is_running c.status && (c.pool.0 == pool)
 
+abbrev pub is_running_long_in : ℕ → CallbackRow → Bool
+is_running_long_in pool c = is_running_in pool c && c.long
+
 -- the worker is attached to the pool
 abbrev pub is_attached_to : ℕ → WorkerRow → Bool
 is_attached_to pool worker = option_map_or (λ (p : PoolId). p.0 == pool) worker.pool false
 
 abbrev pub is_idle_in : ℕ → WorkerRow → Bool
 is_idle_in pool worker = is_attached_to pool worker && is_none worker.callback
-
--- the callback that is running on the worker has the long mark
-abbrev pub runs_long : World → WorkerRow → Bool
-runs_long w worker = option_map_or (λ number. option_map_or (λ (c : CallbackRow). c.long) (numbered w.callbacks number) false) worker.callback false
-
-abbrev pub runs_long_in : World → ℕ → WorkerRow → Bool
-runs_long_in w pool worker = is_attached_to pool worker && runs_long w worker
 
 abbrev pub pending : World → ℕ → ℕ
 pending w pool = length (filter (is_pending_in pool) w.callbacks)
@@ -80,9 +83,13 @@ attached w pool = length (filter (is_attached_to pool) w.workers)
 abbrev pub idle : World → ℕ → ℕ
 idle w pool = length (filter (is_idle_in pool) w.workers)
 
--- the attached workers that don't run a long callback
+-- the callbacks with the long mark that the pool's workers run
+abbrev pub running_long : World → ℕ → ℕ
+running_long w pool = length (filter (is_running_long_in pool) w.callbacks)
+
+-- the attached workers that don't run a callback with the long mark
 abbrev pub available : World → ℕ → ℕ
-available w pool = attached w pool - length (filter (runs_long_in w pool) w.workers)
+available w pool = attached w pool - running_long w pool
 
 abbrev pub maximum : World → ℕ → ℕ
 maximum w pool = option_map_or (λ (p : PoolRow). p.maximum) (slice_get w.pools pool) 0

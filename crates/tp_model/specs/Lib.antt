@@ -1,6 +1,7 @@
 pub mod Conditions
 pub mod Counts
 pub mod History
+pub mod Remembered
 pub mod Rows
 pub mod Sound
 pub mod Step

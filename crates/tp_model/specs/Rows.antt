@@ -1,4 +1,5 @@
--- The calls, a row each: which refusals it can meet, by rising importance of the refusal, and else what it does.
+-- The calls, a row each: the refusals that it can meet, of which the first one that applies is answered, and else
+-- what it does. `fresh` is the number that the next callback gets.
 use Rattle.std.specs.Prelude.{ℕ, ◌+◌, ◌-◌, Bool, true, false, not, ◌||◌, ◌==◌, nat_lt, nat_le, List, [], ◌∷◌, ◌++◌, length, map, slice_set, if◌then◌else◌, None, Some, Option}
 use Rattle.std.specs.Option.{option_or}
 use Rattle.tp_base.specs.declared.ids.Who.{Who}
@@ -22,7 +23,7 @@ use Rattle.tp_base.specs.declared.rows.CallbackRow.{CallbackRow}
 use Rattle.tp_base.specs.declared.rows.WorkerRow.{WorkerRow}
 use Rattle.tp_base.specs.declared.rows.ClientRow.{ClientRow}
 use Rattle.tp_model.specs.World.{World}
-use Rattle.tp_model.specs.Counts.{numbered, running, maximum, pending, next, least_pool, is_in_need, is_below_minimum}
+use Rattle.tp_model.specs.Counts.{numbered, callback_of, has_number, running, maximum, pending, next, least_pool, is_in_need, is_below_minimum}
 use Rattle.tp_model.specs.Conditions.{worker_of, is_worker, is_actor, is_finished, is_without_callback, runs_callback, is_attached, is_in_wait, is_pool, is_closed_pool, is_no_group_or_group, is_closed_group, is_object, is_work_object, is_released, lacks_slots_for}
 use Rattle.tp_model.specs.Step.{Step, Accepted, Refused, Looked, first_refusal, unless_refused}
 
@@ -36,7 +37,7 @@ with_new_callback w callback = record w { callbacks = w.callbacks ++ callback �
 
 -- a row in place of the one of its number
 abbrev pub replaced : CallbackRow → List CallbackRow → List CallbackRow
-replaced callback callbacks = map (λ c. if c.number == callback.number then callback else c) callbacks
+replaced callback callbacks = map (λ c. if has_number callback.number c then callback else c) callbacks
 
 abbrev pub with_callback : World → CallbackRow → World
 with_callback w callback = record w { callbacks = replaced callback w.callbacks }
@@ -85,9 +86,9 @@ submit_work_refusals w who object =
     ∷ []
 
 -- a callback of an object, as the object's environment was when the object was made
-abbrev pub new_callback : World → ℕ → ObjectRow → TakeResult → CallbackRow
-new_callback w object row result = record {
-  number = length w.callbacks + 1;
+abbrev pub new_callback : ℕ → ℕ → ObjectRow → TakeResult → CallbackRow
+new_callback number object row result = record {
+  number = number;
   object = record { 0 = object };
   routine = row.routine;
   context = row.context;
@@ -99,14 +100,14 @@ new_callback w object row result = record {
   status = Pending;
   }
 
-abbrev pub submit_work_effect : World → ℕ → Option ObjectRow → Step
-submit_work_effect w object None = Refused NoSuch
-submit_work_effect w object (Some row) =
-    Accepted (answer.Queued (length w.callbacks + 1) 1) (with_new_callback w (new_callback w object row Plain))
+abbrev pub submit_work_effect : World → ℕ → ℕ → Option ObjectRow → Step
+submit_work_effect w fresh object None = Refused NoSuch
+submit_work_effect w fresh object (Some row) =
+    Accepted (answer.Queued fresh 1) (with_new_callback w (new_callback fresh object row Plain))
 
-unfoldable pub submit_work_row : World → Who → ℕ → Step
-submit_work_row w who object =
-    unless_refused (first_refusal (submit_work_refusals w who object)) (submit_work_effect w object (numbered w.objects object))
+unfoldable pub submit_work_row : World → ℕ → Who → ℕ → Step
+submit_work_row w fresh who object =
+    unless_refused (first_refusal (submit_work_refusals w who object)) (submit_work_effect w fresh object (numbered w.objects object))
 
 -- ---- Attach: a worker joins a pool
 
@@ -197,7 +198,7 @@ finish_callback w worker row (Some c) =
 
 abbrev pub return_of : World → ℕ → WorkerRow → Option ℕ → Step
 return_of w worker row None = Refused NotRunning
-return_of w worker row (Some callback) = finish_callback w worker row (numbered w.callbacks callback)
+return_of w worker row (Some callback) = finish_callback w worker row (callback_of w callback)
 
 abbrev pub return_effect : World → Who → Option WorkerRow → Step
 return_effect w (Worker number) (Some row) = return_of w number row row.callback

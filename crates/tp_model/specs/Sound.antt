@@ -1,1 +1,43 @@
--- placeholder
+-- What is true of every world that can be reached.
+use Rattle.std.specs.Prelude.{◌≡◌, ℕ, ◌+◌, ◌<◌, ◌≤◌, Bool, List, [], ◌∷◌, length, None, Some, Option}
+use Rattle.std.specs.List.{find, AllByRecursion}
+use Rattle.tp_base.specs.declared.ids.PoolId.{PoolId}
+use Rattle.tp_base.specs.declared.rows.Slots.{Slots}
+use Rattle.tp_base.specs.declared.rows.Status.TheVariants.{Running}
+use Rattle.tp_base.specs.declared.rows.ObjectRow.{ObjectRow}
+use Rattle.tp_base.specs.declared.rows.CallbackRow.{CallbackRow}
+use Rattle.tp_base.specs.declared.rows.WorkerRow.{WorkerRow}
+use Rattle.tp_model.specs.World.{World}
+use Rattle.tp_model.specs.Counts.{has_number}
+
+-- the numbers rise, from low on, and stay below fresh
+abbrev pub IsRising : ℕ → ℕ → List CallbackRow → Type 0
+IsRising low fresh [] = low ≤ fresh
+IsRising low fresh (c ∷ cs) = (low ≤ c.number) × IsRising (c.number + 1) fresh cs
+
+-- the callback of this number runs on this worker, in this pool
+pub record RunsOn (callbacks : List CallbackRow) (worker : ℕ) (pool : PoolId) (number : ℕ) : Type 0 where
+  pub callback : CallbackRow
+  pub associated : Bool
+  pub slots : Slots
+  pub found : find (has_number number) callbacks ≡ Some callback
+  pub runs : callback.status ≡ Running worker associated slots
+  pub at_home : callback.pool ≡ pool
+
+-- a worker that runs a callback is attached to the callback's pool
+abbrev pub IsWorkerSound : List CallbackRow → ℕ → Option PoolId → Option ℕ → Type 0
+IsWorkerSound callbacks worker pool None = Unit {0}
+IsWorkerSound callbacks worker None (Some number) = ⊥
+IsWorkerSound callbacks worker (Some pool) (Some number) = RunsOn callbacks worker pool number
+
+-- of the workers from this number on
+abbrev pub AreWorkersSound : List CallbackRow → ℕ → List WorkerRow → Type 0
+AreWorkersSound callbacks worker [] = Unit {0}
+AreWorkersSound callbacks worker (r ∷ rs) = IsWorkerSound callbacks worker r.pool r.callback × AreWorkersSound callbacks (worker + 1) rs
+
+-- with the number that the next callback gets
+pub record IsSound (fresh : ℕ) (w : World) : Type 0 where
+  pub numbers : IsRising 1 fresh w.callbacks
+  pub workers : AreWorkersSound w.callbacks 1 w.workers
+  pub object_pools : AllByRecursion (λ (o : ObjectRow). o.env.pool.0 < length w.pools) w.objects
+  pub callback_pools : AllByRecursion (λ (c : CallbackRow). c.pool.0 < length w.pools) w.callbacks

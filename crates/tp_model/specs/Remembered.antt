@@ -1,0 +1,50 @@
+-- What an engine remembers of a world: all but the callbacks that returned or were cancelled.
+use Rattle.std.specs.Prelude.{◌≡◌, ℕ, ◌+◌, ◌-◌, Bool, true, false, List, length, if◌then◌else◌}
+use Rattle.std.specs.List.{filter}
+use Rattle.tp_base.specs.declared.ids.Who.{Who}
+use Rattle.tp_base.specs.declared.calls.Call.{Call}
+use Rattle.tp_base.specs.declared.answers.Outcome.{Outcome}
+use Rattle.tp_base.specs.declared.rows.CallbackRow.{CallbackRow}
+use Rattle.tp_model.specs.World.{World}
+use Rattle.tp_model.specs.Counts.{is_live}
+use Rattle.tp_model.specs.Step.{Step, within, outcome_of, world_after, is_accepted}
+use Rattle.tp_model.specs.Table.{row_at}
+use Rattle.tp_model.specs.Sound.{IsSound}
+
+-- whether the callback may still run, or runs
+abbrev pub lives : CallbackRow → Bool
+lives c = is_live c.status
+
+abbrev pub forget : World → World
+forget w = record w { callbacks = filter lives w.callbacks }
+
+-- a world without the callbacks that are over, how many were ever made, and how many steps were accepted
+pub record Remembered : Type 0 where
+  pub world : World
+  pub made : ℕ
+  pub age : ℕ
+
+-- the step, from what is remembered alone
+abbrev pub step_of : Remembered → ℕ → Who → Call → Step
+step_of e room who call = within e.world room (row_at e.world (e.made + 1) who call)
+
+abbrev pub made_by : World → Step → ℕ
+made_by w s = length (world_after w s).callbacks - length w.callbacks
+
+abbrev pub remembered_after : Remembered → Step → Remembered
+remembered_after e s = record {
+  world = forget (world_after e.world s);
+  made = e.made + made_by e.world s;
+  age = if is_accepted s then e.age + 1 else e.age;
+  }
+
+-- what is remembered is what an engine that stands for the world remembers
+pub record StandsFor (e : Remembered) (w : World) : Type 0 where
+  pub remembers : e.world ≡ forget w
+  pub counts : e.made ≡ length w.callbacks
+  pub sound : IsSound (e.made + 1) w
+
+-- the answer is that of the step, and the engine stands for the world after it
+pub record Meets (old new : Remembered) (w : World) (s : Step) (told : Outcome) : Type 0 where
+  pub answer : told ≡ outcome_of s
+  pub stands : StandsFor new (world_after w s)
