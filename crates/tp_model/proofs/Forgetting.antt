@@ -28,7 +28,7 @@ use Rattle.tp_base.specs.declared.rows.WorkerRow.{WorkerRow}
 use Rattle.tp_model.specs.World.{World}
 use Rattle.tp_model.specs.Counts.{numbered, callback_of, has_number, is_live, is_pending, is_running, is_pending_in, is_running_in, is_running_long_in, is_high, is_normal, is_low, waiting, queue, next, pending, running, running_long, maximum, slots, owed, least_pool, is_in_need, is_below_minimum}
 use Rattle.tp_model.specs.Conditions.{worker_of, is_actor}
-use Rattle.tp_model.specs.Step.{Step, Accepted, Refused, Looked, Full, first_refusal, unless_refused, unless_full, within, cost, outcome_of, world_after, is_accepted}
+use Rattle.tp_model.specs.Step.{Step, Accepted, Refused, Looked, Full, first_refusal, unless_refused, unless_full, within, cost, outcome_of, world_after}
 use Rattle.tp_model.specs.Rows.{with_object, with_new_callback, with_callback, with_worker, with_client, replaced, started, returned, new_object, new_callback, create_row, create_refusals, create_effect, submit_work_row, submit_work_refusals, submit_work_effect, attach_row, attach_refusals, attach_effect, pool_to_join, take_row, take_refusals, take_effect, take_in, take_next, start, return_row, return_refusals, return_effect, return_of, finish_callback, finish_row, finish_refusals, finish_effect}
 use Rattle.tp_model.specs.Table.{row_at, step}
 use Rattle.tp_model.specs.Sound.{IsSound, RunsOn, IsWorkerSound, AreWorkersSound}
@@ -306,13 +306,12 @@ pub record GoesAlike (v w : World) (e f : Step) : Type 0 where
   pub left : forget (world_after v e) ≡ forget (world_after w f)
   pub made : made_by v e ≡ made_by w f
   pub more : length w.callbacks + made_by w f ≡ length (world_after w f).callbacks
-  pub accepted : is_accepted e ≡ is_accepted f
 
 goes_alike : (w : World) (e f : Step) → AreAlike (forget w) w e f → GoesAlike (forget w) w e f
-goes_alike w (Accepted a after_v) (Accepted b after_w) h = record { told = ap (λ x. outcome.Done x) h.0; left = h.1; made = h.2; more = omega (arith, h.3); accepted = refl }
-goes_alike w (Refused a) (Refused b) h = record { told = ap (λ x. outcome.Done (answer.Refused x)) h; left = live_forgotten w; made = omega arith; more = omega arith; accepted = refl }
-goes_alike w (Looked a) (Looked b) h = record { told = ap (λ x. outcome.Look x) h; left = live_forgotten w; made = omega arith; more = omega arith; accepted = refl }
-goes_alike w (Full a m) (Full b n) h = record { told = ap₂ (λ x y. outcome.Full x y) h.0 h.1; left = live_forgotten w; made = omega arith; more = omega arith; accepted = refl }
+goes_alike w (Accepted a after_v) (Accepted b after_w) h = record { told = ap (λ x. outcome.Done x) h.0; left = h.1; made = h.2; more = omega (arith, h.3) }
+goes_alike w (Refused a) (Refused b) h = record { told = ap (λ x. outcome.Done (answer.Refused x)) h; left = live_forgotten w; made = omega arith; more = omega arith }
+goes_alike w (Looked a) (Looked b) h = record { told = ap (λ x. outcome.Look x) h; left = live_forgotten w; made = omega arith; more = omega arith }
+goes_alike w (Full a m) (Full b n) h = record { told = ap₂ (λ x y. outcome.Full x y) h.0 h.1; left = live_forgotten w; made = omega arith; more = omega arith }
 goes_alike w (Accepted a after_v) (Refused b) h = absurd h
 goes_alike w (Accepted a after_v) (Looked b) h = absurd h
 goes_alike w (Accepted a after_v) (Full b n) h = absurd h
@@ -331,6 +330,19 @@ step_alike w room who call s =
     goes_alike w (within (forget w) room (row_at (forget w) (length w.callbacks + 1) who call)) (step w room who call)
       (within_alike w room (row_at (forget w) (length w.callbacks + 1) who call) (row_at w (length w.callbacks + 1) who call) (row_alike (length w.callbacks + 1) w who call s))
 
+-- what is remembered after a step is what lives after it, and how many were made
+remembered_world : (e : Remembered) (s : Step) → forget e.world ≡ e.world → (remembered_after e s).world ≡ forget (world_after e.world s)
+remembered_world e (Accepted answer after) whole = refl
+remembered_world e (Refused refusal) whole = sym whole
+remembered_world e (Looked look) whole = sym whole
+remembered_world e (Full room cost) whole = sym whole
+
+remembered_made : (e : Remembered) (s : Step) → (remembered_after e s).made ≡ e.made + made_by e.world s
+remembered_made e (Accepted answer after) = refl
+remembered_made e (Refused refusal) = omega arith
+remembered_made e (Looked look) = omega arith
+remembered_made e (Full room cost) = omega arith
+
 -- what the engine's step does to what it remembers meets the step of the world
 pub meets : (old new : Remembered) (w : World) (room : ℕ) (who : Who) (call : Call) (told : Outcome) → StandsFor old w → new ≡ remembered_after old (step_of old room who call) → told ≡ outcome_of (step_of old room who call) → Meets old new w (step w room who call) told
 meets old new w room who call told stands is says =
@@ -338,13 +350,14 @@ meets old new w room who call told stands is says =
     let sound : IsSound fresh w = subst (λ n. IsSound (n + 1) w) stands.counts stands.sound in
     let same : step_of old room who call ≡ within (forget w) room (row_at (forget w) fresh who call) = ap₂ (λ v m. within v room (row_at v (m + 1) who call)) stands.remembers stands.counts in
     let alike : GoesAlike (forget w) w (within (forget w) room (row_at (forget w) fresh who call)) (step w room who call) = step_alike w room who call sound in
+    let whole : forget old.world ≡ old.world = ap forget stands.remembers ∙ live_forgotten w ∙ sym stands.remembers in
     let left : forget (world_after old.world (step_of old room who call)) ≡ forget (world_after w (step w room who call)) = ap₂ (λ v s. forget (world_after v s)) stands.remembers same ∙ alike.left in
     let made : made_by old.world (step_of old room who call) ≡ made_by w (step w room who call) = ap₂ made_by stands.remembers same ∙ alike.made in
-    let counted : new.made ≡ length (world_after w (step w room who call)).callbacks = ap (λ (r : Remembered). r.made) is ∙ ap₂ (λ m n. m + n) stands.counts made ∙ alike.more in
+    let counted : new.made ≡ length (world_after w (step w room who call)).callbacks = ap (λ (r : Remembered). r.made) is ∙ remembered_made old (step_of old room who call) ∙ ap₂ (λ m n. m + n) stands.counts made ∙ alike.more in
     record {
       answer = says ∙ ap outcome_of same ∙ alike.told;
       stands = record {
-        remembers = ap (λ (r : Remembered). r.world) is ∙ left;
+        remembers = ap (λ (r : Remembered). r.world) is ∙ remembered_world old (step_of old room who call) whole ∙ left;
         counts = counted;
         sound = subst (λ n. IsSound n (world_after w (step w room who call))) (omega (arith, counted, alike.more))
           (sound_within fresh w room (row_at w fresh who call) sound (row_sound fresh w who call sound));

@@ -1,5 +1,5 @@
 -- What an engine remembers of a world: all but the callbacks that returned or were cancelled.
-use Rattle.std.specs.Prelude.{◌≡◌, ℕ, ◌+◌, ◌-◌, Bool, true, false, List, length, if◌then◌else◌}
+use Rattle.std.specs.Prelude.{◌≡◌, ℕ, ◌+◌, ◌-◌, Bool, List, length}
 use Rattle.std.specs.List.{filter}
 use Rattle.tp_base.specs.declared.ids.Who.{Who}
 use Rattle.tp_base.specs.declared.calls.Call.{Call}
@@ -7,7 +7,7 @@ use Rattle.tp_base.specs.declared.answers.Outcome.{Outcome}
 use Rattle.tp_base.specs.declared.rows.CallbackRow.{CallbackRow}
 use Rattle.tp_model.specs.World.{World}
 use Rattle.tp_model.specs.Counts.{is_live}
-use Rattle.tp_model.specs.Step.{Step, within, outcome_of, world_after, is_accepted}
+use Rattle.tp_model.specs.Step.{Step, Accepted, Refused, Looked, Full, within, outcome_of, world_after}
 use Rattle.tp_model.specs.Table.{row_at}
 use Rattle.tp_model.specs.Sound.{IsSound}
 
@@ -31,12 +31,16 @@ step_of e room who call = within e.world room (row_at e.world (e.made + 1) who c
 abbrev pub made_by : World → Step → ℕ
 made_by w s = length (world_after w s).callbacks - length w.callbacks
 
+-- an accepted step is one more; nothing else changes what is remembered
 abbrev pub remembered_after : Remembered → Step → Remembered
-remembered_after e s = record {
-  world = forget (world_after e.world s);
-  made = e.made + made_by e.world s;
-  age = if is_accepted s then e.age + 1 else e.age;
+remembered_after e (Accepted answer after) = record {
+  world = forget after;
+  made = e.made + made_by e.world (Accepted answer after);
+  age = e.age + 1;
   }
+remembered_after e (Refused refusal) = e
+remembered_after e (Looked look) = e
+remembered_after e (Full room cost) = e
 
 -- what is remembered is what an engine that stands for the world remembers
 pub record StandsFor (e : Remembered) (w : World) : Type 0 where
