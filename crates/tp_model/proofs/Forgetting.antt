@@ -28,11 +28,11 @@ use Rattle.tp_base.specs.declared.rows.WorkerRow.{WorkerRow}
 use Rattle.tp_model.specs.World.{World}
 use Rattle.tp_model.specs.Counts.{numbered, callback_of, has_number, is_live, is_pending, is_running, is_pending_in, is_running_in, is_running_long_in, is_high, is_normal, is_low, waiting, queue, next, pending, running, running_long, maximum, slots, owed, least_pool, is_in_need, is_below_minimum}
 use Rattle.tp_model.specs.Conditions.{worker_of, is_actor}
-use Rattle.tp_model.specs.Step.{Step, Accepted, Refused, Looked, Full, first_refusal, unless_refused, unless_full, within, cost, outcome_of, world_after}
+use Rattle.tp_model.specs.Step.{Step, Accepted, Refused, Looked, Full, first_refusal, unless_refused, unless_full, within, cost, outcome_of, world_after, is_accepted}
 use Rattle.tp_model.specs.Rows.{with_object, with_new_callback, with_callback, with_worker, with_client, replaced, started, returned, new_object, new_callback, create_row, create_refusals, create_effect, submit_work_row, submit_work_refusals, submit_work_effect, attach_row, attach_refusals, attach_effect, pool_to_join, take_row, take_refusals, take_effect, take_in, take_next, start, return_row, return_refusals, return_effect, return_of, finish_callback, finish_row, finish_refusals, finish_effect}
 use Rattle.tp_model.specs.Table.{row_at, step}
 use Rattle.tp_model.specs.Sound.{IsSound, RunsOn, IsWorkerSound, AreWorkersSound}
-use Rattle.tp_model.specs.Remembered.{Remembered, lives, forget, made_by, step_of, remembered_after, StandsFor, Meets}
+use Rattle.tp_model.specs.Remembered.{Remembered, lives, forget, made_by, step_of, remembered_after, StandsFor, Meets, Goes}
 use Rattle.tp_model.proofs.Lists.{filter_filter, find_kept, find_passes, find_agree, all_filter}
 use Rattle.tp_model.proofs.Callbacks.{over_not_pending, over_not_running, pending_lives, rising_filter, length_replaced, filter_replaced_out, filter_replaced_filter, found_all}
 use Rattle.tp_model.proofs.Refusals.{numbered_some}
@@ -306,12 +306,13 @@ pub record GoesAlike (v w : World) (e f : Step) : Type 0 where
   pub left : forget (world_after v e) ≡ forget (world_after w f)
   pub made : made_by v e ≡ made_by w f
   pub more : length w.callbacks + made_by w f ≡ length (world_after w f).callbacks
+  pub accepted : is_accepted e ≡ is_accepted f
 
 goes_alike : (w : World) (e f : Step) → AreAlike (forget w) w e f → GoesAlike (forget w) w e f
-goes_alike w (Accepted a after_v) (Accepted b after_w) h = record { told = ap (λ x. outcome.Done x) h.0; left = h.1; made = h.2; more = omega (arith, h.3) }
-goes_alike w (Refused a) (Refused b) h = record { told = ap (λ x. outcome.Done (answer.Refused x)) h; left = live_forgotten w; made = omega arith; more = omega arith }
-goes_alike w (Looked a) (Looked b) h = record { told = ap (λ x. outcome.Look x) h; left = live_forgotten w; made = omega arith; more = omega arith }
-goes_alike w (Full a m) (Full b n) h = record { told = ap₂ (λ x y. outcome.Full x y) h.0 h.1; left = live_forgotten w; made = omega arith; more = omega arith }
+goes_alike w (Accepted a after_v) (Accepted b after_w) h = record { told = ap (λ x. outcome.Done x) h.0; left = h.1; made = h.2; more = omega (arith, h.3); accepted = refl }
+goes_alike w (Refused a) (Refused b) h = record { told = ap (λ x. outcome.Done (answer.Refused x)) h; left = live_forgotten w; made = omega arith; more = omega arith; accepted = refl }
+goes_alike w (Looked a) (Looked b) h = record { told = ap (λ x. outcome.Look x) h; left = live_forgotten w; made = omega arith; more = omega arith; accepted = refl }
+goes_alike w (Full a m) (Full b n) h = record { told = ap₂ (λ x y. outcome.Full x y) h.0 h.1; left = live_forgotten w; made = omega arith; more = omega arith; accepted = refl }
 goes_alike w (Accepted a after_v) (Refused b) h = absurd h
 goes_alike w (Accepted a after_v) (Looked b) h = absurd h
 goes_alike w (Accepted a after_v) (Full b n) h = absurd h
@@ -343,9 +344,17 @@ remembered_made e (Refused refusal) = omega arith
 remembered_made e (Looked look) = omega arith
 remembered_made e (Full room cost) = omega arith
 
+remembered_age : (e : Remembered) (s : Step) → (remembered_after e s).age ≡ cond (is_accepted s) (e.age + 1) e.age
+remembered_age e (Accepted answer after) = refl
+remembered_age e (Refused refusal) = refl
+remembered_age e (Looked look) = refl
+remembered_age e (Full room cost) = refl
+
 -- what the engine's step does to what it remembers meets the step of the world
-pub meets : (old new : Remembered) (w : World) (room : ℕ) (who : Who) (call : Call) (told : Outcome) → StandsFor old w → new ≡ remembered_after old (step_of old room who call) → told ≡ outcome_of (step_of old room who call) → Meets old new w (step w room who call) told
-meets old new w room who call told stands is says =
+pub meets : (old new : Remembered) (w : World) (room : ℕ) (who : Who) (call : Call) (told : Outcome) → Goes old new (step_of old room who call) told → StandsFor old w → Meets old new w (step w room who call) told
+meets old new w room who call told goes stands =
+    let is : new ≡ remembered_after old (step_of old room who call) = goes.keeps in
+    let says : told ≡ outcome_of (step_of old room who call) = goes.tells in
     let fresh : ℕ = length w.callbacks + 1 in
     let sound : IsSound fresh w = subst (λ n. IsSound (n + 1) w) stands.counts stands.sound in
     let same : step_of old room who call ≡ within (forget w) room (row_at (forget w) fresh who call) = ap₂ (λ v m. within v room (row_at v (m + 1) who call)) stands.remembers stands.counts in
@@ -362,4 +371,5 @@ meets old new w room who call told stands is says =
         sound = subst (λ n. IsSound n (world_after w (step w room who call))) (omega (arith, counted, alike.more))
           (sound_within fresh w room (row_at w fresh who call) sound (row_sound fresh w who call sound));
       };
+      ages = ap (λ (r : Remembered). r.age) is ∙ remembered_age old (step_of old room who call) ∙ ap (λ b. cond b (old.age + 1) old.age) (ap is_accepted same ∙ alike.accepted);
     }

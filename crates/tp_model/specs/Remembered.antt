@@ -1,5 +1,5 @@
 -- What an engine remembers of a world: all but the callbacks that returned or were cancelled.
-use Rattle.std.specs.Prelude.{◌≡◌, ℕ, ◌+◌, ◌-◌, Bool, List, length}
+use Rattle.std.specs.Prelude.{◌≡◌, ℕ, ◌+◌, ◌-◌, Bool, List, length, if◌then◌else◌}
 use Rattle.std.specs.List.{filter}
 use Rattle.tp_base.specs.declared.ids.Who.{Who}
 use Rattle.tp_base.specs.declared.calls.Call.{Call}
@@ -7,7 +7,7 @@ use Rattle.tp_base.specs.declared.answers.Outcome.{Outcome}
 use Rattle.tp_base.specs.declared.rows.CallbackRow.{CallbackRow}
 use Rattle.tp_model.specs.World.{World}
 use Rattle.tp_model.specs.Counts.{is_live}
-use Rattle.tp_model.specs.Step.{Step, Accepted, Refused, Looked, Full, within, outcome_of, world_after}
+use Rattle.tp_model.specs.Step.{Step, Accepted, Refused, Looked, Full, within, outcome_of, world_after, is_accepted}
 use Rattle.tp_model.specs.Table.{row_at}
 use Rattle.tp_model.specs.Sound.{IsSound}
 
@@ -48,7 +48,13 @@ pub record StandsFor (e : Remembered) (w : World) : Type 0 where
   pub counts : e.made ≡ length w.callbacks
   pub sound : IsSound (e.made + 1) w
 
--- the answer is that of the step, and the engine stands for the world after it
+-- the outcome is that of the step, the engine stands for the world after it, and its age counts accepted steps
 pub record Meets (old new : Remembered) (w : World) (s : Step) (told : Outcome) : Type 0 where
   pub answer : told ≡ outcome_of s
   pub stands : StandsFor new (world_after w s)
+  pub ages : new.age ≡ (if is_accepted s then old.age + 1 else old.age)
+
+-- what is remembered goes on by the step, whose outcome is told
+pub record Goes (old new : Remembered) (s : Step) (told : Outcome) : Type 0 where
+  pub tells : told ≡ outcome_of s
+  pub keeps : new ≡ remembered_after old s

@@ -53,6 +53,10 @@ world_after w (Refused refusal) = w
 world_after w (Looked look) = w
 world_after w (Full room cost) = w
 
+abbrev pub is_accepted : Step → Bool
+is_accepted (Accepted answer after) = true
+is_accepted _ = false
+
 -- how many entries it makes
 abbrev pub entries_of : Step → ℕ
 entries_of (Accepted answer after) = 1

@@ -1,0 +1,92 @@
+-- What accepted calls cost.
+use Rattle.std.proofs.Common.{◌≡◌, ℕ, ◌+◌, ◌-◌, ◌<◌, ◌≤◌, Bool, true, false, cond, not, List, [], ◌∷◌, ◌++◌, length, slice_get, slice_set, Option, Some, None, is_some, refl, sym, ap, ◌∙◌, subst, arith, filter, find, sum_by, length-append}
+use Rattle.std.proofs.lemmas.List.Elements.{filter-append}
+use Rattle.tp_base.specs.declared.ids.PoolId.{PoolId}
+use Rattle.tp_base.specs.declared.rows.Status.{Status}
+use Rattle.tp_base.specs.declared.rows.Status.TheVariants.{Pending, Running}
+use Rattle.tp_base.specs.declared.rows.ObjectRow.{ObjectRow}
+use Rattle.tp_base.specs.declared.rows.CallbackRow.{CallbackRow}
+use Rattle.tp_base.specs.declared.rows.WorkerRow.{WorkerRow}
+use Rattle.tp_base.specs.declared.rows.ClientRow.{ClientRow}
+use Rattle.tp_model.specs.World.{World}
+use Rattle.tp_model.specs.Counts.{numbered, has_number, is_pending, is_running, owed}
+use Rattle.tp_model.specs.Step.{cost}
+use Rattle.tp_model.specs.Rows.{with_object, with_new_callback, with_callback, with_worker, with_client, replaced, started, returned}
+use Rattle.tp_model.specs.Sound.{IsSound}
+use Rattle.tp_model.proofs.Lists.{length_filter_set}
+use Rattle.tp_model.proofs.Callbacks.{length_filter_replaced, pending_not_running}
+use Rattle.tp_model.proofs.Refusals.{numbered_some}
+
+abbrev one_if : Bool → ℕ
+one_if b = cond b 1 0
+
+abbrev runs : CallbackRow → Bool
+runs c = is_running c.status
+
+abbrev has_pool : WorkerRow → Bool
+has_pool r = is_some r.pool
+
+abbrev goes_on : ClientRow → Bool
+goes_on r = not r.finished
+
+pub owed_new_callback : (w : World) (c : CallbackRow) → is_running c.status ≡ false → owed (with_new_callback w c) ≡ owed w
+owed_new_callback w c still =
+    let same : length (filter runs (w.callbacks ++ c ∷ [])) ≡ length (filter runs w.callbacks) =
+      ap length (filter-append runs w.callbacks (c ∷ [])) ∙ length-append (filter runs w.callbacks) (filter runs (c ∷ []))
+      ∙ ap (λ b. length (filter runs w.callbacks) + length (cond b (c ∷ []) [])) still ∙ omega arith in
+    ap (λ n. n + length w.waits + sum_by (λ b. length b.notices) w.waits + length (filter has_pool w.workers) + length (filter goes_on w.clients) + w.given_up) same
+
+-- a worker's row in place of another
+pub owed_worker : (w : World) (number : ℕ) (old new : WorkerRow) → numbered w.workers number ≡ Some old → owed (with_worker w number new) + one_if (has_pool old) ≡ owed w + one_if (has_pool new)
+owed_worker w number old new is =
+    let changed = length_filter_set has_pool w.workers (number - 1) old new (numbered_some w.workers number old is).0 in
+    omega (arith, changed)
+
+-- a callback's row in place of another
+pub owed_callback : (fresh : ℕ) (w : World) (old new : CallbackRow) → IsSound fresh w → find (has_number new.number) w.callbacks ≡ Some old → owed (with_callback w new) + one_if (runs old) ≡ owed w + one_if (runs new)
+owed_callback fresh w old new s found =
+    let changed = length_filter_replaced runs new old 1 fresh w.callbacks s.numbers found in
+    omega (arith, changed)
+
+pub owed_client : (w : World) (number : ℕ) (old new : ClientRow) → numbered w.clients number ≡ Some old → owed (with_client w number new) + one_if (goes_on old) ≡ owed w + one_if (goes_on new)
+owed_client w number old new is =
+    let changed = length_filter_set goes_on w.clients (number - 1) old new (numbered_some w.clients number old is).0 in
+    omega (arith, changed)
+
+-- a worker that joins a pool will leave it
+pub owed_attached : (w : World) (number : ℕ) (old : WorkerRow) (pool : PoolId) → numbered w.workers number ≡ Some old → old.pool ≡ None → owed (with_worker w number (record { pool = Some pool; callback = None })) ≡ owed w + 1
+owed_attached w number old pool is free =
+    let new : WorkerRow = record { pool = Some pool; callback = None } in
+    let changed : owed (with_worker w number new) + one_if (has_pool old) ≡ owed w + one_if (has_pool new) = owed_worker w number old new is in
+    let none : one_if (has_pool old) ≡ 0 = ap (λ (p : Option PoolId). one_if (is_some p)) free in
+    omega (arith, changed, none)
+
+-- a callback that begins will return
+pub owed_started : (fresh : ℕ) (w : World) (number : ℕ) (row : WorkerRow) (pool : PoolId) (c : CallbackRow) → IsSound fresh w → numbered w.workers number ≡ Some row → row.pool ≡ Some pool → find (has_number c.number) w.callbacks ≡ Some c → is_pending c.status ≡ true
+    → owed (with_worker (with_callback w (started c number)) number (record { pool = Some pool; callback = Some c.number })) ≡ owed w + 1
+owed_started fresh w number row pool c s is at found waits =
+    let new : WorkerRow = record { pool = Some pool; callback = Some c.number } in
+    let moved : owed (with_worker (with_callback w (started c number)) number new) + one_if (has_pool row) ≡ owed (with_callback w (started c number)) + one_if (has_pool new)
+          = owed_worker (with_callback w (started c number)) number row new is in
+    let begun : owed (with_callback w (started c number)) + one_if (runs c) ≡ owed w + one_if (runs (started c number)) = owed_callback fresh w c (started c number) s found in
+    let stays : one_if (has_pool row) ≡ 1 = ap (λ (p : Option PoolId). one_if (is_some p)) at in
+    let still : one_if (runs c) ≡ 0 = ap (λ b. one_if b) (pending_not_running c.status waits) in
+    omega (arith, moved, begun, stays, still)
+
+-- a callback that returns owes nothing more
+pub owed_returned : (fresh : ℕ) (w : World) (number : ℕ) (row : WorkerRow) (c : CallbackRow) → IsSound fresh w → numbered w.workers number ≡ Some row → find (has_number c.number) w.callbacks ≡ Some c → is_running c.status ≡ true
+    → owed (with_worker (with_callback w (returned c)) number (record row { callback = None })) + 1 ≡ owed w
+owed_returned fresh w number row c s is found ran =
+    let new : WorkerRow = record row { callback = None } in
+    let moved : owed (with_worker (with_callback w (returned c)) number new) + one_if (has_pool row) ≡ owed (with_callback w (returned c)) + one_if (has_pool new)
+          = owed_worker (with_callback w (returned c)) number row new is in
+    let ended : owed (with_callback w (returned c)) + one_if (runs c) ≡ owed w + one_if (runs (returned c)) = owed_callback fresh w c (returned c) s found in
+    let before : one_if (runs c) ≡ 1 = ap (λ b. one_if b) ran in
+    omega (arith, moved, ended, before)
+
+pub owed_finished : (w : World) (number : ℕ) (old : ClientRow) → numbered w.clients number ≡ Some old → old.finished ≡ false → owed (with_client w number (record { finished = true })) + 1 ≡ owed w
+owed_finished w number old is unfinished =
+    let new : ClientRow = record { finished = true } in
+    let changed : owed (with_client w number new) + one_if (goes_on old) ≡ owed w + one_if (goes_on new) = owed_client w number old new is in
+    let one : one_if (goes_on old) ≡ 1 = ap (λ b. one_if (not b)) unfinished in
+    omega (arith, changed, one)
