@@ -1,0 +1,3 @@
+pub mod LiveCallbacks
+pub mod Places
+pub mod Reserved
