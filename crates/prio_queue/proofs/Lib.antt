@@ -1,0 +1,4 @@
+pub mod Filters
+pub mod Rising
+pub mod Entries
+pub mod Lines
