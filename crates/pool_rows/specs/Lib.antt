@@ -1,0 +1,4 @@
+pub mod Workers
+pub mod Pools
+pub mod Tallies
+pub mod Tallied

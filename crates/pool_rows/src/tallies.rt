@@ -1,0 +1,138 @@
+//! How many workers each pool has, kept as workers come and go.
+
+ghost use Rattle.std.specs.Prelude.{◌≡◌, ◌<◌, ◌^◌, ℕ, IfSome, length, map, slice_set};
+ghost use Rattle.pool_rows.specs.Pools.{made_pool};
+ghost use Rattle.pool_rows.specs.Tallies.{AreTallied, FitsTally, IsWithinTally, no_workers, tally_at, with_one, with_own};
+
+use crate::{Counts, WorkerRow};
+use std::mem;
+use tp_base::rows::PoolRow;
+
+// How many workers are attached to a pool, run a callback in it, and run one with the long mark.
+#[derive(Clone, Copy)]
+pub struct Tally {
+    pub attached: u32,
+    pub running: u32,
+    pub long: u32,
+}
+
+// A pool and the tally of its workers.
+#[derive(Clone, Copy)]
+pub struct PoolEntry {
+    pub row: PoolRow,
+    pub tally: Tally,
+}
+
+impl Tally {
+    // The tally with a worker of its pool more.
+    fn with(self, worker: WorkerRow) -> Tally
+        requires { FitsTally (with_own worker self) }
+        ensures { result ≡ with_own worker self }
+    {
+        Tally {
+            attached: self.attached + 1,
+            running: self.running + u32::from(worker.callback > 0),
+            long: self.long + u32::from(worker.callback > 0 && worker.long),
+        }
+    }
+
+    // The tally with one worker of its pool less.
+    fn without(self, worker: WorkerRow) -> Tally
+        requires { IsWithinTally (with_own worker no_workers) self }
+        ensures { self ≡ with_own worker result }
+    {
+        Tally {
+            attached: self.attached - 1,
+            running: self.running - u32::from(worker.callback > 0),
+            long: self.long - u32::from(worker.callback > 0 && worker.long),
+        }
+    }
+}
+
+impl PoolEntry {
+    // A new pool, which no worker is attached to.
+    pub fn made(workers: u32) -> PoolEntry
+        ensures { result ≡ record { row = made_pool workers; tally = no_workers } }
+    {
+        PoolEntry {
+            row: PoolRow {
+                minimum: 0,
+                maximum: workers,
+                closed: false,
+            },
+            tally: Tally {
+                attached: 0,
+                running: 0,
+                long: 0,
+            },
+        }
+    }
+
+    pub fn counts(&self) -> Counts
+        ensures { result ≡ record { minimum = self.now.row.minimum; maximum = self.now.row.maximum; closed = self.now.row.closed; running = self.now.tally.running; attached = self.now.tally.attached; long = self.now.tally.long } }
+    {
+        Counts {
+            minimum: self.row.minimum,
+            maximum: self.row.maximum,
+            closed: self.row.closed,
+            running: self.tally.running,
+            attached: self.tally.attached,
+            long: self.tally.long,
+        }
+    }
+}
+
+// Takes a worker out of the tally of its pool.
+fn leave(entries: &mut [PoolEntry], worker: WorkerRow)
+    requires within { IfSome worker.pool (λ pool. pool.0 < length entries.old) }
+    requires counted { (p : ℕ) → IsWithinTally (with_one p worker no_workers) (tally_at entries.old p) }
+    ensures rows { map (λ e. e.row) entries.new ≡ map (λ e. e.row) entries.old }
+    ensures tallies { (p : ℕ) → tally_at entries.old p ≡ with_one p worker (tally_at entries.new p) }
+{
+    if let Some(pool) = worker.pool {
+        let place = pool.0 as usize;
+        let entry = entries[place];
+        entries[place] = PoolEntry {
+            tally: entry.tally.without(worker),
+            ..entry
+        };
+    }
+}
+
+// Counts a worker in the tally of its pool.
+fn join(entries: &mut [PoolEntry], worker: WorkerRow)
+    requires within { IfSome worker.pool (λ pool. pool.0 < length entries.old) }
+    requires fits { (p : ℕ) → FitsTally (with_one p worker (tally_at entries.old p)) }
+    ensures rows { map (λ e. e.row) entries.new ≡ map (λ e. e.row) entries.old }
+    ensures tallies { (p : ℕ) → tally_at entries.new p ≡ with_one p worker (tally_at entries.old p) }
+{
+    if let Some(pool) = worker.pool {
+        let place = pool.0 as usize;
+        let entry = entries[place];
+        entries[place] = PoolEntry {
+            tally: entry.tally.with(worker),
+            ..entry
+        };
+    }
+}
+
+// Writes the row of a worker anew, and counts it in the pool that it names and no more in the one
+// that it named before.
+pub fn write_worker(
+    entries: &mut [PoolEntry],
+    workers: &mut [WorkerRow],
+    place: usize,
+    worker: WorkerRow,
+)
+    requires there { place < length workers.old }
+    requires few { length workers.old < 2 ^ 32 }
+    requires within { IfSome worker.pool (λ pool. pool.0 < length entries.old) }
+    requires tallied { AreTallied entries.old workers.old }
+    ensures workers { workers.new ≡ slice_set workers.old place worker }
+    ensures rows { map (λ e. e.row) entries.new ≡ map (λ e. e.row) entries.old }
+    ensures tallied { AreTallied entries.new workers.new }
+{
+    let old = mem::replace(&mut workers[place], worker);
+    leave(entries, old);
+    join(entries, worker);
+}
