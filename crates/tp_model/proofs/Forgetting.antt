@@ -55,7 +55,7 @@ pending_forget w pool = ap length (filter_filter (is_pending_in pool) lives (ove
 pub running_forget : (w : World) (pool : ℕ) → running (forget w) pool ≡ running w pool
 running_forget w pool = ap length (filter_filter (is_running_in pool) lives (over_not_running_in pool) w.callbacks)
 
-running_long_forget : (w : World) (pool : ℕ) → running_long (forget w) pool ≡ running_long w pool
+pub running_long_forget : (w : World) (pool : ℕ) → running_long (forget w) pool ≡ running_long w pool
 running_long_forget w pool = ap length (filter_filter (is_running_long_in pool) lives (λ c e. ap (λ b. b && c.long) (over_not_running_in pool c e)) w.callbacks)
 
 waiting_forget : (w : World) (pool : ℕ) (test : Priority → Bool) → waiting (forget w) pool test ≡ waiting w pool test

@@ -1,0 +1,4 @@
+pub mod Actors
+pub mod Kept
+pub mod Parts
+pub mod View
