@@ -1,5 +1,5 @@
 -- What a filter and a test make of a list, and of a list of images.
-use Rattle.std.proofs.Common.{◌≡◌, Bool, true, false, ◌||◌, List, [], ◌∷◌, map, filter, cond, refl, ap, ◌∙◌, arith}
+use Rattle.std.proofs.Common.{◌≡◌, Bool, true, false, ◌||◌, List, [], ◌∷◌, map, filter, cond, refl, ap, arith}
 use Rattle.std.specs.List.{All, list_any}
 use Rattle.std.proofs.lemmas.List.Elements.{All-tail}
 
@@ -29,7 +29,7 @@ module _ {X Y : Type 0} (f : X → Y) where
   filter-map p [] = refl
   filter-map p (x ∷ xs) =
       elim (p (f x)) as (λ b. cond b (f x ∷ filter p (map f xs)) (filter p (map f xs)) ≡ map f (cond b (x ∷ filter (λ x. p (f x)) xs) (filter (λ x. p (f x)) xs))) [
-        true ↦ ap (λ ys. f x ∷ ys) (filter-map p xs)
+        | true ↦ ap (λ ys. f x ∷ ys) (filter-map p xs)
         | false ↦ filter-map p xs
       ]
 

@@ -1,5 +1,5 @@
 -- Rising numbers: where a number belongs, and what is left without it.
-use Rattle.std.proofs.Common.{◌≡◌, ◌≢◌, ℕ, zero, suc, ◌+◌, ◌-◌, ◌<◌, ◌≤◌, ◌==◌, Bool, true, false, not, nat_lt, List, [], ◌∷◌, ◌++◌, length, take, drop, get_or, filter, refl, sym, ap, subst, ◌∙◌, arith, ⊎_elim, Result, Ok, Err, OnOk, OnErr, Option, Some, None, OnSome, IsSome}
+use Rattle.std.proofs.Common.{◌≡◌, ◌≢◌, ℕ, suc, ◌+◌, ◌-◌, ◌<◌, ◌≤◌, ◌==◌, Bool, true, false, not, nat_lt, List, ◌∷◌, ◌++◌, length, take, drop, get_or, filter, refl, sym, ap, subst, ◌∙◌, arith, ⊎_elim, Result, Ok, Err, OnOk, OnErr, Option, Some, None, OnSome, IsSome}
 use Rattle.std.specs.List.{All, insert, remove}
 use Rattle.std.specs.List.Sorted.{IsStrictlyIncreasing, IsBinarySearchResult}
 use Rattle.std.specs.Ordering.{nat_cmp}
@@ -47,18 +47,18 @@ all_of_back P xs place h k d lt =
 with_number_between : (number : ℕ) (front back : List ℕ) → All (λ x. x < number) front → All (λ x. number < x) back → with_number number (front ++ back) ≡ front ++ number ∷ back
 with_number_between number front back low high =
     let first : filter (λ n. nat_lt n number) (front ++ back) ≡ front =
-        filter-append (λ n. nat_lt n number) front back
-        ∙ rw (
-          filter_keeps (λ n. nat_lt n number) front (λ k d lt. lt-ltb _ _ (low k d lt)),
-          filter_drops (λ n. nat_lt n number) back (λ k d lt. let above = high k d lt in le-ltb _ _ (omega arith)),
-        ) (append-nil front)
+    filter-append (λ n. nat_lt n number) front back
+    ∙ rw (
+      filter_keeps (λ n. nat_lt n number) front (λ k d lt. lt-ltb _ _ (low k d lt)),
+      filter_drops (λ n. nat_lt n number) back (λ k d lt. let above = high k d lt in le-ltb _ _ (omega arith)),
+    ) (append-nil front)
     in
     let second : filter (λ n. nat_lt number n) (front ++ back) ≡ back =
-        filter-append (λ n. nat_lt number n) front back
-        ∙ rw (
-          filter_drops (λ n. nat_lt number n) front (λ k d lt. let below = low k d lt in le-ltb _ _ (omega arith)),
-          filter_keeps (λ n. nat_lt number n) back (λ k d lt. lt-ltb _ _ (high k d lt)),
-        ) refl
+    filter-append (λ n. nat_lt number n) front back
+    ∙ rw (
+      filter_drops (λ n. nat_lt number n) front (λ k d lt. let below = low k d lt in le-ltb _ _ (omega arith)),
+      filter_keeps (λ n. nat_lt number n) back (λ k d lt. lt-ltb _ _ (high k d lt)),
+    ) refl
     in
     rw (first, second) refl
 
@@ -73,21 +73,21 @@ inserted_rises number xs place rises h k within =
     let len = length-insert xs place number h.within in
     ⊎_elim
     (λ (same : k + 1 ≡ place).
-      let here : get_or (insert xs place number) (k + 1) 0 ≡ number = rw same (get_or-insert_at xs place number 0 h.within) in
-      omega (arith, here, get_or-insert_below xs place number 0 k (omega arith) h.within, h.below k (omega arith)))
+    let here : get_or (insert xs place number) (k + 1) 0 ≡ number = rw same (get_or-insert_at xs place number 0 h.within) in
+    omega (arith, here, get_or-insert_below xs place number 0 k (omega arith) h.within, h.below k (omega arith)))
     (⊎_elim
-      (λ (lt : k + 1 < place). omega (arith, get_or-insert_below xs place number 0 k (omega arith) h.within, get_or-insert_below xs place number 0 (k + 1) lt h.within, rises k (omega (arith, h.within))))
-      (λ (gt : place < k + 1).
-        ⊎_elim
-        (λ (same : k ≡ place).
-          let here : get_or (insert xs place number) k 0 ≡ number = rw same (get_or-insert_at xs place number 0 h.within) in
-          omega (arith, here, get_or-insert_above xs place number 0 k (omega arith) h.within, h.above k (omega arith) (omega arith)))
-        (λ (apart : k ≡ place → ⊥).
-          let back : k - 1 + 1 ≡ k = omega arith in
-          let one : get_or (insert xs place number) k 0 ≡ get_or xs (k - 1) 0 = subst (λ n. get_or (insert xs place number) n 0 ≡ get_or xs (k - 1) 0) back (get_or-insert_above xs place number 0 (k - 1) (omega arith) h.within) in
-          let next : get_or xs (k - 1) 0 < get_or xs k 0 = rises_along xs rises (k - 1) k (omega arith) (omega arith) in
-          omega (arith, one, next, get_or-insert_above xs place number 0 k (omega arith) h.within))
-        (cases_eq k place)))
+    (λ (lt : k + 1 < place). omega (arith, get_or-insert_below xs place number 0 k (omega arith) h.within, get_or-insert_below xs place number 0 (k + 1) lt h.within, rises k (omega (arith, h.within))))
+    (λ (gt : place < k + 1).
+    ⊎_elim
+    (λ (same : k ≡ place).
+    let here : get_or (insert xs place number) k 0 ≡ number = rw same (get_or-insert_at xs place number 0 h.within) in
+    omega (arith, here, get_or-insert_above xs place number 0 k (omega arith) h.within, h.above k (omega arith) (omega arith)))
+    (λ (apart : k ≡ place → ⊥).
+    let back : k - 1 + 1 ≡ k = omega arith in
+    let one : get_or (insert xs place number) k 0 ≡ get_or xs (k - 1) 0 = subst (λ n. get_or (insert xs place number) n 0 ≡ get_or xs (k - 1) 0) back (get_or-insert_above xs place number 0 (k - 1) (omega arith) h.within) in
+    let next : get_or xs (k - 1) 0 < get_or xs k 0 = rises_along xs rises (k - 1) k (omega arith) (omega arith) in
+    omega (arith, one, next, get_or-insert_above xs place number 0 k (omega arith) h.within))
+    (cases_eq k place)))
     (cases_order (k + 1) place)
 
 -- a number that isn't there is not found, and leaves the list without it as it is
@@ -107,8 +107,8 @@ removed number xs place rises within here =
     let out : not (number == number) ≡ false = rw (eq-eqb number number refl) refl in
     let p : ℕ → Bool = λ n. not (n == number) in
     let split : all_but number (take place xs ++ number ∷ drop (suc place) xs) ≡ take place xs ++ drop (suc place) xs =
-        filter-append p (take place xs) (number ∷ drop (suc place) xs)
-        ∙ rw (absent_leaves number (take place xs) front, out, absent_leaves number (drop (suc place) xs) back) refl
+    filter-append p (take place xs) (number ∷ drop (suc place) xs)
+    ∙ rw (absent_leaves number (take place xs) front, out, absent_leaves number (drop (suc place) xs) back) refl
     in
     sym split ∙ ap (all_but number) whole
 

@@ -1,5 +1,5 @@
 -- The pending callbacks of all pools: what a contract sees of `Queues`.
-use Rattle.std.specs.Prelude.{◌≡◌, ℕ, ◌||◌, ◌&&◌, ◌==◌, Bool, false, not, nat_lt, List, [], ◌∷◌, ◌++◌, Option, Some, None, length, filter, sum_by, slice_index_or, slice_set}
+use Rattle.std.specs.Prelude.{◌≡◌, ℕ, ◌||◌, ◌&&◌, ◌==◌, Bool, true, false, not, nat_lt, List, [], ◌∷◌, ◌++◌, Option, Some, None, length, filter, sum_by, slice_index_or, slice_set}
 use Rattle.std.specs.List.{list_any, AllPairs}
 
 -- a callback that waits for a worker: its priority, 0 (high), 1 (normal) or 2 (low), and its number
@@ -14,6 +14,10 @@ entry priority number = record { priority = priority; number = number }
 abbrev pub comes_before : Entry → Entry → Bool
 comes_before e f =
     nat_lt e.priority f.priority || ((e.priority == f.priority) && nat_lt e.number f.number)
+
+-- each entry comes before all later ones
+abbrev pub IsInOrder : List Entry → Type 0
+IsInOrder queue = AllPairs (λ e f. comes_before e f ≡ true) queue
 
 -- how many entries there is room for, and one list of entries for each pool
 pub record Pending : Type 0 where

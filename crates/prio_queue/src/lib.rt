@@ -5,11 +5,20 @@
 //! `open` makes the empty lists and takes all the memory that they will need, `push` puts an
 //! entry in its place, `first` and `len` read, and `remove` takes an entry out. None of them but
 //! `open` takes memory or can fail.
+//!
+//! ```text
+//! let mut queues = Queues::open(alloc, 2, 8)?;
+//! queues.push(0, 1, 7);
+//! queues.push(0, 0, 9);
+//! queues.first(0)         // Some(9): high comes before normal
+//! queues.remove(0, 9)     // true
+//! queues.first(0)         // Some(7)
+//! ```
 
 #![tactic(auto)]
 
 ghost use Rattle.std.specs.Prelude.{◌≡◌, ◌<◌, [], length, replicate, IfOk};
-ghost use Rattle.prio_queue.specs.Pending.{entry, queue_of, with_queue, held, has_number, IsFree, with_entry, without_number, first_number};
+ghost use Rattle.prio_queue.specs.Pending.{entry, queue_of, with_queue, held, has_number, IsFree, with_entry, without_number, first_number, IsInOrder};
 
 mod numbers;
 mod pool_queue;
@@ -73,7 +82,8 @@ impl Queues {
     /// is pending. Nothing is walked.
     pub fn first(&self, pool: u32) -> Option<u64>
         requires { pool < length self.now.queues }
-        ensures { result ≡ first_number (queue_of self.now pool) }
+        ensures value { result ≡ first_number (queue_of self.now pool) }
+        ensures in_order { IsInOrder (queue_of self.now pool) }
     {
         self.pools[pool as usize].first()
     }
@@ -97,3 +107,6 @@ impl Queues {
         self.pools[pool as usize].len()
     }
 }
+
+#[cfg(test)]
+mod tests;

@@ -1,6 +1,6 @@
 //! The pending callbacks of one pool.
 ghost use Rattle.std.specs.Prelude.{◌≡◌, ◌+◌, ◌<◌, ◌≤◌, false, [], length, IfOk};
-ghost use Rattle.prio_queue.specs.Pending.{entry, has_number, with_entry, without_number, first_number};
+ghost use Rattle.prio_queue.specs.Pending.{entry, has_number, with_entry, without_number, first_number, IsInOrder};
 
 use crate::numbers;
 use std::alloc::{AllocError, Global};
@@ -62,7 +62,8 @@ impl PoolQueue {
 
     /// The number of the first entry.
     pub(crate) fn first(&self) -> Option<u64>
-        ensures { result ≡ first_number self.now.entries }
+        ensures value { result ≡ first_number self.now.entries }
+        ensures in_order { IsInOrder self.now.entries }
     {
         let first = self.high.front().or(self.normal.front());
         first.or(self.low.front()).copied()

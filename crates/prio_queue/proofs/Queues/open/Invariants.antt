@@ -1,5 +1,5 @@
-use Rattle.std.proofs.Common.{◌≡◌, ◌≤◌, ℕ, List, [], map, replicate, vec_len, vec_capacity}
-use Rattle.prio_queue.specs.Line.{Line, lists_of}
+use Rattle.std.proofs.Common.{◌≡◌, ◌≤◌, [], replicate, vec_len, vec_capacity}
+use Rattle.prio_queue.specs.Line.{lists_of}
 use Rattle.std.specs.List.{All}
 use Rattle.prio_queue.proofs.Queues.open.Given as goal
 

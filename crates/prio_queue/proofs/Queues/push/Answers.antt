@@ -1,4 +1,4 @@
-use Rattle.std.proofs.Common.{◌≡◌, ◌<◌, ◌∙◌, ap, sym, length, arith}
+use Rattle.std.proofs.Common.{◌<◌, ◌∙◌, ap, sym, length, arith}
 use Rattle.prio_queue.specs.Pending.{Pending, with_entry, entry, has_number}
 use Rattle.prio_queue.proofs.Lines.{within_lines, list_at, room_at, held_at, lines_with, shown_with}
 use Rattle.prio_queue.proofs.Queues.push.Goals as goal

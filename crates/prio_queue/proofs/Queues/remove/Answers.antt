@@ -1,4 +1,4 @@
-use Rattle.std.proofs.Common.{◌≡◌, ap, arith}
+use Rattle.std.proofs.Common.{ap, arith}
 use Rattle.prio_queue.specs.Pending.{Pending, without_number}
 use Rattle.prio_queue.proofs.Lines.{within_lines, lines_with, shown_with}
 use Rattle.prio_queue.proofs.Queues.remove.Goals as goal

@@ -1,4 +1,4 @@
-use Rattle.std.proofs.Common.{◌≡◌, ℕ, ◌∙◌}
+use Rattle.std.proofs.Common.{◌≡◌, ◌∙◌}
 use Rattle.std.specs.List.{insert}
 use Rattle.prio_queue.proofs.Rising.{SplitsAt, splits, inserted, inserted_rises, since_room}
 use Rattle.prio_queue.proofs.numbers.put.Goals as goal

@@ -1,4 +1,4 @@
-use Rattle.std.proofs.Common.{◌≡◌, ◌≢◌, ℕ, ◌∙◌, sym}
+use Rattle.std.proofs.Common.{◌≢◌, ◌∙◌, sym}
 use Rattle.std.specs.List.{All}
 use Rattle.prio_queue.proofs.Rising.{removed, since_some, search_found, search_absent, absent_not_found, absent_leaves}
 use Rattle.prio_queue.proofs.numbers.take_out.Goals as goal

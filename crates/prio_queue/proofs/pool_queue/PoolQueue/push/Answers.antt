@@ -1,5 +1,4 @@
 use Rattle.std.proofs.Common.{◌≡◌, ap, sym, arith}
-use Rattle.prio_queue.specs.Pending.{Entry}
 use Rattle.prio_queue.specs.Line.{Line}
 use Rattle.prio_queue.proofs.Entries.{free_rows, with_high, with_normal, with_low}
 use Rattle.prio_queue.proofs.pool_queue.PoolQueue.push.Goals as goal

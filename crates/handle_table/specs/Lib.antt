@@ -1,0 +1,4 @@
+pub mod Table
+pub mod Found
+pub mod Kept
+pub mod Lent
