@@ -1,0 +1,6 @@
+pub mod Counts
+pub mod Given
+pub mod Memory
+pub mod Plan
+pub mod Reading
+pub mod Taken
