@@ -1,13 +1,9 @@
-// A library with one function.
+//! Lines of the thread pool machine, as text: the calls of a trace, the entries of a history, and what
+//! the machine answers.
+//!
+//! A text is a line without its line feed. `parse_call` and `parse_entry` read a line, or tell the place
+//! of its fault. `print_entry`, `print_answer`, `print_look` and `print_full` append one.
+
 #![tactic(auto)]
 
-ghost use Rattle.std.specs.Prelude.{◌≡◌};
-ghost use Rattle.tp_lines.specs.Echo.{echo_of};
-
-// The `ensures` clause is the contract: what `echo` returns is `echo_of` of its argument, a definition
-// in `specs/Echo.antt`, which a caller's clause can cite too.
-pub fn echo(x: usize) -> usize
-    ensures { result ≡ echo_of x }
-{
-    x
-}
+pub mod print;
