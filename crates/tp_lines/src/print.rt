@@ -1,12 +1,15 @@
-//! Printing of answers, looks and full.
+//! Printing of entries, answers, looks and full.
 
 ghost use Rattle.std.specs.Prelude.{◌≡◌, ◌++◌, ◌∷◌, OnOk, OnErr, IfOk, string_bytes};
-ghost use Rattle.tp_lines.specs.Answers.{text_of_answer, text_of_full, text_of_look, words_of_refusal, words_of_result};
-ghost use Rattle.tp_lines.specs.Words.{joined, text_of_action, text_of_flag, text_of_slot};
+ghost use Rattle.tp_lines.specs.Answers.{line_of_entry, text_of_answer, text_of_full, text_of_look, words_of_refusal, words_of_result};
+ghost use Rattle.tp_lines.specs.Calls.{line_of_call, words_of_environ};
+ghost use Rattle.tp_lines.specs.Words.{joined, text_of_action, text_of_flag, text_of_kind, text_of_priority, text_of_slot};
 
 use std::alloc::{AllocError, Global};
 
-use tp_base::answers::{ActionKind, Answer, Look, Refusal, SlotWord, TakeResult};
+use tp_base::answers::{ActionKind, Answer, Entry, Look, Refusal, SlotWord, TakeResult};
+use tp_base::calls::{Call, Environ, Kind, Priority};
+use tp_base::ids::Who;
 
 /// Appends what stands for a history that is full: how many entries it has room for, and how many the
 /// call costs. On want of memory nothing is appended.
@@ -168,4 +171,67 @@ fn action_text(kind: ActionKind) -> &'static str
         ActionKind::Semaphore => "semaphore",
         ActionKind::Event => "event",
     }
+}
+
+// The line of a call.
+fn call_text(alloc: Global, who: Who, call: &Call) -> Result<String, AllocError>
+    ensures { IfOk result (λ text. string_bytes text ≡ line_of_call who call.now) }
+{
+    let actor = match who {
+        Who::Client(number) => format!(in alloc; "c{number}")?,
+        Who::Worker(number) => format!(in alloc; "w{number}")?,
+    };
+    match call {
+        Call::Create { kind, routine, context, env } => {
+            let kind = kind_text(*kind);
+            let place = environ_text(alloc, *env)?;
+            format!(in alloc; "{} create {kind} r{} x{context} {}", actor.as_str(), routine.0, place.as_str())
+        }
+        Call::SubmitWork { object } => format!(in alloc; "{} submit {}", actor.as_str(), object.0),
+        Call::Attach => format!(in alloc; "{} attach", actor.as_str()),
+        Call::Take => format!(in alloc; "{} take", actor.as_str()),
+        Call::Return => format!(in alloc; "{} return", actor.as_str()),
+        Call::Finish => format!(in alloc; "{} finish", actor.as_str()),
+    }
+}
+
+fn environ_text(alloc: Global, env: Environ) -> Result<String, AllocError>
+    ensures { IfOk result (λ text. string_bytes text ≡ joined (words_of_environ env)) }
+{
+    let priority = priority_text(env.priority);
+    let long = if env.long { "long" } else { "short" };
+    format!(in alloc; "p{} {priority} {long} g{} q{}", env.pool.0, env.group.0, env.cancel.0)
+}
+
+fn kind_text(kind: Kind) -> &'static str
+    ensures { result.now ≡ text_of_kind kind }
+{
+    match kind {
+        Kind::Work => "work",
+        Kind::Timer => "timer",
+        Kind::Wait => "wait",
+        Kind::Io => "io",
+    }
+}
+
+fn priority_text(priority: Priority) -> &'static str
+    ensures { result.now ≡ text_of_priority priority }
+{
+    match priority {
+        Priority::High => "high",
+        Priority::Normal => "normal",
+        Priority::Low => "low",
+    }
+}
+
+/// Appends the line of an entry, without its line feed. On want of memory nothing is appended.
+pub fn print_entry(alloc: Global, entry: &Entry, out: &mut Vec<u8>) -> Result<(), AllocError>
+    ensures ok { OnOk result (out.new.items ≡ out.old.items ++ line_of_entry entry.now) }
+    ensures err { OnErr result (out.new.items ≡ out.old.items) }
+{
+    let call = call_text(alloc, entry.who, &entry.call)?;
+    let answer = answer_text(alloc, &entry.answer)?;
+    let line = format!(in alloc; "{} -> {}", call.as_str(), answer.as_str())?;
+    out.extend_from_slice(line.as_bytes())?;
+    Ok(())
 }
