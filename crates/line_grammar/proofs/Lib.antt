@@ -1,0 +1,5 @@
+pub mod Cuts
+pub mod NumberFacts
+pub mod Pairs
+pub mod Readings
+pub mod WordFacts

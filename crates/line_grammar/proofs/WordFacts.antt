@@ -1,0 +1,140 @@
+-- Words and choices.
+use Rattle.std.proofs.Common.{◌≡◌, ◌≢◌, ℕ, suc, ◌+◌, ◌-◌, ◌<◌, ◌≤◌, List, [], ◌∷◌, ◌++◌, length, take, drop, get_or, refl, sym, ap, ◌∙◌, subst, arith, length-drop, ◌⊎◌, inl, inr, Bool, true, false, cond, nat_eq, IsTrue}
+use Rattle.std.proofs.lemmas.Bool.{ltb-true, ltb-false, cases_eq, eqb-false}
+use Rattle.std.proofs.lemmas.List.{append-nil, append_assoc, length-append, length-take-le, take-append-drop, get_or-drop, get_or_at, drop-drop, take_all, drop_all}
+use Rattle.std.proofs.Math.Seq.{take-add}
+use Rattle.std.specs.Prelude.{Result, Ok, Err, nat_lt, if◌then◌else◌}
+use Rattle.line_grammar.specs.Language.{Begins, Stops, Reaches, AnyOf, IsReadTo, IsStuck, IsRead}
+use Rattle.line_grammar.specs.Words.{IsWord, Word, Either, further_of, lacks}
+use Rattle.line_grammar.specs.Parts.{IsPart}
+use Rattle.line_grammar.proofs.Pairs.{one_then}
+
+word_stops : {V : Type 0} (meaning : V) (word text : List ℕ) (k : ℕ) → k ≤ length text
+    → (k < length text → get_or word k 0 ≡ get_or text k 0 → ⊥)
+    → (rest : List ℕ) → drop k text ≡ rest → Stops (AnyOf (Word meaning word)) (take k text) rest
+word_stops meaning word text k within apart [] e = tt
+word_stops meaning word text k within apart (b ∷ rest) e = λ (more, (v, w)).
+    let here : word ≡ take k text ++ b ∷ more = sym w.split ∙ one_then (take k text) b more in
+    let of_word : get_or word k 0 ≡ b = ap (λ l. get_or l k 0) here ∙ get_or_at (take k text) b more 0 k (length-take-le k text within) in
+    let of_text : get_or text (k + 0) 0 ≡ b = sym (get_or-drop k text 0 0) ∙ ap (λ l. get_or l 0 0) e in
+    let at : k + 0 ≡ k = omega arith in
+    apart (omega (arith, ap length e, length-drop k text)) (of_word ∙ sym of_text ∙ ap (λ i. get_or text i 0) at)
+
+pub word_stuck : {V : Type 0} (meaning : V) (word text : List ℕ) (k : ℕ) → k < length word → k ≤ length text → take k word ≡ take k text
+    → (k < length text → get_or word k 0 ≡ get_or text k 0 → ⊥) → IsStuck (Word meaning word) text k
+word_stuck meaning word text k more within shared apart = record {
+    within = within;
+    absent = λ (v, w). omega (arith, ap length w.split, length-take-le k text within);
+    reaches = record {
+      begins = (drop k word, (meaning, record { means = refl; split = ap (λ l. l ++ drop k word) (sym shared) ∙ take-append-drop k word }));
+      stops = word_stops meaning word text k within apart (drop k text) refl;
+    };
+  }
+
+-- where a language stops, it stops further on too
+module _ {A : Type 0} (L : List A → Type 0) where
+  absent_behind : (f : List A) (y : A) (g : List A) (rest : List A) → Stops L f ((y ∷ g) ++ rest) → L (f ++ y ∷ g) → ⊥
+  absent_behind f y g rest stops l = stops (g, subst L (sym (one_then f y g)) l)
+
+  stops_behind : (f g rest : List A) → Stops L f (g ++ rest) → Stops L (f ++ g) rest
+  stops_behind f g [] stops = tt
+  stops_behind f [] (x ∷ rest) stops = λ b. stops (subst (λ l. Begins L (l ++ x ∷ [])) (append-nil f) b)
+  stops_behind f (y ∷ g) (x ∷ rest) stops = λ (more, l).
+      let regrouped : ((f ++ y ∷ g) ++ x ∷ []) ++ more ≡ (f ++ y ∷ []) ++ (g ++ x ∷ more) =
+          one_then (f ++ y ∷ g) x more ∙ append_assoc f (y ∷ g) (x ∷ more) ∙ sym (one_then f y (g ++ x ∷ more)) in
+      stops (g ++ x ∷ more, subst L regrouped l)
+
+  pub stops_later : (t : List A) (n m : ℕ) → n ≤ m → Stops L (take n t) (drop n t) → Stops L (take m t) (drop m t)
+  stops_later t n m order stops =
+      let k = m - n in
+      let e : n + k ≡ m = omega arith in
+      let fronts : take (n + k) t ≡ take n t ++ take k (drop n t) = take-add n k t in
+      let rests : drop k (drop n t) ≡ drop (n + k) t = drop-drop k n t in
+      subst (λ i. Stops L (take i t) (drop i t)) e
+      (subst (λ l. Stops L l (drop (n + k) t)) (sym fronts)
+      (subst (λ l. Stops L (take n t ++ take k (drop n t)) l) rests
+      (stops_behind (take n t) (take k (drop n t)) (drop k (drop n t)) (subst (λ l. Stops L (take n t) l) (sym (take-append-drop k (drop n t))) stops))))
+
+  absent_split : (f g rest : List A) → 0 < length g → Stops L f (g ++ rest) → L (f ++ g) → ⊥
+  absent_split f [] rest long stops l = omega arith
+  absent_split f (y ∷ g) rest long stops l = absent_behind f y g rest stops l
+
+  pub absent_later : (t : List A) (n m : ℕ) → n < m → m ≤ length t → Stops L (take n t) (drop n t) → L (take m t) → ⊥
+  absent_later t n m order within stops l =
+      let k = m - n in
+      let e : n + k ≡ m = omega arith in
+      let fronts : take m t ≡ take n t ++ take k (drop n t) = ap (λ i. take i t) (sym e) ∙ take-add n k t in
+      absent_split (take n t) (take k (drop n t)) (drop k (drop n t)) (omega (arith, length-take-le k (drop n t) (omega (arith, length-drop n t))))
+          (subst (λ l. Stops L (take n t) l) (sym (take-append-drop k (drop n t))) stops) (subst L fronts l)
+
+-- a choice
+module _ {V A : Type 0} (P Q : V → List A → Type 0) where
+  either_of : (text : List A) → AnyOf (Either P Q) text → AnyOf P text ⊎ AnyOf Q text
+  either_of text (v, e) = elim e [ inl p ↦ inl (v, p) | inr q ↦ inr (v, q) ]
+
+  stops_either : (front rest : List A) → Stops (AnyOf P) front rest → Stops (AnyOf Q) front rest → Stops (AnyOf (Either P Q)) front rest
+  stops_either front [] s t = tt
+  stops_either front (x ∷ rest) s t = λ (more, e).
+      elim (either_of ((front ++ x ∷ []) ++ more) e) [ inl p ↦ s (more, p) | inr q ↦ t (more, q) ]
+
+  read_left : (t : List A) (v : V) (n : ℕ) → IsReadTo P t v n → Stops (AnyOf Q) (take n t) (drop n t) → IsReadTo (Either P Q) t v n
+  read_left t v n read s = record { within = read.within; text_of = inl read.text_of; stops = stops_either (take n t) (drop n t) read.stops s }
+
+  read_right : (t : List A) (v : V) (n : ℕ) → IsReadTo Q t v n → Stops (AnyOf P) (take n t) (drop n t) → IsReadTo (Either P Q) t v n
+  read_right t v n read s = record { within = read.within; text_of = inr read.text_of; stops = stops_either (take n t) (drop n t) s read.stops }
+
+  stuck_left : (t : List A) (k : ℕ) → IsStuck P t k → Stops (AnyOf Q) (take k t) (drop k t) → (AnyOf Q (take k t) → ⊥) → IsStuck (Either P Q) t k
+  stuck_left t k stuck s none = record {
+      within = stuck.within;
+      absent = λ e. elim (either_of (take k t) e) [ inl p ↦ stuck.absent p | inr q ↦ none q ];
+      reaches = record {
+        begins = let more = stuck.reaches.begins in (more.0, (more.1.0, inl more.1.1));
+        stops = stops_either (take k t) (drop k t) stuck.reaches.stops s };
+    }
+
+  stuck_right : (t : List A) (k : ℕ) → IsStuck Q t k → Stops (AnyOf P) (take k t) (drop k t) → (AnyOf P (take k t) → ⊥) → IsStuck (Either P Q) t k
+  stuck_right t k stuck s none = record {
+      within = stuck.within;
+      absent = λ e. elim (either_of (take k t) e) [ inl p ↦ none p | inr q ↦ stuck.absent q ];
+      reaches = record {
+        begins = let more = stuck.reaches.begins in (more.0, (more.1.0, inr more.1.1));
+        stops = stops_either (take k t) (drop k t) s stuck.reaches.stops };
+    }
+
+  both_read : (t : List A) (v w : V) (n m : ℕ) → IsReadTo P t v n → IsReadTo Q t w m → (b : Bool) → nat_lt n m ≡ b → IsRead (Either P Q) t (if b then Ok (w, m) else Ok (v, n))
+  both_read t v w n m p q true e = read_right t w m q (stops_later (AnyOf P) t n m (omega (arith, ltb-true n m e)) p.stops)
+  both_read t v w n m p q false e = read_left t v n p (stops_later (AnyOf Q) t m n (omega (arith, ltb-false n m e)) q.stops)
+
+  left_read : (t : List A) (v : V) (n k : ℕ) → IsReadTo P t v n → IsStuck Q t k → (b : Bool) → nat_lt n k ≡ b → IsRead (Either P Q) t (if b then Err k else Ok (v, n))
+  left_read t v n k p q true e = stuck_right t k q (stops_later (AnyOf P) t n k (omega (arith, ltb-true n k e)) p.stops) (absent_later (AnyOf P) t n k (ltb-true n k e) q.within p.stops)
+  left_read t v n k p q false e = read_left t v n p (stops_later (AnyOf Q) t k n (omega (arith, ltb-false n k e)) q.reaches.stops)
+
+  right_read : (t : List A) (w : V) (m k : ℕ) → IsStuck P t k → IsReadTo Q t w m → (b : Bool) → nat_lt m k ≡ b → IsRead (Either P Q) t (if b then Err k else Ok (w, m))
+  right_read t w m k p q true e = stuck_left t k p (stops_later (AnyOf Q) t m k (omega (arith, ltb-true m k e)) q.stops) (absent_later (AnyOf Q) t m k (ltb-true m k e) p.within q.stops)
+  right_read t w m k p q false e = read_right t w m q (stops_later (AnyOf P) t k m (omega (arith, ltb-false m k e)) p.reaches.stops)
+
+  neither_read : (t : List A) (j k : ℕ) → IsStuck P t j → IsStuck Q t k → (b : Bool) → nat_lt j k ≡ b → IsRead (Either P Q) t (if b then Err k else Err j)
+  neither_read t j k p q true e = stuck_right t k q (stops_later (AnyOf P) t j k (omega (arith, ltb-true j k e)) p.reaches.stops) (absent_later (AnyOf P) t j k (ltb-true j k e) q.within p.reaches.stops)
+  neither_read t j k p q false e = elim (cases_eq j k) [
+      inl same ↦ let Q_at : IsStuck Q t j = subst (λ i. IsStuck Q t i) (sym same) q in stuck_left t j p Q_at.reaches.stops Q_at.absent
+    | inr other ↦ let less : k < j = omega (arith, ltb-false j k e) in stuck_left t j p (stops_later (AnyOf Q) t k j (omega arith) q.reaches.stops) (absent_later (AnyOf Q) t k j less p.within q.reaches.stops) ]
+
+  pub either_read : (t : List A) (r s : Result (V × ℕ) ℕ) → IsRead P t r → IsRead Q t s → IsRead (Either P Q) t (further_of r s)
+  either_read t (Ok (v, n)) (Ok (w, m)) p q = both_read t v w n m p q (nat_lt n m) refl
+  either_read t (Ok (v, n)) (Err k) p q = left_read t v n k p q (nat_lt n k) refl
+  either_read t (Err k) (Ok (w, m)) p q = right_read t w m k p q (nat_lt m k) refl
+  either_read t (Err j) (Err k) p q = neither_read t j k p q (nat_lt j k) refl
+
+-- a text in which the separator doesn't stand
+lacks_cons : (separator x : ℕ) (text : List ℕ) (b : Bool) → nat_eq x separator ≡ b → (if b then false else lacks separator text) ≡ true → (x ≡ separator → ⊥) × IsTrue (lacks separator text)
+lacks_cons separator x text true e h = let no_such : ⊥ = cc in absurd no_such
+lacks_cons separator x text false e h = (eqb-false x separator e, h)
+
+pub lacks_apart : (separator : ℕ) (text more : List ℕ) → IsTrue (lacks separator (text ++ separator ∷ more)) → ⊥
+lacks_apart separator [] more h = (lacks_cons separator separator more (nat_eq separator separator) refl h).0 refl
+lacks_apart separator (x ∷ text) more h = lacks_apart separator text more (lacks_cons separator x (text ++ separator ∷ more) (nat_eq x separator) refl h).1
+
+-- a language in whose texts the separator doesn't stand
+pub lacking_part : {V : Type 0} (separator : ℕ) (P : V → List ℕ → Type 0) → ((v w : V) (text : List ℕ) → P v text → P w text → v ≡ w)
+    → ((v : V) (text : List ℕ) → P v text → IsTrue (lacks separator text)) → IsPart separator P
+lacking_part separator P unique lacking = record { unique = unique; apart = λ v w text more p q. lacks_apart separator text more (lacking w (text ++ separator ∷ more) q) }

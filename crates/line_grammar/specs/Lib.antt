@@ -1,0 +1,5 @@
+pub mod Language
+pub mod Numbers
+pub mod Parts
+pub mod Traces
+pub mod Words

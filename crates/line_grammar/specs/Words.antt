@@ -1,0 +1,26 @@
+-- Single words, and choices among languages.
+use Rattle.std.specs.Prelude.{◌≡◌, ℕ, List, [], ◌∷◌, Bool, true, false, nat_eq, ◌⊎◌, Result, Ok, Err, nat_lt, if◌then◌else◌}
+
+-- the one word, which stands for the value
+pub record IsWord {V A : Type 0} (meaning : V) (word : List A) (value : V) (text : List A) : Type 0 where
+  pub means : value ≡ meaning
+  pub split : text ≡ word
+
+abbrev pub Word : {V A : Type 0} → V → List A → V → List A → Type 0
+Word meaning word value text = IsWord meaning word value text
+
+-- a text of either language
+abbrev pub Either : {V A : Type 0} → (V → List A → Type 0) → (V → List A → Type 0) → V → List A → Type 0
+Either P Q value text = P value text ⊎ Q value text
+
+-- of what two readers found, the one that came further, and a text rather than a place within one
+abbrev pub further_of : {V : Type 0} → Result (V × ℕ) ℕ → Result (V × ℕ) ℕ → Result (V × ℕ) ℕ
+further_of (Ok (v, n)) (Ok (w, m)) = if nat_lt n m then Ok (w, m) else Ok (v, n)
+further_of (Ok (v, n)) (Err k) = if nat_lt n k then Err k else Ok (v, n)
+further_of (Err k) (Ok (w, m)) = if nat_lt m k then Err k else Ok (w, m)
+further_of (Err j) (Err k) = if nat_lt j k then Err k else Err j
+
+-- whether the element doesn't stand in the text
+abbrev pub lacks : ℕ → List ℕ → Bool
+lacks separator [] = true
+lacks separator (x ∷ text) = if nat_eq x separator then false else lacks separator text

@@ -1,0 +1,56 @@
+//! Words, and choices among what was read.
+
+ghost use Rattle.std.specs.Prelude.{◌≡◌, ◌≢◌, ◌<◌, ◌≤◌, ℕ, List, ◌∷◌, MatchOption, length, take, slice_index};
+ghost use Rattle.line_grammar.specs.Language.{IsRead};
+ghost use Rattle.line_grammar.specs.Words.{Word, further_of};
+
+/// Reads the word at the front of the text, which then stands for `meaning`.
+pub fn read_word<V: Copy>(meaning: V, word: &str, text: &[u8]) -> Result<(V, usize), usize>
+    ensures { IsRead (Word meaning word.now) text.now result }
+{
+    let bytes = word.as_bytes();
+    let size = shared_front(bytes, text);
+    if size == bytes.len() { Ok((meaning, size)) } else { Err(size) }
+}
+
+/// Of what two readers found at the front of one text, the one that came further.
+pub fn further<V: Copy>(
+    one: Result<(V, usize), usize>,
+    other: Result<(V, usize), usize>,
+) -> Result<(V, usize), usize>
+    ensures { result ≡ further_of one other }
+{
+    match (one, other) {
+        (Ok((v, n)), Ok((w, m))) => if n < m { Ok((w, m)) } else { Ok((v, n)) },
+        (Ok((v, n)), Err(k)) => if n < k { Err(k) } else { Ok((v, n)) },
+        (Err(k), Ok((w, m))) => if m < k { Err(k) } else { Ok((w, m)) },
+        (Err(j), Err(k)) => if j < k { Err(k) } else { Err(j) },
+    }
+}
+
+// How many bytes the word and the text share at their fronts.
+fn shared_front(word: &[u8], text: &[u8]) -> usize
+    ensures word { result ≤ length word.now }
+    ensures text { result ≤ length text.now }
+    ensures shared { take result word.now ≡ take result text.now }
+    ensures apart { result < length word.now → result < length text.now →
+        slice_index word.now result ≢ slice_index text.now result }
+{
+    let mut size = 0;
+    while size < word.len() && size < text.len() && word[size] == text[size] {
+        size += 1;
+    }
+    size
+}
+
+/// What stands behind the byte, if the text begins with it.
+pub fn behind(first: u8, text: &[u8]) -> Option<&[u8]>
+    ensures { MatchOption result
+        ((byte : ℕ) (rest : List ℕ) → text.now ≡ byte ∷ rest → byte ≢ first)
+        (λ rest. text.now ≡ first ∷ rest.now) }
+{
+    match text {
+        [byte, rest @ ..] if *byte == first => Some(rest),
+        _ => None,
+    }
+}

@@ -1,0 +1,55 @@
+-- The words of lines, and lines of words.
+use Rattle.std.specs.Prelude.{ℕ, Bool, true, false, List, [], ◌∷◌, ◌++◌, codes, decimal}
+use Rattle.tp_base.specs.declared.answers.ActionKind.{ActionKind}
+use Rattle.tp_base.specs.declared.answers.ActionKind.TheVariants.{Section, Mutex, Semaphore, Event}
+use Rattle.tp_base.specs.declared.answers.SlotWord.{SlotWord}
+use Rattle.tp_base.specs.declared.answers.SlotWord.TheVariants.{Unasked, Performed, NotOwner, OverMaximum}
+use Rattle.tp_base.specs.declared.calls.Kind.{Kind}
+use Rattle.tp_base.specs.declared.calls.Kind.TheVariants.{Work, Timer, Wait, Io}
+use Rattle.tp_base.specs.declared.calls.Priority.{Priority}
+use Rattle.tp_base.specs.declared.calls.Priority.TheVariants.{High, Normal, Low}
+use Rattle.tp_base.specs.declared.ids.Who.{Who}
+use Rattle.tp_base.specs.declared.ids.Who.TheVariants.{Client, Worker}
+
+-- the words with one space between each two
+abbrev pub joined : List (List ℕ) → List ℕ
+joined [] = []
+joined (word ∷ []) = word
+joined (word ∷ next ∷ words) = word ++ 32 ∷ joined (next ∷ words)
+
+abbrev pub text_of_kind : Kind → List ℕ
+text_of_kind Work = codes "work"
+text_of_kind Timer = codes "timer"
+text_of_kind Wait = codes "wait"
+text_of_kind Io = codes "io"
+
+abbrev pub text_of_priority : Priority → List ℕ
+text_of_priority High = codes "high"
+text_of_priority Normal = codes "normal"
+text_of_priority Low = codes "low"
+
+-- whether callbacks may run long
+abbrev pub text_of_long : Bool → List ℕ
+text_of_long true = codes "long"
+text_of_long false = codes "short"
+
+abbrev pub text_of_flag : Bool → List ℕ
+text_of_flag true = codes "yes"
+text_of_flag false = codes "no"
+
+abbrev pub text_of_action : ActionKind → List ℕ
+text_of_action Section = codes "section"
+text_of_action Mutex = codes "mutex"
+text_of_action Semaphore = codes "semaphore"
+text_of_action Event = codes "event"
+
+abbrev pub text_of_slot : SlotWord → List ℕ
+text_of_slot Unasked = codes "-"
+text_of_slot Performed = codes "done"
+text_of_slot NotOwner = codes "not-owner"
+text_of_slot OverMaximum = codes "over-maximum"
+
+-- the actors: c1, c2, .. and w1, w2, ..
+abbrev pub text_of_who : Who → List ℕ
+text_of_who (Client number) = 99 ∷ decimal number
+text_of_who (Worker number) = 119 ∷ decimal number
