@@ -31,13 +31,17 @@ step_of e room who call = within e.world room (row_at e.world (e.made + 1) who c
 abbrev pub made_by : World → Step → ℕ
 made_by w s = length (world_after w s).callbacks - length w.callbacks
 
--- an accepted step is one more; nothing else changes what is remembered
-abbrev pub remembered_after : Remembered → Step → Remembered
-remembered_after e (Accepted answer after) = record {
+-- what is remembered once an accepted step led to this world
+abbrev pub remembered_in : Remembered → World → Remembered
+remembered_in e after = record {
   world = forget after;
-  made = e.made + made_by e.world (Accepted answer after);
+  made = e.made + (length after.callbacks - length e.world.callbacks);
   age = e.age + 1;
   }
+
+-- nothing but an accepted step changes what is remembered
+abbrev pub remembered_after : Remembered → Step → Remembered
+remembered_after e (Accepted answer after) = remembered_in e after
 remembered_after e (Refused refusal) = e
 remembered_after e (Looked look) = e
 remembered_after e (Full room cost) = e
