@@ -37,6 +37,14 @@ use Rattle.pool_core.specs.Parts.{world_of, shown_object, shown_worker, entry_of
 use Rattle.pool_core.specs.Kept.{AreKept, AreMarked, IsMarked, waits}
 use Rattle.pool_core.proofs.Queued.{queued_more, queued_elsewhere, queued_less, queue_longer, length_queue, filter_all, filter_replaced_none, queued_same, queued_apart}
 
+-- parts that are equal to those
+pub kept_along : {limits : Limits} {objects : Table Object} {clients : List ClientRow} {made owes age : ℕ} {p : Pools} {c : LiveCallbacks} {q : Pending} (pools : Pools) (callbacks : LiveCallbacks) (queues : Pending)
+    → AreKept limits p objects c q clients made owes age → pools ≡ p → callbacks ≡ c → queues ≡ q → AreKept limits pools objects callbacks queues clients made owes age
+kept_along {limits} {objects} {clients} {made} {owes} {age} {p} {c} {q} pools callbacks queues k ep ec eq =
+    subst (λ x. AreKept limits x objects callbacks queues clients made owes age) (sym ep)
+      (subst (λ x. AreKept limits p objects x queues clients made owes age) (sym ec)
+        (subst (λ x. AreKept limits p objects c x clients made owes age) (sym eq) k))
+
 -- ---- an object
 
 pub kept_object : {limits : Limits} {pools : Pools} {objects : Table Object} {callbacks : LiveCallbacks} {queues : Pending} {clients : List ClientRow} {made owes age : ℕ} (o : Object)
@@ -174,7 +182,7 @@ all_pass p (x ∷ xs) =
     | false ↦ λ _. all_pass p xs
     ] refl
 
-live_replaced : (r : CallbackRow) (cs : List CallbackRow) → lives r ≡ true → filter lives cs ≡ cs → filter lives (replaced r cs) ≡ replaced r cs
+pub live_replaced : (r : CallbackRow) (cs : List CallbackRow) → lives r ≡ true → filter lives cs ≡ cs → filter lives (replaced r cs) ≡ replaced r cs
 live_replaced r cs here live =
     let all : AllByRecursion (λ x. lives x ≡ true) cs = subst (λ xs. AllByRecursion (λ x. lives x ≡ true) xs) live (all_pass lives cs) in
     filter_all lives (replaced r cs) (all_map (λ x. lives x ≡ true) (λ c. cond (has_number r.number c) r c) (λ c h. elim (has_number r.number c) as (λ b. lives (cond b r c) ≡ true) [ true ↦ here | false ↦ h ]) cs all)
@@ -348,7 +356,7 @@ run_by {limits} {pools} {objects} {callbacks} {queues} {clients} {made} {owes} {
       mark = ap (λ (x : CallbackRow). x.long) (sym (same_found row.callback c.number marked.0 c callbacks.rows (sym runs) marked.1 found)) ∙ sym marked.2;
     })
 
-running_not_pending : (s : Status) → is_running s ≡ true → is_pending s ≡ false
+pub running_not_pending : (s : Status) → is_running s ≡ true → is_pending s ≡ false
 running_not_pending Expected e = refl
 running_not_pending Issued e = refl
 running_not_pending IsPending e = cc

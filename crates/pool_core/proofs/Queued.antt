@@ -7,7 +7,7 @@ use Rattle.tp_base.specs.declared.calls.Priority.{Priority}
 use Rattle.tp_base.specs.declared.calls.Priority.TheVariants.{High, Normal, Low}
 use Rattle.tp_base.specs.declared.rows.Status.{Status}
 use Rattle.tp_base.specs.declared.rows.CallbackRow.{CallbackRow}
-use Rattle.prio_queue.specs.Pending.{Entry, entry, comes_before, with_entry, without_number}
+use Rattle.prio_queue.specs.Pending.{Entry, entry, comes_before, with_entry, without_number, has_number as entries_have}
 use Rattle.tp_model.specs.World.{World}
 use Rattle.tp_model.specs.Counts.{has_number, is_pending, is_pending_in, is_high, is_normal, is_low, waiting, queue}
 use Rattle.tp_model.specs.Rows.{replaced, with_new_callback, with_callback}
@@ -319,3 +319,18 @@ queued_apart w r c fresh pool rising found before after =
 pub queued_same : (w : World) (r c : CallbackRow) (fresh pool : ℕ) → IsRising 1 fresh w.callbacks → find (has_number r.number) w.callbacks ≡ Some c → is_pending c.status ≡ false → is_pending r.status ≡ false → queue (with_callback w r) pool ≡ queue w pool
 queued_same w r c fresh pool rising found before after =
     queued_apart w r c fresh pool rising found (ap (λ a. a && (c.pool.0 == pool)) before) after
+
+-- ---- numbers in queues
+
+pub queue_below : (bound : ℕ) (w : World) (pool : ℕ) → AreBelow bound w.callbacks → AreBelow bound (queue w pool)
+queue_below bound w pool below =
+    let kept : (test : Priority → Bool) → AreBelow bound (waiting w pool test)
+          = λ (test : Priority → Bool). all_filter (λ (x : CallbackRow). x.number < bound) (λ x. is_pending_in pool x && test x.priority) w.callbacks below in
+    both_parts (λ (x : CallbackRow). x.number < bound) (waiting w pool is_high ++ waiting w pool is_normal) (waiting w pool is_low)
+      (both_parts (λ (x : CallbackRow). x.number < bound) (waiting w pool is_high) (waiting w pool is_normal) (kept is_high) (kept is_normal)) (kept is_low)
+
+-- no entry has a number that is above all
+pub number_free : (number : ℕ) (cs : List CallbackRow) → AreBelow number cs → entries_have number (map entry_of cs) ≡ false
+number_free number [] below = refl
+number_free number (c ∷ cs) below =
+    ap₂ (λ a b. a || b) (ne_eqb c.number number (λ e. omega (arith, e, below.0))) (number_free number cs below.1)

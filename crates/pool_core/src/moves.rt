@@ -1,7 +1,7 @@
 //! The moves of an engine: here alone its parts change, so that what each index and counter is for
 //! stays true.
 
-ghost use Rattle.std.specs.Prelude.{◌≡◌, ◌+◌, ◌-◌, ◌^◌, ◌<◌, length, None, Some, true};
+ghost use Rattle.std.specs.Prelude.{◌≡◌, ◌+◌, ◌-◌, ◌^◌, ◌<◌, length, None, Some, true, false};
 ghost use Rattle.handle_table.specs.Table.{live};
 ghost use Rattle.tp_base.specs.declared.rows.WorkerRow.{WorkerRow};
 ghost use Rattle.tp_base.specs.declared.rows.CallbackRow.{CallbackRow};
