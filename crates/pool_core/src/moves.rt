@@ -6,6 +6,7 @@ ghost use Rattle.handle_table.specs.Table.{live};
 ghost use Rattle.tp_base.specs.declared.rows.WorkerRow.{WorkerRow};
 ghost use Rattle.tp_base.specs.declared.rows.CallbackRow.{CallbackRow};
 ghost use Rattle.tp_model.specs.Counts.{numbered, callback_of, is_pending};
+ghost use Rattle.tp_model.specs.Conditions.{lacks_slots_for};
 ghost use Rattle.tp_model.specs.Rows.{with_object, with_new_callback, with_callback, with_worker, with_client, started, returned};
 ghost use Rattle.tp_model.specs.Remembered.{remembered_in};
 
@@ -55,7 +56,7 @@ impl Engine {
 
     /// Makes a callback that waits for a worker.
     pub(crate) fn queue_callback(&mut self, callback: CallbackRow)
-        requires room { length self.old.world.callbacks < self.old.world.limits.slots }
+        requires room { lacks_slots_for self.old.world 1 ≡ false }
         requires number { callback.number ≡ self.old.made + 1 }
         requires pending { is_pending callback.status ≡ true }
         requires made { callback.pool.0 < length self.old.world.pools }

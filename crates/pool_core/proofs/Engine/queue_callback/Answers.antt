@@ -1,8 +1,8 @@
-use Rattle.std.proofs.Common.{◌≡◌, ◌+◌, ◌<◌, ◌≤◌, List, map, length, sym, ap, ◌∙◌, subst, arith, filter}
+use Rattle.std.proofs.Common.{◌≡◌, ◌+◌, ◌<◌, ◌≤◌, List, map, length, sym, ap, ◌∙◌, subst, arith, filter, ltb-false}
 use Rattle.std.proofs.lemmas.List.Elements.{All-from_recursion}
 use Rattle.tp_base.specs.declared.rows.CallbackRow.{CallbackRow}
 use Rattle.prio_queue.specs.Pending.{has_number}
-use Rattle.tp_model.specs.Counts.{queue}
+use Rattle.tp_model.specs.Counts.{queue, slots}
 use Rattle.tp_model.specs.Remembered.{Remembered, lives}
 use Rattle.tp_model.proofs.Callbacks.{over_not_pending}
 use Rattle.tp_model.proofs.Lists.{length_filter_le}
@@ -19,12 +19,21 @@ push-requires-clause-last c =
     All-from_recursion (λ (x : CallbackRow). x.number < c.args.callback.number) c.self.inside.callbacks.rows
       (subst (λ n. AreBelow n c.self.inside.callbacks.rows) above (below_fresh 1 (c.self.inside.made + 1) c.self.inside.callbacks.rows c.self.invariant.sound.numbers))
 
+pub push-requires-clause-room : goal.push-requires-clause-room
+push-requires-clause-room c =
+    let w = c.args.self.now.world in
+    let fits : length (filter lives c.self.inside.callbacks.rows) + 0 + 1 ≤ c.self.inside.limits.slots
+          = subst (λ (r : Remembered). slots r.world + 1 ≤ r.world.limits.slots) (sym c.self.view_is) (ltb-false w.limits.slots (slots w + 1) c.requires.room) in
+    omega (arith, fits, ap length c.self.invariant.live, c.self.invariant.slot_limit)
+
 -- fewer wait than there are places
 pub push-requires-2-clause-room : goal.push-requires-2-clause-room
 push-requires-2-clause-room c =
-    let room : length c.self.inside.callbacks.rows < c.self.inside.limits.slots = subst (λ (r : Remembered). length r.world.callbacks < r.world.limits.slots) (sym c.self.view_is) c.requires.room in
+    let w = c.args.self.now.world in
+    let fits : length (filter lives c.self.inside.callbacks.rows) + 0 + 1 ≤ c.self.inside.limits.slots
+          = subst (λ (r : Remembered). slots r.world + 1 ≤ r.world.limits.slots) (sym c.self.view_is) (ltb-false w.limits.slots (slots w + 1) c.requires.room) in
     let fewer : length (filter waits c.self.inside.callbacks.rows) ≤ length (filter lives c.self.inside.callbacks.rows) = length_filter_le waits lives (λ x e. over_not_pending x.status e) c.self.inside.callbacks.rows in
-    omega (arith, room, fewer, ap length c.self.invariant.live, c.self.invariant.held_all, c.self.invariant.queue_slots)
+    omega (arith, fits, fewer, c.self.invariant.held_all, c.self.invariant.queue_slots)
 
 pub push-requires-2-clause-free : goal.push-requires-2-clause-free
 push-requires-2-clause-free c pool =
