@@ -1,5 +1,5 @@
 -- What the rows of pools and workers count is what the world counts.
-use Rattle.std.proofs.Common.{◌≡◌, ◌≢◌, ℕ, suc, zero, ◌+◌, ◌-◌, ◌<◌, ◌≤◌, Bool, true, false, cond, not, ◌&&◌, ◌||◌, ◌==◌, List, [], ◌∷◌, ◌++◌, length, map, nat_lt, slice_get, Option, Some, None, refl, sym, ap, ap₂, ◌∙◌, subst, arith, filter, find, option_map, is_none, IfSome, eqb-true, ne_eqb, lt-ltb}
+use Rattle.std.proofs.Common.{◌≡◌, ℕ, suc, zero, ◌+◌, ◌-◌, ◌<◌, ◌≤◌, Bool, true, false, cond, ◌&&◌, ◌==◌, List, [], ◌∷◌, length, map, nat_lt, slice_get, Option, Some, None, refl, sym, ap, ap₂, ◌∙◌, subst, arith, filter, find, option_map, is_none, IfSome, eqb-true, ne_eqb, lt-ltb}
 use Rattle.std.specs.List.{range_with_len}
 use Rattle.std.specs.Option.{option_map_or}
 use Rattle.std.proofs.lemmas.List.{length-map}
@@ -11,13 +11,13 @@ use Rattle.tp_base.specs.declared.rows.WorkerRow.{WorkerRow}
 use Rattle.tp_base.specs.declared.rows.ClientRow.{ClientRow}
 use Rattle.callback_rows.specs.LiveCallbacks.{LiveCallbacks}
 use Rattle.handle_table.specs.Table.{Table}
-use Rattle.prio_queue.specs.Pending.{Pending, Entry, queue_of, first_number}
+use Rattle.prio_queue.specs.Pending.{Pending, queue_of, first_number}
 use Rattle.pool_rows.specs.Pools.{Pools, counts_of}
 use Rattle.pool_rows.specs.Workers.{is_attached_to as is_attached_kept, runs_in, runs_long_in}
 use Rattle.pool_rows.specs.declared.Counts.{Counts}
 use Rattle.pool_rows.specs.declared.WorkerRow as kept
 use Rattle.tp_model.specs.World.{World}
-use Rattle.tp_model.specs.Counts.{numbered, has_number, callback_of, is_pending, is_attached_to, is_idle_in, pending, running, running_long, attached, idle, available, maximum, minimum, queue, next}
+use Rattle.tp_model.specs.Counts.{numbered, has_number, callback_of, is_pending, is_attached_to, is_idle_in, pending, attached, idle, maximum, minimum, queue, next}
 use Rattle.tp_model.specs.Sound.{IsSound, RunsOn}
 use Rattle.tp_model.proofs.Refusals.{both}
 use Rattle.tp_model.proofs.Soundness.{next_pending, runs_on}
@@ -54,7 +54,7 @@ idle_or_at_work pool (r ∷ rs) = one (is_attached_kept pool r) r.callback r _ _
     at_work zero x i w a e = omega (arith, e)
     at_work (suc n) x i w a e =
         subst (λ b. length (cond (is_none {T = ℕ} (cond b None (Some (suc n)))) (x ∷ i) i) + length (cond (nat_lt 0 (suc n)) (x ∷ w) w) ≡ length (x ∷ a)) (sym (ne_eqb (suc n) 0 (λ z. omega (arith, z))))
-          (subst (λ b. length i + length (cond b (x ∷ w) w) ≡ length (x ∷ a)) (sym (lt-ltb 0 (suc n) (omega arith))) (omega (arith, e)))
+        (subst (λ b. length i + length (cond b (x ∷ w) w) ≡ length (x ∷ a)) (sym (lt-ltb 0 (suc n) (omega arith))) (omega (arith, e)))
 
     one : (b : Bool) (n : ℕ) (x : kept.WorkerRow) (i w a : List kept.WorkerRow) → length i + length w ≡ length a → length (cond (b && is_none {T = ℕ} (cond (n == 0) None (Some n))) (x ∷ i) i) + length (cond (b && nat_lt 0 n) (x ∷ w) w) ≡ length (cond b (x ∷ a) a)
     one true n x i w a e = at_work n x i w a e

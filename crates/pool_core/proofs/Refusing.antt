@@ -1,5 +1,5 @@
 -- The refusals that an engine looks for are those of the definitions.
-use Rattle.std.proofs.Common.{◌≡◌, ℕ, ◌-◌, Bool, true, false, cond, not, ◌||◌, ◌==◌, List, [], ◌∷◌, length, nat_le, slice_get, Option, Some, None, is_some, refl, sym, ap, ap₂, ◌∙◌, subst}
+use Rattle.std.proofs.Common.{◌≡◌, ℕ, ◌-◌, Bool, true, false, cond, not, ◌||◌, ◌==◌, List, [], ◌∷◌, length, nat_le, slice_get, Option, Some, None, is_some, refl, sym, ap, ap₂, ◌∙◌}
 use Rattle.std.specs.Option.{option_map_or}
 use Rattle.tp_base.specs.declared.ids.Who.{Who}
 use Rattle.tp_base.specs.declared.calls.Environ.{Environ}
@@ -57,9 +57,11 @@ pub create_checked : (w : World) (who : Who) (env : Environ) → w.groups ≡ []
     → waiting ≡ is_in_wait w who → full ≡ nat_le w.limits.objects (length w.objects)
     → first_refusal ((missing, NoSuch) ∷ (finished, Released) ∷ (closed, PoolClosed) ∷ (idle, NotRunning) ∷ (waiting, InWait) ∷ (full, ObjectLimit) ∷ []) ≡ first_refusal (create_refusals w who env)
 create_checked w who env none missing finished closed idle waiting full e1 e2 e3 e4 e5 e6 =
-    same_first ((missing, NoSuch) ∷ (finished, Released) ∷ (closed, PoolClosed) ∷ (false, GroupClosed) ∷ (idle, NotRunning) ∷ (waiting, InWait) ∷ (full, ObjectLimit) ∷ []) (create_refusals w who env)
-      (e1 ∙ sym (ap (λ b. not (is_actor w who) || not (is_pool w env.pool.0) || not b) (group_is_none w env.group.0 none)), refl,
-        (e2, refl, (e3, refl, (sym (group_not_closed w env.group.0 none), refl, (e4, refl, (e5, refl, (e6, refl, tt)))))))
+    same_first ((missing, NoSuch) ∷ (finished, Released) ∷ (closed, PoolClosed) ∷ (false, GroupClosed) ∷ (idle, NotRunning) ∷ (waiting, InWait) ∷ (full, ObjectLimit) ∷ []) (create_refusals w who env) (
+      e1 ∙ sym (ap (λ b. not (is_actor w who) || not (is_pool w env.pool.0) || not b) (group_is_none w env.group.0 none)),
+      refl,
+      (e2, refl, (e3, refl, (sym (group_not_closed w env.group.0 none), refl, (e4, refl, (e5, refl, (e6, refl, tt)))))),
+    )
 
 pub submit_work_checked : (w : World) (who : Who) (object : ℕ) → is_object w object ≡ true → (missing unfit over idle waiting full : Bool)
     → missing ≡ not (is_actor w who) → unfit ≡ not (is_work_object w object) → over ≡ (is_finished w who || is_released w object) → idle ≡ is_without_callback w who
@@ -67,35 +69,35 @@ pub submit_work_checked : (w : World) (who : Who) (object : ℕ) → is_object w
     → first_refusal ((missing, NoSuch) ∷ (unfit, WrongKind) ∷ (over, Released) ∷ (idle, NotRunning) ∷ (waiting, InWait) ∷ (full, CallbackLimit) ∷ []) ≡ first_refusal (submit_work_refusals w who object)
 submit_work_checked w who object there missing unfit over idle waiting full e1 e2 e3 e4 e5 e6 =
     same_first ((missing, NoSuch) ∷ (unfit, WrongKind) ∷ (over, Released) ∷ (idle, NotRunning) ∷ (waiting, InWait) ∷ (full, CallbackLimit) ∷ []) (submit_work_refusals w who object)
-      (e1 ∙ sym (or_false (not (is_actor w who)) ) ∙ ap (λ b. not (is_actor w who) || not b) (sym there), refl, (e2, refl, (e3, refl, (e4, refl, (e5, refl, (e6, refl, tt))))))
+    (e1 ∙ sym (or_false (not (is_actor w who))) ∙ ap (λ b. not (is_actor w who) || not b) (sym there), refl, (e2, refl, (e3, refl, (e4, refl, (e5, refl, (e6, refl, tt))))))
 
 pub attach_checked : (w : World) (who : Who) (missing finished outside busy attached : Bool)
     → missing ≡ not (is_actor w who) → finished ≡ is_finished w who → outside ≡ not (is_worker who) → busy ≡ runs_callback w who → attached ≡ is_attached w who
     → first_refusal ((missing, NoSuch) ∷ (finished, Released) ∷ (outside, NotWorker) ∷ (busy, StillRunning) ∷ (attached, AlreadyAttached) ∷ []) ≡ first_refusal (attach_refusals w who)
 attach_checked w who missing finished outside busy attached e1 e2 e3 e4 e5 =
     same_first ((missing, NoSuch) ∷ (finished, Released) ∷ (outside, NotWorker) ∷ (busy, StillRunning) ∷ (attached, AlreadyAttached) ∷ []) (attach_refusals w who)
-      (e1, refl, (e2, refl, (e3, refl, (e4, refl, (e5, refl, tt)))))
+    (e1, refl, (e2, refl, (e3, refl, (e4, refl, (e5, refl, tt)))))
 
 pub take_checked : (w : World) (who : Who) (missing finished outside busy unattached : Bool)
     → missing ≡ not (is_actor w who) → finished ≡ is_finished w who → outside ≡ not (is_worker who) → busy ≡ runs_callback w who → unattached ≡ not (is_attached w who)
     → first_refusal ((missing, NoSuch) ∷ (finished, Released) ∷ (outside, NotWorker) ∷ (busy, StillRunning) ∷ (unattached, NotAttached) ∷ []) ≡ first_refusal (take_refusals w who)
 take_checked w who missing finished outside busy unattached e1 e2 e3 e4 e5 =
     same_first ((missing, NoSuch) ∷ (finished, Released) ∷ (outside, NotWorker) ∷ (busy, StillRunning) ∷ (unattached, NotAttached) ∷ []) (take_refusals w who)
-      (e1, refl, (e2, refl, (e3, refl, (e4, refl, (e5, refl, tt)))))
+    (e1, refl, (e2, refl, (e3, refl, (e4, refl, (e5, refl, tt)))))
 
 pub return_checked : (w : World) (who : Who) (missing finished outside idle waiting : Bool)
     → missing ≡ not (is_actor w who) → finished ≡ is_finished w who → outside ≡ not (is_worker who) → idle ≡ not (runs_callback w who) → waiting ≡ is_in_wait w who
     → first_refusal ((missing, NoSuch) ∷ (finished, Released) ∷ (outside, NotWorker) ∷ (idle, NotRunning) ∷ (waiting, InWait) ∷ []) ≡ first_refusal (return_refusals w who)
 return_checked w who missing finished outside idle waiting e1 e2 e3 e4 e5 =
     same_first ((missing, NoSuch) ∷ (finished, Released) ∷ (outside, NotWorker) ∷ (idle, NotRunning) ∷ (waiting, InWait) ∷ []) (return_refusals w who)
-      (e1, refl, (e2, refl, (e3, refl, (e4, refl, (e5, refl, tt)))))
+    (e1, refl, (e2, refl, (e3, refl, (e4, refl, (e5, refl, tt)))))
 
 pub finish_checked : (w : World) (who : Who) (missing worker finished waiting : Bool)
     → missing ≡ not (is_actor w who) → worker ≡ is_worker who → finished ≡ is_finished w who → waiting ≡ is_in_wait w who
     → first_refusal ((missing, NoSuch) ∷ (worker, WrongKind) ∷ (finished, Released) ∷ (waiting, InWait) ∷ []) ≡ first_refusal (finish_refusals w who)
 finish_checked w who missing worker finished waiting e1 e2 e3 e4 =
     same_first ((missing, NoSuch) ∷ (worker, WrongKind) ∷ (finished, Released) ∷ (waiting, InWait) ∷ []) (finish_refusals w who)
-      (e1, refl, (e2, refl, (e3, refl, (e4, refl, tt))))
+    (e1, refl, (e2, refl, (e3, refl, (e4, refl, tt))))
 
 -- ---- what is known of an actor whose call isn't refused
 

@@ -1,5 +1,5 @@
 -- What an engine shows after a move is the world after it, without what is over.
-use Rattle.std.proofs.Common.{◌≡◌, ℕ, suc, zero, ◌+◌, ◌-◌, ◌<◌, ◌≤◌, Bool, true, false, cond, not, ◌==◌, List, [], ◌∷◌, ◌++◌, length, map, slice_get, slice_set, Option, Some, None, refl, sym, ap, ap₂, ◌∙◌, subst, arith, filter, find, option_map, eqb-true, ne_eqb}
+use Rattle.std.proofs.Common.{◌≡◌, ℕ, ◌+◌, ◌-◌, ◌≤◌, true, false, cond, not, ◌==◌, List, length, map, slice_get, slice_set, Option, Some, None, refl, sym, ap, ap₂, ◌∙◌, arith, filter, option_map, eqb-true, ne_eqb}
 use Rattle.std.specs.Option.{option_map_or}
 use Rattle.std.proofs.lemmas.List.{map-set}
 use Rattle.std.proofs.lemmas.Option.{slice_get-map}
@@ -8,20 +8,17 @@ use Rattle.tp_base.specs.declared.limits.Limits.{Limits}
 use Rattle.tp_base.specs.declared.rows.CallbackRow.{CallbackRow}
 use Rattle.tp_base.specs.declared.rows.WorkerRow.{WorkerRow}
 use Rattle.tp_base.specs.declared.rows.ClientRow.{ClientRow}
-use Rattle.callback_rows.specs.LiveCallbacks.{LiveCallbacks}
 use Rattle.handle_table.specs.Table.{Table}
-use Rattle.prio_queue.specs.Pending.{Pending}
 use Rattle.pool_rows.specs.Pools.{Pools, worker_of, with_worker as with_kept_worker}
 use Rattle.pool_rows.specs.declared.WorkerRow as kept
 use Rattle.tp_model.specs.World.{World}
 use Rattle.tp_model.specs.Counts.{numbered, has_number}
-use Rattle.tp_model.specs.Rows.{with_callback, with_worker, with_client, replaced, started, returned}
+use Rattle.tp_model.specs.Rows.{with_callback, with_worker, with_client, replaced, returned}
 use Rattle.tp_model.specs.Remembered.{Remembered, lives, forget, remembered_in}
-use Rattle.tp_model.proofs.Callbacks.{filter_replaced_out, length_replaced}
-use Rattle.tp_model.proofs.Refusals.{numbered_some, false_true}
+use Rattle.tp_model.proofs.Callbacks.{filter_replaced_out}
+use Rattle.tp_model.proofs.Refusals.{numbered_some}
 use Rattle.pool_core.specs.declared.objects.Object.{Object}
 use Rattle.pool_core.specs.Parts.{world_of, shown_worker}
-use Rattle.pool_core.specs.Kept.{AreKept}
 
 -- the row here behind a row of the world
 pub record IsBehind (workers : List kept.WorkerRow) (number : ℕ) (pool : Option PoolId) (callback : Option ℕ) : Type 0 where
@@ -49,15 +46,15 @@ is_behind workers number pool callback is =
 pub runs_nothing : (n : ℕ) → cond (n == 0) None (Some n) ≡ None → n ≡ 0
 runs_nothing n e =
     elim (n == 0) as (λ b. (n == 0) ≡ b → cond b None (Some n) ≡ None → n ≡ 0) [
-      true ↦ λ z _. eqb-true n 0 z
-    | false ↦ λ _ h. absurd cc
+      | true ↦ λ z _. eqb-true n 0 z
+      | false ↦ λ _ h. absurd cc
     ] refl e
 
 pub runs_this : (n m : ℕ) → cond (n == 0) None (Some n) ≡ Some m → n ≡ m
 runs_this n m e =
     elim (n == 0) as (λ b. cond b None (Some n) ≡ Some m → n ≡ m) [
-      true ↦ λ h. absurd cc
-    | false ↦ λ h. cc
+      | true ↦ λ h. absurd cc
+      | false ↦ λ h. cc
     ] e
 
 -- one worker's row is changed
@@ -80,21 +77,21 @@ module _ (limits : Limits) (pools : Pools) (objects : Table Object) (rows : List
       → world_of limits (record pools { workers = slice_set pools.workers (number - 1) new }) objects rows clients ≡ forget (with_worker (world_of limits pools objects rows clients) number target)
   shows_attached number new target shows =
       ap₂ (λ cs ws. record (world_of limits pools objects rows clients) { callbacks = cs; workers = ws }) (sym live)
-        (map-set shown_worker pools.workers (number - 1) new ∙ ap (λ t. slice_set (map shown_worker pools.workers) (number - 1) t) shows)
+      (map-set shown_worker pools.workers (number - 1) new ∙ ap (λ t. slice_set (map shown_worker pools.workers) (number - 1) t) shows)
 
   pub shows_started : (number : ℕ) (new : kept.WorkerRow) (target : WorkerRow) (r : CallbackRow) → shown_worker new ≡ target → filter lives (replaced r rows) ≡ replaced r rows
       → world_of limits (record pools { workers = slice_set pools.workers (number - 1) new }) objects (replaced r rows) clients ≡ forget (with_worker (with_callback (world_of limits pools objects rows clients) r) number target)
   shows_started number new target r shows still =
       ap₂ (λ cs ws. record (world_of limits pools objects rows clients) { callbacks = cs; workers = ws }) (sym still)
-        (map-set shown_worker pools.workers (number - 1) new ∙ ap (λ t. slice_set (map shown_worker pools.workers) (number - 1) t) shows)
+      (map-set shown_worker pools.workers (number - 1) new ∙ ap (λ t. slice_set (map shown_worker pools.workers) (number - 1) t) shows)
 
   pub shows_returned : (number : ℕ) (new : kept.WorkerRow) (target : WorkerRow) (c : CallbackRow) → shown_worker new ≡ target
       → world_of limits (record pools { workers = slice_set pools.workers (number - 1) new }) objects (filter (λ (x : CallbackRow). not (x.number == c.number)) rows) clients
-        ≡ forget (with_worker (with_callback (world_of limits pools objects rows clients) (returned c)) number target)
+      ≡ forget (with_worker (with_callback (world_of limits pools objects rows clients) (returned c)) number target)
   shows_returned number new target c shows =
       ap₂ (λ cs ws. record (world_of limits pools objects rows clients) { callbacks = cs; workers = ws })
-        (sym (filter_replaced_out lives (returned c) rows refl ∙ ap (filter (λ (x : CallbackRow). not (has_number c.number x))) live))
-        (map-set shown_worker pools.workers (number - 1) new ∙ ap (λ t. slice_set (map shown_worker pools.workers) (number - 1) t) shows)
+      (sym (filter_replaced_out lives (returned c) rows refl ∙ ap (filter (λ (x : CallbackRow). not (has_number c.number x))) live))
+      (map-set shown_worker pools.workers (number - 1) new ∙ ap (λ t. slice_set (map shown_worker pools.workers) (number - 1) t) shows)
 
   pub shows_finished : (number : ℕ) → world_of limits pools objects rows (slice_set clients (number - 1) (record { finished = true })) ≡ forget (with_client (world_of limits pools objects rows clients) number (record { finished = true }))
   shows_finished number = ap (λ cs. record (world_of limits pools objects rows (slice_set clients (number - 1) (record { finished = true }))) { callbacks = cs }) (sym live)

@@ -13,4 +13,4 @@ actor_of w who = record {
   is_idle = is_without_callback w who;
   is_attached = is_attached w who;
   in_wait = is_in_wait w who;
-  }
+}

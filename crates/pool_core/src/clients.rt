@@ -1,17 +1,20 @@
 //! Clients: when one has made its last call.
 
-ghost use Rattle.std.specs.Prelude.{◌≡◌, ◌^◌, ◌<◌, false};
+ghost use Rattle.std.specs.Prelude.{◌≡◌, ◌^◌, ◌<◌, IfOk, false, replicate};
 ghost use Rattle.tp_base.specs.declared.ids.Who.TheVariants.{Client};
+ghost use Rattle.tp_model.specs.World.{unfinished};
 ghost use Rattle.tp_model.specs.Conditions.{is_worker};
 ghost use Rattle.tp_model.specs.Step.{first_refusal};
 ghost use Rattle.tp_model.specs.Rows.{finish_refusals};
 ghost use Rattle.tp_model.specs.Remembered.{step_of, Goes};
 
-use crate::refusals::{first_of, refused};
 use crate::Engine;
+use crate::refusals::{first_of, refused};
+use std::alloc::{AllocError, Global};
 use tp_base::answers::{Answer, Outcome, Refusal};
 use tp_base::calls::Call;
 use tp_base::ids::Who;
+use tp_base::rows::ClientRow;
 
 /// The number of a client.
 fn client_number(who: Who) -> u32
@@ -22,6 +25,13 @@ fn client_number(who: Who) -> u32
         Who::Client(number) => number,
         Who::Worker(_) => unreachable!(),
     }
+}
+
+/// The rows of so many clients, none of which has finished.
+pub(crate) fn open_clients(alloc: Global, clients: u32) -> Result<Vec<ClientRow>, AllocError>
+    ensures { IfOk result (λ rows. rows.items ≡ replicate clients unfinished) }
+{
+    vec![in alloc; ClientRow { finished: false }; clients as usize]
 }
 
 impl Engine {

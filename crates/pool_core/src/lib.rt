@@ -81,7 +81,7 @@ impl Engine {
         let objects = Rows::open(alloc, limits.objects)?;
         let callbacks = CallbackRows::open(alloc, limits.slots)?;
         let queues = Queues::open(alloc, limits.pools, limits.slots)?;
-        let clients = vec![in alloc; ClientRow { finished: false }; limits.clients as usize]?;
+        let clients = clients::open_clients(alloc, limits.clients)?;
         Ok(Engine {
             limits,
             pools,

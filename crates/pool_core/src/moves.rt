@@ -9,11 +9,10 @@ ghost use Rattle.tp_model.specs.Counts.{numbered, callback_of, is_pending};
 ghost use Rattle.tp_model.specs.Conditions.{lacks_slots_for};
 ghost use Rattle.tp_model.specs.Rows.{with_object, with_new_callback, with_callback, with_worker, with_client, started, returned};
 ghost use Rattle.tp_model.specs.Remembered.{remembered_in};
-
 ghost use Rattle.pool_core.specs.Parts.{priority_byte as priority_byte_of};
 
-use crate::objects::Object;
 use crate::Engine;
+use crate::objects::Object;
 use tp_base::calls::Priority;
 use tp_base::ids::PoolId;
 use tp_base::rows::{CallbackRow, ClientRow, Slots, Status};
@@ -64,7 +63,11 @@ impl Engine {
         ensures { self.new ≡ remembered_in self.old (with_new_callback self.old.world callback) }
     {
         self.callbacks.push(callback);
-        self.queues.push(callback.pool.0, priority_byte(callback.priority), callback.number);
+        self.queues.push(
+            callback.pool.0,
+            priority_byte(callback.priority),
+            callback.number,
+        );
         self.made += 1;
         self.age += 1;
     }

@@ -8,8 +8,8 @@ ghost use Rattle.tp_model.specs.Step.{first_refusal};
 ghost use Rattle.tp_model.specs.Rows.{create_refusals};
 ghost use Rattle.tp_model.specs.Remembered.{step_of, Goes};
 
-use crate::refusals::{either, first_of, refused};
 use crate::Engine;
+use crate::refusals::{either, first_of, refused};
 use handle_table::Found;
 use tp_base::answers::{Answer, Outcome, Refusal};
 use tp_base::calls::{Call, Environ, Kind};
@@ -72,7 +72,10 @@ impl Engine {
         let is_closed = self.is_closed_pool(env.pool);
         let is_full = self.limits.objects <= self.objects.len();
         first_of(&[
-            (either(either(!actor.exists, lacks_pool), lacks_group), Refusal::NoSuch),
+            (
+                either(either(!actor.exists, lacks_pool), lacks_group),
+                Refusal::NoSuch,
+            ),
             (actor.finished, Refusal::Released),
             (is_closed, Refusal::PoolClosed),
             (actor.is_idle, Refusal::NotRunning),

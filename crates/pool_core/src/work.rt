@@ -8,8 +8,8 @@ ghost use Rattle.tp_model.specs.Step.{first_refusal};
 ghost use Rattle.tp_model.specs.Rows.{submit_work_refusals, new_callback};
 ghost use Rattle.tp_model.specs.Remembered.{step_of, Goes};
 
-use crate::refusals::{either, first_of, refused};
 use crate::Engine;
+use crate::refusals::{either, first_of, refused};
 use tp_base::answers::{Answer, Outcome, Refusal, TakeResult};
 use tp_base::calls::{Call, Kind};
 use tp_base::ids::{ObjectId, Who};

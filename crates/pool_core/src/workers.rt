@@ -10,8 +10,8 @@ ghost use Rattle.tp_model.specs.Step.{first_refusal};
 ghost use Rattle.tp_model.specs.Rows.{attach_refusals, take_refusals, return_refusals, pool_to_join};
 ghost use Rattle.tp_model.specs.Remembered.{step_of, Goes};
 
-use crate::refusals::{first_of, refused};
 use crate::Engine;
+use crate::refusals::{first_of, refused};
 use pool_rows::Counts;
 use tp_base::answers::{Answer, Look, Outcome, Refusal, SlotWord};
 use tp_base::calls::Call;

@@ -1,4 +1,4 @@
-use Rattle.std.proofs.Common.{◌≡◌, ℕ, ◌+◌, ◌-◌, ◌<◌, length, map, slice_set, None, Some, Option, refl, sym, ap, ◌∙◌, subst, arith}
+use Rattle.std.proofs.Common.{◌≡◌, ◌+◌, ◌-◌, slice_set, None, Some, refl, sym, ◌∙◌, subst, arith}
 use Rattle.pool_rows.specs.Pools.{Pools}
 use Rattle.pool_rows.specs.Workers.{idle_in}
 use Rattle.tp_model.specs.Counts.{numbered}
@@ -24,7 +24,7 @@ invariant_of-self c =
     let a = (goal.at.invariant_of-self c).After-attach in
     let b = behind a in
     subst (λ p. AreKept c.self.inside.limits p c.self.inside.objects c.self.inside.callbacks c.self.inside.queues c.self.inside.clients.items c.self.inside.made (c.self.inside.owed + 1) (c.self.inside.age + 1)) (sym (changed a))
-      (kept_attached c.args.number b.row c.args.pool b.at_place b.from_one b.same_pool (runs_nothing b.row.callback b.same_callback) c.self.invariant)
+    (kept_attached c.args.number b.row c.args.pool b.at_place b.from_one b.same_pool (runs_nothing b.row.callback b.same_callback) c.self.invariant)
 
 pub returns : goal.returns
 returns c =
@@ -32,7 +32,7 @@ returns c =
     let i = c.self.inside in
     let w = world_of i.limits i.pools i.objects i.callbacks.rows i.clients.items in
     subst (λ (r : Remembered). record { world = world_of i.limits c.attach.new.self i.objects i.callbacks.rows i.clients.items; made = i.made; age = i.age + 1 } ≡ remembered_in r (with_worker r.world c.args.number (record { pool = Some c.args.pool; callback = None }))) c.self.view_is
-      (subst (λ (p : Pools). record { world = world_of i.limits p i.objects i.callbacks.rows i.clients.items; made = i.made; age = i.age + 1 } ≡ remembered_in (remembered i) (with_worker w c.args.number (record { pool = Some c.args.pool; callback = None }))) (sym (changed a))
-        (remembers (remembered i) (with_worker w c.args.number (record { pool = Some c.args.pool; callback = None })) _ i.made (i.age + 1)
-          (shows_attached i.limits i.pools i.objects i.callbacks.rows i.clients.items c.self.invariant.live c.args.number (idle_in c.args.pool) (record { pool = Some c.args.pool; callback = None }) refl)
-          (omega arith) refl))
+    (subst (λ (p : Pools). record { world = world_of i.limits p i.objects i.callbacks.rows i.clients.items; made = i.made; age = i.age + 1 } ≡ remembered_in (remembered i) (with_worker w c.args.number (record { pool = Some c.args.pool; callback = None }))) (sym (changed a))
+    (remembers (remembered i) (with_worker w c.args.number (record { pool = Some c.args.pool; callback = None })) _ i.made (i.age + 1)
+    (shows_attached i.limits i.pools i.objects i.callbacks.rows i.clients.items c.self.invariant.live c.args.number (idle_in c.args.pool) (record { pool = Some c.args.pool; callback = None }) refl)
+    (omega arith) refl))

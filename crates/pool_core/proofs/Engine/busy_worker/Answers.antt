@@ -1,15 +1,14 @@
-use Rattle.std.proofs.Common.{◌≡◌, ℕ, ◌+◌, ◌-◌, ◌==◌, cond, slice_get, List, map, Option, None, Some, option_map, refl, sym, ap, ap₂, ◌∙◌, subst}
+use Rattle.std.proofs.Common.{◌≡◌, ℕ, ◌+◌, map, None, Some, sym, ap, ap₂, ◌∙◌, subst}
 use Rattle.tp_base.specs.declared.ids.PoolId.{PoolId}
 use Rattle.tp_base.specs.declared.rows.WorkerRow.{WorkerRow}
 use Rattle.pool_rows.specs.Pools.{Pools, worker_of}
 use Rattle.pool_rows.specs.declared.WorkerRow as kept
-use Rattle.tp_model.specs.World.{World}
 use Rattle.tp_model.specs.Counts.{numbered}
 use Rattle.tp_model.specs.Sound.{IsSound}
 use Rattle.tp_model.specs.Remembered.{Remembered}
 use Rattle.pool_core.specs.Parts.{shown_worker}
 use Rattle.pool_core.proofs.Counting.{IsWorking, is_working}
-use Rattle.pool_core.proofs.Showing.{IsBehind, is_behind, worker_found, runs_this}
+use Rattle.pool_core.proofs.Showing.{is_behind, worker_found, runs_this}
 use Rattle.pool_core.proofs.Engine.busy_worker.Goals as goal
 
 -- the row that is found

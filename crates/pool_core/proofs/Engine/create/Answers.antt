@@ -1,6 +1,5 @@
-use Rattle.std.proofs.Common.{◌≡◌, ℕ, ◌+◌, ◌-◌, ◌<◌, ◌≤◌, not, ◌||◌, None, Some, refl, sym, ap, ◌∙◌, arith}
+use Rattle.std.proofs.Common.{not, ◌||◌, refl, sym, ap, ◌∙◌, arith}
 use Rattle.tp_model.specs.Conditions.{is_actor, is_pool, is_no_group_or_group}
-use Rattle.tp_model.specs.Step.{first_refusal, cost}
 use Rattle.tp_model.specs.Rows.{create_row, create_refusals, create_effect, with_object, new_object}
 use Rattle.tp_model.proofs.Refusals.{none_holds, neither, not_false, made}
 use Rattle.tp_model.proofs.Steps.{unless_none, unless_some, goes_refused, goes_full, goes_accepted}
@@ -13,16 +12,16 @@ pub returns-in-Some : goal.returns-in-Some
 unfolding create_row
 returns-in-Some c =
     goes_refused c.args.self.now c.args.room c.args.who (Create c.args.kind c.args.routine c.args.context c.args.env) c.in-Some.refusal c.refused.result
-      (unless_some _ c.in-Some.refusal _ (sym c.create_refusal.ensures ∙ c.in-Some.is))
-      c.refused.ensures
+    (unless_some _ c.in-Some.refusal _ (sym c.create_refusal.ensures ∙ c.in-Some.is))
+    c.refused.ensures
 
 pub returns-then-room-lt1 : goal.returns-then-room-lt1
 unfolding create_row
 returns-then-room-lt1 c =
     let w = c.args.self.now.world in
     goes_full c.args.self.now c.args.room c.args.who (Create c.args.kind c.args.routine c.args.context c.args.env) _ (with_object w (new_object c.args.kind c.args.routine c.args.context c.args.env)) 1 _
-      (unless_none _ (create_effect w c.args.kind c.args.routine c.args.context c.args.env) (sym c.create_refusal.ensures ∙ c.in-None.is))
-      (omega arith) c.if-room-lt1.true refl
+    (unless_none _ (create_effect w c.args.kind c.args.routine c.args.context c.args.env) (sym c.create_refusal.ensures ∙ c.in-None.is))
+    (omega arith) c.if-room-lt1.true refl
 
 pub add_object-number-requires-clause-made : goal.add_object-number-requires-clause-made
 add_object-number-requires-clause-made c =
@@ -36,5 +35,5 @@ unfolding create_row
 returns c =
     let w = c.args.self.now.world in
     goes_accepted c.args.self.now c.args.room c.args.who (Create c.args.kind c.args.routine c.args.context c.args.env) _ (with_object w (new_object c.args.kind c.args.routine c.args.context c.args.env)) 1 c.add_object-number.new.self _
-      (unless_none _ (create_effect w c.args.kind c.args.routine c.args.context c.args.env) (sym c.create_refusal.ensures ∙ c.in-None.is))
-      (omega arith) (omega (arith, c.if-room-lt1.false)) (ap (λ n. Done (Made n)) c.add_object-number.ensures.number) c.add_object-number.ensures.after
+    (unless_none _ (create_effect w c.args.kind c.args.routine c.args.context c.args.env) (sym c.create_refusal.ensures ∙ c.in-None.is))
+    (omega arith) (omega (arith, c.if-room-lt1.false)) (ap (λ n. Done (Made n)) c.add_object-number.ensures.number) c.add_object-number.ensures.after

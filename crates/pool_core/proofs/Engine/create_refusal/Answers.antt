@@ -1,4 +1,4 @@
-use Rattle.std.proofs.Common.{◌≡◌, Bool, not, ◌||◌, nat_le, length, List, [], refl, sym, ap, ap₂, ◌∙◌}
+use Rattle.std.proofs.Common.{◌≡◌, not, ◌||◌, nat_le, length, sym, ap, ap₂, ◌∙◌}
 use Rattle.std.proofs.lemmas.List.{length-map}
 use Rattle.tp_model.specs.Remembered.{Remembered}
 use Rattle.pool_core.specs.Parts.{shown_object}
@@ -14,9 +14,9 @@ returns c =
     let objects : c.len.result ≡ length w.objects = c.len.ensures.value ∙ sym (length-map c.self.inside.objects.rows shown_object) ∙ ap (λ (r : Remembered). length r.world.objects) c.self.view_is in
     c.first_of.ensures
     ∙ create_checked w c.args.who c.args.env (ap (λ (r : Remembered). r.world.groups) (sym c.self.view_is)) _ _ _ _ _ _
-      (c.either-2.ensures ∙ ap₂ (λ a b. a || not b) (c.either.ensures ∙ ap₂ (λ a b. not a || not b) (ap (λ (x : Actor). x.exists) actor) c.is_pool-lacks_pool.ensures) c.is_no_group-lacks_group.ensures)
-      (ap (λ (x : Actor). x.finished) actor)
-      c.is_closed_pool-is_closed.ensures
-      (ap (λ (x : Actor). x.is_idle) actor)
-      (ap (λ (x : Actor). x.in_wait) actor)
-      (ap₂ nat_le limits objects)
+    (c.either-2.ensures ∙ ap₂ (λ a b. a || not b) (c.either.ensures ∙ ap₂ (λ a b. not a || not b) (ap (λ (x : Actor). x.exists) actor) c.is_pool-lacks_pool.ensures) c.is_no_group-lacks_group.ensures)
+    (ap (λ (x : Actor). x.finished) actor)
+    c.is_closed_pool-is_closed.ensures
+    (ap (λ (x : Actor). x.is_idle) actor)
+    (ap (λ (x : Actor). x.in_wait) actor)
+    (ap₂ nat_le limits objects)

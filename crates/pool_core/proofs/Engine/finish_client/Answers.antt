@@ -1,8 +1,6 @@
-use Rattle.std.proofs.Common.{◌≡◌, ℕ, ◌+◌, ◌-◌, ◌≤◌, length, Some, false, refl, sym, ap, ◌∙◌, subst, arith}
-use Rattle.tp_base.specs.declared.rows.ClientRow.{ClientRow}
-use Rattle.tp_model.specs.Counts.{numbered, owed}
+use Rattle.std.proofs.Common.{◌≡◌, Some, false, refl, sym, subst, arith}
+use Rattle.tp_model.specs.Counts.{numbered}
 use Rattle.tp_model.specs.Remembered.{Remembered}
-use Rattle.tp_model.specs.Rows.{with_client}
 use Rattle.tp_model.proofs.Costs.{owed_finished}
 use Rattle.pool_core.specs.Parts.{world_of}
 use Rattle.pool_core.proofs.Keeping.{kept_finished}
@@ -18,4 +16,4 @@ overflow_sub-self c =
 pub invariant_of-self : goal.invariant_of-self
 invariant_of-self c =
     kept_finished c.args.number (record { finished = false })
-      (subst (λ (r : Remembered). numbered r.world.clients c.args.number ≡ Some (record { finished = false })) (sym c.self.view_is) c.requires.unfinished) refl c.self.invariant
+    (subst (λ (r : Remembered). numbered r.world.clients c.args.number ≡ Some (record { finished = false })) (sym c.self.view_is) c.requires.unfinished) refl c.self.invariant

@@ -1,5 +1,5 @@
-use Rattle.std.proofs.Common.{◌≡◌, ℕ, ◌-◌, ◌&&◌, Bool, cond, nat_lt, length, filter, sym, ap, ap₂, ◌∙◌}
-use Rattle.tp_model.specs.Counts.{is_below_minimum, available, running_long, attached, maximum, minimum}
+use Rattle.std.proofs.Common.{◌≡◌, ◌-◌, ◌&&◌, Bool, nat_lt, sym, ap, ap₂, ◌∙◌}
+use Rattle.tp_model.specs.Counts.{is_below_minimum, running_long, attached}
 use Rattle.tp_model.specs.Remembered.{Remembered}
 use Rattle.pool_core.specs.Parts.{world_of}
 use Rattle.pool_core.proofs.Counting.{attached_shown, counts_shown}
@@ -15,6 +15,6 @@ returns c =
     let long : c.in-Some.counts.long ≡ running_long w pool = sym shown.long ∙ sym (c.self.invariant.run_long pool) in
     c.keeps_too_few.ensures
     ∙ ap₂ (λ (a b : Bool). a && b)
-        (ap₂ nat_lt (ap₂ (λ m n. m - n) joined long) (sym shown.least))
-        (ap₂ nat_lt joined (sym shown.most))
+    (ap₂ nat_lt (ap₂ (λ m n. m - n) joined long) (sym shown.least))
+    (ap₂ nat_lt joined (sym shown.most))
     ∙ ap (λ (r : Remembered). is_below_minimum r.world pool) c.self.view_is

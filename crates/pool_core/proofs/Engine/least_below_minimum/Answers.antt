@@ -1,4 +1,4 @@
-use Rattle.std.proofs.Common.{◌≡◌, ℕ, ◌+◌, ◌<◌, ◌≤◌, true, false, length, Some, None, Option, find, sym, ap, ◌∙◌, subst, arith}
+use Rattle.std.proofs.Common.{◌≡◌, ℕ, ◌<◌, true, false, length, Some, None, find, sym, ap, ◌∙◌, subst, arith}
 use Rattle.std.specs.List.{range_with_len}
 use Rattle.tp_model.specs.World.{World}
 use Rattle.tp_model.specs.Counts.{is_below_minimum, least_pool}
@@ -16,8 +16,8 @@ none w n all before = sym (ap (λ m. find (is_below_minimum w) (range_with_len 0
 pub returns-then-is_below_minimum-clause-pool : goal.returns-then-is_below_minimum-clause-pool
 returns-then-is_below_minimum-clause-pool c =
     found c.args.self.now.world c.pools-pools.result c.loop-number.number
-      (c.pools-pools.ensures.value ∙ ap (λ (r : Remembered). length r.world.pools) c.self.view_is)
-      c.loop-number.invariant c.loop-number-test.true (sym c.is_below_minimum.ensures ∙ c.if-is_below_minimum.true)
+    (c.pools-pools.ensures.value ∙ ap (λ (r : Remembered). length r.world.pools) c.self.view_is)
+    c.loop-number.invariant c.loop-number-test.true (sym c.is_below_minimum.ensures ∙ c.if-is_below_minimum.true)
 
 pub returns-clause-pool : goal.returns-clause-pool
 returns-clause-pool c =

@@ -1,4 +1,4 @@
-use Rattle.std.proofs.Common.{◌≡◌, ℕ, ◌+◌, Option, Some, None, sym, ap, ◌∙◌, subst}
+use Rattle.std.proofs.Common.{◌+◌, sym, ap, ◌∙◌, subst}
 use Rattle.tp_model.specs.Counts.{next}
 use Rattle.tp_model.specs.Sound.{IsSound}
 use Rattle.tp_model.specs.Remembered.{Remembered}

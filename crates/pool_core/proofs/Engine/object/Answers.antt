@@ -15,8 +15,8 @@ use Rattle.pool_core.proofs.Engine.object.Goals as goal
 shown : (rows : List (Marked Object)) (number : ℕ) → option_map shown_object (numbered rows number) ≡ numbered (map shown_object rows) number
 shown rows number =
     elim (number == 0) as (λ b. option_map shown_object (cond b None (slice_get rows (number - 1))) ≡ cond b None (slice_get (map shown_object rows) (number - 1))) [
-      true ↦ refl
-    | false ↦ sym (slice_get-map shown_object rows (number - 1))
+      | true ↦ refl
+      | false ↦ sym (slice_get-map shown_object rows (number - 1))
     ]
 
 at_home : (objects : List ObjectRow) (pools number : ℕ) (o : Option ObjectRow) → AllByRecursion (λ (x : ObjectRow). x.env.pool.0 < pools) objects → numbered objects number ≡ o → IfSome o (λ x. x.env.pool.0 < pools)
@@ -32,4 +32,4 @@ pub returns-clause-home : goal.returns-clause-home
 returns-clause-home c =
     let row = c.found_row.ensures ∙ ap (option_map shown_object) c.get.ensures ∙ shown c.self.inside.objects.rows c.args.object.0 in
     subst (λ n. IfSome c.found_row.result (λ (x : ObjectRow). x.env.pool.0 < n)) (ap (λ (r : Remembered). length r.world.pools) c.self.view_is)
-      (at_home (map shown_object c.self.inside.objects.rows) (length c.self.inside.pools.pools) c.args.object.0 c.found_row.result c.self.invariant.sound.object_pools (sym row))
+    (at_home (map shown_object c.self.inside.objects.rows) (length c.self.inside.pools.pools) c.args.object.0 c.found_row.result c.self.invariant.sound.object_pools (sym row))

@@ -1,4 +1,4 @@
-use Rattle.std.proofs.Common.{◌≡◌, Bool, false, not, ◌||◌, Some, is_some, refl, sym, ap, ap₂, ◌∙◌}
+use Rattle.std.proofs.Common.{false, not, ◌||◌, is_some, sym, ap, ap₂, ◌∙◌}
 use Rattle.std.specs.Option.{option_map_or}
 use Rattle.tp_base.specs.declared.rows.ObjectRow.{ObjectRow}
 use Rattle.tp_model.specs.Conditions.{is_work}
@@ -11,9 +11,9 @@ returns c object is =
     let actor = c.actor-actor.ensures in
     c.first_of.ensures
     ∙ submit_work_checked c.args.self.now.world c.args.who object (ap is_some is) _ _ _ _ _ _
-      (ap (λ (x : Actor). not x.exists) actor)
-      (ap not (c.is_work_kind-is_work.ensures ∙ sym (ap (λ o. option_map_or (λ (r : ObjectRow). is_work r.kind) o false) is)))
-      (c.either.ensures ∙ ap₂ (λ a b. a || b) (ap (λ (x : Actor). x.finished) actor) (sym (ap (λ o. option_map_or (λ (r : ObjectRow). r.released) o false) is)))
-      (ap (λ (x : Actor). x.is_idle) actor)
-      (ap (λ (x : Actor). x.in_wait) actor)
-      c.lacks_slot-is_full.ensures
+    (ap (λ (x : Actor). not x.exists) actor)
+    (ap not (c.is_work_kind-is_work.ensures ∙ sym (ap (λ o. option_map_or (λ (r : ObjectRow). is_work r.kind) o false) is)))
+    (c.either.ensures ∙ ap₂ (λ a b. a || b) (ap (λ (x : Actor). x.finished) actor) (sym (ap (λ o. option_map_or (λ (r : ObjectRow). r.released) o false) is)))
+    (ap (λ (x : Actor). x.is_idle) actor)
+    (ap (λ (x : Actor). x.in_wait) actor)
+    c.lacks_slot-is_full.ensures

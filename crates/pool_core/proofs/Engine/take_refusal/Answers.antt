@@ -1,4 +1,4 @@
-use Rattle.std.proofs.Common.{◌≡◌, not, ap, ◌∙◌}
+use Rattle.std.proofs.Common.{not, ap, ◌∙◌}
 use Rattle.pool_core.specs.declared.actors.Actor.{Actor}
 use Rattle.pool_core.proofs.Refusing.{take_checked}
 use Rattle.pool_core.proofs.Engine.take_refusal.Goals as goal
@@ -8,8 +8,8 @@ returns c =
     let actor = c.actor-actor.ensures in
     c.first_of.ensures
     ∙ take_checked c.args.self.now.world c.args.who _ _ _ _ _
-      (ap (λ (x : Actor). not x.exists) actor)
-      (ap (λ (x : Actor). x.finished) actor)
-      (ap (λ (x : Actor). not x.is_worker) actor)
-      (ap (λ (x : Actor). x.runs) actor)
-      (ap (λ (x : Actor). not x.is_attached) actor)
+    (ap (λ (x : Actor). not x.exists) actor)
+    (ap (λ (x : Actor). x.finished) actor)
+    (ap (λ (x : Actor). not x.is_worker) actor)
+    (ap (λ (x : Actor). x.runs) actor)
+    (ap (λ (x : Actor). not x.is_attached) actor)
