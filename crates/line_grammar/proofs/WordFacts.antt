@@ -3,7 +3,8 @@ use Rattle.std.proofs.Common.{◌≡◌, ◌≢◌, ℕ, suc, ◌+◌, ◌-◌, 
 use Rattle.std.proofs.lemmas.Bool.{ltb-true, ltb-false, cases_eq, eqb-false}
 use Rattle.std.proofs.lemmas.List.{append-nil, append_assoc, length-append, length-take-le, take-append-drop, get_or-drop, get_or_at, drop-drop, take_all, drop_all}
 use Rattle.std.proofs.Math.Seq.{take-add}
-use Rattle.std.specs.Prelude.{Result, Ok, Err, nat_lt, if◌then◌else◌}
+use Rattle.std.proofs.lemmas.Slice.Eq.{bytes_eq-Decides}
+use Rattle.std.specs.Prelude.{bytes_eq, Result, Ok, Err, nat_lt, if◌then◌else◌}
 use Rattle.line_grammar.specs.Language.{Begins, Stops, Reaches, AnyOf, IsReadTo, IsStuck, IsRead}
 use Rattle.line_grammar.specs.Words.{IsWord, Word, Either, further_of, lacks}
 use Rattle.line_grammar.specs.Parts.{IsPart}
@@ -30,6 +31,10 @@ word_stuck meaning word text k more within shared apart = record {
       stops = word_stops meaning word text k within apart (drop k text) refl;
     };
   }
+
+-- texts that a test tells apart
+pub differ : (a b : List ℕ) → bytes_eq a b ≡ false → a ≡ b → ⊥
+differ a b test e = let same : bytes_eq a b ≡ true = (bytes_eq-Decides a b).1 e in let no_such : ⊥ = cc in no_such
 
 -- where a language stops, it stops further on too
 module _ {A : Type 0} (L : List A → Type 0) where
@@ -124,6 +129,9 @@ module _ {V A : Type 0} (P Q : V → List A → Type 0) where
   either_read t (Ok (v, n)) (Err k) p q = left_read t v n k p q (nat_lt n k) refl
   either_read t (Err k) (Ok (w, m)) p q = right_read t w m k p q (nat_lt m k) refl
   either_read t (Err j) (Err k) p q = neither_read t j k p q (nat_lt j k) refl
+
+  pub further_read : (t : List A) (r s z : Result (V × ℕ) ℕ) → z ≡ further_of r s → IsRead P t r → IsRead Q t s → IsRead (Either P Q) t z
+  further_read t r s z e p q = subst (λ x. IsRead (Either P Q) t x) (sym e) (either_read t r s p q)
 
 -- a text in which the separator doesn't stand
 lacks_cons : (separator x : ℕ) (text : List ℕ) (b : Bool) → nat_eq x separator ≡ b → (if b then false else lacks separator text) ≡ true → (x ≡ separator → ⊥) × IsTrue (lacks separator text)

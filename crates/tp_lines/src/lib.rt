@@ -6,4 +6,7 @@
 
 #![tactic(auto)]
 
+pub mod fields;
 pub mod print;
+pub mod shapes;
+pub mod values;
