@@ -6,7 +6,9 @@
 
 #![tactic(auto)]
 
+pub mod calls;
 pub mod fields;
 pub mod print;
+pub mod rows;
 pub mod shapes;
 pub mod values;
