@@ -1,3 +1,5 @@
+pub mod CallFacts
 pub mod FieldFacts
 pub mod FormFacts
 pub mod RowFacts
+pub mod WhoFacts
