@@ -1,3 +1,4 @@
+pub mod Bounds
 pub mod CallFacts
 pub mod FieldFacts
 pub mod FormFacts

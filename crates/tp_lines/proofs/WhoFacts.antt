@@ -104,7 +104,7 @@ line_to who c t p = record {
     split = p.split ∙ ap (λ l. l ++ p.back) p.first.split ∙ ap (λ l. text_of_who who ++ l) p.second.split ∙ joined_words who c;
   }
 
-line_back : (who : Who) (c : Call) (t : List ℕ) → IsCallLine who c t → IsPair WhoTexts (λ w. CallTexts) who c t
+pub line_back : (who : Who) (c : Call) (t : List ℕ) → IsCallLine who c t → IsPair WhoTexts (λ w. CallTexts) who c t
 line_back who c t a = record {
     front = text_of_who who; back = 32 ∷ joined (words_of_call c); split = a.split ∙ sym (joined_words who c);
     first = record { in_range = a.who_in_range; split = refl };

@@ -8,6 +8,7 @@
 
 pub mod calls;
 pub mod fields;
+pub mod parse;
 pub mod print;
 pub mod rows;
 pub mod shapes;
