@@ -1,7 +1,7 @@
 -- Words and choices.
 use Rattle.std.proofs.Common.{◌≡◌, ◌≢◌, ℕ, suc, ◌+◌, ◌-◌, ◌<◌, ◌≤◌, List, [], ◌∷◌, ◌++◌, length, take, drop, get_or, refl, sym, ap, ◌∙◌, subst, arith, length-drop, ◌⊎◌, inl, inr, Bool, true, false, cond, nat_eq, IsTrue}
-use Rattle.std.proofs.lemmas.Bool.{ltb-true, ltb-false, cases_eq, eqb-false}
-use Rattle.std.proofs.lemmas.List.{append-nil, append_assoc, length-append, length-take-le, take-append-drop, get_or-drop, get_or_at, drop-drop, take_all, drop_all}
+use Rattle.std.proofs.lemmas.Bool.{ltb-true, ltb-false, cases_eq, eqb-false, eqb-true}
+use Rattle.std.proofs.lemmas.List.{append-nil, append_assoc, length-append, length-take-le, take-append-drop, get_or-drop, get_or_at, drop-drop, take_more}
 use Rattle.std.proofs.Math.Seq.{take-add}
 use Rattle.std.proofs.lemmas.Slice.Eq.{bytes_eq-Decides}
 use Rattle.std.specs.Prelude.{bytes_eq, Result, Ok, Err, nat_lt, if◌then◌else◌}
@@ -141,6 +141,20 @@ lacks_cons separator x text false e h = (eqb-false x separator e, h)
 pub lacks_apart : (separator : ℕ) (text more : List ℕ) → IsTrue (lacks separator (text ++ separator ∷ more)) → ⊥
 lacks_apart separator [] more h = (lacks_cons separator separator more (nat_eq separator separator) refl h).0 refl
 lacks_apart separator (x ∷ text) more h = lacks_apart separator text more (lacks_cons separator x (text ++ separator ∷ more) (nat_eq x separator) refl h).1
+
+-- one more element
+lacks_all : (separator x : ℕ) (text : List ℕ) (b : Bool) → nat_eq x separator ≡ b → (x ≡ separator → ⊥) → IsTrue (lacks separator text) → IsTrue (if b then false else lacks separator text)
+lacks_all separator x text true e apart h = absurd (apart (eqb-true x separator e))
+lacks_all separator x text false e apart h = h
+
+pub lacks_push : (separator x : ℕ) (text : List ℕ) → IsTrue (lacks separator text) → (x ≡ separator → ⊥) → IsTrue (lacks separator (text ++ x ∷ []))
+lacks_push separator x [] h apart = lacks_all separator x [] (nat_eq x separator) refl apart refl
+lacks_push separator x (y ∷ text) h apart =
+    let old = lacks_cons separator y text (nat_eq y separator) refl h in
+    lacks_all separator y (text ++ x ∷ []) (nat_eq y separator) refl old.0 (lacks_push separator x text old.1 apart)
+
+pub lacks_next : (separator : ℕ) (text : List ℕ) (i : ℕ) → i < length text → IsTrue (lacks separator (take i text)) → (get_or text i 0 ≡ separator → ⊥) → IsTrue (lacks separator (take (i + 1) text))
+lacks_next separator text i inside h apart = subst (λ t. IsTrue (lacks separator t)) (sym (take_more text i 0 inside)) (lacks_push separator (get_or text i 0) (take i text) h apart)
 
 -- a language in whose texts the separator doesn't stand
 pub lacking_part : {V : Type 0} (separator : ℕ) (P : V → List ℕ → Type 0) → ((v w : V) (text : List ℕ) → P v text → P w text → v ≡ w)
