@@ -2,6 +2,7 @@ pub mod Callbacks
 pub mod Costs
 pub mod Examples
 pub mod Forgetting
+pub mod LawExamples
 pub mod Lists
 pub mod Refusals
 pub mod Soundness
