@@ -4,6 +4,7 @@ pub mod Examples
 pub mod Forgetting
 pub mod LawExamples
 pub mod Lists
+pub mod Moving
 pub mod Refusals
 pub mod Soundness
 pub mod Steps

@@ -110,7 +110,7 @@ pub record Starts (w : World) (entry : Entry) (after : World) : Type 0 where
   pub workers : after.workers ≡ put w worker (record { pool = Some pool; callback = Some callback.number })
 
 -- a worker's callback returns
-pub record Finishes (w : World) (entry : Entry) (after : World) : Type 0 where
+pub record Stops (w : World) (entry : Entry) (after : World) : Type 0 where
   pub worker : ℕ
   pub row : WorkerRow
   pub pool : PoolId
@@ -133,7 +133,7 @@ pub data Moves (fresh : ℕ) (w : World) (entry : Entry) (after : World) : Type 
   Join : Joins w entry after → Moves fresh w entry after
   Leave : Leaves w entry after → Moves fresh w entry after
   Start : Starts w entry after → Moves fresh w entry after
-  Finish : Finishes w entry after → Moves fresh w entry after
+  Stop : Stops w entry after → Moves fresh w entry after
 
 -- the maximum of a pool, and of one that is not made yet the one that it will begin with
 abbrev pub maximum_at : World → ℕ → ℕ
