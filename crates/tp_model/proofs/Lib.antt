@@ -4,7 +4,9 @@ pub mod Entries
 pub mod Examples
 pub mod Forgetting
 pub mod LawExamples
+pub mod Laws
 pub mod Lists
+pub mod Maximum
 pub mod Moving
 pub mod Once
 pub mod Refusals

@@ -1,10 +1,11 @@
 -- The law Once: what the entries so far tell of each callback is what its status says.
-use Rattle.std.proofs.Common.{◌≡◌, ℕ, suc, zero, ◌+◌, ◌-◌, ◌<◌, ◌≤◌, Bool, true, false, cond, not, ◌||◌, ◌==◌, List, [], ◌∷◌, ◌++◌, length, map, Option, Some, None, is_some, nat_lt, slice_get, get_or, refl, sym, ap, ◌∙◌, append_assoc, subst, arith, filter, find, ◌⊎◌, inl, inr, eqb-true, eq-eqb, ne_eqb, length-append, add-one}
-use Rattle.std.specs.List.{All, AllByRecursion, list_any, range_with_len, flat_map, filter_map, sum_by, position, position_or_len, prefix_len}
+use Rattle.std.proofs.Common.{◌≡◌, ℕ, suc, zero, ◌+◌, ◌-◌, ◌<◌, ◌≤◌, Bool, true, false, cond, not, ◌||◌, ◌==◌, List, [], ◌∷◌, ◌++◌, length, map, Option, Some, None, is_some, nat_lt, slice_get, get_or, refl, sym, ap, ◌∙◌, subst, arith, filter, find, ◌⊎◌, inl, inr, eqb-true, length-append, lt-ltb}
+use Rattle.std.specs.List.{All, cons_option, list_any, range_with_len, flat_map, filter_map, sum_by, position, position_or_len, prefix_len}
 use Rattle.std.specs.Option.{option_to_list}
-use Rattle.std.proofs.lemmas.List.{append-nil}
+use Rattle.std.proofs.lemmas.List.{append-nil, length-map}
 use Rattle.std.proofs.lemmas.Grind.{flat_map-append}
-use Rattle.std.proofs.lemmas.List.Elements.{filter_map-append, filter-append}
+use Rattle.std.proofs.lemmas.List.Elements.{filter_map-append, filter-append, All-map}
+use Rattle.std.proofs.lemmas.Option.{slice_get-get_or}
 use Rattle.std.proofs.lemmas.List.Sums.{sum_by_push}
 use Rattle.std.proofs.lemmas.List.Folds.{list_any-append}
 use Rattle.std.proofs.lemmas.List.FromFn.{length-range_with_len}
@@ -66,7 +67,7 @@ running_uncancelled : (s : Status) → is_running s ≡ true → is_cancelled s 
 running_uncancelled Cancelled e = cc
 running_uncancelled _ e = refl
 
-abbrev one_if : Bool → ℕ
+abbrev pub one_if : Bool → ℕ
 one_if b = cond b 1 0
 
 abbrev times_begun : Option CallbackRow → ℕ
@@ -95,7 +96,7 @@ range_more a (suc n) =
     let longer : suc (n + 1) ≡ suc n + 1 = omega arith in
     ap (λ m. a ∷ (range_with_len (a + 1) n ++ m ∷ [])) next ∙ ap (λ t. a ∷ t) (range_more (a + 1) n) ∙ ap (λ m. range_with_len a m) longer
 
-count_appended : (p : CallbackRow → Bool) (cs : List CallbackRow) (c : CallbackRow) → p c ≡ false → length (filter p (cs ++ c ∷ [])) ≡ length (filter p cs)
+pub count_appended : (p : CallbackRow → Bool) (cs : List CallbackRow) (c : CallbackRow) → p c ≡ false → length (filter p (cs ++ c ∷ [])) ≡ length (filter p cs)
 count_appended p [] c out = ap (λ b. length (cond b (c ∷ []) [])) out
 count_appended p (d ∷ cs) c out =
     elim (p d) as (λ b. length (cond b (d ∷ filter p (cs ++ c ∷ [])) (filter p (cs ++ c ∷ []))) ≡ length (cond b (d ∷ filter p cs) (filter p cs))) [
@@ -284,3 +285,154 @@ moves_agree made queued taken cancelled swept fresh w entry after rising is a mo
         let d : CallbackRow = returned m.callback in
         to (record nothing { returned = true }) (replaced d w.callbacks) m.tells m.callbacks
           (agrees_marked made queued taken cancelled swept w.callbacks fresh m.callback d rising m.found a (sym (running_begun m.callback.status m.runs)) (sym (running_uncancelled m.callback.status m.runs)) (λ e. absurd (false_true e)))
+
+-- ---- along a history
+
+abbrev pub AgreesAfter : List Entry → World → Type 0
+AgreesAfter history w = Agrees (numbers_made history) (numbers_queued history) (numbers_taken history) (numbers_cancelled history) (count_swept history) w.callbacks
+
+-- one entry more tells what it tells besides
+agrees_entry : (before : List Entry) (entry : Entry) (cs : List CallbackRow)
+    → AgreesWith (numbers_made before) (numbers_queued before) (numbers_taken before) (numbers_cancelled before) (count_swept before) (told_by entry) cs
+    → Agrees (numbers_made (before ++ entry ∷ [])) (numbers_queued (before ++ entry ∷ [])) (numbers_taken (before ++ entry ∷ [])) (numbers_cancelled (before ++ entry ∷ [])) (count_swept (before ++ entry ∷ [])) cs
+agrees_entry before entry cs a =
+    subst (λ m. Agrees m (numbers_queued all) (numbers_taken all) (numbers_cancelled all) (count_swept all) cs) (sym (lists made_by))
+      (subst (λ q. Agrees (numbers_made before ++ made_by entry) q (numbers_taken all) (numbers_cancelled all) (count_swept all) cs) (sym (lists (λ (e : Entry). queued_by e.answer)))
+        (subst (λ t. Agrees (numbers_made before ++ made_by entry) (numbers_queued before ++ queued_by entry.answer) t (numbers_cancelled all) (count_swept all) cs) (sym (ones (λ (e : Entry). taken_by e.answer)))
+          (subst (λ c. Agrees (numbers_made before ++ made_by entry) (numbers_queued before ++ queued_by entry.answer) (numbers_taken before ++ option_to_list (taken_by entry.answer)) c (count_swept all) cs) (sym (ones (λ (e : Entry). cancelled_by e.answer)))
+            (subst (λ s. Agrees (numbers_made before ++ made_by entry) (numbers_queued before ++ queued_by entry.answer) (numbers_taken before ++ option_to_list (taken_by entry.answer)) (numbers_cancelled before ++ option_to_list (cancelled_by entry.answer)) s cs)
+              (sym (sum_by_push (λ (e : Entry). swept_by e.answer) before entry)) a))))
+  where
+    all : List Entry
+    all = before ++ entry ∷ []
+
+    lists : (f : Entry → List ℕ) → flat_map f (before ++ entry ∷ []) ≡ flat_map f before ++ f entry
+    lists f = flat_map-append f before (entry ∷ []) ∙ ap (λ t. flat_map f before ++ t) (append-nil (f entry))
+
+    single : (o : Option ℕ) → cons_option o [] ≡ option_to_list o
+    single None = refl
+    single (Some n) = refl
+
+    ones : (f : Entry → Option ℕ) → filter_map f (before ++ entry ∷ []) ≡ filter_map f before ++ option_to_list (f entry)
+    ones f = filter_map-append f before (entry ∷ []) ∙ ap (λ t. filter_map f before ++ t) (single (f entry))
+
+pub agrees_on : (before : List Entry) (w : World) (entry : Entry) (after : World) → IsRising 1 (length w.callbacks + 1) w.callbacks → AgreesAfter before w → Moves (length w.callbacks + 1) w entry after → AgreesAfter (before ++ entry ∷ []) after
+agrees_on before w entry after rising a moves =
+    agrees_entry before entry after.callbacks
+      (moves_agree (numbers_made before) (numbers_queued before) (numbers_taken before) (numbers_cancelled before) (count_swept before) (length w.callbacks + 1) w entry after rising refl a moves)
+
+-- ---- what the law says of an entry
+
+-- what an entry takes was pending
+taken_waits : (fresh : ℕ) (w : World) (entry : Entry) (after : World) (n : ℕ) → Moves fresh w entry after → taken_by entry.answer ≡ Some n → (c : CallbackRow) × (find (has_number n) w.callbacks ≡ Some c) × (is_pending c.status ≡ true)
+taken_waits fresh w entry after n (Start m) e =
+    let is : m.callback.number ≡ n = number_is (ap (λ (t : Told). t.taken) m.tells) in
+    (m.callback, ap (λ k. find (has_number k) w.callbacks) (sym is) ∙ m.found, m.waits)
+  where
+    number_is : taken_by entry.answer ≡ Some m.callback.number → m.callback.number ≡ n
+    number_is h = let both_told : Some m.callback.number ≡ Some n = sym h ∙ e in cc
+taken_waits fresh w entry after n (Stay m) e = absurd (let h = sym (ap (λ (t : Told). t.taken) m.tells) ∙ e in cc)
+taken_waits fresh w entry after n (Queue m) e = absurd (let h = sym (ap (λ (t : Told). t.taken) m.tells) ∙ e in cc)
+taken_waits fresh w entry after n (Mark m) e = absurd (let h = sym (ap (λ (t : Told). t.taken) m.tells) ∙ e in cc)
+taken_waits fresh w entry after n (Join m) e = absurd (let h = sym (ap (λ (t : Told). t.taken) m.tells) ∙ e in cc)
+taken_waits fresh w entry after n (Leave m) e = absurd (let h = sym (ap (λ (t : Told). t.taken) m.tells) ∙ e in cc)
+taken_waits fresh w entry after n (Stop m) e = absurd (let h = sym (ap (λ (t : Told). t.taken) m.tells) ∙ e in cc)
+
+-- a first place that passes is within the list
+passes_within : {X : Type 0} (p : X → Bool) (xs : List X) → list_any p xs ≡ true → is_some (position p xs) ≡ true
+passes_within {X} p xs e = ap (λ b. is_some (cond b (Some (position_or_len p xs)) None)) (lt-ltb (position_or_len p xs) (length xs) (before_end xs e))
+  where
+    before_end : (ys : List X) → list_any p ys ≡ true → prefix_len (λ x. not (p x)) ys < length ys
+    before_end [] h = absurd (false_true h)
+    before_end (y ∷ ys) h =
+        elim (p y) as (λ b. (b || list_any p ys) ≡ true → cond (not b) (1 + prefix_len (λ x. not (p x)) ys) 0 < length (y ∷ ys)) [
+          true ↦ λ _. omega arith
+        | false ↦ λ rest. omega (arith, before_end ys rest)
+        ] h
+
+among_some : (n : ℕ) (history : List Entry) → is_among n (numbers_queued history) ≡ true → list_any (λ (e : Entry). is_among n (queued_by e.answer)) history ≡ true
+among_some n [] e = absurd (false_true e)
+among_some n (entry ∷ rest) e =
+    elim (is_among n (queued_by entry.answer)) as (λ b. (b || is_among n (numbers_queued rest)) ≡ true → (b || list_any (λ (x : Entry). is_among n (queued_by x.answer)) rest) ≡ true) [
+      true ↦ λ _. refl
+    | false ↦ λ h. among_some n rest h
+    ] (sym (list_any-append (λ m. m == n) (queued_by entry.answer) (numbers_queued rest)) ∙ e)
+
+pub takes_ready : (before : List Entry) (w : World) (entry : Entry) (after : World) → AgreesAfter before w → Moves (length w.callbacks + 1) w entry after → TakesReady before entry
+takes_ready before w entry after a moves n e =
+    let taken = taken_waits (length w.callbacks + 1) w entry after n moves e in
+    passes_within (λ (x : Entry). is_among n (queued_by x.answer)) before (among_some n before (a.pending_queued n taken.0 taken.1 taken.2))
+
+pub takes_uncancelled : (before : List Entry) (w : World) (entry : Entry) (after : World) → AgreesAfter before w → Moves (length w.callbacks + 1) w entry after → TakesUncancelled before entry
+takes_uncancelled before w entry after a moves n e =
+    let taken = taken_waits (length w.callbacks + 1) w entry after n moves e in
+    not_true (is_among n (numbers_cancelled before)) (λ named.
+      let old = a.named_cancelled n named in
+      let same : old.0 ≡ taken.0 = same_row n n old.0 taken.0 w.callbacks refl old.1 taken.1 in
+      false_true (sym (pending_uncancelled taken.0.status taken.2) ∙ ap (λ (x : CallbackRow). is_cancelled x.status) (sym same) ∙ old.2))
+  where
+    not_true : (b : Bool) → (b ≡ true → ⊥) → b ≡ false
+    not_true true h = absurd (h refl)
+    not_true false h = refl
+
+-- ---- what it says of a whole history
+
+abbrev lefts : CallbackRow → Bool
+lefts c = is_left c.status
+
+left_unbegun : (s : Status) → is_left s ≡ true → has_begun s ≡ false
+left_unbegun Expected e = refl
+left_unbegun Issued e = refl
+left_unbegun Pending e = refl
+left_unbegun (Running worker associated slots) e = cc
+left_unbegun Returned e = cc
+left_unbegun Cancelled e = cc
+
+-- a callback has begun, is cancelled or is left
+one_of_three : (s : Status) → one_if (has_begun s) + one_if (is_cancelled s) + one_if (is_left s) ≡ 1
+one_of_three Expected = refl
+one_of_three Issued = refl
+one_of_three Pending = refl
+one_of_three (Running worker associated slots) = refl
+one_of_three Returned = refl
+one_of_three Cancelled = refl
+
+none_missed : (cs : List CallbackRow) → length cs ≡ length (filter begun cs) + length (filter dropped cs) + length (filter lefts cs)
+none_missed [] = refl
+none_missed (c ∷ cs) = omega (arith, none_missed cs, one_of_three c.status, one_more begun, one_more dropped, one_more lefts)
+  where
+    one_more : (p : CallbackRow → Bool) → length (filter p (c ∷ cs)) ≡ length (filter p cs) + one_if (p c)
+    one_more p = elim (p c) as (λ b. length (cond b (c ∷ filter p cs) (filter p cs)) ≡ length (filter p cs) + one_if b) [ true ↦ omega arith | false ↦ omega arith ]
+
+none_among : {X : Type 0} (p : X → Bool) (xs : List X) → length (filter p xs) ≡ 0 → list_any p xs ≡ false
+none_among p [] e = refl
+none_among {X} p (x ∷ xs) e =
+    elim (p x) as (λ b. length (cond b (x ∷ filter p xs) (filter p xs)) ≡ 0 → (b || list_any p xs) ≡ false) [
+      true ↦ λ h. absurd (omega (arith, h))
+    | false ↦ λ h. none_among p xs h
+    ] e
+
+module _ (history : List Entry) (w : World) (rising : IsRising 1 (length w.callbacks + 1) w.callbacks) (a : AgreesAfter history w) where
+  pub made_in_order : numbers_made history ≡ range_with_len 1 (length (numbers_made history))
+  made_in_order = a.in_order ∙ ap (range_with_len 1) (sym (ap length a.in_order ∙ length-range_with_len 1 (length w.callbacks)))
+
+  pub taken_once : (n : ℕ) → times n (numbers_taken history) ≤ 1
+  taken_once n = subst (λ k. k ≤ 1) (sym (a.taken_begun n)) (at_most_one (find (has_number n) w.callbacks))
+    where
+      at_most_one : (o : Option CallbackRow) → times_begun o ≤ 1
+      at_most_one None = omega arith
+      at_most_one (Some c) = elim (has_begun c.status) as (λ b. cond b 1 0 ≤ 1) [ true ↦ omega arith | false ↦ omega arith ]
+
+  pub left_untaken : All (λ l. is_among l.0 (numbers_taken history) ≡ false) (left w)
+  left_untaken =
+      All-map (λ l. is_among l.0 (numbers_taken history) ≡ false) (λ c. (c.number, c.object, c.status)) (filter lefts w.callbacks)
+        (λ k d within. untaken k (get_or (filter lefts w.callbacks) k d) (slice_get-get_or (filter lefts w.callbacks) k d within))
+    where
+      untaken : (k : ℕ) (c : CallbackRow) → slice_get (filter lefts w.callbacks) k ≡ Some c → is_among c.number (numbers_taken history) ≡ false
+      untaken k c is =
+          let kept = kept_found lefts 1 (length w.callbacks + 1) w.callbacks k c rising is in
+          none_among (λ m. m == c.number) (numbers_taken history) (a.taken_begun c.number ∙ ap times_begun kept.0 ∙ ap one_if (left_unbegun c.status kept.1))
+
+  pub made_are : length (numbers_made history) ≡ length (numbers_taken history) + count_swept history + length (numbers_cancelled history) + length (left w)
+  made_are =
+      omega (arith, ap length a.in_order, length-range_with_len 1 (length w.callbacks), none_missed w.callbacks, a.taken_count, a.cancelled_count, length-map {B = ℕ × ObjectId × Status} (filter lefts w.callbacks) (λ c. (c.number, c.object, c.status)))
