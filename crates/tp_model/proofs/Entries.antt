@@ -15,7 +15,7 @@ use Rattle.tp_model.specs.Table.{row, step}
 use Rattle.tp_model.specs.History.{is_refusal, led_to, after_from, room, IsLegalFrom}
 use Rattle.tp_model.specs.Sound.{IsSound}
 use Rattle.tp_model.specs.Remembered.{made_by}
-use Rattle.tp_model.specs.Laws.Told.{is_return_call}
+use Rattle.tp_model.specs.Laws.Entries.{is_return_call}
 use Rattle.tp_model.specs.Moves.{Moves, Stay, Queue, Mark, Join, Leave, Start, Stop, Moved, Leads, nothing}
 use Rattle.tp_model.specs.Rows.{replaced, started, returned}
 use Rattle.tp_model.proofs.Callbacks.{length_replaced}

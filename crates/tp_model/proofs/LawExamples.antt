@@ -17,7 +17,7 @@ use Rattle.tp_base.specs.declared.rows.Status.TheVariants.{Pending}
 use Rattle.tp_base.specs.declared.limits.Limits.{Limits}
 use Rattle.tp_model.specs.Rows.{create_pool_row, set_maximum_row, set_minimum_row, create_row, submit_work_row, attach_row, take_row, return_row}
 use Rattle.tp_model.specs.History.{play, after}
-use Rattle.tp_model.specs.Laws.Told.{numbers_made, numbers_queued, numbers_taken, numbers_cancelled, count_swept, born, ready, times, is_within_run, last_pool, told_maximum}
+use Rattle.tp_model.specs.Laws.Entries.{numbers_made, numbers_queued, numbers_taken, numbers_cancelled, count_cancelled, born, ready, times, is_within_run, last_pool, told_maximum}
 use Rattle.tp_model.specs.Laws.Once.{left}
 use Rattle.tp_model.specs.Laws.Maximum.{count_running}
 
@@ -55,7 +55,7 @@ legal : play limits 65536 (map (λ (e : Entry). (e.who, e.call)) ended) ≡ map 
 unfolding limits environ begun ended create_pool_row set_maximum_row set_minimum_row create_row submit_work_row attach_row take_row return_row
 legal = refl
 
-callbacks : (numbers_made ended ≡ 1 ∷ 2 ∷ []) × (numbers_taken ended ≡ 1 ∷ []) × (numbers_cancelled ended ≡ []) × (count_swept ended ≡ 0)
+callbacks : (numbers_made ended ≡ 1 ∷ 2 ∷ []) × (numbers_taken ended ≡ 1 ∷ []) × (numbers_cancelled ended ≡ []) × (count_cancelled ended ≡ 0)
 unfolding begun ended environ
 callbacks = (refl, refl, refl, refl)
 

@@ -6,7 +6,7 @@ use Rattle.tp_model.specs.World.{World, opening}
 use Rattle.tp_model.specs.History.{IsLegal, after, led_to}
 use Rattle.tp_model.specs.Sound.{IsSound}
 use Rattle.tp_model.specs.Laws.{KeepsLaws}
-use Rattle.tp_model.specs.Laws.Told.{AtEach}
+use Rattle.tp_model.specs.Laws.Entries.{AtEach}
 use Rattle.tp_model.specs.Laws.Once.{AreOnce, TakesReady, TakesUncancelled}
 use Rattle.tp_model.specs.Laws.Maximum.{IsWithinMaximum, TakesBelowMaximum}
 use Rattle.tp_model.proofs.Soundness.{opening_sound}
@@ -24,7 +24,7 @@ opening_holds : (limits : Limits) → Holds limits [] (opening limits)
 opening_holds limits =
     record {
       sound = opening_sound limits;
-      agrees = record { in_order = refl; taken_begun = λ n. refl; pending_queued = λ n c found waits. absurd cc; named_cancelled = λ n named. absurd cc; taken_count = refl; cancelled_count = refl };
+      agrees = record { in_order = refl; taken_begun = λ n. refl; pending_queued = λ n c found waits. absurd cc; named_cancelled = λ n named. absurd cc; as_many_taken = refl; as_many_cancelled = refl };
       staffed = opening_staffed limits;
     }
 

@@ -18,7 +18,7 @@ use Rattle.tp_model.specs.Counts.{numbered, has_number, is_pending, is_running, 
 use Rattle.tp_model.specs.Conditions.{is_same_actor}
 use Rattle.tp_model.specs.Rows.{replaced, started, returned}
 use Rattle.tp_model.specs.Sound.{IsSound, IsRising, IsWorkerSound, AreWorkersSound}
-use Rattle.tp_model.specs.Laws.Told.{is_taken, is_returned, attached_by, taken_by, is_by, run_after, pool_after, is_within_run, last_pool, maximum_after, told_maximum}
+use Rattle.tp_model.specs.Laws.Entries.{is_taken, is_returned, attached_by, taken_by, is_by, run_after, pool_after, is_within_run, last_pool, maximum_after, told_maximum}
 use Rattle.tp_model.specs.Laws.Maximum.{runs_in, count_running, TakesBelowMaximum}
 use Rattle.tp_model.specs.Moves.{Told, told_by, nothing, Moves, Stay, Queue, Mark, Join, Leave, Start, Stop, Leads, IsFree, maximum_at, put}
 use Rattle.tp_model.proofs.Lists.{length_filter_set}

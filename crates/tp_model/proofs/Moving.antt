@@ -29,7 +29,7 @@ use Rattle.tp_model.specs.Step.{Step, Accepted, Refused, Looked, Full, first_ref
 use Rattle.tp_model.specs.Rows.{with_new_pool, with_pool, with_object, with_new_callback, with_callback, with_worker, with_client, replaced, started, returned, marked_long, new_callback, create_pool_row, create_pool_refusals, create_pool_effect, pool_refusals, is_used, change_pool, closed, close_pool_row, with_maximum, set_maximum_row, with_minimum, set_minimum_row, create_row, create_refusals, create_effect, submit_work_row, submit_work_refusals, submit_work_effect, attach_row, attach_refusals, attach_effect, pool_to_join, may_leave, leave, detach_row, detach_refusals, detach_of, detach_effect, take_row, take_refusals, take_effect, take_in, take_next, start, return_row, return_refusals, return_effect, return_of, finish_callback, may_run_long_row, may_run_long_refusals, may_run_long_effect, may_run_long_of, mark_long, has_spare, finish_row, finish_refusals, finish_effect}
 use Rattle.tp_model.specs.Table.{row_at}
 use Rattle.tp_model.specs.Sound.{IsSound}
-use Rattle.tp_model.specs.Laws.Told.{maximum_set}
+use Rattle.tp_model.specs.Laws.Entries.{maximum_set}
 use Rattle.tp_model.specs.Moves.{Moves, Stay, Queue, Mark, Join, Leave, Start, Stop, Moved, Leads, IsFree, maximum_at}
 use Rattle.tp_model.proofs.Lists.{find_passes}
 use Rattle.tp_model.proofs.Refusals.{none_holds, neither, not_false, both, numbered_some, false_true}

@@ -19,7 +19,7 @@ use Rattle.tp_model.specs.World.{World}
 use Rattle.tp_model.specs.Counts.{has_number, is_pending, is_running}
 use Rattle.tp_model.specs.Rows.{replaced, started, returned}
 use Rattle.tp_model.specs.Sound.{IsRising}
-use Rattle.tp_model.specs.Laws.Told.{is_among, times, numbers_made, numbers_queued, numbers_taken, numbers_cancelled, count_swept, made_by, queued_by, taken_by, cancelled_by, swept_by, ready}
+use Rattle.tp_model.specs.Laws.Entries.{is_among, times, numbers_made, numbers_queued, numbers_taken, numbers_cancelled, count_cancelled, made_by, queued_by, taken_by, cancelled_by, cancelled_count, ready}
 use Rattle.tp_model.specs.Laws.Once.{is_left, left, AreOnce, TakesReady, TakesUncancelled}
 use Rattle.tp_model.specs.Moves.{Told, told_by, nothing, Moves, Stay, Queue, Mark, Join, Leave, Start, Stop}
 use Rattle.tp_model.proofs.Callbacks.{found_bounds, find_above, find_appended, find_replaced, find_replaced_other, length_replaced, length_filter_replaced, kept_found}
@@ -76,18 +76,18 @@ times_begun (Some c) = cond (has_begun c.status) 1 0
 
 -- ---- the entries and the statuses agree
 
-pub record Agrees (made queued taken cancelled : List ℕ) (swept : ℕ) (cs : List CallbackRow) : Type 0 where
+pub record Agrees (made queued taken cancelled : List ℕ) (count : ℕ) (cs : List CallbackRow) : Type 0 where
   pub in_order : made ≡ range_with_len 1 (length cs)
   pub taken_begun : (n : ℕ) → times n taken ≡ times_begun (find (has_number n) cs)
   pub pending_queued : (n : ℕ) (c : CallbackRow) → find (has_number n) cs ≡ Some c → is_pending c.status ≡ true → is_among n queued ≡ true
   pub named_cancelled : (n : ℕ) → is_among n cancelled ≡ true → (c : CallbackRow) × (find (has_number n) cs ≡ Some c) × (is_cancelled c.status ≡ true)
-  pub taken_count : length taken ≡ length (filter begun cs)
-  pub cancelled_count : swept + length cancelled ≡ length (filter dropped cs)
+  pub as_many_taken : length taken ≡ length (filter begun cs)
+  pub as_many_cancelled : count + length cancelled ≡ length (filter dropped cs)
 
 -- with what an entry tells besides
 abbrev AgreesWith : List ℕ → List ℕ → List ℕ → List ℕ → ℕ → Told → List CallbackRow → Type 0
-AgreesWith made queued taken cancelled swept told cs =
-    Agrees (made ++ told.made) (queued ++ told.queued) (taken ++ option_to_list told.taken) (cancelled ++ option_to_list told.cancelled) (swept + told.swept) cs
+AgreesWith made queued taken cancelled count told cs =
+    Agrees (made ++ told.made) (queued ++ told.queued) (taken ++ option_to_list told.taken) (cancelled ++ option_to_list told.cancelled) (count + told.count) cs
 
 range_more : (a n : ℕ) → range_with_len a n ++ (a + n) ∷ [] ≡ range_with_len a (n + 1)
 range_more a zero = let next : a + 0 ≡ a = omega arith in ap (λ m. m ∷ []) next
@@ -143,20 +143,20 @@ among_back n xs m e = list_any-append (λ k. k == n) xs (m ∷ []) ∙ ap (λ b.
 same_row : (n m : ℕ) (x y : CallbackRow) (cs : List CallbackRow) → n ≡ m → find (has_number n) cs ≡ Some x → find (has_number m) cs ≡ Some y → x ≡ y
 same_row n m x y cs e fx fy = let both_found : Some x ≡ Some y = sym fx ∙ ap (λ k. find (has_number k) cs) e ∙ fy in cc
 
-module _ (made queued taken cancelled : List ℕ) (swept : ℕ) (cs : List CallbackRow) where
-  agrees_same : Agrees made queued taken cancelled swept cs → AgreesWith made queued taken cancelled swept nothing cs
+module _ (made queued taken cancelled : List ℕ) (count : ℕ) (cs : List CallbackRow) where
+  agrees_same : Agrees made queued taken cancelled count cs → AgreesWith made queued taken cancelled count nothing cs
   agrees_same a =
       record {
         in_order = append-nil made ∙ a.in_order;
         taken_begun = λ n. ap (times n) (append-nil taken) ∙ a.taken_begun n;
         pending_queued = λ n c found waits. among_front n queued [] (a.pending_queued n c found waits);
         named_cancelled = λ n named. a.named_cancelled n (ap (is_among n) (sym (append-nil cancelled)) ∙ named);
-        taken_count = ap length (append-nil taken) ∙ a.taken_count;
-        cancelled_count = omega (arith, ap length (append-nil cancelled), a.cancelled_count);
+        as_many_taken = ap length (append-nil taken) ∙ a.as_many_taken;
+        as_many_cancelled = omega (arith, ap length (append-nil cancelled), a.as_many_cancelled);
       }
 
-  agrees_queued : (c : CallbackRow) (fresh : ℕ) → Agrees made queued taken cancelled swept cs → fresh ≡ length cs + 1 → c.number ≡ fresh → is_pending c.status ≡ true
-      → AgreesWith made queued taken cancelled swept (record nothing { made = fresh ∷ []; queued = fresh ∷ [] }) (cs ++ c ∷ [])
+  agrees_queued : (c : CallbackRow) (fresh : ℕ) → Agrees made queued taken cancelled count cs → fresh ≡ length cs + 1 → c.number ≡ fresh → is_pending c.status ≡ true
+      → AgreesWith made queued taken cancelled count (record nothing { made = fresh ∷ []; queued = fresh ∷ [] }) (cs ++ c ∷ [])
   agrees_queued c fresh a is number waits =
       record {
         in_order = ap (λ t. t ++ fresh ∷ []) a.in_order ∙ ap (λ n. range_with_len 1 (length cs) ++ n ∷ []) (omega (arith, is)) ∙ range_more 1 (length cs) ∙ ap (range_with_len 1) (sym (length-append cs (c ∷ [])));
@@ -165,8 +165,8 @@ module _ (made queued taken cancelled : List ℕ) (swept : ℕ) (cs : List Callb
         named_cancelled = λ n named.
           let old = a.named_cancelled n (ap (is_among n) (sym (append-nil cancelled)) ∙ named) in
           (old.0, find_appended n cs old.0 c old.1, old.2);
-        taken_count = ap length (append-nil taken) ∙ a.taken_count ∙ sym (count_appended begun cs c (pending_unbegun c.status waits));
-        cancelled_count = omega (arith, ap length (append-nil cancelled), a.cancelled_count, count_appended dropped cs c (pending_uncancelled c.status waits));
+        as_many_taken = ap length (append-nil taken) ∙ a.as_many_taken ∙ sym (count_appended begun cs c (pending_unbegun c.status waits));
+        as_many_cancelled = omega (arith, ap length (append-nil cancelled), a.as_many_cancelled, count_appended dropped cs c (pending_uncancelled c.status waits));
       }
     where
       was_queued : (n : ℕ) (x : CallbackRow) → is_pending x.status ≡ true → (find (has_number n) cs ≡ Some x) ⊎ (has_number n c ≡ true) → is_among n (queued ++ fresh ∷ []) ≡ true
@@ -199,16 +199,16 @@ module _ (made queued taken cancelled : List ℕ) (swept : ℕ) (cs : List Callb
         ] refl
 
     -- a callback that begins nothing new, nor is cancelled
-    agrees_marked : Agrees made queued taken cancelled swept cs → has_begun d.status ≡ has_begun c.status → is_cancelled d.status ≡ is_cancelled c.status → (is_pending d.status ≡ true → is_pending c.status ≡ true)
-        → AgreesWith made queued taken cancelled swept nothing (replaced d cs)
+    agrees_marked : Agrees made queued taken cancelled count cs → has_begun d.status ≡ has_begun c.status → is_cancelled d.status ≡ is_cancelled c.status → (is_pending d.status ≡ true → is_pending c.status ≡ true)
+        → AgreesWith made queued taken cancelled count nothing (replaced d cs)
     agrees_marked a same_begun same_cancelled waits =
         record {
           in_order = append-nil made ∙ a.in_order ∙ ap (range_with_len 1) (sym (length_replaced d cs));
           taken_begun = λ n. ap (times n) (append-nil taken) ∙ a.taken_begun n ∙ as_begun n;
           pending_queued = λ n x there pending. among_front n queued [] (replaced_pending a.pending_queued waits n x there pending);
           named_cancelled = λ n named. replaced_cancelled a.named_cancelled (λ e. same_cancelled ∙ e) n (ap (is_among n) (sym (append-nil cancelled)) ∙ named);
-          taken_count = ap length (append-nil taken) ∙ a.taken_count ∙ as_many begun same_begun;
-          cancelled_count = omega (arith, ap length (append-nil cancelled), a.cancelled_count, as_many dropped same_cancelled);
+          as_many_taken = ap length (append-nil taken) ∙ a.as_many_taken ∙ as_many begun same_begun;
+          as_many_cancelled = omega (arith, ap length (append-nil cancelled), a.as_many_cancelled, as_many dropped same_cancelled);
         }
       where
         as_many : (p : CallbackRow → Bool) → p d ≡ p c → length (filter p cs) ≡ length (filter p (replaced d cs))
@@ -225,16 +225,16 @@ module _ (made queued taken cancelled : List ℕ) (swept : ℕ) (cs : List Callb
             ] refl
 
     -- a pending callback is taken
-    agrees_taken : Agrees made queued taken cancelled swept cs → is_pending c.status ≡ true → has_begun d.status ≡ true → is_cancelled d.status ≡ false → is_pending d.status ≡ false
-        → AgreesWith made queued taken cancelled swept (record nothing { taken = Some d.number }) (replaced d cs)
+    agrees_taken : Agrees made queued taken cancelled count cs → is_pending c.status ≡ true → has_begun d.status ≡ true → is_cancelled d.status ≡ false → is_pending d.status ≡ false
+        → AgreesWith made queued taken cancelled count (record nothing { taken = Some d.number }) (replaced d cs)
     agrees_taken a waits begins uncancelled unpending =
         record {
           in_order = append-nil made ∙ a.in_order ∙ ap (range_with_len 1) (sym (length_replaced d cs));
           taken_begun = λ n. times_more n ∙ as_begun n;
           pending_queued = λ n x there pending. among_front n queued [] (replaced_pending a.pending_queued (λ e. absurd (false_true (sym unpending ∙ e))) n x there pending);
           named_cancelled = λ n named. replaced_cancelled a.named_cancelled (λ e. absurd (false_true (sym (pending_uncancelled c.status waits) ∙ e))) n (ap (is_among n) (sym (append-nil cancelled)) ∙ named);
-          taken_count = omega (arith, length-append taken (d.number ∷ []), a.taken_count, length_filter_replaced begun d c 1 fresh cs rising found, ap one_if begins, ap one_if (pending_unbegun c.status waits));
-          cancelled_count = omega (arith, ap length (append-nil cancelled), a.cancelled_count, length_filter_replaced dropped d c 1 fresh cs rising found, ap one_if uncancelled, ap one_if (pending_uncancelled c.status waits));
+          as_many_taken = omega (arith, length-append taken (d.number ∷ []), a.as_many_taken, length_filter_replaced begun d c 1 fresh cs rising found, ap one_if begins, ap one_if (pending_unbegun c.status waits));
+          as_many_cancelled = omega (arith, ap length (append-nil cancelled), a.as_many_cancelled, length_filter_replaced dropped d c 1 fresh cs rising found, ap one_if uncancelled, ap one_if (pending_uncancelled c.status waits));
         }
       where
         times_more : (n : ℕ) → times n (taken ++ d.number ∷ []) ≡ times n taken + cond (d.number == n) 1 0
@@ -257,51 +257,51 @@ module _ (made queued taken cancelled : List ℕ) (swept : ℕ) (cs : List Callb
 
 -- ---- every move keeps it
 
-moves_agree : (made queued taken cancelled : List ℕ) (swept fresh : ℕ) (w : World) (entry : Entry) (after : World) → IsRising 1 fresh w.callbacks → fresh ≡ length w.callbacks + 1
-    → Agrees made queued taken cancelled swept w.callbacks → Moves fresh w entry after → AgreesWith made queued taken cancelled swept (told_by entry) after.callbacks
-moves_agree made queued taken cancelled swept fresh w entry after rising is a moves = of_move moves
+moves_agree : (made queued taken cancelled : List ℕ) (count fresh : ℕ) (w : World) (entry : Entry) (after : World) → IsRising 1 fresh w.callbacks → fresh ≡ length w.callbacks + 1
+    → Agrees made queued taken cancelled count w.callbacks → Moves fresh w entry after → AgreesWith made queued taken cancelled count (told_by entry) after.callbacks
+moves_agree made queued taken cancelled count fresh w entry after rising is a moves = of_move moves
   where
-    to : (told : Told) (cs : List CallbackRow) → told_by entry ≡ told → after.callbacks ≡ cs → AgreesWith made queued taken cancelled swept told cs → AgreesWith made queued taken cancelled swept (told_by entry) after.callbacks
-    to told cs tells same here = subst (λ (t : Told). AgreesWith made queued taken cancelled swept t after.callbacks) (sym tells) (subst (λ l. AgreesWith made queued taken cancelled swept told l) (sym same) here)
+    to : (told : Told) (cs : List CallbackRow) → told_by entry ≡ told → after.callbacks ≡ cs → AgreesWith made queued taken cancelled count told cs → AgreesWith made queued taken cancelled count (told_by entry) after.callbacks
+    to told cs tells same here = subst (λ (t : Told). AgreesWith made queued taken cancelled count t after.callbacks) (sym tells) (subst (λ l. AgreesWith made queued taken cancelled count told l) (sym same) here)
 
-    still : AgreesWith made queued taken cancelled swept nothing w.callbacks
-    still = agrees_same made queued taken cancelled swept w.callbacks a
+    still : AgreesWith made queued taken cancelled count nothing w.callbacks
+    still = agrees_same made queued taken cancelled count w.callbacks a
 
-    of_move : Moves fresh w entry after → AgreesWith made queued taken cancelled swept (told_by entry) after.callbacks
+    of_move : Moves fresh w entry after → AgreesWith made queued taken cancelled count (told_by entry) after.callbacks
     of_move (Stay m) = to nothing w.callbacks m.tells m.callbacks still
     of_move (Queue m) =
         to (record nothing { made = fresh ∷ []; queued = fresh ∷ [] }) (w.callbacks ++ m.callback ∷ []) m.tells m.callbacks
-          (agrees_queued made queued taken cancelled swept w.callbacks m.callback fresh a is m.number m.waits)
+          (agrees_queued made queued taken cancelled count w.callbacks m.callback fresh a is m.number m.waits)
     of_move (Mark m) =
         to nothing (replaced m.new w.callbacks) m.tells m.callbacks
-          (agrees_marked made queued taken cancelled swept w.callbacks fresh m.old m.new rising m.found a (ap has_begun m.status) (ap is_cancelled m.status) (λ e. ap is_pending (sym m.status) ∙ e))
+          (agrees_marked made queued taken cancelled count w.callbacks fresh m.old m.new rising m.found a (ap has_begun m.status) (ap is_cancelled m.status) (λ e. ap is_pending (sym m.status) ∙ e))
     of_move (Join m) = to (record nothing { attached = Some m.pool.0 }) w.callbacks m.tells m.callbacks still
     of_move (Leave m) = to nothing w.callbacks m.tells m.callbacks still
     of_move (Start m) =
         let d : CallbackRow = started m.callback m.worker in
         to (record nothing { taken = Some m.callback.number }) (replaced d w.callbacks) m.tells m.callbacks
-          (agrees_taken made queued taken cancelled swept w.callbacks fresh m.callback d rising m.found a m.waits refl refl refl)
+          (agrees_taken made queued taken cancelled count w.callbacks fresh m.callback d rising m.found a m.waits refl refl refl)
     of_move (Stop m) =
         let d : CallbackRow = returned m.callback in
         to (record nothing { returned = true }) (replaced d w.callbacks) m.tells m.callbacks
-          (agrees_marked made queued taken cancelled swept w.callbacks fresh m.callback d rising m.found a (sym (running_begun m.callback.status m.runs)) (sym (running_uncancelled m.callback.status m.runs)) (λ e. absurd (false_true e)))
+          (agrees_marked made queued taken cancelled count w.callbacks fresh m.callback d rising m.found a (sym (running_begun m.callback.status m.runs)) (sym (running_uncancelled m.callback.status m.runs)) (λ e. absurd (false_true e)))
 
 -- ---- along a history
 
 abbrev pub AgreesAfter : List Entry → World → Type 0
-AgreesAfter history w = Agrees (numbers_made history) (numbers_queued history) (numbers_taken history) (numbers_cancelled history) (count_swept history) w.callbacks
+AgreesAfter history w = Agrees (numbers_made history) (numbers_queued history) (numbers_taken history) (numbers_cancelled history) (count_cancelled history) w.callbacks
 
 -- one entry more tells what it tells besides
 agrees_entry : (before : List Entry) (entry : Entry) (cs : List CallbackRow)
-    → AgreesWith (numbers_made before) (numbers_queued before) (numbers_taken before) (numbers_cancelled before) (count_swept before) (told_by entry) cs
-    → Agrees (numbers_made (before ++ entry ∷ [])) (numbers_queued (before ++ entry ∷ [])) (numbers_taken (before ++ entry ∷ [])) (numbers_cancelled (before ++ entry ∷ [])) (count_swept (before ++ entry ∷ [])) cs
+    → AgreesWith (numbers_made before) (numbers_queued before) (numbers_taken before) (numbers_cancelled before) (count_cancelled before) (told_by entry) cs
+    → Agrees (numbers_made (before ++ entry ∷ [])) (numbers_queued (before ++ entry ∷ [])) (numbers_taken (before ++ entry ∷ [])) (numbers_cancelled (before ++ entry ∷ [])) (count_cancelled (before ++ entry ∷ [])) cs
 agrees_entry before entry cs a =
-    subst (λ m. Agrees m (numbers_queued all) (numbers_taken all) (numbers_cancelled all) (count_swept all) cs) (sym (lists made_by))
-      (subst (λ q. Agrees (numbers_made before ++ made_by entry) q (numbers_taken all) (numbers_cancelled all) (count_swept all) cs) (sym (lists (λ (e : Entry). queued_by e.answer)))
-        (subst (λ t. Agrees (numbers_made before ++ made_by entry) (numbers_queued before ++ queued_by entry.answer) t (numbers_cancelled all) (count_swept all) cs) (sym (ones (λ (e : Entry). taken_by e.answer)))
-          (subst (λ c. Agrees (numbers_made before ++ made_by entry) (numbers_queued before ++ queued_by entry.answer) (numbers_taken before ++ option_to_list (taken_by entry.answer)) c (count_swept all) cs) (sym (ones (λ (e : Entry). cancelled_by e.answer)))
+    subst (λ m. Agrees m (numbers_queued all) (numbers_taken all) (numbers_cancelled all) (count_cancelled all) cs) (sym (lists made_by))
+      (subst (λ q. Agrees (numbers_made before ++ made_by entry) q (numbers_taken all) (numbers_cancelled all) (count_cancelled all) cs) (sym (lists (λ (e : Entry). queued_by e.answer)))
+        (subst (λ t. Agrees (numbers_made before ++ made_by entry) (numbers_queued before ++ queued_by entry.answer) t (numbers_cancelled all) (count_cancelled all) cs) (sym (ones (λ (e : Entry). taken_by e.answer)))
+          (subst (λ c. Agrees (numbers_made before ++ made_by entry) (numbers_queued before ++ queued_by entry.answer) (numbers_taken before ++ option_to_list (taken_by entry.answer)) c (count_cancelled all) cs) (sym (ones (λ (e : Entry). cancelled_by e.answer)))
             (subst (λ s. Agrees (numbers_made before ++ made_by entry) (numbers_queued before ++ queued_by entry.answer) (numbers_taken before ++ option_to_list (taken_by entry.answer)) (numbers_cancelled before ++ option_to_list (cancelled_by entry.answer)) s cs)
-              (sym (sum_by_push (λ (e : Entry). swept_by e.answer) before entry)) a))))
+              (sym (sum_by_push (λ (e : Entry). cancelled_count e.answer) before entry)) a))))
   where
     all : List Entry
     all = before ++ entry ∷ []
@@ -319,7 +319,7 @@ agrees_entry before entry cs a =
 pub agrees_on : (before : List Entry) (w : World) (entry : Entry) (after : World) → IsRising 1 (length w.callbacks + 1) w.callbacks → AgreesAfter before w → Moves (length w.callbacks + 1) w entry after → AgreesAfter (before ++ entry ∷ []) after
 agrees_on before w entry after rising a moves =
     agrees_entry before entry after.callbacks
-      (moves_agree (numbers_made before) (numbers_queued before) (numbers_taken before) (numbers_cancelled before) (count_swept before) (length w.callbacks + 1) w entry after rising refl a moves)
+      (moves_agree (numbers_made before) (numbers_queued before) (numbers_taken before) (numbers_cancelled before) (count_cancelled before) (length w.callbacks + 1) w entry after rising refl a moves)
 
 -- ---- what the law says of an entry
 
@@ -433,6 +433,6 @@ module _ (history : List Entry) (w : World) (rising : IsRising 1 (length w.callb
           let kept = kept_found lefts 1 (length w.callbacks + 1) w.callbacks k c rising is in
           none_among (λ m. m == c.number) (numbers_taken history) (a.taken_begun c.number ∙ ap times_begun kept.0 ∙ ap one_if (left_unbegun c.status kept.1))
 
-  pub made_are : length (numbers_made history) ≡ length (numbers_taken history) + count_swept history + length (numbers_cancelled history) + length (left w)
+  pub made_are : length (numbers_made history) ≡ length (numbers_taken history) + count_cancelled history + length (numbers_cancelled history) + length (left w)
   made_are =
-      omega (arith, ap length a.in_order, length-range_with_len 1 (length w.callbacks), none_missed w.callbacks, a.taken_count, a.cancelled_count, length-map {B = ℕ × ObjectId × Status} (filter lefts w.callbacks) (λ c. (c.number, c.object, c.status)))
+      omega (arith, ap length a.in_order, length-range_with_len 1 (length w.callbacks), none_missed w.callbacks, a.as_many_taken, a.as_many_cancelled, length-map {B = ℕ × ObjectId × Status} (filter lefts w.callbacks) (λ c. (c.number, c.object, c.status)))

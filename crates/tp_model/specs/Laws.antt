@@ -2,7 +2,7 @@
 use Rattle.std.specs.Prelude.{ℕ, List}
 use Rattle.tp_base.specs.declared.answers.Entry.{Entry}
 use Rattle.tp_base.specs.declared.limits.Limits.{Limits}
-pub mod Told
+pub mod Entries
 pub mod Once
 pub mod Maximum
 use Once.{AreOnce}

@@ -15,7 +15,7 @@ use Rattle.tp_model.specs.Counts.{numbered, has_number, is_pending, is_running, 
 use Rattle.tp_model.specs.Step.{Step, Accepted, Refused, Looked, Full}
 use Rattle.tp_model.specs.Rows.{replaced, started, returned}
 use Rattle.tp_model.specs.History.{is_refusal}
-use Rattle.tp_model.specs.Laws.Told.{made_by, queued_by, taken_by, cancelled_by, swept_by, attached_by, is_returned, maximum_after}
+use Rattle.tp_model.specs.Laws.Entries.{made_by, queued_by, taken_by, cancelled_by, cancelled_count, attached_by, is_returned, maximum_after}
 
 -- all that an entry tells of callbacks and of its worker
 pub record Told : Type 0 where
@@ -23,7 +23,7 @@ pub record Told : Type 0 where
   pub queued : List ℕ
   pub taken : Option ℕ
   pub cancelled : Option ℕ
-  pub swept : ℕ
+  pub count : ℕ
   pub attached : Option ℕ
   pub returned : Bool
 
@@ -33,13 +33,13 @@ told_by entry = record {
   queued = queued_by entry.answer;
   taken = taken_by entry.answer;
   cancelled = cancelled_by entry.answer;
-  swept = swept_by entry.answer;
+  count = cancelled_count entry.answer;
   attached = attached_by entry.answer;
   returned = is_returned entry;
   }
 
 abbrev pub nothing : Told
-nothing = record { made = []; queued = []; taken = None; cancelled = None; swept = 0; attached = None; returned = false }
+nothing = record { made = []; queued = []; taken = None; cancelled = None; count = 0; attached = None; returned = false }
 
 -- no callback's status and no worker changes
 pub record Stays (w : World) (entry : Entry) (after : World) : Type 0 where

@@ -5,7 +5,7 @@ use Rattle.std.specs.Option.{option_map_or}
 use Rattle.tp_base.specs.declared.ids.Who.TheVariants.{Worker}
 use Rattle.tp_base.specs.declared.answers.Entry.{Entry}
 use Rattle.tp_base.specs.declared.limits.Limits.{Limits}
-use Rattle.tp_model.specs.Laws.Told.{AtEach, is_within_run, last_pool, is_taken, told_maximum}
+use Rattle.tp_model.specs.Laws.Entries.{AtEach, is_within_run, last_pool, is_taken, told_maximum}
 
 -- the worker was last attached to the pool, and stands within a run
 abbrev pub runs_in : List Entry → ℕ → ℕ → Bool

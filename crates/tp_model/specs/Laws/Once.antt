@@ -9,7 +9,7 @@ use Rattle.tp_base.specs.declared.answers.Entry.{Entry}
 use Rattle.tp_base.specs.declared.limits.Limits.{Limits}
 use Rattle.tp_model.specs.World.{World}
 use Rattle.tp_model.specs.History.{after}
-use Rattle.tp_model.specs.Laws.Told.{AtEach, is_among, times, numbers_made, numbers_taken, numbers_cancelled, count_swept, taken_by, ready}
+use Rattle.tp_model.specs.Laws.Entries.{AtEach, is_among, times, numbers_made, numbers_taken, numbers_cancelled, count_cancelled, taken_by, ready}
 
 abbrev pub is_left : Status → Bool
 is_left Expected = true
@@ -37,4 +37,4 @@ pub record AreOnce (limits : Limits) (history : List Entry) : Type 0 where
   pub none_cancelled : AtEach TakesUncancelled history
   pub none_left : All (λ l. is_among l.0 (numbers_taken history) ≡ false) (left (after limits history))
   -- those made were taken or cancelled, or are left
-  pub none_lost : length (numbers_made history) ≡ length (numbers_taken history) + count_swept history + length (numbers_cancelled history) + length (left (after limits history))
+  pub none_lost : length (numbers_made history) ≡ length (numbers_taken history) + count_cancelled history + length (numbers_cancelled history) + length (left (after limits history))

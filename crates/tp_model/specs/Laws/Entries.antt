@@ -53,10 +53,10 @@ cancelled_by (Cancelled callback) = Some callback
 cancelled_by _ = None
 
 -- how many a wait or a close says that it cancelled
-abbrev pub swept_by : Answer → ℕ
-swept_by (Begun covered cancelled) = cancelled
-swept_by (Closing covered cancelled notices) = cancelled
-swept_by _ = 0
+abbrev pub cancelled_count : Answer → ℕ
+cancelled_count (Begun covered cancelled) = cancelled
+cancelled_count (Closing covered cancelled notices) = cancelled
+cancelled_count _ = 0
 
 abbrev pub numbers_made : List Entry → List ℕ
 numbers_made history = flat_map made_by history
@@ -70,8 +70,8 @@ numbers_taken history = filter_map (λ entry. taken_by entry.answer) history
 abbrev pub numbers_cancelled : List Entry → List ℕ
 numbers_cancelled history = filter_map (λ entry. cancelled_by entry.answer) history
 
-abbrev pub count_swept : List Entry → ℕ
-count_swept history = sum_by (λ entry. swept_by entry.answer) history
+abbrev pub count_cancelled : List Entry → ℕ
+count_cancelled history = sum_by (λ entry. cancelled_count entry.answer) history
 
 -- the place of the entry that makes the callback
 abbrev pub born : List Entry → ℕ → Option ℕ
