@@ -1,12 +1,11 @@
 -- What an entry of a legal history leads to, and what is kept along a history.
-use Rattle.std.proofs.Common.{◌≡◌, ℕ, suc, zero, ◌+◌, ◌-◌, ◌<◌, ◌≤◌, Bool, true, false, cond, not, ◌&&◌, List, [], ◌∷◌, ◌++◌, length, Option, Some, None, nat_lt, refl, sym, ap, ◌∙◌, append_assoc, subst, arith, length-append}
+use Rattle.std.proofs.Common.{◌≡◌, ℕ, ◌+◌, ◌-◌, ◌≤◌, Bool, true, false, cond, ◌&&◌, List, [], ◌∷◌, ◌++◌, length, nat_lt, refl, sym, ap, ◌∙◌, append_assoc, subst, arith, length-append}
 use Rattle.std.proofs.lemmas.List.{append-nil}
 use Rattle.tp_base.specs.declared.ids.Who.{Who}
 use Rattle.tp_base.specs.declared.calls.Call.{Call}
 use Rattle.tp_base.specs.declared.answers.Answer.{Answer}
 use Rattle.tp_base.specs.declared.answers.Answer.TheVariants as answer
 use Rattle.tp_base.specs.declared.answers.Refusal.{Refusal}
-use Rattle.tp_base.specs.declared.answers.Outcome.{Outcome}
 use Rattle.tp_base.specs.declared.answers.Outcome.TheVariants as outcome
 use Rattle.tp_base.specs.declared.answers.Entry.{Entry}
 use Rattle.tp_model.specs.World.{World}
@@ -17,7 +16,7 @@ use Rattle.tp_model.specs.Sound.{IsSound}
 use Rattle.tp_model.specs.Remembered.{made_by}
 use Rattle.tp_model.specs.Laws.Entries.{is_return_call}
 use Rattle.tp_model.specs.Moves.{Moves, Stay, Queue, Mark, Join, Leave, Start, Stop, Moved, Leads, nothing}
-use Rattle.tp_model.specs.Rows.{replaced, started, returned}
+use Rattle.tp_model.specs.Rows.{started, returned}
 use Rattle.tp_model.proofs.Callbacks.{length_replaced}
 use Rattle.tp_model.proofs.Soundness.{row_sound}
 use Rattle.tp_model.proofs.Moving.{row_moves}
@@ -62,24 +61,24 @@ entry_leads w left entry s told = of_row (row w entry.who entry.call) refl (row_
         let there : led_to w entry ≡ after = ap (λ b. cond b w (world_after w (row w entry.who entry.call))) (ap is_refusal (sym same) ∙ moved.0) ∙ ap (world_after w) is in
         let leads : Leads (fresh_in w) w entry after = subst (λ (a : Answer). Leads (fresh_in w) w (record { who = entry.who; call = entry.call; answer = a }) after) same moved.1 in
         subst (LeadsOn w entry) (sym there)
-          (record {
-            leads = leads;
-            sound = subst (λ n. IsSound n after) (omega (arith, moves_longer (fresh_in w) w entry after leads.moves)) sound;
-          })
+        (record {
+          leads = leads;
+          sound = subst (λ n. IsSound n after) (omega (arith, moves_longer (fresh_in w) w entry after leads.moves)) sound;
+        })
 
     of_row : (s : Step) → row w entry.who entry.call ≡ s → Moved (fresh_in w) w entry.who entry.call s → IsSound (fresh_in w + made_by w s) (world_after w s) → outcome_of (within w left s) ≡ outcome.Done entry.answer → LeadsOn w entry (led_to w entry)
     of_row (Accepted answer after) is moved sound told =
         elim (nat_lt left (cost w after)) as (λ b. outcome_of (cond b (Full left (cost w after)) (Accepted answer after)) ≡ outcome.Done entry.answer → LeadsOn w entry (led_to w entry)) [
-          true ↦ λ e. absurd cc
-        | false ↦ λ e. of_answer answer after (cc) is moved sound
+          | true ↦ λ e. absurd cc
+          | false ↦ λ e. of_answer answer after (cc) is moved sound
         ] told
     of_row (Refused refusal) is moved sound told =
         elim (nat_lt left 1) as (λ b. outcome_of (cond b (Full left 1) (Refused refusal)) ≡ outcome.Done entry.answer → LeadsOn w entry (led_to w entry)) [
-          true ↦ λ e. absurd cc
-        | false ↦ λ e.
-            let same : answer.Refused refusal ≡ entry.answer = cc in
-            let stays : led_to w entry ≡ w = ap (λ a. cond (is_refusal a) w (world_after w (row w entry.who entry.call))) (sym same) in
-            subst (LeadsOn w entry) (sym stays)
+          | true ↦ λ e. absurd cc
+          | false ↦ λ e.
+              let same : answer.Refused refusal ≡ entry.answer = cc in
+              let stays : led_to w entry ≡ w = ap (λ a. cond (is_refusal a) w (world_after w (row w entry.who entry.call))) (sym same) in
+              subst (LeadsOn w entry) (sym stays)
               (record { leads = subst (λ (a : Answer). Leads (fresh_in w) w (record { who = entry.who; call = entry.call; answer = a }) w) same (refused_leads w entry.who entry.call refusal); sound = s })
         ] told
     of_row (Looked look) is moved sound told = absurd cc
@@ -95,7 +94,7 @@ pub kept_to_end : (P : List Entry → World → Type 0) → IsKept P → (capaci
 kept_to_end P keeps capacity entries before [] w p legal = subst (λ h. P h w) (sym (append-nil before)) p
 kept_to_end P keeps capacity entries before (entry ∷ rest) w p legal =
     subst (λ h. P h (after_from (led_to w entry) rest)) (append_assoc before (entry ∷ []) rest)
-      (kept_to_end P keeps capacity (entries + 1) (before ++ entry ∷ []) rest (led_to w entry) (keeps before w (room capacity w entries) entry p legal.0) legal.1)
+    (kept_to_end P keeps capacity (entries + 1) (before ++ entry ∷ []) rest (led_to w entry) (keeps before w (room capacity w entries) entry p legal.0) legal.1)
 
 -- a world in which the property holds, and in which the entry's answer is the machine's
 pub record Reached (P : List Entry → World → Type 0) (before : List Entry) (entry : Entry) : Type 0 where
@@ -109,4 +108,4 @@ kept_to_entry P keeps capacity entries before [] later entry w p legal =
     record { world = w; left = room capacity w entries; holds = subst (λ h. P h w) (sym (append-nil before)) p; answers = legal.0 }
 kept_to_entry P keeps capacity entries before (first ∷ between) later entry w p legal =
     subst (λ h. Reached P h entry) (append_assoc before (first ∷ []) between)
-      (kept_to_entry P keeps capacity (entries + 1) (before ++ first ∷ []) between later entry (led_to w first) (keeps before w (room capacity w entries) first p legal.0) legal.1)
+    (kept_to_entry P keeps capacity (entries + 1) (before ++ first ∷ []) between later entry (led_to w first) (keeps before w (room capacity w entries) first p legal.0) legal.1)

@@ -1,11 +1,10 @@
 -- What a small history tells, by computation alone.
-use Rattle.std.proofs.Common.{◌≡◌, ℕ, List, [], ◌∷◌, ◌++◌, refl, map, true, false, Some, None, length}
+use Rattle.std.proofs.Common.{◌≡◌, ℕ, List, [], ◌∷◌, ◌++◌, refl, map, true, false, Some, None}
 use Rattle.tp_base.specs.declared.ids.Who.TheVariants.{Client, Worker}
 use Rattle.tp_base.specs.declared.ids.PoolId.{PoolId}
 use Rattle.tp_base.specs.declared.calls.Environ.{Environ}
 use Rattle.tp_base.specs.declared.calls.Priority.TheVariants.{Normal}
 use Rattle.tp_base.specs.declared.calls.Kind.TheVariants.{Work}
-use Rattle.tp_base.specs.declared.calls.Call.{Call}
 use Rattle.tp_base.specs.declared.calls.Call.TheVariants as call
 use Rattle.tp_base.specs.declared.answers.Answer.TheVariants as answer
 use Rattle.tp_base.specs.declared.answers.Entry.{Entry}
@@ -17,7 +16,7 @@ use Rattle.tp_base.specs.declared.rows.Status.TheVariants.{Pending}
 use Rattle.tp_base.specs.declared.limits.Limits.{Limits}
 use Rattle.tp_model.specs.Rows.{create_pool_row, set_maximum_row, set_minimum_row, create_row, submit_work_row, attach_row, take_row, return_row}
 use Rattle.tp_model.specs.History.{play, after}
-use Rattle.tp_model.specs.Laws.Entries.{numbers_made, numbers_queued, numbers_taken, numbers_cancelled, count_cancelled, born, ready, times, is_within_run, last_pool, told_maximum}
+use Rattle.tp_model.specs.Laws.Entries.{numbers_made, numbers_taken, numbers_cancelled, count_cancelled, born, ready, is_within_run, last_pool, told_maximum}
 use Rattle.tp_model.specs.Laws.Once.{left}
 use Rattle.tp_model.specs.Laws.Maximum.{count_running}
 

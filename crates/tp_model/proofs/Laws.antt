@@ -1,14 +1,13 @@
 -- Every legal history keeps the laws.
-use Rattle.std.proofs.Common.{◌≡◌, ℕ, ◌+◌, List, [], ◌∷◌, ◌++◌, length, Some, None, refl, sym, subst, arith}
+use Rattle.std.proofs.Common.{◌≡◌, ℕ, List, [], ◌∷◌, ◌++◌, refl, sym, subst}
 use Rattle.tp_base.specs.declared.answers.Entry.{Entry}
 use Rattle.tp_base.specs.declared.limits.Limits.{Limits}
 use Rattle.tp_model.specs.World.{World, opening}
 use Rattle.tp_model.specs.History.{IsLegal, after, led_to}
 use Rattle.tp_model.specs.Sound.{IsSound}
 use Rattle.tp_model.specs.Laws.{KeepsLaws}
-use Rattle.tp_model.specs.Laws.Entries.{AtEach}
-use Rattle.tp_model.specs.Laws.Once.{AreOnce, TakesReady, TakesUncancelled}
-use Rattle.tp_model.specs.Laws.Maximum.{IsWithinMaximum, TakesBelowMaximum}
+use Rattle.tp_model.specs.Laws.Once.{AreOnce}
+use Rattle.tp_model.specs.Laws.Maximum.{IsWithinMaximum}
 use Rattle.tp_model.proofs.Soundness.{opening_sound}
 use Rattle.tp_model.proofs.Entries.{fresh_in, LeadsOn, entry_leads, IsKept, kept_to_end, kept_to_entry, Reached}
 use Rattle.tp_model.proofs.Once.{AgreesAfter, agrees_on, takes_ready, takes_uncancelled, made_in_order, taken_once, left_untaken, made_are}
@@ -54,11 +53,11 @@ module _ (limits : Limits) (capacity : ℕ) (history : List Entry) (legal : IsLe
         in_order = made_in_order history (after limits history) at_end.sound.numbers at_end.agrees;
         at_most_once = taken_once history (after limits history) at_end.sound.numbers at_end.agrees;
         only_ready = λ before later entry is.
-          let r = at_entry before later entry is in
-          takes_ready before r.world entry (led_to r.world entry) r.holds.agrees (leads_on before entry r).leads.moves;
+            let r = at_entry before later entry is in
+            takes_ready before r.world entry (led_to r.world entry) r.holds.agrees (leads_on before entry r).leads.moves;
         none_cancelled = λ before later entry is.
-          let r = at_entry before later entry is in
-          takes_uncancelled before r.world entry (led_to r.world entry) r.holds.agrees (leads_on before entry r).leads.moves;
+            let r = at_entry before later entry is in
+            takes_uncancelled before r.world entry (led_to r.world entry) r.holds.agrees (leads_on before entry r).leads.moves;
         none_left = left_untaken history (after limits history) at_end.sound.numbers at_end.agrees;
         none_lost = made_are history (after limits history) at_end.sound.numbers at_end.agrees;
       }
@@ -67,8 +66,8 @@ module _ (limits : Limits) (capacity : ℕ) (history : List Entry) (legal : IsLe
   is_within_maximum =
       record {
         at_each = λ before later entry is.
-          let r = at_entry before later entry is in
-          takes_below limits before r.world entry (led_to r.world entry) r.holds.sound r.holds.staffed (leads_on before entry r).leads.moves;
+            let r = at_entry before later entry is in
+            takes_below limits before r.world entry (led_to r.world entry) r.holds.sound r.holds.staffed (leads_on before entry r).leads.moves;
       }
 
   pub keeps_laws : KeepsLaws limits history

@@ -1,12 +1,10 @@
 -- The law Maximum: what the entries so far tell of workers and pools is what the world says.
-use Rattle.std.proofs.Common.{◌≡◌, ◌≢◌, ℕ, suc, zero, ◌+◌, ◌-◌, ◌<◌, ◌≤◌, Bool, true, false, cond, not, ◌&&◌, ◌||◌, ◌==◌, List, [], ◌∷◌, ◌++◌, length, replicate, Option, Some, None, is_some, slice_get, slice_set, refl, sym, ap, ◌∙◌, subst, arith, filter, find, eqb-true, ne_eqb, eq-eqb, length-set}
-use Rattle.std.specs.List.{fold, range_with_len}
+use Rattle.std.proofs.Common.{◌≡◌, ◌≢◌, ℕ, suc, zero, ◌+◌, ◌-◌, ◌<◌, ◌≤◌, Bool, true, false, cond, not, ◌&&◌, ◌||◌, ◌==◌, List, [], ◌∷◌, ◌++◌, length, replicate, Option, Some, None, is_some, slice_get, slice_set, refl, sym, ap, ◌∙◌, subst, arith, filter, ne_eqb, eq-eqb, length-set}
+use Rattle.std.specs.List.{range_with_len}
 use Rattle.std.specs.Option.{option_map_or, option_or}
 use Rattle.std.proofs.lemmas.List.{length-replicate}
 use Rattle.std.proofs.lemmas.List.Sums.{fold-append}
-use Rattle.std.proofs.lemmas.List.FromFn.{length-range_with_len}
-use Rattle.tp_base.specs.declared.ids.Who.{Who}
-use Rattle.tp_base.specs.declared.ids.Who.TheVariants.{Client, Worker}
+use Rattle.tp_base.specs.declared.ids.Who.TheVariants.{Worker}
 use Rattle.tp_base.specs.declared.ids.PoolId.{PoolId}
 use Rattle.tp_base.specs.declared.rows.PoolRow.{PoolRow}
 use Rattle.tp_base.specs.declared.rows.CallbackRow.{CallbackRow}
@@ -14,10 +12,10 @@ use Rattle.tp_base.specs.declared.rows.WorkerRow.{WorkerRow}
 use Rattle.tp_base.specs.declared.answers.Entry.{Entry}
 use Rattle.tp_base.specs.declared.limits.Limits.{Limits}
 use Rattle.tp_model.specs.World.{World, opening, unattached}
-use Rattle.tp_model.specs.Counts.{numbered, has_number, is_pending, is_running, is_running_in, is_attached_to, running, maximum}
+use Rattle.tp_model.specs.Counts.{numbered, is_running, is_running_in, is_attached_to, running}
 use Rattle.tp_model.specs.Conditions.{is_same_actor}
 use Rattle.tp_model.specs.Rows.{replaced, started, returned}
-use Rattle.tp_model.specs.Sound.{IsSound, IsRising, IsWorkerSound, AreWorkersSound}
+use Rattle.tp_model.specs.Sound.{IsSound, IsWorkerSound, AreWorkersSound}
 use Rattle.tp_model.specs.Laws.Entries.{is_taken, is_returned, attached_by, taken_by, is_by, run_after, pool_after, is_within_run, last_pool, maximum_after, told_maximum}
 use Rattle.tp_model.specs.Laws.Maximum.{runs_in, count_running, TakesBelowMaximum}
 use Rattle.tp_model.specs.Moves.{Told, told_by, nothing, Moves, Stay, Queue, Mark, Join, Leave, Start, Stop, Leads, IsFree, maximum_at, put}
@@ -71,24 +69,25 @@ module _ (before : List Entry) (entry : Entry) where
   run_same worker untaken unreturned =
       run_told worker
       ∙ elim (is_by worker entry) as (λ b. cond b (is_taken entry || (is_within_run before worker && not (is_returned entry))) (is_within_run before worker) ≡ is_within_run before worker) [
-          true ↦ ap (λ (o : Option ℕ). is_some o || (is_within_run before worker && not (is_returned entry))) untaken ∙ ap (λ b. is_within_run before worker && not b) unreturned ∙ and_true (is_within_run before worker)
+        | true ↦ ap (λ (o : Option ℕ). is_some o || (is_within_run before worker && not (is_returned entry))) untaken ∙ ap (λ b. is_within_run before worker && not b) unreturned ∙ and_true (is_within_run before worker)
         | false ↦ refl
-        ]
+      ]
 
   pool_same : (worker : ℕ) → attached_by entry.answer ≡ None → last_pool (before ++ entry ∷ []) worker ≡ last_pool before worker
   pool_same worker none =
       pool_told worker
       ∙ elim (is_by worker entry) as (λ b. cond b (option_or (attached_by entry.answer) (last_pool before worker)) (last_pool before worker) ≡ last_pool before worker) [
-          true ↦ ap (λ (o : Option ℕ). option_or o (last_pool before worker)) none
+        | true ↦ ap (λ (o : Option ℕ). option_or o (last_pool before worker)) none
         | false ↦ refl
-        ]
+      ]
 
   told_same : (first : ℕ) (ws : List WorkerRow) → ((worker : ℕ) → first ≤ worker → IsSame before entry worker) → AreTold before first ws → AreTold (before ++ entry ∷ []) first ws
   told_same first [] same t = tt
   told_same first (r ∷ rs) same t =
-      let here : IsSame before entry first = same first (omega arith) in
-      (record { within = here.within ∙ t.0.within; joined = λ pool home. here.joined ∙ t.0.joined pool home },
-       told_same (first + 1) rs (λ worker above. same worker (omega (arith, above))) t.1)
+      let here : IsSame before entry first = same first (omega arith) in (
+        record { within = here.within ∙ t.0.within; joined = λ pool home. here.joined ∙ t.0.joined pool home },
+        told_same (first + 1) rs (λ worker above. same worker (omega (arith, above))) t.1,
+      )
 
   -- a row is put in the place of a worker of whom the entry tells what the row says
   told_put : (first place : ℕ) (ws : List WorkerRow) (new : WorkerRow) → ((worker : ℕ) → worker ≢ first + place → IsSame before entry worker) → IsTold (before ++ entry ∷ []) (first + place) new
@@ -97,9 +96,10 @@ module _ (before : List Entry) (entry : Entry) where
   told_put first zero (r ∷ rs) new same here t =
       (subst (λ n. IsTold (before ++ entry ∷ []) n new) (omega arith) here, told_same (first + 1) rs (λ worker above. same worker (λ e. omega (arith, above, e))) t.1)
   told_put first (suc place) (r ∷ rs) new same here t =
-      let old : IsSame before entry first = same first (λ e. omega (arith, e)) in
-      (record { within = old.within ∙ t.0.within; joined = λ pool home. old.joined ∙ t.0.joined pool home },
-       told_put (first + 1) place rs new (λ worker apart. same worker (λ e. apart (omega (arith, e)))) (subst (λ n. IsTold (before ++ entry ∷ []) n new) (omega arith) here) t.1)
+      let old : IsSame before entry first = same first (λ e. omega (arith, e)) in (
+        record { within = old.within ∙ t.0.within; joined = λ pool home. old.joined ∙ t.0.joined pool home },
+        told_put (first + 1) place rs new (λ worker apart. same worker (λ e. apart (omega (arith, e)))) (subst (λ n. IsTold (before ++ entry ∷ []) n new) (omega arith) here) t.1,
+      )
 
 told_at : (before : List Entry) (first place : ℕ) (ws : List WorkerRow) (row : WorkerRow) → AreTold before first ws → slice_get ws place ≡ Some row → IsTold before (first + place) row
 told_at before first place [] row t e = absurd cc
@@ -140,9 +140,9 @@ count_busy before cs pool first [] t s = refl
 count_busy before cs pool first (r ∷ rs) t s =
     ap (λ b. length (cond b (first ∷ filter (runs_in before pool) (range_with_len (first + 1) (length rs))) (filter (runs_in before pool) (range_with_len (first + 1) (length rs))))) (runs_as_busy before cs first pool r t.0 s.0)
     ∙ elim (is_busy_in pool r) as (λ b. length (cond b (first ∷ filter (runs_in before pool) (range_with_len (first + 1) (length rs))) (filter (runs_in before pool) (range_with_len (first + 1) (length rs)))) ≡ length (cond b (r ∷ filter (is_busy_in pool) rs) (filter (is_busy_in pool) rs))) [
-        true ↦ ap suc (count_busy before cs pool (first + 1) rs t.1 s.1)
+      | true ↦ ap suc (count_busy before cs pool (first + 1) rs t.1 s.1)
       | false ↦ count_busy before cs pool (first + 1) rs t.1 s.1
-      ]
+    ]
 
 -- ---- the entries and the world agree on workers and pools
 
@@ -189,7 +189,7 @@ module _ (limits : Limits) (before : List Entry) (w : World) (entry : Entry) (af
       let old : IsTold before worker row = subst (λ n. IsTold before n row) is (told_at before 1 (worker - 1) w.workers row i.told place.0) in
       record {
         told = subst (AreTold (before ++ entry ∷ []) 1) (sym changed)
-          (told_put before entry 1 (worker - 1) w.workers new (λ other apart. others_same before entry worker other by (λ e. apart (e ∙ sym is)))
+            (told_put before entry 1 (worker - 1) w.workers new (λ other apart. others_same before entry worker other by (λ e. apart (e ∙ sym is)))
             (subst (λ n. IsTold (before ++ entry ∷ []) n new) (sym is) (told_new old)) i.told);
         many = ap length changed ∙ length-set w.workers (worker - 1) new;
         runs = λ pool. as_many pool (busy pool after.workers) (ap (busy pool) changed) (length_filter_set (is_busy_in pool) w.workers (worker - 1) row new place.0);
@@ -232,7 +232,7 @@ module _ (limits : Limits) (before : List Entry) (w : World) (entry : Entry) (af
   staffed_on (Stay m) = staffed_same nothing m.tells refl refl refl m.workers (running_callbacks w.callbacks m.callbacks)
   staffed_on (Queue m) =
       staffed_same (record nothing { made = (length w.callbacks + 1) ∷ []; queued = (length w.callbacks + 1) ∷ [] }) m.tells refl refl refl m.workers
-        (λ pool. running_callbacks (w.callbacks ++ m.callback ∷ []) m.callbacks pool ∙ count_appended (is_running_in pool) w.callbacks m.callback (ap (λ b. b && (m.callback.pool.0 == pool)) (pending_not_running m.callback.status m.waits)))
+      (λ pool. running_callbacks (w.callbacks ++ m.callback ∷ []) m.callbacks pool ∙ count_appended (is_running_in pool) w.callbacks m.callback (ap (λ b. b && (m.callback.pool.0 == pool)) (pending_not_running m.callback.status m.waits)))
   staffed_on (Mark m) = staffed_same nothing m.tells refl refl refl m.workers (λ pool. running_callbacks (replaced m.new w.callbacks) m.callbacks pool ∙ as_many pool)
     where
       as_many : (pool : ℕ) → length (filter (is_running_in pool) (replaced m.new w.callbacks)) ≡ length (filter (is_running_in pool) w.callbacks)
@@ -241,31 +241,31 @@ module _ (limits : Limits) (before : List Entry) (w : World) (entry : Entry) (af
           omega (arith, length_filter_replaced (is_running_in pool) m.new m.old 1 (length w.callbacks + 1) w.callbacks s.numbers m.found, alike)
   staffed_on (Join m) =
       staffed_put m.worker m.actor.row (record { pool = Some m.pool; callback = None }) m.actor.by m.actor.stands m.workers
-        (λ old. record {
-          within = run_same before entry m.worker (ap (λ (t : Told). t.taken) m.tells) (ap (λ (t : Told). t.returned) m.tells) ∙ old.within ∙ ap (λ (o : Option ℕ). is_some o) m.actor.free;
-          joined = λ pool home. joined_told m.worker (Some m.pool.0) m.actor.by (ap (λ (t : Told). t.attached) m.tells) ∙ ap (λ (p : PoolId). Some p.0) (same_pool m.pool pool home);
-          })
-        (idle_put m.worker m.actor (record { pool = Some m.pool; callback = None }) refl m.callbacks)
+      (λ old. record {
+        within = run_same before entry m.worker (ap (λ (t : Told). t.taken) m.tells) (ap (λ (t : Told). t.returned) m.tells) ∙ old.within ∙ ap (λ (o : Option ℕ). is_some o) m.actor.free;
+        joined = λ pool home. joined_told m.worker (Some m.pool.0) m.actor.by (ap (λ (t : Told). t.attached) m.tells) ∙ ap (λ (p : PoolId). Some p.0) (same_pool m.pool pool home);
+      })
+      (idle_put m.worker m.actor (record { pool = Some m.pool; callback = None }) refl m.callbacks)
     where
       same_pool : (p q : PoolId) → Some p ≡ Some q → p ≡ q
       same_pool p q e = cc
   staffed_on (Leave m) =
       staffed_put m.worker m.actor.row (record { pool = None; callback = None }) m.actor.by m.actor.stands m.workers
-        (λ old. record {
-          within = run_same before entry m.worker (ap (λ (t : Told). t.taken) m.tells) (ap (λ (t : Told). t.returned) m.tells) ∙ old.within ∙ ap (λ (o : Option ℕ). is_some o) m.actor.free;
-          joined = λ pool home. absurd (none_some pool home);
-          })
-        (idle_put m.worker m.actor (record { pool = None; callback = None }) refl m.callbacks)
+      (λ old. record {
+        within = run_same before entry m.worker (ap (λ (t : Told). t.taken) m.tells) (ap (λ (t : Told). t.returned) m.tells) ∙ old.within ∙ ap (λ (o : Option ℕ). is_some o) m.actor.free;
+        joined = λ pool home. absurd (none_some pool home);
+      })
+      (idle_put m.worker m.actor (record { pool = None; callback = None }) refl m.callbacks)
     where
       none_some : (p : PoolId) → None ≡ Some p → ⊥
       none_some p e = cc
   staffed_on (Start m) =
       staffed_put m.worker m.actor.row (record { pool = Some m.pool; callback = Some m.callback.number }) m.actor.by m.actor.stands m.workers
-        (λ old. record {
-          within = run_begun m.worker m.callback.number m.actor.by (ap (λ (t : Told). t.taken) m.tells);
-          joined = λ pool home. pool_same before entry m.worker (ap (λ (t : Told). t.attached) m.tells) ∙ old.joined pool (m.home ∙ home);
-          })
-        more_run
+      (λ old. record {
+        within = run_begun m.worker m.callback.number m.actor.by (ap (λ (t : Told). t.taken) m.tells);
+        joined = λ pool home. pool_same before entry m.worker (ap (λ (t : Told). t.attached) m.tells) ∙ old.joined pool (m.home ∙ home);
+      })
+      more_run
     where
       more_run : (pool : ℕ) → running after pool + one_if (is_busy_in pool m.actor.row) ≡ running w pool + one_if (is_busy_in pool (record { pool = Some m.pool; callback = Some m.callback.number }))
       more_run pool =
@@ -277,20 +277,20 @@ module _ (limits : Limits) (before : List Entry) (w : World) (entry : Entry) (af
           omega (arith, was, now, begins, still, running_callbacks (replaced d w.callbacks) m.callbacks pool, length_filter_replaced (is_running_in pool) d m.callback 1 (length w.callbacks + 1) w.callbacks s.numbers m.found)
   staffed_on (Stop m) =
       staffed_put m.worker m.row (record m.row { callback = None }) m.by m.stands m.workers
-        (λ old. record {
-          within = run_ended m.worker m.by (ap (λ (t : Told). t.taken) m.tells) (ap (λ (t : Told). t.returned) m.tells);
-          joined = λ pool home. pool_same before entry m.worker (ap (λ (t : Told). t.attached) m.tells) ∙ old.joined pool home;
-          })
-        fewer_run
+      (λ old. record {
+        within = run_ended m.worker m.by (ap (λ (t : Told). t.taken) m.tells) (ap (λ (t : Told). t.returned) m.tells);
+        joined = λ pool home. pool_same before entry m.worker (ap (λ (t : Told). t.attached) m.tells) ∙ old.joined pool home;
+      })
+      fewer_run
     where
       fewer_run : (pool : ℕ) → running after pool + one_if (is_busy_in pool m.row) ≡ running w pool + one_if (is_busy_in pool (record m.row { callback = None }))
       fewer_run pool =
           let d : CallbackRow = returned m.callback in
           let was : one_if (is_busy_in pool m.row) ≡ one_if (m.pool.0 == pool) =
-                ap (λ (o : Option ℕ). one_if (is_attached_to pool m.row && is_some o)) m.busy ∙ ap one_if (and_true (is_attached_to pool m.row)) ∙ ap (λ (o : Option PoolId). one_if (option_map_or (λ (p : PoolId). p.0 == pool) o false)) m.home in
+          ap (λ (o : Option ℕ). one_if (is_attached_to pool m.row && is_some o)) m.busy ∙ ap one_if (and_true (is_attached_to pool m.row)) ∙ ap (λ (o : Option PoolId). one_if (option_map_or (λ (p : PoolId). p.0 == pool) o false)) m.home in
           let now : one_if (is_busy_in pool (record m.row { callback = None })) ≡ 0 = ap one_if (and_false (is_attached_to pool m.row)) in
           let ran : one_if (is_running_in pool m.callback) ≡ one_if (m.pool.0 == pool) =
-                ap (λ b. one_if (b && (m.callback.pool.0 == pool))) m.runs ∙ ap (λ (p : PoolId). one_if (p.0 == pool)) m.pool_same in
+          ap (λ b. one_if (b && (m.callback.pool.0 == pool))) m.runs ∙ ap (λ (p : PoolId). one_if (p.0 == pool)) m.pool_same in
           omega (arith, was, now, ran, running_callbacks (replaced d w.callbacks) m.callbacks pool, length_filter_replaced (is_running_in pool) d m.callback 1 (length w.callbacks + 1) w.callbacks s.numbers m.found)
 
   pub is_staffed_on : Leads (length w.callbacks + 1) w entry after → IsStaffed limits (before ++ entry ∷ []) after
@@ -308,7 +308,7 @@ module _ (limits : Limits) (before : List Entry) (w : World) (entry : Entry) (af
   pub takes_below : Moves (length w.callbacks + 1) w entry after → TakesBelowMaximum limits before entry
   takes_below (Start m) worker pool by takes home =
       subst (λ p. count_running limits before p < told_maximum limits before p) pool_is
-        (omega (arith, counted, i.runs m.pool.0, i.maxima m.pool.0, below_some m.pool.0 (slice_get w.pools m.pool.0) (running w m.pool.0) m.below))
+      (omega (arith, counted, i.runs m.pool.0, i.maxima m.pool.0, below_some m.pool.0 (slice_get w.pools m.pool.0) (running w m.pool.0) m.below))
     where
       same_worker : (j k : ℕ) → Worker j ≡ Worker k → j ≡ k
       same_worker j k e = cc

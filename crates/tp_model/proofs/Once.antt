@@ -1,6 +1,6 @@
 -- The law Once: what the entries so far tell of each callback is what its status says.
-use Rattle.std.proofs.Common.{◌≡◌, ℕ, suc, zero, ◌+◌, ◌-◌, ◌<◌, ◌≤◌, Bool, true, false, cond, not, ◌||◌, ◌==◌, List, [], ◌∷◌, ◌++◌, length, map, Option, Some, None, is_some, nat_lt, slice_get, get_or, refl, sym, ap, ◌∙◌, subst, arith, filter, find, ◌⊎◌, inl, inr, eqb-true, length-append, lt-ltb}
-use Rattle.std.specs.List.{All, cons_option, list_any, range_with_len, flat_map, filter_map, sum_by, position, position_or_len, prefix_len}
+use Rattle.std.proofs.Common.{◌≡◌, ℕ, suc, zero, ◌+◌, ◌<◌, ◌≤◌, Bool, true, false, cond, not, ◌||◌, ◌==◌, List, [], ◌∷◌, ◌++◌, length, Option, Some, None, is_some, slice_get, get_or, refl, sym, ap, ◌∙◌, subst, arith, filter, find, ◌⊎◌, inl, inr, eqb-true, length-append, lt-ltb}
+use Rattle.std.specs.List.{All, cons_option, list_any, range_with_len, flat_map, filter_map, position, position_or_len, prefix_len}
 use Rattle.std.specs.Option.{option_to_list}
 use Rattle.std.proofs.lemmas.List.{append-nil, length-map}
 use Rattle.std.proofs.lemmas.Grind.{flat_map-append}
@@ -14,17 +14,15 @@ use Rattle.tp_base.specs.declared.rows.Status.{Status}
 use Rattle.tp_base.specs.declared.rows.Status.TheVariants.{Expected, Issued, Pending, Running, Returned, Cancelled}
 use Rattle.tp_base.specs.declared.rows.CallbackRow.{CallbackRow}
 use Rattle.tp_base.specs.declared.answers.Entry.{Entry}
-use Rattle.tp_base.specs.declared.limits.Limits.{Limits}
 use Rattle.tp_model.specs.World.{World}
 use Rattle.tp_model.specs.Counts.{has_number, is_pending, is_running}
 use Rattle.tp_model.specs.Rows.{replaced, started, returned}
 use Rattle.tp_model.specs.Sound.{IsRising}
-use Rattle.tp_model.specs.Laws.Entries.{is_among, times, numbers_made, numbers_queued, numbers_taken, numbers_cancelled, count_cancelled, made_by, queued_by, taken_by, cancelled_by, cancelled_count, ready}
-use Rattle.tp_model.specs.Laws.Once.{is_left, left, AreOnce, TakesReady, TakesUncancelled}
+use Rattle.tp_model.specs.Laws.Entries.{is_among, times, numbers_made, numbers_queued, numbers_taken, numbers_cancelled, count_cancelled, made_by, queued_by, taken_by, cancelled_by, cancelled_count}
+use Rattle.tp_model.specs.Laws.Once.{is_left, left, TakesReady, TakesUncancelled}
 use Rattle.tp_model.specs.Moves.{Told, told_by, nothing, Moves, Stay, Queue, Mark, Join, Leave, Start, Stop}
-use Rattle.tp_model.proofs.Callbacks.{found_bounds, find_above, find_appended, find_replaced, find_replaced_other, length_replaced, length_filter_replaced, kept_found}
+use Rattle.tp_model.proofs.Callbacks.{find_appended, find_replaced, find_replaced_other, length_replaced, length_filter_replaced, kept_found}
 use Rattle.tp_model.proofs.Refusals.{false_true}
-use Rattle.tp_model.proofs.Lists.{find_passes}
 
 -- ---- what a status says
 
@@ -100,33 +98,33 @@ pub count_appended : (p : CallbackRow → Bool) (cs : List CallbackRow) (c : Cal
 count_appended p [] c out = ap (λ b. length (cond b (c ∷ []) [])) out
 count_appended p (d ∷ cs) c out =
     elim (p d) as (λ b. length (cond b (d ∷ filter p (cs ++ c ∷ [])) (filter p (cs ++ c ∷ []))) ≡ length (cond b (d ∷ filter p cs) (filter p cs))) [
-      true ↦ ap suc (count_appended p cs c out)
-    | false ↦ count_appended p cs c out
+      | true ↦ ap suc (count_appended p cs c out)
+      | false ↦ count_appended p cs c out
     ]
 
 begun_appended : (n : ℕ) (cs : List CallbackRow) (c : CallbackRow) → has_begun c.status ≡ false → times_begun (find (has_number n) (cs ++ c ∷ [])) ≡ times_begun (find (has_number n) cs)
 begun_appended n [] c still =
     elim (has_number n c) as (λ b. times_begun (cond b (Some c) None) ≡ 0) [
-      true ↦ ap one_if still
-    | false ↦ refl
+      | true ↦ ap one_if still
+      | false ↦ refl
     ]
 begun_appended n (d ∷ cs) c still =
     elim (has_number n d) as (λ b. times_begun (cond b (Some d) (find (has_number n) (cs ++ c ∷ []))) ≡ times_begun (cond b (Some d) (find (has_number n) cs))) [
-      true ↦ refl
-    | false ↦ begun_appended n cs c still
+      | true ↦ refl
+      | false ↦ begun_appended n cs c still
     ]
 
 -- what is found in a longer list was there, or is what was added
 found_appended : (n : ℕ) (cs : List CallbackRow) (c x : CallbackRow) → find (has_number n) (cs ++ c ∷ []) ≡ Some x → (find (has_number n) cs ≡ Some x) ⊎ (has_number n c ≡ true)
 found_appended n [] c x e =
     elim (has_number n c) as (λ b. cond b (Some c) None ≡ Some x → (None ≡ Some x) ⊎ (b ≡ true)) [
-      true ↦ λ _. inr refl
-    | false ↦ λ f. absurd cc
+      | true ↦ λ _. inr refl
+      | false ↦ λ f. absurd cc
     ] e
 found_appended n (d ∷ cs) c x e =
     elim (has_number n d) as (λ b. cond b (Some d) (find (has_number n) (cs ++ c ∷ [])) ≡ Some x → (cond b (Some d) (find (has_number n) cs) ≡ Some x) ⊎ (has_number n c ≡ true)) [
-      true ↦ λ f. inl f
-    | false ↦ λ f. found_appended n cs c x f
+      | true ↦ λ f. inl f
+      | false ↦ λ f. found_appended n cs c x f
     ] e
 
 among_front : (n : ℕ) (xs ys : List ℕ) → is_among n xs ≡ true → is_among n (xs ++ ys) ≡ true
@@ -163,8 +161,8 @@ module _ (made queued taken cancelled : List ℕ) (count : ℕ) (cs : List Callb
         taken_begun = λ n. ap (times n) (append-nil taken) ∙ a.taken_begun n ∙ sym (begun_appended n cs c (pending_unbegun c.status waits));
         pending_queued = λ n x found pending. was_queued n x pending (found_appended n cs c x found);
         named_cancelled = λ n named.
-          let old = a.named_cancelled n (ap (is_among n) (sym (append-nil cancelled)) ∙ named) in
-          (old.0, find_appended n cs old.0 c old.1, old.2);
+            let old = a.named_cancelled n (ap (is_among n) (sym (append-nil cancelled)) ∙ named) in
+            (old.0, find_appended n cs old.0 c old.1, old.2);
         as_many_taken = ap length (append-nil taken) ∙ a.as_many_taken ∙ sym (count_appended begun cs c (pending_unbegun c.status waits));
         as_many_cancelled = omega (arith, ap length (append-nil cancelled), a.as_many_cancelled, count_appended dropped cs c (pending_uncancelled c.status waits));
       }
@@ -179,11 +177,11 @@ module _ (made queued taken cancelled : List ℕ) (count : ℕ) (cs : List Callb
         → (n : ℕ) (x : CallbackRow) → find (has_number n) (replaced d cs) ≡ Some x → is_pending x.status ≡ true → is_among n queued ≡ true
     replaced_pending old kept n x there waits =
         elim (has_number n d) as (λ b. has_number n d ≡ b → is_among n queued ≡ true) [
-          true ↦ λ e.
-            let is : d.number ≡ n = eqb-true d.number n e in
-            let same : d ≡ x = same_row d.number n d x (replaced d cs) is (find_replaced d c cs found) there in
-            old n c (ap (λ k. find (has_number k) cs) (sym is) ∙ found) (kept (ap (λ (y : CallbackRow). is_pending y.status) same ∙ waits))
-        | false ↦ λ e. old n x (sym (find_replaced_other d n cs e) ∙ there) waits
+          | true ↦ λ e.
+              let is : d.number ≡ n = eqb-true d.number n e in
+              let same : d ≡ x = same_row d.number n d x (replaced d cs) is (find_replaced d c cs found) there in
+              old n c (ap (λ k. find (has_number k) cs) (sym is) ∙ found) (kept (ap (λ (y : CallbackRow). is_pending y.status) same ∙ waits))
+          | false ↦ λ e. old n x (sym (find_replaced_other d n cs e) ∙ there) waits
         ] refl
 
     replaced_cancelled : ((n : ℕ) → is_among n cancelled ≡ true → (x : CallbackRow) × (find (has_number n) cs ≡ Some x) × (is_cancelled x.status ≡ true)) → (is_cancelled c.status ≡ true → is_cancelled d.status ≡ true)
@@ -191,11 +189,11 @@ module _ (made queued taken cancelled : List ℕ) (count : ℕ) (cs : List Callb
     replaced_cancelled old kept n named =
         let before = old n named in
         elim (has_number n d) as (λ b. has_number n d ≡ b → (x : CallbackRow) × (find (has_number n) (replaced d cs) ≡ Some x) × (is_cancelled x.status ≡ true)) [
-          true ↦ λ e.
-            let is : d.number ≡ n = eqb-true d.number n e in
-            let same : before.0 ≡ c = same_row n d.number before.0 c cs (sym is) before.1 found in
-            (d, ap (λ k. find (has_number k) (replaced d cs)) (sym is) ∙ find_replaced d c cs found, kept (ap (λ (y : CallbackRow). is_cancelled y.status) (sym same) ∙ before.2))
-        | false ↦ λ e. (before.0, find_replaced_other d n cs e ∙ before.1, before.2)
+          | true ↦ λ e.
+              let is : d.number ≡ n = eqb-true d.number n e in
+              let same : before.0 ≡ c = same_row n d.number before.0 c cs (sym is) before.1 found in
+              (d, ap (λ k. find (has_number k) (replaced d cs)) (sym is) ∙ find_replaced d c cs found, kept (ap (λ (y : CallbackRow). is_cancelled y.status) (sym same) ∙ before.2))
+          | false ↦ λ e. (before.0, find_replaced_other d n cs e ∙ before.1, before.2)
         ] refl
 
     -- a callback that begins nothing new, nor is cancelled
@@ -217,11 +215,11 @@ module _ (made queued taken cancelled : List ℕ) (count : ℕ) (cs : List Callb
         as_begun : (n : ℕ) → times_begun (find (has_number n) cs) ≡ times_begun (find (has_number n) (replaced d cs))
         as_begun n =
             elim (has_number n d) as (λ b. has_number n d ≡ b → times_begun (find (has_number n) cs) ≡ times_begun (find (has_number n) (replaced d cs))) [
-              true ↦ λ e.
-                let is : d.number ≡ n = eqb-true d.number n e in
-                subst (λ k. times_begun (find (has_number k) cs) ≡ times_begun (find (has_number k) (replaced d cs))) is
+              | true ↦ λ e.
+                  let is : d.number ≡ n = eqb-true d.number n e in
+                  subst (λ k. times_begun (find (has_number k) cs) ≡ times_begun (find (has_number k) (replaced d cs))) is
                   (ap times_begun found ∙ ap one_if (sym same_begun) ∙ ap times_begun (sym (find_replaced d c cs found)))
-            | false ↦ λ e. ap times_begun (sym (find_replaced_other d n cs e))
+              | false ↦ λ e. ap times_begun (sym (find_replaced_other d n cs e))
             ] refl
 
     -- a pending callback is taken
@@ -245,14 +243,14 @@ module _ (made queued taken cancelled : List ℕ) (count : ℕ) (cs : List Callb
         as_begun : (n : ℕ) → times n taken + cond (d.number == n) 1 0 ≡ times_begun (find (has_number n) (replaced d cs))
         as_begun n =
             elim (d.number == n) as (λ b. (d.number == n) ≡ b → times n taken + cond b 1 0 ≡ times_begun (find (has_number n) (replaced d cs))) [
-              true ↦ λ e.
-                let is : d.number ≡ n = eqb-true d.number n e in
-                let none : times n taken ≡ 0 = a.taken_begun n ∙ ap (λ k. times_begun (find (has_number k) cs)) (sym is) ∙ ap times_begun found ∙ ap one_if (pending_unbegun c.status waits) in
-                let one : times_begun (find (has_number n) (replaced d cs)) ≡ 1 = ap (λ k. times_begun (find (has_number k) (replaced d cs))) (sym is) ∙ ap times_begun (find_replaced d c cs found) ∙ ap one_if begins in
-                omega (arith, none, one)
-            | false ↦ λ e.
-                let others : times n taken ≡ times_begun (find (has_number n) (replaced d cs)) = a.taken_begun n ∙ ap times_begun (sym (find_replaced_other d n cs e)) in
-                omega (arith, others)
+              | true ↦ λ e.
+                  let is : d.number ≡ n = eqb-true d.number n e in
+                  let none : times n taken ≡ 0 = a.taken_begun n ∙ ap (λ k. times_begun (find (has_number k) cs)) (sym is) ∙ ap times_begun found ∙ ap one_if (pending_unbegun c.status waits) in
+                  let one : times_begun (find (has_number n) (replaced d cs)) ≡ 1 = ap (λ k. times_begun (find (has_number k) (replaced d cs))) (sym is) ∙ ap times_begun (find_replaced d c cs found) ∙ ap one_if begins in
+                  omega (arith, none, one)
+              | false ↦ λ e.
+                  let others : times n taken ≡ times_begun (find (has_number n) (replaced d cs)) = a.taken_begun n ∙ ap times_begun (sym (find_replaced_other d n cs e)) in
+                  omega (arith, others)
             ] refl
 
 -- ---- every move keeps it
@@ -271,20 +269,20 @@ moves_agree made queued taken cancelled count fresh w entry after rising is a mo
     of_move (Stay m) = to nothing w.callbacks m.tells m.callbacks still
     of_move (Queue m) =
         to (record nothing { made = fresh ∷ []; queued = fresh ∷ [] }) (w.callbacks ++ m.callback ∷ []) m.tells m.callbacks
-          (agrees_queued made queued taken cancelled count w.callbacks m.callback fresh a is m.number m.waits)
+        (agrees_queued made queued taken cancelled count w.callbacks m.callback fresh a is m.number m.waits)
     of_move (Mark m) =
         to nothing (replaced m.new w.callbacks) m.tells m.callbacks
-          (agrees_marked made queued taken cancelled count w.callbacks fresh m.old m.new rising m.found a (ap has_begun m.status) (ap is_cancelled m.status) (λ e. ap is_pending (sym m.status) ∙ e))
+        (agrees_marked made queued taken cancelled count w.callbacks fresh m.old m.new rising m.found a (ap has_begun m.status) (ap is_cancelled m.status) (λ e. ap is_pending (sym m.status) ∙ e))
     of_move (Join m) = to (record nothing { attached = Some m.pool.0 }) w.callbacks m.tells m.callbacks still
     of_move (Leave m) = to nothing w.callbacks m.tells m.callbacks still
     of_move (Start m) =
         let d : CallbackRow = started m.callback m.worker in
         to (record nothing { taken = Some m.callback.number }) (replaced d w.callbacks) m.tells m.callbacks
-          (agrees_taken made queued taken cancelled count w.callbacks fresh m.callback d rising m.found a m.waits refl refl refl)
+        (agrees_taken made queued taken cancelled count w.callbacks fresh m.callback d rising m.found a m.waits refl refl refl)
     of_move (Stop m) =
         let d : CallbackRow = returned m.callback in
         to (record nothing { returned = true }) (replaced d w.callbacks) m.tells m.callbacks
-          (agrees_marked made queued taken cancelled count w.callbacks fresh m.callback d rising m.found a (sym (running_begun m.callback.status m.runs)) (sym (running_uncancelled m.callback.status m.runs)) (λ e. absurd (false_true e)))
+        (agrees_marked made queued taken cancelled count w.callbacks fresh m.callback d rising m.found a (sym (running_begun m.callback.status m.runs)) (sym (running_uncancelled m.callback.status m.runs)) (λ e. absurd (false_true e)))
 
 -- ---- along a history
 
@@ -297,11 +295,11 @@ agrees_entry : (before : List Entry) (entry : Entry) (cs : List CallbackRow)
     → Agrees (numbers_made (before ++ entry ∷ [])) (numbers_queued (before ++ entry ∷ [])) (numbers_taken (before ++ entry ∷ [])) (numbers_cancelled (before ++ entry ∷ [])) (count_cancelled (before ++ entry ∷ [])) cs
 agrees_entry before entry cs a =
     subst (λ m. Agrees m (numbers_queued all) (numbers_taken all) (numbers_cancelled all) (count_cancelled all) cs) (sym (lists made_by))
-      (subst (λ q. Agrees (numbers_made before ++ made_by entry) q (numbers_taken all) (numbers_cancelled all) (count_cancelled all) cs) (sym (lists (λ (e : Entry). queued_by e.answer)))
-        (subst (λ t. Agrees (numbers_made before ++ made_by entry) (numbers_queued before ++ queued_by entry.answer) t (numbers_cancelled all) (count_cancelled all) cs) (sym (ones (λ (e : Entry). taken_by e.answer)))
-          (subst (λ c. Agrees (numbers_made before ++ made_by entry) (numbers_queued before ++ queued_by entry.answer) (numbers_taken before ++ option_to_list (taken_by entry.answer)) c (count_cancelled all) cs) (sym (ones (λ (e : Entry). cancelled_by e.answer)))
-            (subst (λ s. Agrees (numbers_made before ++ made_by entry) (numbers_queued before ++ queued_by entry.answer) (numbers_taken before ++ option_to_list (taken_by entry.answer)) (numbers_cancelled before ++ option_to_list (cancelled_by entry.answer)) s cs)
-              (sym (sum_by_push (λ (e : Entry). cancelled_count e.answer) before entry)) a))))
+    (subst (λ q. Agrees (numbers_made before ++ made_by entry) q (numbers_taken all) (numbers_cancelled all) (count_cancelled all) cs) (sym (lists (λ (e : Entry). queued_by e.answer)))
+    (subst (λ t. Agrees (numbers_made before ++ made_by entry) (numbers_queued before ++ queued_by entry.answer) t (numbers_cancelled all) (count_cancelled all) cs) (sym (ones (λ (e : Entry). taken_by e.answer)))
+    (subst (λ c. Agrees (numbers_made before ++ made_by entry) (numbers_queued before ++ queued_by entry.answer) (numbers_taken before ++ option_to_list (taken_by entry.answer)) c (count_cancelled all) cs) (sym (ones (λ (e : Entry). cancelled_by e.answer)))
+    (subst (λ s. Agrees (numbers_made before ++ made_by entry) (numbers_queued before ++ queued_by entry.answer) (numbers_taken before ++ option_to_list (taken_by entry.answer)) (numbers_cancelled before ++ option_to_list (cancelled_by entry.answer)) s cs)
+    (sym (sum_by_push (λ (e : Entry). cancelled_count e.answer) before entry)) a))))
   where
     all : List Entry
     all = before ++ entry ∷ []
@@ -319,7 +317,7 @@ agrees_entry before entry cs a =
 pub agrees_on : (before : List Entry) (w : World) (entry : Entry) (after : World) → IsRising 1 (length w.callbacks + 1) w.callbacks → AgreesAfter before w → Moves (length w.callbacks + 1) w entry after → AgreesAfter (before ++ entry ∷ []) after
 agrees_on before w entry after rising a moves =
     agrees_entry before entry after.callbacks
-      (moves_agree (numbers_made before) (numbers_queued before) (numbers_taken before) (numbers_cancelled before) (count_cancelled before) (length w.callbacks + 1) w entry after rising refl a moves)
+    (moves_agree (numbers_made before) (numbers_queued before) (numbers_taken before) (numbers_cancelled before) (count_cancelled before) (length w.callbacks + 1) w entry after rising refl a moves)
 
 -- ---- what the law says of an entry
 
@@ -346,16 +344,16 @@ passes_within {X} p xs e = ap (λ b. is_some (cond b (Some (position_or_len p xs
     before_end [] h = absurd (false_true h)
     before_end (y ∷ ys) h =
         elim (p y) as (λ b. (b || list_any p ys) ≡ true → cond (not b) (1 + prefix_len (λ x. not (p x)) ys) 0 < length (y ∷ ys)) [
-          true ↦ λ _. omega arith
-        | false ↦ λ rest. omega (arith, before_end ys rest)
+          | true ↦ λ _. omega arith
+          | false ↦ λ rest. omega (arith, before_end ys rest)
         ] h
 
 among_some : (n : ℕ) (history : List Entry) → is_among n (numbers_queued history) ≡ true → list_any (λ (e : Entry). is_among n (queued_by e.answer)) history ≡ true
 among_some n [] e = absurd (false_true e)
 among_some n (entry ∷ rest) e =
     elim (is_among n (queued_by entry.answer)) as (λ b. (b || is_among n (numbers_queued rest)) ≡ true → (b || list_any (λ (x : Entry). is_among n (queued_by x.answer)) rest) ≡ true) [
-      true ↦ λ _. refl
-    | false ↦ λ h. among_some n rest h
+      | true ↦ λ _. refl
+      | false ↦ λ h. among_some n rest h
     ] (sym (list_any-append (λ m. m == n) (queued_by entry.answer) (numbers_queued rest)) ∙ e)
 
 pub takes_ready : (before : List Entry) (w : World) (entry : Entry) (after : World) → AgreesAfter before w → Moves (length w.callbacks + 1) w entry after → TakesReady before entry
@@ -367,9 +365,9 @@ pub takes_uncancelled : (before : List Entry) (w : World) (entry : Entry) (after
 takes_uncancelled before w entry after a moves n e =
     let taken = taken_waits (length w.callbacks + 1) w entry after n moves e in
     not_true (is_among n (numbers_cancelled before)) (λ named.
-      let old = a.named_cancelled n named in
-      let same : old.0 ≡ taken.0 = same_row n n old.0 taken.0 w.callbacks refl old.1 taken.1 in
-      false_true (sym (pending_uncancelled taken.0.status taken.2) ∙ ap (λ (x : CallbackRow). is_cancelled x.status) (sym same) ∙ old.2))
+    let old = a.named_cancelled n named in
+    let same : old.0 ≡ taken.0 = same_row n n old.0 taken.0 w.callbacks refl old.1 taken.1 in
+    false_true (sym (pending_uncancelled taken.0.status taken.2) ∙ ap (λ (x : CallbackRow). is_cancelled x.status) (sym same) ∙ old.2))
   where
     not_true : (b : Bool) → (b ≡ true → ⊥) → b ≡ false
     not_true true h = absurd (h refl)
@@ -408,8 +406,8 @@ none_among : {X : Type 0} (p : X → Bool) (xs : List X) → length (filter p xs
 none_among p [] e = refl
 none_among {X} p (x ∷ xs) e =
     elim (p x) as (λ b. length (cond b (x ∷ filter p xs) (filter p xs)) ≡ 0 → (b || list_any p xs) ≡ false) [
-      true ↦ λ h. absurd (omega (arith, h))
-    | false ↦ λ h. none_among p xs h
+      | true ↦ λ h. absurd (omega (arith, h))
+      | false ↦ λ h. none_among p xs h
     ] e
 
 module _ (history : List Entry) (w : World) (rising : IsRising 1 (length w.callbacks + 1) w.callbacks) (a : AgreesAfter history w) where
@@ -426,7 +424,7 @@ module _ (history : List Entry) (w : World) (rising : IsRising 1 (length w.callb
   pub left_untaken : All (λ l. is_among l.0 (numbers_taken history) ≡ false) (left w)
   left_untaken =
       All-map (λ l. is_among l.0 (numbers_taken history) ≡ false) (λ c. (c.number, c.object, c.status)) (filter lefts w.callbacks)
-        (λ k d within. untaken k (get_or (filter lefts w.callbacks) k d) (slice_get-get_or (filter lefts w.callbacks) k d within))
+      (λ k d within. untaken k (get_or (filter lefts w.callbacks) k d) (slice_get-get_or (filter lefts w.callbacks) k d within))
     where
       untaken : (k : ℕ) (c : CallbackRow) → slice_get (filter lefts w.callbacks) k ≡ Some c → is_among c.number (numbers_taken history) ≡ false
       untaken k c is =

@@ -1,5 +1,5 @@
 -- How an accepted call moves callbacks and workers, and what its entry tells of that.
-use Rattle.std.specs.Prelude.{◌≡◌, ℕ, ◌+◌, ◌-◌, ◌<◌, Bool, true, false, not, ◌&&◌, List, [], ◌∷◌, ◌++◌, length, slice_get, slice_set, None, Some, Option}
+use Rattle.std.specs.Prelude.{◌≡◌, ℕ, ◌-◌, ◌<◌, Bool, true, false, List, [], ◌∷◌, ◌++◌, slice_get, slice_set, None, Some, Option}
 use Rattle.std.specs.List.{find}
 use Rattle.std.specs.Option.{option_map_or}
 use Rattle.tp_base.specs.declared.ids.Who.{Who}
@@ -36,7 +36,7 @@ told_by entry = record {
   count = cancelled_count entry.answer;
   attached = attached_by entry.answer;
   returned = is_returned entry;
-  }
+}
 
 abbrev pub nothing : Told
 nothing = record { made = []; queued = []; taken = None; cancelled = None; count = 0; attached = None; returned = false }

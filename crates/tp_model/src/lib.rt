@@ -14,5 +14,4 @@ ghost use Rattle.tp_model.specs.Laws.{KeepsLaws};
 #[tactic(auto, using(crate::proofs::Laws::keeps_laws))]
 pub fn legal_keeps_laws()
     ensures laws { (limits : Limits) (capacity : ℕ) (history : List Entry) → IsLegal limits capacity history → KeepsLaws limits history }
-{
-}
+{}

@@ -1,9 +1,8 @@
 -- What the entries of a history tell of callbacks and workers.
-use Rattle.std.specs.Prelude.{◌≡◌, ℕ, ◌+◌, Bool, true, false, not, ◌&&◌, ◌||◌, ◌==◌, max, List, [], ◌∷◌, ◌++◌, length, if◌then◌else◌, is_some, None, Some, Option}
+use Rattle.std.specs.Prelude.{◌≡◌, ℕ, Bool, true, false, not, ◌&&◌, ◌||◌, ◌==◌, max, List, [], ◌∷◌, ◌++◌, length, if◌then◌else◌, is_some, None, Some, Option}
 use Rattle.std.specs.Option.{option_or}
 use Rattle.std.specs.List.{filter, list_any, position, range_with_len, flat_map, filter_map, sum_by, fold}
-use Rattle.tp_base.specs.declared.ids.Who.{Who}
-use Rattle.tp_base.specs.declared.ids.Who.TheVariants.{Client, Worker}
+use Rattle.tp_base.specs.declared.ids.Who.TheVariants.{Worker}
 use Rattle.tp_base.specs.declared.calls.Call.{Call}
 use Rattle.tp_base.specs.declared.calls.Call.TheVariants.{Return, SetMaximum, SetMinimum}
 use Rattle.tp_base.specs.declared.answers.Answer.{Answer}
