@@ -8,7 +8,7 @@
 
 #![tactic(auto)]
 
-ghost use Rattle.std.specs.Prelude.{◌≡◌, ◌+◌, ◌<◌, ◌^◌, IfOk, OnErr, OnOk, length, replicate};
+ghost use Rattle.std.specs.Prelude.{◌≡◌, ◌+◌, ◌<◌, ◌≤◌, ◌^◌, IfOk, OnErr, OnOk, length, replicate};
 ghost use Rattle.plain_pool.specs.Meaning.{meant};
 ghost use Rattle.tp_model.specs.Step.{outcome_of, world_after};
 ghost use Rattle.tp_model.specs.Table.{row, step};
@@ -105,6 +105,7 @@ impl PlainPool {
         ensures told { IfOk result (λ outcome. outcome ≡ outcome_of (step self.old room who call)) }
         ensures after { OnOk result (self.new ≡ world_after self.old (step self.old room who call)) }
         ensures unchanged { OnErr result (self.new ≡ self.old) }
+        ensures at_most_one_made { length self.new.callbacks ≤ length self.old.callbacks + 1 }
     {
         let came = self.row(who, call)?;
         Ok(match self.within(room, came) {
@@ -166,3 +167,6 @@ fn unfinished_clients(alloc: Global, count: u32) -> Result<Vec<ClientRow>, Alloc
 {
     vec![in alloc; UNFINISHED; count as usize]
 }
+
+#[cfg(test)]
+mod tests;

@@ -4,7 +4,6 @@ use Rattle.tp_base.specs.declared.answers.Outcome.{Outcome}
 use Rattle.tp_model.specs.Counts.{owed}
 use Rattle.tp_model.specs.Step.{world_after}
 use Rattle.plain_pool.specs.Entries.{entries_told}
-use Rattle.plain_pool.proofs.Made.{step_makes}
 use Rattle.plain_pool.proofs.Playing.{told_on}
 use Rattle.plain_pool.proofs.histories.play.Goals as goal
 
@@ -25,9 +24,6 @@ loop-who-preserved c = record {
       c.entries_told-entries.ensures
       c.in_ok-push.ensures.items
       c.loop-who.invariant.told;
-  few_callbacks =
-    let makes = step_makes c.loop-who.pool c.saturating_sub-room.result _ _ in
-    let same : length c.step.new.self.callbacks ≤ length c.loop-who.pool.callbacks + 1 = rw c.in_ok-outcome.ensures.after makes in
-    omega (arith, same, c.loop-who.invariant.few_callbacks);
+  few_callbacks = omega (arith, c.in_ok-outcome.ensures.at_most_one_made, c.loop-who.invariant.few_callbacks);
   few_entries = omega (arith, one_at_most c.in_ok-outcome.outcome, c.entries_told-entries.ensures, c.loop-who.invariant.few_entries);
   }
