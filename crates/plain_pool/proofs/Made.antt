@@ -1,5 +1,5 @@
 -- A step makes at most one callback, and at most one entry.
-use Rattle.std.proofs.Common.{◌≡◌, ℕ, ◌+◌, ◌-◌, ◌<◌, ◌≤◌, Bool, true, false, cond, List, [], ◌∷◌, ◌++◌, length, nat_lt, nat_le, Option, Some, None, refl, sym, ap, ◌∙◌, arith, length-append}
+use Rattle.std.proofs.Common.{ℕ, ◌+◌, ◌≤◌, true, false, cond, [], ◌∷◌, length, nat_lt, nat_le, Option, Some, None, arith, length-append}
 use Rattle.tp_base.specs.declared.ids.Who.{Who}
 use Rattle.tp_base.specs.declared.ids.Who.TheVariants.{Client, Worker}
 use Rattle.tp_base.specs.declared.ids.PoolId.{PoolId}
@@ -49,8 +49,8 @@ next_makes : (w : World) (worker : ℕ) (pool : PoolId) (c : Option CallbackRow)
 next_makes w worker pool None = omega arith
 next_makes w worker pool (Some c) =
     elim (nat_le (maximum w pool.0) (running w pool.0)) as (λ b. MakesAtMostOne w (cond b (Looked (look.AtMaximum (running w pool.0))) (start w worker pool c))) [
-      true ↦ omega arith
-    | false ↦ omega (arith, length_replaced (started c worker) w.callbacks)
+      | true ↦ omega arith
+      | false ↦ omega (arith, length_replaced (started c worker) w.callbacks)
     ]
 
 in_makes : (w : World) (who : Who) (pool : Option PoolId) → MakesAtMostOne w (take_in w who pool)

@@ -1,5 +1,5 @@
 -- One call more of a list that is played.
-use Rattle.std.proofs.Common.{◌≡◌, ℕ, suc, ◌+◌, ◌-◌, ◌<◌, List, [], ◌∷◌, ◌++◌, length, get_or, drop, refl, sym, ap, ◌∙◌, append_assoc, add-one, drop-cons}
+use Rattle.std.proofs.Common.{◌≡◌, ℕ, ◌+◌, ◌-◌, ◌<◌, List, [], ◌∷◌, ◌++◌, length, get_or, drop, refl, sym, ap, ◌∙◌, append_assoc, add-one, drop-cons}
 use Rattle.tp_base.specs.declared.ids.Who.{Who}
 use Rattle.tp_base.specs.declared.calls.Call.{Call}
 use Rattle.tp_base.specs.declared.answers.Outcome.{Outcome}
@@ -30,10 +30,10 @@ pub told_on : (world after : World) (capacity entries more index room : ℕ) (ca
 told_on world after capacity entries more index room calls default told outcomes outcome whole within is_room is_outcome is_after is_more is_outcomes is_whole =
     let made = get_or calls index default in
     let is_next : drop index calls ≡ made ∷ drop (index + 1) calls =
-          drop-cons calls index default within ∙ ap (λ k. made ∷ drop k calls) (sym (add-one index)) in
+    drop-cons calls index default within ∙ ap (λ k. made ∷ drop k calls) (sym (add-one index)) in
     let count : more ≡ entries_of (step world room (get_or calls index default).0 (get_or calls index default).1) = is_more ∙ ap entries_told is_outcome ∙ entries_shown (step world room (get_or calls index default).0 (get_or calls index default).1) in
     let rest : outcome ∷ play_from after capacity (entries + more) (drop (index + 1) calls) ≡ play_from world capacity entries (made ∷ drop (index + 1) calls) =
-          rw (is_after, count, is_outcome, is_room) refl in
+    rw (is_after, count, is_outcome, is_room) refl in
     ap (λ xs. xs ++ play_from after capacity (entries + more) (drop (index + 1) calls)) is_outcomes
     ∙ append_assoc told (outcome ∷ []) (play_from after capacity (entries + more) (drop (index + 1) calls))
     ∙ ap (λ xs. told ++ xs) (rest ∙ ap (play_from world capacity entries) (sym is_next))

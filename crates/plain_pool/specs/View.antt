@@ -1,5 +1,5 @@
 -- The world that a plain pool is.
-use Rattle.std.specs.Prelude.{◌≡◌, ℕ, ◌^◌, ◌<◌, ◌≤◌, [], length}
+use Rattle.std.specs.Prelude.{◌≡◌, ◌^◌, ◌<◌, ◌≤◌, [], length}
 use Rattle.tp_base.specs.Ranges.{AreLimitsInRange}
 use Rattle.tp_model.specs.World.{World}
 use Rattle.plain_pool.specs.declared.PlainPool.TheInside.{Inside}
@@ -20,7 +20,7 @@ world_of a = record {
   waits = [];
   now = 0;
   given_up = 0;
-  }
+}
 
 -- the numbers that are answered fit their types
 pub record IsCountable (a : Inside) : Type 0 where

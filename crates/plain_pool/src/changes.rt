@@ -55,7 +55,11 @@ impl PlainPool {
     }
 
     /// Workers are numbered from 1.
-    pub(crate) fn with_worker(&self, number: u32, worker: WorkerRow) -> Result<PlainPool, AllocError>
+    pub(crate) fn with_worker(
+        &self,
+        number: u32,
+        worker: WorkerRow,
+    ) -> Result<PlainPool, AllocError>
         ensures { IfOk result (λ after. after ≡ with_worker self.now number worker) }
     {
         let mut after = self.copied()?;
@@ -67,7 +71,11 @@ impl PlainPool {
     }
 
     /// Clients are numbered from 1.
-    pub(crate) fn with_client(&self, number: u32, client: ClientRow) -> Result<PlainPool, AllocError>
+    pub(crate) fn with_client(
+        &self,
+        number: u32,
+        client: ClientRow,
+    ) -> Result<PlainPool, AllocError>
         ensures { IfOk result (λ after. after ≡ with_client self.now number client) }
     {
         let mut after = self.copied()?;

@@ -291,7 +291,7 @@ impl PlainPool {
         self.callbacks
             .iter()
             .copied()
-            .find(|callback| is_pending_in(callback, pool) && is_high(callback.priority))
+            .find(|row| is_pending_in(row, pool) && is_high(row.priority))
     }
 
     fn first_normal(&self, pool: PoolId) -> Option<CallbackRow>
@@ -300,7 +300,7 @@ impl PlainPool {
         self.callbacks
             .iter()
             .copied()
-            .find(|callback| is_pending_in(callback, pool) && is_normal(callback.priority))
+            .find(|row| is_pending_in(row, pool) && is_normal(row.priority))
     }
 
     fn first_low(&self, pool: PoolId) -> Option<CallbackRow>
@@ -309,7 +309,7 @@ impl PlainPool {
         self.callbacks
             .iter()
             .copied()
-            .find(|callback| is_pending_in(callback, pool) && is_low(callback.priority))
+            .find(|row| is_pending_in(row, pool) && is_low(row.priority))
     }
 
     /// The pool of least number that is in need.

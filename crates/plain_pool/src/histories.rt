@@ -14,7 +14,7 @@ use tp_base::limits::Limits;
 
 /// The outcomes of calls that are made one after another, from the opening on, in a history with
 /// room for `capacity` entries. Answers and refusals are entries, looks and calls without room are
-/// none.
+/// none. The limits are in range, as `Limits::in_range` says, and there are fewer than 2 ^ 32 calls.
 ///
 /// An `AllocError` comes where memory can't be had.
 pub fn play(

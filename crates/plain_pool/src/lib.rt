@@ -64,12 +64,11 @@ const UNATTACHED: WorkerRow = WorkerRow {
     callback: None,
 };
 
-const UNFINISHED: ClientRow = ClientRow {
-    finished: false,
-};
+const UNFINISHED: ClientRow = ClientRow { finished: false };
 
 impl PlainPool {
-    /// The machine before the first call.
+    /// The machine before the first call, with these limits, which are in range as
+    /// `Limits::in_range` says.
     ///
     /// An `AllocError` comes where its memory can't be had.
     pub fn open(alloc: Global, limits: Limits) -> Result<PlainPool, AllocError>
@@ -99,7 +98,7 @@ impl PlainPool {
     ///
     /// The outcome is the machine's. A refused call, a look and a call that the history has no room
     /// for change nothing. An `AllocError` comes where memory can't be had, and then nothing changes
-    /// either. So that the number of callbacks fits, fewer than 2 ^ 32 - 1 may have been made.
+    /// either. Fewer than 2 ^ 32 - 1 callbacks may have been made before the call.
     pub fn step(&mut self, who: Who, call: Call, room: u64) -> Result<Outcome, AllocError>
         requires { length self.old.callbacks + 1 < 2 ^ 32 }
         ensures told { IfOk result (λ outcome. outcome ≡ outcome_of (step self.old room who call)) }

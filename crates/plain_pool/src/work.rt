@@ -59,9 +59,15 @@ impl PlainPool {
         ensures { result ≡ first_refusal (submit_work_refusals self.now who object.0) }
     {
         first_refusal(&[
-            (!self.is_actor(who) || !self.is_object(object), Refusal::NoSuch),
+            (
+                !self.is_actor(who) || !self.is_object(object),
+                Refusal::NoSuch,
+            ),
             (!self.is_work_object(object), Refusal::WrongKind),
-            (self.is_finished(who) || self.is_released(object), Refusal::Released),
+            (
+                self.is_finished(who) || self.is_released(object),
+                Refusal::Released,
+            ),
             (self.is_without_callback(who), Refusal::NotRunning),
             (self.is_in_wait(who), Refusal::InWait),
             (self.lacks_slots_for(1), Refusal::CallbackLimit),

@@ -8,5 +8,5 @@ pub returns-in-Accepted-clause-at_most_one_made : goal.returns-in-Accepted-claus
 returns-in-Accepted-clause-at_most_one_made c =
     let w = c.args.self.now in
     let is : Accepted c.in-Accepted.answer c.in-Accepted.after ≡ step w c.args.room c.args.who c.args.call =
-          c.in-Accepted.ensures ∙ ap (within w c.args.room) c.in_ok-came.ensures in
+    c.in-Accepted.ensures ∙ ap (within w c.args.room) c.in_ok-came.ensures in
     subst (λ (s : Step). length (world_after w s).callbacks ≤ length w.callbacks + 1) (sym is) (step_makes w c.args.room c.args.who c.args.call)

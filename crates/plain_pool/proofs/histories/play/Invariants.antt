@@ -7,4 +7,4 @@ invariant-loop-who l = record {
   told : l.outcomes.items ++ play_from l.pool l.capacity l.entries (drop l.who-index l.calls) ≡ play l.fn.limits l.capacity l.calls;
   few_callbacks : length l.pool.callbacks ≤ l.who-index;
   few_entries : l.entries ≤ l.who-index;
-  }
+}
