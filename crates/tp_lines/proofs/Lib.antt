@@ -7,5 +7,6 @@ pub mod FormFacts
 pub mod RefusalFacts
 pub mod ResultFacts
 pub mod RowFacts
+pub mod ShapeFacts
 pub mod WhoFacts
 pub mod WordRows
