@@ -94,20 +94,20 @@ pub refusal_endings_stuck : (text : List ℕ) (k : ℕ) → IsStuck RefusalTexts
 refusal_endings_stuck text k stuck = stuck_renamed RefusalTexts RefusalEndings (λ end t h. let b = refusal_ending_back end t h in (b.0, b.1)) text k (λ x t q. (ending.Refusal x, q)) stuck
 
 -- an ending is a result's, a refusal's or none
-pub ending_short : (bound : ℕ) → ((x : TakeResult) (t : List ℕ) → ResultTexts x t → length t ≤ bound) → ((x : Refusal) (t : List ℕ) → RefusalTexts x t → length t ≤ bound)
-    → (w : Word) (end : Ending) (t : List ℕ) → Endings w end t → length t ≤ bound
-ending_short bound by_result by_refusal w end t h = by_word w h
+pub ending_holds : (P : List ℕ → Type 0) → P [] → ((x : TakeResult) (t : List ℕ) → ResultTexts x t → P t) → ((x : Refusal) (t : List ℕ) → RefusalTexts x t → P t)
+    → (w : Word) (end : Ending) (t : List ℕ) → Endings w end t → P t
+ending_holds P nothing by_result by_refusal w end t h = by_word w h
     where
-    for_result : ResultEndings end t → length t ≤ bound
+    for_result : ResultEndings end t → P t
     for_result h = let b = result_ending_back end t h in by_result b.0 t b.1
 
-    for_refusal : RefusalEndings end t → length t ≤ bound
+    for_refusal : RefusalEndings end t → P t
     for_refusal h = let b = refusal_ending_back end t h in by_refusal b.0 t b.1
 
-    for_none : NoEndings end t → length t ≤ bound
-    for_none h = let b = no_endings_back end t h in omega (arith, ap length b.1)
+    for_none : NoEndings end t → P t
+    for_none h = let b = no_endings_back end t h in subst P (sym b.1) nothing
 
-    by_word : (w : Word) → Endings w end t → length t ≤ bound
+    by_word : (w : Word) → Endings w end t → P t
     by_word word.Create h = for_none h
     by_word word.Submit h = for_none h
     by_word word.Attach h = for_none h

@@ -1,6 +1,7 @@
 //! Reading of whole lines.
 
-ghost use Rattle.std.specs.Prelude.{◌≡◌, ◌<◌, ◌+◌, ◌^◌, ℕ, IfErr, IfOk};
+ghost use Rattle.std.specs.Prelude.{◌≡◌, ◌<◌, ◌+◌, ◌^◌, ℕ, List, IfErr, IfOk, IsTrue};
+ghost use Rattle.line_grammar.specs.Words.{lacks};
 ghost use Rattle.tp_base.specs.declared.answers.Entry.{Entry};
 ghost use Rattle.tp_base.specs.declared.calls.Call.{Call};
 ghost use Rattle.tp_base.specs.declared.ids.Who.{Who};
@@ -69,6 +70,13 @@ pub fn parse_entry(text: &[u8]) -> Result<Entry, LineFault>
         }
         Err(place) => Err(fault_at(text, place)),
     }
+}
+
+/// No line feed stands in a line, so the lines of a text are those between its line feeds.
+pub fn lines_hold_no_feed()
+    ensures calls { (text : List ℕ) → IsLine text → IsTrue (lacks 10 text) }
+    ensures entries { (text : List ℕ) → IsEntry text → IsTrue (lacks 10 text) }
+{
 }
 
 // The fault of a text that goes along with a line up to the place.
