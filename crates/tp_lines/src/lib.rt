@@ -15,3 +15,6 @@ pub mod print;
 pub mod rows;
 pub mod shapes;
 pub mod values;
+
+#[cfg(test)]
+mod tests;
