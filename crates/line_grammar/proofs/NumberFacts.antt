@@ -1,13 +1,15 @@
 -- Fronts of decimal numbers.
-use Rattle.std.proofs.Common.{◌≡◌, ℕ, suc, ◌+◌, ◌-◌, ◌*◌, ◌/◌, ◌%◌, ◌^◌, ◌<◌, ◌≤◌, List, [], ◌∷◌, ◌++◌, length, take, drop, get_or, refl, sym, ap, ◌∙◌, subst, arith, length-drop, ◌⊎◌, inl, inr}
+use Rattle.std.proofs.Common.{◌≡◌, ℕ, suc, ◌+◌, ◌-◌, ◌*◌, ◌/◌, ◌%◌, ◌^◌, ◌<◌, ◌≤◌, List, [], ◌∷◌, ◌++◌, length, take, drop, get_or, refl, sym, ap, ◌∙◌, subst, arith, length-drop, ◌⊎◌, inl, inr, IsTrue}
 use Rattle.std.proofs.lemmas.List.{append-nil, append_assoc, length-append, drop_more, take_more}
 use Rattle.std.proofs.lemmas.Fmt.{decimal_step, decimal_by_steps, decimal_digit, decimal_nonempty, decimal_injective}
 use Rattle.std.specs.Prelude.{decimal}
 use Rattle.line_grammar.specs.Language.{Begins, Stops, Reaches, AnyOf, IsReadTo, IsStuck, IsRead}
 use Rattle.line_grammar.specs.Numbers.{IsNumber, Numbers, IsLonger}
 use Rattle.line_grammar.specs.Parts.{IsPart}
+use Rattle.line_grammar.specs.Words.{lacks}
 use Rattle.line_grammar.proofs.Cuts.{Cut, cut, further, nearer, same}
 use Rattle.line_grammar.proofs.Pairs.{one_then}
+use Rattle.line_grammar.proofs.WordFacts.{lacks_push}
 
 -- what is known of the first byte of a number's text
 record StartsAs (n b : ℕ) : Type 0 where
@@ -185,3 +187,19 @@ numbers_part least most separator bound low = record {
 
 pub some_number : (least most : ℕ) → least ≤ most → AnyOf (Numbers least most) (decimal least)
 some_number least most room = (least, record { at_least = omega arith; at_most = room; split = refl })
+
+-- digits alone stand in a number
+DigitsLack : ℕ → ℕ → List ℕ → Type 0
+DigitsLack separator n ds = IsTrue (lacks separator ds)
+
+lack_one : (separator : ℕ) → separator < 48 → (n : ℕ) → n < 10 → DigitsLack separator n ((48 + n) ∷ [])
+unfolding DigitsLack
+lack_one separator low n small = lacks_push separator (48 + n) [] refl (λ e. omega arith)
+
+lack_more : (separator : ℕ) → separator < 48 → (n : ℕ) (ds : List ℕ) → 10 ≤ n → DigitsLack separator (n / 10) ds → DigitsLack separator n (ds ++ ((48 + n % 10) ∷ []))
+unfolding DigitsLack
+lack_more separator low n ds large h = lacks_push separator (48 + n % 10) ds h (λ e. omega arith)
+
+pub decimal_lacks : (separator : ℕ) → separator < 48 → (n : ℕ) → n < 2 ^ 64 → IsTrue (lacks separator (decimal n))
+unfolding DigitsLack
+decimal_lacks separator low n bound = decimal_by_steps (DigitsLack separator) (lack_one separator low) (lack_more separator low) n bound

@@ -153,6 +153,12 @@ lacks_push separator x (y ∷ text) h apart =
     let old = lacks_cons separator y text (nat_eq y separator) refl h in
     lacks_all separator y (text ++ x ∷ []) (nat_eq y separator) refl old.0 (lacks_push separator x text old.1 apart)
 
+pub lacks_append : (separator : ℕ) (text more : List ℕ) → IsTrue (lacks separator text) → IsTrue (lacks separator more) → IsTrue (lacks separator (text ++ more))
+lacks_append separator [] more h k = k
+lacks_append separator (x ∷ text) more h k =
+    let old = lacks_cons separator x text (nat_eq x separator) refl h in
+    lacks_all separator x (text ++ more) (nat_eq x separator) refl old.0 (lacks_append separator text more old.1 k)
+
 pub lacks_next : (separator : ℕ) (text : List ℕ) (i : ℕ) → i < length text → IsTrue (lacks separator (take i text)) → (get_or text i 0 ≡ separator → ⊥) → IsTrue (lacks separator (take (i + 1) text))
 lacks_next separator text i inside h apart = subst (λ t. IsTrue (lacks separator t)) (sym (take_more text i 0 inside)) (lacks_push separator (get_or text i 0) (take i text) h apart)
 

@@ -16,7 +16,7 @@ use Rattle.tp_lines.specs.declared.values.Value.{Value}
 use Rattle.tp_lines.specs.declared.values.Value.TheVariants.{Nothing}
 use Rattle.tp_lines.specs.Fields.{Tails}
 use Rattle.tp_lines.specs.Rows.{IsListed, IsShapeText, ShapeTexts, Rows, has_word, are_apart}
-use Rattle.tp_lines.specs.Shapes.{text_of_word}
+use Rattle.tp_lines.specs.Shapes.{AreDistinct, text_of_word}
 use Rattle.tp_lines.proofs.FieldFacts.{tails_tail, tails_part}
 
 pub listed_at : (shapes : List Shape) (i : ℕ) (d : Shape) → i < length shapes → IsListed shapes (get_or shapes i d)
@@ -217,3 +217,13 @@ first_shape shapes d some word e text r read =
     let one : take 1 shapes ≡ get_or shapes 0 d ∷ [] = take_more shapes 0 d some in
     subst (λ l. IsRead (ShapeTexts l) text r) (sym one)
     (one_shape shapes (get_or shapes 0 d) text r (subst (λ w. IsRead (Word (get_or shapes 0 d) w) text r) e read))
+
+-- shapes whose words are apart are distinct
+pub distinct : (shapes : List Shape) → IsTrue (are_apart shapes) → AreDistinct shapes
+distinct [] apart i j d order inside = let no_such : ⊥ = omega arith in absurd no_such
+distinct (s ∷ shapes) apart zero zero d order inside = let no_such : ⊥ = omega arith in absurd no_such
+distinct (s ∷ shapes) apart zero (suc j) d order inside = λ words counts.
+    no_word (text_of_word s.word) shapes (apart_cons s shapes (has_word (text_of_word s.word) shapes) refl apart).0 (get_or shapes j d) (listed_at shapes j d (omega arith)) (ap text_of_word words)
+distinct (s ∷ shapes) apart (suc i) zero d order inside = let no_such : ⊥ = omega arith in absurd no_such
+distinct (s ∷ shapes) apart (suc i) (suc j) d order inside =
+    distinct shapes (apart_cons s shapes (has_word (text_of_word s.word) shapes) refl apart).1 i j d (omega arith) (omega arith)

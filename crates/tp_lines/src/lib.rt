@@ -6,10 +6,15 @@
 
 #![tactic(auto)]
 
+pub mod answers;
 pub mod calls;
+pub mod entries;
 pub mod fields;
 pub mod parse;
 pub mod print;
 pub mod rows;
 pub mod shapes;
 pub mod values;
+
+#[cfg(test)]
+mod tests;

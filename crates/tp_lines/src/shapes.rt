@@ -1,7 +1,8 @@
 //! The shapes of lines: a word, and the fields behind it.
 
-ghost use Rattle.std.specs.Prelude.{◌≡◌};
-ghost use Rattle.tp_lines.specs.Shapes.{text_of_word};
+ghost use Rattle.std.specs.Prelude.{◌≡◌, ◌<◌, ◌↔◌, ℕ, IsTrue, length, slice_index_or};
+ghost use Rattle.tp_lines.specs.declared.shapes.Shape.{Shape};
+ghost use Rattle.tp_lines.specs.Shapes.{AreApart, AreDistinct, field_count, text_of_word, used};
 
 /// The word that a line's shape begins with: a call, an answer, with what a callback is called, or why a
 /// call was refused.
@@ -127,6 +128,71 @@ pub struct Shape {
 #[derive(Clone, Copy)]
 pub struct Table<const N: usize> {
     pub shapes: [Shape; N],
+}
+
+impl<const N: usize> Table<N> {
+    /// Whether no two shapes have the same word and the same number of fields.
+    pub fn is_distinct(&self) -> bool
+        ensures { IsTrue result ↔ AreDistinct self.now.shapes }
+    {
+        are_distinct(&self.shapes)
+    }
+}
+
+/// No two shapes of one table have the same word and the same number of fields.
+pub fn tables_are_distinct()
+    ensures calls { AreDistinct CALLS.shapes }
+    ensures answers { AreDistinct ANSWERS.shapes }
+    ensures results { AreDistinct RESULTS.shapes }
+    ensures refusals { AreDistinct REFUSALS.shapes }
+{
+}
+
+fn are_distinct(shapes: &[Shape]) -> bool
+    ensures { IsTrue result ↔ AreDistinct shapes.now }
+{
+    for index in 0..shapes.len() {
+        if !is_new(shapes, index) {
+            return false;
+        }
+    }
+    true
+}
+
+// Whether the shape at the index is apart from each before it.
+fn is_new(shapes: &[Shape], index: usize) -> bool
+    requires { index < length shapes.now }
+    ensures { IsTrue result ↔ ((k : ℕ) (d : Shape) → k < index →
+        AreApart (slice_index_or shapes.now k d) (slice_index_or shapes.now index d)) }
+{
+    for earlier in 0..index {
+        if !is_apart(&shapes[earlier], &shapes[index]) {
+            return false;
+        }
+    }
+    true
+}
+
+fn is_apart(one: &Shape, other: &Shape) -> bool
+    ensures { IsTrue result ↔ AreApart one.now other.now }
+{
+    if one.word == other.word { field_count(one) != field_count(other) } else { true }
+}
+
+// How many fields are used.
+fn field_count(shape: &Shape) -> usize
+    ensures { result ≡ field_count shape.now }
+{
+    shape.fields.iter().filter(|field| is_used(**field)).count()
+}
+
+fn is_used(field: Field) -> bool
+    ensures { result ≡ used field }
+{
+    match field {
+        Field::Nothing => false,
+        _ => true,
+    }
 }
 
 // Up to eight fields; the others are unused.
