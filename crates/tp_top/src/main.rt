@@ -1,0 +1,8 @@
+//! The program tpool.
+
+#![tactic(auto)]
+
+mod command;
+mod words;
+
+fn main() {}
