@@ -3,6 +3,7 @@
 #![tactic(auto)]
 
 mod command;
+mod reading;
 mod words;
 
 fn main() {}
