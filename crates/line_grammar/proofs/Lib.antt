@@ -2,4 +2,5 @@ pub mod Cuts
 pub mod NumberFacts
 pub mod Pairs
 pub mod Readings
+pub mod TraceFacts
 pub mod WordFacts

@@ -1,6 +1,7 @@
 -- Readings of a whole text, behind a first element, and of other names for the values.
 use Rattle.std.proofs.Common.{◌≡◌, ℕ, suc, ◌+◌, ◌-◌, ◌<◌, ◌≤◌, List, [], ◌∷◌, ◌++◌, length, take, drop, refl, sym, ap, ◌∙◌, subst, arith, length-drop, add-one, one-add}
 use Rattle.std.proofs.lemmas.List.{append-nil, append_assoc, take-append-drop, take_all, drop_all}
+use Rattle.std.specs.Prelude.{Result, Ok, Err}
 use Rattle.line_grammar.specs.Language.{Begins, Stops, Reaches, AnyOf, IsReadTo, IsStuck, IsRead, IsFault, IsParsed, IsWhole}
 use Rattle.line_grammar.specs.Parts.{IsLed, Led, Opens, IsPart, IsTail}
 
@@ -59,6 +60,24 @@ module _ {V U A : Type 0} (W : V → List A → Type 0) (N : U → List A → Ty
         stops = stops_renamed (take k text) (drop k text) stuck.reaches.stops;
       };
     }
+
+-- the same language in other words
+pub read_same : {V A : Type 0} (W N : V → List A → Type 0) → ((v : V) (t : List A) → W v t → N v t) → ((v : V) (t : List A) → N v t → W v t)
+    → (text : List A) (r : Result (V × ℕ) ℕ) → IsRead W text r → IsRead N text r
+read_same W N to back text (Ok (v, n)) read = read_renamed W N (λ u t q. (u, back u t q)) text v v n (to v) read
+read_same W N to back text (Err k) stuck = stuck_renamed W N (λ u t q. (u, back u t q)) text k (λ v t w. (v, to v t w)) stuck
+
+-- a part in other words: each text has the value that `name` gives the value of W
+pub part_renamed : {V U A : Type 0} (separator : A) (W : V → List A → Type 0) (N : U → List A → Type 0) (name : V → U)
+    → ((u : U) (t : List A) → N u t → (v : V) × (W v t) × (u ≡ name v)) → IsPart separator W → IsPart separator N
+part_renamed separator W N name back part = record {
+    unique = λ u w text a b.
+        let x = back u text a in let y = back w text b in
+        x.2 ∙ ap name (part.unique x.0 y.0 text x.1 y.1) ∙ sym y.2;
+    apart = λ u w text more a b.
+        let x = back u text a in let y = back w (text ++ separator ∷ more) b in
+        part.apart x.0 y.0 text more x.1 y.1;
+  }
 
 -- behind a first element
 module _ {V A : Type 0} (first : A) (W : V → List A → Type 0) where

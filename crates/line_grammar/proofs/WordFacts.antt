@@ -1,9 +1,10 @@
 -- Words and choices.
 use Rattle.std.proofs.Common.{◌≡◌, ◌≢◌, ℕ, suc, ◌+◌, ◌-◌, ◌<◌, ◌≤◌, List, [], ◌∷◌, ◌++◌, length, take, drop, get_or, refl, sym, ap, ◌∙◌, subst, arith, length-drop, ◌⊎◌, inl, inr, Bool, true, false, cond, nat_eq, IsTrue}
-use Rattle.std.proofs.lemmas.Bool.{ltb-true, ltb-false, cases_eq, eqb-false}
-use Rattle.std.proofs.lemmas.List.{append-nil, append_assoc, length-append, length-take-le, take-append-drop, get_or-drop, get_or_at, drop-drop, take_all, drop_all}
+use Rattle.std.proofs.lemmas.Bool.{ltb-true, ltb-false, cases_eq, eqb-false, eqb-true}
+use Rattle.std.proofs.lemmas.List.{append-nil, append_assoc, length-append, length-take-le, take-append-drop, get_or-drop, get_or_at, drop-drop, take_more}
 use Rattle.std.proofs.Math.Seq.{take-add}
-use Rattle.std.specs.Prelude.{Result, Ok, Err, nat_lt, if◌then◌else◌}
+use Rattle.std.proofs.lemmas.Slice.Eq.{bytes_eq-Decides}
+use Rattle.std.specs.Prelude.{bytes_eq, Result, Ok, Err, nat_lt, if◌then◌else◌}
 use Rattle.line_grammar.specs.Language.{Begins, Stops, Reaches, AnyOf, IsReadTo, IsStuck, IsRead}
 use Rattle.line_grammar.specs.Words.{IsWord, Word, Either, further_of, lacks}
 use Rattle.line_grammar.specs.Parts.{IsPart}
@@ -30,6 +31,10 @@ word_stuck meaning word text k more within shared apart = record {
       stops = word_stops meaning word text k within apart (drop k text) refl;
     };
   }
+
+-- texts that a test tells apart
+pub differ : (a b : List ℕ) → bytes_eq a b ≡ false → a ≡ b → ⊥
+differ a b test e = let same : bytes_eq a b ≡ true = (bytes_eq-Decides a b).1 e in let no_such : ⊥ = cc in no_such
 
 -- where a language stops, it stops further on too
 module _ {A : Type 0} (L : List A → Type 0) where
@@ -125,6 +130,9 @@ module _ {V A : Type 0} (P Q : V → List A → Type 0) where
   either_read t (Err k) (Ok (w, m)) p q = right_read t w m k p q (nat_lt m k) refl
   either_read t (Err j) (Err k) p q = neither_read t j k p q (nat_lt j k) refl
 
+  pub further_read : (t : List A) (r s z : Result (V × ℕ) ℕ) → z ≡ further_of r s → IsRead P t r → IsRead Q t s → IsRead (Either P Q) t z
+  further_read t r s z e p q = subst (λ x. IsRead (Either P Q) t x) (sym e) (either_read t r s p q)
+
 -- a text in which the separator doesn't stand
 lacks_cons : (separator x : ℕ) (text : List ℕ) (b : Bool) → nat_eq x separator ≡ b → (if b then false else lacks separator text) ≡ true → (x ≡ separator → ⊥) × IsTrue (lacks separator text)
 lacks_cons separator x text true e h = let no_such : ⊥ = cc in absurd no_such
@@ -133,6 +141,20 @@ lacks_cons separator x text false e h = (eqb-false x separator e, h)
 pub lacks_apart : (separator : ℕ) (text more : List ℕ) → IsTrue (lacks separator (text ++ separator ∷ more)) → ⊥
 lacks_apart separator [] more h = (lacks_cons separator separator more (nat_eq separator separator) refl h).0 refl
 lacks_apart separator (x ∷ text) more h = lacks_apart separator text more (lacks_cons separator x (text ++ separator ∷ more) (nat_eq x separator) refl h).1
+
+-- one more element
+lacks_all : (separator x : ℕ) (text : List ℕ) (b : Bool) → nat_eq x separator ≡ b → (x ≡ separator → ⊥) → IsTrue (lacks separator text) → IsTrue (if b then false else lacks separator text)
+lacks_all separator x text true e apart h = absurd (apart (eqb-true x separator e))
+lacks_all separator x text false e apart h = h
+
+pub lacks_push : (separator x : ℕ) (text : List ℕ) → IsTrue (lacks separator text) → (x ≡ separator → ⊥) → IsTrue (lacks separator (text ++ x ∷ []))
+lacks_push separator x [] h apart = lacks_all separator x [] (nat_eq x separator) refl apart refl
+lacks_push separator x (y ∷ text) h apart =
+    let old = lacks_cons separator y text (nat_eq y separator) refl h in
+    lacks_all separator y (text ++ x ∷ []) (nat_eq y separator) refl old.0 (lacks_push separator x text old.1 apart)
+
+pub lacks_next : (separator : ℕ) (text : List ℕ) (i : ℕ) → i < length text → IsTrue (lacks separator (take i text)) → (get_or text i 0 ≡ separator → ⊥) → IsTrue (lacks separator (take (i + 1) text))
+lacks_next separator text i inside h apart = subst (λ t. IsTrue (lacks separator t)) (sym (take_more text i 0 inside)) (lacks_push separator (get_or text i 0) (take i text) h apart)
 
 -- a language in whose texts the separator doesn't stand
 pub lacking_part : {V : Type 0} (separator : ℕ) (P : V → List ℕ → Type 0) → ((v w : V) (text : List ℕ) → P v text → P w text → v ≡ w)

@@ -1,1 +1,35 @@
+-- Texts of many lines, each ended by a line feed, and the place of the first fault in one.
+--
+-- The lines are those of any language in whose texts no line feed stands.
+use Rattle.std.specs.Prelude.{◌≡◌, ◌≢◌, ℕ, ◌+◌, List, [], ◌∷◌, ◌++◌, length, All}
+use Rattle.line_grammar.specs.Language.{Reaches}
 
+-- a line and its line feed
+pub record EndedLine (L : List ℕ → Type 0) (text : List ℕ) : Type 0 where
+  pub line : List ℕ
+  pub is_line : L line
+  pub split : text ≡ line ++ 10 ∷ []
+
+-- the lines one after another, each with its line feed
+abbrev pub trace_text : List (List ℕ) → List ℕ
+trace_text [] = []
+trace_text (line ∷ lines) = line ++ 10 ∷ trace_text lines
+
+-- the bytes are lines of the language, each ended
+pub record IsTrace (L : List ℕ → Type 0) (bytes : List ℕ) (lines : List (List ℕ)) : Type 0 where
+  pub each : All L lines
+  pub split : bytes ≡ trace_text lines
+
+-- the first fault of bytes that are no such lines: behind some lines something is left, which goes along
+-- with an ended line for as long as `front` and is none
+pub record IsTraceFault (L : List ℕ → Type 0) (bytes : List ℕ) (line column : ℕ) : Type 0 where
+  pub lines : List (List ℕ)
+  pub front : List ℕ
+  pub back : List ℕ
+  pub each : All L lines
+  pub split : bytes ≡ trace_text lines ++ (front ++ back)
+  pub left : front ++ back ≢ []
+  pub open_line : EndedLine L front → ⊥
+  pub reaches : Reaches (EndedLine L) front back
+  pub line_of : line ≡ length lines + 1
+  pub column_of : column ≡ length front + 1

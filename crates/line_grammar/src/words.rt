@@ -1,8 +1,9 @@
 //! Words, and choices among what was read.
 
-ghost use Rattle.std.specs.Prelude.{◌≡◌, ◌≢◌, ◌<◌, ◌≤◌, ℕ, List, ◌∷◌, MatchOption, length, take, slice_index};
+ghost use Rattle.std.specs.Prelude.{◌≡◌, ◌≢◌, ◌<◌, ◌≤◌, ℕ, List, ◌∷◌, IsTrue, MatchOption, drop, length, take, slice_index};
 ghost use Rattle.line_grammar.specs.Language.{IsRead};
-ghost use Rattle.line_grammar.specs.Words.{Word, further_of};
+ghost use Rattle.line_grammar.specs.Parts.{Opens};
+ghost use Rattle.line_grammar.specs.Words.{Word, further_of, lacks};
 
 /// Reads the word at the front of the text, which then stands for `meaning`.
 pub fn read_word<V: Copy>(meaning: V, word: &str, text: &[u8]) -> Result<(V, usize), usize>
@@ -53,4 +54,18 @@ pub fn behind(first: u8, text: &[u8]) -> Option<&[u8]>
         [byte, rest @ ..] if *byte == first => Some(rest),
         _ => None,
     }
+}
+
+/// How many bytes the text has before the first separator, or in all.
+pub fn size_before(separator: u8, text: &[u8]) -> usize
+    ensures within { result ≤ length text.now }
+    ensures lacking { IsTrue (lacks separator (take result text.now)) }
+    ensures ended { Opens separator (drop result text.now) }
+{
+    for (index, byte) in text.iter().enumerate() {
+        if *byte == separator {
+            return index;
+        }
+    }
+    text.len()
 }

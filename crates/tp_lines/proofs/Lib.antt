@@ -1,1 +1,6 @@
-pub mod Joins
+pub mod Bounds
+pub mod CallFacts
+pub mod FieldFacts
+pub mod FormFacts
+pub mod RowFacts
+pub mod WhoFacts

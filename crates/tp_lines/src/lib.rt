@@ -6,4 +6,10 @@
 
 #![tactic(auto)]
 
+pub mod calls;
+pub mod fields;
+pub mod parse;
 pub mod print;
+pub mod rows;
+pub mod shapes;
+pub mod values;

@@ -1,0 +1,139 @@
+-- Actors, and the lines of calls.
+use Rattle.std.proofs.Common.{◌≡◌, ℕ, ◌+◌, ◌<◌, ◌≤◌, List, [], ◌∷◌, ◌++◌, length, take, drop, refl, sym, ap, ◌∙◌, subst, arith, ◌⊎◌, inl, inr}
+use Rattle.std.specs.Prelude.{Result, Ok, Err, decimal}
+use Rattle.std.proofs.lemmas.List.{append-nil, append_assoc}
+use Rattle.line_grammar.specs.Language.{AnyOf, IsRead, IsReadTo, IsStuck}
+use Rattle.line_grammar.specs.Numbers.{IsNumber, Numbers}
+use Rattle.line_grammar.specs.Parts.{IsLed, Led, IsPair, Pairs, Opens, IsPart, IsTail}
+use Rattle.line_grammar.specs.Words.{Either, further_of}
+use Rattle.line_grammar.proofs.NumberFacts.{numbers_part}
+use Rattle.line_grammar.proofs.Pairs.{pairs_read, pairs_stuck_first, pairs_stuck_second, pairs_part}
+use Rattle.line_grammar.proofs.Readings.{read_same, part_renamed, read_renamed, stuck_renamed, led_part}
+use Rattle.line_grammar.proofs.WordFacts.{further_read}
+use Rattle.tp_base.specs.declared.calls.Call.{Call}
+use Rattle.tp_base.specs.declared.calls.Call.TheVariants as call
+use Rattle.tp_base.specs.declared.ids.Who.{Who}
+use Rattle.tp_base.specs.declared.ids.Who.TheVariants.{Client, Worker}
+use Rattle.tp_lines.specs.Calls.{IsCallLine, CallLines, IsReadable, IsWhoInRange, line_of_call, words_of_call}
+use Rattle.tp_lines.specs.CallRows.{IsCallText, CallTexts, IsWhoText, WhoTexts, IsClientText, ClientTexts, IsWorkerText, WorkerTexts}
+use Rattle.tp_lines.specs.Words.{joined, text_of_who}
+use Rattle.tp_lines.proofs.CallFacts.{calls_part, calls_tail}
+
+client_back : (who : Who) (t : List ℕ) → ClientTexts who t → AnyOf (Led 99 (Numbers 1 16)) t
+client_back who t a = (a.number, record { rest = decimal a.number; split = a.split; behind = record { at_least = a.at_least; at_most = a.at_most; split = refl } })
+
+client_to : (n : ℕ) (t : List ℕ) → Led 99 (Numbers 1 16) n t → ClientTexts (Client n) t
+client_to n t l = record { number = n; is = refl; at_least = l.behind.at_least; at_most = l.behind.at_most; split = l.split ∙ ap (λ r. 99 ∷ r) l.behind.split }
+
+pub client_stuck : (text : List ℕ) (place : ℕ) → IsStuck (Led 99 (Numbers 1 16)) text place → IsStuck ClientTexts text place
+client_stuck text place stuck = stuck_renamed (Led 99 (Numbers 1 16)) ClientTexts client_back text place (λ n t l. (Client n, client_to n t l)) stuck
+
+worker_back : (who : Who) (t : List ℕ) → WorkerTexts who t → AnyOf (Led 119 (Numbers 1 64)) t
+worker_back who t a = (a.number, record { rest = decimal a.number; split = a.split; behind = record { at_least = a.at_least; at_most = a.at_most; split = refl } })
+
+worker_to : (n : ℕ) (t : List ℕ) → Led 119 (Numbers 1 64) n t → WorkerTexts (Worker n) t
+worker_to n t l = record { number = n; is = refl; at_least = l.behind.at_least; at_most = l.behind.at_most; split = l.split ∙ ap (λ r. 119 ∷ r) l.behind.split }
+
+pub worker_stuck : (text : List ℕ) (place : ℕ) → IsStuck (Led 119 (Numbers 1 64)) text place → IsStuck WorkerTexts text place
+worker_stuck text place stuck = stuck_renamed (Led 119 (Numbers 1 64)) WorkerTexts worker_back text place (λ n t l. (Worker n, worker_to n t l)) stuck
+
+-- both
+who_to : (who : Who) (t : List ℕ) → Either ClientTexts WorkerTexts who t → WhoTexts who t
+who_to who t (inl a) = subst (λ w. IsWhoText w t) (sym a.is) (record { in_range = (a.at_least, a.at_most); split = a.split })
+who_to who t (inr a) = subst (λ w. IsWhoText w t) (sym a.is) (record { in_range = (a.at_least, a.at_most); split = a.split })
+
+who_back : (who : Who) (t : List ℕ) → WhoTexts who t → Either ClientTexts WorkerTexts who t
+who_back (Client n) t a = inl (record { number = n; is = refl; at_least = a.in_range.0; at_most = a.in_range.1; split = a.split })
+who_back (Worker n) t a = inr (record { number = n; is = refl; at_least = a.in_range.0; at_most = a.in_range.1; split = a.split })
+
+pub who_read : (text : List ℕ) (r q z : Result (Who × ℕ) ℕ) → z ≡ further_of r q → IsRead ClientTexts text r → IsRead WorkerTexts text q → IsRead WhoTexts text z
+who_read text r q z e a b = read_same (Either ClientTexts WorkerTexts) WhoTexts who_to who_back text z (further_read ClientTexts WorkerTexts text r q z e a b)
+
+-- actors are parts
+client_part : IsPart 32 (Led 99 (Numbers 1 16))
+client_part = led_part 99 (Numbers 1 16) 32 (numbers_part 1 16 32 (omega arith) (omega arith))
+
+worker_part : IsPart 32 (Led 119 (Numbers 1 64))
+worker_part = led_part 119 (Numbers 1 64) 32 (numbers_part 1 64 32 (omega arith) (omega arith))
+
+client_led : (n : ℕ) (t : List ℕ) → WhoTexts (Client n) t → Led 99 (Numbers 1 16) n t
+client_led n t a = record { rest = decimal n; split = a.split; behind = record { at_least = a.in_range.0; at_most = a.in_range.1; split = refl } }
+
+worker_led : (n : ℕ) (t : List ℕ) → WhoTexts (Worker n) t → Led 119 (Numbers 1 64) n t
+worker_led n t a = record { rest = decimal n; split = a.split; behind = record { at_least = a.in_range.0; at_most = a.in_range.1; split = refl } }
+
+head_of : List ℕ → ℕ
+head_of [] = 0
+head_of (x ∷ t) = x
+
+letters_differ : (t more a b : List ℕ) → t ≡ 99 ∷ a → t ++ more ≡ 119 ∷ b → ⊥
+unfolding head_of
+letters_differ t more a b e f = let whole : 99 ∷ (a ++ more) ≡ 119 ∷ b = sym (ap (λ l. l ++ more) e) ∙ f in omega (arith, ap (λ l. head_of l) whole)
+
+letters_differ_too : (t more a b : List ℕ) → t ≡ 119 ∷ a → t ++ more ≡ 99 ∷ b → ⊥
+unfolding head_of
+letters_differ_too t more a b e f = let whole : 119 ∷ (a ++ more) ≡ 99 ∷ b = sym (ap (λ l. l ++ more) e) ∙ f in omega (arith, ap (λ l. head_of l) whole)
+
+who_unique : (v w : Who) (t : List ℕ) → WhoTexts v t → WhoTexts w t → v ≡ w
+who_unique (Client n) (Client m) t a b = ap (λ x. Client x) (client_part.unique n m t (client_led n t a) (client_led m t b))
+who_unique (Client n) (Worker m) t a b = absurd (letters_differ t [] (decimal n) (decimal m) a.split (append-nil t ∙ b.split))
+who_unique (Worker n) (Client m) t a b = absurd (letters_differ t [] (decimal m) (decimal n) b.split (append-nil t ∙ a.split))
+who_unique (Worker n) (Worker m) t a b = ap (λ x. Worker x) (worker_part.unique n m t (worker_led n t a) (worker_led m t b))
+
+who_apart : (v w : Who) (t more : List ℕ) → WhoTexts v t → WhoTexts w (t ++ 32 ∷ more) → ⊥
+who_apart (Client n) (Client m) t more a b = client_part.apart n m t more (client_led n t a) (client_led m (t ++ 32 ∷ more) b)
+who_apart (Client n) (Worker m) t more a b = letters_differ t (32 ∷ more) (decimal n) (decimal m) a.split b.split
+who_apart (Worker n) (Client m) t more a b = letters_differ_too t (32 ∷ more) (decimal n) (decimal m) a.split b.split
+who_apart (Worker n) (Worker m) t more a b = worker_part.apart n m t more (worker_led n t a) (worker_led m (t ++ 32 ∷ more) b)
+
+pub who_part : IsPart 32 WhoTexts
+who_part = record { unique = who_unique; apart = who_apart }
+
+-- lines of calls
+joined_words : (who : Who) (c : Call) → text_of_who who ++ 32 ∷ joined (words_of_call c) ≡ line_of_call who c
+joined_words who (call.Create kind routine context env) = refl
+joined_words who (call.SubmitWork object) = refl
+joined_words who call.Attach = refl
+joined_words who call.Take = refl
+joined_words who call.Return = refl
+joined_words who call.Finish = refl
+
+line_to : (who : Who) (c : Call) (t : List ℕ) → IsPair WhoTexts (λ w. CallTexts) who c t → IsCallLine who c t
+line_to who c t p = record {
+    who_in_range = p.first.in_range; call_in_range = p.second.in_range; readable = p.second.readable;
+    split = p.split ∙ ap (λ l. l ++ p.back) p.first.split ∙ ap (λ l. text_of_who who ++ l) p.second.split ∙ joined_words who c;
+  }
+
+pub line_back : (who : Who) (c : Call) (t : List ℕ) → IsCallLine who c t → IsPair WhoTexts (λ w. CallTexts) who c t
+line_back who c t a = record {
+    front = text_of_who who; back = 32 ∷ joined (words_of_call c); split = a.split ∙ sym (joined_words who c);
+    first = record { in_range = a.who_in_range; split = refl };
+    second = record { in_range = a.call_in_range; readable = a.readable; split = refl };
+  }
+
+lines_to : (p : Who × Call) (t : List ℕ) → Pairs WhoTexts (λ w. CallTexts) p t → CallLines p t
+lines_to (who, c) t p = line_to who c t p
+
+lines_back : (p : Who × Call) (t : List ℕ) → CallLines p t → Pairs WhoTexts (λ w. CallTexts) p t
+lines_back (who, c) t a = line_back who c t a
+
+pub line_stuck_first : (text : List ℕ) (k : ℕ) → IsStuck WhoTexts text k → IsStuck CallLines text k
+line_stuck_first text k stuck =
+    read_same (Pairs WhoTexts (λ w. CallTexts)) CallLines lines_to lines_back text (Err k)
+    (pairs_stuck_first 32 WhoTexts (λ w. CallTexts) who_part (λ w. calls_tail) text k stuck)
+
+pub line_stuck_second : (text : List ℕ) (who : Who) (n : ℕ) → IsReadTo WhoTexts text who n → (rest : List ℕ) → rest ≡ drop n text
+    → (k : ℕ) → IsStuck CallTexts rest k → IsStuck CallLines text (n + k)
+line_stuck_second text who n first rest e k stuck =
+    read_same (Pairs WhoTexts (λ w. CallTexts)) CallLines lines_to lines_back text (Err (n + k))
+    (pairs_stuck_second 32 WhoTexts (λ w. CallTexts) who_part (λ w. calls_tail) text who n first k (subst (λ l. IsStuck CallTexts l k) e stuck))
+
+pub line_read : (text : List ℕ) (who : Who) (n : ℕ) → IsReadTo WhoTexts text who n → (rest : List ℕ) → rest ≡ drop n text
+    → (c : Call) (m : ℕ) → IsReadTo CallTexts rest c m → IsReadTo CallLines text (who, c) (n + m)
+line_read text who n first rest e c m read =
+    read_same (Pairs WhoTexts (λ w. CallTexts)) CallLines lines_to lines_back text (Ok ((who, c), n + m))
+    (pairs_read 32 WhoTexts (λ w. CallTexts) who_part (λ w. calls_tail) text who n first c m (subst (λ l. IsReadTo CallTexts l c m) e read))
+
+pub lines_part : IsPart 32 CallLines
+lines_part = part_renamed 32 (Pairs WhoTexts (λ w. CallTexts)) CallLines (λ p. p) (λ p t a. (p, lines_back p t a, refl))
+    (pairs_part 32 WhoTexts (λ w. CallTexts) who_part (λ w. calls_tail) (λ w. calls_part))

@@ -1,0 +1,57 @@
+//! Reading of whole lines.
+
+ghost use Rattle.std.specs.Prelude.{◌≡◌, ◌<◌, ◌+◌, ◌^◌, ℕ, IfErr, IfOk};
+ghost use Rattle.tp_base.specs.declared.calls.Call.{Call};
+ghost use Rattle.tp_base.specs.declared.ids.Who.{Who};
+ghost use Rattle.tp_lines.specs.Calls.{IsCallLine};
+ghost use Rattle.tp_lines.specs.Faults.{IsAt, IsLine, IsLineFault};
+
+use tp_base::calls::Call;
+use tp_base::ids::Who;
+
+use crate::calls::read_call_line;
+
+/// Whether a faulty line may still become one.
+#[derive(Clone, Copy, Debug, PartialEq)]
+pub enum LineKind {
+    /// The text is the beginning of a line, and not all of it.
+    Unfinished,
+    /// The text goes on as no line does.
+    Unexpected,
+}
+
+/// The first place where a text isn't a line: 1 plus the length of the longest front that it shares
+/// with a line.
+#[derive(Clone, Copy, Debug, PartialEq)]
+pub struct LineFault {
+    pub column: u32,
+    pub kind: LineKind,
+}
+
+/// Reads the line of a call, without its line feed. A line has one actor and one call, whose numbers are
+/// in the ranges of the grammar. An `Err` comes exactly where the text is no such line. No memory is taken.
+pub fn parse_call(text: &[u8]) -> Result<(Who, Call), LineFault>
+    ensures ok { IfOk result (λ line. IsCallLine line.0 line.1 text.now) }
+    ensures only { (who : Who) (call : Call) → IsCallLine who call text.now → result ≡ Ok (who, call) }
+    ensures err { IfErr result (IsLineFault IsLine text.now) }
+{
+    match read_call_line(text) {
+        Ok((line, size)) => {
+            if size == text.len() {
+                Ok(line)
+            } else {
+                Err(fault_at(text, size))
+            }
+        }
+        Err(place) => Err(fault_at(text, place)),
+    }
+}
+
+// The fault of a text that goes along with a line up to the place.
+fn fault_at(text: &[u8], place: usize) -> LineFault
+    requires { place + 1 < 2 ^ 32 }
+    ensures { IsAt text.now place result }
+{
+    let kind = if place == text.len() { LineKind::Unfinished } else { LineKind::Unexpected };
+    LineFault { column: (place + 1) as u32, kind }
+}
