@@ -1,16 +1,18 @@
 //! Reading of traces.
 
 ghost use Rattle.std.specs.Prelude.{◌≡◌, ◌≢◌, ℕ, ◌+◌, ◌-◌, ◌^◌, ◌<◌, ◌≤◌, List, ◌∷◌, IfOk, IfErr, drop, length, slice_index};
-ghost use Rattle.line_grammar.specs.Language.{AnyOf, IsFault};
+ghost use Rattle.line_grammar.specs.Language.{IsFault};
 ghost use Rattle.tp_base.specs.declared.calls.Call.{Call};
 ghost use Rattle.tp_base.specs.declared.ids.Who.{Who};
-ghost use Rattle.tp_lines.specs.Calls.{CallLines, IsCallLine};
-ghost use Rattle.tp_top.specs.Reading.{IsFirstLine, IsOrNoMemory, IsPlaceIn};
-ghost use Rattle.tp_top.specs.Trace.{IsLineFault, IsTrace};
+ghost use Rattle.tp_lines.specs.Calls.{IsCallLine};
+ghost use Rattle.tp_lines.specs.Faults.{IsLine};
+ghost use Rattle.tp_top.specs.Reading.{IsFirstFault, IsFirstLine, IsOrNoMemory, IsPlaceIn};
+ghost use Rattle.tp_top.specs.Trace.{IsTraceOf};
 
 use std::alloc::{AllocError, Global};
 use tp_base::calls::Call;
 use tp_base::ids::Who;
+use tp_lines::parse::parse_call;
 
 /// Why a text was not read as a trace.
 #[derive(Clone, Copy, Debug, PartialEq, Eq)]
@@ -40,8 +42,8 @@ impl From<AllocError> for TraceFault {
 /// trace. `NoMemory` comes where memory was refused.
 pub fn read_trace(alloc: Global, bytes: &[u8]) -> Result<Vec<(Who, Call)>, TraceFault>
     requires { length bytes.now < 2 ^ 32 - 1 }
-    ensures ok { IfOk result (λ calls. IsTrace bytes.now calls.items) }
-    ensures only { (calls : List (Who × Call)) → IsTrace bytes.now calls → IsOrNoMemory result calls }
+    ensures ok { IfOk result (λ calls. IsTraceOf bytes.now calls.items) }
+    ensures only { (calls : List (Who × Call)) → IsTraceOf bytes.now calls → IsOrNoMemory result calls }
     ensures err { IfErr result (λ fault. IsPlaceIn bytes.now fault) }
 {
     let mut calls = Vec::new(alloc);
@@ -68,7 +70,7 @@ fn read_line(text: &[u8]) -> Result<((Who, Call), usize), u32>
     requires { length text.now < 2 ^ 32 - 1 }
     ensures ok { IfOk result (λ read. (read.1 ≤ length text.now) × IsFirstLine text.now read.0 read.1) }
     ensures only { (made : Who × Call) (size : ℕ) → IsFirstLine text.now made size → result ≡ Ok (made, size) }
-    ensures err { IfErr result (λ column. IsLineFault text.now column) }
+    ensures err { IfErr result (λ column. IsFirstFault text.now column) }
 {
     let size = line_size(text);
     let (line, rest) = text.split_at(size);
@@ -90,10 +92,9 @@ fn line_size(text: &[u8]) -> usize
 
 // The call whose line the text is, or the place of the text's fault, counted from 0.
 fn read_call(text: &[u8]) -> Result<(Who, Call), u32>
-    requires { length text.now < 2 ^ 32 - 1 }
     ensures ok { IfOk result (λ made. IsCallLine made.0 made.1 text.now) }
     ensures only { (who : Who) (call : Call) → IsCallLine who call text.now → result ≡ Ok (who, call) }
-    ensures err { IfErr result (λ place. IsFault (AnyOf CallLines) text.now place) }
+    ensures err { IfErr result (λ place. IsFault IsLine text.now place) }
 {
-    Err(text.len() as u32)
+    parse_call(text).map_err(|fault| fault.column - 1)
 }

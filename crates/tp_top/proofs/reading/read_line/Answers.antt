@@ -1,11 +1,11 @@
 use Rattle.std.proofs.Common.{◌≡◌, ℕ, ◌+◌, ◌<◌, ◌≤◌, List, length, take, drop, Result, Ok, Err, sym, ap, ◌∙◌, subst, arith, ◌∷◌, get_or}
 use Rattle.std.proofs.lemmas.Bool.{eqb-true, eqb-false}
-use Rattle.line_grammar.specs.Language.{AnyOf, IsFault}
+use Rattle.line_grammar.specs.Language.{IsFault}
 use Rattle.tp_base.specs.declared.calls.Call.{Call}
 use Rattle.tp_base.specs.declared.ids.Who.{Who}
-use Rattle.tp_lines.specs.Calls.{IsCallLine, CallLines}
+use Rattle.tp_lines.specs.Calls.{IsCallLine}
+use Rattle.tp_lines.specs.Faults.{IsLine}
 use Rattle.tp_top.specs.Reading.{IsFirstLine}
-use Rattle.tp_top.specs.Trace.{IsLineFault}
 use Rattle.tp_top.proofs.Faults.{IsFeedAt, feed_at, first_line_is, line_fault, cut_off, with_line}
 use Rattle.tp_top.proofs.reading.read_line.Goals as goal
 
@@ -30,7 +30,7 @@ pub returns-in-Err-clause-err : goal.returns-in-Err-clause-err
 returns-in-Err-clause-err c =
     let n = c.line_size-size.result in
     let f = feed_at c.args.text.now n c.line_size-size.ensures.within c.line_size-size.ensures.before c.line_size-size.ensures.feed in
-    line_fault c.args.text.now n c.in-Err.place f (subst (λ t. IsFault (AnyOf CallLines) t c.in-Err.place) c.split_at.ensures.front c.in-Err.ensures.err)
+    line_fault c.args.text.now n c.in-Err.place f (subst (λ t. IsFault (IsLine) t c.in-Err.place) c.split_at.ensures.front c.in-Err.ensures.err)
 
 pub returns-in-Ok-clause-only : goal.returns-in-Ok-clause-only
 returns-in-Ok-clause-only c = λ made size l.
