@@ -3,6 +3,8 @@
 #![tactic(auto)]
 
 mod command;
+mod engine;
+mod playing;
 mod reading;
 mod words;
 
