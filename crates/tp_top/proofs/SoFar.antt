@@ -107,3 +107,7 @@ read_only bytes calls rest r none all trace = let behind = r.only all trace in o
     of_tail : (tail : List (Who × Call)) → all ≡ calls ++ tail → IsTraceOf rest tail → calls ≡ all
     of_tail [] e t = sym (e ∙ append-nil calls)
     of_tail (m ∷ tail) e t = absurd (omega (arith, none, ap length t.split, length-append (line_of m) (10 ∷ lines_of tail)))
+
+-- a trace has no more calls than bytes
+pub trace_count : (bytes : List ℕ) (calls : List (Who × Call)) → IsTraceOf bytes calls → length calls ≤ length bytes
+trace_count bytes calls trace = omega (arith, ap length trace.split, lines_of-length calls)

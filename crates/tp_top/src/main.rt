@@ -6,6 +6,8 @@ mod command;
 mod engine;
 mod playing;
 mod reading;
+mod status;
+mod top;
 mod words;
 
 fn main() {}
