@@ -91,7 +91,9 @@ impl CallbackRows {
     /// Answers whether there was one. Where there was none, nothing changes.
     pub fn replace(&mut self, row: CallbackRow) -> bool
         ensures found { result ≡ is_some (find (λ c. c.number == row.number) self.old.rows) }
-        ensures after { self.new ≡ record self.old { rows = map (λ c. if c.number == row.number then row else c) self.old.rows } }
+        ensures after { self.new ≡ record self.old {
+          rows = map (λ c. if c.number == row.number then row else c) self.old.rows;
+        } }
     {
         match place_of(&self.rows, row.number) {
             Some(place) => {

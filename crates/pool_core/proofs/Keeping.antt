@@ -1,6 +1,6 @@
 -- Each move of an engine keeps what its parts keep.
-use Rattle.std.proofs.Common.{◌≡◌, ◌≢◌, ℕ, suc, zero, ◌+◌, ◌-◌, ◌*◌, ◌<◌, ◌≤◌, Bool, true, false, cond, not, ◌&&◌, ◌||◌, ◌==◌, List, [], ◌∷◌, ◌++◌, length, map, nat_lt, slice_get, slice_set, get_or, set, Option, Some, None, is_some, refl, sym, ap, ap₂, ◌∙◌, subst, arith, filter, find, sum_by, option_map, eqb-true, eq-eqb, ne_eqb, length-append, length-set, get_or-set_same, get_or-set_other, lt-ltb}
-use Rattle.std.specs.List.{AllByRecursion, slice_index_or}
+use Rattle.std.proofs.Common.{◌≡◌, ◌≢◌, ℕ, suc, zero, ◌+◌, ◌-◌, ◌<◌, ◌≤◌, Bool, true, false, cond, not, ◌&&◌, ◌==◌, List, [], ◌∷◌, ◌++◌, length, map, nat_lt, slice_get, slice_set, get_or, replicate, Option, Some, None, is_some, refl, sym, ap, ap₂, ◌∙◌, subst, arith, filter, find, sum_by, option_map, eqb-true, eq-eqb, ne_eqb, length-append, length-set, get_or-set_same, get_or-set_other, lt-ltb}
+use Rattle.std.specs.List.{AllByRecursion}
 use Rattle.std.specs.Option.{option_map_or}
 use Rattle.std.proofs.lemmas.List.{map-append, map-set, length-map}
 use Rattle.std.proofs.lemmas.Option.{slice_get-map}
@@ -11,31 +11,39 @@ use Rattle.tp_base.specs.declared.limits.Limits.{Limits}
 use Rattle.tp_base.specs.declared.rows.Status.{Status}
 use Rattle.tp_base.specs.declared.rows.Status.TheVariants.{Expected, Issued, Pending as IsPending, Running, Returned, Cancelled}
 use Rattle.tp_base.specs.declared.rows.Slots.{Slots}
-use Rattle.tp_base.specs.declared.rows.ObjectRow.{ObjectRow}
 use Rattle.tp_base.specs.declared.rows.CallbackRow.{CallbackRow}
 use Rattle.tp_base.specs.declared.rows.WorkerRow.{WorkerRow}
 use Rattle.tp_base.specs.declared.rows.ClientRow.{ClientRow}
 use Rattle.callback_rows.specs.LiveCallbacks.{LiveCallbacks}
-use Rattle.handle_table.specs.Table.{Table, Marked, live, with_row}
-use Rattle.prio_queue.specs.Pending.{Pending, Entry, entry, queue_of, with_queue, held, with_entry, without_number}
-use Rattle.pool_rows.specs.Pools.{Pools}
-use Rattle.pool_rows.specs.Workers.{is_attached_to, runs_in, runs_long_in}
+use Rattle.handle_table.specs.Table.{Table, live, with_row}
+use Rattle.prio_queue.specs.Pending.{Pending, Entry, queue_of, with_queue, held, with_entry, without_number}
+use Rattle.pool_rows.specs.Pools.{Pools, made_pool}
+use Rattle.pool_rows.specs.Workers.{is_attached_to, runs_in, runs_long_in, unattached as unattached_row}
 use Rattle.pool_rows.specs.declared.WorkerRow as kept
-use Rattle.tp_model.specs.World.{World}
-use Rattle.tp_model.specs.Counts.{numbered, has_number, is_pending, is_pending_in, is_running, is_live, is_running_in, is_running_long_in, queue, running, running_long, owed}
-use Rattle.tp_model.specs.Rows.{with_object, with_new_callback, with_callback, with_worker, with_client, replaced, started, returned}
+use Rattle.tp_base.specs.Ranges.{AreLimitsInRange}
+use Rattle.tp_model.specs.World.{World, opening, unattached, unfinished}
+use Rattle.tp_model.specs.Counts.{numbered, has_number, is_pending, is_pending_in, is_running, is_running_in, is_running_long_in, queue, running, running_long, owed}
+use Rattle.tp_model.specs.Rows.{with_new_callback, with_callback, with_worker, with_client, replaced, started, returned}
 use Rattle.tp_model.specs.Sound.{IsSound, IsRising, RunsOn, IsWorkerSound, AreWorkersSound}
 use Rattle.tp_model.specs.Remembered.{lives, forget}
-use Rattle.tp_model.proofs.Lists.{all_append, all_filter, find_kept, find_passes, length_filter_set, length_filter_le, filter_filter, all_map, all_get}
+use Rattle.tp_model.proofs.Lists.{find_kept, find_passes, length_filter_set, filter_filter, all_map, all_get}
 use Rattle.tp_model.proofs.Callbacks.{pending_lives, pending_not_running, find_appended, find_replaced, find_replaced_other, filter_replaced_out, length_filter_replaced, found_all, found_bounds, over_not_pending}
-use Rattle.tp_model.proofs.Refusals.{numbered_some, false_true}
-use Rattle.tp_model.proofs.Soundness.{sound_object, sound_new_callback, sound_free_worker, sound_client, sound_started, sound_returned, runs_on}
+use Rattle.tp_model.proofs.Refusals.{false_true}
+use Rattle.tp_model.proofs.Soundness.{sound_object, sound_new_callback, sound_free_worker, sound_client, sound_started, sound_returned, runs_on, opening_sound}
 use Rattle.tp_model.proofs.Forgetting.{forget_sound, owed_forget, running_forget, running_long_forget, queue_forget}
 use Rattle.tp_model.proofs.Costs.{owed_new_callback, owed_attached, owed_started, owed_returned, owed_finished}
 use Rattle.pool_core.specs.declared.objects.Object.{Object}
 use Rattle.pool_core.specs.Parts.{world_of, shown_object, shown_worker, entry_of}
 use Rattle.pool_core.specs.Kept.{AreKept, AreMarked, IsMarked, waits}
 use Rattle.pool_core.proofs.Queued.{queued_more, queued_elsewhere, queued_less, queue_longer, length_queue, filter_all, filter_replaced_none, queued_same, queued_apart}
+
+-- parts that are equal to those
+pub kept_along : {limits : Limits} {objects : Table Object} {clients : List ClientRow} {made owes age : ℕ} {p : Pools} {c : LiveCallbacks} {q : Pending} (pools : Pools) (callbacks : LiveCallbacks) (queues : Pending)
+    → AreKept limits p objects c q clients made owes age → pools ≡ p → callbacks ≡ c → queues ≡ q → AreKept limits pools objects callbacks queues clients made owes age
+kept_along {limits} {objects} {clients} {made} {owes} {age} {p} {c} {q} pools callbacks queues k ep ec eq =
+    subst (λ x. AreKept limits x objects callbacks queues clients made owes age) (sym ep)
+    (subst (λ x. AreKept limits p objects x queues clients made owes age) (sym ec)
+    (subst (λ x. AreKept limits p objects c x clients made owes age) (sym eq) k))
 
 -- ---- an object
 
@@ -45,10 +53,23 @@ kept_object {limits} {pools} {objects} {callbacks} {queues} {clients} {made} {ow
     let w : World = world_of limits pools objects callbacks.rows clients in
     let shown : map shown_object (objects.rows ++ live o ∷ []) ≡ w.objects ++ shown_object (live o) ∷ [] = map-append shown_object objects.rows (live o ∷ []) in
     record {
-      in_range = k.in_range; pool_limit = k.pool_limit; pools_within = k.pools_within; worker_count = k.worker_count; client_count = k.client_count; object_limit = k.object_limit;
-      slot_limit = k.slot_limit; queue_slots = k.queue_slots; queue_count = k.queue_count; live = k.live;
+      in_range = k.in_range;
+      pool_limit = k.pool_limit;
+      pools_within = k.pools_within;
+      worker_count = k.worker_count;
+      client_count = k.client_count;
+      object_limit = k.object_limit;
+      slot_limit = k.slot_limit;
+      queue_slots = k.queue_slots;
+      queue_count = k.queue_count;
+      live = k.live;
       sound = subst (λ os. IsSound (made + 1) (record w { objects = os })) (sym shown) (sound_object (made + 1) w (shown_object (live o)) home k.sound);
-      queued = k.queued; held_all = k.held_all; marked = k.marked; run = k.run; run_long = k.run_long; owes = k.owes;
+      queued = k.queued;
+      held_all = k.held_all;
+      marked = k.marked;
+      run = k.run;
+      run_long = k.run_long;
+      owes = k.owes;
       few_made = omega (arith, k.few_made);
       few_owed = omega (arith, k.few_owed);
     }
@@ -74,9 +95,9 @@ each_pool : (queues : Pending) (pool : ℕ) (q : List Entry) (shown before : ℕ
     → (p : ℕ) → queue_of (with_queue queues pool q) p ≡ shown p
 each_pool queues pool q shown before lt here elsewhere were p =
     elim (pool == p) as (λ b. (pool == p) ≡ b → queue_of (with_queue queues pool q) p ≡ shown p) [
-      true ↦ λ e. let same : pool ≡ p = eqb-true pool p e in subst (λ n. queue_of (with_queue queues pool q) n ≡ shown n) same (queue_set queues pool q lt ∙ here)
-    | false ↦ λ e. let apart : pool ≢ p = λ same. false_true (sym e ∙ eq-eqb pool p same) in
-        queue_set_other queues pool p q (λ same. apart (sym same)) ∙ were p ∙ elsewhere p apart
+      | true ↦ λ e. let same : pool ≡ p = eqb-true pool p e in subst (λ n. queue_of (with_queue queues pool q) n ≡ shown n) same (queue_set queues pool q lt ∙ here)
+      | false ↦ λ e. let apart : pool ≢ p = λ same. false_true (sym e ∙ eq-eqb pool p same) in
+          queue_set_other queues pool p q (λ same. apart (sym same)) ∙ were p ∙ elsewhere p apart
     ] refl
 
 one_more : (p : CallbackRow → Bool) (cs : List CallbackRow) (c : CallbackRow) → p c ≡ true → length (filter p (cs ++ c ∷ [])) ≡ length (filter p cs) + 1
@@ -98,17 +119,23 @@ kept_pending {limits} {pools} {objects} {callbacks} {queues} {clients} {made} {o
     let within : c.pool.0 < length queues.queues = omega (arith, home, k.pools_within, k.queue_count) in
     let rising : IsRising 1 c.number callbacks.rows = subst (λ n. IsRising 1 n callbacks.rows) (sym number) k.sound.numbers in
     let placed : with_entry (entry_of c) (queue_of queues c.pool.0) ≡ map entry_of (queue v c.pool.0)
-          = ap (with_entry (entry_of c)) (k.queued c.pool.0) ∙ queued_more w c pends rising in
+    = ap (with_entry (entry_of c)) (k.queued c.pool.0) ∙ queued_more w c pends rising in
     let longer : length (with_entry (entry_of c) (queue_of queues c.pool.0)) ≡ length (queue_of queues c.pool.0) + 1
-          = ap length placed ∙ length-map (queue v c.pool.0) entry_of ∙ queue_longer w c pends ∙ ap (λ n. n + 1) (sym (ap length (k.queued c.pool.0) ∙ length-map (queue w c.pool.0) entry_of)) in
+    = ap length placed ∙ length-map (queue v c.pool.0) entry_of ∙ queue_longer w c pends ∙ ap (λ n. n + 1) (sym (ap length (k.queued c.pool.0) ∙ length-map (queue w c.pool.0) entry_of)) in
     record {
-      in_range = k.in_range; pool_limit = k.pool_limit; pools_within = k.pools_within; worker_count = k.worker_count; client_count = k.client_count; object_limit = k.object_limit;
-      slot_limit = k.slot_limit; queue_slots = k.queue_slots;
+      in_range = k.in_range;
+      pool_limit = k.pool_limit;
+      pools_within = k.pools_within;
+      worker_count = k.worker_count;
+      client_count = k.client_count;
+      object_limit = k.object_limit;
+      slot_limit = k.slot_limit;
+      queue_slots = k.queue_slots;
       queue_count = length-set queues.queues c.pool.0 (with_entry (entry_of c) (queue_of queues c.pool.0)) ∙ k.queue_count;
       live = filter-append lives callbacks.rows (c ∷ []) ∙ ap₂ (λ xs b. xs ++ cond b (c ∷ []) []) k.live (pending_lives c.status pends);
       sound = sound_new_callback (made + 1) w c number home k.sound;
       queued = each_pool queues c.pool.0 (with_entry (entry_of c) (queue_of queues c.pool.0)) (λ p. map entry_of (queue v p)) (λ p. map entry_of (queue w p)) within placed
-        (λ p apart. ap (map entry_of) (sym (queued_elsewhere w c p apart))) k.queued;
+          (λ p apart. ap (map entry_of) (sym (queued_elsewhere w c p apart))) k.queued;
       held_all = omega (arith, held_set queues c.pool.0 (with_entry (entry_of c) (queue_of queues c.pool.0)) within, longer, k.held_all, one_more waits callbacks.rows c pends);
       marked = marked_more c callbacks.rows pools.workers k.marked;
       run = λ pool. none_more (is_running_in pool) callbacks.rows c (ap (λ b. b && (c.pool.0 == pool)) still) ∙ k.run pool;
@@ -147,12 +174,19 @@ kept_attached {limits} {pools} {objects} {callbacks} {queues} {clients} {made} {
     let shown : map shown_worker (slice_set pools.workers (number - 1) new) ≡ slice_set w.workers (number - 1) (shown_worker new) = map-set shown_worker pools.workers (number - 1) new in
     let not_running : (p : ℕ) → runs_in p row ≡ false = λ (p : ℕ). ap₂ (λ a b. option_map_or (λ (q : PoolId). q.0 == p) a false && nat_lt 0 b) free idle in
     record {
-      in_range = k.in_range; pool_limit = k.pool_limit; pools_within = k.pools_within;
+      in_range = k.in_range;
+      pool_limit = k.pool_limit;
+      pools_within = k.pools_within;
       worker_count = length-set pools.workers (number - 1) new ∙ k.worker_count;
-      client_count = k.client_count; object_limit = k.object_limit;
-      slot_limit = k.slot_limit; queue_slots = k.queue_slots; queue_count = k.queue_count; live = k.live;
+      client_count = k.client_count;
+      object_limit = k.object_limit;
+      slot_limit = k.slot_limit;
+      queue_slots = k.queue_slots;
+      queue_count = k.queue_count;
+      live = k.live;
       sound = subst (λ ws. IsSound (made + 1) (record w { workers = ws })) (sym shown) (sound_free_worker (made + 1) w number (shown_worker new) refl k.sound);
-      queued = k.queued; held_all = k.held_all;
+      queued = k.queued;
+      held_all = k.held_all;
       marked = marked_set callbacks.rows pools.workers (number - 1) new (λ runs. absurd (runs refl)) k.marked;
       run = λ p. k.run p ∙ sym (length_same (runs_in p) pools.workers (number - 1) row new is (not_running p ∙ sym (nothing p)));
       run_long = λ p. k.run_long p ∙ sym (length_same (runs_long_in p) pools.workers (number - 1) row new is (ap (λ b. b && row.long) (not_running p) ∙ sym (ap (λ b. b && false) (nothing p))));
@@ -170,11 +204,11 @@ all_pass : {X : Type 0} (p : X → Bool) (xs : List X) → AllByRecursion (λ x.
 all_pass p [] = tt
 all_pass p (x ∷ xs) =
     elim (p x) as (λ b. p x ≡ b → AllByRecursion (λ y. p y ≡ true) (cond b (x ∷ filter p xs) (filter p xs))) [
-      true ↦ λ e. (e, all_pass p xs)
-    | false ↦ λ _. all_pass p xs
+      | true ↦ λ e. (e, all_pass p xs)
+      | false ↦ λ _. all_pass p xs
     ] refl
 
-live_replaced : (r : CallbackRow) (cs : List CallbackRow) → lives r ≡ true → filter lives cs ≡ cs → filter lives (replaced r cs) ≡ replaced r cs
+pub live_replaced : (r : CallbackRow) (cs : List CallbackRow) → lives r ≡ true → filter lives cs ≡ cs → filter lives (replaced r cs) ≡ replaced r cs
 live_replaced r cs here live =
     let all : AllByRecursion (λ x. lives x ≡ true) cs = subst (λ xs. AllByRecursion (λ x. lives x ≡ true) xs) live (all_pass lives cs) in
     filter_all lives (replaced r cs) (all_map (λ x. lives x ≡ true) (λ c. cond (has_number r.number c) r c) (λ c h. elim (has_number r.number c) as (λ b. lives (cond b r c) ≡ true) [ true ↦ here | false ↦ h ]) cs all)
@@ -190,11 +224,13 @@ marked_replaced r c cs (w ∷ ws) found same m = ((λ runs. one (m.0 runs)), mar
     one : (d : CallbackRow) × (find (has_number w.callback) cs ≡ Some d) × (w.long ≡ d.long) → (d : CallbackRow) × (find (has_number w.callback) (replaced r cs) ≡ Some d) × (w.long ≡ d.long)
     one had =
         elim (has_number w.callback r) as (λ b. has_number w.callback r ≡ b → (d : CallbackRow) × (find (has_number w.callback) (replaced r cs) ≡ Some d) × (w.long ≡ d.long)) [
-          true ↦ λ e.
-            let is : r.number ≡ w.callback = eqb-true r.number w.callback e in
-            (r, ap (λ n. find (has_number n) (replaced r cs)) (sym is) ∙ find_replaced r c cs found,
-              had.2 ∙ ap (λ (x : CallbackRow). x.long) (same_found w.callback r.number had.0 c cs is had.1 found) ∙ sym same)
-        | false ↦ λ e. (had.0, find_replaced_other r w.callback cs e ∙ had.1, had.2)
+          | true ↦ λ e.
+              let is : r.number ≡ w.callback = eqb-true r.number w.callback e in (
+                r,
+                ap (λ n. find (has_number n) (replaced r cs)) (sym is) ∙ find_replaced r c cs found,
+                had.2 ∙ ap (λ (x : CallbackRow). x.long) (same_found w.callback r.number had.0 c cs is had.1 found) ∙ sym same,
+              )
+          | false ↦ λ e. (had.0, find_replaced_other r w.callback cs e ∙ had.1, had.2)
         ] refl
 
 abbrev one_if : Bool → ℕ
@@ -205,7 +241,7 @@ pub kept_started : {limits : Limits} {pools : Pools} {objects : Table Object} {c
     → find (has_number c.number) callbacks.rows ≡ Some c → is_pending c.status ≡ true → c.pool ≡ pool
     → AreKept limits pools objects callbacks queues clients made owes age
     → AreKept limits (record pools { workers = slice_set pools.workers (number - 1) (record row { callback = c.number; long = c.long }) }) objects (record callbacks { rows = replaced (started c number) callbacks.rows })
-        (with_queue queues pool.0 (without_number c.number (queue_of queues pool.0))) clients made (owes + 1) (age + 1)
+    (with_queue queues pool.0 (without_number c.number (queue_of queues pool.0))) clients made (owes + 1) (age + 1)
 kept_started {limits} {pools} {objects} {callbacks} {queues} {clients} {made} {owes} {age} number row pool c is from_one at idle home found pends in_pool k =
     let r : CallbackRow = started c number in
     let new : kept.WorkerRow = record row { callback = c.number; long = c.long } in
@@ -216,13 +252,13 @@ kept_started {limits} {pools} {objects} {callbacks} {queues} {clients} {made} {o
     let above : 1 ≤ c.number = (found_bounds c.number 1 (made + 1) c callbacks.rows rising found).0 in
     let shows : shown_worker new ≡ target = shown_as pool at above in
     let shown : map shown_worker (slice_set pools.workers (number - 1) new) ≡ slice_set w.workers (number - 1) target
-          = map-set shown_worker pools.workers (number - 1) new ∙ ap (λ t. slice_set w.workers (number - 1) t) shows in
+    = map-set shown_worker pools.workers (number - 1) new ∙ ap (λ t. slice_set w.workers (number - 1) t) shows in
     let within : pool.0 < length queues.queues = omega (arith, home, k.pools_within, k.queue_count) in
     let left : (p : ℕ) → without_number c.number (map entry_of (queue w p)) ≡ map entry_of (queue v p) = λ (p : ℕ). queued_less w r p refl in
     let placed : without_number c.number (queue_of queues pool.0) ≡ map entry_of (queue v pool.0) = ap (without_number c.number) (k.queued pool.0) ∙ left pool.0 in
     let was_here : is_pending_in pool.0 c ≡ true = ap₂ (λ a b. a && b) pends (eq-eqb c.pool.0 pool.0 (ap (λ (q : PoolId). q.0) in_pool)) in
     let shorter : length (queue v pool.0) + one_if (is_pending_in pool.0 c) ≡ length (queue w pool.0) + one_if (is_pending_in pool.0 r)
-          = ap (λ n. n + one_if (is_pending_in pool.0 c)) (length_queue v pool.0) ∙ length_filter_replaced (is_pending_in pool.0) r c 1 (made + 1) callbacks.rows rising found ∙ sym (ap (λ n. n + one_if (is_pending_in pool.0 r)) (length_queue w pool.0)) in
+    = ap (λ n. n + one_if (is_pending_in pool.0 c)) (length_queue v pool.0) ∙ length_filter_replaced (is_pending_in pool.0) r c 1 (made + 1) callbacks.rows rising found ∙ sym (ap (λ n. n + one_if (is_pending_in pool.0 r)) (length_queue w pool.0)) in
     let fewer : length (filter waits (replaced r callbacks.rows)) + one_if (waits c) ≡ length (filter waits callbacks.rows) + one_if (waits r) = length_filter_replaced waits r c 1 (made + 1) callbacks.rows rising found in
     let one_waits : one_if (waits c) ≡ 1 = ap one_if pends in
     let one_here : one_if (is_pending_in pool.0 c) ≡ 1 = ap one_if was_here in
@@ -230,17 +266,22 @@ kept_started {limits} {pools} {objects} {callbacks} {queues} {clients} {made} {o
     let after_len : length (without_number c.number (queue_of queues pool.0)) ≡ length (queue v pool.0) = ap length placed ∙ length-map (queue v pool.0) entry_of in
     let still : is_running c.status ≡ false = pending_not_running c.status pends in
     record {
-      in_range = k.in_range; pool_limit = k.pool_limit; pools_within = k.pools_within;
+      in_range = k.in_range;
+      pool_limit = k.pool_limit;
+      pools_within = k.pools_within;
       worker_count = length-set pools.workers (number - 1) new ∙ k.worker_count;
-      client_count = k.client_count; object_limit = k.object_limit; slot_limit = k.slot_limit; queue_slots = k.queue_slots;
+      client_count = k.client_count;
+      object_limit = k.object_limit;
+      slot_limit = k.slot_limit;
+      queue_slots = k.queue_slots;
       queue_count = length-set queues.queues pool.0 (without_number c.number (queue_of queues pool.0)) ∙ k.queue_count;
       live = live_replaced r callbacks.rows refl k.live;
       sound = subst (λ ws. IsSound (made + 1) (record v { workers = ws })) (sym shown) (sound_started (made + 1) w number pool c from_one found pends in_pool k.sound);
       queued = each_pool queues pool.0 (without_number c.number (queue_of queues pool.0)) (λ p. map entry_of (queue v p)) (λ p. map entry_of (queue w p)) within placed
-        (λ p apart. ap (map entry_of) (sym (elsewhere w p apart rising))) k.queued;
+          (λ p apart. ap (map entry_of) (sym (elsewhere w p apart rising))) k.queued;
       held_all = omega (arith, held_set queues pool.0 (without_number c.number (queue_of queues pool.0)) within, before_len, after_len, shorter, fewer, one_waits, one_here, k.held_all);
       marked = marked_set (replaced r callbacks.rows) pools.workers (number - 1) new (λ _. (r, find_replaced r c callbacks.rows found, refl))
-        (marked_replaced r c callbacks.rows pools.workers found refl k.marked);
+          (marked_replaced r c callbacks.rows pools.workers found refl k.marked);
       run = λ p. counted p (is_running_in p) (runs_in p) (ap (λ b. b && (c.pool.0 == p)) still) (idle_before p) (busy_after p at above) rising (k.run p);
       run_long = λ p. counted p (is_running_long_in p) (runs_long_in p) (ap (λ b. (b && (c.pool.0 == p)) && c.long) still) (ap (λ b. b && row.long) (idle_before p)) (ap (λ b. b && c.long) (busy_after p at above)) rising (k.run_long p);
       owes = ap (λ n. n + 1) k.owes ∙ sym (ap (λ ws. owed (record v { workers = ws })) shown ∙ owed_started (made + 1) w number (shown_worker row) pool c k.sound (worker_shown pools.workers number row is from_one) at found pends);
@@ -254,7 +295,7 @@ kept_started {limits} {pools} {objects} {callbacks} {queues} {clients} {made} {o
     elsewhere : (w : World) (p : ℕ) → pool.0 ≢ p → IsRising 1 (made + 1) callbacks.rows → queue (with_callback (world_of limits pools objects callbacks.rows clients) (started c number)) p ≡ queue (world_of limits pools objects callbacks.rows clients) p
     elsewhere w p apart rising =
         queued_apart (world_of limits pools objects callbacks.rows clients) (started c number) c (made + 1) p rising found
-          (ap (λ b. is_pending c.status && b) (ne_eqb c.pool.0 p (λ e. apart (ap (λ (q : PoolId). q.0) (sym in_pool) ∙ e))) ∙ no_and (is_pending c.status)) refl
+        (ap (λ b. is_pending c.status && b) (ne_eqb c.pool.0 p (λ e. apart (ap (λ (q : PoolId). q.0) (sym in_pool) ∙ e))) ∙ no_and (is_pending c.status)) refl
       where
         no_and : (b : Bool) → (b && false) ≡ false
         no_and true = refl
@@ -266,7 +307,7 @@ kept_started {limits} {pools} {objects} {callbacks} {queues} {clients} {made} {o
     busy_after : (p : ℕ) → row.pool ≡ Some pool → 1 ≤ c.number → is_running_in p (started c number) ≡ runs_in p (record row { callback = c.number; long = c.long })
     busy_after p e above =
         sym (ap₂ (λ (q : Option PoolId) (b : Bool). option_map_or (λ (x : PoolId). x.0 == p) q false && b) e (lt-ltb 0 c.number (omega (arith, above)))
-          ∙ and_true (pool.0 == p) ∙ ap (λ (q : PoolId). q.0 == p) (sym in_pool))
+        ∙ and_true (pool.0 == p) ∙ ap (λ (q : PoolId). q.0 == p) (sym in_pool))
       where
         and_true : (b : Bool) → (b && true) ≡ b
         and_true true = refl
@@ -278,9 +319,9 @@ kept_started {limits} {pools} {objects} {callbacks} {queues} {clients} {made} {o
         → length (filter of_callbacks (replaced (started c number) callbacks.rows)) ≡ length (filter of_workers (slice_set pools.workers (number - 1) (record row { callback = c.number; long = c.long })))
     counted p of_callbacks of_workers before idle_row after rising same =
         let callbacks_now : length (filter of_callbacks (replaced (started c number) callbacks.rows)) + one_if (of_callbacks c) ≡ length (filter of_callbacks callbacks.rows) + one_if (of_callbacks (started c number))
-              = length_filter_replaced of_callbacks (started c number) c 1 (made + 1) callbacks.rows rising found in
+        = length_filter_replaced of_callbacks (started c number) c 1 (made + 1) callbacks.rows rising found in
         let workers_now : length (filter of_workers (slice_set pools.workers (number - 1) (record row { callback = c.number; long = c.long }))) + one_if (of_workers row) ≡ length (filter of_workers pools.workers) + one_if (of_workers (record row { callback = c.number; long = c.long }))
-              = length_filter_set of_workers pools.workers (number - 1) row (record row { callback = c.number; long = c.long }) is in
+        = length_filter_set of_workers pools.workers (number - 1) row (record row { callback = c.number; long = c.long }) is in
         let none : one_if (of_callbacks c) ≡ 0 = ap one_if before in
         let none_row : one_if (of_workers row) ≡ 0 = ap one_if idle_row in
         let alike : one_if (of_callbacks (started c number)) ≡ one_if (of_workers (record row { callback = c.number; long = c.long })) = ap one_if after in
@@ -338,17 +379,20 @@ run_by {limits} {pools} {objects} {callbacks} {queues} {clients} {made} {owes} {
     let shows : (shown_worker row).callback ≡ Some c.number = ap (λ b. cond b None (Some row.callback)) (ne_eqb row.callback 0 (λ z. omega (arith, z, above))) ∙ ap (λ n. Some n) runs in
     let on = runs_on (made + 1) w number (shown_worker row) c.number k.sound (worker_shown pools.workers number row is from_one) shows in
     let same : on.2.callback ≡ c = same_found c.number c.number on.2.callback c callbacks.rows refl on.2.found found in
-    let marked = all_get (IsMarked callbacks.rows) pools.workers (number - 1) row k.marked is (λ z. omega (arith, z, above)) in
-    (on.0, on.2, record {
-      associated = on.2.associated;
-      slots = on.2.slots;
-      status = ap (λ (x : CallbackRow). x.status) (sym same) ∙ on.2.runs;
-      at = on.1;
-      home = ap (λ (x : CallbackRow). x.pool) (sym same) ∙ on.2.at_home;
-      mark = ap (λ (x : CallbackRow). x.long) (sym (same_found row.callback c.number marked.0 c callbacks.rows (sym runs) marked.1 found)) ∙ sym marked.2;
-    })
+    let marked = all_get (IsMarked callbacks.rows) pools.workers (number - 1) row k.marked is (λ z. omega (arith, z, above)) in (
+      on.0,
+      on.2,
+      record {
+        associated = on.2.associated;
+        slots = on.2.slots;
+        status = ap (λ (x : CallbackRow). x.status) (sym same) ∙ on.2.runs;
+        at = on.1;
+        home = ap (λ (x : CallbackRow). x.pool) (sym same) ∙ on.2.at_home;
+        mark = ap (λ (x : CallbackRow). x.long) (sym (same_found row.callback c.number marked.0 c callbacks.rows (sym runs) marked.1 found)) ∙ sym marked.2;
+      },
+    )
 
-running_not_pending : (s : Status) → is_running s ≡ true → is_pending s ≡ false
+pub running_not_pending : (s : Status) → is_running s ≡ true → is_pending s ≡ false
 running_not_pending Expected e = refl
 running_not_pending Issued e = refl
 running_not_pending IsPending e = cc
@@ -367,15 +411,16 @@ others_apart c runner associated slots cs first zero (w ∷ ws) new found runs i
     rest : (at : ℕ) (rows : List kept.WorkerRow) → runner < at → AreWorkersSound cs at (map shown_worker rows) → AllByRecursion (λ (w : kept.WorkerRow). w.callback ≢ 0 → w.callback ≢ c.number) rows
     rest at [] lt t = tt
     rest at (x ∷ xs) lt t = (another_runs c runner associated slots cs at x found runs (λ e. omega (arith, e, lt)) t.0, rest (at + 1) xs (omega (arith, lt)) t.1)
-others_apart c runner associated slots cs first (suc place) (w ∷ ws) new found runs is none s =
-    (another_runs c runner associated slots cs first w found runs (λ e. omega (arith, e, is)) s.0,
-     others_apart c runner associated slots cs (first + 1) place ws new found runs (omega (arith, is)) none s.1)
+others_apart c runner associated slots cs first (suc place) (w ∷ ws) new found runs is none s = (
+  another_runs c runner associated slots cs first w found runs (λ e. omega (arith, e, is)) s.0,
+  others_apart c runner associated slots cs (first + 1) place ws new found runs (omega (arith, is)) none s.1,
+)
 
 pub kept_returned : {limits : Limits} {pools : Pools} {objects : Table Object} {callbacks : LiveCallbacks} {queues : Pending} {clients : List ClientRow} {made owes age : ℕ} (number : ℕ) (row : kept.WorkerRow) (c : CallbackRow)
     → slice_get pools.workers (number - 1) ≡ Some row → 1 ≤ number → row.callback ≡ c.number → find (has_number c.number) callbacks.rows ≡ Some c
     → AreKept limits pools objects callbacks queues clients made owes age
     → AreKept limits (record pools { workers = slice_set pools.workers (number - 1) (record row { callback = 0; long = false }) }) objects
-        (record callbacks { rows = filter (λ (x : CallbackRow). not (x.number == c.number)) callbacks.rows }) queues clients made (owes - 1) (age + 1)
+    (record callbacks { rows = filter (λ (x : CallbackRow). not (x.number == c.number)) callbacks.rows }) queues clients made (owes - 1) (age + 1)
 kept_returned {limits} {pools} {objects} {callbacks} {queues} {clients} {made} {owes} {age} number row c is from_one runs found k =
     let r : CallbackRow = returned c in
     let new : kept.WorkerRow = record row { callback = 0; long = false } in
@@ -386,30 +431,36 @@ kept_returned {limits} {pools} {objects} {callbacks} {queues} {clients} {made} {
     let rising : IsRising 1 (made + 1) callbacks.rows = k.sound.numbers in
     let ran : is_running c.status ≡ true = ap is_running on.2.status in
     let rows_now : filter (λ (x : CallbackRow). not (x.number == c.number)) callbacks.rows ≡ filter lives (replaced r callbacks.rows)
-          = sym (filter_replaced_out lives r callbacks.rows refl ∙ ap (filter (λ (x : CallbackRow). not (has_number c.number x))) k.live) in
+    = sym (filter_replaced_out lives r callbacks.rows refl ∙ ap (filter (λ (x : CallbackRow). not (has_number c.number x))) k.live) in
     let shown : map shown_worker (slice_set pools.workers (number - 1) new) ≡ slice_set w.workers (number - 1) target = map-set shown_worker pools.workers (number - 1) new in
     let world_now : world_of limits (record pools { workers = slice_set pools.workers (number - 1) new }) objects (filter (λ (x : CallbackRow). not (x.number == c.number)) callbacks.rows) clients ≡ forget v
-          = ap₂ (λ cs ws. record v { callbacks = cs; workers = ws }) rows_now shown in
+    = ap₂ (λ cs ws. record v { callbacks = cs; workers = ws }) rows_now shown in
     let waits_not : is_pending c.status ≡ false = running_not_pending c.status ran in
     let same_waiting : filter waits (filter (λ (x : CallbackRow). not (x.number == c.number)) callbacks.rows) ≡ filter waits callbacks.rows
-          = ap (filter waits) rows_now ∙ filter_filter waits lives (λ x e. over_not_pending x.status e) (replaced r callbacks.rows)
-            ∙ filter_replaced_none waits r callbacks.rows refl (found_all (λ x. waits x ≡ false) c.number c 1 (made + 1) callbacks.rows rising found waits_not) in
+    = ap (filter waits) rows_now ∙ filter_filter waits lives (λ x e. over_not_pending x.status e) (replaced r callbacks.rows)
+    ∙ filter_replaced_none waits r callbacks.rows refl (found_all (λ x. waits x ≡ false) c.number c 1 (made + 1) callbacks.rows rising found waits_not) in
     let paid : owed v + 1 ≡ owed w = owed_returned (made + 1) w number (shown_worker row) c k.sound (worker_shown pools.workers number row is from_one) found ran in
     record {
-      in_range = k.in_range; pool_limit = k.pool_limit; pools_within = k.pools_within;
+      in_range = k.in_range;
+      pool_limit = k.pool_limit;
+      pools_within = k.pools_within;
       worker_count = length-set pools.workers (number - 1) new ∙ k.worker_count;
-      client_count = k.client_count; object_limit = k.object_limit; slot_limit = k.slot_limit; queue_slots = k.queue_slots; queue_count = k.queue_count;
+      client_count = k.client_count;
+      object_limit = k.object_limit;
+      slot_limit = k.slot_limit;
+      queue_slots = k.queue_slots;
+      queue_count = k.queue_count;
       live = ap (filter lives) rows_now ∙ filter_filter lives lives (λ _ e. e) (replaced r callbacks.rows) ∙ sym rows_now;
       sound = subst (λ u. IsSound (made + 1) u) (sym world_now) (forget_sound (made + 1) v (sound_returned (made + 1) w number (shown_worker row) on.0 c from_one on.1 found k.sound));
       queued = λ p. k.queued p ∙ ap (map entry_of) (sym (ap (λ u. queue u p) world_now ∙ queue_forget v p ∙ queued_same w r c (made + 1) p rising found waits_not refl));
       held_all = k.held_all ∙ ap length (sym same_waiting);
       marked = marked_others c.number callbacks.rows (slice_set pools.workers (number - 1) new)
-        (others_apart c number on.2.associated on.2.slots callbacks.rows 1 (number - 1) pools.workers new found on.2.status (omega (arith, from_one)) refl k.sound.workers)
-        (marked_set callbacks.rows pools.workers (number - 1) new (λ busy. absurd (busy refl)) k.marked);
+          (others_apart c number on.2.associated on.2.slots callbacks.rows 1 (number - 1) pools.workers new found on.2.status (omega (arith, from_one)) refl k.sound.workers)
+          (marked_set callbacks.rows pools.workers (number - 1) new (λ busy. absurd (busy refl)) k.marked);
       run = λ p. ap (λ u. running u p) world_now ∙ running_forget v p
-        ∙ counted p (is_running_in p) (runs_in p) (ran_in p on.0 on.2.at on.2.home ran) refl (rests p) rising (k.run p);
+          ∙ counted p (is_running_in p) (runs_in p) (ran_in p on.0 on.2.at on.2.home ran) refl (rests p) rising (k.run p);
       run_long = λ p. ap (λ u. running_long u p) world_now ∙ running_long_forget v p
-        ∙ counted p (is_running_long_in p) (runs_long_in p) (ap₂ (λ a b. a && b) (ran_in p on.0 on.2.at on.2.home ran) on.2.mark) refl (ap (λ b. b && false) (rests p)) rising (k.run_long p);
+          ∙ counted p (is_running_long_in p) (runs_long_in p) (ap₂ (λ a b. a && b) (ran_in p on.0 on.2.at on.2.home ran) on.2.mark) refl (ap (λ b. b && false) (rests p)) rising (k.run_long p);
       owes = ap (λ n. n - 1) k.owes ∙ less_one (owed w) (owed v) paid ∙ sym (ap owed world_now ∙ owed_forget v);
       few_made = omega (arith, k.few_made);
       few_owed = omega (arith, k.few_owed);
@@ -435,9 +486,9 @@ kept_returned {limits} {pools} {objects} {callbacks} {queues} {clients} {made} {
         → length (filter of_callbacks (replaced (returned c) callbacks.rows)) ≡ length (filter of_workers (slice_set pools.workers (number - 1) (record row { callback = 0; long = false })))
     counted p of_callbacks of_workers alike over rest rising same =
         let callbacks_now : length (filter of_callbacks (replaced (returned c) callbacks.rows)) + one_if (of_callbacks c) ≡ length (filter of_callbacks callbacks.rows) + one_if (of_callbacks (returned c))
-              = length_filter_replaced of_callbacks (returned c) c 1 (made + 1) callbacks.rows rising found in
+        = length_filter_replaced of_callbacks (returned c) c 1 (made + 1) callbacks.rows rising found in
         let workers_now : length (filter of_workers (slice_set pools.workers (number - 1) (record row { callback = 0; long = false }))) + one_if (of_workers row) ≡ length (filter of_workers pools.workers) + one_if (of_workers (record row { callback = 0; long = false }))
-              = length_filter_set of_workers pools.workers (number - 1) row (record row { callback = 0; long = false }) is in
+        = length_filter_set of_workers pools.workers (number - 1) row (record row { callback = 0; long = false }) is in
         let before : one_if (of_callbacks c) ≡ one_if (of_workers row) = ap one_if alike in
         let none : one_if (of_callbacks (returned c)) ≡ 0 = ap one_if over in
         let none_row : one_if (of_workers (record row { callback = 0; long = false })) ≡ 0 = ap one_if rest in
@@ -453,11 +504,22 @@ kept_finished {limits} {pools} {objects} {callbacks} {queues} {clients} {made} {
     let w : World = world_of limits pools objects callbacks.rows clients in
     let new : ClientRow = record { finished = true } in
     record {
-      in_range = k.in_range; pool_limit = k.pool_limit; pools_within = k.pools_within; worker_count = k.worker_count;
+      in_range = k.in_range;
+      pool_limit = k.pool_limit;
+      pools_within = k.pools_within;
+      worker_count = k.worker_count;
       client_count = length-set clients (number - 1) new ∙ k.client_count;
-      object_limit = k.object_limit; slot_limit = k.slot_limit; queue_slots = k.queue_slots; queue_count = k.queue_count; live = k.live;
+      object_limit = k.object_limit;
+      slot_limit = k.slot_limit;
+      queue_slots = k.queue_slots;
+      queue_count = k.queue_count;
+      live = k.live;
       sound = sound_client (made + 1) w number new k.sound;
-      queued = k.queued; held_all = k.held_all; marked = k.marked; run = k.run; run_long = k.run_long;
+      queued = k.queued;
+      held_all = k.held_all;
+      marked = k.marked;
+      run = k.run;
+      run_long = k.run_long;
       owes = ap (λ n. n - 1) k.owes ∙ less_one (owed w) (owed (with_client w number new)) (owed_finished w number row is unfinished);
       few_made = omega (arith, k.few_made);
       few_owed = omega (arith, k.few_owed);
@@ -465,3 +527,67 @@ kept_finished {limits} {pools} {objects} {callbacks} {queues} {clients} {made} {
   where
     less_one : (m n : ℕ) → n + 1 ≡ m → m - 1 ≡ n
     less_one m n e = omega (arith, e)
+
+-- ---- the parts of an engine that is opened
+
+length_none : {X : Type 0} (p : X → Bool) (x : X) → p x ≡ false → (n : ℕ) → length (filter p (replicate n x)) ≡ 0
+length_none p x out zero = refl
+length_none p x out (suc n) = ap (λ b. length (cond b (x ∷ filter p (replicate n x)) (filter p (replicate n x)))) out ∙ length_none p x out n
+
+length_each : {X : Type 0} (p : X → Bool) (x : X) → p x ≡ true → (n : ℕ) → length (filter p (replicate n x)) ≡ n
+length_each p x here zero = refl
+length_each p x here (suc n) = ap (λ b. length (cond b (x ∷ filter p (replicate n x)) (filter p (replicate n x)))) here ∙ ap suc (length_each p x here n)
+
+pub map_replicate : {X Y : Type 0} (f : X → Y) (x : X) (n : ℕ) → map f (replicate n x) ≡ replicate n (f x)
+map_replicate f x zero = refl
+map_replicate f x (suc n) = ap (λ t. f x ∷ t) (map_replicate f x n)
+
+no_entries : (n pool : ℕ) → get_or {A = List Entry} (replicate n []) pool [] ≡ []
+no_entries zero pool = refl
+no_entries (suc n) zero = refl
+no_entries (suc n) (suc pool) = no_entries n pool
+
+none_held : (n : ℕ) → sum_by {X = List Entry} length (replicate n []) ≡ 0
+none_held zero = refl
+none_held (suc n) = none_held n
+
+none_marked : (n : ℕ) → AreMarked [] (replicate n unattached_row)
+none_marked zero = tt
+none_marked (suc n) = ((λ busy. absurd (busy refl)), none_marked n)
+
+length_rep : {X : Type 0} (x : X) (n : ℕ) → length (replicate n x) ≡ n
+length_rep x zero = refl
+length_rep x (suc n) = ap suc (length_rep x n)
+
+pub kept_open : (limits : Limits) → AreLimitsInRange limits
+    → AreKept limits (record { limit = limits.pools; pools = made_pool limits.workers ∷ []; workers = replicate limits.workers unattached_row }) (record { limit = limits.objects; rows = [] }) (record { slots = limits.slots; rows = [] })
+    (record { slots = limits.slots; queues = replicate limits.pools [] }) (replicate limits.clients unfinished) 0 limits.clients 0
+kept_open limits in_range =
+    let pools : Pools = record { limit = limits.pools; pools = made_pool limits.workers ∷ []; workers = replicate limits.workers unattached_row } in
+    let objects : Table Object = record { limit = limits.objects; rows = [] } in
+    let shown : map shown_worker (replicate limits.workers unattached_row) ≡ replicate limits.workers unattached = map_replicate shown_worker unattached_row limits.workers in
+    record {
+      in_range = in_range;
+      pool_limit = refl;
+      pools_within = omega (arith, in_range.pools_least);
+      worker_count = length_rep unattached_row limits.workers;
+      client_count = length_rep unfinished limits.clients;
+      object_limit = refl;
+      slot_limit = refl;
+      queue_slots = refl;
+      queue_count = length_rep [] limits.pools;
+      live = refl;
+      sound = subst (λ ws. IsSound 1 (record (opening limits) { workers = ws })) (sym shown) (opening_sound limits);
+      queued = λ pool. no_entries limits.pools pool;
+      held_all = none_held limits.pools;
+      marked = none_marked limits.workers;
+      run = λ pool. sym (length_none (runs_in pool) unattached_row refl limits.workers);
+      run_long = λ pool. sym (length_none (runs_long_in pool) unattached_row refl limits.workers);
+      owes = omega (
+        arith,
+        ap (λ ws. length (filter (λ (r : WorkerRow). is_some r.pool) ws)) shown ∙ length_none (λ (r : WorkerRow). is_some r.pool) unattached refl limits.workers,
+        length_each (λ (r : ClientRow). not r.finished) unfinished refl limits.clients,
+      );
+      few_made = omega arith;
+      few_owed = omega (arith, in_range.clients_most);
+    }

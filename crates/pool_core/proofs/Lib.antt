@@ -1,2 +1,5 @@
+pub mod Counting
 pub mod Keeping
 pub mod Queued
+pub mod Refusing
+pub mod Showing

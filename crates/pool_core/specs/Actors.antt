@@ -1,7 +1,7 @@
 -- What the conditions of a refusal ask of an actor.
 use Rattle.tp_base.specs.declared.ids.Who.{Who}
 use Rattle.tp_model.specs.World.{World}
-use Rattle.tp_model.specs.Conditions.{is_actor, is_finished, is_worker, is_without_callback, runs_callback, is_attached}
+use Rattle.tp_model.specs.Conditions.{is_actor, is_finished, is_worker, is_without_callback, runs_callback, is_attached, is_in_wait}
 use Rattle.pool_core.specs.declared.actors.Actor.{Actor}
 
 abbrev pub actor_of : World → Who → Actor
@@ -12,4 +12,5 @@ actor_of w who = record {
   runs = runs_callback w who;
   is_idle = is_without_callback w who;
   is_attached = is_attached w who;
-  }
+  in_wait = is_in_wait w who;
+}

@@ -1,5 +1,5 @@
 -- What the parts of an engine keep between calls: each index and each counter says of the rows what it is for.
-use Rattle.std.specs.Prelude.{◌≡◌, ◌≢◌, ℕ, ◌+◌, ◌*◌, ◌^◌, ◌<◌, ◌≤◌, Bool, List, [], ◌∷◌, length, map, nat_lt, None, Some, Option}
+use Rattle.std.specs.Prelude.{◌≡◌, ◌≢◌, ℕ, ◌+◌, ◌*◌, ◌≤◌, Bool, List, length, map, Some}
 use Rattle.std.specs.List.{filter, find, AllByRecursion}
 use Rattle.tp_base.specs.declared.limits.Limits.{Limits}
 use Rattle.tp_base.specs.declared.rows.ClientRow.{ClientRow}
@@ -11,7 +11,6 @@ use Rattle.prio_queue.specs.Pending.{Pending, queue_of, held}
 use Rattle.pool_rows.specs.Pools.{Pools}
 use Rattle.pool_rows.specs.Workers.{runs_in, runs_long_in}
 use Rattle.pool_rows.specs.declared.WorkerRow.{WorkerRow}
-use Rattle.tp_model.specs.World.{World}
 use Rattle.tp_model.specs.Counts.{has_number, is_pending, queue, running, running_long, owed}
 use Rattle.tp_model.specs.Sound.{IsSound}
 use Rattle.tp_model.specs.Remembered.{lives}

@@ -1,5 +1,5 @@
 -- The world that the parts of an engine show.
-use Rattle.std.specs.Prelude.{ℕ, ◌==◌, Bool, List, [], ◌∷◌, map, if◌then◌else◌, None, Some, Option}
+use Rattle.std.specs.Prelude.{ℕ, ◌==◌, List, [], map, if◌then◌else◌, None, Some}
 use Rattle.tp_base.specs.declared.limits.Limits.{Limits}
 use Rattle.tp_base.specs.declared.calls.Priority.{Priority}
 use Rattle.tp_base.specs.declared.calls.Priority.TheVariants.{High, Normal, Low}
@@ -46,4 +46,4 @@ world_of limits pools objects callbacks clients = record {
   waits = [];
   now = 0;
   given_up = 0;
-  }
+}

@@ -9,7 +9,7 @@ remembered a = record {
   world = world_of a.limits a.pools a.objects a.callbacks.rows a.clients.items;
   made = a.made;
   age = a.age;
-  }
+}
 
 abbrev pub IsEngine : Inside → Type 0
 IsEngine a = AreKept a.limits a.pools a.objects a.callbacks a.queues a.clients.items a.made a.owed a.age

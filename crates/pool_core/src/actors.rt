@@ -19,6 +19,8 @@ pub struct Actor {
     /// A worker that runs none.
     pub is_idle: bool,
     pub is_attached: bool,
+    /// It has a wait begun. No call begins one yet.
+    pub in_wait: bool,
 }
 
 const NO_CLIENT: Actor = Actor {
@@ -28,6 +30,7 @@ const NO_CLIENT: Actor = Actor {
     runs: false,
     is_idle: false,
     is_attached: false,
+    in_wait: false,
 };
 
 const NO_WORKER: Actor = Actor {
@@ -37,6 +40,7 @@ const NO_WORKER: Actor = Actor {
     runs: false,
     is_idle: false,
     is_attached: false,
+    in_wait: false,
 };
 
 impl Engine {

@@ -68,6 +68,58 @@ impl Model for Engine {
 }
 
 impl Engine {
+    /// Opens the engine of a machine with these limits, before its first call.
+    ///
+    /// It takes all the memory that the engine will ever need; an `AllocError` comes where that
+    /// isn't there.
+    pub fn open(alloc: Global, limits: Limits) -> Result<Engine, AllocError>
+        requires { AreLimitsInRange limits }
+        ensures stands { IfOk result (λ engine. StandsFor engine (opening limits)) }
+        ensures age { IfOk result (λ engine. engine.age ≡ 0) }
+    {
+        let pools = PoolRows::open(alloc, limits.pools, limits.workers)?;
+        let objects = Rows::open(alloc, limits.objects)?;
+        let callbacks = CallbackRows::open(alloc, limits.slots)?;
+        let queues = Queues::open(alloc, limits.pools, limits.slots)?;
+        let clients = clients::open_clients(alloc, limits.clients)?;
+        Ok(Engine {
+            limits,
+            pools,
+            objects,
+            callbacks,
+            queues,
+            clients,
+            made: 0,
+            owed: u64::from(limits.clients),
+            age: 0,
+        })
+    }
+
+    /// Makes a call of an actor.
+    ///
+    /// `room` is how many more entries the history has room for, less those that are owed. The
+    /// outcome is the answer, which is the call's entry; or a look, where nothing happened yet; or
+    /// Full, where the call costs more than there is room for. It takes no memory.
+    pub fn step(&mut self, who: Who, call: Call, room: u64) -> Outcome
+        requires in_range { IsCallInRange call }
+        requires young { self.old.age < 2 ^ 47 }
+        ensures { (w : World) → StandsFor self.old w → Meets self.old self.new w (step w room who call) result }
+    {
+        match call {
+            Call::Create {
+                kind,
+                routine,
+                context,
+                env,
+            } => self.create(who, kind, routine, context, env, room),
+            Call::SubmitWork { object } => self.submit_work(who, object, room),
+            Call::Attach => self.attach(who, room),
+            Call::Take => self.take(who, room),
+            Call::Return => self.return_callback(who, room),
+            Call::Finish => self.finish(who, room),
+        }
+    }
+
     /// The number of entries for which the history must keep room: each running callback returns,
     /// each attached worker detaches, each client finishes.
     pub fn owed(&self) -> u64

@@ -1,18 +1,18 @@
 //! The moves of an engine: here alone its parts change, so that what each index and counter is for
 //! stays true.
 
-ghost use Rattle.std.specs.Prelude.{◌≡◌, ◌+◌, ◌-◌, ◌^◌, ◌<◌, length, None, Some, true};
+ghost use Rattle.std.specs.Prelude.{◌≡◌, ◌+◌, ◌-◌, ◌^◌, ◌<◌, length, None, Some, true, false};
 ghost use Rattle.handle_table.specs.Table.{live};
 ghost use Rattle.tp_base.specs.declared.rows.WorkerRow.{WorkerRow};
 ghost use Rattle.tp_base.specs.declared.rows.CallbackRow.{CallbackRow};
 ghost use Rattle.tp_model.specs.Counts.{numbered, callback_of, is_pending};
+ghost use Rattle.tp_model.specs.Conditions.{lacks_slots_for};
 ghost use Rattle.tp_model.specs.Rows.{with_object, with_new_callback, with_callback, with_worker, with_client, started, returned};
 ghost use Rattle.tp_model.specs.Remembered.{remembered_in};
-
 ghost use Rattle.pool_core.specs.Parts.{priority_byte as priority_byte_of};
 
-use crate::objects::Object;
 use crate::Engine;
+use crate::objects::Object;
 use tp_base::calls::Priority;
 use tp_base::ids::PoolId;
 use tp_base::rows::{CallbackRow, ClientRow, Slots, Status};
@@ -55,7 +55,7 @@ impl Engine {
 
     /// Makes a callback that waits for a worker.
     pub(crate) fn queue_callback(&mut self, callback: CallbackRow)
-        requires room { length self.old.world.callbacks < self.old.world.limits.slots }
+        requires room { lacks_slots_for self.old.world 1 ≡ false }
         requires number { callback.number ≡ self.old.made + 1 }
         requires pending { is_pending callback.status ≡ true }
         requires made { callback.pool.0 < length self.old.world.pools }
@@ -63,7 +63,11 @@ impl Engine {
         ensures { self.new ≡ remembered_in self.old (with_new_callback self.old.world callback) }
     {
         self.callbacks.push(callback);
-        self.queues.push(callback.pool.0, priority_byte(callback.priority), callback.number);
+        self.queues.push(
+            callback.pool.0,
+            priority_byte(callback.priority),
+            callback.number,
+        );
         self.made += 1;
         self.age += 1;
     }

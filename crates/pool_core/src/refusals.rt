@@ -1,6 +1,6 @@
 //! Which refusal is answered.
 
-ghost use Rattle.std.specs.Prelude.{◌≡◌};
+ghost use Rattle.std.specs.Prelude.{◌≡◌, ◌||◌};
 ghost use Rattle.tp_model.specs.Step.{first_refusal, unless_full, outcome_of, Refused};
 
 use tp_base::answers::{Answer, Outcome, Refusal};
@@ -26,4 +26,11 @@ pub fn refused(refusal: Refusal, room: u64) -> Outcome
     } else {
         Outcome::Done(Answer::Refused(refusal))
     }
+}
+
+/// Whether one of two conditions holds.
+pub fn either(first: bool, second: bool) -> bool
+    ensures { result ≡ (first || second) }
+{
+    first || second
 }

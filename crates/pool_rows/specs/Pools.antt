@@ -34,12 +34,16 @@ counts_of pool rows = option_map (λ (row : PoolRow). record {
 -- the row of this pool is changed by f, and nothing else
 abbrev pub with_pool : ℕ → (PoolRow → PoolRow) → Pools → Pools
 with_pool pool f rows =
-    record rows { pools = option_map_or (λ row. slice_set rows.pools pool (f row)) (slice_get rows.pools pool) rows.pools }
+    record rows {
+      pools = option_map_or (λ row. slice_set rows.pools pool (f row)) (slice_get rows.pools pool) rows.pools;
+    }
 
 -- the row of this worker is changed by f, and nothing else
 abbrev pub with_worker : ℕ → (WorkerRow → WorkerRow) → Pools → Pools
 with_worker number f rows =
-    record rows { workers = option_map_or (λ worker. slice_set rows.workers (number - 1) (f worker)) (worker_of number rows) rows.workers }
+    record rows {
+      workers = option_map_or (λ worker. slice_set rows.workers (number - 1) (f worker)) (worker_of number rows) rows.workers;
+    }
 
 -- a pool as it is made: a minimum of 0 and a maximum of all workers
 abbrev pub made_pool : ℕ → PoolRow

@@ -87,7 +87,11 @@ impl PoolRows {
     pub fn open(alloc: Global, pools: u32, workers: u32) -> Result<PoolRows, AllocError>
         requires a_pool { 1 ≤ pools }
         requires a_worker { 1 ≤ workers }
-        ensures { IfOk result (λ rows. rows ≡ record { limit = pools; pools = made_pool workers ∷ []; workers = replicate workers unattached }) }
+        ensures { IfOk result (λ rows. rows ≡ record {
+          limit = pools;
+          pools = made_pool workers ∷ [];
+          workers = replicate workers unattached;
+        }) }
     {
         let mut entries = Vec::with_capacity(alloc, pools as usize)?;
         entries.push_reserved(PoolEntry::made(workers));
@@ -110,12 +114,15 @@ impl PoolRows {
         self.pools.len() as u32
     }
 
-    /// Makes a pool, which is open, has the minimum 0 and as its maximum the number of workers.
+    /// Makes a pool: `CreateThreadpool`. It is open, and has the minimum 0 and as its maximum the
+    /// number of workers.
     ///
     /// `ObjectLimit` comes where as many pools were made as the limit says, and nothing changes.
     pub fn create(&mut self) -> Result<PoolId, Refusal>
         ensures number { IfOk result (λ pool. pool.0 ≡ length self.old.pools) }
-        ensures made { OnOk result (self.new ≡ record self.old { pools = self.old.pools ++ made_pool (length self.old.workers) ∷ [] }) }
+        ensures made { OnOk result (self.new ≡ record self.old {
+          pools = self.old.pools ++ made_pool (length self.old.workers) ∷ [];
+        }) }
         ensures refused { IsErr result ↔ (length self.old.pools ≡ self.old.limit) }
         ensures refusal { IfErr result (λ refusal. refusal ≡ Refusal.ObjectLimit) }
         ensures unchanged { OnErr result (self.new ≡ self.old) }
@@ -211,7 +218,8 @@ impl PoolRows {
     pub fn take(&mut self, number: u32, callback: u64, long: bool)
         requires idle { IsSomeAnd (worker_of number self.old) IsIdle }
         requires a_callback { 0 < callback }
-        ensures { self.new ≡ with_worker number (λ worker. record worker { callback = callback; long = long }) self.old }
+        ensures { self.new
+            ≡ with_worker number (λ worker. record worker { callback = callback; long = long }) self.old }
     {
         let worker = self.worker(number).unwrap();
         self.put(
@@ -242,7 +250,8 @@ impl PoolRows {
     /// Ends the callback of a worker that runs one. The worker stays attached and runs nothing.
     pub fn give_back(&mut self, number: u32)
         requires { IsSomeAnd (worker_of number self.old) (λ worker. 0 < worker.callback) }
-        ensures { self.new ≡ with_worker number (λ worker. record worker { callback = 0; long = false }) self.old }
+        ensures { self.new
+            ≡ with_worker number (λ worker. record worker { callback = 0; long = false }) self.old }
     {
         let worker = self.worker(number).unwrap();
         self.put(

@@ -69,7 +69,14 @@ impl PoolEntry {
     }
 
     pub fn counts(&self) -> Counts
-        ensures { result ≡ record { minimum = self.now.row.minimum; maximum = self.now.row.maximum; closed = self.now.row.closed; running = self.now.tally.running; attached = self.now.tally.attached; long = self.now.tally.long } }
+        ensures { result ≡ record {
+          minimum = self.now.row.minimum;
+          maximum = self.now.row.maximum;
+          closed = self.now.row.closed;
+          running = self.now.tally.running;
+          attached = self.now.tally.attached;
+          long = self.now.tally.long;
+        } }
     {
         Counts {
             minimum: self.row.minimum,

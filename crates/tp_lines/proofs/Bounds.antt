@@ -70,13 +70,64 @@ action_short Mutex = omega arith
 action_short Semaphore = omega arith
 action_short Event = omega arith
 
-word_short : (w : Word) → length (text_of_word w) ≤ 20
+word_short : (w : Word) → length (text_of_word w) ≤ 30
 word_short word.Create = omega arith
 word_short word.Submit = omega arith
 word_short word.Attach = omega arith
 word_short word.Take = omega arith
 word_short word.Return = omega arith
 word_short word.Finish = omega arith
+word_short word.Done = omega arith
+word_short word.Made = omega arith
+word_short word.Queued = omega arith
+word_short word.Was = omega arith
+word_short word.Flag = omega arith
+word_short word.Freed = omega arith
+word_short word.Later = omega arith
+word_short word.Closing = omega arith
+word_short word.Begun = omega arith
+word_short word.Ended = omega arith
+word_short word.Exhausted = omega arith
+word_short word.Stalled = omega arith
+word_short word.Notice = omega arith
+word_short word.Started = omega arith
+word_short word.Operation = omega arith
+word_short word.Cancelled = omega arith
+word_short word.Count = omega arith
+word_short word.Advanced = omega arith
+word_short word.Attached = omega arith
+word_short word.Taken = omega arith
+word_short word.Returned = omega arith
+word_short word.Refused = omega arith
+word_short word.Plain = omega arith
+word_short word.Object = omega arith
+word_short word.Timeout = omega arith
+word_short word.Io = omega arith
+word_short word.NoSuch = omega arith
+word_short word.WrongKind = omega arith
+word_short word.Released = omega arith
+word_short word.PoolClosed = omega arith
+word_short word.GroupClosed = omega arith
+word_short word.DefaultPool = omega arith
+word_short word.NotWorker = omega arith
+word_short word.NotRunning = omega arith
+word_short word.StillRunning = omega arith
+word_short word.InWait = omega arith
+word_short word.NoWaitBegun = omega arith
+word_short word.OwnCallback = omega arith
+word_short word.HasMembers = omega arith
+word_short word.NotStarted = omega arith
+word_short word.NoOperation = omega arith
+word_short word.OperationsOutstanding = omega arith
+word_short word.SlotTaken = omega arith
+word_short word.NotOwner = omega arith
+word_short word.OverMaximum = omega arith
+word_short word.NotWaitable = omega arith
+word_short word.ClockEnd = omega arith
+word_short word.ObjectLimit = omega arith
+word_short word.CallbackLimit = omega arith
+word_short word.NotAttached = omega arith
+word_short word.AlreadyAttached = omega arith
 
 part_short : (f : Form) (held : Value) → IsSoundForm f → Holds f held → length (part_text f held) ≤ 22
 part_short form.Nothing held sound h = omega arith
@@ -109,7 +160,7 @@ narrow_listed [] narrow s listed = absurd listed
 narrow_listed (x ∷ shapes) narrow s (inl e) = let h = (narrow_cons x shapes (nat_le (length x.fields) 8) refl narrow).0 in omega (arith, h, ap (λ y. length y.fields) e)
 narrow_listed (x ∷ shapes) narrow s (inr listed) = narrow_listed shapes (narrow_cons x shapes (nat_le (length x.fields) 8) refl narrow).1 s listed
 
-pub row_short : (shapes : List Shape) → IsTrue (all_narrow shapes) → (p : Shape × List Value) (t : List ℕ) → Rows shapes p t → length t ≤ 200
+pub row_short : (shapes : List Shape) → IsTrue (all_narrow shapes) → (p : Shape × List Value) (t : List ℕ) → Rows shapes p t → length t ≤ 220
 row_short shapes narrow (s, values) t row =
     let r = row_text shapes s values t row in
     omega (arith, ap length r.2, length-append (text_of_word s.word) (tail_text value.Nothing s.fields values), word_short s.word, tail_short value.Nothing s.fields values r.1, narrow_listed shapes narrow s r.0)
@@ -118,7 +169,7 @@ who_short : (who : Who) → IsWhoInRange who → length (text_of_who who) ≤ 21
 who_short (Client n) h = omega (arith, decimal_short n (omega (arith, h.1)))
 who_short (Worker n) h = omega (arith, decimal_short n (omega (arith, h.1)))
 
-pub call_short : (c : Call) (t : List ℕ) → IsCallText c t → length t ≤ 200
+pub call_short : (c : Call) (t : List ℕ) → IsCallText c t → length t ≤ 220
 call_short c t a = let r = call_row c t a in row_short CALLS.shapes refl r.0 t r.1
 
 pub line_short : (p : Who × Call) (t : List ℕ) → CallLines p t → length t ≤ 250

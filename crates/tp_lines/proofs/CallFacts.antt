@@ -257,3 +257,10 @@ calls_tail = record {
     opens = λ c t a. subst (λ l. Opens 32 l) (sym a.split) refl;
     some = (call.Take, 32 ∷ codes "take", record { in_range = tt; readable = tt; split = refl });
   }
+
+some_none : (c : Call) (o : Option Call) → o ≡ Some c → o ≡ None → ⊥
+some_none c o e f = cc
+
+-- each row of the calls stands for a call
+pub none_stands : (s : Shape) (values : List Value) (t : List ℕ) → Rows CALLS.shapes (s, values) t → call_of s.word values ≡ None → ⊥
+none_stands s values t row e = let c = row_call s values t row in some_none c.0 (call_of s.word values) c.1 e

@@ -11,7 +11,7 @@ use Rattle.line_grammar.proofs.Readings.{read_same, led_part, led_none, led_then
 use Rattle.line_grammar.proofs.WordFacts.{differ, lacking_part, lacks_apart, further_read}
 use Rattle.tp_lines.specs.declared.shapes.Shape.{Shape}
 use Rattle.tp_lines.specs.declared.shapes.Word.{Word as Verb}
-use Rattle.tp_lines.specs.declared.shapes.Word.TheVariants.{Create, Submit, Attach, Take, Return, Finish}
+use Rattle.tp_lines.specs.declared.shapes.Word.TheVariants as word
 use Rattle.tp_lines.specs.declared.values.Value.{Value}
 use Rattle.tp_lines.specs.declared.values.Value.TheVariants.{Nothing}
 use Rattle.tp_lines.specs.Fields.{Tails}
@@ -67,12 +67,63 @@ module _ (shapes : List Shape) (s : Shape) where
 
 -- the words hold no space
 pub word_lacks : (w : Verb) → IsTrue (lacks 32 (text_of_word w))
-word_lacks Create = refl
-word_lacks Submit = refl
-word_lacks Attach = refl
-word_lacks Take = refl
-word_lacks Return = refl
-word_lacks Finish = refl
+word_lacks word.Create = refl
+word_lacks word.Submit = refl
+word_lacks word.Attach = refl
+word_lacks word.Take = refl
+word_lacks word.Return = refl
+word_lacks word.Finish = refl
+word_lacks word.Done = refl
+word_lacks word.Made = refl
+word_lacks word.Queued = refl
+word_lacks word.Was = refl
+word_lacks word.Flag = refl
+word_lacks word.Freed = refl
+word_lacks word.Later = refl
+word_lacks word.Closing = refl
+word_lacks word.Begun = refl
+word_lacks word.Ended = refl
+word_lacks word.Exhausted = refl
+word_lacks word.Stalled = refl
+word_lacks word.Notice = refl
+word_lacks word.Started = refl
+word_lacks word.Operation = refl
+word_lacks word.Cancelled = refl
+word_lacks word.Count = refl
+word_lacks word.Advanced = refl
+word_lacks word.Attached = refl
+word_lacks word.Taken = refl
+word_lacks word.Returned = refl
+word_lacks word.Refused = refl
+word_lacks word.Plain = refl
+word_lacks word.Object = refl
+word_lacks word.Timeout = refl
+word_lacks word.Io = refl
+word_lacks word.NoSuch = refl
+word_lacks word.WrongKind = refl
+word_lacks word.Released = refl
+word_lacks word.PoolClosed = refl
+word_lacks word.GroupClosed = refl
+word_lacks word.DefaultPool = refl
+word_lacks word.NotWorker = refl
+word_lacks word.NotRunning = refl
+word_lacks word.StillRunning = refl
+word_lacks word.InWait = refl
+word_lacks word.NoWaitBegun = refl
+word_lacks word.OwnCallback = refl
+word_lacks word.HasMembers = refl
+word_lacks word.NotStarted = refl
+word_lacks word.NoOperation = refl
+word_lacks word.OperationsOutstanding = refl
+word_lacks word.SlotTaken = refl
+word_lacks word.NotOwner = refl
+word_lacks word.OverMaximum = refl
+word_lacks word.NotWaitable = refl
+word_lacks word.ClockEnd = refl
+word_lacks word.ObjectLimit = refl
+word_lacks word.CallbackLimit = refl
+word_lacks word.NotAttached = refl
+word_lacks word.AlreadyAttached = refl
 
 has_word_cons : (word : List ℕ) (shape : Shape) (shapes : List Shape) (b : Bool) → bytes_eq word (text_of_word shape.word) ≡ b
     → (if b then true else has_word word shapes) ≡ false → (bytes_eq word (text_of_word shape.word) ≡ false) × (has_word word shapes ≡ false)
@@ -159,3 +210,10 @@ next_shape shapes i d inside word e text r q z further a b =
 pub found_shape : (shapes : List Shape) (i : ℕ) (d : Shape) → i < length shapes → (text word : List ℕ) → text ≡ text_of_word (get_or shapes i d).word
     → true ≡ bytes_eq text word → IsShapeText shapes (get_or shapes i d) word
 found_shape shapes i d inside text word e same = record { listed = listed_at shapes i d inside; split = sym ((bytes_eq-Decides text word).0 (sym same)) ∙ e }
+
+pub first_shape : (shapes : List Shape) (d : Shape) → 0 < length shapes → (word : List ℕ) → word ≡ text_of_word (get_or shapes 0 d).word
+    → (text : List ℕ) (r : Result (Shape × ℕ) ℕ) → IsRead (Word (get_or shapes 0 d) word) text r → IsRead (ShapeTexts (take 1 shapes)) text r
+first_shape shapes d some word e text r read =
+    let one : take 1 shapes ≡ get_or shapes 0 d ∷ [] = take_more shapes 0 d some in
+    subst (λ l. IsRead (ShapeTexts l) text r) (sym one)
+    (one_shape shapes (get_or shapes 0 d) text r (subst (λ w. IsRead (Word (get_or shapes 0 d) w) text r) e read))

@@ -27,6 +27,7 @@ call_of word.Attach values = Some call.Attach
 call_of word.Take values = Some call.Take
 call_of word.Return values = Some call.Return
 call_of word.Finish values = Some call.Finish
+call_of _ values = None
 
 -- the text of a call behind its actor
 pub record IsCallText (call : Call) (text : List ℕ) : Type 0 where

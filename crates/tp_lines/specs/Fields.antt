@@ -22,6 +22,18 @@ form_of before field.Priority = form.Priority
 form_of before field.Length = form.Length
 form_of before field.Group = form.Prefixed 103 0 65535
 form_of before field.Cancel = form.Prefixed 113 0 (if nat_eq (number_of before) 0 then 0 else 65535)
+form_of before field.Made = form.Number 1 65535
+form_of before field.Callback = form.Number 0 18446744073709551615
+form_of before field.Count = form.Number 0 65535
+form_of before field.Level = form.Number 0 2147483647
+form_of before field.Time = form.Number 0 9223372036854775807
+form_of before field.Error = form.Number 0 4294967295
+form_of before field.Bytes = form.Number 0 18446744073709551615
+form_of before field.Origin = form.Prefixed 111 0 65535
+form_of before field.Cleanup = form.Prefixed 121 0 18446744073709551615
+form_of before field.Flag = form.Flag
+form_of before field.Slot = form.Slot
+form_of before field.Action = form.Action
 
 pub record IsSoundRange (least most : ℕ) : Type 0 where
   pub low : least ≤ 1

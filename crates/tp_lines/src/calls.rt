@@ -36,6 +36,7 @@ pub fn call_of(word: Word, values: &[Value; 8]) -> Option<Call>
         Word::Take => Call::Take,
         Word::Return => Call::Return,
         Word::Finish => Call::Finish,
+        _ => return None,
     };
     Some(call)
 }

@@ -45,6 +45,18 @@ pub fn form_of(before: Value, field: Field) -> Form
         Field::Priority => Form::Priority,
         Field::Length => Form::Length,
         Field::Group => Form::Prefixed { letter: b'g', least: 0, most: ID_MOST },
+        Field::Made => Form::Number { least: 1, most: ID_MOST },
+        Field::Callback => Form::Number { least: 0, most: u64::MAX },
+        Field::Count => Form::Number { least: 0, most: ID_MOST },
+        Field::Level => Form::Number { least: 0, most: 2_147_483_647 },
+        Field::Time => Form::Number { least: 0, most: 9_223_372_036_854_775_807 },
+        Field::Error => Form::Number { least: 0, most: 4_294_967_295 },
+        Field::Bytes => Form::Number { least: 0, most: u64::MAX },
+        Field::Origin => Form::Prefixed { letter: b'o', least: 0, most: ID_MOST },
+        Field::Cleanup => Form::Prefixed { letter: b'y', least: 0, most: u64::MAX },
+        Field::Flag => Form::Flag,
+        Field::Slot => Form::Slot,
+        Field::Action => Form::Action,
         Field::Cancel => {
             let most = if before.number() == 0 { 0 } else { ID_MOST };
             Form::Prefixed { letter: b'q', least: 0, most }

@@ -1,7 +1,7 @@
 //! What the fields of lines hold.
 
 ghost use Rattle.std.specs.Prelude.{◌≡◌};
-ghost use Rattle.tp_lines.specs.Values.{flag_of, kind_of, long_of, number_of, priority_of, small_of};
+ghost use Rattle.tp_lines.specs.Values.{action_of, flag_of, kind_of, long_of, number_of, priority_of, slot_of, small_of};
 
 use tp_base::answers::{ActionKind, SlotWord};
 use tp_base::calls::{Kind, Priority};
@@ -81,6 +81,26 @@ impl Value {
         match self {
             Value::Flag(flag) => flag,
             _ => false,
+        }
+    }
+
+    /// What became of an action, or Unasked where this doesn't say.
+    pub fn slot(self) -> SlotWord
+        ensures { result ≡ slot_of self }
+    {
+        match self {
+            Value::Slot(slot) => slot,
+            _ => SlotWord::Unasked,
+        }
+    }
+
+    /// The kind of an action, or Section where this is none.
+    pub fn action(self) -> ActionKind
+        ensures { result ≡ action_of self }
+    {
+        match self {
+            Value::Action(action) => action,
+            _ => ActionKind::Section,
         }
     }
 }
