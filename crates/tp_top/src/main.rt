@@ -3,7 +3,6 @@
 #![tactic(auto)]
 
 mod command;
-mod engine;
 mod playing;
 mod reading;
 mod status;

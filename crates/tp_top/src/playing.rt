@@ -10,7 +10,7 @@ ghost use Rattle.tp_top.specs.Playing.{client_number, clients_in, limits_of, out
 ghost use Rattle.tp_top.specs.Steps.{IsMade};
 ghost use Rattle.tp_top.specs.Trace.{HasLine};
 
-use crate::engine::Engine;
+use pool_core::Engine;
 use std::alloc::{AllocError, Global};
 use tp_base::answers::Outcome;
 use tp_base::calls::Call;
