@@ -26,6 +26,25 @@ pub enum Status {
     TooLong,
 }
 
+impl Status {
+    ghost use Rattle.tp_top.specs.Codes.{code_of};
+
+    /// The exit status of the program.
+    pub fn code(self) -> u8
+        ensures { result ≡ code_of self }
+    {
+        match self {
+            Status::Fine => 0,
+            Status::Words => 1,
+            Status::BadLine { .. } => 2,
+            Status::ReadFault => 3,
+            Status::WriteFault => 4,
+            Status::NoMemory => 5,
+            Status::TooLong => 6,
+        }
+    }
+}
+
 impl From<ReadFault> for Status {
     ghost use Rattle.tp_top.specs.Ends.{status_of_source};
 
