@@ -84,19 +84,32 @@ entry_to : (who : Who) (call : Call) (answer : Answer) (t : List ℕ) → IsPair
 entry_to who call answer t pair =
     let a = arrow_text answer pair.back pair.second in
     record {
-      who_in_range = pair.first.who_in_range; call_in_range = pair.first.call_in_range; readable = pair.first.readable; answer_in_range = a.2.in_range;
+      who_in_range = pair.first.who_in_range;
+      call_in_range = pair.first.call_in_range;
+      readable = pair.first.readable;
+      answer_in_range = a.2.in_range;
       split = pair.split ∙ ap (λ l. l ++ pair.back) pair.first.split ∙ ap (λ l. line_of_call who call ++ l) (a.1 ∙ ap (λ l. 32 ∷ 45 ∷ 62 ∷ l) a.2.split)
           ∙ sym (append_assoc (line_of_call who call) (codes " -> ") (text_of_answer answer));
     }
 
 pub entry_pair : (entry : Entry) (t : List ℕ) → EntryLines entry t → IsPair CallLines (λ p. ArrowTexts) (entry.who, entry.call) entry.answer t
 entry_pair entry t a = record {
-    front = line_of_call entry.who entry.call; back = codes " -> " ++ text_of_answer entry.answer;
-    split = a.split ∙ append_assoc (line_of_call entry.who entry.call) (codes " -> ") (text_of_answer entry.answer);
-    first = record { who_in_range = a.who_in_range; call_in_range = a.call_in_range; readable = a.readable; split = refl };
-    second = record { rest = 45 ∷ 62 ∷ 32 ∷ text_of_answer entry.answer; split = refl; behind =
-        record { rest = 62 ∷ 32 ∷ text_of_answer entry.answer; split = refl; behind =
-        record { rest = 32 ∷ text_of_answer entry.answer; split = refl; behind = record { in_range = a.answer_in_range; split = refl } } } } }
+  front = line_of_call entry.who entry.call;
+  back = codes " -> " ++ text_of_answer entry.answer;
+  split = a.split ∙ append_assoc (line_of_call entry.who entry.call) (codes " -> ") (text_of_answer entry.answer);
+  first = record { who_in_range = a.who_in_range; call_in_range = a.call_in_range; readable = a.readable; split = refl };
+  second = record {
+    rest = 45 ∷ 62 ∷ 32 ∷ text_of_answer entry.answer;
+    split = refl;
+    behind =
+        record {
+          rest = 62 ∷ 32 ∷ text_of_answer entry.answer;
+          split = refl;
+          behind =
+              record { rest = 32 ∷ text_of_answer entry.answer; split = refl; behind = record { in_range = a.answer_in_range; split = refl } };
+        };
+  };
+}
 
 entry_row : (entry : Entry) (t : List ℕ) → EntryLines entry t → (p : (Who × Call) × Answer) × EntryRows p t × (entry ≡ entry_of p)
 entry_row entry t a = (((entry.who, entry.call), entry.answer), entry_pair entry t a, refl)
@@ -137,11 +150,16 @@ refusal_short x t a = let r = refusal_row x t a in row_short REFUSALS.shapes ref
 
 pub answer_short : (x : Answer) (t : List ℕ) → IsAnswerText x t → length t ≤ 440
 answer_short x t a = let r = answer_row x t a in by_row r.0 t r.1
-    where
+  where
     by_row : (p : (Shape × List Value) × Ending) (t : List ℕ) → Pairs (Rows ANSWERS.shapes) (λ q. Endings q.0.word) p t → length t ≤ 440
     by_row ((s, values), end) t pair =
-        omega (arith, ap length pair.split, length-append pair.front pair.back, row_short ANSWERS.shapes refl (s, values) pair.front pair.first,
-          ending_holds (λ l. length l ≤ 220) (omega arith) result_short refusal_short s.word end pair.back pair.second)
+        omega (
+          arith,
+          ap length pair.split,
+          length-append pair.front pair.back,
+          row_short ANSWERS.shapes refl (s, values) pair.front pair.first,
+          ending_holds (λ l. length l ≤ 220) (omega arith) result_short refusal_short s.word end pair.back pair.second,
+        )
 
 pub entry_short : (entry : Entry) (t : List ℕ) → EntryLines entry t → length t ≤ 700
 entry_short entry t a =

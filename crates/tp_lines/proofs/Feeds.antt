@@ -209,7 +209,7 @@ refusal_feedless x t a = let r = refusal_row x t a in row_feedless REFUSALS.shap
 
 answer_feedless : (x : Answer) (t : List ℕ) → IsAnswerText x t → Feedless t
 answer_feedless x t a = let r = answer_row x t a in by_row r.0 t r.1
-    where
+  where
     by_row : (p : (Shape × List Value) × Ending) (t : List ℕ) → Pairs (Rows ANSWERS.shapes) (λ q. Endings q.0.word) p t → Feedless t
     by_row ((s, values), end) t pair =
         subst Feedless (sym pair.split)

@@ -124,8 +124,9 @@ number_back least most held text t = (number_of held, record { at_least = t.hold
 
 pub prefixed_to : (letter least most number : ℕ) (text : List ℕ) → Led letter (Numbers least most) number text → IsFormText (form.Prefixed letter least most) (value.Number number) text
 prefixed_to letter least most number text l = record {
-    holds = record { is = refl; at_least = l.behind.at_least; at_most = l.behind.at_most };
-    split = l.split ∙ ap (λ t. letter ∷ t) l.behind.split }
+  holds = record { is = refl; at_least = l.behind.at_least; at_most = l.behind.at_most };
+  split = l.split ∙ ap (λ t. letter ∷ t) l.behind.split;
+}
 
 pub prefixed_back : (letter least most : ℕ) (held : Value) (text : List ℕ) → IsFormText (form.Prefixed letter least most) held text → AnyOf (Led letter (Numbers least most)) text
 prefixed_back letter least most held text t = (number_of held, record { rest = decimal (number_of held); split = t.split; behind = record { at_least = t.holds.at_least; at_most = t.holds.at_most; split = refl } })

@@ -100,16 +100,20 @@ joined_words who call.Finish = refl
 
 line_to : (who : Who) (c : Call) (t : List ℕ) → IsPair WhoTexts (λ w. CallTexts) who c t → IsCallLine who c t
 line_to who c t p = record {
-    who_in_range = p.first.in_range; call_in_range = p.second.in_range; readable = p.second.readable;
-    split = p.split ∙ ap (λ l. l ++ p.back) p.first.split ∙ ap (λ l. text_of_who who ++ l) p.second.split ∙ joined_words who c;
-  }
+  who_in_range = p.first.in_range;
+  call_in_range = p.second.in_range;
+  readable = p.second.readable;
+  split = p.split ∙ ap (λ l. l ++ p.back) p.first.split ∙ ap (λ l. text_of_who who ++ l) p.second.split ∙ joined_words who c;
+}
 
 pub line_back : (who : Who) (c : Call) (t : List ℕ) → IsCallLine who c t → IsPair WhoTexts (λ w. CallTexts) who c t
 line_back who c t a = record {
-    front = text_of_who who; back = 32 ∷ joined (words_of_call c); split = a.split ∙ sym (joined_words who c);
-    first = record { in_range = a.who_in_range; split = refl };
-    second = record { in_range = a.call_in_range; readable = a.readable; split = refl };
-  }
+  front = text_of_who who;
+  back = 32 ∷ joined (words_of_call c);
+  split = a.split ∙ sym (joined_words who c);
+  first = record { in_range = a.who_in_range; split = refl };
+  second = record { in_range = a.call_in_range; readable = a.readable; split = refl };
+}
 
 lines_to : (p : Who × Call) (t : List ℕ) → Pairs WhoTexts (λ w. CallTexts) p t → CallLines p t
 lines_to (who, c) t p = line_to who c t p

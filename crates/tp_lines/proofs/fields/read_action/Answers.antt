@@ -18,5 +18,5 @@ returns c =
     let four = Word (value.Action Event) (codes "event") in
     actions_read text c.further.result
     (further_read (Either one two) (Either three four) text _ _ _ c.further.ensures
-      (further_read one two text _ _ _ c.further-locks.ensures c.read_word-section.ensures c.read_word-mutex.ensures)
-      (further_read three four text _ _ _ c.further-others.ensures c.read_word-semaphore.ensures c.read_word-event.ensures))
+    (further_read one two text _ _ _ c.further-locks.ensures c.read_word-section.ensures c.read_word-mutex.ensures)
+    (further_read three four text _ _ _ c.further-others.ensures c.read_word-semaphore.ensures c.read_word-event.ensures))

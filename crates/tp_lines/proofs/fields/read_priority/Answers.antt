@@ -17,4 +17,4 @@ returns c =
     let three = Word (value.Priority Low) (codes "low") in
     priorities_read text c.further.result
     (further_read one (Either two three) text _ _ _ c.further.ensures c.read_word-high.ensures
-      (further_read two three text _ _ _ c.further-others.ensures c.read_word-normal.ensures c.read_word-low.ensures))
+    (further_read two three text _ _ _ c.further-others.ensures c.read_word-normal.ensures c.read_word-low.ensures))

@@ -18,5 +18,5 @@ returns c =
     let four = Word (value.Slot OverMaximum) (codes "over-maximum") in
     slots_read text c.further.result
     (further_read (Either one two) (Either three four) text _ _ _ c.further.ensures
-      (further_read one two text _ _ _ c.further-done.ensures c.read_word-unasked.ensures c.read_word-performed.ensures)
-      (further_read three four text _ _ _ c.further-left.ensures c.read_word-owner.ensures c.read_word-maximum.ensures))
+    (further_read one two text _ _ _ c.further-done.ensures c.read_word-unasked.ensures c.read_word-performed.ensures)
+    (further_read three four text _ _ _ c.further-left.ensures c.read_word-owner.ensures c.read_word-maximum.ensures))
