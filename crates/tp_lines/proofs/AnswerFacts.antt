@@ -1,37 +1,32 @@
 -- Answers, and the rows that stand for them.
-use Rattle.std.proofs.Common.{◌≡◌, ℕ, ◌+◌, ◌<◌, ◌≤◌, ◌^◌, List, [], ◌∷◌, ◌++◌, length, take, drop, refl, sym, ap, ◌∙◌, subst, arith, ◌⊎◌, inl, inr, Bool, true, false}
-use Rattle.std.specs.Prelude.{Result, Ok, Err, Option, Some, None, decimal, codes, unwrap_or}
+use Rattle.std.proofs.Common.{◌≡◌, ℕ, ◌+◌, List, [], ◌∷◌, ◌++◌, take, drop, refl, sym, ap, ◌∙◌, subst, arith, inl, inr, true, false}
+use Rattle.std.specs.Prelude.{Option, Some, None, decimal, codes, unwrap_or}
 use Rattle.std.proofs.lemmas.List.{append-nil}
-use Rattle.line_grammar.specs.Language.{AnyOf, IsRead, IsReadTo, IsStuck}
+use Rattle.line_grammar.specs.Language.{AnyOf, IsReadTo, IsStuck}
 use Rattle.line_grammar.specs.Parts.{IsPair, Pairs, Opens, IsPart, IsTail}
 use Rattle.line_grammar.proofs.Pairs.{pairs_read, pairs_stuck_first, pairs_stuck_second, pairs_part}
-use Rattle.line_grammar.proofs.Readings.{read_same, part_renamed, read_renamed, stuck_renamed}
-use Rattle.tp_base.specs.declared.answers.ActionKind.{ActionKind}
+use Rattle.line_grammar.proofs.Readings.{part_renamed, read_renamed, stuck_renamed}
 use Rattle.tp_base.specs.declared.answers.Answer.{Answer}
 use Rattle.tp_base.specs.declared.answers.Answer.TheVariants as answer
 use Rattle.tp_base.specs.declared.answers.Refusal.{Refusal}
-use Rattle.tp_base.specs.declared.answers.Refusal.TheVariants as refusal
-use Rattle.tp_base.specs.declared.answers.SlotWord.{SlotWord}
 use Rattle.tp_base.specs.declared.answers.TakeResult.{TakeResult}
-use Rattle.tp_base.specs.declared.answers.TakeResult.TheVariants as taken
 use Rattle.tp_lines.specs.declared.answers.Ending.{Ending}
 use Rattle.tp_lines.specs.declared.answers.Ending.TheVariants as ending
-use Rattle.tp_lines.specs.declared.shapes.Field.{Field}
 use Rattle.tp_lines.specs.declared.shapes.Field.TheVariants as field
 use Rattle.tp_lines.specs.declared.shapes.Shape.{Shape}
-use Rattle.tp_lines.specs.declared.shapes.TheConstants.{ANSWERS, REFUSALS, RESULTS}
+use Rattle.tp_lines.specs.declared.shapes.TheConstants.{ANSWERS}
 use Rattle.tp_lines.specs.declared.shapes.Word.{Word}
 use Rattle.tp_lines.specs.declared.shapes.Word.TheVariants as word
 use Rattle.tp_lines.specs.declared.values.Value.{Value}
 use Rattle.tp_lines.specs.declared.values.Value.TheVariants as value
-use Rattle.tp_lines.specs.AnswerRows.{result_of, refusal_of, answer_of, IsResultText, ResultTexts, IsRefusalText, RefusalTexts, IsAnswerText, AnswerTexts, ResultEndings, RefusalEndings, NoEndings, Endings}
-use Rattle.tp_lines.specs.Answers.{words_of_answer, words_of_refusal, words_of_result}
+use Rattle.tp_lines.specs.AnswerRows.{answer_of, IsResultText, ResultTexts, IsRefusalText, RefusalTexts, IsAnswerText, AnswerTexts, ResultEndings, RefusalEndings, NoEndings, Endings}
+use Rattle.tp_lines.specs.Answers.{words_of_refusal, words_of_result}
 use Rattle.tp_lines.specs.Fields.{AreHeld}
 use Rattle.tp_lines.specs.Rows.{IsListed, Rows}
 use Rattle.tp_lines.specs.Shapes.{text_of_word}
-use Rattle.tp_lines.specs.Values.{number_of, small_of, flag_of, slot_of, action_of}
-use Rattle.tp_lines.specs.Words.{joined, text_of_flag, text_of_slot, text_of_action}
-use Rattle.tp_lines.proofs.CallFacts.{AreEight, eight, small_is}
+use Rattle.tp_lines.specs.Values.{number_of, small_of, flag_of, slot_of}
+use Rattle.tp_lines.specs.Words.{joined, text_of_flag, text_of_slot}
+use Rattle.tp_lines.proofs.CallFacts.{eight, small_is}
 use Rattle.tp_lines.proofs.RowFacts.{rows_part}
 use Rattle.tp_lines.proofs.WordRows.{tail_words, joined_append, row_words, row_from_words, small_bounded}
 use Rattle.tp_lines.proofs.RefusalFacts.{refusal_part, refusal_tail, refusal_words}

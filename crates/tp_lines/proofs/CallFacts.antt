@@ -1,18 +1,15 @@
 -- Calls and the rows that stand for them.
-use Rattle.std.proofs.Common.{◌≡◌, ℕ, ◌+◌, ◌<◌, ◌≤◌, ◌^◌, List, [], ◌∷◌, ◌++◌, length, take, drop, get_or, refl, sym, ap, ◌∙◌, subst, arith, ◌⊎◌, inl, inr, Bool, true, false, IsTrue, leb}
-use Rattle.std.specs.Prelude.{Result, Ok, Err, Option, Some, None, nat_eq, nat_le, if◌then◌else◌, decimal, codes, unwrap_or}
-use Rattle.std.proofs.lemmas.Bool.{eqb-true, eqb-false, leb-true, leb-false}
+use Rattle.std.proofs.Common.{◌≡◌, ℕ, ◌≤◌, List, [], ◌∷◌, ◌++◌, refl, sym, ap, ◌∙◌, subst, arith, inl, inr, Bool, true, false}
+use Rattle.std.specs.Prelude.{Option, Some, None, nat_eq, nat_le, if◌then◌else◌, decimal, codes, unwrap_or}
+use Rattle.std.proofs.lemmas.Bool.{eqb-true, eqb-false, leb-false}
 use Rattle.std.proofs.lemmas.List.{append-nil}
-use Rattle.line_grammar.specs.Language.{Begins, Stops, Reaches, AnyOf, IsRead, IsReadTo, IsStuck}
-use Rattle.line_grammar.specs.Numbers.{IsNumber, Numbers}
-use Rattle.line_grammar.specs.Parts.{IsLed, Led, IsPair, Pairs, Opens, IsPart, IsTail}
-use Rattle.line_grammar.proofs.Readings.{read_same, part_renamed, read_renamed, stuck_renamed}
+use Rattle.line_grammar.specs.Language.{AnyOf, IsReadTo, IsStuck}
+use Rattle.line_grammar.specs.Parts.{Opens, IsPart, IsTail}
+use Rattle.line_grammar.proofs.Readings.{part_renamed, read_renamed, stuck_renamed}
 use Rattle.tp_base.specs.declared.calls.Call.{Call}
 use Rattle.tp_base.specs.declared.calls.Call.TheVariants as call
 use Rattle.tp_base.specs.declared.calls.Kind.{Kind}
-use Rattle.tp_base.specs.declared.calls.Kind.TheVariants.{Work}
 use Rattle.tp_base.specs.declared.calls.Priority.{Priority}
-use Rattle.tp_base.specs.Ranges.{IsCallInRange, IsRoutineInRange, IsEnvironInRange}
 use Rattle.tp_lines.specs.declared.shapes.TheConstants.{CALLS}
 use Rattle.tp_lines.specs.declared.shapes.Field.{Field}
 use Rattle.tp_lines.specs.declared.shapes.Field.TheVariants as field
@@ -21,13 +18,11 @@ use Rattle.tp_lines.specs.declared.shapes.Word.{Word}
 use Rattle.tp_lines.specs.declared.shapes.Word.TheVariants as word
 use Rattle.tp_lines.specs.declared.values.Value.{Value}
 use Rattle.tp_lines.specs.declared.values.Value.TheVariants as value
-use Rattle.tp_lines.specs.Calls.{IsReadable, words_of_call}
-use Rattle.tp_lines.specs.CallRows.{value_at, call_of, IsCallText, CallTexts}
-use Rattle.tp_lines.specs.Fields.{form_of, Holds, IsNumberValue, AreHeld, tail_text, IsTailText, Tails}
+use Rattle.tp_lines.specs.CallRows.{call_of, IsCallText, CallTexts}
+use Rattle.tp_lines.specs.Fields.{form_of, Holds, IsNumberValue, AreHeld, tail_text}
 use Rattle.tp_lines.specs.Shapes.{text_of_word}
-use Rattle.tp_lines.specs.Rows.{IsListed, IsShapeText, ShapeTexts, Rows}
+use Rattle.tp_lines.specs.Rows.{IsListed, Rows}
 use Rattle.tp_lines.specs.Values.{number_of, small_of, kind_of, priority_of, long_of}
-use Rattle.tp_lines.specs.Words.{joined}
 use Rattle.tp_lines.proofs.RowFacts.{rows_part}
 
 pub small_is : (held : Value) → held ≡ value.Number (number_of held) → number_of held ≤ 4294967295 → small_of held ≡ number_of held

@@ -1,9 +1,9 @@
 -- Entries: the line of a call, an arrow and an answer.
-use Rattle.std.proofs.Common.{◌≡◌, ℕ, ◌+◌, ◌<◌, ◌≤◌, List, [], ◌∷◌, ◌++◌, length, take, drop, refl, sym, ap, ◌∙◌, subst, arith, IsTrue}
-use Rattle.std.specs.Prelude.{Result, Ok, Err, codes}
+use Rattle.std.proofs.Common.{◌≡◌, ℕ, ◌+◌, ◌≤◌, List, ◌∷◌, ◌++◌, length, drop, refl, sym, ap, ◌∙◌, subst, arith}
+use Rattle.std.specs.Prelude.{codes}
 use Rattle.std.proofs.lemmas.List.{append_assoc, length-append}
-use Rattle.line_grammar.specs.Language.{AnyOf, IsRead, IsReadTo, IsStuck}
-use Rattle.line_grammar.specs.Parts.{IsLed, Led, IsPair, Pairs, IsPart, IsTail}
+use Rattle.line_grammar.specs.Language.{AnyOf, IsReadTo, IsStuck}
+use Rattle.line_grammar.specs.Parts.{Led, IsPair, Pairs, IsPart, IsTail}
 use Rattle.line_grammar.proofs.Pairs.{pairs_read, pairs_stuck_first, pairs_stuck_second, pairs_part}
 use Rattle.line_grammar.proofs.Readings.{part_renamed, read_renamed, stuck_renamed, led_none, led_part, led_tail, led_then, led_then_stuck}
 use Rattle.tp_base.specs.declared.answers.Answer.{Answer}
@@ -18,9 +18,8 @@ use Rattle.tp_lines.specs.declared.shapes.Shape.{Shape}
 use Rattle.tp_lines.specs.declared.values.Value.{Value}
 use Rattle.tp_lines.specs.Rows.{Rows}
 use Rattle.tp_lines.specs.AnswerRows.{AnswerTexts, ArrowTexts, Endings, IsAnswerText, IsRefusalText, IsResultText}
-use Rattle.tp_lines.specs.Answers.{EntryLines, IsEntryLine, line_of_entry, text_of_answer, words_of_answer}
-use Rattle.tp_lines.specs.Calls.{CallLines, IsCallLine, line_of_call}
-use Rattle.tp_lines.specs.Words.{joined}
+use Rattle.tp_lines.specs.Answers.{EntryLines, text_of_answer}
+use Rattle.tp_lines.specs.Calls.{CallLines, line_of_call}
 use Rattle.tp_lines.proofs.AnswerFacts.{answer_part, answer_row, answer_tail, ending_holds}
 use Rattle.tp_lines.proofs.Bounds.{line_short, row_short}
 use Rattle.tp_lines.proofs.RefusalFacts.{refusal_row}

@@ -1,9 +1,9 @@
 -- Fields, one after another.
-use Rattle.std.proofs.Common.{◌≡◌, ℕ, ◌+◌, ◌<◌, ◌≤◌, List, [], ◌∷◌, ◌++◌, length, take, drop, get_or, set, refl, sym, ap, ◌∙◌, subst, arith, ◌⊎◌, inl, inr}
-use Rattle.std.specs.Prelude.{Result, Ok, Err}
+use Rattle.std.proofs.Common.{◌≡◌, ℕ, ◌+◌, ◌<◌, ◌≤◌, List, [], ◌∷◌, ◌++◌, length, take, drop, get_or, set, refl, sym, ap, ◌∙◌, subst, arith}
+use Rattle.std.specs.Prelude.{Ok, Err}
 use Rattle.std.proofs.lemmas.List.{drop_more, get_or-take, get_or-set_same, take-take, take-set}
-use Rattle.line_grammar.specs.Language.{Begins, Stops, Reaches, AnyOf, IsRead, IsReadTo, IsStuck}
-use Rattle.line_grammar.specs.Parts.{IsLed, Led, IsPair, Pairs, Opens, IsPart, IsTail}
+use Rattle.line_grammar.specs.Language.{Stops, AnyOf, IsReadTo, IsStuck}
+use Rattle.line_grammar.specs.Parts.{Led, IsPair, Pairs, Opens, IsPart, IsTail}
 use Rattle.line_grammar.proofs.Pairs.{pairs_read, pairs_stuck_first, pairs_stuck_second, pairs_part}
 use Rattle.line_grammar.proofs.Readings.{read_same, part_renamed, led_part, read_renamed, stuck_renamed, led_none, led_then, led_then_stuck}
 use Rattle.tp_lines.specs.declared.fields.Form.{Form}
@@ -11,7 +11,7 @@ use Rattle.tp_lines.specs.declared.fields.Form.TheVariants as form
 use Rattle.tp_lines.specs.declared.shapes.Field.{Field}
 use Rattle.tp_lines.specs.declared.values.Value.{Value}
 use Rattle.tp_lines.specs.declared.values.Value.TheVariants as value
-use Rattle.tp_lines.specs.Fields.{form_of, IsSoundForm, Holds, form_text, IsFormText, FormTexts, part_text, IsPartText, PartTexts, AreHeld, tail_text, IsTailText, Tails}
+use Rattle.tp_lines.specs.Fields.{form_of, IsSoundForm, form_text, FormTexts, part_text, IsPartText, PartTexts, AreHeld, tail_text, Tails}
 use Rattle.tp_lines.proofs.FormFacts.{form_part, form_some, form_sound}
 
 -- a form that is written has the space before it

@@ -1,6 +1,6 @@
 -- The forms of fields, as languages.
-use Rattle.std.proofs.Common.{◌≡◌, ℕ, ◌+◌, ◌<◌, ◌≤◌, ◌^◌, List, [], ◌∷◌, ◌++◌, refl, sym, ap, ◌∙◌, subst, arith, ◌⊎◌, inl, inr, Bool, true, false, IsTrue}
-use Rattle.std.specs.Prelude.{codes, decimal, Result, Ok, Err, nat_eq, if◌then◌else◌}
+use Rattle.std.proofs.Common.{◌≡◌, ℕ, ◌<◌, ◌≤◌, ◌^◌, List, ◌∷◌, refl, sym, ap, ◌∙◌, subst, arith, inl, inr, Bool, true, false, IsTrue}
+use Rattle.std.specs.Prelude.{codes, decimal, Result, nat_eq, if◌then◌else◌}
 use Rattle.tp_base.specs.declared.answers.ActionKind.{ActionKind}
 use Rattle.tp_base.specs.declared.answers.ActionKind.TheVariants.{Section, Mutex, Semaphore, Event}
 use Rattle.tp_base.specs.declared.answers.SlotWord.{SlotWord}
@@ -10,9 +10,9 @@ use Rattle.tp_base.specs.declared.calls.Priority.{Priority}
 use Rattle.tp_base.specs.declared.calls.Priority.TheVariants.{High, Normal, Low}
 use Rattle.line_grammar.specs.Language.{AnyOf, IsRead, IsStuck}
 use Rattle.line_grammar.specs.Numbers.{IsNumber, Numbers}
-use Rattle.line_grammar.specs.Parts.{IsLed, Led, IsPart}
+use Rattle.line_grammar.specs.Parts.{Led, IsPart}
 use Rattle.line_grammar.specs.Words.{IsWord, Word, Either, lacks}
-use Rattle.line_grammar.proofs.NumberFacts.{numbers_part, some_number}
+use Rattle.line_grammar.proofs.NumberFacts.{numbers_part}
 use Rattle.line_grammar.proofs.Readings.{read_same, part_renamed, led_part, stuck_renamed}
 use Rattle.line_grammar.proofs.WordFacts.{differ, lacking_part}
 use Rattle.tp_lines.specs.declared.fields.Form.{Form}
@@ -21,7 +21,7 @@ use Rattle.tp_lines.specs.declared.shapes.Field.{Field}
 use Rattle.tp_lines.specs.declared.shapes.Field.TheVariants as field
 use Rattle.tp_lines.specs.declared.values.Value.{Value}
 use Rattle.tp_lines.specs.declared.values.Value.TheVariants as value
-use Rattle.tp_lines.specs.Fields.{form_of, IsSoundRange, IsSoundForm, IsNumberValue, Holds, form_text, IsFormText, FormTexts}
+use Rattle.tp_lines.specs.Fields.{form_of, IsSoundRange, IsSoundForm, Holds, form_text, IsFormText, FormTexts}
 use Rattle.tp_lines.specs.Values.{number_of, kind_of, priority_of, long_of, flag_of, slot_of, action_of}
 use Rattle.tp_lines.specs.Words.{text_of_kind, text_of_priority, text_of_long, text_of_flag, text_of_slot, text_of_action}
 

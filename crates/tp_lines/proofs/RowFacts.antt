@@ -1,13 +1,13 @@
 -- Rows of a table.
 use Rattle.std.proofs.Common.{◌≡◌, ℕ, zero, suc, ◌+◌, ◌<◌, ◌≤◌, List, [], ◌∷◌, ◌++◌, length, take, drop, get_or, refl, sym, ap, ◌∙◌, subst, arith, ◌⊎◌, inl, inr, Bool, true, false, IsTrue}
-use Rattle.std.specs.Prelude.{Result, Ok, Err, bytes_eq, if◌then◌else◌}
+use Rattle.std.specs.Prelude.{Result, bytes_eq, if◌then◌else◌}
 use Rattle.std.proofs.lemmas.List.{take_more}
 use Rattle.std.proofs.lemmas.Slice.Eq.{bytes_eq-Decides}
-use Rattle.line_grammar.specs.Language.{Begins, Stops, Reaches, AnyOf, IsRead, IsReadTo, IsStuck}
-use Rattle.line_grammar.specs.Parts.{IsLed, Led, IsPair, Pairs, Opens, IsPart, IsTail}
-use Rattle.line_grammar.specs.Words.{IsWord, Word, Either, lacks, further_of}
+use Rattle.line_grammar.specs.Language.{Stops, AnyOf, IsRead, IsReadTo, IsStuck}
+use Rattle.line_grammar.specs.Parts.{Led, Opens, IsPart, IsTail}
+use Rattle.line_grammar.specs.Words.{Word, Either, lacks, further_of}
 use Rattle.line_grammar.proofs.Pairs.{pairs_read, pairs_stuck_first, pairs_stuck_second, pairs_part, one_then}
-use Rattle.line_grammar.proofs.Readings.{read_same, led_part, led_none, led_then, led_then_stuck}
+use Rattle.line_grammar.proofs.Readings.{read_same, led_part}
 use Rattle.line_grammar.proofs.WordFacts.{differ, lacking_part, lacks_apart, further_read}
 use Rattle.tp_lines.specs.declared.shapes.Shape.{Shape}
 use Rattle.tp_lines.specs.declared.shapes.Word.{Word as Verb}

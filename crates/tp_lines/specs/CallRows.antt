@@ -1,6 +1,5 @@
 -- The calls that the rows of a table stand for.
-use Rattle.std.specs.Prelude.{◌≡◌, ℕ, ◌≤◌, decimal, List, [], ◌∷◌, ◌++◌, Option, Some, None, slice_index_or}
-use Rattle.line_grammar.specs.Parts.{Pairs}
+use Rattle.std.specs.Prelude.{◌≡◌, ℕ, ◌≤◌, decimal, List, ◌∷◌, Option, Some, None, slice_index_or}
 use Rattle.tp_base.specs.declared.calls.Call.{Call}
 use Rattle.tp_base.specs.declared.calls.Call.TheVariants as call
 use Rattle.tp_base.specs.declared.ids.Who.{Who}
