@@ -1,10 +1,6 @@
 -- No line feed stands in a line.
-use Rattle.std.proofs.Common.{◌≡◌, ℕ, suc, ◌+◌, ◌*◌, ◌<◌, ◌≤◌, ◌^◌, List, [], ◌∷◌, ◌++◌, length, take, refl, sym, ap, ◌∙◌, subst, arith, ◌⊎◌, inl, inr, Bool, true, false, IsTrue}
+use Rattle.std.proofs.Common.{ℕ, ◌<◌, ◌≤◌, ◌^◌, List, [], ◌∷◌, refl, sym, subst, arith, Bool, true, false, IsTrue}
 use Rattle.std.specs.Prelude.{decimal, nat_eq, if◌then◌else◌}
-use Rattle.std.proofs.lemmas.Fmt.{length-decimal-le}
-use Rattle.std.proofs.lemmas.List.{length-append, length-take-le}
-use Rattle.std.proofs.lemmas.Bool.{leb-true}
-use Rattle.line_grammar.specs.Language.{Begins, AnyOf, IsReadTo, IsStuck}
 use Rattle.tp_base.specs.declared.answers.ActionKind.{ActionKind}
 use Rattle.tp_base.specs.declared.answers.ActionKind.TheVariants.{Section, Mutex, Semaphore, Event}
 use Rattle.tp_base.specs.declared.answers.SlotWord.{SlotWord}
@@ -16,8 +12,6 @@ use Rattle.tp_base.specs.declared.calls.Priority.{Priority}
 use Rattle.tp_base.specs.declared.calls.Priority.TheVariants.{High, Normal, Low}
 use Rattle.tp_base.specs.declared.ids.Who.{Who}
 use Rattle.tp_base.specs.declared.ids.Who.TheVariants.{Client, Worker}
-use Rattle.tp_lines.specs.declared.fields.Form.{Form}
-use Rattle.tp_lines.specs.declared.fields.Form.TheVariants as form
 use Rattle.tp_lines.specs.declared.shapes.Field.{Field}
 use Rattle.tp_lines.specs.declared.shapes.Shape.{Shape}
 use Rattle.tp_lines.specs.declared.shapes.TheConstants.{ANSWERS, CALLS, REFUSALS, RESULTS}
@@ -25,10 +19,10 @@ use Rattle.tp_lines.specs.declared.shapes.Word.{Word}
 use Rattle.tp_lines.specs.declared.shapes.Word.TheVariants as word
 use Rattle.tp_lines.specs.declared.values.Value.{Value}
 use Rattle.tp_lines.specs.declared.values.Value.TheVariants as value
-use Rattle.tp_lines.specs.Calls.{IsCallLine, CallLines, IsWhoInRange}
-use Rattle.tp_lines.specs.CallRows.{IsCallText, CallTexts}
-use Rattle.tp_lines.specs.Fields.{form_of, IsSoundForm, Holds, form_text, part_text, AreHeld, tail_text}
-use Rattle.tp_lines.specs.Rows.{IsListed, Rows}
+use Rattle.tp_lines.specs.Calls.{CallLines, IsWhoInRange}
+use Rattle.tp_lines.specs.CallRows.{IsCallText}
+use Rattle.tp_lines.specs.Fields.{form_of, Holds, part_text, AreHeld, tail_text}
+use Rattle.tp_lines.specs.Rows.{Rows}
 use Rattle.tp_lines.specs.Shapes.{text_of_word}
 use Rattle.tp_lines.specs.Values.{number_of, kind_of, priority_of, long_of, flag_of, slot_of, action_of}
 use Rattle.line_grammar.specs.Words.{lacks}
@@ -45,7 +39,6 @@ use Rattle.tp_lines.specs.Answers.{EntryLines}
 use Rattle.line_grammar.specs.Parts.{Pairs}
 use Rattle.tp_lines.specs.Words.{text_of_kind, text_of_priority, text_of_long, text_of_flag, text_of_slot, text_of_action, text_of_who}
 use Rattle.tp_lines.proofs.CallFacts.{row_text, call_row}
-use Rattle.tp_lines.proofs.FormFacts.{form_sound}
 use Rattle.tp_lines.proofs.WhoFacts.{line_back}
 use Rattle.tp_lines.proofs.AnswerFacts.{answer_row, ending_holds}
 use Rattle.tp_lines.proofs.EntryFacts.{arrow_text, entry_pair}
@@ -209,7 +202,7 @@ refusal_feedless x t a = let r = refusal_row x t a in row_feedless REFUSALS.shap
 
 answer_feedless : (x : Answer) (t : List ℕ) → IsAnswerText x t → Feedless t
 answer_feedless x t a = let r = answer_row x t a in by_row r.0 t r.1
-    where
+  where
     by_row : (p : (Shape × List Value) × Ending) (t : List ℕ) → Pairs (Rows ANSWERS.shapes) (λ q. Endings q.0.word) p t → Feedless t
     by_row ((s, values), end) t pair =
         subst Feedless (sym pair.split)

@@ -1,5 +1,5 @@
 -- Shapes that are apart.
-use Rattle.std.proofs.Common.{◌≡◌, ℕ, ◌+◌, ◌<◌, ◌≤◌, List, length, get_or, refl, sym, ap, ◌∙◌, subst, arith, ◌⊎◌, inl, inr, Bool, true, false, nat_eq, not, IsTrue, eq-eqb}
+use Rattle.std.proofs.Common.{◌≡◌, ℕ, ◌+◌, ◌<◌, List, length, get_or, refl, sym, ◌∙◌, subst, arith, inl, inr, Bool, true, false, nat_eq, not, IsTrue}
 use Rattle.std.proofs.lemmas.Bool.{cases_eq, eqb-true, eqb-false}
 use Rattle.std.proofs.lemmas.List.{get_or_default}
 use Rattle.tp_lines.specs.declared.shapes.Shape.{Shape}
@@ -22,11 +22,13 @@ apart_at shapes k n d e inside within apart =
 pub apart_next : (shapes : List Shape) (n i : ℕ) (e : Shape) → i < length shapes → n < length shapes → AreApart (get_or shapes i e) (get_or shapes n e)
     → ((k : ℕ) (d : Shape) → k < i → AreApart (get_or shapes k d) (get_or shapes n d)) → (k : ℕ) (d : Shape) → k < i + 1 → AreApart (get_or shapes k d) (get_or shapes n d)
 apart_next shapes n i e inside within here before k d below = elim (cases_eq k i) [
-    inl same ↦ subst (λ j. AreApart (get_or shapes j d) (get_or shapes n d)) (sym same) (apart_at shapes i n e d inside within here)
-  | inr other ↦ before k d (omega arith) ]
+  | inl same ↦ subst (λ j. AreApart (get_or shapes j d) (get_or shapes n d)) (sym same) (apart_at shapes i n e d inside within here)
+  | inr other ↦ before k d (omega arith)
+]
 
 pub pairs_next : (shapes : List Shape) (i : ℕ) → ((k : ℕ) (d : Shape) → k < i → AreApart (get_or shapes k d) (get_or shapes i d))
     → ((k n : ℕ) (d : Shape) → k < n → n < i → AreApart (get_or shapes k d) (get_or shapes n d)) → (k n : ℕ) (d : Shape) → k < n → n < i + 1 → AreApart (get_or shapes k d) (get_or shapes n d)
 pairs_next shapes i here before k n d order below = elim (cases_eq n i) [
-    inl same ↦ subst (λ j. AreApart (get_or shapes k d) (get_or shapes j d)) (sym same) (here k d (omega arith))
-  | inr other ↦ before k n d order (omega arith) ]
+  | inl same ↦ subst (λ j. AreApart (get_or shapes k d) (get_or shapes j d)) (sym same) (here k d (omega arith))
+  | inr other ↦ before k n d order (omega arith)
+]

@@ -14,7 +14,6 @@ pub mod parse;
 pub mod print;
 pub mod rows;
 pub mod shapes;
-pub mod values;
-
 #[cfg(test)]
 mod tests;
+pub mod values;

@@ -145,8 +145,7 @@ pub fn tables_are_distinct()
     ensures answers { AreDistinct ANSWERS.shapes }
     ensures results { AreDistinct RESULTS.shapes }
     ensures refusals { AreDistinct REFUSALS.shapes }
-{
-}
+{}
 
 fn are_distinct(shapes: &[Shape]) -> bool
     ensures { IsTrue result ↔ AreDistinct shapes.now }
@@ -176,7 +175,11 @@ fn is_new(shapes: &[Shape], index: usize) -> bool
 fn is_apart(one: &Shape, other: &Shape) -> bool
     ensures { IsTrue result ↔ AreApart one.now other.now }
 {
-    if one.word == other.word { field_count(one) != field_count(other) } else { true }
+    if one.word == other.word {
+        field_count(one) != field_count(other)
+    } else {
+        true
+    }
 }
 
 // How many fields are used.
@@ -229,81 +232,252 @@ macro_rules! fields {
 /// The calls.
 pub const CALLS: Table<6> = Table {
     shapes: [
-        Shape { word: Word::Create, fields: fields!(Kind Routine Context Pool Priority Length Group Cancel) },
-        Shape { word: Word::Submit, fields: fields!(Id) },
-        Shape { word: Word::Attach, fields: fields!() },
-        Shape { word: Word::Take, fields: fields!() },
-        Shape { word: Word::Return, fields: fields!() },
-        Shape { word: Word::Finish, fields: fields!() },
+        Shape {
+            word: Word::Create,
+            fields: fields!(Kind Routine Context Pool Priority Length Group Cancel),
+        },
+        Shape {
+            word: Word::Submit,
+            fields: fields!(Id),
+        },
+        Shape {
+            word: Word::Attach,
+            fields: fields!(),
+        },
+        Shape {
+            word: Word::Take,
+            fields: fields!(),
+        },
+        Shape {
+            word: Word::Return,
+            fields: fields!(),
+        },
+        Shape {
+            word: Word::Finish,
+            fields: fields!(),
+        },
     ],
 };
 
 /// The answers. Behind `taken` stands a result, and behind `refused` a refusal.
 pub const ANSWERS: Table<22> = Table {
     shapes: [
-        Shape { word: Word::Done, fields: fields!() },
-        Shape { word: Word::Made, fields: fields!(Made) },
-        Shape { word: Word::Queued, fields: fields!(Callback Count) },
-        Shape { word: Word::Was, fields: fields!(Flag Callback Count) },
-        Shape { word: Word::Flag, fields: fields!(Flag) },
-        Shape { word: Word::Freed, fields: fields!() },
-        Shape { word: Word::Later, fields: fields!() },
-        Shape { word: Word::Closing, fields: fields!(Count Count Count) },
-        Shape { word: Word::Begun, fields: fields!(Count Count) },
-        Shape { word: Word::Ended, fields: fields!() },
-        Shape { word: Word::Exhausted, fields: fields!() },
-        Shape { word: Word::Stalled, fields: fields!() },
-        Shape { word: Word::Notice, fields: fields!(Origin Routine Context Cleanup) },
-        Shape { word: Word::Started, fields: fields!(Callback) },
-        Shape { word: Word::Operation, fields: fields!(Callback) },
-        Shape { word: Word::Cancelled, fields: fields!(Callback) },
-        Shape { word: Word::Count, fields: fields!(Level Callback Count) },
-        Shape { word: Word::Advanced, fields: fields!(Time Callback Count) },
-        Shape { word: Word::Attached, fields: fields!(Id) },
-        Shape { word: Word::Taken, fields: fields!(Callback Origin Routine Context) },
-        Shape { word: Word::Returned, fields: fields!(Slot Slot Slot Slot Callback Count) },
-        Shape { word: Word::Refused, fields: fields!() },
+        Shape {
+            word: Word::Done,
+            fields: fields!(),
+        },
+        Shape {
+            word: Word::Made,
+            fields: fields!(Made),
+        },
+        Shape {
+            word: Word::Queued,
+            fields: fields!(Callback Count),
+        },
+        Shape {
+            word: Word::Was,
+            fields: fields!(Flag Callback Count),
+        },
+        Shape {
+            word: Word::Flag,
+            fields: fields!(Flag),
+        },
+        Shape {
+            word: Word::Freed,
+            fields: fields!(),
+        },
+        Shape {
+            word: Word::Later,
+            fields: fields!(),
+        },
+        Shape {
+            word: Word::Closing,
+            fields: fields!(Count Count Count),
+        },
+        Shape {
+            word: Word::Begun,
+            fields: fields!(Count Count),
+        },
+        Shape {
+            word: Word::Ended,
+            fields: fields!(),
+        },
+        Shape {
+            word: Word::Exhausted,
+            fields: fields!(),
+        },
+        Shape {
+            word: Word::Stalled,
+            fields: fields!(),
+        },
+        Shape {
+            word: Word::Notice,
+            fields: fields!(Origin Routine Context Cleanup),
+        },
+        Shape {
+            word: Word::Started,
+            fields: fields!(Callback),
+        },
+        Shape {
+            word: Word::Operation,
+            fields: fields!(Callback),
+        },
+        Shape {
+            word: Word::Cancelled,
+            fields: fields!(Callback),
+        },
+        Shape {
+            word: Word::Count,
+            fields: fields!(Level Callback Count),
+        },
+        Shape {
+            word: Word::Advanced,
+            fields: fields!(Time Callback Count),
+        },
+        Shape {
+            word: Word::Attached,
+            fields: fields!(Id),
+        },
+        Shape {
+            word: Word::Taken,
+            fields: fields!(Callback Origin Routine Context),
+        },
+        Shape {
+            word: Word::Returned,
+            fields: fields!(Slot Slot Slot Slot Callback Count),
+        },
+        Shape {
+            word: Word::Refused,
+            fields: fields!(),
+        },
     ],
 };
 
 /// With what a callback is called.
 pub const RESULTS: Table<4> = Table {
     shapes: [
-        Shape { word: Word::Plain, fields: fields!() },
-        Shape { word: Word::Object, fields: fields!() },
-        Shape { word: Word::Timeout, fields: fields!() },
-        Shape { word: Word::Io, fields: fields!(Error Bytes) },
+        Shape {
+            word: Word::Plain,
+            fields: fields!(),
+        },
+        Shape {
+            word: Word::Object,
+            fields: fields!(),
+        },
+        Shape {
+            word: Word::Timeout,
+            fields: fields!(),
+        },
+        Shape {
+            word: Word::Io,
+            fields: fields!(Error Bytes),
+        },
     ],
 };
 
 /// Why a call was refused.
 pub const REFUSALS: Table<25> = Table {
     shapes: [
-        Shape { word: Word::NoSuch, fields: fields!() },
-        Shape { word: Word::WrongKind, fields: fields!() },
-        Shape { word: Word::Released, fields: fields!() },
-        Shape { word: Word::PoolClosed, fields: fields!() },
-        Shape { word: Word::GroupClosed, fields: fields!() },
-        Shape { word: Word::DefaultPool, fields: fields!() },
-        Shape { word: Word::NotWorker, fields: fields!() },
-        Shape { word: Word::NotRunning, fields: fields!() },
-        Shape { word: Word::StillRunning, fields: fields!() },
-        Shape { word: Word::InWait, fields: fields!() },
-        Shape { word: Word::NoWaitBegun, fields: fields!() },
-        Shape { word: Word::OwnCallback, fields: fields!() },
-        Shape { word: Word::HasMembers, fields: fields!(Id) },
-        Shape { word: Word::NotStarted, fields: fields!() },
-        Shape { word: Word::NoOperation, fields: fields!() },
-        Shape { word: Word::OperationsOutstanding, fields: fields!(Id) },
-        Shape { word: Word::SlotTaken, fields: fields!(Action) },
-        Shape { word: Word::NotOwner, fields: fields!() },
-        Shape { word: Word::OverMaximum, fields: fields!(Level) },
-        Shape { word: Word::NotWaitable, fields: fields!() },
-        Shape { word: Word::ClockEnd, fields: fields!() },
-        Shape { word: Word::ObjectLimit, fields: fields!() },
-        Shape { word: Word::CallbackLimit, fields: fields!() },
-        Shape { word: Word::NotAttached, fields: fields!() },
-        Shape { word: Word::AlreadyAttached, fields: fields!() },
+        Shape {
+            word: Word::NoSuch,
+            fields: fields!(),
+        },
+        Shape {
+            word: Word::WrongKind,
+            fields: fields!(),
+        },
+        Shape {
+            word: Word::Released,
+            fields: fields!(),
+        },
+        Shape {
+            word: Word::PoolClosed,
+            fields: fields!(),
+        },
+        Shape {
+            word: Word::GroupClosed,
+            fields: fields!(),
+        },
+        Shape {
+            word: Word::DefaultPool,
+            fields: fields!(),
+        },
+        Shape {
+            word: Word::NotWorker,
+            fields: fields!(),
+        },
+        Shape {
+            word: Word::NotRunning,
+            fields: fields!(),
+        },
+        Shape {
+            word: Word::StillRunning,
+            fields: fields!(),
+        },
+        Shape {
+            word: Word::InWait,
+            fields: fields!(),
+        },
+        Shape {
+            word: Word::NoWaitBegun,
+            fields: fields!(),
+        },
+        Shape {
+            word: Word::OwnCallback,
+            fields: fields!(),
+        },
+        Shape {
+            word: Word::HasMembers,
+            fields: fields!(Id),
+        },
+        Shape {
+            word: Word::NotStarted,
+            fields: fields!(),
+        },
+        Shape {
+            word: Word::NoOperation,
+            fields: fields!(),
+        },
+        Shape {
+            word: Word::OperationsOutstanding,
+            fields: fields!(Id),
+        },
+        Shape {
+            word: Word::SlotTaken,
+            fields: fields!(Action),
+        },
+        Shape {
+            word: Word::NotOwner,
+            fields: fields!(),
+        },
+        Shape {
+            word: Word::OverMaximum,
+            fields: fields!(Level),
+        },
+        Shape {
+            word: Word::NotWaitable,
+            fields: fields!(),
+        },
+        Shape {
+            word: Word::ClockEnd,
+            fields: fields!(),
+        },
+        Shape {
+            word: Word::ObjectLimit,
+            fields: fields!(),
+        },
+        Shape {
+            word: Word::CallbackLimit,
+            fields: fields!(),
+        },
+        Shape {
+            word: Word::NotAttached,
+            fields: fields!(),
+        },
+        Shape {
+            word: Word::AlreadyAttached,
+            fields: fields!(),
+        },
     ],
 };
 
