@@ -1,5 +1,5 @@
 -- What a small history tells, by computation alone.
-use Rattle.std.proofs.Common.{◌≡◌, ℕ, List, [], ◌∷◌, ◌++◌, refl, map, true, false, Some, None}
+use Rattle.std.proofs.Common.{◌≡◌, ℕ, List, [], ◌∷◌, ◌++◌, refl, true, false, Some, None}
 use Rattle.tp_base.specs.declared.ids.Who.TheVariants.{Client, Worker}
 use Rattle.tp_base.specs.declared.ids.PoolId.{PoolId}
 use Rattle.tp_base.specs.declared.calls.Environ.{Environ}
@@ -8,14 +8,13 @@ use Rattle.tp_base.specs.declared.calls.Kind.TheVariants.{Work}
 use Rattle.tp_base.specs.declared.calls.Call.TheVariants as call
 use Rattle.tp_base.specs.declared.answers.Answer.TheVariants as answer
 use Rattle.tp_base.specs.declared.answers.Entry.{Entry}
-use Rattle.tp_base.specs.declared.answers.Outcome.TheVariants.{Done}
 use Rattle.tp_base.specs.declared.answers.TakeResult.TheVariants.{Plain}
 use Rattle.tp_base.specs.declared.answers.SlotWord.TheVariants.{Unasked}
 use Rattle.tp_base.specs.declared.answers.Refusal.TheVariants.{DefaultPool}
 use Rattle.tp_base.specs.declared.rows.Status.TheVariants.{Pending}
 use Rattle.tp_base.specs.declared.limits.Limits.{Limits}
 use Rattle.tp_model.specs.Rows.{create_pool_row, set_maximum_row, set_minimum_row, create_row, submit_work_row, attach_row, take_row, return_row}
-use Rattle.tp_model.specs.History.{play, after}
+use Rattle.tp_model.specs.History.{IsLegal, after}
 use Rattle.tp_model.specs.Laws.Entries.{numbers_made, numbers_taken, numbers_cancelled, count_cancelled, born, ready, is_within_run, last_pool, told_maximum}
 use Rattle.tp_model.specs.Laws.Once.{left}
 use Rattle.tp_model.specs.Laws.Maximum.{count_running}
@@ -50,9 +49,9 @@ ended =
     ∷ []
 
 -- the machine's answers are these
-legal : play limits 65536 (map (λ (e : Entry). (e.who, e.call)) ended) ≡ map (λ (e : Entry). Done e.answer) ended
+legal : IsLegal limits 65536 ended
 unfolding limits environ begun ended create_pool_row set_maximum_row set_minimum_row create_row submit_work_row attach_row take_row return_row
-legal = refl
+legal = (refl, (refl, (refl, (refl, (refl, (refl, (refl, (refl, (refl, (refl, tt))))))))))
 
 callbacks : (numbers_made ended ≡ 1 ∷ 2 ∷ []) × (numbers_taken ended ≡ 1 ∷ []) × (numbers_cancelled ended ≡ []) × (count_cancelled ended ≡ 0)
 unfolding begun ended environ
