@@ -53,12 +53,12 @@ impl Engine {
             Some(refusal) => return refused(refusal, room),
             None => {}
         }
-        if room < 1 {
-            return Outcome::Full { room, cost: 1 };
-        }
         let number = worker_number(who);
         let (pool, callback) = self.busy_worker(number);
         let row = self.callback_run(number, pool, callback);
+        if room < 1 {
+            return Outcome::Full { room, cost: 1 };
+        }
         let value = self.has_spare(row.pool);
         self.mark_long(number, row);
         Outcome::Done(Answer::Flag { value })

@@ -1,6 +1,6 @@
 //! Workers of pools: attaching, detaching, taking callbacks and returning from them.
 
-ghost use Rattle.std.specs.Prelude.{◌≡◌, ◌^◌, ◌<◌, ◌≤◌, ◌-◌, ◌==◌, ◌&&◌, ◌||◌, nat_lt, ◌+◌, ℕ, length, IfSome, None, Some, true, if◌then◌else◌};
+ghost use Rattle.std.specs.Prelude.{◌≡◌, ◌^◌, ◌<◌, ◌≤◌, ◌-◌, ◌==◌, ◌&&◌, ◌||◌, not, nat_lt, ◌+◌, ℕ, length, IfSome, None, Some, true, if◌then◌else◌};
 ghost use Rattle.tp_base.specs.declared.ids.Who.TheVariants.{Worker};
 ghost use Rattle.tp_base.specs.declared.rows.WorkerRow.{WorkerRow};
 ghost use Rattle.tp_model.specs.Conditions.{is_pool, is_closed_pool, is_worker};
@@ -213,13 +213,21 @@ impl Engine {
         }
     }
 
+    // It is another pool than this one, and in need.
+    fn is_other_in_need(&self, pool: PoolId, other: PoolId) -> bool
+        requires { other.0 < length self.now.world.pools }
+        ensures { result ≡ (not (other.0 == pool.0) && is_in_need self.now.world other.0) }
+    {
+        other.0 != pool.0 && self.is_in_need(other)
+    }
+
     // Some pool but this one is in need.
     fn is_another_in_need(&self, pool: PoolId) -> bool
         ensures { result ≡ another_in_need self.now.world pool.0 }
     {
         let pools = self.pools.pools();
         for number in 0..pools {
-            if number != pool.0 && self.is_in_need(PoolId(number)) {
+            if self.is_other_in_need(pool, PoolId(number)) {
                 return true;
             }
         }
