@@ -15,8 +15,8 @@ ghost use Rattle.tp_model.specs.Table.{row, step};
 ghost use Rattle.tp_base.specs.Ranges.{AreLimitsInRange};
 ghost use Rattle.tp_model.specs.World.{opening, unattached, unfinished};
 
-use std::alloc::{AllocError, Global};
 use pools::new_pool;
+use std::alloc::{AllocError, Global};
 use std::marker::Model;
 use steps::Step;
 use tp_base::answers::{Answer, Outcome};

@@ -106,10 +106,7 @@ impl PlainPool {
             (self.is_finished(who), Refusal::Released),
             (self.is_without_callback(who), Refusal::NotRunning),
             (self.is_in_wait(who), Refusal::InWait),
-            (
-                self.limits.pools <= self.pool_count(),
-                Refusal::ObjectLimit,
-            ),
+            (self.limits.pools <= self.pool_count(), Refusal::ObjectLimit),
         ])
     }
 
@@ -118,10 +115,7 @@ impl PlainPool {
         ensures { result ≡ first_refusal (pool_refusals self.now who pool.0) }
     {
         first_refusal(&[
-            (
-                !self.is_actor(who) || !self.is_pool(pool),
-                Refusal::NoSuch,
-            ),
+            (!self.is_actor(who) || !self.is_pool(pool), Refusal::NoSuch),
             (self.is_finished(who), Refusal::Released),
             (self.is_closed_pool(pool), Refusal::PoolClosed),
             (pool.0 == 0, Refusal::DefaultPool),
@@ -141,9 +135,7 @@ impl PlainPool {
     fn has_object(&self, pool: PoolId) -> bool
         ensures { result ≡ list_any (λ o. not o.released && (o.env.pool.0 == pool.0)) self.now.objects }
     {
-        self.objects
-            .iter()
-            .any(|object| is_bound_to(object, pool))
+        self.objects.iter().any(|object| is_bound_to(object, pool))
     }
 
     fn has_callback(&self, pool: PoolId) -> bool
@@ -175,12 +167,7 @@ impl PlainPool {
 
     /// Sets how many callbacks of a pool may run at once.
     #[tactic(auto, unfolding(tp_model::specs::Rows::set_maximum_row))]
-    pub(crate) fn set_maximum(
-        &self,
-        who: Who,
-        pool: PoolId,
-        value: u32,
-    ) -> Result<Step, AllocError>
+    pub(crate) fn set_maximum(&self, who: Who, pool: PoolId, value: u32) -> Result<Step, AllocError>
         ensures { IfOk result (λ s. meant s ≡ set_maximum_row self.now who pool.0 value) }
     {
         if let Some(refusal) = self.pool_refusal(who, pool) {
@@ -197,12 +184,7 @@ impl PlainPool {
 
     /// Sets how many workers a pool keeps.
     #[tactic(auto, unfolding(tp_model::specs::Rows::set_minimum_row))]
-    pub(crate) fn set_minimum(
-        &self,
-        who: Who,
-        pool: PoolId,
-        value: u32,
-    ) -> Result<Step, AllocError>
+    pub(crate) fn set_minimum(&self, who: Who, pool: PoolId, value: u32) -> Result<Step, AllocError>
         ensures { IfOk result (λ s. meant s ≡ set_minimum_row self.now who pool.0 value) }
     {
         if let Some(refusal) = self.pool_refusal(who, pool) {
