@@ -1,5 +1,5 @@
 -- How the fields of a line are written, and what they may hold.
-use Rattle.std.specs.Prelude.{◌≡◌, ℕ, ◌+◌, ◌<◌, ◌≤◌, ◌^◌, List, [], ◌∷◌, ◌++◌, codes, decimal, nat_eq, if◌then◌else◌}
+use Rattle.std.specs.Prelude.{◌≡◌, ℕ, ◌<◌, ◌≤◌, ◌^◌, List, [], ◌∷◌, ◌++◌, decimal, nat_eq, if◌then◌else◌}
 use Rattle.tp_base.specs.declared.calls.Kind.TheVariants.{Work}
 use Rattle.tp_lines.specs.declared.fields.Form.{Form}
 use Rattle.tp_lines.specs.declared.fields.Form.TheVariants as form

@@ -6,10 +6,14 @@
 
 #![tactic(auto)]
 
+pub mod answers;
 pub mod calls;
+pub mod entries;
 pub mod fields;
 pub mod parse;
 pub mod print;
 pub mod rows;
 pub mod shapes;
+#[cfg(test)]
+mod tests;
 pub mod values;

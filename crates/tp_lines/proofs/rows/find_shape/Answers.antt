@@ -8,4 +8,4 @@ pub returns-then-eq-2 : goal.returns-then-eq-2
 returns-then-eq-2 c =
     let d : Shape = record { word = Create; fields = [] } in
     found_shape c.args.shapes.now c.loop-shape.shape-index d (omega arith) c.as_bytes-text.result.now c.args.word.now
-        (c.as_bytes-text.ensures.value ∙ c.word_text.ensures) c.if-eq-2.ensures
+    (c.as_bytes-text.ensures.value ∙ c.word_text.ensures) c.if-eq-2.ensures

@@ -8,7 +8,7 @@ pub loop-index-preserved : goal.loop-index-preserved
 loop-index-preserved c =
     let d : Shape = record { word = Create; fields = [] } in
     next_shape c.args.shapes.now c.loop-index.index d (omega arith) c.word_text-in-loop-index.result.now c.word_text-in-loop-index.ensures
-        c.args.text.now c.loop-index.best c.read_word-read.result c.further-best.result c.further-best.ensures c.loop-index.invariant c.read_word-read.ensures
+    c.args.text.now c.loop-index.best c.read_word-read.result c.further-best.result c.further-best.ensures c.loop-index.invariant c.read_word-read.ensures
 
 pub loop-index-init : goal.loop-index-init
 loop-index-init c =

@@ -1,0 +1,316 @@
+//! Lines written by hand, and the places of faults.
+
+use crate::parse::{LineFault, LineKind, parse_call, parse_entry};
+use crate::print::{print_answer, print_entry, print_full, print_look};
+use crate::shapes::{ANSWERS, CALLS, Field, Shape, Table, Word};
+use std::alloc::{AllocError, Global};
+use std::process::Abort;
+use std::test::Fail;
+use tp_base::answers::{ActionKind, Answer, Entry, Look, Refusal, SlotWord, TakeResult};
+use tp_base::calls::{Call, Environ, Kind, Priority};
+use tp_base::ids::{GroupId, KernelId, ObjectId, PoolId, RoutineId, Who};
+
+#[test]
+fn faults_of_calls(rt: HostRuntime) {
+    let cases = [
+        ("", 1, LineKind::Unfinished),
+        ("c", 2, LineKind::Unfinished),
+        ("x1 take", 1, LineKind::Unexpected),
+        ("c0 take", 2, LineKind::Unexpected),
+        ("c01 take", 2, LineKind::Unexpected),
+        ("c17 take", 3, LineKind::Unexpected),
+        ("w65 take", 3, LineKind::Unexpected),
+        ("c1", 3, LineKind::Unfinished),
+        ("c1 ", 4, LineKind::Unfinished),
+        ("c1  take", 4, LineKind::Unexpected),
+        ("c1\ttake", 3, LineKind::Unexpected),
+        ("c1 Take", 4, LineKind::Unexpected),
+        ("c1 tak", 7, LineKind::Unfinished),
+        ("c1 takes", 8, LineKind::Unexpected),
+        ("c1 take ", 8, LineKind::Unexpected),
+        ("c1 take\r", 8, LineKind::Unexpected),
+        ("c1 t\u{e9}", 5, LineKind::Unexpected),
+        ("c1 attach now", 10, LineKind::Unexpected),
+        ("c1 submit", 10, LineKind::Unfinished),
+        ("c1 submit -1", 11, LineKind::Unexpected),
+        ("c1 submit 05", 12, LineKind::Unexpected),
+        ("c1 submit 65536", 15, LineKind::Unexpected),
+        ("c1 create timer", 11, LineKind::Unexpected),
+        ("c1 create work r0", 17, LineKind::Unexpected),
+        (
+            "c1 create work r1 x18446744073709551616",
+            39,
+            LineKind::Unexpected,
+        ),
+        ("c1 create work r1 x7 p0 medium", 25, LineKind::Unexpected),
+        ("c1 create work r1 x7 p0 nor", 28, LineKind::Unfinished),
+        (
+            "c1 create work r1 x7 p0 normal short g0 q5",
+            42,
+            LineKind::Unexpected,
+        ),
+        (
+            "c1 create work r1 x7 p0 low long g1 q65535 ",
+            43,
+            LineKind::Unexpected,
+        ),
+    ];
+    for (text, column, kind) in cases {
+        assert_eq!(rt;
+            parse_call(text.as_bytes()),
+            Err(LineFault { column, kind }),
+            "{text}"
+        );
+    }
+}
+
+#[test]
+fn calls_of_lines(rt: HostRuntime) {
+    let env = Environ {
+        pool: PoolId(3),
+        group: GroupId(65_535),
+        cancel: RoutineId(9),
+        priority: Priority::High,
+        long: true,
+    };
+    let create = Call::Create {
+        kind: Kind::Work,
+        routine: RoutineId(1),
+        context: 18_446_744_073_709_551_615,
+        env,
+    };
+    let cases = [
+        ("c1 attach", Who::Client(1), Call::Attach),
+        ("w64 take", Who::Worker(64), Call::Take),
+        ("w10 return", Who::Worker(10), Call::Return),
+        ("c16 finish", Who::Client(16), Call::Finish),
+        (
+            "c2 submit 0",
+            Who::Client(2),
+            Call::SubmitWork {
+                object: ObjectId(0),
+            },
+        ),
+        (
+            "c1 create work r1 x18446744073709551615 p3 high long g65535 q9",
+            Who::Client(1),
+            create,
+        ),
+    ];
+    for (text, who, call) in cases {
+        assert_eq!(rt; parse_call(text.as_bytes()), Ok((who, call)), "{text}");
+    }
+}
+
+#[test]
+fn faults_of_entries(rt: HostRuntime) {
+    let cases = [
+        ("c1 take", 8, LineKind::Unfinished),
+        ("c1 take -> ", 12, LineKind::Unfinished),
+        ("c1 take - ok", 10, LineKind::Unexpected),
+        ("c1 take -> oks", 14, LineKind::Unexpected),
+        ("c1 take -> made 0", 17, LineKind::Unexpected),
+        ("c1 take -> was maybe 0 0", 16, LineKind::Unexpected),
+        ("c1 take -> refused not-", 24, LineKind::Unfinished),
+        ("c1 take -> refused not-ours", 25, LineKind::Unexpected),
+        (
+            "c1 take -> refused over-maximum 2147483648",
+            42,
+            LineKind::Unexpected,
+        ),
+        (
+            "c1 take -> taken 1 o1 r1 x7 io 4294967296 0",
+            41,
+            LineKind::Unexpected,
+        ),
+        (
+            "c1 take -> returned - - - done 0 0 ",
+            35,
+            LineKind::Unexpected,
+        ),
+        (
+            "c1 take -> advanced 9223372036854775808 0 0",
+            39,
+            LineKind::Unexpected,
+        ),
+    ];
+    for (text, column, kind) in cases {
+        assert_eq!(rt;
+            parse_entry(text.as_bytes()),
+            Err(LineFault { column, kind }),
+            "{text}"
+        );
+    }
+}
+
+// An entry is printed as this line, and read again.
+fn check_entry(
+    rt: &impl Abort,
+    alloc: Global,
+    text: &str,
+    answer: Answer,
+) -> Result<(), AllocError> {
+    let entry = Entry {
+        who: Who::Worker(7),
+        call: Call::Return,
+        answer,
+    };
+    let mut out = Vec::new(alloc);
+    print_entry(alloc, &entry, &mut out)?;
+    assert_eq!(rt; out.as_slice(), text.as_bytes(), "{text}");
+    assert_eq!(rt; parse_entry(text.as_bytes()), Ok(entry), "{text}");
+    Ok(())
+}
+
+#[test]
+fn entries_there_and_back(rt: HostRuntime) -> Result<(), Fail> {
+    let plain = TakeResult::Plain;
+    let taken = Answer::Taken {
+        callback: 5,
+        object: ObjectId(0),
+        routine: RoutineId(2),
+        context: 7,
+        result: plain,
+    };
+    let moved = Answer::Taken {
+        callback: 5,
+        object: ObjectId(1),
+        routine: RoutineId(2),
+        context: 7,
+        result: TakeResult::Io {
+            error: 4_294_967_295,
+            bytes: 512,
+        },
+    };
+    let returned = Answer::Returned {
+        section: SlotWord::Unasked,
+        mutex: SlotWord::Performed,
+        semaphore: SlotWord::NotOwner,
+        event: SlotWord::OverMaximum,
+        first: 3,
+        count: 1,
+    };
+    let notice = Answer::Notice {
+        object: ObjectId(1),
+        routine: RoutineId(2),
+        context: 3,
+        cleanup: 4,
+    };
+    let held = Refusal::SlotTaken {
+        kind: ActionKind::Semaphore,
+    };
+    let cases = [
+        ("w7 return -> ok", Answer::Done),
+        ("w7 return -> made 65535", Answer::Made { number: 65_535 }),
+        (
+            "w7 return -> was no 4 2",
+            Answer::WasSet {
+                was: false,
+                first: 4,
+                count: 2,
+            },
+        ),
+        ("w7 return -> later", Answer::Closed { later: true }),
+        ("w7 return -> freed", Answer::Closed { later: false }),
+        (
+            "w7 return -> closing 1 2 3",
+            Answer::Closing {
+                covered: 1,
+                cancelled: 2,
+                notices: 3,
+            },
+        ),
+        ("w7 return -> notice o1 r2 x3 y4", notice),
+        (
+            "w7 return -> count 2147483647 0 0",
+            Answer::Count {
+                previous: 2_147_483_647,
+                first: 0,
+                count: 0,
+            },
+        ),
+        (
+            "w7 return -> advanced 9 8 7",
+            Answer::Advanced {
+                now: 9,
+                first: 8,
+                count: 7,
+            },
+        ),
+        (
+            "w7 return -> attached 0",
+            Answer::Attached { pool: PoolId(0) },
+        ),
+        ("w7 return -> taken 5 o0 r2 x7 plain", taken),
+        ("w7 return -> taken 5 o1 r2 x7 io 4294967295 512", moved),
+        (
+            "w7 return -> returned - done not-owner over-maximum 3 1",
+            returned,
+        ),
+        (
+            "w7 return -> refused no-such",
+            Answer::Refused(Refusal::NoSuch),
+        ),
+        (
+            "w7 return -> refused has-members 12",
+            Answer::Refused(Refusal::HasMembers {
+                object: ObjectId(12),
+            }),
+        ),
+        (
+            "w7 return -> refused slot-taken semaphore",
+            Answer::Refused(held),
+        ),
+        (
+            "w7 return -> refused already-attached",
+            Answer::Refused(Refusal::AlreadyAttached),
+        ),
+    ];
+    for (text, answer) in cases {
+        check_entry(&rt, rt.alloc(), text, answer)?;
+    }
+    Ok(())
+}
+
+#[test]
+fn printed(rt: HostRuntime) -> Result<(), Fail> {
+    let mut out = Vec::new(rt.alloc());
+    print_answer(rt.alloc(), &Answer::Queued { first: 3, count: 2 }, &mut out)?;
+    assert_eq!(rt; out.as_slice(), "queued 3 2".as_bytes());
+    out.clear();
+    print_full(rt.alloc(), 1, 3, &mut out)?;
+    assert_eq!(rt; out.as_slice(), "full 1 3".as_bytes());
+    let looks = [
+        ("look not-yet callback 8", Look::NotYet { callback: 8 }),
+        (
+            "look not-yet kernel 2",
+            Look::NotYetKernel {
+                kernel: KernelId(2),
+            },
+        ),
+        ("look empty", Look::Empty),
+        ("look at-maximum 4", Look::AtMaximum { running: 4 }),
+        ("look no-need", Look::NoNeed),
+        ("look stay", Look::Stay),
+    ];
+    for (text, look) in looks {
+        out.clear();
+        print_look(rt.alloc(), &look, &mut out)?;
+        assert_eq!(rt; out.as_slice(), text.as_bytes(), "{text}");
+    }
+    Ok(())
+}
+
+#[test]
+fn distinct_tables(rt: HostRuntime) {
+    let take = Shape {
+        word: Word::Take,
+        fields: [Field::Nothing; 8],
+    };
+    let twice = Table {
+        shapes: [take, take],
+    };
+    assert!(rt; CALLS.is_distinct());
+    assert!(rt; ANSWERS.is_distinct());
+    assert!(rt; !twice.is_distinct());
+}
