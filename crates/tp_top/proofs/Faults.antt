@@ -1,55 +1,64 @@
 -- The first line of a text, and its fault.
-use Rattle.std.proofs.Common.{◌≡◌, ◌≢◌, ℕ, suc, ◌+◌, ◌-◌, ◌<◌, ◌≤◌, List, [], ◌∷◌, ◌++◌, length, take, drop, get_or, refl, sym, ap, ◌∙◌, subst, arith, ◌⊎◌, inl, inr, append_assoc, length-append, length-drop}
+use Rattle.std.proofs.Common.{◌≡◌, ◌≢◌, ℕ, suc, ◌+◌, ◌-◌, ◌<◌, ◌≤◌, List, [], ◌∷◌, ◌++◌, length, take, drop, get_or, refl, sym, ap, ◌∙◌, subst, arith, ◌⊎◌, inl, inr, append_assoc, length-append, drop-cons, add-one}
 use Rattle.std.proofs.lemmas.Bool.{cases_lt}
-use Rattle.std.proofs.lemmas.List.{append-nil, get_or-take, take-append-drop, length-take-le, take_all, drop_all}
+use Rattle.std.proofs.lemmas.List.{append-nil, take-append-drop, length-take-le, take_all, drop_all}
 use Rattle.line_grammar.specs.Language.{Begins, Stops, IsFault}
 use Rattle.tp_base.specs.declared.calls.Call.{Call}
 use Rattle.tp_base.specs.declared.ids.Who.{Who}
 use Rattle.line_grammar.specs.Traces.{EndedLine}
-use Rattle.tp_lines.specs.Calls.{IsCallLine, CallLines}
+use Rattle.line_grammar.specs.Parts.{Opens}
+use Rattle.tp_lines.specs.Calls.{IsCallLine}
 use Rattle.tp_lines.specs.Faults.{IsLine}
 use Rattle.tp_top.specs.Trace.{line_of, HasLine}
 use Rattle.tp_top.specs.Reading.{IsFirstLine, IsFirstFault}
-use Rattle.tp_top.proofs.Feeds.{IsFree, each_free, front_free, not_free, feed_first, prefix_free}
-use Rattle.tp_top.proofs.FreeLines.{line_free}
+use Rattle.tp_top.proofs.Feeds.{IsFree, front_free, not_free, feed_first, prefix_free}
+
+-- no line feed stands in a line
+abbrev pub AreFree : Type 0
+AreFree = (text : List ℕ) → IsLine text → IsFree text
 
 -- the first line feed of the text stands at n, or the text has none and n bytes
 pub record IsFeedAt (text : List ℕ) (n : ℕ) : Type 0 where
   pub within : n ≤ length text
   pub free : IsFree (take n text)
-  pub feed : n < length text → drop n text ≡ 10 ∷ drop (n + 1) text
-
-pub feed_at : (text : List ℕ) (n : ℕ) → n ≤ length text → ((k : ℕ) → k < n → get_or text k 0 ≡ 10 → ⊥) → (n < length text → drop n text ≡ 10 ∷ drop (n + 1) text) → IsFeedAt text n
-feed_at text n within before feed =
-    let size : length (take n text) ≡ n = length-take-le n text within in record {
-      within = within;
-      free = each_free (take n text) (λ k h e. (let less : k < n = omega (arith, h, size) in before k less (sym (get_or-take n text k 0 less) ∙ e)));
-      feed = feed;
-    }
-
-has_line_free : (made : Who × Call) → HasLine made → IsFree ((line_of made))
-has_line_free made h = line_free made.0 made.1 ((line_of made)) h
+  pub feed : Opens 10 (drop n text)
 
 pub with_line : (made : Who × Call) (line : List ℕ) → HasLine made → line ≡ (line_of made) → IsCallLine made.0 made.1 line
 with_line made line h e = record { who_in_range = h.who_in_range; call_in_range = h.call_in_range; readable = h.readable; split = e }
 
-at_feed : (text : List ℕ) (n : ℕ) → IsFeedAt text n → n < length text → text ≡ take n text ++ 10 ∷ drop (n + 1) text
-at_feed text n f h = sym (take-append-drop n text) ∙ ap (λ t. take n text ++ t) (f.feed h)
+feed_head : (text : List ℕ) (n : ℕ) → IsFeedAt text n → (x : ℕ) (more : List ℕ) → drop n text ≡ x ∷ more → x ≡ 10
+feed_head text n f x more e = subst (λ t. Opens 10 t) e f.feed
+
+at_feed : (text : List ℕ) (n : ℕ) → IsFeedAt text n → n < length text → text ≡ take n text ++ 10 ∷ drop (suc n) text
+at_feed text n f h =
+    let next : drop n text ≡ get_or text n 0 ∷ drop (suc n) text = drop-cons text n 0 h in
+    sym (take-append-drop n text) ∙ ap (λ t. take n text ++ t) (next ∙ ap (λ x. x ∷ drop (suc n) text) (feed_head text n f (get_or text n 0) (drop (suc n) text) next))
 
 no_feed : (text : List ℕ) (n : ℕ) → IsFeedAt text n → length text ≤ n → IsFree text
 no_feed text n f h = subst (λ t. IsFree t) (take_all n text h) f.free
 
 -- the one first line of a text stands before its first line feed
-pub first_line_is : (text : List ℕ) (n : ℕ) (made : Who × Call) (size : ℕ) → IsFeedAt text n → IsFirstLine text made size →
+pub first_line_is : AreFree → (text : List ℕ) (n : ℕ) (made : Who × Call) (size : ℕ) → IsFeedAt text n → IsFirstLine text made size →
     (n < length text) × (take n text ≡ (line_of made)) × (size ≡ n + 1)
-first_line_is text n made size f l = by_order (cases_lt n (length text))
+first_line_is feedless text n made size f l = by_order (cases_lt n (length text))
   where
     by_order : (n < length text) ⊎ (length text ≤ n) → (n < length text) × (take n text ≡ (line_of made)) × (size ≡ n + 1)
     by_order (inl less) =
-        let same = feed_first (take n text) ((line_of made)) (drop (n + 1) text) (drop size text) f.free (has_line_free made l.has_line) (sym (at_feed text n f less) ∙ l.split) in
+        let same = feed_first (take n text) (line_of made) (drop (suc n) text) (drop size text) f.free (feedless (line_of made) (made, l.has_line)) (sym (at_feed text n f less) ∙ l.split) in
         (less, same.0, omega (arith, l.size_is, ap length same.0, length-take-le n text f.within))
     by_order (inr none) =
-        absurd (not_free ((line_of made)) (drop size text) (subst (λ t. IsFree t) l.split (no_feed text n f none)))
+        absurd (not_free (line_of made) (drop size text) (subst (λ t. IsFree t) l.split (no_feed text n f none)))
+
+-- a good line, with a line feed behind it
+pub good_line : (text : List ℕ) (n : ℕ) (made : Who × Call) → IsFeedAt text n → n < length text → IsCallLine made.0 made.1 (take n text) → (n + 1 ≤ length text) × IsFirstLine text made (n + 1)
+good_line text n made f h line = (
+    omega (arith, h),
+    record {
+      has_line = record { who_in_range = line.who_in_range; call_in_range = line.call_in_range; readable = line.readable; split = refl };
+      split = at_feed text n f h ∙ ap (λ t. t ++ 10 ∷ drop (suc n) text) line.split ∙ ap (λ i. line_of made ++ 10 ∷ drop i text) (sym (add-one n));
+      size_is = omega (arith, ap length line.split, length-take-le n text f.within);
+    },
+  )
 
 begins_ended : (front : List ℕ) → Begins IsLine front → Begins (EndedLine IsLine) front
 begins_ended front (rest, l) = (rest ++ 10 ∷ [], record { line = front ++ rest; is_line = l; split = sym (append_assoc front rest (10 ∷ [])) })
@@ -67,31 +76,24 @@ stops_within front x free stops (rest, e) =
     stops (more.0, subst (λ t. IsLine t) more.1 e.is_line)
 
 -- a text that is no line isn't one with a line feed behind, however it goes on
-stops_at_feed : (line : List ℕ) (x : ℕ) → x ≡ 10 → IsFree line → (IsLine line → ⊥) → Begins (EndedLine IsLine) (line ++ x ∷ []) → ⊥
-stops_at_feed line x at free absent (rest, e) =
+stops_at_feed : AreFree → (line : List ℕ) (x : ℕ) → x ≡ 10 → IsFree line → (IsLine line → ⊥) → Begins (EndedLine IsLine) (line ++ x ∷ []) → ⊥
+stops_at_feed feedless line x at free absent (rest, e) =
     let whole : line ++ 10 ∷ rest ≡ e.line ++ 10 ∷ [] = ap (λ b. line ++ b ∷ rest) (sym at) ∙ sym (one_more line x rest) ∙ e.split in
-    let made = e.is_line.0 in
-    let same = feed_first line e.line rest [] free (line_free made.0 made.1 e.line e.is_line.1) whole in
+    let same = feed_first line e.line rest [] free (feedless e.line e.is_line) whole in
     absent (subst (λ t. IsLine t) (sym same.0) e.is_line)
 
-stops_behind : (line front tail after : List ℕ) → line ≡ front ++ tail → IsFree line → (IsLine line → ⊥) → Stops (IsLine) front tail
+stops_behind : AreFree → (line front tail after : List ℕ) → line ≡ front ++ tail → IsFree line → (IsLine line → ⊥) → Stops (IsLine) front tail
     → ((x : ℕ) (more : List ℕ) → after ≡ x ∷ more → x ≡ 10) → Stops (EndedLine IsLine) front (tail ++ after)
-stops_behind line front [] [] split free absent stops feed = tt
-stops_behind line front [] (x ∷ more) split free absent stops feed =
+stops_behind feedless line front [] [] split free absent stops feed = tt
+stops_behind feedless line front [] (x ∷ more) split free absent stops feed =
     let same : line ≡ front = split ∙ append-nil front in
-    stops_at_feed front x (feed x more refl) (subst (λ t. IsFree t) same free) (subst (λ t. IsLine t → ⊥) same absent)
-stops_behind line front (x ∷ tail) after split free absent stops feed =
+    stops_at_feed feedless front x (feed x more refl) (subst (λ t. IsFree t) same free) (subst (λ t. IsLine t → ⊥) same absent)
+stops_behind feedless line front (x ∷ tail) after split free absent stops feed =
     stops_within front x (front_free (front ++ x ∷ []) tail (subst (λ t. IsFree t) (split ∙ sym (one_more front x tail)) free)) stops
 
-feed_head : (text : List ℕ) (n : ℕ) → IsFeedAt text n → (x : ℕ) (more : List ℕ) → drop n text ≡ x ∷ more → x ≡ 10
-feed_head text n f x more e =
-    let less : n < length text = omega (arith, ap length e, length-drop n text) in
-    let both : 10 ∷ drop (n + 1) text ≡ x ∷ more = sym (f.feed less) ∙ e in
-    cc
-
 -- the fault of the first line is that of the text
-pub line_fault : (text : List ℕ) (n place : ℕ) → IsFeedAt text n → IsFault (IsLine) (take n text) place → IsFirstFault text (place + 1)
-line_fault text n place f fault =
+pub line_fault : AreFree → (text : List ℕ) (n place : ℕ) → IsFeedAt text n → IsFault (IsLine) (take n text) place → IsFirstFault text (place + 1)
+line_fault feedless text n place f fault =
     let line = take n text in
     let front = take place line in
     let tail = drop place line in
@@ -105,7 +107,7 @@ line_fault text n place f fault =
       open_line = not_ended front free;
       reaches = record {
         begins = begins_ended front fault.reaches.begins;
-        stops = stops_behind line front tail after cut f.free fault.absent fault.reaches.stops (feed_head text n f);
+        stops = stops_behind feedless line front tail after cut f.free fault.absent fault.reaches.stops (feed_head text n f);
       };
       column_is = omega (arith, length-take-le place line fault.within);
     }

@@ -1,6 +1,6 @@
 -- Texts in which no line feed stands, and the first line feed of a text.
-use Rattle.std.proofs.Common.{◌≡◌, ◌≢◌, ℕ, suc, ◌+◌, ◌<◌, ◌≤◌, List, [], ◌∷◌, ◌++◌, length, get_or, refl, sym, ap, ◌∙◌, subst, arith, Bool, true, false, IsTrue, nat_eq}
-use Rattle.std.proofs.lemmas.Bool.{eqb-false, eqb-true, ne_eqb}
+use Rattle.std.proofs.Common.{◌≡◌, ◌≢◌, ℕ, suc, ◌+◌, ◌<◌, ◌≤◌, List, [], ◌∷◌, ◌++◌, refl, sym, ap, ◌∙◌, subst, arith, Bool, true, false, IsTrue, nat_eq}
+use Rattle.std.proofs.lemmas.Bool.{eqb-false, eqb-true}
 use Rattle.std.specs.Prelude.{if◌then◌else◌}
 use Rattle.line_grammar.specs.Words.{lacks}
 
@@ -18,14 +18,6 @@ free_cons x text h = cases_of x text (nat_eq x 10) refl h
 pub cons_free : (x : ℕ) (text : List ℕ) → nat_eq x 10 ≡ false → IsFree text → IsFree (x ∷ text)
 cons_free x text e h = ap (λ b. if b then false else lacks 10 text) e ∙ h
 
-free_both : (x : ℕ) (a b : List ℕ) (t : Bool) → nat_eq x 10 ≡ t → IsFree (x ∷ a) → IsFree (a ++ b) → IsFree ((x ∷ a) ++ b)
-free_both x a b true e h k = absurd ((free_cons x a h).0 (eqb-true x 10 e))
-free_both x a b false e h k = cons_free x (a ++ b) e k
-
-pub append_free : (a b : List ℕ) → IsFree a → IsFree b → IsFree (a ++ b)
-append_free [] b h k = k
-append_free (x ∷ a) b h k = free_both x a b (nat_eq x 10) refl h (append_free a b (free_cons x a h).1 k)
-
 front_more : (x : ℕ) (a b : List ℕ) (t : Bool) → nat_eq x 10 ≡ t → IsFree ((x ∷ a) ++ b) → IsFree a → IsFree (x ∷ a)
 front_more x a b true e h k = absurd ((free_cons x (a ++ b) h).0 (eqb-true x 10 e))
 front_more x a b false e h k = cons_free x a e k
@@ -33,11 +25,6 @@ front_more x a b false e h k = cons_free x a e k
 pub front_free : (a b : List ℕ) → IsFree (a ++ b) → IsFree a
 front_free [] b h = refl
 front_free (x ∷ a) b h = front_more x a b (nat_eq x 10) refl h (front_free a b (free_cons x (a ++ b) h).1)
-
--- what holds of each byte
-pub each_free : (text : List ℕ) → ((k : ℕ) → k < length text → get_or text k 0 ≡ 10 → ⊥) → IsFree text
-each_free [] h = refl
-each_free (x ∷ text) h = cons_free x text (ne_eqb x 10 (h 0 (omega arith))) (each_free text (λ k l e. h (suc k) (omega (arith, l)) e))
 
 pub not_free : (a b : List ℕ) → IsFree (a ++ 10 ∷ b) → ⊥
 not_free [] b h = (free_cons 10 b h).0 refl

@@ -19,6 +19,8 @@ mod command;
 mod playing;
 mod reading;
 mod status;
+#[cfg(test)]
+mod tests;
 mod top;
 mod words;
 

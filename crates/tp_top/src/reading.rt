@@ -1,6 +1,6 @@
 //! Reading of traces.
 
-ghost use Rattle.std.specs.Prelude.{◌≡◌, ◌≢◌, ℕ, ◌+◌, ◌-◌, ◌^◌, ◌<◌, ◌≤◌, List, ◌∷◌, IfOk, IfErr, drop, length, slice_index};
+ghost use Rattle.std.specs.Prelude.{◌≡◌, ℕ, ◌-◌, ◌^◌, ◌<◌, ◌≤◌, List, IfOk, IfErr, length};
 ghost use Rattle.line_grammar.specs.Language.{IsFault};
 ghost use Rattle.tp_base.specs.declared.calls.Call.{Call};
 ghost use Rattle.tp_base.specs.declared.ids.Who.{Who};
@@ -9,10 +9,11 @@ ghost use Rattle.tp_lines.specs.Faults.{IsLine};
 ghost use Rattle.tp_top.specs.Reading.{IsFirstFault, IsFirstLine, IsOrNoMemory, IsPlaceIn};
 ghost use Rattle.tp_top.specs.Trace.{IsTraceOf};
 
+use line_grammar::words::size_before;
 use std::alloc::{AllocError, Global};
 use tp_base::calls::Call;
 use tp_base::ids::Who;
-use tp_lines::parse::parse_call;
+use tp_lines::parse::{lines_hold_no_feed, parse_call};
 
 /// Why a text was not read as a trace.
 #[derive(Clone, Copy, Debug, PartialEq, Eq)]
@@ -72,22 +73,14 @@ fn read_line(text: &[u8]) -> Result<((Who, Call), usize), u32>
     ensures only { (made : Who × Call) (size : ℕ) → IsFirstLine text.now made size → result ≡ Ok (made, size) }
     ensures err { IfErr result (λ column. IsFirstFault text.now column) }
 {
-    let size = line_size(text);
+    lines_hold_no_feed();
+    let size = size_before(b'\n', text);
     let (line, rest) = text.split_at(size);
     match read_call(line) {
         Err(place) => Err(place + 1),
         Ok(_) if rest.is_empty() => Err(size as u32 + 1),
         Ok(call) => Ok((call, size + 1)),
     }
-}
-
-// How many bytes stand before the first line feed, or in the text where it has none.
-fn line_size(text: &[u8]) -> usize
-    ensures within { result ≤ length text.now }
-    ensures before { (k : ℕ) → k < result → slice_index text.now k ≢ 10 }
-    ensures feed { result < length text.now → drop result text.now ≡ 10 ∷ drop (result + 1) text.now }
-{
-    text.iter().position(|byte| *byte == b'\n').unwrap_or(text.len())
 }
 
 // The call whose line the text is, or the place of the text's fault, counted from 0.
