@@ -319,6 +319,38 @@ fn faults_of_entries(rt: HostRuntime) {
             39,
             LineKind::Unexpected,
         ),
+        ("c1 take -> queued 1", 20, LineKind::Unfinished),
+        ("c1 take -> queued  1 1", 19, LineKind::Unexpected),
+        ("c1 take -> queued 1 65536", 25, LineKind::Unexpected),
+        ("c1 take -> flag yess", 20, LineKind::Unexpected),
+        ("c1 take -> flag maybe", 17, LineKind::Unexpected),
+        ("c1 take -> frozen", 14, LineKind::Unexpected),
+        ("c1 take -> later 1", 17, LineKind::Unexpected),
+        ("c1 take -> closing 1 2", 23, LineKind::Unfinished),
+        ("c1 take -> begun 01 2", 19, LineKind::Unexpected),
+        ("c1 take -> notice 1", 19, LineKind::Unexpected),
+        ("c1 take -> notice o1 r0 x1 y1", 23, LineKind::Unexpected),
+        ("c1 take -> count 2147483648 0 0", 27, LineKind::Unexpected),
+        ("c1 take -> attached", 20, LineKind::Unfinished),
+        (
+            "c1 take -> taken 1 o1 r1 x7 objects",
+            35,
+            LineKind::Unexpected,
+        ),
+        ("c1 take -> taken 1 o1 r1 x7", 28, LineKind::Unfinished),
+        ("c1 take -> returned - done - -", 31, LineKind::Unfinished),
+        ("c1 take -> refused", 19, LineKind::Unfinished),
+        (
+            "c1 take -> refused slot-taken timer",
+            31,
+            LineKind::Unexpected,
+        ),
+        (
+            "c1 take -> refused has-members 65536",
+            36,
+            LineKind::Unexpected,
+        ),
+        ("c1 take -> exhaust", 19, LineKind::Unfinished),
     ];
     for (text, column, kind) in cases {
         check_entry_fault(&rt, text, LineFault { column, kind });
