@@ -1,6 +1,10 @@
+pub mod AnswerFacts
 pub mod Bounds
 pub mod CallFacts
 pub mod FieldFacts
 pub mod FormFacts
+pub mod RefusalFacts
+pub mod ResultFacts
 pub mod RowFacts
 pub mod WhoFacts
+pub mod WordRows

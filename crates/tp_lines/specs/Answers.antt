@@ -1,5 +1,5 @@
 -- The texts of answers, refusals, looks and full, and of entries.
-use Rattle.std.specs.Prelude.{◌≡◌, ℕ, Bool, true, false, List, [], ◌∷◌, ◌++◌, codes, decimal}
+use Rattle.std.specs.Prelude.{◌≡◌, ℕ, ◌<◌, ◌≤◌, ◌^◌, Bool, true, false, List, [], ◌∷◌, ◌++◌, codes, decimal}
 use Rattle.tp_base.specs.declared.answers.Answer.{Answer}
 use Rattle.tp_base.specs.declared.answers.Answer.TheVariants as answer
 use Rattle.tp_base.specs.declared.answers.Entry.{Entry}
@@ -10,7 +10,8 @@ use Rattle.tp_base.specs.declared.answers.Refusal.TheVariants as refusal
 use Rattle.tp_base.specs.declared.answers.TakeResult.{TakeResult}
 use Rattle.tp_base.specs.declared.answers.TakeResult.TheVariants.{Plain, WaitObject0, WaitTimeout, Io}
 use Rattle.tp_lines.specs.Words.{joined, text_of_flag, text_of_action, text_of_slot}
-use Rattle.tp_lines.specs.Calls.{line_of_call}
+use Rattle.tp_base.specs.Ranges.{IsCallInRange, IsRoutineInRange}
+use Rattle.tp_lines.specs.Calls.{IsReadable, IsWhoInRange, line_of_call}
 
 abbrev pub words_of_result : TakeResult → List (List ℕ)
 words_of_result Plain = codes "plain" ∷ []
@@ -89,3 +90,43 @@ text_of_full room cost = joined (codes "full" ∷ decimal room ∷ decimal cost 
 -- the line of an entry, without its line feed
 abbrev pub line_of_entry : Entry → List ℕ
 line_of_entry entry = line_of_call entry.who entry.call ++ codes " -> " ++ text_of_answer entry.answer
+
+abbrev pub IsResultInRange : TakeResult → Type 0
+IsResultInRange (Io error bytes) = (error < 2 ^ 32) × (bytes < 2 ^ 64)
+IsResultInRange _ = Unit {0}
+
+abbrev pub IsRefusalInRange : Refusal → Type 0
+IsRefusalInRange (refusal.HasMembers object) = object.0 ≤ 65535
+IsRefusalInRange (refusal.OperationsOutstanding io) = io.0 ≤ 65535
+IsRefusalInRange (refusal.OverMaximum count) = count ≤ 2147483647
+IsRefusalInRange _ = Unit {0}
+
+-- the numbers that the text of an answer may have
+abbrev pub IsAnswerInRange : Answer → Type 0
+IsAnswerInRange (answer.Made number) = (1 ≤ number) × (number ≤ 65535)
+IsAnswerInRange (answer.Queued first count) = (first < 2 ^ 64) × (count ≤ 65535)
+IsAnswerInRange (answer.WasSet was first count) = (first < 2 ^ 64) × (count ≤ 65535)
+IsAnswerInRange (answer.Closing covered cancelled notices) = (covered ≤ 65535) × (cancelled ≤ 65535) × (notices ≤ 65535)
+IsAnswerInRange (answer.Begun covered cancelled) = (covered ≤ 65535) × (cancelled ≤ 65535)
+IsAnswerInRange (answer.Notice object routine context cleanup) = (object.0 ≤ 65535) × IsRoutineInRange routine.0 × (context < 2 ^ 64) × (cleanup < 2 ^ 64)
+IsAnswerInRange (answer.Started callback) = callback < 2 ^ 64
+IsAnswerInRange (answer.Operation callback) = callback < 2 ^ 64
+IsAnswerInRange (answer.Cancelled callback) = callback < 2 ^ 64
+IsAnswerInRange (answer.Count previous first count) = (previous ≤ 2147483647) × (first < 2 ^ 64) × (count ≤ 65535)
+IsAnswerInRange (answer.Advanced now first count) = (now ≤ 9223372036854775807) × (first < 2 ^ 64) × (count ≤ 65535)
+IsAnswerInRange (answer.Attached pool) = pool.0 ≤ 65535
+IsAnswerInRange (answer.Taken callback object routine context result) = (callback < 2 ^ 64) × (object.0 ≤ 65535) × IsRoutineInRange routine.0 × (context < 2 ^ 64) × IsResultInRange result
+IsAnswerInRange (answer.Returned section mutex semaphore event first count) = (first < 2 ^ 64) × (count ≤ 65535)
+IsAnswerInRange (answer.Refused refusal) = IsRefusalInRange refusal
+IsAnswerInRange _ = Unit {0}
+
+-- the text is the line of this entry, and lines can have its numbers
+pub record IsEntryLine (entry : Entry) (text : List ℕ) : Type 0 where
+  pub who_in_range : IsWhoInRange entry.who
+  pub call_in_range : IsCallInRange entry.call
+  pub readable : IsReadable entry.call
+  pub answer_in_range : IsAnswerInRange entry.answer
+  pub split : text ≡ line_of_entry entry
+
+abbrev pub EntryLines : Entry → List ℕ → Type 0
+EntryLines entry text = IsEntryLine entry text

@@ -6,6 +6,7 @@
 
 #![tactic(auto)]
 
+pub mod answers;
 pub mod calls;
 pub mod fields;
 pub mod parse;

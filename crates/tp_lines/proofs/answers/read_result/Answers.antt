@@ -1,0 +1,14 @@
+use Rattle.std.proofs.Common.{sym, ◌∙◌, take}
+use Rattle.tp_lines.proofs.ResultFacts.{result_none, result_read, result_stuck}
+use Rattle.tp_lines.proofs.answers.read_result.Goals as goal
+
+pub returns-in-Err : goal.returns-in-Err
+returns-in-Err c = result_stuck c.args.text.now c.in-Err.place c.in-Err.ensures
+
+pub returns-in-Some : goal.returns-in-Some
+returns-in-Some c =
+    result_read c.args.text.now c.in-Ok.shape c.read_row.new.values c.in-Some.taken c.in-Ok.size (sym c.result_of.ensures ∙ c.in-Some.is) c.in-Ok.ensures
+
+pub unreachable-requires : goal.unreachable-requires
+unreachable-requires c =
+    result_none c.in-Ok.shape c.read_row.new.values (take c.in-Ok.size c.args.text.now) c.in-Ok.ensures.text_of (sym c.result_of.ensures ∙ c.in-None.is)
