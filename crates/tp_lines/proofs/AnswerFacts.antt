@@ -87,6 +87,85 @@ no_endings_tail = record {
     some = (ending.Nothing, [], refl);
   }
 
+pub result_endings_stuck : (text : List ℕ) (k : ℕ) → IsStuck ResultTexts text k → IsStuck ResultEndings text k
+result_endings_stuck text k stuck = stuck_renamed ResultTexts ResultEndings (λ end t h. let b = result_ending_back end t h in (b.0, b.1)) text k (λ x t q. (ending.Result x, q)) stuck
+
+pub refusal_endings_stuck : (text : List ℕ) (k : ℕ) → IsStuck RefusalTexts text k → IsStuck RefusalEndings text k
+refusal_endings_stuck text k stuck = stuck_renamed RefusalTexts RefusalEndings (λ end t h. let b = refusal_ending_back end t h in (b.0, b.1)) text k (λ x t q. (ending.Refusal x, q)) stuck
+
+-- an ending is a result's, a refusal's or none
+pub ending_short : (bound : ℕ) → ((x : TakeResult) (t : List ℕ) → ResultTexts x t → length t ≤ bound) → ((x : Refusal) (t : List ℕ) → RefusalTexts x t → length t ≤ bound)
+    → (w : Word) (end : Ending) (t : List ℕ) → Endings w end t → length t ≤ bound
+ending_short bound by_result by_refusal w end t h = by_word w h
+    where
+    for_result : ResultEndings end t → length t ≤ bound
+    for_result h = let b = result_ending_back end t h in by_result b.0 t b.1
+
+    for_refusal : RefusalEndings end t → length t ≤ bound
+    for_refusal h = let b = refusal_ending_back end t h in by_refusal b.0 t b.1
+
+    for_none : NoEndings end t → length t ≤ bound
+    for_none h = let b = no_endings_back end t h in omega (arith, ap length b.1)
+
+    by_word : (w : Word) → Endings w end t → length t ≤ bound
+    by_word word.Create h = for_none h
+    by_word word.Submit h = for_none h
+    by_word word.Attach h = for_none h
+    by_word word.Take h = for_none h
+    by_word word.Return h = for_none h
+    by_word word.Finish h = for_none h
+    by_word word.Done h = for_none h
+    by_word word.Made h = for_none h
+    by_word word.Queued h = for_none h
+    by_word word.Was h = for_none h
+    by_word word.Flag h = for_none h
+    by_word word.Freed h = for_none h
+    by_word word.Later h = for_none h
+    by_word word.Closing h = for_none h
+    by_word word.Begun h = for_none h
+    by_word word.Ended h = for_none h
+    by_word word.Exhausted h = for_none h
+    by_word word.Stalled h = for_none h
+    by_word word.Notice h = for_none h
+    by_word word.Started h = for_none h
+    by_word word.Operation h = for_none h
+    by_word word.Cancelled h = for_none h
+    by_word word.Count h = for_none h
+    by_word word.Advanced h = for_none h
+    by_word word.Attached h = for_none h
+    by_word word.Taken h = for_result h
+    by_word word.Returned h = for_none h
+    by_word word.Refused h = for_refusal h
+    by_word word.Plain h = for_none h
+    by_word word.Object h = for_none h
+    by_word word.Timeout h = for_none h
+    by_word word.Io h = for_none h
+    by_word word.NoSuch h = for_none h
+    by_word word.WrongKind h = for_none h
+    by_word word.Released h = for_none h
+    by_word word.PoolClosed h = for_none h
+    by_word word.GroupClosed h = for_none h
+    by_word word.DefaultPool h = for_none h
+    by_word word.NotWorker h = for_none h
+    by_word word.NotRunning h = for_none h
+    by_word word.StillRunning h = for_none h
+    by_word word.InWait h = for_none h
+    by_word word.NoWaitBegun h = for_none h
+    by_word word.OwnCallback h = for_none h
+    by_word word.HasMembers h = for_none h
+    by_word word.NotStarted h = for_none h
+    by_word word.NoOperation h = for_none h
+    by_word word.OperationsOutstanding h = for_none h
+    by_word word.SlotTaken h = for_none h
+    by_word word.NotOwner h = for_none h
+    by_word word.OverMaximum h = for_none h
+    by_word word.NotWaitable h = for_none h
+    by_word word.ClockEnd h = for_none h
+    by_word word.ObjectLimit h = for_none h
+    by_word word.CallbackLimit h = for_none h
+    by_word word.NotAttached h = for_none h
+    by_word word.AlreadyAttached h = for_none h
+
 endings_part : (w : Word) → IsPart 32 (Endings w)
 endings_part word.Create = no_endings_part
 endings_part word.Submit = no_endings_part

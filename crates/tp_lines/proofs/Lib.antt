@@ -1,6 +1,7 @@
 pub mod AnswerFacts
 pub mod Bounds
 pub mod CallFacts
+pub mod EntryFacts
 pub mod FieldFacts
 pub mod FormFacts
 pub mod RefusalFacts

@@ -1,5 +1,6 @@
 -- The answers that the rows of tables stand for.
 use Rattle.std.specs.Prelude.{◌≡◌, ℕ, true, false, List, [], ◌∷◌, Option, Some, None}
+use Rattle.line_grammar.specs.Parts.{Led}
 use Rattle.tp_base.specs.declared.answers.Answer.{Answer}
 use Rattle.tp_base.specs.declared.answers.Answer.TheVariants as answer
 use Rattle.tp_base.specs.declared.answers.Refusal.{Refusal}
@@ -115,3 +116,7 @@ abbrev pub Endings : Word → Ending → List ℕ → Type 0
 Endings word.Taken = ResultEndings
 Endings word.Refused = RefusalEndings
 Endings _ = NoEndings
+
+-- an arrow, and an answer behind it
+abbrev pub ArrowTexts : Answer → List ℕ → Type 0
+ArrowTexts = Led 32 (Led 45 (Led 62 AnswerTexts))

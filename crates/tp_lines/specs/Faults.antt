@@ -3,6 +3,7 @@ use Rattle.std.specs.Prelude.{◌≡◌, ℕ, ◌+◌, ◌↔◌, List, length}
 use Rattle.line_grammar.specs.Language.{IsFault, AnyOf}
 use Rattle.tp_lines.specs.declared.parse.LineFault.{LineFault}
 use Rattle.tp_lines.specs.declared.parse.LineKind.TheVariants.{Unfinished}
+use Rattle.tp_lines.specs.Answers.{EntryLines}
 use Rattle.tp_lines.specs.Calls.{CallLines}
 
 -- the fault says that the text goes along with a line up to this place, and whether the place is its end
@@ -19,3 +20,7 @@ pub record IsLineFault (L : List ℕ → Type 0) (text : List ℕ) (fault : Line
 -- the lines of calls
 abbrev pub IsLine : List ℕ → Type 0
 IsLine = AnyOf CallLines
+
+-- the lines of entries
+abbrev pub IsEntry : List ℕ → Type 0
+IsEntry = AnyOf EntryLines

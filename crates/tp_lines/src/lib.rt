@@ -8,6 +8,7 @@
 
 pub mod answers;
 pub mod calls;
+pub mod entries;
 pub mod fields;
 pub mod parse;
 pub mod print;

@@ -1,15 +1,19 @@
 //! Reading of whole lines.
 
 ghost use Rattle.std.specs.Prelude.{◌≡◌, ◌<◌, ◌+◌, ◌^◌, ℕ, IfErr, IfOk};
+ghost use Rattle.tp_base.specs.declared.answers.Entry.{Entry};
 ghost use Rattle.tp_base.specs.declared.calls.Call.{Call};
 ghost use Rattle.tp_base.specs.declared.ids.Who.{Who};
+ghost use Rattle.tp_lines.specs.Answers.{IsEntryLine};
 ghost use Rattle.tp_lines.specs.Calls.{IsCallLine};
-ghost use Rattle.tp_lines.specs.Faults.{IsAt, IsLine, IsLineFault};
+ghost use Rattle.tp_lines.specs.Faults.{IsAt, IsEntry, IsLine, IsLineFault};
 
+use tp_base::answers::Entry;
 use tp_base::calls::Call;
 use tp_base::ids::Who;
 
 use crate::calls::read_call_line;
+use crate::entries::read_entry;
 
 /// Whether a faulty line may still become one.
 #[derive(Clone, Copy, Debug, PartialEq)]
@@ -39,6 +43,26 @@ pub fn parse_call(text: &[u8]) -> Result<(Who, Call), LineFault>
         Ok((line, size)) => {
             if size == text.len() {
                 Ok(line)
+            } else {
+                Err(fault_at(text, size))
+            }
+        }
+        Err(place) => Err(fault_at(text, place)),
+    }
+}
+
+/// Reads the line of an entry, without its line feed: an actor, a call and an answer, whose numbers are in
+/// the ranges of the grammar. Any answer may stand behind any call. An `Err` comes exactly where the text is
+/// no such line. No memory is taken.
+pub fn parse_entry(text: &[u8]) -> Result<Entry, LineFault>
+    ensures ok { IfOk result (λ entry. IsEntryLine entry text.now) }
+    ensures only { (entry : Entry) → IsEntryLine entry text.now → result ≡ Ok entry }
+    ensures err { IfErr result (IsLineFault IsEntry text.now) }
+{
+    match read_entry(text) {
+        Ok((entry, size)) => {
+            if size == text.len() {
+                Ok(entry)
             } else {
                 Err(fault_at(text, size))
             }
