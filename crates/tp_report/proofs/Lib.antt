@@ -1,0 +1,4 @@
+pub mod Feeds
+pub mod FreeLines
+pub mod HeaderFacts
+pub mod Keys

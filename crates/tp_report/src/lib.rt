@@ -1,0 +1,5 @@
+//! Reports on histories of the thread pool machine.
+
+#![tactic(auto)]
+
+mod headers;
