@@ -20,16 +20,16 @@ word_part separator word = record {
 
 module _ (word : List ℕ) (least most : ℕ) (room : least ≤ most) (bound : most < 2 ^ 64) where
   abbrev Behind : ℕ → ℕ → List ℕ → Type 0
-  Behind zeros = Led 32 (Numbers least most)
+  Behind before = Led 32 (Numbers least most)
 
   abbrev Parts : (ℕ × ℕ) → List ℕ → Type 0
   Parts = Pairs (Word {V = ℕ} 0 word) Behind
 
-  behind_tail : (zeros : ℕ) → IsTail 32 (Behind zeros)
-  behind_tail zeros = led_tail 32 (Numbers least most) (decimal least) (some_number least most room)
+  behind_tail : (before : ℕ) → IsTail 32 (Behind before)
+  behind_tail before = led_tail 32 (Numbers least most) (decimal least) (some_number least most room)
 
-  behind_part : (zeros : ℕ) → IsPart 32 (Behind zeros)
-  behind_part zeros = led_part 32 (Numbers least most) 32 (numbers_part least most 32 bound (omega arith))
+  behind_part : (before : ℕ) → IsPart 32 (Behind before)
+  behind_part before = led_part 32 (Numbers least most) 32 (numbers_part least most 32 bound (omega arith))
 
   keyed_back : (value : ℕ) (text : List ℕ) → Keyed word least most value text → (p : ℕ × ℕ) × Parts p text × (value ≡ p.1)
   keyed_back value text k = ((0, value), record {
@@ -42,7 +42,7 @@ module _ (word : List ℕ) (least most : ℕ) (room : least ≤ most) (bound : m
   keyed_any value text k = let b = keyed_back value text k in (b.0, b.1)
 
   keyed_to : (p : ℕ × ℕ) (text : List ℕ) → Parts p text → Keyed word least most p.1 text
-  keyed_to (zeros, value) text pair = record {
+  keyed_to (before, value) text pair = record {
       at_least = pair.second.behind.at_least;
       at_most = pair.second.behind.at_most;
       split = pair.split ∙ ap (λ l. l ++ pair.back) pair.first.split ∙ ap (λ l. word ++ l) pair.second.split ∙ ap (λ l. word ++ 32 ∷ l) pair.second.behind.split;
@@ -56,17 +56,17 @@ module _ (word : List ℕ) (least most : ℕ) (room : least ≤ most) (bound : m
       stuck_renamed Parts (Keyed word least most) keyed_any text k to_any
       (pairs_stuck_first 32 (Word {V = ℕ} 0 word) Behind (word_part 32 word) behind_tail text k stuck)
 
-  pub keyed_stuck : (text : List ℕ) (zeros n : ℕ) → IsReadTo (Word {V = ℕ} 0 word) text zeros n → (rest : List ℕ) → rest ≡ drop n text
+  pub keyed_stuck : (text : List ℕ) (before n : ℕ) → IsReadTo (Word {V = ℕ} 0 word) text before n → (rest : List ℕ) → rest ≡ drop n text
       → (k : ℕ) → IsStuck (Led 32 (Numbers least most)) rest k → IsStuck (Keyed word least most) text (n + k)
-  keyed_stuck text zeros n first rest e k stuck =
+  keyed_stuck text before n first rest e k stuck =
       stuck_renamed Parts (Keyed word least most) keyed_any text (n + k) to_any
-      (pairs_stuck_second 32 (Word {V = ℕ} 0 word) Behind (word_part 32 word) behind_tail text zeros n first k (subst (λ l. IsStuck (Led 32 (Numbers least most)) l k) e stuck))
+      (pairs_stuck_second 32 (Word {V = ℕ} 0 word) Behind (word_part 32 word) behind_tail text before n first k (subst (λ l. IsStuck (Led 32 (Numbers least most)) l k) e stuck))
 
-  pub keyed_read : (text : List ℕ) (zeros n : ℕ) → IsReadTo (Word {V = ℕ} 0 word) text zeros n → (rest : List ℕ) → rest ≡ drop n text
+  pub keyed_read : (text : List ℕ) (before n : ℕ) → IsReadTo (Word {V = ℕ} 0 word) text before n → (rest : List ℕ) → rest ≡ drop n text
       → (value m : ℕ) → IsReadTo (Led 32 (Numbers least most)) rest value m → IsReadTo (Keyed word least most) text value (n + m)
-  keyed_read text zeros n first rest e value m second =
-      read_renamed Parts (Keyed word least most) keyed_any text (zeros, value) value (n + m) (keyed_to (zeros, value))
-      (pairs_read 32 (Word {V = ℕ} 0 word) Behind (word_part 32 word) behind_tail text zeros n first value m (subst (λ l. IsReadTo (Led 32 (Numbers least most)) l value m) e second))
+  keyed_read text before n first rest e value m second =
+      read_renamed Parts (Keyed word least most) keyed_any text (before, value) value (n + m) (keyed_to (before, value))
+      (pairs_read 32 (Word {V = ℕ} 0 word) Behind (word_part 32 word) behind_tail text before n first value m (subst (λ l. IsReadTo (Led 32 (Numbers least most)) l value m) e second))
 
   pub keyed_part : IsPart 32 (Keyed word least most)
   keyed_part = part_renamed 32 Parts (Keyed word least most) (λ p. p.1) keyed_back

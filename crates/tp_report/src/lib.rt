@@ -3,3 +3,5 @@
 #![tactic(auto)]
 
 mod headers;
+mod history;
+mod lines;
