@@ -5,3 +5,6 @@ pub mod HeaderFacts
 pub mod Keys
 pub mod Places
 pub mod SoFar
+pub mod Honest
+pub mod Judging
+pub mod Alike

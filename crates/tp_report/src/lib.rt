@@ -5,3 +5,4 @@
 mod headers;
 mod history;
 mod lines;
+mod verdict;
