@@ -23,6 +23,9 @@ use Rattle.tp_base.specs.declared.answers.SlotWord.TheVariants.{Unasked, Perform
 use Rattle.tp_base.specs.declared.answers.TakeResult.{TakeResult}
 use Rattle.tp_base.specs.declared.answers.TakeResult.TheVariants as taken
 
+pub false_true : false ≡ true → ⊥
+false_true e = cc
+
 both : (a b : Bool) → (a && b) ≡ true → (a ≡ true) × (b ≡ true)
 both true b e = (refl, e)
 both false b e = absurd cc
@@ -48,7 +51,7 @@ pool_same a b e = let same : a.0 ≡ b.0 = number_same a.0 b.0 e in let pools : 
 flag_same : (a b : Bool) → answer_eq.eq-value.it (answer.Flag a) (answer.Flag b) ≡ true → a ≡ b
 flag_same true true e = refl
 flag_same false false e = refl
-flag_same _ _ e = cc
+flag_same _ _ e = absurd (false_true e)
 
 flag_self : (a : Bool) → answer_eq.eq-value.it (answer.Flag a) (answer.Flag a) ≡ true
 flag_self true = refl
@@ -59,7 +62,7 @@ slot_same Unasked Unasked e = refl
 slot_same Performed Performed e = refl
 slot_same NotOwner NotOwner e = refl
 slot_same OverMaximum OverMaximum e = refl
-slot_same _ _ e = cc
+slot_same _ _ e = absurd (false_true e)
 
 slot_self : (a : SlotWord) → slot_eq.eq-value.it a a ≡ true
 slot_self Unasked = refl
@@ -72,7 +75,7 @@ action_same Section Section e = refl
 action_same Mutex Mutex e = refl
 action_same Semaphore Semaphore e = refl
 action_same Event Event e = refl
-action_same _ _ e = cc
+action_same _ _ e = absurd (false_true e)
 
 action_self : (a : ActionKind) → action_eq.eq-value.it a a ≡ true
 action_self Section = refl
@@ -85,7 +88,7 @@ result_same taken.Plain taken.Plain e = refl
 result_same taken.WaitObject0 taken.WaitObject0 e = refl
 result_same taken.WaitTimeout taken.WaitTimeout e = refl
 result_same (taken.Io x0 x1) (taken.Io y0 y1) e = let p0 = both _ _ e in let q0 : x0 ≡ y0 = number_same x0 y0 p0.0 in let q1 : x1 ≡ y1 = number_same x1 y1 p0.1 in cc
-result_same _ _ e = cc
+result_same _ _ e = absurd (false_true e)
 
 result_self : (a : TakeResult) → result_eq.eq-value.it a a ≡ true
 result_self taken.Plain = refl
@@ -119,7 +122,7 @@ refusal_same refusal.ObjectLimit refusal.ObjectLimit e = refl
 refusal_same refusal.CallbackLimit refusal.CallbackLimit e = refl
 refusal_same refusal.NotAttached refusal.NotAttached e = refl
 refusal_same refusal.AlreadyAttached refusal.AlreadyAttached e = refl
-refusal_same _ _ e = cc
+refusal_same _ _ e = absurd (false_true e)
 
 refusal_self : (a : Refusal) → refusal_eq.eq-value.it a a ≡ true
 refusal_self refusal.NoSuch = refl
@@ -170,7 +173,7 @@ answer_same (answer.Attached x0) (answer.Attached y0) e = ap (λ z. answer.Attac
 answer_same (answer.Taken x0 x1 x2 x3 x4) (answer.Taken y0 y1 y2 y3 y4) e = let p0 = both _ _ e in let p1 = both _ _ p0.1 in let p2 = both _ _ p1.1 in let p3 = both _ _ p2.1 in let q0 : x0 ≡ y0 = number_same x0 y0 p0.0 in let q1 : x1 ≡ y1 = object_same x1 y1 p1.0 in let q2 : x2 ≡ y2 = routine_same x2 y2 p2.0 in let q3 : x3 ≡ y3 = number_same x3 y3 p3.0 in let q4 : x4 ≡ y4 = result_same x4 y4 p3.1 in cc
 answer_same (answer.Returned x0 x1 x2 x3 x4 x5) (answer.Returned y0 y1 y2 y3 y4 y5) e = let p0 = both _ _ e in let p1 = both _ _ p0.1 in let p2 = both _ _ p1.1 in let p3 = both _ _ p2.1 in let p4 = both _ _ p3.1 in let q0 : x0 ≡ y0 = slot_same x0 y0 p0.0 in let q1 : x1 ≡ y1 = slot_same x1 y1 p1.0 in let q2 : x2 ≡ y2 = slot_same x2 y2 p2.0 in let q3 : x3 ≡ y3 = slot_same x3 y3 p3.0 in let q4 : x4 ≡ y4 = number_same x4 y4 p4.0 in let q5 : x5 ≡ y5 = number_same x5 y5 p4.1 in cc
 answer_same (answer.Refused x0) (answer.Refused y0) e = ap (λ z. answer.Refused z) (refusal_same x0 y0 e)
-answer_same _ _ e = cc
+answer_same _ _ e = absurd (false_true e)
 
 answer_self : (a : Answer) → answer_eq.eq-value.it a a ≡ true
 answer_self answer.Done = refl

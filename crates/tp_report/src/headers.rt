@@ -7,6 +7,7 @@ ghost use Rattle.tp_report.specs.Readings.{Keyed, Sizes};
 
 use line_grammar::numbers::read_prefixed;
 use line_grammar::words::read_word;
+use tp_base::limits::Limits;
 
 /// The numbers of a history's first line.
 #[derive(Clone, Copy, Debug, PartialEq)]
@@ -15,6 +16,30 @@ pub struct Header {
     pub workers: u32,
     /// How many entries the history has room for.
     pub events: u32,
+}
+
+impl Header {
+    ghost use Rattle.std.specs.Prelude.{◌≡◌};
+    ghost use Rattle.tp_base.specs.Ranges.{AreLimitsInRange};
+    ghost use Rattle.tp_report.specs.Histories.{HasHeaderLine};
+    ghost use Rattle.tp_report.specs.Verdicts.{limits_of};
+
+    /// The limits of the machine whose history this is.
+    pub fn limits(&self) -> Limits
+        requires { HasHeaderLine self.now }
+        ensures value { result ≡ limits_of self.now }
+        ensures in_range { AreLimitsInRange result }
+    {
+        Limits {
+            clients: self.clients,
+            workers: self.workers,
+            pools: 64,
+            groups: 255,
+            objects: 4_095,
+            kernels: 1_024,
+            slots: 8_192,
+        }
+    }
 }
 
 /// Reads the first line of a history, without its line feed.

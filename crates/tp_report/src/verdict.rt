@@ -7,7 +7,7 @@ ghost use Rattle.tp_model.specs.Remembered.{Meets, StandsFor};
 ghost use Rattle.tp_model.specs.Table.{step};
 ghost use Rattle.tp_model.specs.World.{World};
 ghost use Rattle.tp_report.specs.Histories.{HasLine};
-ghost use Rattle.tp_report.specs.Verdicts.{IsVerdict, verdict_text};
+ghost use Rattle.tp_report.specs.Verdicts.{IsVerdict, text_of_outcome, verdict_text};
 
 use pool_core::Engine;
 use std::alloc::{AllocError, Global};
@@ -64,4 +64,49 @@ fn is_answer(outcome: &Outcome, answer: &Answer) -> bool
     ensures { IsTrue result ↔ (outcome.now ≡ Outcome.Done answer.now) }
 {
     *outcome == Outcome::Done(*answer)
+}
+
+/// Appends the text of a verdict, with its line feed. On want of memory nothing is appended.
+pub fn print_verdict(
+    alloc: Global,
+    verdict: &Verdict,
+    out: &mut Vec<u8>,
+) -> Result<(), AllocError>
+    ensures ok { OnOk result (out.new.items ≡ out.old.items ++ verdict_text verdict.now) }
+    ensures err { OnErr result (out.new.items ≡ out.old.items) }
+{
+    let text = match verdict {
+        Verdict::Legal { len } => legal_text(alloc, *len)?,
+        Verdict::NotLegal { position, outcome } => not_legal_text(alloc, *position, outcome)?,
+    };
+    out.extend_from_slice(&text)?;
+    Ok(())
+}
+
+fn legal_text(alloc: Global, len: u32) -> Result<Vec<u8>, AllocError>
+    ensures { IfOk result (λ text. text.items ≡ verdict_text (Verdict.Legal len)) }
+{
+    let line = format!(in alloc; "legal {len}\n")?;
+    Vec::from_slice(alloc, line.as_bytes())
+}
+
+fn not_legal_text(alloc: Global, position: u32, outcome: &Outcome) -> Result<Vec<u8>, AllocError>
+    ensures { IfOk result (λ text. text.items ≡ verdict_text (Verdict.NotLegal position outcome.now)) }
+{
+    let start = format!(in alloc; "not legal at {position}: ")?;
+    let mut text = Vec::from_slice(alloc, start.as_bytes())?;
+    print_outcome(alloc, outcome, &mut text)?;
+    text.push(b'\n')?;
+    Ok(text)
+}
+
+// Appends the text of an outcome.
+fn print_outcome(alloc: Global, outcome: &Outcome, text: &mut Vec<u8>) -> Result<(), AllocError>
+    ensures { OnOk result (text.new.items ≡ text.old.items ++ text_of_outcome outcome.now) }
+{
+    match outcome {
+        Outcome::Done(answer) => print_answer(alloc, answer, text),
+        Outcome::Look(look) => print_look(alloc, look, text),
+        Outcome::Full { room, cost } => print_full(alloc, *room, *cost, text),
+    }
 }
