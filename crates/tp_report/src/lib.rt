@@ -15,3 +15,6 @@ mod verdict;
 pub use checking::check;
 pub use history::CheckFault;
 pub use verdict::{Verdict, print_verdict};
+
+#[cfg(test)]
+mod tests;
