@@ -16,7 +16,8 @@ use Rattle.tp_model.specs.Remembered.{Remembered, StandsFor, Meets}
 use Rattle.tp_model.specs.Step.{Step, Accepted, Refused, Looked, Full as FullStep, entries_of, is_accepted, outcome_of, world_after}
 use Rattle.tp_model.specs.Table.{step}
 use Rattle.tp_model.specs.World.{World, opening}
-use Rattle.tp_top.specs.Playing.{answers_text, client_number, clients_in, limits_of, output_of, text_of}
+use Rattle.tp_top.specs.Playing.{answers_text, client_number, clients_in, limits_of, output_of}
+use Rattle.tp_report.specs.Verdicts.{text_of_outcome}
 use Rattle.tp_top.specs.Steps.{IsMade}
 use Rattle.tp_top.specs.Trace.{HasLine}
 
@@ -44,24 +45,24 @@ entries_most (FullStep room cost) = omega arith
 pub played_next : (calls : List (Who × Call)) (i : ℕ) (made : Who × Call) (engine new : Remembered) (entries after : ℕ) (outcome : Outcome) (text longer : List ℕ)
     → IsPlayedTo calls i engine entries text → drop i calls ≡ made ∷ drop (i + 1) calls
     → ((w : World) → StandsFor engine w → IsMade new w entries after engine.age (step w (room 65536 w entries) made.0 made.1) outcome)
-    → longer ≡ text ++ (text_of outcome ++ 10 ∷ []) → IsPlayedTo calls (i + 1) new after longer
+    → longer ≡ text ++ (text_of_outcome outcome ++ 10 ∷ []) → IsPlayedTo calls (i + 1) new after longer
 played_next calls i made engine new entries after outcome text longer p next goes line =
     let w = p.w in
     let came = step w (room 65536 w entries) made.0 made.1 in
     let m = goes w p.stands in
     let rest = drop (i + 1) calls in
     let behind = answers_text (play_from (world_after w came) 65536 (entries + entries_of came) rest) in
-    let now : answers_text (play_from w 65536 entries (drop i calls)) ≡ text_of (outcome_of came) ++ 10 ∷ behind
+    let now : answers_text (play_from w 65536 entries (drop i calls)) ≡ text_of_outcome (outcome_of came) ++ 10 ∷ behind
     = ap (λ cs. answers_text (play_from w 65536 entries cs)) next in
-    let told : text_of outcome ≡ text_of (outcome_of came) = ap (λ o. text_of o) m.answer in
+    let told : text_of_outcome outcome ≡ text_of_outcome (outcome_of came) = ap (λ o. text_of_outcome o) m.answer in
     record {
       w = world_after w came;
       stands = m.stands;
       told =
         ap (λ n. longer ++ answers_text (play_from (world_after w came) 65536 n rest)) m.counts
         ∙ ap (λ t. t ++ behind) (line ∙ ap (λ t. text ++ (t ++ 10 ∷ [])) told)
-        ∙ append_assoc text (text_of (outcome_of came) ++ 10 ∷ []) behind
-        ∙ ap (λ t. text ++ t) (append_assoc (text_of (outcome_of came)) (10 ∷ []) behind ∙ sym now)
+        ∙ append_assoc text (text_of_outcome (outcome_of came) ++ 10 ∷ []) behind
+        ∙ ap (λ t. text ++ t) (append_assoc (text_of_outcome (outcome_of came)) (10 ∷ []) behind ∙ sym now)
         ∙ p.told;
       young = omega (arith, m.ages, p.young);
       few = omega (arith, m.counts, entries_most came, p.few);

@@ -2,23 +2,16 @@
 use Rattle.std.specs.Prelude.{ℕ, List, map, fold, max}
 use Rattle.line_grammar.specs.Traces.{trace_text}
 use Rattle.tp_base.specs.declared.answers.Outcome.{Outcome}
-use Rattle.tp_base.specs.declared.answers.Outcome.TheVariants.{Done, Look, Full}
 use Rattle.tp_base.specs.declared.calls.Call.{Call}
 use Rattle.tp_base.specs.declared.ids.Who.{Who}
 use Rattle.tp_base.specs.declared.ids.Who.TheVariants.{Client, Worker}
 use Rattle.tp_base.specs.declared.limits.Limits.{Limits}
-use Rattle.tp_lines.specs.Answers.{text_of_answer, text_of_look, text_of_full}
 use Rattle.tp_model.specs.History.{play}
-
--- the text of an outcome, without its line feed
-abbrev pub text_of : Outcome → List ℕ
-text_of (Done answer) = text_of_answer answer
-text_of (Look look) = text_of_look look
-text_of (Full room cost) = text_of_full room cost
+use Rattle.tp_report.specs.Verdicts.{text_of_outcome}
 
 -- one line for each outcome
 abbrev pub answers_text : List Outcome → List ℕ
-answers_text outcomes = trace_text (map text_of outcomes)
+answers_text outcomes = trace_text (map text_of_outcome outcomes)
 
 abbrev pub client_number : Who → ℕ
 client_number (Client number) = number

@@ -10,6 +10,8 @@ use crate::words::WordList;
 pub enum Command {
     /// Plays the calls of the input, and writes what each comes to.
     Trace,
+    /// Reads a history, and writes whether it is legal.
+    Check,
 }
 
 /// The command that the words are, or `None` where they are none.
@@ -21,6 +23,7 @@ pub fn command_in(words: &WordList) -> Option<Command>
     }
     match words.get(0) {
         Some(b"trace") => Some(Command::Trace),
+        Some(b"check") => Some(Command::Check),
         _ => None,
     }
 }

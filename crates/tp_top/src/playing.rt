@@ -6,7 +6,8 @@ ghost use Rattle.tp_model.specs.History.{room};
 ghost use Rattle.tp_model.specs.Remembered.{StandsFor};
 ghost use Rattle.tp_model.specs.Table.{step};
 ghost use Rattle.tp_model.specs.World.{World};
-ghost use Rattle.tp_top.specs.Playing.{client_number, clients_in, limits_of, output_of, text_of};
+ghost use Rattle.tp_report.specs.Verdicts.{text_of_outcome};
+ghost use Rattle.tp_top.specs.Playing.{client_number, clients_in, limits_of, output_of};
 ghost use Rattle.tp_top.specs.Steps.{IsMade};
 ghost use Rattle.tp_top.specs.Trace.{HasLine};
 
@@ -16,7 +17,7 @@ use tp_base::answers::Outcome;
 use tp_base::calls::Call;
 use tp_base::ids::Who;
 use tp_base::limits::Limits;
-use tp_lines::print::{print_answer, print_full, print_look};
+use tp_report::print_outcome;
 
 /// How many entries a history has room for.
 const CAPACITY: u64 = 65_536;
@@ -33,7 +34,7 @@ pub fn play_trace(alloc: Global, calls: &[(Who, Call)]) -> Result<Vec<u8>, Alloc
     let mut entries = 0;
     for made in calls {
         let outcome = play_call(&mut engine, &mut entries, made.0, made.1);
-        print_outcome(alloc, &outcome, &mut text)?;
+        print_line(alloc, &outcome, &mut text)?;
     }
     Ok(text)
 }
@@ -55,14 +56,10 @@ fn play_call(engine: &mut Engine, entries: &mut u64, who: Who, call: Call) -> Ou
 }
 
 // Appends the line of an outcome.
-fn print_outcome(alloc: Global, outcome: &Outcome, text: &mut Vec<u8>) -> Result<(), AllocError>
-    ensures { OnOk result (text.new.items ≡ text.old.items ++ (text_of outcome.now ++ 10 ∷ [])) }
+fn print_line(alloc: Global, outcome: &Outcome, text: &mut Vec<u8>) -> Result<(), AllocError>
+    ensures { OnOk result (text.new.items ≡ text.old.items ++ (text_of_outcome outcome.now ++ 10 ∷ [])) }
 {
-    match outcome {
-        Outcome::Done(answer) => print_answer(alloc, answer, text)?,
-        Outcome::Look(look) => print_look(alloc, look, text)?,
-        Outcome::Full { room, cost } => print_full(alloc, *room, *cost, text)?,
-    }
+    print_outcome(alloc, outcome, text)?;
     text.push(b'\n')?;
     Ok(())
 }

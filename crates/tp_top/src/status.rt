@@ -5,6 +5,7 @@ ghost use Rattle.std.specs.Prelude.{◌≡◌};
 use crate::reading::TraceFault;
 use std::alloc::AllocError;
 use tp_edge::ReadFault;
+use tp_report::{CheckFault, Verdict};
 
 /// What was found out of an input that is in its grammar.
 #[derive(Clone, Copy, Debug, PartialEq, Eq)]
@@ -13,6 +14,19 @@ pub enum Ending {
     Fine,
     /// It is a history in which an answer isn't the machine's.
     NotLegal,
+}
+
+impl From<Verdict> for Ending {
+    ghost use Rattle.tp_top.specs.Inputs.{ending_of};
+
+    ghost from_gives = { λ verdict ending. ending ≡ ending_of verdict };
+
+    fn from(verdict: Verdict) -> Self {
+        match verdict {
+            Verdict::Legal { .. } => Ending::Fine,
+            Verdict::NotLegal { .. } => Ending::NotLegal,
+        }
+    }
 }
 
 /// How the program ends.
@@ -93,6 +107,19 @@ impl From<TraceFault> for Status {
         match fault {
             TraceFault::NoMemory => Status::NoMemory,
             TraceFault::At { line, column } => Status::BadLine { line, column },
+        }
+    }
+}
+
+impl From<CheckFault> for Status {
+    ghost use Rattle.tp_top.specs.Ends.{status_of_history};
+
+    ghost from_gives = { λ fault status. status ≡ status_of_history fault };
+
+    fn from(fault: CheckFault) -> Self {
+        match fault {
+            CheckFault::NoMemory => Status::NoMemory,
+            CheckFault::At { line, column } => Status::BadLine { line, column },
         }
     }
 }

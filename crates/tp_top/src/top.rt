@@ -17,6 +17,7 @@ use crate::status::{Ending, Status};
 use crate::words::WordList;
 use std::alloc::Global;
 use tp_edge::{Sink, Source, WriteFault, give_all, read_all};
+use tp_report::{check, print_verdict};
 
 /// The most bytes that an input may have.
 const INPUT_LIMIT: usize = 16_777_216;
@@ -124,6 +125,15 @@ fn reply(alloc: Global, command: Command, bytes: &[u8]) -> Result<Output, Status
             Ok(Output {
                 text,
                 ending: Ending::Fine,
+            })
+        }
+        Command::Check => {
+            let verdict = check(alloc, bytes)?;
+            let mut text = Vec::new(alloc);
+            print_verdict(alloc, &verdict, &mut text)?;
+            Ok(Output {
+                text,
+                ending: verdict.into(),
             })
         }
     }
