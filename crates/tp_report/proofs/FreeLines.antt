@@ -1,6 +1,6 @@
 -- No line feed stands in a line of a history.
-use Rattle.std.proofs.Common.{◌≡◌, ℕ, ◌+◌, ◌^◌, ◌<◌, ◌≤◌, List, [], ◌∷◌, ◌++◌, refl, sym, subst, arith, true, false, Bool, IsTrue}
-use Rattle.std.specs.Prelude.{codes, decimal}
+use Rattle.std.proofs.Common.{ℕ, ◌^◌, ◌<◌, List, [], ◌∷◌, ◌++◌, refl, sym, subst, arith, true, false, Bool}
+use Rattle.std.specs.Prelude.{codes}
 use Rattle.tp_base.specs.declared.answers.ActionKind.{ActionKind}
 use Rattle.tp_base.specs.declared.answers.ActionKind.TheVariants.{Section, Mutex, Semaphore, Event}
 use Rattle.tp_base.specs.declared.answers.Answer.{Answer}
@@ -21,11 +21,11 @@ use Rattle.tp_base.specs.declared.calls.Priority.TheVariants.{High, Normal, Low}
 use Rattle.tp_base.specs.declared.ids.Who.{Who}
 use Rattle.tp_base.specs.declared.ids.Who.TheVariants.{Client, Worker}
 use Rattle.tp_base.specs.Ranges.{IsCallInRange}
-use Rattle.tp_lines.specs.Answers.{IsAnswerInRange, IsEntryLine, IsRefusalInRange, IsResultInRange, line_of_entry, text_of_answer, words_of_answer, words_of_refusal, words_of_result}
+use Rattle.tp_lines.specs.Answers.{IsAnswerInRange, IsEntryLine, IsRefusalInRange, IsResultInRange, text_of_answer, words_of_answer, words_of_refusal, words_of_result}
 use Rattle.tp_lines.specs.Calls.{IsReadable, IsWhoInRange, line_of_call, words_of_call}
 use Rattle.tp_lines.specs.Words.{joined, text_of_action, text_of_flag, text_of_kind, text_of_long, text_of_priority, text_of_slot, text_of_who}
-use Rattle.tp_report.specs.Histories.{IsHeaderLine, end_line, header_line}
-use Rattle.tp_report.proofs.Feeds.{IsFree, free_append, free_cons, free_decimal, free_prefixed}
+use Rattle.tp_report.specs.Histories.{end_line}
+use Rattle.tp_report.proofs.Feeds.{IsFree, free_append, free_decimal, free_prefixed}
 
 abbrev AreFree : List (List ℕ) → Type 0
 AreFree [] = Unit {0}
@@ -69,10 +69,28 @@ slot_free OverMaximum = refl
 
 call_free : (call : Call) → IsCallInRange call → IsReadable call → AreFree (words_of_call call)
 call_free (Create kind routine context env) ranges readable =
-    let environ = ranges.1 in
-    (refl, (kind_free kind, (free_prefixed 114 routine.0 refl (omega (arith, ranges.0.most)), (free_prefixed 120 context refl readable.1,
-    (free_prefixed 112 env.pool.0 refl (omega (arith, environ.pool_most)), (priority_free env.priority, (long_free env.long,
-    (free_prefixed 103 env.group.0 refl (omega (arith, environ.group_most)), (free_prefixed 113 env.cancel.0 refl (omega (arith, environ.cancel_most)), tt)))))))))
+    let environ = ranges.1 in (
+      refl,
+      (
+        kind_free kind,
+        (
+          free_prefixed 114 routine.0 refl (omega (arith, ranges.0.most)),
+          (
+            free_prefixed 120 context refl readable.1,
+            (
+              free_prefixed 112 env.pool.0 refl (omega (arith, environ.pool_most)),
+              (
+                priority_free env.priority,
+                (
+                  long_free env.long,
+                  (free_prefixed 103 env.group.0 refl (omega (arith, environ.group_most)), (free_prefixed 113 env.cancel.0 refl (omega (arith, environ.cancel_most)), tt)),
+                ),
+              ),
+            ),
+          ),
+        ),
+      ),
+    )
 call_free (SubmitWork object) ranges readable = (refl, (free_decimal object.0 (omega (arith, ranges)), tt))
 call_free Attach ranges readable = (refl, tt)
 call_free Take ranges readable = (refl, tt)
@@ -130,9 +148,16 @@ answer_free (answer.Begun covered cancelled) h = (refl, (free_decimal covered (o
 answer_free answer.Ended h = (refl, tt)
 answer_free answer.Exhausted h = (refl, tt)
 answer_free answer.Stalled h = (refl, tt)
-answer_free (answer.Notice object routine context cleanup) h =
-    (refl, (free_prefixed 111 object.0 refl (omega (arith, h.0)), (free_prefixed 114 routine.0 refl (omega (arith, h.1.most)),
-    (free_prefixed 120 context refl h.2, (free_prefixed 121 cleanup refl h.3, tt)))))
+answer_free (answer.Notice object routine context cleanup) h = (
+  refl,
+  (
+    free_prefixed 111 object.0 refl (omega (arith, h.0)),
+    (
+      free_prefixed 114 routine.0 refl (omega (arith, h.1.most)),
+      (free_prefixed 120 context refl h.2, (free_prefixed 121 cleanup refl h.3, tt)),
+    ),
+  ),
+)
 answer_free (answer.Started callback) h = (refl, (free_decimal callback h, tt))
 answer_free (answer.Operation callback) h = (refl, (free_decimal callback h, tt))
 answer_free (answer.Cancelled callback) h = (refl, (free_decimal callback h, tt))
@@ -141,9 +166,19 @@ answer_free (answer.Count previous first count) h =
 answer_free (answer.Advanced now first count) h =
     (refl, (free_decimal now (omega (arith, h.0)), (free_decimal first h.1, (free_decimal count (omega (arith, h.2)), tt))))
 answer_free (answer.Attached pool) h = (refl, (free_decimal pool.0 (omega (arith, h)), tt))
-answer_free (answer.Taken callback object routine context result) h =
-    (refl, (free_decimal callback h.0, (free_prefixed 111 object.0 refl (omega (arith, h.1)), (free_prefixed 114 routine.0 refl (omega (arith, h.2.most)),
-    (free_prefixed 120 context refl h.3, result_free result h.4)))))
+answer_free (answer.Taken callback object routine context result) h = (
+  refl,
+  (
+    free_decimal callback h.0,
+    (
+      free_prefixed 111 object.0 refl (omega (arith, h.1)),
+      (
+        free_prefixed 114 routine.0 refl (omega (arith, h.2.most)),
+        (free_prefixed 120 context refl h.3, result_free result h.4),
+      ),
+    ),
+  ),
+)
 answer_free (answer.Returned section mutex semaphore event first count) h =
     (refl, (slot_free section, (slot_free mutex, (slot_free semaphore, (slot_free event, (free_decimal first h.0, (free_decimal count (omega (arith, h.1)), tt)))))))
 answer_free (answer.Refused why) h = (refl, refusal_free why h)
@@ -152,10 +187,10 @@ pub entry_free : (entry : Entry) (line : List ℕ) → IsEntryLine entry line �
 entry_free entry line h =
     subst (λ t. IsFree t) (sym h.split)
     (free_append (line_of_call entry.who entry.call ++ codes " -> ") (text_of_answer entry.answer)
-      (free_append (line_of_call entry.who entry.call) (codes " -> ")
-        (joined_free (text_of_who entry.who ∷ words_of_call entry.call) (who_free entry.who h.who_in_range, call_free entry.call h.call_in_range h.readable))
-        refl)
-      (joined_free (words_of_answer entry.answer) (answer_free entry.answer h.answer_in_range)))
+    (free_append (line_of_call entry.who entry.call) (codes " -> ")
+    (joined_free (text_of_who entry.who ∷ words_of_call entry.call) (who_free entry.who h.who_in_range, call_free entry.call h.call_in_range h.readable))
+    refl)
+    (joined_free (words_of_answer entry.answer) (answer_free entry.answer h.answer_in_range)))
 
 pub end_free : (len : ℕ) → len < 2 ^ 64 → IsFree (end_line len)
 end_free len bound = free_decimal len bound
