@@ -1,6 +1,5 @@
 -- Answers that are alike, field by field, are one.
 use Rattle.std.proofs.Common.{◌≡◌, ℕ, refl, ap, ◌∙◌, Bool, true, false, ◌==◌, ◌&&◌, eqb-true, eq-eqb}
-use Rattle.std.specs.Prelude.{nat_eq}
 use Rattle.tp_base.specs.contracts.answers.ActionKindPartialEq.TheImpl as action_eq
 use Rattle.tp_base.specs.contracts.answers.AnswerPartialEq.TheImpl as answer_eq
 use Rattle.tp_base.specs.contracts.answers.OutcomePartialEq.TheImpl as outcome_eq

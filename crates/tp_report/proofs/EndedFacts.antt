@@ -1,15 +1,15 @@
 -- Lines with their line feeds.
-use Rattle.std.proofs.Common.{◌≡◌, ℕ, suc, ◌+◌, ◌<◌, ◌≤◌, List, [], ◌∷◌, ◌++◌, length, take, drop, get_or, refl, sym, ap, ◌∙◌, subst, arith, ◌⊎◌, inl, inr}
-use Rattle.std.proofs.lemmas.List.{append_assoc, length-append, take-append-drop, append-nil}
+use Rattle.std.proofs.Common.{◌≡◌, ℕ, ◌+◌, List, [], ◌∷◌, ◌++◌, length, take, drop, refl, sym, ap, ◌∙◌, subst, arith}
+use Rattle.std.proofs.lemmas.List.{append_assoc, take-append-drop}
 use Rattle.line_grammar.specs.Language.{AnyOf, Begins, Stops, Reaches, IsReadTo, IsStuck}
 use Rattle.line_grammar.specs.Parts.{IsPair, Pairs, Opens, IsPart, IsTail}
 use Rattle.line_grammar.specs.Traces.{EndedLine}
-use Rattle.line_grammar.specs.Words.{IsWord, Word}
+use Rattle.line_grammar.specs.Words.{Word}
 use Rattle.line_grammar.proofs.Cuts.{Cut, cut, further, nearer, same}
 use Rattle.line_grammar.proofs.Pairs.{pairs_read, pairs_stuck_first, pairs_stuck_second, one_then}
 use Rattle.line_grammar.proofs.Readings.{read_renamed, stuck_renamed}
 use Rattle.line_grammar.proofs.WordFacts.{word_stuck}
-use Rattle.tp_report.specs.Readings.{IsEnded, Ended}
+use Rattle.tp_report.specs.Readings.{Ended}
 
 -- the line feed
 abbrev Feed : ℕ → List ℕ → Type 0
@@ -17,9 +17,9 @@ Feed = Word {V = ℕ} 0 (10 ∷ [])
 
 feed_tail : IsTail 10 Feed
 feed_tail = record {
-    opens = λ v text w. subst (λ l. Opens 10 l) (sym w.split) refl;
-    some = (0, 10 ∷ [], record { means = refl; split = refl });
-  }
+  opens = λ v text w. subst (λ l. Opens 10 l) (sym w.split) refl;
+  some = (0, 10 ∷ [], record { means = refl; split = refl });
+}
 
 feed_read : (more : List ℕ) → IsReadTo Feed (10 ∷ more) 0 1
 feed_read more = record { within = omega arith; text_of = record { means = refl; split = refl }; stops = stops more }
@@ -84,7 +84,7 @@ module _ {V : Type 0} (W : V → List ℕ → Type 0) (part : IsPart 10 W) where
   read_first text v n read w line more q e =
       let t = read.text_of in
       let whole : t.line ++ 10 ∷ drop n text ≡ line ++ 10 ∷ more =
-          sym (append_assoc t.line (10 ∷ []) (drop n text)) ∙ ap (λ l. l ++ drop n text) (sym t.split) ∙ take-append-drop n text ∙ e in
+      sym (append_assoc t.line (10 ∷ []) (drop n text)) ∙ ap (λ l. l ++ drop n text) (sym t.split) ∙ take-append-drop n text ∙ e in
       let s = first_same v w t.line line (drop n text) more t.is_line q whole in
       (s.0, s.2)
 
@@ -106,7 +106,7 @@ module _ {V : Type 0} (W : V → List ℕ → Type 0) (part : IsPart 10 W) where
           let b = stuck.reaches.begins in
           let l = b.1.1 in
           let whole : l.line ++ 10 ∷ [] ≡ line ++ 10 ∷ (x ∷ m ++ b.0) =
-              sym l.split ∙ ap (λ t. t ++ b.0) f ∙ append_assoc (line ++ 10 ∷ []) (x ∷ m) b.0 ∙ append_assoc line (10 ∷ []) (x ∷ m ++ b.0) in
+          sym l.split ∙ ap (λ t. t ++ b.0) f ∙ append_assoc (line ++ 10 ∷ []) (x ∷ m) b.0 ∙ append_assoc line (10 ∷ []) (x ∷ m ++ b.0) in
           let s = first_same b.1.0 w l.line line [] (x ∷ m ++ b.0) l.is_line q whole in
           let none : ⊥ = cc in none
 

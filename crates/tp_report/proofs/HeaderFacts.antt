@@ -1,14 +1,13 @@
 -- The first line of a history, from its parts.
-use Rattle.std.proofs.Common.{◌≡◌, ℕ, ◌+◌, ◌<◌, ◌≤◌, List, [], ◌∷◌, ◌++◌, length, take, drop, refl, sym, ap, ◌∙◌, subst, arith}
-use Rattle.std.specs.Prelude.{codes, decimal, Result, Ok, Err}
-use Rattle.std.proofs.lemmas.List.{append_assoc}
-use Rattle.line_grammar.specs.Language.{AnyOf, IsRead, IsReadTo, IsStuck}
-use Rattle.line_grammar.specs.Parts.{IsPair, Pairs, Opens, IsPart, IsTail}
+use Rattle.std.proofs.Common.{◌≡◌, ℕ, ◌+◌, List, ◌∷◌, ◌++◌, drop, refl, sym, ap, ◌∙◌, subst, arith}
+use Rattle.std.specs.Prelude.{codes, decimal}
+use Rattle.line_grammar.specs.Language.{AnyOf, IsReadTo, IsStuck}
+use Rattle.line_grammar.specs.Parts.{Pairs, Opens, IsPart, IsTail}
 use Rattle.line_grammar.proofs.Pairs.{pairs_read, pairs_stuck_first, pairs_stuck_second, pairs_part}
 use Rattle.line_grammar.proofs.Readings.{part_renamed, read_renamed, stuck_renamed}
 use Rattle.tp_report.specs.declared.headers.Header.{Header}
-use Rattle.tp_report.specs.Histories.{HeaderLines, IsHeaderLine, header_line}
-use Rattle.tp_report.specs.Readings.{IsKeyed, Keyed, Sizes}
+use Rattle.tp_report.specs.Histories.{HeaderLines}
+use Rattle.tp_report.specs.Readings.{Keyed, Sizes}
 use Rattle.tp_report.proofs.Keys.{keyed_part, keyed_tail}
 
 abbrev Clients : ℕ → List ℕ → Type 0
@@ -55,10 +54,10 @@ sizes_part = pairs_part 32 Workers (λ workers. Events) workers_part (λ workers
 
 sizes_tail : IsTail 32 Sizes
 sizes_tail = record {
-    opens = λ (v, u) text pair. subst (λ l. Opens 32 l) (sym (pair.split ∙ ap (λ l. l ++ pair.back) pair.first.split)) refl;
-    some = let a = workers_tail.some in let b = events_tail.some in
-        ((a.0, b.0), a.1 ++ b.1, record { front = a.1; back = b.1; split = refl; first = a.2; second = b.2 });
-  }
+  opens = λ (v, u) text pair. subst (λ l. Opens 32 l) (sym (pair.split ∙ ap (λ l. l ++ pair.back) pair.first.split)) refl;
+  some = let a = workers_tail.some in let b = events_tail.some in
+      ((a.0, b.0), a.1 ++ b.1, record { front = a.1; back = b.1; split = refl; first = a.2; second = b.2 });
+}
 
 -- the header
 abbrev header_of : (ℕ × (ℕ × ℕ)) → Header
@@ -69,7 +68,9 @@ regrouped : (a b c : List ℕ) → (codes "history 1 clients" ++ 32 ∷ a) ++ ((
 regrouped a b c = refl
 
 header_back : (header : Header) (text : List ℕ) → HeaderLines header text → (p : ℕ × (ℕ × ℕ)) × Rows p text × (header ≡ header_of p)
-header_back header text h = ((header.clients, (header.workers, header.events)), record {
+header_back header text h = (
+  (header.clients, (header.workers, header.events)),
+  record {
     front = codes "history 1 clients" ++ 32 ∷ decimal header.clients;
     back = (codes " workers" ++ 32 ∷ decimal header.workers) ++ (codes " events" ++ 32 ∷ decimal header.events);
     split = h.split ∙ sym (regrouped (decimal header.clients) (decimal header.workers) (decimal header.events));
@@ -81,20 +82,22 @@ header_back header text h = ((header.clients, (header.workers, header.events)), 
       first = record { at_least = h.workers_least; at_most = h.workers_most; split = refl };
       second = record { at_least = h.events_least; at_most = h.events_most; split = refl };
     };
-  }, refl)
+  },
+  refl,
+)
 
 header_to : (clients workers events : ℕ) (text : List ℕ) → Rows (clients, (workers, events)) text → HeaderLines (header_of (clients, (workers, events))) text
 header_to clients workers events text pair = record {
-    clients_most = pair.first.at_most;
-    workers_least = pair.second.first.at_least;
-    workers_most = pair.second.first.at_most;
-    events_least = pair.second.second.at_least;
-    events_most = pair.second.second.at_most;
-    split = pair.split ∙ ap (λ l. l ++ pair.back) pair.first.split
+  clients_most = pair.first.at_most;
+  workers_least = pair.second.first.at_least;
+  workers_most = pair.second.first.at_most;
+  events_least = pair.second.second.at_least;
+  events_most = pair.second.second.at_most;
+  split = pair.split ∙ ap (λ l. l ++ pair.back) pair.first.split
       ∙ ap (λ l. (codes "history 1 clients" ++ 32 ∷ decimal clients) ++ l)
-        (pair.second.split ∙ ap (λ l. l ++ pair.second.back) pair.second.first.split ∙ ap (λ l. (codes " workers" ++ 32 ∷ decimal workers) ++ l) pair.second.second.split)
+      (pair.second.split ∙ ap (λ l. l ++ pair.second.back) pair.second.first.split ∙ ap (λ l. (codes " workers" ++ 32 ∷ decimal workers) ++ l) pair.second.second.split)
       ∙ regrouped (decimal clients) (decimal workers) (decimal events);
-  }
+}
 
 header_any : (header : Header) (text : List ℕ) → HeaderLines header text → AnyOf Rows text
 header_any header text h = let b = header_back header text h in (b.0, b.1)

@@ -1,19 +1,17 @@
 -- How far a history has been judged.
-use Rattle.std.proofs.Common.{◌≡◌, ◌≢◌, ℕ, suc, ◌+◌, ◌-◌, ◌<◌, ◌≤◌, List, [], ◌∷◌, ◌++◌, length, take, drop, get_or, refl, sym, ap, ◌∙◌, subst, arith, Bool, true, false, cond, Option, None, Some, add-zero, add-one}
-use Rattle.std.specs.Prelude.{nat_lt, nat_le, if◌then◌else◌}
-use Rattle.std.proofs.lemmas.List.{take_more, take-append-drop, length-take-le, drop_all, take_all}
+use Rattle.std.proofs.Common.{◌≡◌, ℕ, suc, ◌+◌, ◌<◌, ◌≤◌, List, [], ◌∷◌, ◌++◌, length, take, drop, get_or, refl, sym, ap, ◌∙◌, subst, arith, Bool, true, false, add-zero, add-one}
+use Rattle.std.specs.Prelude.{nat_lt, if◌then◌else◌}
+use Rattle.std.proofs.lemmas.List.{take_more, take-append-drop, length-take-le, take_all}
 use Rattle.std.proofs.Math.Seq.{drop-cons}
 use Rattle.tp_base.specs.declared.answers.Answer.{Answer}
 use Rattle.tp_base.specs.declared.answers.Answer.TheVariants as answer
 use Rattle.tp_base.specs.declared.answers.Entry.{Entry}
 use Rattle.tp_base.specs.declared.answers.Outcome.{Outcome}
 use Rattle.tp_base.specs.declared.answers.Outcome.TheVariants as outcome
-use Rattle.tp_base.specs.declared.calls.Call.{Call}
-use Rattle.tp_base.specs.declared.ids.Who.{Who}
 use Rattle.tp_base.specs.declared.limits.Limits.{Limits}
 use Rattle.tp_model.specs.History.{IsLegal, IsLegalFrom, after, after_from, is_refusal, led_to, room}
 use Rattle.tp_model.specs.Remembered.{Remembered, StandsFor, Meets}
-use Rattle.tp_model.specs.Step.{Step, Accepted, Refused, Looked, Full, cost, is_accepted, outcome_of, unless_full, within, world_after}
+use Rattle.tp_model.specs.Step.{Step, Accepted, Refused, Looked, Full, cost, is_accepted, outcome_of, within, world_after}
 use Rattle.tp_model.specs.Table.{row, step}
 use Rattle.tp_model.specs.World.{World, opening}
 use Rattle.tp_report.specs.Verdicts.{IsWrongAt}
@@ -104,7 +102,7 @@ length_taken history i h = length-take-le i history (omega arith)
 -- the machine's outcome at the next entry
 told_at : (limits : Limits) (capacity : ℕ) (history : List Entry) (i : ℕ) (entry : Entry) → i < length history
     → outcome_of (step (after limits (take i history)) (room capacity (after limits (take i history)) i) entry.who entry.call)
-      ≡ told_from (opening limits) capacity 0 (take i history) entry
+    ≡ told_from (opening limits) capacity 0 (take i history) entry
 told_at limits capacity history i entry h =
     let w = after limits (take i history) in
     let sum : i ≡ 0 + length (take i history) = omega (arith, length_taken history i h) in
@@ -119,9 +117,8 @@ drop_next : (xs : List Entry) (i : ℕ) (d : Entry) → i < length xs → drop i
 drop_next xs i d less = rw add-one (drop-cons xs i d less)
 
 module _ (limits : Limits) (capacity : ℕ) (history : List Entry) (i : ℕ) (d : Entry) (engine new : Remembered) (told : Outcome)
-  (j : IsJudgedTo limits capacity history i engine) (h : i < length history)
-  (goes : (w : World) → StandsFor engine w → Meets engine new w (step w (room capacity w i) (get_or history i d).who (get_or history i d).call) told) where
-
+    (j : IsJudgedTo limits capacity history i engine) (h : i < length history)
+    (goes : (w : World) → StandsFor engine w → Meets engine new w (step w (room capacity w i) (get_or history i d).who (get_or history i d).call) told) where
   pub judged_next : told ≡ outcome.Done (get_or history i d).answer → IsJudgedTo limits capacity history (i + 1) new
   judged_next e =
       let entry = get_or history i d in
@@ -131,11 +128,11 @@ module _ (limits : Limits) (capacity : ℕ) (history : List Entry) (i : ℕ) (d 
       let right : outcome_of s ≡ outcome.Done entry.answer = sym m.answer ∙ e in
       let more : take (i + 1) history ≡ take i history ++ entry ∷ [] = take_more history i d h in
       let led_there : world_after w s ≡ after limits (take (i + 1) history) =
-          led w (room capacity w i) entry right ∙ sym (after_push (opening limits) (take i history) entry) ∙ ap (λ es. after limits es) (sym more) in
+      led w (room capacity w i) entry right ∙ sym (after_push (opening limits) (take i history) entry) ∙ ap (λ es. after limits es) (sym more) in
       record {
         stands = subst (λ x. StandsFor new x) led_there m.stands;
         legal = subst (λ es. IsLegal limits capacity es) (sym more)
-          (legal_push (opening limits) capacity 0 (take i history) entry j.legal (sym (told_at limits capacity history i entry h) ∙ right));
+            (legal_push (opening limits) capacity 0 (take i history) entry j.legal (sym (told_at limits capacity history i entry h) ∙ right));
         young = omega (arith, j.young, aged (is_accepted s) engine.age new.age m.ages);
       }
 
@@ -147,18 +144,19 @@ module _ (limits : Limits) (capacity : ℕ) (history : List Entry) (i : ℕ) (d 
       let size = length_taken history i h in
       let told_is : told ≡ told_from (opening limits) capacity 0 (take i history) entry = m.answer ∙ told_at limits capacity history i entry h in
       let split : history ≡ take i history ++ entry ∷ drop (i + 1) history = sym (take-append-drop i history) ∙ ap (λ es. take i history ++ es) (drop_next history i d h) in
-      let none : 0 + length (take i history) ≡ length (take i history) = omega arith in
-      (record {
-        before = take i history;
-        entry = entry;
-        behind = drop (i + 1) history;
-        split = split;
-        place = omega (arith, size);
-        legal = j.legal;
-        told = told_is ∙ ap (λ n. outcome_of (step w (room capacity w n) entry.who entry.call)) none;
-        wrong = wrong;
-      },
-      λ legal. wrong (told_is ∙ legal_there (opening limits) capacity 0 (take i history) entry (drop (i + 1) history) (subst (λ es. IsLegal limits capacity es) split legal)))
+      let none : 0 + length (take i history) ≡ length (take i history) = omega arith in (
+        record {
+          before = take i history;
+          entry = entry;
+          behind = drop (i + 1) history;
+          split = split;
+          place = omega (arith, size);
+          legal = j.legal;
+          told = told_is ∙ ap (λ n. outcome_of (step w (room capacity w n) entry.who entry.call)) none;
+          wrong = wrong;
+        },
+        λ legal. wrong (told_is ∙ legal_there (opening limits) capacity 0 (take i history) entry (drop (i + 1) history) (subst (λ es. IsLegal limits capacity es) split legal)),
+      )
 
 pub judged_all : (limits : Limits) (capacity : ℕ) (history : List Entry) (i : ℕ) (engine : Remembered) → IsJudgedTo limits capacity history i engine → length history ≤ i → IsLegal limits capacity history
 judged_all limits capacity history i engine j h = subst (λ es. IsLegal limits capacity es) (take_all i history h) j.legal

@@ -1,14 +1,14 @@
 -- The lines of a history in their places.
-use Rattle.std.proofs.Common.{◌≡◌, ℕ, ◌+◌, ◌<◌, ◌≤◌, ◌^◌, List, [], ◌∷◌, ◌++◌, length, take, drop, get_or, refl, sym, ap, ◌∙◌, subst, arith, ◌⊎◌, inl, inr, IsTrue, max, Bool, true, false}
-use Rattle.std.specs.Prelude.{codes, decimal, Option, None, Some, Result, Ok, Err, nat_lt, if◌then◌else◌}
+use Rattle.std.proofs.Common.{◌≡◌, ℕ, ◌<◌, ◌≤◌, ◌^◌, List, [], ◌∷◌, ◌++◌, length, take, drop, get_or, refl, sym, ap, ◌∙◌, subst, arith, ◌⊎◌, inl, inr, max, Bool, true, false}
+use Rattle.std.specs.Prelude.{codes, decimal, Option, None, Some, Err, nat_lt, if◌then◌else◌}
 use Rattle.std.proofs.lemmas.Bool.{ltb-true, ltb-false}
 use Rattle.std.proofs.lemmas.Fmt.{length-decimal-le}
-use Rattle.std.proofs.lemmas.List.{append_assoc, append-nil, length-append, take-append-drop}
-use Rattle.line_grammar.specs.Language.{AnyOf, Begins, Stops, Reaches, IsRead, IsReadTo, IsStuck}
+use Rattle.std.proofs.lemmas.List.{append_assoc, append-nil, length-append}
+use Rattle.line_grammar.specs.Language.{AnyOf, Stops, IsRead, IsReadTo, IsStuck}
 use Rattle.line_grammar.specs.Parts.{IsPart}
-use Rattle.line_grammar.specs.Words.{IsWord, Word, Either, lacks}
+use Rattle.line_grammar.specs.Words.{Either}
 use Rattle.line_grammar.proofs.Pairs.{one_then}
-use Rattle.line_grammar.proofs.Readings.{read_renamed, stuck_renamed}
+use Rattle.line_grammar.proofs.Readings.{stuck_renamed}
 use Rattle.line_grammar.proofs.WordFacts.{lacking_part, either_read}
 use Rattle.tp_base.specs.declared.answers.Entry.{Entry}
 use Rattle.tp_base.specs.declared.ids.Who.{Who}
@@ -20,8 +20,8 @@ use Rattle.tp_lines.proofs.Bounds.{stuck_short}
 use Rattle.tp_lines.proofs.EntryFacts.{entries_part, entry_short}
 use Rattle.tp_lines.proofs.WhoFacts.{line_back}
 use Rattle.tp_report.specs.declared.headers.Header.{Header}
-use Rattle.tp_report.specs.Histories.{HeaderLines, IsHeaderLine, NextLines, end_line, header_line}
-use Rattle.tp_report.specs.Readings.{IsEnded, Ended, Ends}
+use Rattle.tp_report.specs.Histories.{HeaderLines, NextLines, end_line}
+use Rattle.tp_report.specs.Readings.{Ended, Ends}
 use Rattle.tp_report.proofs.Feeds.{IsFree, free_append, free_decimal}
 use Rattle.tp_report.proofs.FreeLines.{entry_free, end_free}
 use Rattle.tp_report.proofs.HeaderFacts.{headers_part}
@@ -31,7 +31,7 @@ header_free : (header : Header) (line : List ℕ) → HeaderLines header line �
 header_free header line h =
     subst (λ t. IsFree t) (sym h.split)
     (free_append (decimal header.clients) (codes " workers " ++ (decimal header.workers ++ (codes " events " ++ decimal header.events))) (free_decimal header.clients (omega (arith, h.clients_most)))
-      (free_append (decimal header.workers) (codes " events " ++ decimal header.events) (free_decimal header.workers (omega (arith, h.workers_most))) (free_decimal header.events (omega (arith, h.events_most)))))
+    (free_append (decimal header.workers) (codes " events " ++ decimal header.events) (free_decimal header.workers (omega (arith, h.workers_most))) (free_decimal header.events (omega (arith, h.events_most)))))
 
 pub header_part : IsPart 10 HeaderLines
 header_part = lacking_part 10 HeaderLines headers_part.unique header_free
@@ -53,8 +53,8 @@ entry_apart entry line more rest h e =
     let behind = (arrow ++ answer) ++ more in
     letter_apart entry.who call.back behind rest
     (ap (λ l. l ++ behind) (sym start)
-      ∙ sym (ap (λ l. l ++ more) (h.split ∙ append_assoc (line_of_call entry.who entry.call) arrow answer) ∙ append_assoc (line_of_call entry.who entry.call) (arrow ++ answer) more)
-      ∙ e)
+    ∙ sym (ap (λ l. l ++ more) (h.split ∙ append_assoc (line_of_call entry.who entry.call) arrow answer) ∙ append_assoc (line_of_call entry.who entry.call) (arrow ++ answer) more)
+    ∙ e)
 
 -- the lines behind a header and entries
 next_unique : (events len : ℕ) (v w : Option Entry) (text : List ℕ) → NextLines events len v text → NextLines events len w text → v ≡ w
@@ -86,32 +86,34 @@ module _ (events len : ℕ) where
 
   pub next_entry : (text : List ℕ) (entry : Entry) (n : ℕ) → len < events → IsReadTo (Ended EntryLines) text entry n → IsReadTo Next text (Some entry) n
   next_entry text entry n less read = let t = read.text_of in record {
-      within = read.within;
-      text_of = record { line = t.line; is_line = (less, t.is_line); split = t.split };
-      stops = stops (drop n text) read.stops;
-    }
+    within = read.within;
+    text_of = record { line = t.line; is_line = (less, t.is_line); split = t.split };
+    stops = stops (drop n text) read.stops;
+  }
     where
-    stops : (rest : List ℕ) → Stops (AnyOf (Ended EntryLines)) (take n text) rest → Stops (AnyOf Next) (take n text) rest
-    stops [] s = tt
-    stops (x ∷ rest) s = λ (more, (v, a)).
-        elim (next_cases v ((take n text ++ x ∷ []) ++ more) a) [
-          inl l ↦ s (more, l.1)
-        | inr e ↦ ended_apart entry (take n text) (x ∷ more) (codes "nd " ++ (decimal len ++ 10 ∷ [])) read.text_of (sym (one_then (take n text) x more) ∙ e ∙ refl) ]
+      stops : (rest : List ℕ) → Stops (AnyOf (Ended EntryLines)) (take n text) rest → Stops (AnyOf Next) (take n text) rest
+      stops [] s = tt
+      stops (x ∷ rest) s = λ (more, (v, a)).
+          elim (next_cases v ((take n text ++ x ∷ []) ++ more) a) [
+            | inl l ↦ s (more, l.1)
+            | inr e ↦ ended_apart entry (take n text) (x ∷ more) (codes "nd " ++ (decimal len ++ 10 ∷ [])) read.text_of (sym (one_then (take n text) x more) ∙ e ∙ refl)
+          ]
 
   pub next_end : (text : List ℕ) (n : ℕ) → IsReadTo (Ends len) text None n → IsReadTo Next text None n
   next_end text n read = record {
-      within = read.within;
-      text_of = record { line = end_line len; is_line = refl; split = read.text_of.split };
-      stops = stops (drop n text) read.stops;
-    }
+    within = read.within;
+    text_of = record { line = end_line len; is_line = refl; split = read.text_of.split };
+    stops = stops (drop n text) read.stops;
+  }
     where
-    stops : (rest : List ℕ) → Stops (AnyOf (Ends len)) (take n text) rest → Stops (AnyOf Next) (take n text) rest
-    stops [] s = tt
-    stops (x ∷ rest) s = λ (more, (v, a)).
-        elim (next_cases v ((take n text ++ x ∷ []) ++ more) a) [
-          inl l ↦ ended_apart l.1.0 ((take n text ++ x ∷ []) ++ more) [] (codes "nd " ++ (decimal len ++ 10 ∷ x ∷ more)) l.1.1
-            (append-nil ((take n text ++ x ∷ []) ++ more) ∙ one_then (take n text) x more ∙ ap (λ l. l ++ x ∷ more) read.text_of.split ∙ append_assoc (end_line len) (10 ∷ []) (x ∷ more))
-        | inr e ↦ s (more, (None, record { means = refl; split = e })) ]
+      stops : (rest : List ℕ) → Stops (AnyOf (Ends len)) (take n text) rest → Stops (AnyOf Next) (take n text) rest
+      stops [] s = tt
+      stops (x ∷ rest) s = λ (more, (v, a)).
+          elim (next_cases v ((take n text ++ x ∷ []) ++ more) a) [
+            | inl l ↦ ended_apart l.1.0 ((take n text ++ x ∷ []) ++ more) [] (codes "nd " ++ (decimal len ++ 10 ∷ x ∷ more)) l.1.1
+                (append-nil ((take n text ++ x ∷ []) ++ more) ∙ one_then (take n text) x more ∙ ap (λ l. l ++ x ∷ more) read.text_of.split ∙ append_assoc (end_line len) (10 ∷ []) (x ∷ more))
+            | inr e ↦ s (more, (None, record { means = refl; split = e }))
+          ]
 
   -- entries, as values of the next line
   abbrev Another : Option Entry → List ℕ → Type 0
@@ -148,8 +150,15 @@ decimal_short n bound = length-decimal-le 20 n (omega arith) (omega arith) bound
 header_short : (header : Header) (line : List ℕ) → HeaderLines header line → length line ≤ 700
 header_short header line h =
     let c = decimal header.clients in let w = decimal header.workers in let e = decimal header.events in
-    omega (arith, ap length h.split, length-append c (codes " workers " ++ (w ++ (codes " events " ++ e))), length-append w (codes " events " ++ e),
-      decimal_short header.clients (omega (arith, h.clients_most)), decimal_short header.workers (omega (arith, h.workers_most)), decimal_short header.events (omega (arith, h.events_most)))
+    omega (
+      arith,
+      ap length h.split,
+      length-append c (codes " workers " ++ (w ++ (codes " events " ++ e))),
+      length-append w (codes " events " ++ e),
+      decimal_short header.clients (omega (arith, h.clients_most)),
+      decimal_short header.workers (omega (arith, h.workers_most)),
+      decimal_short header.events (omega (arith, h.events_most)),
+    )
 
 next_short : (events len : ℕ) → len < 2 ^ 64 → (v : Option Entry) (line : List ℕ) → NextLines events len v line → length line ≤ 700
 next_short events len bound (Some entry) line h = entry_short entry line h.1

@@ -1,19 +1,19 @@
 -- How far the entries of a history have been read.
 use Rattle.std.proofs.Common.{◌≡◌, ℕ, suc, ◌+◌, ◌<◌, ◌≤◌, ◌^◌, List, [], ◌∷◌, ◌++◌, length, take, drop, refl, sym, ap, ◌∙◌, subst, arith, zero-add, add-zero}
-use Rattle.std.specs.Prelude.{All, map, Option, None, Some, Result, Ok, Err, IfOk, IfErr}
+use Rattle.std.specs.Prelude.{All, map, None, Some, Result, Ok, Err, IfOk, IfErr}
 use Rattle.std.proofs.lemmas.List.{append_assoc, append-nil, length-append, length-map, take-append-drop, length-take-le}
 use Rattle.std.proofs.lemmas.List.Elements.{All-nil, All-push, All-head, All-tail}
-use Rattle.line_grammar.specs.Language.{AnyOf, IsReadTo, IsStuck}
+use Rattle.line_grammar.specs.Language.{IsReadTo, IsStuck}
 use Rattle.line_grammar.specs.Parts.{IsPart}
-use Rattle.line_grammar.specs.Traces.{EndedLine, trace_text}
+use Rattle.line_grammar.specs.Traces.{trace_text}
 use Rattle.tp_base.specs.declared.answers.Entry.{Entry}
-use Rattle.tp_lines.specs.Answers.{EntryLines, IsEntryLine, line_of_entry}
+use Rattle.tp_lines.specs.Answers.{IsEntryLine, line_of_entry}
 use Rattle.tp_report.specs.declared.headers.Header.{Header}
 use Rattle.tp_report.specs.declared.history.CheckFault.{CheckFault}
 use Rattle.tp_report.specs.declared.history.CheckFault.TheVariants.{NoMemory, At}
 use Rattle.tp_report.specs.declared.history.History.{History}
-use Rattle.tp_report.specs.Histories.{HasHeaderLine, HasLine, HeaderLines, IsHeaderLine, IsHistory, IsHistoryFault, NextLines, end_line, header_line}
-use Rattle.tp_report.specs.Readings.{IsEnded, Ended}
+use Rattle.tp_report.specs.Histories.{HasHeaderLine, HasLine, HeaderLines, IsHistory, IsHistoryFault, NextLines, end_line, header_line}
+use Rattle.tp_report.specs.Readings.{Ended}
 use Rattle.tp_report.specs.Results.{AreEntries, AreRest, IsEntriesFault, IsHistoryOrNoMemory, IsPlaceBehind, IsPlaceIn, entries_text}
 use Rattle.tp_report.proofs.EndedFacts.{read_first, stuck_first, reaches_line, absent_line}
 use Rattle.tp_report.proofs.Places.{header_part, next_part}
@@ -60,35 +60,35 @@ module _ (events : ℕ) (text : List ℕ) (entries : List Entry) (rest : List �
         have_lines = All-push HasLine entries entry r.have_lines has;
         few = omega (arith, t.is_line.0, longer);
         split = r.split ∙ ap (λ l. entries_text entries ++ l) (sym (take-append-drop size rest) ∙ ap (λ l. l ++ drop size rest) (t.split ∙ ap (λ l. l ++ 10 ∷ []) line_split))
-          ∙ sym (append_assoc (entries_text entries) (line_of_entry entry ++ 10 ∷ []) (drop size rest))
-          ∙ ap (λ l. l ++ drop size rest) (sym (entries_text-append entries (entry ∷ [])));
+            ∙ sym (append_assoc (entries_text entries) (line_of_entry entry ++ 10 ∷ []) (drop size rest))
+            ∙ ap (λ l. l ++ drop size rest) (sym (entries_text-append entries (entry ∷ [])));
         only = λ all a. (let behind = r.only all a in next_only all behind.0 behind.1 behind.2);
       }
     where
-    part : IsPart 10 (NextLines events (length entries))
-    part = next_part events (length entries) (bound_of events (length entries) most r.few)
+      part : IsPart 10 (NextLines events (length entries))
+      part = next_part events (length entries) (bound_of events (length entries) most r.few)
 
-    next_only : (all tail : List Entry) → all ≡ entries ++ tail → AreRest events (length entries) rest tail
-        → (more : List Entry) × (all ≡ (entries ++ entry ∷ []) ++ more) × AreRest events (length (entries ++ entry ∷ [])) (drop size rest) more
-    next_only all [] e a =
-        let line : NextLines events (length entries) None (end_line (length entries + 0)) = ap (λ n. end_line n) (add-zero (length entries)) in
-        let s = read_first (NextLines events (length entries)) part rest (Some entry) size read None (end_line (length entries + 0)) a.rest line a.split in
-        let none : ⊥ = cc (s.0) in absurd none
-    next_only all (m ∷ tail) e a =
-        let behind = entries_text tail ++ (end_line (length entries + suc (length tail)) ++ 10 ∷ a.rest) in
-        let s = read_first (NextLines events (length entries)) part rest (Some entry) size read (Some m) (line_of_entry m) behind (first_entry m tail a) (one_more m tail a) in
-        let same : entry ≡ m = cc (s.0) in
-        let longer : length (entries ++ entry ∷ []) ≡ length entries + 1 = length-append entries (entry ∷ []) in
-        let sum : length entries + suc (length tail) ≡ length (entries ++ entry ∷ []) + length tail = omega (arith, longer) in (
-          tail,
-          e ∙ ap (λ x. entries ++ x ∷ tail) (sym same) ∙ sym (append_assoc entries (entry ∷ []) tail),
-          record {
-            have_lines = All-tail HasLine m tail a.have_lines;
-            few = omega (arith, a.few, longer);
-            rest = a.rest;
-            split = s.1 ∙ ap (λ n. entries_text tail ++ (end_line n ++ 10 ∷ a.rest)) sum;
-          },
-        )
+      next_only : (all tail : List Entry) → all ≡ entries ++ tail → AreRest events (length entries) rest tail
+          → (more : List Entry) × (all ≡ (entries ++ entry ∷ []) ++ more) × AreRest events (length (entries ++ entry ∷ [])) (drop size rest) more
+      next_only all [] e a =
+          let line : NextLines events (length entries) None (end_line (length entries + 0)) = ap (λ n. end_line n) (add-zero (length entries)) in
+          let s = read_first (NextLines events (length entries)) part rest (Some entry) size read None (end_line (length entries + 0)) a.rest line a.split in
+          let none : ⊥ = cc (s.0) in absurd none
+      next_only all (m ∷ tail) e a =
+          let behind = entries_text tail ++ (end_line (length entries + suc (length tail)) ++ 10 ∷ a.rest) in
+          let s = read_first (NextLines events (length entries)) part rest (Some entry) size read (Some m) (line_of_entry m) behind (first_entry m tail a) (one_more m tail a) in
+          let same : entry ≡ m = cc (s.0) in
+          let longer : length (entries ++ entry ∷ []) ≡ length entries + 1 = length-append entries (entry ∷ []) in
+          let sum : length entries + suc (length tail) ≡ length (entries ++ entry ∷ []) + length tail = omega (arith, longer) in (
+            tail,
+            e ∙ ap (λ x. entries ++ x ∷ tail) (sym same) ∙ sym (append_assoc entries (entry ∷ []) tail),
+            record {
+              have_lines = All-tail HasLine m tail a.have_lines;
+              few = omega (arith, a.few, longer);
+              rest = a.rest;
+              split = s.1 ∙ ap (λ n. entries_text tail ++ (end_line n ++ 10 ∷ a.rest)) sum;
+            },
+          )
 
   read_end_text : (size : ℕ) → IsReadTo (Ended (NextLines events (length entries))) rest None size → rest ≡ end_line (0 + length entries) ++ 10 ∷ drop size rest
   read_end_text size read =
@@ -98,11 +98,11 @@ module _ (events : ℕ) (text : List ℕ) (entries : List Entry) (rest : List �
 
   pub read_all : (size : ℕ) → IsReadTo (Ended (NextLines events (length entries))) rest None size → AreRest events 0 text entries
   read_all size read = record {
-      have_lines = r.have_lines;
-      few = omega (arith, r.few);
-      rest = drop size rest;
-      split = r.split ∙ ap (λ l. entries_text entries ++ l) (read_end_text size read);
-    }
+    have_lines = r.have_lines;
+    few = omega (arith, r.few);
+    rest = drop size rest;
+    split = r.split ∙ ap (λ l. entries_text entries ++ l) (read_end_text size read);
+  }
 
   last_line : AreRest events (length entries) rest [] → NextLines events (length entries) None (end_line (length entries + 0))
   last_line a = ap (λ n. end_line n) (add-zero (length entries))
@@ -110,25 +110,25 @@ module _ (events : ℕ) (text : List ℕ) (entries : List Entry) (rest : List �
   pub read_only : (size : ℕ) → IsReadTo (Ended (NextLines events (length entries))) rest None size → (all : List Entry) → AreRest events 0 text all → entries ≡ all
   read_only size read all a = let behind = r.only all a in of_tail behind.0 behind.1 behind.2
     where
-    of_tail : (tail : List Entry) → all ≡ entries ++ tail → AreRest events (length entries) rest tail → entries ≡ all
-    of_tail [] e b = sym (e ∙ append-nil entries)
-    of_tail (m ∷ tail) e b =
-        let behind = entries_text tail ++ (end_line (length entries + suc (length tail)) ++ 10 ∷ b.rest) in
-        let part = next_part events (length entries) (bound_of events (length entries) most r.few) in
-        let s = read_first (NextLines events (length entries)) part rest None size read (Some m) (line_of_entry m) behind (first_entry m tail b) (one_more m tail b) in
-        let none : ⊥ = cc (s.0) in absurd none
+      of_tail : (tail : List Entry) → all ≡ entries ++ tail → AreRest events (length entries) rest tail → entries ≡ all
+      of_tail [] e b = sym (e ∙ append-nil entries)
+      of_tail (m ∷ tail) e b =
+          let behind = entries_text tail ++ (end_line (length entries + suc (length tail)) ++ 10 ∷ b.rest) in
+          let part = next_part events (length entries) (bound_of events (length entries) most r.few) in
+          let s = read_first (NextLines events (length entries)) part rest None size read (Some m) (line_of_entry m) behind (first_entry m tail b) (one_more m tail b) in
+          let none : ⊥ = cc (s.0) in absurd none
 
   pub read_no : (place : ℕ) → IsStuck (Ended (NextLines events (length entries))) rest place → (all : List Entry) → AreRest events 0 text all → ⊥
   read_no place stuck all a = let behind = r.only all a in of_tail behind.0 behind.2
     where
-    part : IsPart 10 (NextLines events (length entries))
-    part = next_part events (length entries) (bound_of events (length entries) most r.few)
+      part : IsPart 10 (NextLines events (length entries))
+      part = next_part events (length entries) (bound_of events (length entries) most r.few)
 
-    of_tail : (tail : List Entry) → AreRest events (length entries) rest tail → ⊥
-    of_tail [] b = stuck_first (NextLines events (length entries)) part rest place stuck None (end_line (length entries + 0)) b.rest (last_line b) b.split
-    of_tail (m ∷ tail) b =
-        let behind = entries_text tail ++ (end_line (length entries + suc (length tail)) ++ 10 ∷ b.rest) in
-        stuck_first (NextLines events (length entries)) part rest place stuck (Some m) (line_of_entry m) behind (first_entry m tail b) (one_more m tail b)
+      of_tail : (tail : List Entry) → AreRest events (length entries) rest tail → ⊥
+      of_tail [] b = stuck_first (NextLines events (length entries)) part rest place stuck None (end_line (length entries + 0)) b.rest (last_line b) b.split
+      of_tail (m ∷ tail) b =
+          let behind = entries_text tail ++ (end_line (length entries + suc (length tail)) ++ 10 ∷ b.rest) in
+          stuck_first (NextLines events (length entries)) part rest place stuck (Some m) (line_of_entry m) behind (first_entry m tail b) (one_more m tail b)
 
   pub read_fault : (place line column : ℕ) → IsStuck (Ended (NextLines events (length entries))) rest place → line ≡ length entries + 2 → column ≡ place + 1 → IsEntriesFault events text line column
   read_fault place line column stuck e f =
@@ -165,24 +165,26 @@ module _ (bytes : List ℕ) (header : Header) (size : ℕ) (read : IsReadTo (End
 
   pub history_read : (entries : List Entry) → AreRest header.events 0 (drop size bytes) entries → IsHistory bytes header entries
   history_read entries a = record {
-      has_header_line = header_has;
-      have_lines = a.have_lines;
-      few = omega (arith, a.few);
-      rest = a.rest;
-      split = behind_header entries (end_line (length entries) ++ 10 ∷ a.rest) (a.split ∙ ap (λ n. entries_text entries ++ (end_line n ++ 10 ∷ a.rest)) (zero-add (length entries)));
-    }
+    has_header_line = header_has;
+    have_lines = a.have_lines;
+    few = omega (arith, a.few);
+    rest = a.rest;
+    split = behind_header entries (end_line (length entries) ++ 10 ∷ a.rest) (a.split ∙ ap (λ n. entries_text entries ++ (end_line n ++ 10 ∷ a.rest)) (zero-add (length entries)));
+  }
 
   pub history_only : (other : Header) (entries : List Entry) → IsHistory bytes other entries → (header ≡ other) × AreRest header.events 0 (drop size bytes) entries
   history_only other entries h =
       let more = end_line (length entries) ++ 10 ∷ h.rest in
       let whole : bytes ≡ header_line other ++ 10 ∷ (entries_text entries ++ more) = h.split ∙ append_assoc (header_line other) (10 ∷ entries_text entries) more in
-      let s = read_first HeaderLines header_part bytes header size read other (header_line other) (entries_text entries ++ more) h.has_header_line whole in
-      (s.0, record {
-        have_lines = h.have_lines;
-        few = omega (arith, h.few, ap (λ x. x.events) s.0);
-        rest = h.rest;
-        split = s.1 ∙ ap (λ n. entries_text entries ++ (end_line n ++ 10 ∷ h.rest)) (sym (zero-add (length entries)));
-      })
+      let s = read_first HeaderLines header_part bytes header size read other (header_line other) (entries_text entries ++ more) h.has_header_line whole in (
+        s.0,
+        record {
+          have_lines = h.have_lines;
+          few = omega (arith, h.few, ap (λ x. x.events) s.0);
+          rest = h.rest;
+          split = s.1 ∙ ap (λ n. entries_text entries ++ (end_line n ++ 10 ∷ h.rest)) (sym (zero-add (length entries)));
+        },
+      )
 
   pub history_fault : (line column : ℕ) → IsEntriesFault header.events (drop size bytes) line column → IsHistoryFault bytes line column
   history_fault line column f =

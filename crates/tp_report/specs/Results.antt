@@ -1,10 +1,10 @@
 -- What the reading of a history answers.
-use Rattle.std.specs.Prelude.{◌≡◌, ℕ, ◌+◌, ◌≤◌, List, [], ◌∷◌, ◌++◌, length, map, All, Result, Ok, Err}
+use Rattle.std.specs.Prelude.{◌≡◌, ℕ, ◌+◌, ◌≤◌, List, ◌∷◌, ◌++◌, length, map, All, Result, Ok, Err}
 use Rattle.line_grammar.specs.Language.{AnyOf, Reaches}
 use Rattle.line_grammar.specs.Traces.{EndedLine, trace_text}
 use Rattle.tp_base.specs.declared.answers.Entry.{Entry}
 use Rattle.tp_lines.specs.Answers.{line_of_entry}
-use Rattle.tp_report.specs.Histories.{HasLine, IsHistory, IsHistoryFault, NextLines, end_line}
+use Rattle.tp_report.specs.Histories.{HasLine, IsHistoryFault, NextLines, end_line}
 use Rattle.tp_report.specs.declared.headers.Header.{Header}
 use Rattle.tp_report.specs.declared.history.CheckFault.{CheckFault}
 use Rattle.tp_report.specs.declared.history.CheckFault.TheVariants.{NoMemory, At}

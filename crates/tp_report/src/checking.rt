@@ -8,10 +8,9 @@ ghost use Rattle.tp_report.specs.Histories.{IsHistory};
 ghost use Rattle.tp_report.specs.Results.{IsPlaceIn};
 ghost use Rattle.tp_report.specs.Verdicts.{IfLegal, IsJudged, IsVerdictOrNoMemory, limits_of};
 
-use std::alloc::Global;
-
 use crate::history::{CheckFault, read_history};
 use crate::verdict::{Verdict, judge};
+use std::alloc::Global;
 
 /// Reads a history, and says whether each answer in it is the machine's.
 ///

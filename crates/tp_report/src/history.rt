@@ -6,11 +6,10 @@ ghost use Rattle.tp_report.specs.declared.headers.Header.{Header};
 ghost use Rattle.tp_report.specs.Histories.{HasHeaderLine, IsHistory};
 ghost use Rattle.tp_report.specs.Results.{AreEntries, IsHistoryOrNoMemory, IsPlaceBehind, IsPlaceIn};
 
-use std::alloc::{AllocError, Global};
-use tp_base::answers::Entry;
-
 use crate::headers::Header;
 use crate::lines::{Next, read_header_line, read_next_line};
+use std::alloc::{AllocError, Global};
+use tp_base::answers::Entry;
 
 /// Why a text was not judged.
 #[derive(Clone, Copy, Debug, PartialEq)]
@@ -48,7 +47,10 @@ pub fn read_history(alloc: Global, bytes: &[u8]) -> Result<History, CheckFault>
     ensures err { IfErr result (λ fault. IsPlaceIn bytes.now fault) }
 {
     match read_header_line(bytes) {
-        Err(place) => Err(CheckFault::At { line: 1, column: place as u32 + 1 }),
+        Err(place) => Err(CheckFault::At {
+            line: 1,
+            column: place as u32 + 1,
+        }),
         Ok((header, size)) => {
             let (_, rest) = bytes.split_at(size);
             read_behind(alloc, header, rest)
@@ -75,7 +77,10 @@ fn read_behind(alloc: Global, header: Header, text: &[u8]) -> Result<History, Ch
             }
             Next::End => return Ok(History { header, entries }),
             Next::Fault { place } => {
-                return Err(CheckFault::At { line: len + 2, column: place as u32 + 1 });
+                return Err(CheckFault::At {
+                    line: len + 2,
+                    column: place as u32 + 1,
+                });
             }
         }
     }

@@ -6,12 +6,11 @@ ghost use Rattle.tp_lines.specs.Answers.{EntryLines};
 ghost use Rattle.tp_report.specs.Histories.{end_line, HeaderLines};
 ghost use Rattle.tp_report.specs.Readings.{Ended, IsEndRead, IsNext};
 
+use crate::headers::{Header, read_header};
 use line_grammar::words::{behind, read_word};
 use std::alloc::{AllocError, Global};
 use tp_base::answers::Entry;
 use tp_lines::entries::read_entry;
-
-use crate::headers::{Header, read_header};
 
 /// What a line behind the header is.
 #[derive(Clone, Copy)]
@@ -76,12 +75,7 @@ fn end_text(alloc: Global, len: u32) -> Result<String, AllocError>
 }
 
 /// Reads the line behind the header of a history for `events` entries, and `len` of these.
-pub fn read_next_line(
-    alloc: Global,
-    text: &[u8],
-    events: u32,
-    len: u32,
-) -> Result<Next, AllocError>
+pub fn read_next_line(alloc: Global, text: &[u8], events: u32, len: u32) -> Result<Next, AllocError>
     requires { len ≤ events }
     ensures { IfOk result (IsNext events len text.now) }
 {
@@ -92,7 +86,9 @@ pub fn read_next_line(
         Ok((entry, size)) => Ok(Next::Another { entry, size }),
         Err(place) => match read_end_line(alloc, text, len)? {
             None => Ok(Next::End),
-            Some(other) => Ok(Next::Fault { place: place.max(other) }),
+            Some(other) => Ok(Next::Fault {
+                place: place.max(other),
+            }),
         },
     }
 }

@@ -1,5 +1,4 @@
 use super::*;
-
 use std::alloc::Global;
 use std::test::Fail;
 
@@ -29,7 +28,10 @@ fn judges_histories(rt: HostRuntime) -> Result<(), Fail> {
             "not legal at 2: queued 1 1\n",
         ),
         // What stands behind the end line is ignored.
-        ("history 1 clients 0 workers 1 events 16\nend 0\nand more", "legal 0\n"),
+        (
+            "history 1 clients 0 workers 1 events 16\nend 0\nand more",
+            "legal 0\n",
+        ),
         (
             "history 1 clients 0 workers 1 events 16\nw1 take -> ok\nw1 attach -> ok\nend 2\n",
             "not legal at 1: refused not-attached\n",
@@ -71,11 +73,17 @@ fn names_the_first_fault(rt: HostRuntime) -> Result<(), Fail> {
         ("history 1 clients 1 workers 4 events 131073\n", (1, 43)),
         ("history 1 clients 1 workers 4 events 16", (1, 40)),
         // A fault further down comes before an entry with a wrong answer.
-        ("history 1 clients 1 workers 4 events 16\nc1 finish -> ended\nend 2\n", (3, 5)),
+        (
+            "history 1 clients 1 workers 4 events 16\nc1 finish -> ended\nend 2\n",
+            (3, 5),
+        ),
         ("history 1 clients 1 workers 4 events 16\n", (2, 1)),
         ("history 1 clients 1 workers 4 events 16\nend 01\n", (2, 6)),
         ("history 1 clients 1 workers 4 events 16\nend 0", (2, 6)),
-        ("history 1 clients 1 workers 4 events 16\nc1 finish -> ok \n", (2, 16)),
+        (
+            "history 1 clients 1 workers 4 events 16\nc1 finish -> ok \n",
+            (2, 16),
+        ),
     ];
     for (text, (line, column)) in cases {
         match verdict_on(rt.alloc(), text) {

@@ -42,10 +42,15 @@ pub fn judge(
     for (index, entry) in entries.iter().enumerate() {
         let outcome = make_call(&mut engine, capacity, index as u64, entry);
         if !is_answer(&outcome, &entry.answer) {
-            return Ok(Verdict::NotLegal { position: index as u32 + 1, outcome });
+            return Ok(Verdict::NotLegal {
+                position: index as u32 + 1,
+                outcome,
+            });
         }
     }
-    Ok(Verdict::Legal { len: entries.len() as u32 })
+    Ok(Verdict::Legal {
+        len: entries.len() as u32,
+    })
 }
 
 // Makes the call of an entry on an engine whose history has `len` entries and room for `capacity`.
@@ -67,11 +72,7 @@ fn is_answer(outcome: &Outcome, answer: &Answer) -> bool
 }
 
 /// Appends the text of a verdict, with its line feed. On want of memory nothing is appended.
-pub fn print_verdict(
-    alloc: Global,
-    verdict: &Verdict,
-    out: &mut Vec<u8>,
-) -> Result<(), AllocError>
+pub fn print_verdict(alloc: Global, verdict: &Verdict, out: &mut Vec<u8>) -> Result<(), AllocError>
     ensures ok { OnOk result (out.new.items ≡ out.old.items ++ verdict_text verdict.now) }
     ensures err { OnErr result (out.new.items ≡ out.old.items) }
 {

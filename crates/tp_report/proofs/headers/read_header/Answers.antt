@@ -11,4 +11,4 @@ returns-in-Err-read_sizes c =
 pub returns-in-Ok-read_sizes : goal.returns-in-Ok-read_sizes
 returns-in-Ok-read_sizes c =
     header_read c.args.text.now c.in-Ok.clients c.in-Ok.size c.in-Ok.ensures c.split_at.result.1.now c.split_at.ensures.back
-        c.in-Ok-read_sizes.workers c.in-Ok-read_sizes.events c.in-Ok-read_sizes.more c.in-Ok-read_sizes.ensures
+    c.in-Ok-read_sizes.workers c.in-Ok-read_sizes.events c.in-Ok-read_sizes.more c.in-Ok-read_sizes.ensures

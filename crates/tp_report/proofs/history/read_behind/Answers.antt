@@ -1,8 +1,5 @@
-use Rattle.std.proofs.Common.{◌≡◌, ℕ, ◌+◌, ◌<◌, ◌≤◌, ◌^◌, length, refl, sym, ap, ◌∙◌, subst, arith, drop, Option, None, Some}
-use Rattle.line_grammar.specs.Language.{IsStuck, IsReadTo}
-use Rattle.tp_report.specs.Histories.{NextLines}
-use Rattle.tp_report.specs.Readings.{Ended, IsNext}
-use Rattle.tp_report.specs.declared.lines.Next.TheVariants.{Another, End, Fault}
+use Rattle.std.proofs.Common.{◌≡◌, ◌+◌, length, refl, subst, arith}
+use Rattle.tp_report.specs.Readings.{IsNext}
 use Rattle.tp_report.proofs.Places.{next_place}
 use Rattle.tp_report.proofs.SoFar.{read_next, read_all, read_only, read_no, read_fault}
 use Rattle.tp_report.proofs.history.read_behind.Goals as goal
@@ -52,4 +49,4 @@ returns-in-Fault-clause-err c =
     let next = subst (λ n. IsNext c.args.header.events n c.loop-entries.rest.now c.in_ok-entry.field-0) len c.in_ok-entry.ensures in
     let stuck = subst (λ x. IsNext c.args.header.events (length c.loop-entries.entries.items) c.loop-entries.rest.now x) c.in-Fault.is next in
     read_fault c.args.header.events c.args.text.now c.loop-entries.entries.items c.loop-entries.rest.now c.loop-entries.invariant c.requires c.in-Fault.place
-        (c.len-len.result + 2) (c.in-Fault.place + 1) stuck (omega (arith, len)) refl
+    (c.len-len.result + 2) (c.in-Fault.place + 1) stuck (omega (arith, len)) refl

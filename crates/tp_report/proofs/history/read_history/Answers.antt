@@ -1,4 +1,4 @@
-use Rattle.std.proofs.Common.{◌≡◌, ◌+◌, ◌<◌, ◌≤◌, refl, arith}
+use Rattle.std.proofs.Common.{◌+◌, refl, arith}
 use Rattle.tp_report.proofs.Places.{header_place}
 use Rattle.tp_report.proofs.SoFar.{result_ok, result_only, result_err, header_fault, header_no}
 use Rattle.tp_report.proofs.history.read_history.Goals as goal

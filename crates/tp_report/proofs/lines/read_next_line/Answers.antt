@@ -1,8 +1,6 @@
-use Rattle.std.proofs.Common.{◌≡◌, ◌<◌, arith, ap, sym, ◌∙◌, subst, ℕ}
+use Rattle.std.proofs.Common.{arith, subst}
 use Rattle.std.specs.Prelude.{IfOk}
-use Rattle.line_grammar.specs.Language.{IsStuck}
-use Rattle.tp_report.specs.Histories.{NextLines}
-use Rattle.tp_report.specs.Readings.{IsNext, Ended, IsEndRead}
+use Rattle.tp_report.specs.Readings.{IsNext, IsEndRead}
 use Rattle.tp_report.proofs.Places.{next_entry, next_end, next_stuck}
 use Rattle.tp_report.proofs.lines.read_next_line.Goals as goal
 
