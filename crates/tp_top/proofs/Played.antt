@@ -1,12 +1,11 @@
 -- How far a trace has been played.
-use Rattle.std.proofs.Common.{◌≡◌, ℕ, suc, ◌+◌, ◌-◌, ◌<◌, ◌≤◌, List, [], ◌∷◌, ◌++◌, length, take, drop, refl, sym, ap, ◌∙◌, subst, arith, max, append_assoc, get_or, add-one, drop-cons, Bool, true, false}
-use Rattle.std.specs.Prelude.{All, map, fold, if◌then◌else◌}
+use Rattle.std.proofs.Common.{◌≡◌, ℕ, ◌+◌, ◌<◌, ◌≤◌, List, [], ◌∷◌, ◌++◌, length, drop, refl, sym, ap, ◌∙◌, subst, arith, max, append_assoc, get_or, add-one, drop-cons, Bool, true, false}
+use Rattle.std.specs.Prelude.{All, fold, if◌then◌else◌}
 use Rattle.tp_base.specs.declared.answers.Answer.{Answer}
 use Rattle.std.proofs.lemmas.List.{append-nil, drop_all}
 use Rattle.std.proofs.lemmas.List.Elements.{All-head, All-tail}
-use Rattle.line_grammar.specs.Traces.{trace_text}
 use Rattle.tp_base.specs.declared.answers.Outcome.{Outcome}
-use Rattle.tp_base.specs.declared.answers.Outcome.TheVariants.{Done, Look, Full}
+use Rattle.tp_base.specs.declared.answers.Outcome.TheVariants.{Done}
 use Rattle.tp_base.specs.declared.calls.Call.{Call}
 use Rattle.tp_base.specs.declared.ids.Who.{Who}
 use Rattle.tp_base.specs.declared.ids.Who.TheVariants.{Client, Worker}
@@ -58,11 +57,11 @@ played_next calls i made engine new entries after outcome text longer p next goe
       w = world_after w came;
       stands = m.stands;
       told =
-        ap (λ n. longer ++ answers_text (play_from (world_after w came) 65536 n rest)) m.counts
-        ∙ ap (λ t. t ++ behind) (line ∙ ap (λ t. text ++ (t ++ 10 ∷ [])) told)
-        ∙ append_assoc text (text_of (outcome_of came) ++ 10 ∷ []) behind
-        ∙ ap (λ t. text ++ t) (append_assoc (text_of (outcome_of came)) (10 ∷ []) behind ∙ sym now)
-        ∙ p.told;
+          ap (λ n. longer ++ answers_text (play_from (world_after w came) 65536 n rest)) m.counts
+          ∙ ap (λ t. t ++ behind) (line ∙ ap (λ t. text ++ (t ++ 10 ∷ [])) told)
+          ∙ append_assoc text (text_of (outcome_of came) ++ 10 ∷ []) behind
+          ∙ ap (λ t. text ++ t) (append_assoc (text_of (outcome_of came)) (10 ∷ []) behind ∙ sym now)
+          ∙ p.told;
       young = omega (arith, m.ages, p.young);
       few = omega (arith, m.counts, entries_most came, p.few);
     }

@@ -1,4 +1,4 @@
-use Rattle.std.proofs.Common.{◌≡◌, arith, ap, length}
+use Rattle.std.proofs.Common.{arith, ap, length}
 use Rattle.tp_top.proofs.SoFar.{trace_count}
 use Rattle.tp_top.proofs.top.reply.Goals as goal
 
