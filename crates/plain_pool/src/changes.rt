@@ -1,11 +1,13 @@
 //! A machine with one thing changed.
 
 ghost use Rattle.std.specs.Prelude.{◌≡◌, ◌+◌, ◌<◌, ◌^◌, IfOk, length};
-ghost use Rattle.tp_model.specs.Rows.{replaced, with_callback, with_client, with_new_callback, with_object, with_worker};
+ghost use Rattle.tp_model.specs.Rows.{replaced, with_callback, with_client, with_new_callback, with_new_pool, with_object, with_pool, with_worker};
 
 use crate::PlainPool;
+use crate::pools::new_pool;
 use std::alloc::AllocError;
-use tp_base::rows::{CallbackRow, ClientRow, ObjectRow, WorkerRow};
+use tp_base::ids::PoolId;
+use tp_base::rows::{CallbackRow, ClientRow, ObjectRow, PoolRow, WorkerRow};
 
 fn replaced(
     callbacks: &Vec<CallbackRow>,
@@ -27,6 +29,27 @@ fn replaced(
 }
 
 impl PlainPool {
+    pub(crate) fn with_new_pool(&self) -> Result<PlainPool, AllocError>
+        requires { length self.now.pools < self.now.limits.pools }
+        ensures { IfOk result (λ after. after ≡ with_new_pool self.now) }
+    {
+        let mut after = self.copied()?;
+        after.pools.push(new_pool(self.limits))?;
+        Ok(after)
+    }
+
+    /// Pools are numbered from 0.
+    pub(crate) fn with_pool(&self, number: PoolId, pool: PoolRow) -> Result<PlainPool, AllocError>
+        ensures { IfOk result (λ after. after ≡ with_pool self.now number.0 pool) }
+    {
+        let mut after = self.copied()?;
+        let place = number.0 as usize;
+        if place < after.pools.len() {
+            after.pools[place] = pool;
+        }
+        Ok(after)
+    }
+
     pub(crate) fn with_object(&self, object: ObjectRow) -> Result<PlainPool, AllocError>
         requires { length self.now.objects < self.now.limits.objects }
         ensures { IfOk result (λ after. after ≡ with_object self.now object) }

@@ -1,7 +1,8 @@
 //! What is counted, and what is taken next.
 
-ghost use Rattle.std.specs.Prelude.{◌≡◌, ◌+◌, ◌&&◌, ◌<◌, ◌^◌, filter, find, is_some, length, not, sum_by};
+ghost use Rattle.std.specs.Prelude.{◌≡◌, ◌+◌, ◌&&◌, ◌<◌, ◌^◌, ◌==◌, filter, find, is_some, length, not, sum_by};
 ghost use Rattle.tp_model.specs.Counts.{attached, available, callback_of, idle, is_attached_to, is_below_minimum, is_high, is_idle_in, is_in_need, is_live, is_low, is_normal, is_pending, is_pending_in, is_running, is_running_in, is_running_long_in, least_pool, maximum, minimum, next, numbered, owed, pending, running, running_long, slots};
+ghost use Rattle.tp_model.specs.Rows.{another_in_need, has_spare, may_leave};
 
 use crate::PlainPool;
 use tp_base::calls::Priority;
@@ -31,7 +32,7 @@ fn is_running(status: Status) -> bool
     matches!(status, Status::Running { .. })
 }
 
-fn is_live(status: Status) -> bool
+pub(crate) fn is_live(status: Status) -> bool
     ensures { result ≡ is_live status }
 {
     match status {
@@ -187,6 +188,31 @@ impl PlainPool {
             && self.attached(pool) < self.maximum(pool) as usize
     }
 
+    /// Whether the pool has an idle worker, or may have another.
+    pub(crate) fn has_spare(&self, pool: PoolId) -> bool
+        ensures { result ≡ has_spare self.now pool.0 }
+    {
+        0 < self.idle(pool) || self.attached(pool) < self.maximum(pool) as usize
+    }
+
+    /// Whether some pool but this one is in need.
+    pub(crate) fn another_in_need(&self, pool: PoolId) -> bool
+        ensures { result ≡ another_in_need self.now pool.0 }
+    {
+        self.least_other_in_need(pool).is_some()
+    }
+
+    /// Whether the pool has more workers than its maximum, or it has nothing to do and more workers
+    /// than its minimum, or another pool needs the worker.
+    pub(crate) fn may_leave(&self, pool: PoolId) -> bool
+        ensures { result ≡ may_leave self.now pool.0 }
+    {
+        (self.maximum(pool) as usize) < self.attached(pool)
+            || (self.pending(pool) == 0
+                && ((self.minimum(pool) as usize) < self.available(pool)
+                    || self.another_in_need(pool)))
+    }
+
     /// The callback of a number.
     pub(crate) fn callback_of(&self, number: u64) -> Option<CallbackRow>
         ensures { result ≡ callback_of self.now number }
@@ -319,6 +345,13 @@ impl PlainPool {
         (0..self.pool_count()).find(|pool| self.is_in_need(PoolId(*pool)))
     }
 
+    /// The pool of least number that is in need, but for this one.
+    fn least_other_in_need(&self, pool: PoolId) -> Option<u32>
+        ensures { result ≡ least_pool self.now (λ other. not (other == pool.0) && is_in_need self.now other) }
+    {
+        (0..self.pool_count()).find(|other| *other != pool.0 && self.is_in_need(PoolId(*other)))
+    }
+
     /// The pool of least number that is below its minimum.
     pub(crate) fn least_below_minimum(&self) -> Option<u32>
         ensures { result ≡ least_pool self.now (is_below_minimum self.now) }
@@ -326,7 +359,7 @@ impl PlainPool {
         (0..self.pool_count()).find(|pool| self.is_below_minimum(PoolId(*pool)))
     }
 
-    fn pool_count(&self) -> u32
+    pub(crate) fn pool_count(&self) -> u32
         ensures { result ≡ length self.now.pools }
     {
         self.pools.len() as u32

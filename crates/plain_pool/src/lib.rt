@@ -15,6 +15,7 @@ ghost use Rattle.tp_model.specs.Table.{row, step};
 ghost use Rattle.tp_base.specs.Ranges.{AreLimitsInRange};
 ghost use Rattle.tp_model.specs.World.{opening, unattached, unfinished};
 
+use pools::new_pool;
 use std::alloc::{AllocError, Global};
 use std::marker::Model;
 use steps::Step;
@@ -29,7 +30,9 @@ mod clients;
 mod conditions;
 mod counts;
 mod histories;
+mod in_callback;
 mod objects;
+mod pools;
 mod steps;
 mod work;
 mod workers;
@@ -75,13 +78,8 @@ impl PlainPool {
         requires { AreLimitsInRange limits }
         ensures { IfOk result (λ pool. pool ≡ opening limits) }
     {
-        let default_pool = PoolRow {
-            minimum: 0,
-            maximum: limits.workers,
-            closed: false,
-        };
         let mut pools = Vec::new(alloc);
-        pools.push(default_pool)?;
+        pools.push(new_pool(limits))?;
         let workers = unattached_workers(alloc, limits.workers)?;
         let clients = unfinished_clients(alloc, limits.clients)?;
         Ok(PlainPool {
@@ -124,6 +122,10 @@ impl PlainPool {
         ensures { IfOk result (λ s. meant s ≡ row self.now who call) }
     {
         match call {
+            Call::CreatePool => self.create_pool(who),
+            Call::ClosePool { pool } => self.close_pool(who, pool),
+            Call::SetMaximum { pool, value } => self.set_maximum(who, pool, value),
+            Call::SetMinimum { pool, value } => self.set_minimum(who, pool, value),
             Call::Create {
                 kind,
                 routine,
@@ -132,8 +134,10 @@ impl PlainPool {
             } => self.create(who, kind, routine, context, env),
             Call::SubmitWork { object } => self.submit_work(who, object),
             Call::Attach => self.attach(who),
+            Call::Detach => self.detach(who),
             Call::Take => self.take(who),
             Call::Return => self.return_callback(who),
+            Call::MayRunLong => self.may_run_long(who),
             Call::Finish => self.finish(who),
         }
     }

@@ -1,9 +1,9 @@
-//! Workers: they join a pool, take callbacks and return from them.
+//! Workers: they join a pool, take callbacks, return from them and leave.
 
 ghost use Rattle.std.specs.Prelude.{◌≡◌, IfOk, Some};
 ghost use Rattle.plain_pool.specs.Meaning.{meant};
 ghost use Rattle.tp_model.specs.Counts.{next};
-ghost use Rattle.tp_model.specs.Rows.{attach_refusals, attach_row, finish_callback, pool_to_join, return_of, return_refusals, return_row, returned, start, started, take_next, take_refusals, take_row};
+ghost use Rattle.tp_model.specs.Rows.{attach_refusals, attach_row, detach_refusals, detach_row, finish_callback, leave, pool_to_join, return_of, return_refusals, return_row, returned, start, started, take_next, take_refusals, take_row};
 ghost use Rattle.tp_model.specs.Step.{first_refusal};
 
 use crate::PlainPool;
@@ -85,6 +85,51 @@ impl PlainPool {
         ensures { result ≡ pool_to_join self.now }
     {
         self.least_in_need().or(self.least_below_minimum())
+    }
+
+    /// An idle worker leaves its pool, if it isn't wanted there.
+    #[tactic(auto, unfolding(tp_model::specs::Rows::detach_row))]
+    pub(crate) fn detach(&self, who: Who) -> Result<Step, AllocError>
+        ensures { IfOk result (λ s. meant s ≡ detach_row self.now who) }
+    {
+        if let Some(refusal) = self.detach_refusal(who) {
+            return Ok(Step::Refused(refusal));
+        }
+        let Some(worker) = self.worker_of(who) else {
+            return Ok(Step::Refused(Refusal::NoSuch));
+        };
+        match (who, worker.pool) {
+            (Who::Worker(number), Some(pool)) => self.leave(number, pool),
+            _ => Ok(Step::Refused(Refusal::NotAttached)),
+        }
+    }
+
+    fn detach_refusal(&self, who: Who) -> Option<Refusal>
+        ensures { result ≡ first_refusal (detach_refusals self.now who) }
+    {
+        first_refusal(&[
+            (!self.is_actor(who), Refusal::NoSuch),
+            (self.is_finished(who), Refusal::Released),
+            (!is_worker(who), Refusal::NotWorker),
+            (self.runs_callback(who), Refusal::StillRunning),
+            (!self.is_attached(who), Refusal::NotAttached),
+        ])
+    }
+
+    fn leave(&self, worker: u32, pool: PoolId) -> Result<Step, AllocError>
+        ensures { IfOk result (λ s. meant s ≡ leave self.now worker pool) }
+    {
+        if !self.may_leave(pool) {
+            return Ok(Step::Looked(Look::Stay));
+        }
+        let unattached = WorkerRow {
+            pool: None,
+            callback: None,
+        };
+        Ok(Step::Accepted {
+            answer: Answer::Done,
+            after: self.with_worker(worker, unattached)?,
+        })
     }
 
     /// A worker begins the next callback of its pool.

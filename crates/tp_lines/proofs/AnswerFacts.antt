@@ -103,11 +103,17 @@ ending_holds P nothing by_result by_refusal w end t h = by_word w h
     for_none h = let b = no_endings_back end t h in subst P (sym b.1) nothing
 
     by_word : (w : Word) → Endings w end t → P t
+    by_word word.CreatePool h = for_none h
+    by_word word.ClosePool h = for_none h
+    by_word word.SetMaximum h = for_none h
+    by_word word.SetMinimum h = for_none h
     by_word word.Create h = for_none h
     by_word word.Submit h = for_none h
     by_word word.Attach h = for_none h
+    by_word word.Detach h = for_none h
     by_word word.Take h = for_none h
     by_word word.Return h = for_none h
+    by_word word.MayRunLong h = for_none h
     by_word word.Finish h = for_none h
     by_word word.Done h = for_none h
     by_word word.Made h = for_none h
@@ -162,11 +168,17 @@ ending_holds P nothing by_result by_refusal w end t h = by_word w h
     by_word word.AlreadyAttached h = for_none h
 
 endings_part : (w : Word) → IsPart 32 (Endings w)
+endings_part word.CreatePool = no_endings_part
+endings_part word.ClosePool = no_endings_part
+endings_part word.SetMaximum = no_endings_part
+endings_part word.SetMinimum = no_endings_part
 endings_part word.Create = no_endings_part
 endings_part word.Submit = no_endings_part
 endings_part word.Attach = no_endings_part
+endings_part word.Detach = no_endings_part
 endings_part word.Take = no_endings_part
 endings_part word.Return = no_endings_part
+endings_part word.MayRunLong = no_endings_part
 endings_part word.Finish = no_endings_part
 endings_part word.Done = no_endings_part
 endings_part word.Made = no_endings_part
@@ -221,11 +233,17 @@ endings_part word.NotAttached = no_endings_part
 endings_part word.AlreadyAttached = no_endings_part
 
 endings_tail : (w : Word) → IsTail 32 (Endings w)
+endings_tail word.CreatePool = no_endings_tail
+endings_tail word.ClosePool = no_endings_tail
+endings_tail word.SetMaximum = no_endings_tail
+endings_tail word.SetMinimum = no_endings_tail
 endings_tail word.Create = no_endings_tail
 endings_tail word.Submit = no_endings_tail
 endings_tail word.Attach = no_endings_tail
+endings_tail word.Detach = no_endings_tail
 endings_tail word.Take = no_endings_tail
 endings_tail word.Return = no_endings_tail
+endings_tail word.MayRunLong = no_endings_tail
 endings_tail word.Finish = no_endings_tail
 endings_tail word.Done = no_endings_tail
 endings_tail word.Made = no_endings_tail

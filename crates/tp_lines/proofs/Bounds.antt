@@ -71,11 +71,17 @@ action_short Semaphore = omega arith
 action_short Event = omega arith
 
 word_short : (w : Word) → length (text_of_word w) ≤ 30
+word_short word.CreatePool = omega arith
+word_short word.ClosePool = omega arith
+word_short word.SetMaximum = omega arith
+word_short word.SetMinimum = omega arith
 word_short word.Create = omega arith
 word_short word.Submit = omega arith
 word_short word.Attach = omega arith
+word_short word.Detach = omega arith
 word_short word.Take = omega arith
 word_short word.Return = omega arith
+word_short word.MayRunLong = omega arith
 word_short word.Finish = omega arith
 word_short word.Done = omega arith
 word_short word.Made = omega arith

@@ -1,5 +1,5 @@
 -- Calls and the rows that stand for them.
-use Rattle.std.proofs.Common.{◌≡◌, ℕ, ◌≤◌, List, [], ◌∷◌, ◌++◌, refl, sym, ap, ◌∙◌, subst, arith, inl, inr, Bool, true, false}
+use Rattle.std.proofs.Common.{◌≡◌, ℕ, ◌<◌, ◌≤◌, ◌^◌, List, [], ◌∷◌, ◌++◌, refl, sym, ap, ◌∙◌, subst, arith, inl, inr, Bool, true, false}
 use Rattle.std.specs.Prelude.{Option, Some, None, nat_eq, nat_le, if◌then◌else◌, decimal, codes, unwrap_or}
 use Rattle.std.proofs.lemmas.Bool.{eqb-true, eqb-false, leb-false}
 use Rattle.std.proofs.lemmas.List.{append-nil}
@@ -10,6 +10,7 @@ use Rattle.tp_base.specs.declared.calls.Call.{Call}
 use Rattle.tp_base.specs.declared.calls.Call.TheVariants as call
 use Rattle.tp_base.specs.declared.calls.Kind.{Kind}
 use Rattle.tp_base.specs.declared.calls.Priority.{Priority}
+use Rattle.tp_base.specs.declared.ids.PoolId.{PoolId}
 use Rattle.tp_lines.specs.declared.shapes.TheConstants.{CALLS}
 use Rattle.tp_lines.specs.declared.shapes.Field.{Field}
 use Rattle.tp_lines.specs.declared.shapes.Field.TheVariants as field
@@ -18,7 +19,7 @@ use Rattle.tp_lines.specs.declared.shapes.Word.{Word}
 use Rattle.tp_lines.specs.declared.shapes.Word.TheVariants as word
 use Rattle.tp_lines.specs.declared.values.Value.{Value}
 use Rattle.tp_lines.specs.declared.values.Value.TheVariants as value
-use Rattle.tp_lines.specs.CallRows.{call_of, IsCallText, CallTexts}
+use Rattle.tp_lines.specs.CallRows.{call_of, IsCallText, CallTexts, value_at}
 use Rattle.tp_lines.specs.Fields.{form_of, Holds, IsNumberValue, AreHeld, tail_text}
 use Rattle.tp_lines.specs.Shapes.{text_of_word}
 use Rattle.tp_lines.specs.Rows.{IsListed, Rows}
@@ -164,22 +165,49 @@ create_eight values t a e =
       },
     )
 
-abbrev submit_fields : List Field
-submit_fields = field.Id ∷ field.Nothing ∷ field.Nothing ∷ field.Nothing ∷ field.Nothing ∷ field.Nothing ∷ field.Nothing ∷ field.Nothing ∷ []
+abbrev id_fields : List Field
+id_fields = field.Id ∷ field.Nothing ∷ field.Nothing ∷ field.Nothing ∷ field.Nothing ∷ field.Nothing ∷ field.Nothing ∷ field.Nothing ∷ []
 
-abbrev submit_shape : Shape
-submit_shape = record { word = word.Submit; fields = submit_fields }
+abbrev id_shape : Word → Shape
+id_shape w = record { word = w; fields = id_fields }
 
-submit_eight : (values : List Value) (t : List ℕ) → AreEight value.Nothing field.Id field.Nothing field.Nothing field.Nothing field.Nothing field.Nothing field.Nothing field.Nothing values
-    → t ≡ 32 ∷ codes "submit" ++ tail_text value.Nothing submit_fields values → IsCallOf submit_shape values t
-submit_eight values t a e =
+-- one number stands behind the word
+abbrev IsIdText : List ℕ → List Value → List ℕ → Type 0
+IsIdText word values t = (small_of (value_at values 0) ≤ 65535) × (t ≡ 32 ∷ word ++ (32 ∷ decimal (small_of (value_at values 0))))
+
+id_text : (word : List ℕ) (values : List Value) (t : List ℕ) → AreHeld value.Nothing id_fields values → t ≡ 32 ∷ word ++ tail_text value.Nothing id_fields values
+    → IsIdText word values t
+id_text word values t held e =
+    let a = eight value.Nothing field.Id field.Nothing field.Nothing field.Nothing field.Nothing field.Nothing field.Nothing field.Nothing values held in
     let s1 = small_is a.v1 a.h1.is (omega (arith, a.h1.at_most)) in
-    let text : t ≡ 32 ∷ codes "submit" ++ tail_text value.Nothing submit_fields (a.v1 ∷ a.v2 ∷ a.v3 ∷ a.v4 ∷ a.v5 ∷ a.v6 ∷ a.v7 ∷ a.v8 ∷ []) =
-    e ∙ ap (λ vs. 32 ∷ codes "submit" ++ tail_text value.Nothing submit_fields vs) a.all in
-    subst (λ vs. IsCallOf submit_shape vs t) (sym a.all) (
-      call.SubmitWork (record { 0 = small_of a.v1 }),
-      refl,
-      record { in_range = omega (arith, s1, a.h1.at_most); readable = tt; split = text ∙ ap (λ l. 32 ∷ codes "submit" ++ (32 ∷ l)) (append-nil (decimal (number_of a.v1)) ∙ ap decimal (sym s1)) },
+    let text : t ≡ 32 ∷ word ++ tail_text value.Nothing id_fields (a.v1 ∷ a.v2 ∷ a.v3 ∷ a.v4 ∷ a.v5 ∷ a.v6 ∷ a.v7 ∷ a.v8 ∷ []) = e ∙ ap (λ vs. 32 ∷ word ++ tail_text value.Nothing id_fields vs) a.all in
+    subst (λ vs. IsIdText word vs t) (sym a.all)
+    (omega (arith, s1, a.h1.at_most), text ∙ ap (λ l. 32 ∷ word ++ (32 ∷ l)) (append-nil (decimal (number_of a.v1)) ∙ ap decimal (sym s1)))
+
+abbrev set_fields : List Field
+set_fields = field.Id ∷ field.Small ∷ field.Nothing ∷ field.Nothing ∷ field.Nothing ∷ field.Nothing ∷ field.Nothing ∷ field.Nothing ∷ []
+
+abbrev set_shape : Word → Shape
+set_shape w = record { word = w; fields = set_fields }
+
+-- two numbers stand behind the word
+abbrev IsSetText : List ℕ → List Value → List ℕ → Type 0
+IsSetText word values t =
+    (small_of (value_at values 0) ≤ 65535) × (small_of (value_at values 1) < 2 ^ 32)
+    × (t ≡ 32 ∷ word ++ (32 ∷ decimal (small_of (value_at values 0)) ++ (32 ∷ decimal (small_of (value_at values 1)))))
+
+set_text : (word : List ℕ) (values : List Value) (t : List ℕ) → AreHeld value.Nothing set_fields values → t ≡ 32 ∷ word ++ tail_text value.Nothing set_fields values
+    → IsSetText word values t
+set_text word values t held e =
+    let a = eight value.Nothing field.Id field.Small field.Nothing field.Nothing field.Nothing field.Nothing field.Nothing field.Nothing values held in
+    let s1 = small_is a.v1 a.h1.is (omega (arith, a.h1.at_most)) in
+    let s2 = small_is a.v2 a.h2.is a.h2.at_most in
+    let text : t ≡ 32 ∷ word ++ tail_text value.Nothing set_fields (a.v1 ∷ a.v2 ∷ a.v3 ∷ a.v4 ∷ a.v5 ∷ a.v6 ∷ a.v7 ∷ a.v8 ∷ []) = e ∙ ap (λ vs. 32 ∷ word ++ tail_text value.Nothing set_fields vs) a.all in
+    subst (λ vs. IsSetText word vs t) (sym a.all) (
+      omega (arith, s1, a.h1.at_most),
+      omega (arith, s2, a.h2.at_most),
+      text ∙ ap (λ l. 32 ∷ word ++ (32 ∷ decimal (number_of a.v1) ++ (32 ∷ l))) (append-nil (decimal (number_of a.v2)) ∙ ap decimal (sym s2))
+          ∙ ap (λ n. 32 ∷ word ++ (32 ∷ decimal n ++ (32 ∷ decimal (small_of a.v2)))) (sym s1),
     )
 
 abbrev bare : Word → Shape
@@ -192,34 +220,60 @@ row_call s values t row = let r = row_text CALLS.shapes s values t row in by_sha
         → t ≡ 32 ∷ text_of_word s.word ++ tail_text value.Nothing s.fields values → IsCallOf s values t
     by_shape s values t (inl e) =
         subst (λ x. AreHeld value.Nothing x.fields values → t ≡ 32 ∷ text_of_word x.word ++ tail_text value.Nothing x.fields values → IsCallOf x values t) (sym e)
-        (λ held text. create_eight values t (eight value.Nothing field.Kind field.Routine field.Context field.Pool field.Priority field.Length field.Group field.Cancel values held) text)
+        (λ held text. (call.CreatePool, refl, record { in_range = tt; readable = tt; split = bare_text (codes "create-pool") values t held text }))
     by_shape s values t (inr (inl e)) =
         subst (λ x. AreHeld value.Nothing x.fields values → t ≡ 32 ∷ text_of_word x.word ++ tail_text value.Nothing x.fields values → IsCallOf x values t) (sym e)
-        (λ held text. submit_eight values t (eight value.Nothing field.Id field.Nothing field.Nothing field.Nothing field.Nothing field.Nothing field.Nothing field.Nothing values held) text)
+        (λ held text. let r = id_text (codes "close-pool") values t held text in (call.ClosePool (record { 0 = small_of (value_at values 0) }), refl, record { in_range = r.0; readable = tt; split = r.1 }))
     by_shape s values t (inr (inr (inl e))) =
         subst (λ x. AreHeld value.Nothing x.fields values → t ≡ 32 ∷ text_of_word x.word ++ tail_text value.Nothing x.fields values → IsCallOf x values t) (sym e)
-        (λ held text. (call.Attach, refl, record { in_range = tt; readable = tt; split = bare_text (codes "attach") values t held text }))
+        (λ held text. let r = set_text (codes "set-maximum") values t held text in
+        (call.SetMaximum (record { 0 = small_of (value_at values 0) }) (small_of (value_at values 1)), refl, record { in_range = r.0; readable = r.1; split = r.2 }))
     by_shape s values t (inr (inr (inr (inl e)))) =
         subst (λ x. AreHeld value.Nothing x.fields values → t ≡ 32 ∷ text_of_word x.word ++ tail_text value.Nothing x.fields values → IsCallOf x values t) (sym e)
-        (λ held text. (call.Take, refl, record { in_range = tt; readable = tt; split = bare_text (codes "take") values t held text }))
+        (λ held text. let r = set_text (codes "set-minimum") values t held text in
+        (call.SetMinimum (record { 0 = small_of (value_at values 0) }) (small_of (value_at values 1)), refl, record { in_range = r.0; readable = r.1; split = r.2 }))
     by_shape s values t (inr (inr (inr (inr (inl e))))) =
         subst (λ x. AreHeld value.Nothing x.fields values → t ≡ 32 ∷ text_of_word x.word ++ tail_text value.Nothing x.fields values → IsCallOf x values t) (sym e)
-        (λ held text. (call.Return, refl, record { in_range = tt; readable = tt; split = bare_text (codes "return") values t held text }))
+        (λ held text. create_eight values t (eight value.Nothing field.Kind field.Routine field.Context field.Pool field.Priority field.Length field.Group field.Cancel values held) text)
     by_shape s values t (inr (inr (inr (inr (inr (inl e)))))) =
         subst (λ x. AreHeld value.Nothing x.fields values → t ≡ 32 ∷ text_of_word x.word ++ tail_text value.Nothing x.fields values → IsCallOf x values t) (sym e)
+        (λ held text. let r = id_text (codes "submit") values t held text in (call.SubmitWork (record { 0 = small_of (value_at values 0) }), refl, record { in_range = r.0; readable = tt; split = r.1 }))
+    by_shape s values t (inr (inr (inr (inr (inr (inr (inl e))))))) =
+        subst (λ x. AreHeld value.Nothing x.fields values → t ≡ 32 ∷ text_of_word x.word ++ tail_text value.Nothing x.fields values → IsCallOf x values t) (sym e)
+        (λ held text. (call.Attach, refl, record { in_range = tt; readable = tt; split = bare_text (codes "attach") values t held text }))
+    by_shape s values t (inr (inr (inr (inr (inr (inr (inr (inl e)))))))) =
+        subst (λ x. AreHeld value.Nothing x.fields values → t ≡ 32 ∷ text_of_word x.word ++ tail_text value.Nothing x.fields values → IsCallOf x values t) (sym e)
+        (λ held text. (call.Detach, refl, record { in_range = tt; readable = tt; split = bare_text (codes "detach") values t held text }))
+    by_shape s values t (inr (inr (inr (inr (inr (inr (inr (inr (inl e))))))))) =
+        subst (λ x. AreHeld value.Nothing x.fields values → t ≡ 32 ∷ text_of_word x.word ++ tail_text value.Nothing x.fields values → IsCallOf x values t) (sym e)
+        (λ held text. (call.Take, refl, record { in_range = tt; readable = tt; split = bare_text (codes "take") values t held text }))
+    by_shape s values t (inr (inr (inr (inr (inr (inr (inr (inr (inr (inl e)))))))))) =
+        subst (λ x. AreHeld value.Nothing x.fields values → t ≡ 32 ∷ text_of_word x.word ++ tail_text value.Nothing x.fields values → IsCallOf x values t) (sym e)
+        (λ held text. (call.Return, refl, record { in_range = tt; readable = tt; split = bare_text (codes "return") values t held text }))
+    by_shape s values t (inr (inr (inr (inr (inr (inr (inr (inr (inr (inr (inl e))))))))))) =
+        subst (λ x. AreHeld value.Nothing x.fields values → t ≡ 32 ∷ text_of_word x.word ++ tail_text value.Nothing x.fields values → IsCallOf x values t) (sym e)
+        (λ held text. (call.MayRunLong, refl, record { in_range = tt; readable = tt; split = bare_text (codes "may-run-long") values t held text }))
+    by_shape s values t (inr (inr (inr (inr (inr (inr (inr (inr (inr (inr (inr (inl e)))))))))))) =
+        subst (λ x. AreHeld value.Nothing x.fields values → t ≡ 32 ∷ text_of_word x.word ++ tail_text value.Nothing x.fields values → IsCallOf x values t) (sym e)
         (λ held text. (call.Finish, refl, record { in_range = tt; readable = tt; split = bare_text (codes "finish") values t held text }))
-    by_shape s values t (inr (inr (inr (inr (inr (inr h)))))) = absurd h
+    by_shape s values t (inr (inr (inr (inr (inr (inr (inr (inr (inr (inr (inr (inr h)))))))))))) = absurd h
 
 -- the row of a call
 abbrev row_of : Call → Shape × List Value
+row_of call.CreatePool = (bare word.CreatePool, unused)
+row_of (call.ClosePool pool) = (id_shape word.ClosePool, value.Number pool.0 ∷ value.Nothing ∷ value.Nothing ∷ value.Nothing ∷ value.Nothing ∷ value.Nothing ∷ value.Nothing ∷ value.Nothing ∷ [])
+row_of (call.SetMaximum pool number) = (set_shape word.SetMaximum, value.Number pool.0 ∷ value.Number number ∷ value.Nothing ∷ value.Nothing ∷ value.Nothing ∷ value.Nothing ∷ value.Nothing ∷ value.Nothing ∷ [])
+row_of (call.SetMinimum pool number) = (set_shape word.SetMinimum, value.Number pool.0 ∷ value.Number number ∷ value.Nothing ∷ value.Nothing ∷ value.Nothing ∷ value.Nothing ∷ value.Nothing ∷ value.Nothing ∷ [])
 row_of (call.Create kind routine context env) = (
   create_shape,
   value.Kind kind ∷ value.Number routine.0 ∷ value.Number context ∷ value.Number env.pool.0 ∷ value.Priority env.priority ∷ value.Long env.long ∷ value.Number env.group.0 ∷ value.Number env.cancel.0 ∷ [],
 )
-row_of (call.SubmitWork object) = (submit_shape, value.Number object.0 ∷ value.Nothing ∷ value.Nothing ∷ value.Nothing ∷ value.Nothing ∷ value.Nothing ∷ value.Nothing ∷ value.Nothing ∷ [])
+row_of (call.SubmitWork object) = (id_shape word.Submit, value.Number object.0 ∷ value.Nothing ∷ value.Nothing ∷ value.Nothing ∷ value.Nothing ∷ value.Nothing ∷ value.Nothing ∷ value.Nothing ∷ [])
 row_of call.Attach = (bare word.Attach, unused)
+row_of call.Detach = (bare word.Detach, unused)
 row_of call.Take = (bare word.Take, unused)
 row_of call.Return = (bare word.Return, unused)
+row_of call.MayRunLong = (bare word.MayRunLong, unused)
 row_of call.Finish = (bare word.Finish, unused)
 
 abbrev pub call_named : (Shape × List Value) → Call
@@ -236,11 +290,44 @@ same_create kind r r' x p p' g g' q q' priority long a b c d = cc
 bare_row : (w : Word) (t : List ℕ) → IsListed CALLS.shapes (bare w) → t ≡ 32 ∷ text_of_word w → Rows CALLS.shapes (bare w, unused) t
 bare_row w t listed e = row_from CALLS.shapes (bare w) unused t listed (refl, (refl, (refl, (refl, (refl, (refl, (refl, (refl, tt)))))))) (e ∙ ap (λ l. 32 ∷ l) (sym (append-nil (text_of_word w))))
 
+id_row : (w : Word) (n : ℕ) (t : List ℕ) → IsListed CALLS.shapes (id_shape w) → n ≤ 65535 → t ≡ 32 ∷ text_of_word w ++ (32 ∷ decimal n)
+    → Rows CALLS.shapes (id_shape w, value.Number n ∷ value.Nothing ∷ value.Nothing ∷ value.Nothing ∷ value.Nothing ∷ value.Nothing ∷ value.Nothing ∷ value.Nothing ∷ []) t
+id_row w n t listed most e =
+    row_from CALLS.shapes (id_shape w) (value.Number n ∷ value.Nothing ∷ value.Nothing ∷ value.Nothing ∷ value.Nothing ∷ value.Nothing ∷ value.Nothing ∷ value.Nothing ∷ []) t listed (record { is = refl; at_least = omega arith; at_most = most }, (refl, (refl, (refl, (refl, (refl, (refl, (refl, tt))))))))
+    (e ∙ ap (λ l. 32 ∷ text_of_word w ++ (32 ∷ l)) (sym (append-nil (decimal n))))
+
+set_row : (w : Word) (n m : ℕ) (t : List ℕ) → IsListed CALLS.shapes (set_shape w) → n ≤ 65535 → m < 2 ^ 32
+    → t ≡ 32 ∷ text_of_word w ++ (32 ∷ decimal n ++ (32 ∷ decimal m)) → Rows CALLS.shapes (set_shape w, value.Number n ∷ value.Number m ∷ value.Nothing ∷ value.Nothing ∷ value.Nothing ∷ value.Nothing ∷ value.Nothing ∷ value.Nothing ∷ []) t
+set_row w n m t listed most bits e =
+    row_from CALLS.shapes (set_shape w) (value.Number n ∷ value.Number m ∷ value.Nothing ∷ value.Nothing ∷ value.Nothing ∷ value.Nothing ∷ value.Nothing ∷ value.Nothing ∷ []) t listed
+    (record { is = refl; at_least = omega arith; at_most = most }, (record { is = refl; at_least = omega arith; at_most = omega (arith, bits) }, (refl, (refl, (refl, (refl, (refl, (refl, tt))))))))
+    (e ∙ ap (λ l. 32 ∷ text_of_word w ++ (32 ∷ decimal n ++ (32 ∷ l))) (sym (append-nil (decimal m))))
+
+same_set : (Set : PoolId → ℕ → Call) (n m : ℕ) → n ≤ 65535 → m < 2 ^ 32 → Set (record { 0 = n }) m ≡ Set (record { 0 = small_of (value.Number n) }) (small_of (value.Number m))
+same_set Set n m most bits =
+    ap (λ k. Set (record { 0 = k }) m) (sym (small_number n most)) ∙ ap (λ k. Set (record { 0 = small_of (value.Number n) }) k) (sym (small_is (value.Number m) refl (omega (arith, bits))))
+
 pub call_row : (c : Call) (t : List ℕ) → IsCallText c t → (p : Shape × List Value) × Rows CALLS.shapes p t × (c ≡ call_named p)
+call_row call.CreatePool t a = (row_of call.CreatePool, bare_row word.CreatePool t (inl refl) a.split, refl)
+call_row (call.ClosePool pool) t a = (
+  row_of (call.ClosePool pool),
+  id_row word.ClosePool pool.0 t (inr (inl refl)) a.in_range a.split,
+  ap (λ n. call.ClosePool (record { 0 = n })) (sym (small_number pool.0 a.in_range)),
+)
+call_row (call.SetMaximum pool number) t a = (
+  row_of (call.SetMaximum pool number),
+  set_row word.SetMaximum pool.0 number t (inr (inr (inl refl))) a.in_range a.readable a.split,
+  same_set (λ p v. call.SetMaximum p v) pool.0 number a.in_range a.readable,
+)
+call_row (call.SetMinimum pool number) t a = (
+  row_of (call.SetMinimum pool number),
+  set_row word.SetMinimum pool.0 number t (inr (inr (inr (inl refl)))) a.in_range a.readable a.split,
+  same_set (λ p v. call.SetMinimum p v) pool.0 number a.in_range a.readable,
+)
 call_row (call.Create kind routine context env) t a =
     let r = a.in_range.0 in let v = a.in_range.1 in (
       row_of (call.Create kind routine context env),
-      row_from CALLS.shapes create_shape (row_of (call.Create kind routine context env)).1 t (inl refl) (
+      row_from CALLS.shapes create_shape (row_of (call.Create kind routine context env)).1 t (inr (inr (inr (inr (inl refl))))) (
         ap (λ k. value.Kind k) a.readable.0,
         (
           record { is = refl; at_least = r.least; at_most = r.most },
@@ -267,15 +354,15 @@ call_row (call.Create kind routine context env) t a =
     )
 call_row (call.SubmitWork object) t a = (
   row_of (call.SubmitWork object),
-  row_from CALLS.shapes submit_shape (row_of (call.SubmitWork object)).1 t (inr (inl refl))
-      (record { is = refl; at_least = omega arith; at_most = a.in_range }, (refl, (refl, (refl, (refl, (refl, (refl, (refl, tt))))))))
-      (a.split ∙ ap (λ l. 32 ∷ codes "submit" ++ (32 ∷ l)) (sym (append-nil (decimal object.0)))),
+  id_row word.Submit object.0 t (inr (inr (inr (inr (inr (inl refl)))))) a.in_range a.split,
   ap (λ n. call.SubmitWork (record { 0 = n })) (sym (small_number object.0 a.in_range)),
 )
-call_row call.Attach t a = (row_of call.Attach, bare_row word.Attach t (inr (inr (inl refl))) a.split, refl)
-call_row call.Take t a = (row_of call.Take, bare_row word.Take t (inr (inr (inr (inl refl)))) a.split, refl)
-call_row call.Return t a = (row_of call.Return, bare_row word.Return t (inr (inr (inr (inr (inl refl))))) a.split, refl)
-call_row call.Finish t a = (row_of call.Finish, bare_row word.Finish t (inr (inr (inr (inr (inr (inl refl)))))) a.split, refl)
+call_row call.Attach t a = (row_of call.Attach, bare_row word.Attach t (inr (inr (inr (inr (inr (inr (inl refl))))))) a.split, refl)
+call_row call.Detach t a = (row_of call.Detach, bare_row word.Detach t (inr (inr (inr (inr (inr (inr (inr (inl refl)))))))) a.split, refl)
+call_row call.Take t a = (row_of call.Take, bare_row word.Take t (inr (inr (inr (inr (inr (inr (inr (inr (inl refl))))))))) a.split, refl)
+call_row call.Return t a = (row_of call.Return, bare_row word.Return t (inr (inr (inr (inr (inr (inr (inr (inr (inr (inl refl)))))))))) a.split, refl)
+call_row call.MayRunLong t a = (row_of call.MayRunLong, bare_row word.MayRunLong t (inr (inr (inr (inr (inr (inr (inr (inr (inr (inr (inl refl))))))))))) a.split, refl)
+call_row call.Finish t a = (row_of call.Finish, bare_row word.Finish t (inr (inr (inr (inr (inr (inr (inr (inr (inr (inr (inr (inl refl)))))))))))) a.split, refl)
 
 -- calls as a language
 calls_back : (c : Call) (t : List ℕ) → CallTexts c t → AnyOf (Rows CALLS.shapes) t

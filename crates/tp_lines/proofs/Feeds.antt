@@ -84,11 +84,17 @@ action_feedless Semaphore = refl
 action_feedless Event = refl
 
 word_feedless : (w : Word) → Feedless (text_of_word w)
+word_feedless word.CreatePool = refl
+word_feedless word.ClosePool = refl
+word_feedless word.SetMaximum = refl
+word_feedless word.SetMinimum = refl
 word_feedless word.Create = refl
 word_feedless word.Submit = refl
 word_feedless word.Attach = refl
+word_feedless word.Detach = refl
 word_feedless word.Take = refl
 word_feedless word.Return = refl
+word_feedless word.MayRunLong = refl
 word_feedless word.Finish = refl
 word_feedless word.Done = refl
 word_feedless word.Made = refl
@@ -162,7 +168,7 @@ part_feedless before field.Callback held h = number_feedless (number_of held) (o
 part_feedless before field.Count held h = number_feedless (number_of held) (omega (arith, h.at_most))
 part_feedless before field.Level held h = number_feedless (number_of held) (omega (arith, h.at_most))
 part_feedless before field.Time held h = number_feedless (number_of held) (omega (arith, h.at_most))
-part_feedless before field.Error held h = number_feedless (number_of held) (omega (arith, h.at_most))
+part_feedless before field.Small held h = number_feedless (number_of held) (omega (arith, h.at_most))
 part_feedless before field.Bytes held h = number_feedless (number_of held) (omega (arith, h.at_most))
 part_feedless before field.Origin held h = number_feedless (number_of held) (omega (arith, h.at_most))
 part_feedless before field.Cleanup held h = number_feedless (number_of held) (omega (arith, h.at_most))

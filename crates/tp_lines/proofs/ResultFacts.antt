@@ -33,7 +33,7 @@ abbrev result_timeout : Shape
 result_timeout = record { word = word.Timeout; fields = field.Nothing ∷ field.Nothing ∷ field.Nothing ∷ field.Nothing ∷ field.Nothing ∷ field.Nothing ∷ field.Nothing ∷ field.Nothing ∷ [] }
 
 abbrev result_io : Shape
-result_io = record { word = word.Io; fields = field.Error ∷ field.Bytes ∷ field.Nothing ∷ field.Nothing ∷ field.Nothing ∷ field.Nothing ∷ field.Nothing ∷ field.Nothing ∷ [] }
+result_io = record { word = word.Io; fields = field.Small ∷ field.Bytes ∷ field.Nothing ∷ field.Nothing ∷ field.Nothing ∷ field.Nothing ∷ field.Nothing ∷ field.Nothing ∷ [] }
 
 abbrev IsTakeResultOf : Shape → List Value → List ℕ → Type 0
 IsTakeResultOf s values t = (x : TakeResult) × (result_of s.word values ≡ Some x) × IsResultText x t
@@ -76,7 +76,7 @@ result_from_timeout values t held e =
 
 result_from_io : (values : List Value) (t : List ℕ) → AreHeld value.Nothing result_io.fields values → t ≡ 32 ∷ joined (codes "io" ∷ tail_words value.Nothing result_io.fields values) → IsTakeResultOf result_io values t
 result_from_io values t held e =
-    let a = eight value.Nothing field.Error field.Bytes field.Nothing field.Nothing field.Nothing field.Nothing field.Nothing field.Nothing values held in
+    let a = eight value.Nothing field.Small field.Bytes field.Nothing field.Nothing field.Nothing field.Nothing field.Nothing field.Nothing values held in
     let s1 = small_is a.v1 a.h1.is (omega (arith, a.h1.at_most)) in
     subst (λ vs. IsTakeResultOf result_io vs t) (sym a.all) (
       taken.Io (small_of a.v1) (number_of a.v2),

@@ -68,11 +68,17 @@ module _ (shapes : List Shape) (s : Shape) where
 
 -- the words hold no space
 pub word_lacks : (w : Verb) → IsTrue (lacks 32 (text_of_word w))
+word_lacks word.CreatePool = refl
+word_lacks word.ClosePool = refl
+word_lacks word.SetMaximum = refl
+word_lacks word.SetMinimum = refl
 word_lacks word.Create = refl
 word_lacks word.Submit = refl
 word_lacks word.Attach = refl
+word_lacks word.Detach = refl
 word_lacks word.Take = refl
 word_lacks word.Return = refl
+word_lacks word.MayRunLong = refl
 word_lacks word.Finish = refl
 word_lacks word.Done = refl
 word_lacks word.Made = refl

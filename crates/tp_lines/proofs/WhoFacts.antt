@@ -91,11 +91,17 @@ who_part = record { unique = who_unique; apart = who_apart }
 
 -- lines of calls
 joined_words : (who : Who) (c : Call) → text_of_who who ++ 32 ∷ joined (words_of_call c) ≡ line_of_call who c
+joined_words who call.CreatePool = refl
+joined_words who (call.ClosePool pool) = refl
+joined_words who (call.SetMaximum pool value) = refl
+joined_words who (call.SetMinimum pool value) = refl
 joined_words who (call.Create kind routine context env) = refl
 joined_words who (call.SubmitWork object) = refl
 joined_words who call.Attach = refl
+joined_words who call.Detach = refl
 joined_words who call.Take = refl
 joined_words who call.Return = refl
+joined_words who call.MayRunLong = refl
 joined_words who call.Finish = refl
 
 line_to : (who : Who) (c : Call) (t : List ℕ) → IsPair WhoTexts (λ w. CallTexts) who c t → IsCallLine who c t

@@ -18,6 +18,10 @@ abbrev pub value_at : List Value → ℕ → Value
 value_at values index = slice_index_or values index Nothing
 
 abbrev pub call_of : Word → List Value → Option Call
+call_of word.CreatePool values = Some call.CreatePool
+call_of word.ClosePool values = Some (call.ClosePool (record { 0 = small_of (value_at values 0) }))
+call_of word.SetMaximum values = Some (call.SetMaximum (record { 0 = small_of (value_at values 0) }) (small_of (value_at values 1)))
+call_of word.SetMinimum values = Some (call.SetMinimum (record { 0 = small_of (value_at values 0) }) (small_of (value_at values 1)))
 call_of word.Create values = Some (call.Create (kind_of (value_at values 0)) (record { 0 = small_of (value_at values 1) }) (number_of (value_at values 2))
     (record {
       pool = record { 0 = small_of (value_at values 3) };
@@ -28,8 +32,10 @@ call_of word.Create values = Some (call.Create (kind_of (value_at values 0)) (re
     }))
 call_of word.Submit values = Some (call.SubmitWork (record { 0 = small_of (value_at values 0) }))
 call_of word.Attach values = Some call.Attach
+call_of word.Detach values = Some call.Detach
 call_of word.Take values = Some call.Take
 call_of word.Return values = Some call.Return
+call_of word.MayRunLong values = Some call.MayRunLong
 call_of word.Finish values = Some call.Finish
 call_of _ values = None
 

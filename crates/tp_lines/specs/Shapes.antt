@@ -8,11 +8,17 @@ use Rattle.tp_lines.specs.declared.shapes.Word.{Word}
 use Rattle.tp_lines.specs.declared.shapes.Word.TheVariants as word
 
 abbrev pub text_of_word : Word → List ℕ
+text_of_word word.CreatePool = codes "create-pool"
+text_of_word word.ClosePool = codes "close-pool"
+text_of_word word.SetMaximum = codes "set-maximum"
+text_of_word word.SetMinimum = codes "set-minimum"
 text_of_word word.Create = codes "create"
 text_of_word word.Submit = codes "submit"
 text_of_word word.Attach = codes "attach"
+text_of_word word.Detach = codes "detach"
 text_of_word word.Take = codes "take"
 text_of_word word.Return = codes "return"
+text_of_word word.MayRunLong = codes "may-run-long"
 text_of_word word.Finish = codes "finish"
 text_of_word word.Done = codes "ok"
 text_of_word word.Made = codes "made"

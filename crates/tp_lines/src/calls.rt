@@ -18,6 +18,18 @@ pub fn call_of(word: Word, values: &[Value; 8]) -> Option<Call>
     ensures { result ≡ call_of word values.now }
 {
     let call = match word {
+        Word::CreatePool => Call::CreatePool,
+        Word::ClosePool => Call::ClosePool {
+            pool: PoolId(values[0].small()),
+        },
+        Word::SetMaximum => Call::SetMaximum {
+            pool: PoolId(values[0].small()),
+            value: values[1].small(),
+        },
+        Word::SetMinimum => Call::SetMinimum {
+            pool: PoolId(values[0].small()),
+            value: values[1].small(),
+        },
         Word::Create => Call::Create {
             kind: values[0].kind(),
             routine: RoutineId(values[1].small()),
@@ -34,8 +46,10 @@ pub fn call_of(word: Word, values: &[Value; 8]) -> Option<Call>
             object: ObjectId(values[0].small()),
         },
         Word::Attach => Call::Attach,
+        Word::Detach => Call::Detach,
         Word::Take => Call::Take,
         Word::Return => Call::Return,
+        Word::MayRunLong => Call::MayRunLong,
         Word::Finish => Call::Finish,
         _ => return None,
     };

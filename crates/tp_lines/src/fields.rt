@@ -83,7 +83,7 @@ pub fn form_of(before: Value, field: Field) -> Form
             least: 0,
             most: 9_223_372_036_854_775_807,
         },
-        Field::Error => Form::Number {
+        Field::Small => Form::Number {
             least: 0,
             most: 4_294_967_295,
         },

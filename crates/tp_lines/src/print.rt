@@ -2,8 +2,8 @@
 
 ghost use Rattle.std.specs.Prelude.{◌≡◌, ◌++◌, ◌∷◌, OnOk, OnErr, IfOk, string_bytes};
 ghost use Rattle.tp_lines.specs.Answers.{line_of_entry, text_of_answer, text_of_full, text_of_look, words_of_refusal, words_of_result};
-ghost use Rattle.tp_lines.specs.Calls.{line_of_call, words_of_environ};
-ghost use Rattle.tp_lines.specs.Words.{joined, text_of_action, text_of_flag, text_of_kind, text_of_priority, text_of_slot};
+ghost use Rattle.tp_lines.specs.Calls.{line_of_call, words_of_call, words_of_environ};
+ghost use Rattle.tp_lines.specs.Words.{joined, text_of_action, text_of_flag, text_of_kind, text_of_priority, text_of_slot, text_of_who};
 
 use std::alloc::{AllocError, Global};
 use tp_base::answers::{ActionKind, Answer, Entry, Look, Refusal, SlotWord, TakeResult};
@@ -209,14 +209,32 @@ fn action_text(kind: ActionKind) -> &'static str
 }
 
 // The line of a call.
-fn call_text(alloc: Global, who: Who, call: &Call) -> Result<String, AllocError>
+fn call_line(alloc: Global, who: Who, call: &Call) -> Result<String, AllocError>
     ensures { IfOk result (λ text. string_bytes text ≡ line_of_call who call.now) }
 {
-    let actor = match who {
-        Who::Client(number) => format!(in alloc; "c{number}")?,
-        Who::Worker(number) => format!(in alloc; "w{number}")?,
-    };
+    let actor = who_text(alloc, who)?;
+    let words = call_text(alloc, call)?;
+    format!(in alloc; "{} {}", actor.as_str(), words.as_str())
+}
+
+fn who_text(alloc: Global, who: Who) -> Result<String, AllocError>
+    ensures { IfOk result (λ text. string_bytes text ≡ text_of_who who) }
+{
+    match who {
+        Who::Client(number) => format!(in alloc; "c{number}"),
+        Who::Worker(number) => format!(in alloc; "w{number}"),
+    }
+}
+
+// The text of a call behind its actor.
+fn call_text(alloc: Global, call: &Call) -> Result<String, AllocError>
+    ensures { IfOk result (λ text. string_bytes text ≡ joined (words_of_call call.now)) }
+{
     match call {
+        Call::CreatePool => format!(in alloc; "create-pool"),
+        Call::ClosePool { pool } => format!(in alloc; "close-pool {}", pool.0),
+        Call::SetMaximum { pool, value } => format!(in alloc; "set-maximum {} {value}", pool.0),
+        Call::SetMinimum { pool, value } => format!(in alloc; "set-minimum {} {value}", pool.0),
         Call::Create {
             kind,
             routine,
@@ -226,17 +244,18 @@ fn call_text(alloc: Global, who: Who, call: &Call) -> Result<String, AllocError>
             let kind = kind_text(*kind);
             let place = environ_text(alloc, *env)?;
             format!(in alloc;
-                "{} create {kind} r{} x{context} {}",
-                actor.as_str(),
+                "create {kind} r{} x{context} {}",
                 routine.0,
                 place.as_str()
             )
         }
-        Call::SubmitWork { object } => format!(in alloc; "{} submit {}", actor.as_str(), object.0),
-        Call::Attach => format!(in alloc; "{} attach", actor.as_str()),
-        Call::Take => format!(in alloc; "{} take", actor.as_str()),
-        Call::Return => format!(in alloc; "{} return", actor.as_str()),
-        Call::Finish => format!(in alloc; "{} finish", actor.as_str()),
+        Call::SubmitWork { object } => format!(in alloc; "submit {}", object.0),
+        Call::Attach => format!(in alloc; "attach"),
+        Call::Detach => format!(in alloc; "detach"),
+        Call::Take => format!(in alloc; "take"),
+        Call::Return => format!(in alloc; "return"),
+        Call::MayRunLong => format!(in alloc; "may-run-long"),
+        Call::Finish => format!(in alloc; "finish"),
     }
 }
 
@@ -277,7 +296,7 @@ pub fn print_entry(alloc: Global, entry: &Entry, out: &mut Vec<u8>) -> Result<()
     ensures ok { OnOk result (out.new.items ≡ out.old.items ++ line_of_entry entry.now) }
     ensures err { OnErr result (out.new.items ≡ out.old.items) }
 {
-    let call = call_text(alloc, entry.who, &entry.call)?;
+    let call = call_line(alloc, entry.who, &entry.call)?;
     let answer = answer_text(alloc, &entry.answer)?;
     let line = format!(in alloc; "{} -> {}", call.as_str(), answer.as_str())?;
     out.extend_from_slice(line.as_bytes())?;

@@ -8,11 +8,17 @@ ghost use Rattle.tp_lines.specs.Shapes.{AreApart, AreDistinct, field_count, text
 /// call was refused.
 #[derive(Clone, Copy, Debug, PartialEq)]
 pub enum Word {
+    CreatePool,
+    ClosePool,
+    SetMaximum,
+    SetMinimum,
     Create,
     Submit,
     Attach,
+    Detach,
     Take,
     Return,
+    MayRunLong,
     Finish,
     Done,
     Made,
@@ -102,7 +108,7 @@ pub enum Field {
     /// A time of the clock, from 0 to 9,223,372,036,854,775,807.
     Time,
     /// A number of 32 bits.
-    Error,
+    Small,
     /// A number of 64 bits.
     Bytes,
     /// `o` and the number of an object.
@@ -230,8 +236,24 @@ macro_rules! fields {
 }
 
 /// The calls.
-pub const CALLS: Table<6> = Table {
+pub const CALLS: Table<12> = Table {
     shapes: [
+        Shape {
+            word: Word::CreatePool,
+            fields: fields!(),
+        },
+        Shape {
+            word: Word::ClosePool,
+            fields: fields!(Id),
+        },
+        Shape {
+            word: Word::SetMaximum,
+            fields: fields!(Id Small),
+        },
+        Shape {
+            word: Word::SetMinimum,
+            fields: fields!(Id Small),
+        },
         Shape {
             word: Word::Create,
             fields: fields!(Kind Routine Context Pool Priority Length Group Cancel),
@@ -245,11 +267,19 @@ pub const CALLS: Table<6> = Table {
             fields: fields!(),
         },
         Shape {
+            word: Word::Detach,
+            fields: fields!(),
+        },
+        Shape {
             word: Word::Take,
             fields: fields!(),
         },
         Shape {
             word: Word::Return,
+            fields: fields!(),
+        },
+        Shape {
+            word: Word::MayRunLong,
             fields: fields!(),
         },
         Shape {
@@ -370,7 +400,7 @@ pub const RESULTS: Table<4> = Table {
         },
         Shape {
             word: Word::Io,
-            fields: fields!(Error Bytes),
+            fields: fields!(Small Bytes),
         },
     ],
 };
@@ -486,11 +516,17 @@ pub fn word_text(word: Word) -> &'static str
     ensures { result.now ≡ text_of_word word }
 {
     match word {
+        Word::CreatePool => "create-pool",
+        Word::ClosePool => "close-pool",
+        Word::SetMaximum => "set-maximum",
+        Word::SetMinimum => "set-minimum",
         Word::Create => "create",
         Word::Submit => "submit",
         Word::Attach => "attach",
+        Word::Detach => "detach",
         Word::Take => "take",
         Word::Return => "return",
+        Word::MayRunLong => "may-run-long",
         Word::Finish => "finish",
         Word::Done => "ok",
         Word::Made => "made",

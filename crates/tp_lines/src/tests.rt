@@ -10,6 +10,16 @@ use tp_base::answers::{ActionKind, Answer, Entry, Look, Refusal, SlotWord, TakeR
 use tp_base::calls::{Call, Environ, Kind, Priority};
 use tp_base::ids::{GroupId, KernelId, ObjectId, PoolId, RoutineId, Who};
 
+// The text is no line of a call, and this is its fault.
+fn check_call_fault(rt: &impl Abort, text: &str, fault: LineFault) {
+    assert_eq!(rt; parse_call(text.as_bytes()), Err(fault), "{text}");
+}
+
+// The text is no line of an entry, and this is its fault.
+fn check_entry_fault(rt: &impl Abort, text: &str, fault: LineFault) {
+    assert_eq!(rt; parse_entry(text.as_bytes()), Err(fault), "{text}");
+}
+
 #[test]
 fn faults_of_calls(rt: HostRuntime) {
     let cases = [
@@ -56,16 +66,143 @@ fn faults_of_calls(rt: HostRuntime) {
         ),
     ];
     for (text, column, kind) in cases {
-        assert_eq!(rt;
-            parse_call(text.as_bytes()),
-            Err(LineFault { column, kind }),
-            "{text}"
-        );
+        check_call_fault(&rt, text, LineFault { column, kind });
     }
 }
 
 #[test]
-fn calls_of_lines(rt: HostRuntime) {
+fn faults_of_pools(rt: HostRuntime) {
+    let cases = [
+        ("c1 creat", 9, LineKind::Unfinished),
+        ("c1 create", 10, LineKind::Unfinished),
+        ("c1 create-", 11, LineKind::Unfinished),
+        ("c1 create-pools", 15, LineKind::Unexpected),
+        ("c1 create-pool ", 15, LineKind::Unexpected),
+        ("c1 create-pool 1", 15, LineKind::Unexpected),
+        ("c1 create-work r1", 11, LineKind::Unexpected),
+        ("c1 createpool", 10, LineKind::Unexpected),
+        ("c1 create pool", 11, LineKind::Unexpected),
+        ("c1 close-pool", 14, LineKind::Unfinished),
+        ("c1 close-pool ", 15, LineKind::Unfinished),
+        ("c1 close-pool p1", 15, LineKind::Unexpected),
+        ("c1 close-pool 65536", 19, LineKind::Unexpected),
+        ("c1 close-pool 00", 16, LineKind::Unexpected),
+        ("c1 close-pool 1 2", 16, LineKind::Unexpected),
+        ("c1 close-pools 1", 14, LineKind::Unexpected),
+        ("c1 close-pool1", 14, LineKind::Unexpected),
+    ];
+    for (text, column, kind) in cases {
+        check_call_fault(&rt, text, LineFault { column, kind });
+    }
+}
+
+#[test]
+fn faults_of_pool_sizes(rt: HostRuntime) {
+    let cases = [
+        ("c1 set-m", 9, LineKind::Unfinished),
+        ("c1 set-mi 1 2", 10, LineKind::Unexpected),
+        ("c1 set-maximun 1 2", 14, LineKind::Unexpected),
+        ("c1 set-maximum p1 ", 16, LineKind::Unexpected),
+        ("c1 set-maximum 1", 17, LineKind::Unfinished),
+        ("c1 set-maximum 1 ", 18, LineKind::Unfinished),
+        ("c1 set-maximum 65536 1", 20, LineKind::Unexpected),
+        ("c1 set-maximum 65535 4294967296", 31, LineKind::Unexpected),
+        ("c1 set-maximum 1  2", 18, LineKind::Unexpected),
+        ("c1 set-maximum 1 2 3", 19, LineKind::Unexpected),
+        ("c1 set-maximum -1 2", 16, LineKind::Unexpected),
+        ("c1 set-maximum 1 -2", 18, LineKind::Unexpected),
+        ("c1 set-minimum p1 01", 16, LineKind::Unexpected),
+        ("c1 set-minimum 1 01", 19, LineKind::Unexpected),
+        ("c1 set-minimum 1 2 ", 19, LineKind::Unexpected),
+        ("c1 set-minimum 1,2", 17, LineKind::Unexpected),
+        ("c1 set-minimum 1 4294967300", 27, LineKind::Unexpected),
+        ("c1 set-minimum 1 99999999999", 27, LineKind::Unexpected),
+    ];
+    for (text, column, kind) in cases {
+        check_call_fault(&rt, text, LineFault { column, kind });
+    }
+}
+
+#[test]
+fn faults_of_workers(rt: HostRuntime) {
+    let cases = [
+        ("w1 detach now", 10, LineKind::Unexpected),
+        ("w1 detac", 9, LineKind::Unfinished),
+        ("w1 detached", 10, LineKind::Unexpected),
+        ("w1 deattach", 6, LineKind::Unexpected),
+        ("w1 attachdetach", 10, LineKind::Unexpected),
+        ("w1 attack", 9, LineKind::Unexpected),
+        ("w1 may-run", 11, LineKind::Unfinished),
+        ("w1 may-run-longer", 16, LineKind::Unexpected),
+        ("w1 may run long", 7, LineKind::Unexpected),
+        ("w1 retire", 7, LineKind::Unexpected),
+        ("w0 detach", 2, LineKind::Unexpected),
+        ("w6", 3, LineKind::Unfinished),
+        ("w100 detach", 4, LineKind::Unexpected),
+        ("c18446744073709551616 take", 3, LineKind::Unexpected),
+        (" c1 take", 1, LineKind::Unexpected),
+        ("C1 take", 1, LineKind::Unexpected),
+    ];
+    for (text, column, kind) in cases {
+        check_call_fault(&rt, text, LineFault { column, kind });
+    }
+}
+
+#[test]
+fn faults_of_objects(rt: HostRuntime) {
+    let cases = [
+        ("c1 create work r65536 x0", 21, LineKind::Unexpected),
+        ("c1 create work r1 7 p0", 19, LineKind::Unexpected),
+        ("c1 create work r1 x7 p65536 low", 27, LineKind::Unexpected),
+        (
+            "c1 create work r1 x7 p0 high  long",
+            30,
+            LineKind::Unexpected,
+        ),
+        (
+            "c1 create work r1 x7 p0 high long g0 q00",
+            40,
+            LineKind::Unexpected,
+        ),
+        (
+            "c1 create work r1 x7 p0 low short g65536 q1",
+            40,
+            LineKind::Unexpected,
+        ),
+        (
+            "c1 create work r1 x7 p0 low short g1",
+            37,
+            LineKind::Unfinished,
+        ),
+    ];
+    for (text, column, kind) in cases {
+        check_call_fault(&rt, text, LineFault { column, kind });
+    }
+}
+
+// The text is read as this call, and printed again in an entry.
+fn check_call(
+    rt: &impl Abort,
+    alloc: Global,
+    text: &str,
+    who: Who,
+    call: Call,
+) -> Result<(), AllocError> {
+    assert_eq!(rt; parse_call(text.as_bytes()), Ok((who, call)), "{text}");
+    let line = format!(in alloc; "{text} -> ok")?;
+    let entry = Entry {
+        who,
+        call,
+        answer: Answer::Done,
+    };
+    let mut out = Vec::new(alloc);
+    print_entry(alloc, &entry, &mut out)?;
+    assert_eq!(rt; out.as_slice(), line.as_bytes(), "{text}");
+    Ok(())
+}
+
+#[test]
+fn calls_of_lines(rt: HostRuntime) -> Result<(), Fail> {
     let env = Environ {
         pool: PoolId(3),
         group: GroupId(65_535),
@@ -98,8 +235,57 @@ fn calls_of_lines(rt: HostRuntime) {
         ),
     ];
     for (text, who, call) in cases {
-        assert_eq!(rt; parse_call(text.as_bytes()), Ok((who, call)), "{text}");
+        check_call(&rt, rt.alloc(), text, who, call)?;
     }
+    Ok(())
+}
+
+#[test]
+fn calls_of_pools_there_and_back(rt: HostRuntime) -> Result<(), Fail> {
+    let cases = [
+        ("c1 create-pool", Call::CreatePool),
+        ("c1 close-pool 0", Call::ClosePool { pool: PoolId(0) }),
+        (
+            "c1 close-pool 65535",
+            Call::ClosePool {
+                pool: PoolId(65_535),
+            },
+        ),
+        (
+            "c1 set-maximum 1 0",
+            Call::SetMaximum {
+                pool: PoolId(1),
+                value: 0,
+            },
+        ),
+        (
+            "c1 set-maximum 65535 4294967295",
+            Call::SetMaximum {
+                pool: PoolId(65_535),
+                value: 4_294_967_295,
+            },
+        ),
+        (
+            "c1 set-minimum 0 7",
+            Call::SetMinimum {
+                pool: PoolId(0),
+                value: 7,
+            },
+        ),
+        (
+            "c1 set-minimum 12 4294967295",
+            Call::SetMinimum {
+                pool: PoolId(12),
+                value: 4_294_967_295,
+            },
+        ),
+        ("c1 detach", Call::Detach),
+        ("c1 may-run-long", Call::MayRunLong),
+    ];
+    for (text, call) in cases {
+        check_call(&rt, rt.alloc(), text, Who::Client(1), call)?;
+    }
+    Ok(())
 }
 
 #[test]
@@ -133,13 +319,122 @@ fn faults_of_entries(rt: HostRuntime) {
             39,
             LineKind::Unexpected,
         ),
+        ("c1 take -> queued 1", 20, LineKind::Unfinished),
+        ("c1 take -> queued  1 1", 19, LineKind::Unexpected),
+        ("c1 take -> queued 1 65536", 25, LineKind::Unexpected),
+        ("c1 take -> flag yess", 20, LineKind::Unexpected),
+        ("c1 take -> flag maybe", 17, LineKind::Unexpected),
+        ("c1 take -> frozen", 14, LineKind::Unexpected),
+        ("c1 take -> later 1", 17, LineKind::Unexpected),
+        ("c1 take -> closing 1 2", 23, LineKind::Unfinished),
+        ("c1 take -> begun 01 2", 19, LineKind::Unexpected),
+        ("c1 take -> notice 1", 19, LineKind::Unexpected),
+        ("c1 take -> notice o1 r0 x1 y1", 23, LineKind::Unexpected),
+        ("c1 take -> count 2147483648 0 0", 27, LineKind::Unexpected),
+        ("c1 take -> attached", 20, LineKind::Unfinished),
+        (
+            "c1 take -> taken 1 o1 r1 x7 objects",
+            35,
+            LineKind::Unexpected,
+        ),
+        ("c1 take -> taken 1 o1 r1 x7", 28, LineKind::Unfinished),
+        ("c1 take -> returned - done - -", 31, LineKind::Unfinished),
+        ("c1 take -> refused", 19, LineKind::Unfinished),
+        (
+            "c1 take -> refused slot-taken timer",
+            31,
+            LineKind::Unexpected,
+        ),
+        (
+            "c1 take -> refused has-members 65536",
+            36,
+            LineKind::Unexpected,
+        ),
+        ("c1 take -> exhaust", 19, LineKind::Unfinished),
     ];
     for (text, column, kind) in cases {
-        assert_eq!(rt;
-            parse_entry(text.as_bytes()),
-            Err(LineFault { column, kind }),
-            "{text}"
-        );
+        check_entry_fault(&rt, text, LineFault { column, kind });
+    }
+}
+
+#[test]
+fn faults_of_entries_of_pools(rt: HostRuntime) {
+    let cases = [
+        ("c1 take -> look empty", 13, LineKind::Unexpected),
+        ("c1 take -> full 1 3", 13, LineKind::Unexpected),
+        ("c1 take -> made 65536", 21, LineKind::Unexpected),
+        ("c1 create-pool -> made 1 ", 25, LineKind::Unexpected),
+        ("c1 create-pool ->", 18, LineKind::Unfinished),
+        ("c1 create-pool->", 15, LineKind::Unexpected),
+        ("c1 close-pool 1 -> free", 24, LineKind::Unfinished),
+        ("c1 close-pool 1 -> freed later", 25, LineKind::Unexpected),
+        ("c1 close-pool -> freed", 15, LineKind::Unexpected),
+        ("c1 set-maximum 1 -> ok", 18, LineKind::Unexpected),
+        (
+            "c1 set-maximum 1 4294967295 -> okay",
+            34,
+            LineKind::Unexpected,
+        ),
+        (
+            "w1 detach -> refused default-pool 1",
+            34,
+            LineKind::Unexpected,
+        ),
+        ("w1 may-run-long -> flag true", 25, LineKind::Unexpected),
+        ("w1 may-run-long -> flag y", 26, LineKind::Unfinished),
+        ("c1 take => ok", 9, LineKind::Unexpected),
+        ("c1 take ->  ok", 12, LineKind::Unexpected),
+        ("c1 take -> ok\r", 14, LineKind::Unexpected),
+    ];
+    for (text, column, kind) in cases {
+        check_entry_fault(&rt, text, LineFault { column, kind });
+    }
+}
+
+#[test]
+fn faults_of_answers(rt: HostRuntime) {
+    let cases = [
+        ("c1 take -> queued 1", 20, LineKind::Unfinished),
+        ("c1 take -> queued 1 65536", 25, LineKind::Unexpected),
+        (
+            "c1 take -> queued 18446744073709551616 0",
+            38,
+            LineKind::Unexpected,
+        ),
+        ("c1 take -> attached 01", 22, LineKind::Unexpected),
+        ("c1 take -> attached p0", 21, LineKind::Unexpected),
+        ("c1 take -> taken 5 0 r2 x7 plain", 20, LineKind::Unexpected),
+        (
+            "c1 take -> taken 5 o0 r0 x7 plain",
+            24,
+            LineKind::Unexpected,
+        ),
+        (
+            "c1 take -> taken 5 o0 r2 x7 plain 1",
+            34,
+            LineKind::Unexpected,
+        ),
+        (
+            "c1 take -> returned - done not over",
+            31,
+            LineKind::Unexpected,
+        ),
+        ("c1 take -> refused over-maximum", 32, LineKind::Unfinished),
+        (
+            "c1 take -> refused slot-taken lock",
+            31,
+            LineKind::Unexpected,
+        ),
+        ("c1 take -> notice o1 r2 x3 x4", 28, LineKind::Unexpected),
+        ("c1 take -> was yes 4", 21, LineKind::Unfinished),
+        (
+            "c1 take -> advanced 9223372036854775807 0",
+            42,
+            LineKind::Unfinished,
+        ),
+    ];
+    for (text, column, kind) in cases {
+        check_entry_fault(&rt, text, LineFault { column, kind });
     }
 }
 

@@ -8,11 +8,13 @@ use Rattle.tp_top.specs.Playing.{output_of}
 use Rattle.tp_top.specs.Trace.{IsTraceOf}
 use Rattle.tp_top.specs.declared.command.Command.{Command}
 use Rattle.tp_top.specs.declared.command.Command.TheVariants.{Trace}
+use Rattle.tp_top.specs.declared.status.Ending.{Ending}
+use Rattle.tp_top.specs.declared.status.Ending.TheVariants.{Fine}
 
--- the bytes are in the grammar of the command's input, and this is its output for them
-abbrev pub Gives : Option Command → List ℕ → List ℕ → Type 0
-Gives None bytes output = ⊥
-Gives (Some Trace) bytes output = (calls : List (Who × Call)) × IsTraceOf bytes calls × (output ≡ output_of calls)
+-- the bytes are in the grammar of the command's input, and these are its output for them and its ending
+abbrev pub Gives : Option Command → List ℕ → List ℕ → Ending → Type 0
+Gives None bytes output ending = ⊥
+Gives (Some Trace) bytes output ending = (calls : List (Who × Call)) × IsTraceOf bytes calls × (output ≡ output_of calls) × (ending ≡ Fine)
 
 -- the bytes are not in the grammar of the command's input, and this is the place of their first fault
 abbrev pub IsFaultyAt : Option Command → List ℕ → ℕ → ℕ → Type 0

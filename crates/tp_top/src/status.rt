@@ -6,6 +6,15 @@ use crate::reading::TraceFault;
 use std::alloc::AllocError;
 use tp_edge::ReadFault;
 
+/// What was found out of an input that is in its grammar.
+#[derive(Clone, Copy, Debug, PartialEq, Eq)]
+pub enum Ending {
+    /// Nothing is wrong with it.
+    Fine,
+    /// It is a history in which an answer isn't the machine's.
+    NotLegal,
+}
+
 /// How the program ends.
 #[derive(Clone, Copy, Debug, PartialEq, Eq)]
 pub enum Status {
@@ -24,6 +33,8 @@ pub enum Status {
     NoMemory,
     /// The source gave 16,777,217 bytes. Nothing was written.
     TooLong,
+    /// The input, read to its end, is a history that isn't legal. The output is whole.
+    NotLegal,
 }
 
 impl Status {
@@ -41,6 +52,20 @@ impl Status {
             Status::WriteFault => 4,
             Status::NoMemory => 5,
             Status::TooLong => 6,
+            Status::NotLegal => 7,
+        }
+    }
+}
+
+impl From<Ending> for Status {
+    ghost use Rattle.tp_top.specs.Ends.{status_of};
+
+    ghost from_gives = { λ ending status. status ≡ status_of ending };
+
+    fn from(ending: Ending) -> Self {
+        match ending {
+            Ending::Fine => Status::Fine,
+            Ending::NotLegal => Status::NotLegal,
         }
     }
 }

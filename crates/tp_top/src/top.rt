@@ -5,14 +5,15 @@ ghost use Rattle.tp_edge.specs.Counts.{Rose};
 ghost use Rattle.tp_edge.specs.Given.{with_given, TookFirst};
 ghost use Rattle.tp_edge.specs.Taken.{behind, IsAbove, IsEnded};
 ghost use Rattle.tp_top.specs.Commands.{command_of};
-ghost use Rattle.tp_top.specs.Ends.{IsReply, IsRun, IsTakenTo};
+ghost use Rattle.tp_top.specs.Ends.{IsReply, IsRun, IsTakenTo, status_of};
 ghost use Rattle.tp_top.specs.Inputs.{Gives};
-ghost use Rattle.tp_top.specs.Runs.{IsAnswered, IsBadLine, IsBadLineOf, IsReadToEnd, IsUnwritten, IsWithin};
+ghost use Rattle.tp_top.specs.Runs.{IsAnswered, IsBadLine, IsBadLineOf, IsReadToEnd, IsUnwritten, IsWhole, IsWithin};
+ghost use Rattle.tp_top.specs.declared.status.Ending.{Ending};
 
 use crate::command::{Command, command_in};
 use crate::playing::play_trace;
 use crate::reading::read_trace;
-use crate::status::Status;
+use crate::status::{Ending, Status};
 use crate::words::WordList;
 use std::alloc::Global;
 use tp_edge::{Sink, Source, WriteFault, give_all, read_all};
@@ -24,7 +25,7 @@ const INPUT_LIMIT: usize = 16_777_216;
 ///
 /// `words` are those behind the program's name. The answer is the first of these that applies:
 /// `Words`; `ReadFault` and `TooLong`, at which reading ends; `NoMemory` of reading; `BadLine`;
-/// `NoMemory`; `WriteFault`; `Fine`. All memory is taken before anything is written.
+/// `NoMemory`; `WriteFault`; `NotLegal`; `Fine`. All memory is taken before anything is written.
 pub fn tp_main<S: Source, K: Sink>(
     alloc: Global,
     words: &WordList,
@@ -46,26 +47,37 @@ pub fn tp_main<S: Source, K: Sink>(
     ensures ended { IsReadToEnd result → IsEnded (S.left source.new) }
     // A bad line is the first fault of the input, which is then in no grammar of the command.
     ensures bad_line { IsBadLineOf (command_of words.now) (S.left source.old) result }
-    ensures bad_only { (bytes output : List ℕ) → S.left source.old ≡ Some bytes → Gives (command_of words.now) bytes output → IsBadLine result → ⊥ }
+    ensures bad_only { (bytes output : List ℕ) (ending : Ending) → S.left source.old ≡ Some bytes → Gives (command_of words.now) bytes output ending →
+        IsBadLine result → ⊥ }
     // The sink gets the output for the input, once; and there is no other output for it.
-    ensures fine { result ≡ Status.Fine → IsAnswered (command_of words.now) (S.left source.old)
-        (λ output. K.holds sink.new ≡ with_given output (K.holds sink.old)) }
-    ensures fine_only { (bytes output : List ℕ) → S.left source.old ≡ Some bytes → Gives (command_of words.now) bytes output →
-        result ≡ Status.Fine → K.holds sink.new ≡ with_given output (K.holds sink.old) }
+    ensures whole { IsWhole result → IsAnswered (command_of words.now) (S.left source.old)
+        (λ output ending. (result ≡ status_of ending) × (K.holds sink.new ≡ with_given output (K.holds sink.old))) }
+    ensures whole_only { (bytes output : List ℕ) (ending : Ending) → S.left source.old ≡ Some bytes → Gives (command_of words.now) bytes output ending →
+        IsWhole result → (result ≡ status_of ending) × (K.holds sink.new ≡ with_given output (K.holds sink.old)) }
     // A sink that has a fault holds the first bytes of the output.
     ensures first { result ≡ Status.WriteFault → IsAnswered (command_of words.now) (S.left source.old)
-        (λ output. TookFirst (K.holds sink.old) (K.holds sink.new) output) }
-    ensures first_only { (bytes output : List ℕ) → S.left source.old ≡ Some bytes → Gives (command_of words.now) bytes output →
+        (λ output ending. TookFirst (K.holds sink.old) (K.holds sink.new) output) }
+    ensures first_only { (bytes output : List ℕ) (ending : Ending) → S.left source.old ≡ Some bytes → Gives (command_of words.now) bytes output ending →
         result ≡ Status.WriteFault → TookFirst (K.holds sink.old) (K.holds sink.new) output }
     // Nothing but want of memory keeps an input in the grammar from its output where no stream has a fault.
-    ensures complete { (bytes output : List ℕ) → S.left source.old ≡ Some bytes → Gives (command_of words.now) bytes output → length bytes ≤ INPUT_LIMIT →
+    ensures complete { (bytes output : List ℕ) (ending : Ending) → S.left source.old ≡ Some bytes → Gives (command_of words.now) bytes output ending →
+        length bytes ≤ INPUT_LIMIT →
         (Rose (S.failures source.old) (S.failures source.new) → ⊥) → (Rose (K.failures sink.old) (K.failures sink.new) → ⊥) →
-        (result ≡ Status.Fine) ⊎ (result ≡ Status.NoMemory) }
+        (result ≡ status_of ending) ⊎ (result ≡ Status.NoMemory) }
 {
     match command_in(words) {
         None => Status::Words,
         Some(command) => run(alloc, command, source, sink),
     }
+}
+
+/// What a command makes of its input.
+#[derive(Drop)]
+pub struct Output {
+    /// All that is to be written.
+    pub text: Vec<u8>,
+    /// How the program ends once it is written.
+    pub ending: Ending,
 }
 
 // Reads the command's input, and writes its output.
@@ -79,19 +91,15 @@ fn run<S: Source, K: Sink>(alloc: Global, command: Command, source: &mut S, sink
 {
     match read_output(alloc, command, source) {
         Err(status) => status,
-        Ok(output) => match give_all(sink, &output) {
-            Ok(()) => Status::Fine,
+        Ok(output) => match give_all(sink, &output.text) {
+            Ok(()) => output.ending.into(),
             Err(WriteFault::Failed) => Status::WriteFault,
         },
     }
 }
 
 // Reads the command's input to its end, and answers its output.
-fn read_output<S: Source>(
-    alloc: Global,
-    command: Command,
-    source: &mut S,
-) -> Result<Vec<u8>, Status>
+fn read_output<S: Source>(alloc: Global, command: Command, source: &mut S) -> Result<Output, Status>
     ensures taken { IsTakenTo command (S.left source.old) (S.left source.new) result }
     ensures read_fault { result ≡ Err Status.ReadFault → Rose (S.failures source.old) (S.failures source.new) }
     ensures never_falls { S.failures source.old ≤ S.failures source.new }
@@ -101,15 +109,18 @@ fn read_output<S: Source>(
 }
 
 // The command's output for its whole input.
-fn reply(alloc: Global, command: Command, bytes: &[u8]) -> Result<Vec<u8>, Status>
+fn reply(alloc: Global, command: Command, bytes: &[u8]) -> Result<Output, Status>
     requires { length bytes.now ≤ INPUT_LIMIT }
     ensures { IsReply command bytes.now result }
 {
     match command {
         Command::Trace => {
             let calls = read_trace(alloc, bytes)?;
-            let output = play_trace(alloc, &calls)?;
-            Ok(output)
+            let text = play_trace(alloc, &calls)?;
+            Ok(Output {
+                text,
+                ending: Ending::Fine,
+            })
         }
     }
 }

@@ -1,0 +1,10 @@
+pub mod EndedFacts
+pub mod Feeds
+pub mod FreeLines
+pub mod HeaderFacts
+pub mod Keys
+pub mod Places
+pub mod SoFar
+pub mod Honest
+pub mod Judging
+pub mod Alike

@@ -1,0 +1,165 @@
+-- The lines of a history in their places.
+use Rattle.std.proofs.Common.{◌≡◌, ℕ, ◌+◌, ◌<◌, ◌≤◌, ◌^◌, List, [], ◌∷◌, ◌++◌, length, take, drop, get_or, refl, sym, ap, ◌∙◌, subst, arith, ◌⊎◌, inl, inr, IsTrue, max, Bool, true, false}
+use Rattle.std.specs.Prelude.{codes, decimal, Option, None, Some, Result, Ok, Err, nat_lt, if◌then◌else◌}
+use Rattle.std.proofs.lemmas.Bool.{ltb-true, ltb-false}
+use Rattle.std.proofs.lemmas.Fmt.{length-decimal-le}
+use Rattle.std.proofs.lemmas.List.{append_assoc, append-nil, length-append, take-append-drop}
+use Rattle.line_grammar.specs.Language.{AnyOf, Begins, Stops, Reaches, IsRead, IsReadTo, IsStuck}
+use Rattle.line_grammar.specs.Parts.{IsPart}
+use Rattle.line_grammar.specs.Words.{IsWord, Word, Either, lacks}
+use Rattle.line_grammar.proofs.Pairs.{one_then}
+use Rattle.line_grammar.proofs.Readings.{read_renamed, stuck_renamed}
+use Rattle.line_grammar.proofs.WordFacts.{lacking_part, either_read}
+use Rattle.tp_base.specs.declared.answers.Entry.{Entry}
+use Rattle.tp_base.specs.declared.ids.Who.{Who}
+use Rattle.tp_base.specs.declared.ids.Who.TheVariants.{Client, Worker}
+use Rattle.tp_lines.specs.Answers.{EntryLines, IsEntryLine, text_of_answer}
+use Rattle.tp_lines.specs.Calls.{line_of_call}
+use Rattle.tp_lines.specs.Words.{text_of_who}
+use Rattle.tp_lines.proofs.Bounds.{stuck_short}
+use Rattle.tp_lines.proofs.EntryFacts.{entries_part, entry_short}
+use Rattle.tp_lines.proofs.WhoFacts.{line_back}
+use Rattle.tp_report.specs.declared.headers.Header.{Header}
+use Rattle.tp_report.specs.Histories.{HeaderLines, IsHeaderLine, NextLines, end_line, header_line}
+use Rattle.tp_report.specs.Readings.{IsEnded, Ended, Ends}
+use Rattle.tp_report.proofs.Feeds.{IsFree, free_append, free_decimal}
+use Rattle.tp_report.proofs.FreeLines.{entry_free, end_free}
+use Rattle.tp_report.proofs.HeaderFacts.{headers_part}
+
+-- headers and entries, with a line feed behind them
+header_free : (header : Header) (line : List ℕ) → HeaderLines header line → IsFree line
+header_free header line h =
+    subst (λ t. IsFree t) (sym h.split)
+    (free_append (decimal header.clients) (codes " workers " ++ (decimal header.workers ++ (codes " events " ++ decimal header.events))) (free_decimal header.clients (omega (arith, h.clients_most)))
+      (free_append (decimal header.workers) (codes " events " ++ decimal header.events) (free_decimal header.workers (omega (arith, h.workers_most))) (free_decimal header.events (omega (arith, h.events_most)))))
+
+pub header_part : IsPart 10 HeaderLines
+header_part = lacking_part 10 HeaderLines headers_part.unique header_free
+
+pub entry_part : IsPart 10 EntryLines
+entry_part = lacking_part 10 EntryLines entries_part.unique entry_free
+
+-- no entry begins as the end line does
+letter_apart : (who : Who) (back more rest : List ℕ) → (text_of_who who ++ back) ++ more ≡ 101 ∷ rest → ⊥
+letter_apart (Client number) back more rest e = omega (arith, ap (λ t. get_or t 0 0) e)
+letter_apart (Worker number) back more rest e = omega (arith, ap (λ t. get_or t 0 0) e)
+
+pub entry_apart : (entry : Entry) (line more rest : List ℕ) → IsEntryLine entry line → line ++ more ≡ 101 ∷ rest → ⊥
+entry_apart entry line more rest h e =
+    let arrow = codes " -> " in
+    let answer = text_of_answer entry.answer in
+    let call = line_back entry.who entry.call (line_of_call entry.who entry.call) (record { who_in_range = h.who_in_range; call_in_range = h.call_in_range; readable = h.readable; split = refl }) in
+    let start : line_of_call entry.who entry.call ≡ text_of_who entry.who ++ call.back = call.split ∙ ap (λ l. l ++ call.back) call.first.split in
+    let behind = (arrow ++ answer) ++ more in
+    letter_apart entry.who call.back behind rest
+    (ap (λ l. l ++ behind) (sym start)
+      ∙ sym (ap (λ l. l ++ more) (h.split ∙ append_assoc (line_of_call entry.who entry.call) arrow answer) ∙ append_assoc (line_of_call entry.who entry.call) (arrow ++ answer) more)
+      ∙ e)
+
+-- the lines behind a header and entries
+next_unique : (events len : ℕ) (v w : Option Entry) (text : List ℕ) → NextLines events len v text → NextLines events len w text → v ≡ w
+next_unique events len (Some a) (Some b) text p q = ap (λ x. Some x) (entries_part.unique a b text p.1 q.1)
+next_unique events len (Some a) None text p q = absurd (entry_apart a text [] (codes "nd " ++ decimal len) p.1 (append-nil text ∙ q))
+next_unique events len None (Some b) text p q = absurd (entry_apart b text [] (codes "nd " ++ decimal len) q.1 (append-nil text ∙ p))
+next_unique events len None None text p q = refl
+
+next_free : (events len : ℕ) → len < 2 ^ 64 → (v : Option Entry) (line : List ℕ) → NextLines events len v line → IsFree line
+next_free events len bound (Some entry) line h = entry_free entry line h.1
+next_free events len bound None line h = subst (λ t. IsFree t) (sym h) (end_free len bound)
+
+pub next_part : (events len : ℕ) → len < 2 ^ 64 → IsPart 10 (NextLines events len)
+next_part events len bound = lacking_part 10 (NextLines events len) (next_unique events len) (next_free events len bound)
+
+-- what the next line is
+module _ (events len : ℕ) where
+  abbrev Next : Option Entry → List ℕ → Type 0
+  Next = Ended (NextLines events len)
+
+  next_cases : (value : Option Entry) (text : List ℕ) → Next value text → ((len < events) × AnyOf (Ended EntryLines) text) ⊎ (text ≡ end_line len ++ 10 ∷ [])
+  next_cases (Some entry) text n = inl (n.is_line.0, (entry, record { line = n.line; is_line = n.is_line.1; split = n.split }))
+  next_cases None text n = inr (n.split ∙ ap (λ l. l ++ 10 ∷ []) n.is_line)
+
+  -- an ended entry line doesn't begin as the end line does
+  ended_apart : (value : Entry) (text more rest : List ℕ) → Ended EntryLines value text → text ++ more ≡ 101 ∷ rest → ⊥
+  ended_apart value text more rest t e =
+      entry_apart value t.line (10 ∷ [] ++ more) rest t.is_line (sym (append_assoc t.line (10 ∷ []) more) ∙ ap (λ l. l ++ more) (sym t.split) ∙ e)
+
+  pub next_entry : (text : List ℕ) (entry : Entry) (n : ℕ) → len < events → IsReadTo (Ended EntryLines) text entry n → IsReadTo Next text (Some entry) n
+  next_entry text entry n less read = let t = read.text_of in record {
+      within = read.within;
+      text_of = record { line = t.line; is_line = (less, t.is_line); split = t.split };
+      stops = stops (drop n text) read.stops;
+    }
+    where
+    stops : (rest : List ℕ) → Stops (AnyOf (Ended EntryLines)) (take n text) rest → Stops (AnyOf Next) (take n text) rest
+    stops [] s = tt
+    stops (x ∷ rest) s = λ (more, (v, a)).
+        elim (next_cases v ((take n text ++ x ∷ []) ++ more) a) [
+          inl l ↦ s (more, l.1)
+        | inr e ↦ ended_apart entry (take n text) (x ∷ more) (codes "nd " ++ (decimal len ++ 10 ∷ [])) read.text_of (sym (one_then (take n text) x more) ∙ e ∙ refl) ]
+
+  pub next_end : (text : List ℕ) (n : ℕ) → IsReadTo (Ends len) text None n → IsReadTo Next text None n
+  next_end text n read = record {
+      within = read.within;
+      text_of = record { line = end_line len; is_line = refl; split = read.text_of.split };
+      stops = stops (drop n text) read.stops;
+    }
+    where
+    stops : (rest : List ℕ) → Stops (AnyOf (Ends len)) (take n text) rest → Stops (AnyOf Next) (take n text) rest
+    stops [] s = tt
+    stops (x ∷ rest) s = λ (more, (v, a)).
+        elim (next_cases v ((take n text ++ x ∷ []) ++ more) a) [
+          inl l ↦ ended_apart l.1.0 ((take n text ++ x ∷ []) ++ more) [] (codes "nd " ++ (decimal len ++ 10 ∷ x ∷ more)) l.1.1
+            (append-nil ((take n text ++ x ∷ []) ++ more) ∙ one_then (take n text) x more ∙ ap (λ l. l ++ x ∷ more) read.text_of.split ∙ append_assoc (end_line len) (10 ∷ []) (x ∷ more))
+        | inr e ↦ s (more, (None, record { means = refl; split = e })) ]
+
+  -- entries, as values of the next line
+  abbrev Another : Option Entry → List ℕ → Type 0
+  Another (Some entry) text = Ended EntryLines entry text
+  Another None text = ⊥
+
+  another_back : (v : Option Entry) (text : List ℕ) → Another v text → AnyOf (Ended EntryLines) text
+  another_back (Some entry) text a = (entry, a)
+  another_back None text a = absurd a
+
+  both_back : (v : Option Entry) (text : List ℕ) → Next v text → AnyOf (Either Another (Ends len)) text
+  both_back (Some entry) text n = (Some entry, inl (record { line = n.line; is_line = n.is_line.1; split = n.split }))
+  both_back None text n = (None, inr (record { means = refl; split = n.split ∙ ap (λ l. l ++ 10 ∷ []) n.is_line }))
+
+  both_to : len < events → (v : Option Entry) (text : List ℕ) → Either Another (Ends len) v text → AnyOf Next text
+  both_to less (Some entry) text (inl a) = (Some entry, record { line = a.line; is_line = (less, a.is_line); split = a.split })
+  both_to less None text (inl a) = absurd a
+  both_to less v text (inr w) = (None, record { line = end_line len; is_line = refl; split = w.split })
+
+  further_is : (text : List ℕ) (i j : ℕ) (b : Bool) → nat_lt i j ≡ b → IsRead (Either Another (Ends len)) text (if b then Err j else Err i) → IsStuck (Either Another (Ends len)) text (max i j)
+  further_is text i j true e r = let at : j ≡ max i j = omega (arith, ltb-true i j e) in subst (λ k. IsStuck (Either Another (Ends len)) text k) at r
+  further_is text i j false e r = let at : i ≡ max i j = omega (arith, ltb-false i j e) in subst (λ k. IsStuck (Either Another (Ends len)) text k) at r
+
+  pub next_stuck : (text : List ℕ) (i j : ℕ) → len < events → IsStuck (Ended EntryLines) text i → IsStuck (Ends len) text j → IsStuck Next text (max i j)
+  next_stuck text i j less entries ends =
+      let another = stuck_renamed (Ended EntryLines) Another another_back text i (λ v t a. (Some v, a)) entries in
+      stuck_renamed (Either Another (Ends len)) Next both_back text (max i j) (both_to less)
+      (further_is text i j (nat_lt i j) refl (either_read Another (Ends len) text (Err i) (Err j) another ends))
+
+-- no line of a history is long
+decimal_short : (n : ℕ) → n < 2 ^ 64 → length (decimal n) ≤ 20
+decimal_short n bound = length-decimal-le 20 n (omega arith) (omega arith) bound
+
+header_short : (header : Header) (line : List ℕ) → HeaderLines header line → length line ≤ 700
+header_short header line h =
+    let c = decimal header.clients in let w = decimal header.workers in let e = decimal header.events in
+    omega (arith, ap length h.split, length-append c (codes " workers " ++ (w ++ (codes " events " ++ e))), length-append w (codes " events " ++ e),
+      decimal_short header.clients (omega (arith, h.clients_most)), decimal_short header.workers (omega (arith, h.workers_most)), decimal_short header.events (omega (arith, h.events_most)))
+
+next_short : (events len : ℕ) → len < 2 ^ 64 → (v : Option Entry) (line : List ℕ) → NextLines events len v line → length line ≤ 700
+next_short events len bound (Some entry) line h = entry_short entry line h.1
+next_short events len bound None line h = omega (arith, ap length h, decimal_short len bound)
+
+ended_short : {V : Type 0} (W : V → List ℕ → Type 0) → ((v : V) (line : List ℕ) → W v line → length line ≤ 700) → (v : V) (text : List ℕ) → Ended W v text → length text ≤ 701
+ended_short W short v text e = omega (arith, ap length e.split, length-append e.line (10 ∷ []), short v e.line e.is_line)
+
+pub header_place : (text : List ℕ) (place : ℕ) → IsStuck (Ended HeaderLines) text place → place ≤ 701
+header_place text place stuck = stuck_short (Ended HeaderLines) 701 (ended_short HeaderLines header_short) text place stuck
+
+pub next_place : (events len : ℕ) → len < 2 ^ 64 → (text : List ℕ) (place : ℕ) → IsStuck (Ended (NextLines events len)) text place → place ≤ 701
+next_place events len bound text place stuck = stuck_short (Ended (NextLines events len)) 701 (ended_short (NextLines events len) (next_short events len bound)) text place stuck

@@ -1,0 +1,4 @@
+pub mod Histories
+pub mod Readings
+pub mod Results
+pub mod Verdicts

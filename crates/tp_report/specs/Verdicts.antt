@@ -1,0 +1,63 @@
+-- What is said of a history.
+use Rattle.std.specs.Prelude.{◌≡◌, ◌≢◌, ℕ, ◌+◌, List, [], ◌∷◌, ◌++◌, length, codes, decimal, Result, Ok, Err}
+use Rattle.tp_base.specs.declared.answers.Entry.{Entry}
+use Rattle.tp_base.specs.declared.answers.Outcome.{Outcome}
+use Rattle.tp_base.specs.declared.answers.Outcome.TheVariants.{Done, Look, Full}
+use Rattle.tp_base.specs.declared.limits.Limits.{Limits}
+use Rattle.tp_lines.specs.Answers.{text_of_answer, text_of_full, text_of_look}
+use Rattle.tp_model.specs.History.{IsLegal, after, room}
+use Rattle.tp_model.specs.Step.{outcome_of}
+use Rattle.tp_model.specs.Table.{step}
+use Rattle.tp_report.specs.Histories.{IsHistory}
+use Rattle.tp_report.specs.declared.headers.Header.{Header}
+use Rattle.tp_report.specs.declared.history.CheckFault.{CheckFault}
+use Rattle.tp_report.specs.declared.history.CheckFault.TheVariants.{NoMemory, At}
+use Rattle.tp_report.specs.declared.verdict.Verdict.{Verdict}
+use Rattle.tp_report.specs.declared.verdict.Verdict.TheVariants.{Legal, NotLegal}
+
+-- the machine whose history this is
+abbrev pub limits_of : Header → Limits
+limits_of header = record { clients = header.clients; workers = header.workers; pools = 64; groups = 255; objects = 4095; kernels = 1024; slots = 8192 }
+
+-- what the call of an entry comes to behind these entries
+abbrev pub outcome_behind : Limits → ℕ → List Entry → Entry → Outcome
+outcome_behind limits capacity before entry =
+    outcome_of (step (after limits before) (room capacity (after limits before) (length before)) entry.who entry.call)
+
+-- the entry at this position, counted from 1, is the first whose answer isn't the machine's, which has this outcome
+pub record IsWrongAt (limits : Limits) (capacity : ℕ) (history : List Entry) (position : ℕ) (outcome : Outcome) : Type 0 where
+  pub before : List Entry
+  pub entry : Entry
+  pub behind : List Entry
+  pub split : history ≡ before ++ entry ∷ behind
+  pub place : position ≡ length before + 1
+  pub legal : IsLegal limits capacity before
+  pub told : outcome ≡ outcome_behind limits capacity before entry
+  pub wrong : outcome ≢ Done entry.answer
+
+abbrev pub IsVerdict : Limits → ℕ → List Entry → Verdict → Type 0
+IsVerdict limits capacity history (Legal len) = IsLegal limits capacity history × (len ≡ length history)
+IsVerdict limits capacity history (NotLegal position outcome) = IsWrongAt limits capacity history position outcome × (IsLegal limits capacity history → ⊥)
+
+-- the bytes are a history, and this is its verdict
+pub record IsJudged (bytes : List ℕ) (verdict : Verdict) : Type 0 where
+  pub header : Header
+  pub entries : List Entry
+  pub is_history : IsHistory bytes header entries
+  pub is_verdict : IsVerdict (limits_of header) header.events entries verdict
+
+-- the answer is the verdict of this history, or memory was refused
+abbrev pub IsVerdictOrNoMemory : Result Verdict CheckFault → Header → List Entry → Type 0
+IsVerdictOrNoMemory (Ok verdict) header entries = IsVerdict (limits_of header) header.events entries verdict
+IsVerdictOrNoMemory (Err NoMemory) header entries = Unit {0}
+IsVerdictOrNoMemory (Err (At line column)) header entries = ⊥
+
+-- the text of an outcome, without its line feed
+abbrev pub text_of_outcome : Outcome → List ℕ
+text_of_outcome (Done answer) = text_of_answer answer
+text_of_outcome (Look look) = text_of_look look
+text_of_outcome (Full room cost) = text_of_full room cost
+
+abbrev pub verdict_text : Verdict → List ℕ
+verdict_text (Legal len) = codes "legal " ++ (decimal len ++ 10 ∷ [])
+verdict_text (NotLegal position outcome) = codes "not legal at " ++ (decimal position ++ (codes ": " ++ (text_of_outcome outcome ++ 10 ∷ [])))

@@ -1,0 +1,108 @@
+//! The lines of a history, each with its line feed.
+
+ghost use Rattle.std.specs.Prelude.{◌≡◌, ◌<◌, ◌≤◌, ◌+◌, ◌++◌, ◌∷◌, [], IfOk, string_bytes};
+ghost use Rattle.line_grammar.specs.Language.{IsRead};
+ghost use Rattle.tp_lines.specs.Answers.{EntryLines};
+ghost use Rattle.tp_report.specs.Histories.{end_line, HeaderLines};
+ghost use Rattle.tp_report.specs.Readings.{Ended, IsEndRead, IsNext};
+
+use line_grammar::words::{behind, read_word};
+use std::alloc::{AllocError, Global};
+use tp_base::answers::Entry;
+use tp_lines::entries::read_entry;
+
+use crate::headers::{Header, read_header};
+
+/// What a line behind the header is.
+#[derive(Clone, Copy)]
+pub enum Next {
+    /// One more entry, and the size of its line.
+    Another { entry: Entry, size: usize },
+    /// The end line.
+    End,
+    /// No such line. It goes along with one up to this place.
+    Fault { place: usize },
+}
+
+/// Reads the first line of a history.
+pub fn read_header_line(text: &[u8]) -> Result<(Header, usize), usize>
+    ensures { IsRead (Ended HeaderLines) text.now result }
+{
+    match read_header(text) {
+        Err(place) => Err(place),
+        Ok((header, size)) => {
+            let (_, rest) = text.split_at(size);
+            match behind(b'\n', rest) {
+                Some(_) => Ok((header, size + 1)),
+                None => Err(size),
+            }
+        }
+    }
+}
+
+// Reads the line of an entry.
+fn read_entry_line(text: &[u8]) -> Result<(Entry, usize), usize>
+    ensures { IsRead (Ended EntryLines) text.now result }
+{
+    match read_entry(text) {
+        Err(place) => Err(place),
+        Ok((entry, size)) => {
+            let (_, rest) = text.split_at(size);
+            match behind(b'\n', rest) {
+                Some(_) => Ok((entry, size + 1)),
+                None => Err(size),
+            }
+        }
+    }
+}
+
+// Where the text stops going along with the end line behind `len` entries, if it doesn't begin with it.
+fn read_end_line(alloc: Global, text: &[u8], len: u32) -> Result<Option<usize>, AllocError>
+    ensures { IfOk result (IsEndRead len text.now) }
+{
+    let line = end_text(alloc, len)?;
+    let none: Option<Entry> = None;
+    match read_word(none, line.as_str(), text) {
+        Ok(_) => Ok(None),
+        Err(place) => Ok(Some(place)),
+    }
+}
+
+// The end line behind `len` entries, and its line feed.
+fn end_text(alloc: Global, len: u32) -> Result<String, AllocError>
+    ensures { IfOk result (λ text. string_bytes text ≡ end_line len ++ 10 ∷ []) }
+{
+    format!(in alloc; "end {len}\n")
+}
+
+/// Reads the line behind the header of a history for `events` entries, and `len` of these.
+pub fn read_next_line(
+    alloc: Global,
+    text: &[u8],
+    events: u32,
+    len: u32,
+) -> Result<Next, AllocError>
+    requires { len ≤ events }
+    ensures { IfOk result (IsNext events len text.now) }
+{
+    if len == events {
+        return read_last_line(alloc, text, len);
+    }
+    match read_entry_line(text) {
+        Ok((entry, size)) => Ok(Next::Another { entry, size }),
+        Err(place) => match read_end_line(alloc, text, len)? {
+            None => Ok(Next::End),
+            Some(other) => Ok(Next::Fault { place: place.max(other) }),
+        },
+    }
+}
+
+// Reads the line behind as many entries as the history has room for.
+fn read_last_line(alloc: Global, text: &[u8], len: u32) -> Result<Next, AllocError>
+    ensures { IfOk result (IsNext len len text.now) }
+{
+    match read_end_line(alloc, text, len)? {
+        None => Ok(Next::End),
+        Some(place) => Ok(Next::Fault { place }),
+    }
+}

@@ -1,0 +1,87 @@
+use super::*;
+
+use std::alloc::Global;
+use std::test::Fail;
+
+// The text of the verdict on a history, or the place of its fault.
+fn verdict_on(alloc: Global, text: &str) -> Result<Vec<u8>, CheckFault> {
+    let verdict = check(alloc, text.as_bytes())?;
+    let mut out = Vec::new(alloc);
+    print_verdict(alloc, &verdict, &mut out)?;
+    Ok(out)
+}
+
+#[test]
+fn judges_histories(rt: HostRuntime) -> Result<(), Fail> {
+    let cases = [
+        (
+            "history 1 clients 1 workers 4 events 65536\n\
+             c1 create work r1 x7 p0 normal short g0 q0 -> made 1\n\
+             c1 submit 1 -> queued 1 1\n\
+             end 2\n",
+            "legal 2\n",
+        ),
+        (
+            "history 1 clients 1 workers 4 events 65536\n\
+             c1 create work r1 x7 p0 normal short g0 q0 -> made 1\n\
+             c1 submit 1 -> queued 2 1\n\
+             end 2\n",
+            "not legal at 2: queued 1 1\n",
+        ),
+        // What stands behind the end line is ignored.
+        ("history 1 clients 0 workers 1 events 16\nend 0\nand more", "legal 0\n"),
+        (
+            "history 1 clients 0 workers 1 events 16\nw1 take -> ok\nw1 attach -> ok\nend 2\n",
+            "not legal at 1: refused not-attached\n",
+        ),
+        (
+            "history 1 clients 0 workers 1 events 16\nw1 attach -> attached 0\nend 1\n",
+            "not legal at 1: look no-need\n",
+        ),
+        // The client's finish is owed, so only one place is free.
+        (
+            "history 1 clients 16 workers 1 events 16\nc1 finish -> ok\nc2 submit 1 -> refused no-such\nend 2\n",
+            "not legal at 2: full 0 1\n",
+        ),
+    ];
+    for (text, want) in cases {
+        match verdict_on(rt.alloc(), text) {
+            Ok(told) => assert_eq!(rt; told.as_slice(), want.as_bytes(), "at {text}"),
+            Err(fault) => assert!(rt; false, "{fault:?} at {text}"),
+        }
+    }
+    Ok(())
+}
+
+#[test]
+fn names_the_first_fault(rt: HostRuntime) -> Result<(), Fail> {
+    let cases = [
+        // The input ends within a line.
+        (
+            "history 1 clients 1 workers 4 events 65536\n\
+             c1 create work r1 x7 p0 normal short g0 q0 -> made 1\n\
+             c1 submit 1 -> que",
+            (3, 19),
+        ),
+        ("", (1, 1)),
+        ("history 2 clients 1", (1, 9)),
+        ("history 1 clients 17 workers 1 events 16\n", (1, 20)),
+        ("history 1 clients 1 workers 0 events 16\n", (1, 29)),
+        ("history 1 clients 1 workers 4 events 15\n", (1, 40)),
+        ("history 1 clients 1 workers 4 events 131073\n", (1, 43)),
+        ("history 1 clients 1 workers 4 events 16", (1, 40)),
+        // A fault further down comes before an entry with a wrong answer.
+        ("history 1 clients 1 workers 4 events 16\nc1 finish -> ended\nend 2\n", (3, 5)),
+        ("history 1 clients 1 workers 4 events 16\n", (2, 1)),
+        ("history 1 clients 1 workers 4 events 16\nend 01\n", (2, 6)),
+        ("history 1 clients 1 workers 4 events 16\nend 0", (2, 6)),
+        ("history 1 clients 1 workers 4 events 16\nc1 finish -> ok \n", (2, 16)),
+    ];
+    for (text, (line, column)) in cases {
+        match verdict_on(rt.alloc(), text) {
+            Ok(_) => assert!(rt; false, "a history: {text}"),
+            Err(fault) => assert_eq!(rt; fault, CheckFault::At { line, column }, "at {text}"),
+        }
+    }
+    Ok(())
+}
