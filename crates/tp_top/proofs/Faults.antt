@@ -1,7 +1,7 @@
 -- The first line of a text, and its fault.
-use Rattle.std.proofs.Common.{◌≡◌, ◌≢◌, ℕ, suc, ◌+◌, ◌-◌, ◌<◌, ◌≤◌, List, [], ◌∷◌, ◌++◌, length, take, drop, get_or, refl, sym, ap, ◌∙◌, subst, arith, ◌⊎◌, inl, inr, append_assoc, length-append, drop-cons, add-one}
+use Rattle.std.proofs.Common.{◌≡◌, ℕ, suc, ◌+◌, ◌<◌, ◌≤◌, List, [], ◌∷◌, ◌++◌, length, take, drop, get_or, refl, sym, ap, ◌∙◌, subst, arith, ◌⊎◌, inl, inr, append_assoc, drop-cons, add-one}
 use Rattle.std.proofs.lemmas.Bool.{cases_lt}
-use Rattle.std.proofs.lemmas.List.{append-nil, take-append-drop, length-take-le, take_all, drop_all}
+use Rattle.std.proofs.lemmas.List.{append-nil, take-append-drop, length-take-le, take_all}
 use Rattle.line_grammar.specs.Language.{Begins, Stops, IsFault}
 use Rattle.tp_base.specs.declared.calls.Call.{Call}
 use Rattle.tp_base.specs.declared.ids.Who.{Who}
@@ -52,13 +52,13 @@ first_line_is feedless text n made size f l = by_order (cases_lt n (length text)
 -- a good line, with a line feed behind it
 pub good_line : (text : List ℕ) (n : ℕ) (made : Who × Call) → IsFeedAt text n → n < length text → IsCallLine made.0 made.1 (take n text) → (n + 1 ≤ length text) × IsFirstLine text made (n + 1)
 good_line text n made f h line = (
-    omega (arith, h),
-    record {
-      has_line = record { who_in_range = line.who_in_range; call_in_range = line.call_in_range; readable = line.readable; split = refl };
-      split = at_feed text n f h ∙ ap (λ t. t ++ 10 ∷ drop (suc n) text) line.split ∙ ap (λ i. line_of made ++ 10 ∷ drop i text) (sym (add-one n));
-      size_is = omega (arith, ap length line.split, length-take-le n text f.within);
-    },
-  )
+  omega (arith, h),
+  record {
+    has_line = record { who_in_range = line.who_in_range; call_in_range = line.call_in_range; readable = line.readable; split = refl };
+    split = at_feed text n f h ∙ ap (λ t. t ++ 10 ∷ drop (suc n) text) line.split ∙ ap (λ i. line_of made ++ 10 ∷ drop i text) (sym (add-one n));
+    size_is = omega (arith, ap length line.split, length-take-le n text f.within);
+  },
+)
 
 begins_ended : (front : List ℕ) → Begins IsLine front → Begins (EndedLine IsLine) front
 begins_ended front (rest, l) = (rest ++ 10 ∷ [], record { line = front ++ rest; is_line = l; split = sym (append_assoc front rest (10 ∷ [])) })

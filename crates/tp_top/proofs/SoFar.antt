@@ -1,5 +1,5 @@
 -- How far a trace has been read.
-use Rattle.std.proofs.Common.{◌≡◌, ◌≢◌, ℕ, suc, ◌+◌, ◌-◌, ◌<◌, ◌≤◌, List, [], ◌∷◌, ◌++◌, length, take, drop, refl, sym, ap, ◌∙◌, subst, arith, Ok, Err, Result, append_assoc, length-append}
+use Rattle.std.proofs.Common.{◌≡◌, ℕ, ◌+◌, ◌<◌, ◌≤◌, List, [], ◌∷◌, ◌++◌, length, drop, refl, sym, ap, ◌∙◌, arith, append_assoc, length-append}
 use Rattle.std.specs.Prelude.{All, map}
 use Rattle.std.proofs.lemmas.List.{append-nil, nil_from_length, length-map}
 use Rattle.std.proofs.lemmas.List.Elements.{All-nil, All-push, All-head, All-tail, All-map, All-weaker}
@@ -54,9 +54,9 @@ read_next bytes calls rest made size r l one =
     let line = line_of made in record {
       have_lines = All-push HasLine calls made r.have_lines l.has_line;
       split = r.split ∙ ap (λ t. lines_of calls ++ t) l.split
-        ∙ ap (λ t. lines_of calls ++ t) (sym (append_assoc line (10 ∷ []) (drop size rest)))
-        ∙ sym (append_assoc (lines_of calls) (line ++ 10 ∷ []) (drop size rest))
-        ∙ ap (λ t. t ++ drop size rest) (sym (lines_of-append calls (made ∷ [])));
+          ∙ ap (λ t. lines_of calls ++ t) (sym (append_assoc line (10 ∷ []) (drop size rest)))
+          ∙ sym (append_assoc (lines_of calls) (line ++ 10 ∷ []) (drop size rest))
+          ∙ ap (λ t. t ++ drop size rest) (sym (lines_of-append calls (made ∷ [])));
       only = λ all trace. (let behind = r.only all trace in next_only all behind.0 behind.1 behind.2);
     }
   where
@@ -77,17 +77,17 @@ read_fault bytes calls rest line column r more fault e =
     let texts = map line_of calls in
     let each = All-map IsLine line_of calls (All-weaker HasLine (λ made. IsLine (line_of made)) line_is calls r.have_lines) in
     let count = length-map calls line_of in record {
-    lines = texts;
-    front = fault.front;
-    back = fault.back;
-    each = each;
-    split = r.split ∙ ap (λ t. lines_of calls ++ t) fault.split;
-    left = λ none. omega (arith, more, ap length fault.split, ap length none);
-    open_line = fault.open_line;
-    reaches = fault.reaches;
-    line_of = omega (arith, e, count);
-    column_of = fault.column_is;
-  }
+      lines = texts;
+      front = fault.front;
+      back = fault.back;
+      each = each;
+      split = r.split ∙ ap (λ t. lines_of calls ++ t) fault.split;
+      left = λ none. omega (arith, more, ap length fault.split, ap length none);
+      open_line = fault.open_line;
+      reaches = fault.reaches;
+      line_of = omega (arith, e, count);
+      column_of = fault.column_is;
+    }
 
 -- where the first line of what is left is none, the bytes are no trace
 pub read_no : (bytes : List ℕ) (calls : List (Who × Call)) (rest : List ℕ) → IsReadTo bytes calls rest → 0 < length rest

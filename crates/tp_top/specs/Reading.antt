@@ -6,7 +6,7 @@ use Rattle.line_grammar.specs.Traces.{EndedLine, IsTraceFault}
 use Rattle.tp_base.specs.declared.calls.Call.{Call}
 use Rattle.tp_base.specs.declared.ids.Who.{Who}
 use Rattle.tp_lines.specs.Faults.{IsLine}
-use Rattle.tp_top.specs.Trace.{line_of, HasLine, IsTraceOf}
+use Rattle.tp_top.specs.Trace.{line_of, HasLine}
 use Rattle.tp_top.specs.declared.reading.TraceFault.{TraceFault}
 use Rattle.tp_top.specs.declared.reading.TraceFault.TheVariants.{NoMemory, At}
 

@@ -28,8 +28,8 @@ use status::Status;
 use std::io::{Error, ErrorKind};
 use std::process::ExitCode;
 use std::{env, io};
-use tp_edge::{ReadEdge, WriteEdge};
 use top::tp_main;
+use tp_edge::{ReadEdge, WriteEdge};
 use words::WordList;
 
 fn main(rt: HostRuntime) -> ExitCode {

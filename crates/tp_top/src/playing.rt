@@ -85,7 +85,9 @@ fn trace_limits(calls: &[(Who, Call)]) -> Limits
 fn greatest_client(calls: &[(Who, Call)]) -> u32
     ensures { result ≡ clients_in calls.now }
 {
-    calls.iter().fold(0, |greatest, made| greatest.max(client_number(made.0)))
+    calls
+        .iter()
+        .fold(0, |greatest, made| greatest.max(client_number(made.0)))
 }
 
 // The number of a client, or 0 for a worker.

@@ -21,7 +21,10 @@ struct Stream {
     failing: u32,
 }
 
-const WHOLE: Stream = Stream { piece: 65_536, failing: 0 };
+const WHOLE: Stream = Stream {
+    piece: 65_536,
+    failing: 0,
+};
 
 /// What the words come to over these streams, and what the sink then holds.
 fn run(
@@ -52,10 +55,18 @@ fn plays_what_the_lines_say(rt: HostRuntime) -> Result<(), Fail> {
     for (input, output) in [
         ("", ""),
         (PLAIN_PATH, PLAIN_ANSWERS),
-        ("w1 take\nw1 return\nw5 attach\n", "refused not-attached\nrefused not-running\nrefused no-such\n"),
-        ("c1 submit 1\nc1 finish\nc1 finish\nw1 attach\n", "refused no-such\nok\nrefused released\nlook no-need\n"),
-        ("c3 create work r1 x0 p0 low long g0 q0\nc2 submit 1\nw4 attach\nw4 attach\nw4 take\nw4 take\n",
-            "made 1\nqueued 1 1\nattached 0\nrefused already-attached\ntaken 1 o1 r1 x0 plain\nrefused still-running\n"),
+        (
+            "w1 take\nw1 return\nw5 attach\n",
+            "refused not-attached\nrefused not-running\nrefused no-such\n",
+        ),
+        (
+            "c1 submit 1\nc1 finish\nc1 finish\nw1 attach\n",
+            "refused no-such\nok\nrefused released\nlook no-need\n",
+        ),
+        (
+            "c3 create work r1 x0 p0 low long g0 q0\nc2 submit 1\nw4 attach\nw4 attach\nw4 take\nw4 take\n",
+            "made 1\nqueued 1 1\nattached 0\nrefused already-attached\ntaken 1 o1 r1 x0 plain\nrefused still-running\n",
+        ),
     ] {
         let (status, text) = run(&rt, "trace", input.as_bytes(), WHOLE, WHOLE)?;
         assert_eq!(rt; status, Status::Fine, "at {input:?}");
@@ -87,7 +98,16 @@ fn finds_the_first_fault(rt: HostRuntime) -> Result<(), Fail> {
 
 #[test]
 fn knows_its_words(rt: HostRuntime) -> Result<(), Fail> {
-    for words in ["", "trac", "traced", "trace extra", "trace --workers 0", "tra ce", "gen", "gen 07"] {
+    for words in [
+        "",
+        "trac",
+        "traced",
+        "trace extra",
+        "trace --workers 0",
+        "tra ce",
+        "gen",
+        "gen 07",
+    ] {
         let (status, text) = run(&rt, words, PLAIN_PATH.as_bytes(), WHOLE, WHOLE)?;
         assert_eq!(rt; status, Status::Words, "at {words:?}");
         assert_eq!(rt; text.len(), 0, "at {words:?}");
@@ -107,11 +127,21 @@ fn ends_at_the_fault_of_a_stream(rt: HostRuntime) -> Result<(), Fail> {
         (0, 1, Status::WriteFault, ""),
         (0, 3, Status::WriteFault, "made 1\nq"),
     ] {
-        let from = Stream { piece: 16, failing: failing_take };
-        let to = Stream { piece: 4, failing: failing_give };
+        let from = Stream {
+            piece: 16,
+            failing: failing_take,
+        };
+        let to = Stream {
+            piece: 4,
+            failing: failing_give,
+        };
         let (ended, text) = run(&rt, "trace", PLAIN_PATH.as_bytes(), from, to)?;
         assert_eq!(rt; ended, status, "at {failing_take} and {failing_give}");
-        assert_eq!(rt; text.as_slice(), held.as_bytes(), "at {failing_take} and {failing_give}");
+        assert_eq!(rt;
+            text.as_slice(),
+            held.as_bytes(),
+            "at {failing_take} and {failing_give}"
+        );
     }
     Ok(())
 }

@@ -100,11 +100,7 @@ fn run<S: Source, K: Sink>(alloc: Global, command: Command, source: &mut S, sink
 }
 
 // Reads the command's input to its end, and answers its output.
-fn read_output<S: Source>(
-    alloc: Global,
-    command: Command,
-    source: &mut S,
-) -> Result<Output, Status>
+fn read_output<S: Source>(alloc: Global, command: Command, source: &mut S) -> Result<Output, Status>
     ensures taken { IsTakenTo command (S.left source.old) (S.left source.new) result }
     ensures read_fault { result ≡ Err Status.ReadFault → Rose (S.failures source.old) (S.failures source.new) }
     ensures never_falls { S.failures source.old ≤ S.failures source.new }

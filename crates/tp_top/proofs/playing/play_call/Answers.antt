@@ -1,4 +1,4 @@
-use Rattle.std.proofs.Common.{◌≡◌, ◌-◌, ◌∙◌, ap}
+use Rattle.std.proofs.Common.{◌-◌, ◌∙◌, ap}
 use Rattle.tp_top.proofs.Played.{made_done}
 use Rattle.tp_top.proofs.playing.play_call.Goals as goal
 

@@ -1,4 +1,3 @@
-use Rattle.std.proofs.Common.{◌≡◌}
 use Rattle.tp_top.proofs.Played.{next_is, played_next}
 use Rattle.tp_top.proofs.playing.play_trace.Goals as goal
 

@@ -1,6 +1,5 @@
-use Rattle.std.proofs.Common.{◌≡◌, ℕ, ◌≤◌, arith}
+use Rattle.std.proofs.Common.{◌≤◌, arith}
 use Rattle.tp_top.proofs.Played.{clients_most}
-use Rattle.tp_top.specs.Playing.{clients_in}
 use Rattle.tp_top.proofs.playing.trace_limits.Goals as goal
 
 pub returns-clause-in_range : goal.returns-clause-in_range

@@ -1,9 +1,9 @@
-use Rattle.std.proofs.Common.{◌≡◌, ℕ, ◌+◌, ◌<◌, ◌≤◌, List, length, take, drop, Result, Ok, Err, sym, ap, ◌∙◌, subst, arith, ◌∷◌, [], ◌++◌, rules}
+use Rattle.std.proofs.Common.{◌≡◌, ℕ, ◌+◌, ◌<◌, List, length, Result, Ok, sym, ap, ◌∙◌, arith}
 use Rattle.std.proofs.lemmas.Bool.{eqb-true, eqb-false}
 use Rattle.tp_base.specs.declared.calls.Call.{Call}
 use Rattle.tp_base.specs.declared.ids.Who.{Who}
 use Rattle.tp_top.specs.Reading.{IsFirstLine}
-use Rattle.tp_top.proofs.SoFar.{IsReadTo, read_next, read_fault, read_no, read_only, read_count}
+use Rattle.tp_top.proofs.SoFar.{read_next, read_fault, read_no, read_only, read_count}
 use Rattle.tp_top.proofs.reading.read_trace.Goals as goal
 
 pub overflow_cast-line : goal.overflow_cast-line

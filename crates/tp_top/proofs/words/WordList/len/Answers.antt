@@ -1,4 +1,4 @@
-use Rattle.std.proofs.Common.{◌≡◌, ap, arith, length}
+use Rattle.std.proofs.Common.{ap, arith, length}
 use Rattle.tp_top.proofs.Cuts.{length-words_from}
 use Rattle.tp_top.proofs.words.WordList.len.Goals as goal
 

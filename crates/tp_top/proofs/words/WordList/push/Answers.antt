@@ -1,4 +1,4 @@
-use Rattle.std.proofs.Common.{◌≡◌, ◌+◌, ◌∙◌, sym, ap, arith, length, length-append}
+use Rattle.std.proofs.Common.{◌≡◌, ◌+◌, arith, length}
 use Rattle.tp_top.proofs.Cuts.{words_from-append, AreEnds-append}
 use Rattle.tp_top.proofs.words.WordList.push.Goals as goal
 
