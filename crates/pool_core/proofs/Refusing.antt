@@ -16,7 +16,7 @@ use Rattle.tp_model.proofs.Refusals.{none_holds, neither, not_false}
 use Rattle.tp_model.specs.World.{World}
 use Rattle.tp_model.specs.Counts.{numbered, callback_of, next}
 use Rattle.tp_model.specs.Conditions.{worker_of, is_actor, is_finished, is_without_callback, is_in_wait, is_pool, is_closed_pool, is_no_group_or_group, is_closed_group, is_object, is_work_object, is_released, lacks_slots_for, is_worker, runs_callback, is_attached}
-use Rattle.tp_model.specs.Step.{Step, Accepted, Looked, first_refusal, unless_refused}
+use Rattle.tp_model.specs.Step.{Accepted, Looked, first_refusal, unless_refused}
 use Rattle.tp_model.proofs.Steps.{unless_none}
 use Rattle.tp_base.specs.declared.answers.Answer.TheVariants as answer
 use Rattle.tp_base.specs.declared.answers.Look.TheVariants as look

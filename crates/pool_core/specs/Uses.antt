@@ -1,5 +1,5 @@
 -- What of a pool is outstanding.
-use Rattle.std.specs.Prelude.{ℕ, Bool, false, ◌||◌, ◌==◌, nat_lt, Option, Some, None}
+use Rattle.std.specs.Prelude.{ℕ, Bool, false, ◌||◌, ◌==◌, nat_lt, Option}
 use Rattle.std.specs.Option.{option_map_or}
 use Rattle.handle_table.specs.declared.Found.{Found}
 use Rattle.handle_table.specs.declared.Found.TheVariants.{Absent, Live, Released}

@@ -41,11 +41,19 @@ pub enum Call {
     /// Makes a pool: `CreateThreadpool`.
     CreatePool,
     /// Closes a pool: `CloseThreadpool`.
-    ClosePool { pool: PoolId },
+    ClosePool {
+        pool: PoolId,
+    },
     /// Sets how many callbacks of a pool may run at once: `SetThreadpoolThreadMaximum`.
-    SetMaximum { pool: PoolId, value: u32 },
+    SetMaximum {
+        pool: PoolId,
+        value: u32,
+    },
     /// Sets how many workers a pool keeps: `SetThreadpoolThreadMinimum`.
-    SetMinimum { pool: PoolId, value: u32 },
+    SetMinimum {
+        pool: PoolId,
+        value: u32,
+    },
     /// Makes an object: `CreateThreadpoolWork` and its like for the other kinds.
     Create {
         kind: Kind,

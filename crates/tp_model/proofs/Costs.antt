@@ -1,17 +1,13 @@
 -- What accepted calls cost.
-use Rattle.std.proofs.Common.{◌≡◌, ℕ, ◌+◌, ◌-◌, ◌<◌, ◌≤◌, Bool, true, false, cond, not, List, [], ◌∷◌, ◌++◌, length, slice_get, slice_set, Option, Some, None, is_some, refl, sym, ap, ◌∙◌, subst, arith, filter, find, sum_by, length-append}
+use Rattle.std.proofs.Common.{◌≡◌, ℕ, ◌+◌, ◌-◌, Bool, true, false, cond, not, [], ◌∷◌, ◌++◌, length, Option, Some, None, is_some, ap, ◌∙◌, arith, filter, find, sum_by, length-append}
 use Rattle.std.proofs.lemmas.List.Elements.{filter-append}
 use Rattle.tp_base.specs.declared.ids.PoolId.{PoolId}
-use Rattle.tp_base.specs.declared.rows.Status.{Status}
-use Rattle.tp_base.specs.declared.rows.Status.TheVariants.{Pending, Running}
-use Rattle.tp_base.specs.declared.rows.ObjectRow.{ObjectRow}
 use Rattle.tp_base.specs.declared.rows.CallbackRow.{CallbackRow}
 use Rattle.tp_base.specs.declared.rows.WorkerRow.{WorkerRow}
 use Rattle.tp_base.specs.declared.rows.ClientRow.{ClientRow}
 use Rattle.tp_model.specs.World.{World}
 use Rattle.tp_model.specs.Counts.{numbered, has_number, is_pending, is_running, owed}
-use Rattle.tp_model.specs.Step.{cost}
-use Rattle.tp_model.specs.Rows.{with_object, with_new_callback, with_callback, with_worker, with_client, replaced, started, returned}
+use Rattle.tp_model.specs.Rows.{with_new_callback, with_callback, with_worker, with_client, started, returned}
 use Rattle.tp_model.specs.Sound.{IsSound}
 use Rattle.tp_model.proofs.Lists.{length_filter_set}
 use Rattle.tp_model.proofs.Callbacks.{length_filter_replaced, pending_not_running}
@@ -32,8 +28,8 @@ goes_on r = not r.finished
 pub owed_new_callback : (w : World) (c : CallbackRow) → is_running c.status ≡ false → owed (with_new_callback w c) ≡ owed w
 owed_new_callback w c still =
     let same : length (filter runs (w.callbacks ++ c ∷ [])) ≡ length (filter runs w.callbacks) =
-      ap length (filter-append runs w.callbacks (c ∷ [])) ∙ length-append (filter runs w.callbacks) (filter runs (c ∷ []))
-      ∙ ap (λ b. length (filter runs w.callbacks) + length (cond b (c ∷ []) [])) still ∙ omega arith in
+    ap length (filter-append runs w.callbacks (c ∷ [])) ∙ length-append (filter runs w.callbacks) (filter runs (c ∷ []))
+    ∙ ap (λ b. length (filter runs w.callbacks) + length (cond b (c ∷ []) [])) still ∙ omega arith in
     ap (λ n. n + length w.waits + sum_by (λ b. length b.notices) w.waits + length (filter has_pool w.workers) + length (filter goes_on w.clients) + w.given_up) same
 
 -- a worker's row in place of another
@@ -67,7 +63,7 @@ pub owed_started : (fresh : ℕ) (w : World) (number : ℕ) (row : WorkerRow) (p
 owed_started fresh w number row pool c s is at found waits =
     let new : WorkerRow = record { pool = Some pool; callback = Some c.number } in
     let moved : owed (with_worker (with_callback w (started c number)) number new) + one_if (has_pool row) ≡ owed (with_callback w (started c number)) + one_if (has_pool new)
-          = owed_worker (with_callback w (started c number)) number row new is in
+    = owed_worker (with_callback w (started c number)) number row new is in
     let begun : owed (with_callback w (started c number)) + one_if (runs c) ≡ owed w + one_if (runs (started c number)) = owed_callback fresh w c (started c number) s found in
     let stays : one_if (has_pool row) ≡ 1 = ap (λ (p : Option PoolId). one_if (is_some p)) at in
     let still : one_if (runs c) ≡ 0 = ap (λ b. one_if b) (pending_not_running c.status waits) in
@@ -79,7 +75,7 @@ pub owed_returned : (fresh : ℕ) (w : World) (number : ℕ) (row : WorkerRow) (
 owed_returned fresh w number row c s is found ran =
     let new : WorkerRow = record row { callback = None } in
     let moved : owed (with_worker (with_callback w (returned c)) number new) + one_if (has_pool row) ≡ owed (with_callback w (returned c)) + one_if (has_pool new)
-          = owed_worker (with_callback w (returned c)) number row new is in
+    = owed_worker (with_callback w (returned c)) number row new is in
     let ended : owed (with_callback w (returned c)) + one_if (runs c) ≡ owed w + one_if (runs (returned c)) = owed_callback fresh w c (returned c) s found in
     let before : one_if (runs c) ≡ 1 = ap (λ b. one_if b) ran in
     omega (arith, moved, ended, before)

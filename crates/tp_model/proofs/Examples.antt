@@ -1,23 +1,17 @@
 -- The definitions give the answers of small examples, by computation alone.
-use Rattle.std.proofs.Common.{◌≡◌, ℕ, List, [], ◌∷◌, refl, map, false}
-use Rattle.tp_base.specs.declared.ids.Who.{Who}
+use Rattle.std.proofs.Common.{◌≡◌, [], ◌∷◌, refl, false}
 use Rattle.tp_base.specs.declared.ids.Who.TheVariants.{Client, Worker}
-use Rattle.tp_base.specs.declared.ids.RoutineId.{RoutineId}
-use Rattle.tp_base.specs.declared.ids.ObjectId.{ObjectId}
 use Rattle.tp_base.specs.declared.calls.Environ.{Environ}
 use Rattle.tp_base.specs.declared.calls.Priority.{Priority}
 use Rattle.tp_base.specs.declared.calls.Priority.TheVariants.{High, Normal, Low}
 use Rattle.tp_base.specs.declared.calls.Kind.TheVariants.{Work}
-use Rattle.tp_base.specs.declared.calls.Call.{Call}
 use Rattle.tp_base.specs.declared.calls.Call.TheVariants.{Create, SubmitWork, Attach, Take, Return, Finish}
-use Rattle.tp_base.specs.declared.answers.Outcome.{Outcome}
 use Rattle.tp_base.specs.declared.answers.Outcome.TheVariants as outcome
-use Rattle.tp_base.specs.declared.answers.Answer.{Answer}
 use Rattle.tp_base.specs.declared.answers.Answer.TheVariants as answer
 use Rattle.tp_base.specs.declared.answers.Look.TheVariants as look
 use Rattle.tp_base.specs.declared.answers.TakeResult.TheVariants.{Plain}
 use Rattle.tp_base.specs.declared.answers.SlotWord.TheVariants.{Unasked}
-use Rattle.tp_base.specs.declared.answers.Refusal.TheVariants.{NotAttached, NoSuch, NotRunning, StillRunning, AlreadyAttached, WrongKind, Released}
+use Rattle.tp_base.specs.declared.answers.Refusal.TheVariants.{NotAttached, NoSuch, NotRunning, WrongKind, Released}
 use Rattle.tp_base.specs.declared.limits.Limits.{Limits}
 use Rattle.tp_model.specs.Rows.{create_row, submit_work_row, attach_row, take_row, return_row, finish_row}
 use Rattle.tp_model.specs.History.{play}
@@ -30,7 +24,7 @@ environ priority = record { pool = record { 0 = 0 }; group = record { 0 = 0 }; c
 
 plain_path : play limits 65536
     ((Client 1, Create Work (record { 0 = 1 }) 7 (environ Normal)) ∷ (Client 1, SubmitWork (record { 0 = 1 })) ∷ (Worker 1, Attach) ∷ (Worker 1, Take) ∷ (Worker 1, Return) ∷ [])
-  ≡ outcome.Done (answer.Made 1) ∷ outcome.Done (answer.Queued 1 1) ∷ outcome.Done (answer.Attached (record { 0 = 0 }))
+    ≡ outcome.Done (answer.Made 1) ∷ outcome.Done (answer.Queued 1 1) ∷ outcome.Done (answer.Attached (record { 0 = 0 }))
     ∷ outcome.Done (answer.Taken 1 (record { 0 = 1 }) (record { 0 = 1 }) 7 Plain) ∷ outcome.Done (answer.Returned Unasked Unasked Unasked Unasked 0 0) ∷ []
 unfolding limits environ create_row submit_work_row attach_row take_row return_row
 plain_path = refl
@@ -40,7 +34,7 @@ priorities : play limits 65536
     ((Client 1, Create Work (record { 0 = 1 }) 0 (environ Low)) ∷ (Client 1, Create Work (record { 0 = 2 }) 0 (environ Normal)) ∷ (Client 1, Create Work (record { 0 = 3 }) 0 (environ High))
     ∷ (Client 1, SubmitWork (record { 0 = 1 })) ∷ (Client 1, SubmitWork (record { 0 = 2 })) ∷ (Client 1, SubmitWork (record { 0 = 3 }))
     ∷ (Worker 1, Attach) ∷ (Worker 1, Take) ∷ (Worker 1, Return) ∷ (Worker 1, Take) ∷ [])
-  ≡ outcome.Done (answer.Made 1) ∷ outcome.Done (answer.Made 2) ∷ outcome.Done (answer.Made 3)
+    ≡ outcome.Done (answer.Made 1) ∷ outcome.Done (answer.Made 2) ∷ outcome.Done (answer.Made 3)
     ∷ outcome.Done (answer.Queued 1 1) ∷ outcome.Done (answer.Queued 2 1) ∷ outcome.Done (answer.Queued 3 1)
     ∷ outcome.Done (answer.Attached (record { 0 = 0 }))
     ∷ outcome.Done (answer.Taken 3 (record { 0 = 3 }) (record { 0 = 3 }) 0 Plain) ∷ outcome.Done (answer.Returned Unasked Unasked Unasked Unasked 0 0)
@@ -51,7 +45,7 @@ priorities = refl
 -- what a call comes to where it can't be done
 refusals : play limits 8
     ((Worker 1, Take) ∷ (Worker 1, Return) ∷ (Worker 5, Attach) ∷ (Worker 1, Attach) ∷ (Client 1, SubmitWork (record { 0 = 1 })) ∷ (Worker 1, Finish) ∷ (Client 1, Finish) ∷ (Client 1, Finish) ∷ (Worker 1, Take) ∷ (Worker 1, Take) ∷ [])
-  ≡ outcome.Done (answer.Refused NotAttached) ∷ outcome.Done (answer.Refused NotRunning) ∷ outcome.Done (answer.Refused NoSuch) ∷ outcome.Look look.NoNeed
+    ≡ outcome.Done (answer.Refused NotAttached) ∷ outcome.Done (answer.Refused NotRunning) ∷ outcome.Done (answer.Refused NoSuch) ∷ outcome.Look look.NoNeed
     ∷ outcome.Done (answer.Refused NoSuch) ∷ outcome.Done (answer.Refused WrongKind) ∷ outcome.Done answer.Done ∷ outcome.Done (answer.Refused Released)
     ∷ outcome.Done (answer.Refused NotAttached) ∷ outcome.Full 0 1 ∷ []
 unfolding limits environ create_row submit_work_row attach_row take_row return_row finish_row

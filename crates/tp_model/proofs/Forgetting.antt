@@ -1,6 +1,6 @@
 -- A world without the callbacks that are over answers every call as the whole one does.
-use Rattle.std.proofs.Common.{◌≡◌, ℕ, suc, zero, ◌+◌, ◌-◌, ◌<◌, ◌≤◌, Bool, true, false, cond, not, ◌&&◌, ◌||◌, ◌==◌, List, [], ◌∷◌, ◌++◌, length, map, slice_get, slice_set, Option, Some, None, is_some, IfSome, nat_lt, nat_le, refl, sym, ap, ap₂, ◌∙◌, subst, arith, filter, find, eqb-true, length-append}
-use Rattle.std.specs.List.{AllByRecursion, range_with_len, list_any}
+use Rattle.std.proofs.Common.{◌≡◌, ℕ, ◌+◌, ◌-◌, ◌<◌, ◌≤◌, Bool, true, false, cond, not, ◌&&◌, ◌||◌, ◌==◌, List, [], ◌∷◌, ◌++◌, length, slice_get, Option, Some, None, is_some, IfSome, nat_lt, nat_le, refl, sym, ap, ap₂, ◌∙◌, subst, arith, filter, find, eqb-true, length-append}
+use Rattle.std.specs.List.{range_with_len, list_any}
 use Rattle.std.specs.Option.{option_or}
 use Rattle.std.proofs.lemmas.List.Elements.{filter-append}
 use Rattle.tp_base.specs.declared.ids.Who.{Who}
@@ -14,29 +14,25 @@ use Rattle.tp_base.specs.declared.calls.Call.TheVariants.{CreatePool, ClosePool,
 use Rattle.tp_base.specs.declared.calls.Priority.{Priority}
 use Rattle.tp_base.specs.declared.answers.Refusal.{Refusal}
 use Rattle.tp_base.specs.declared.answers.Answer.{Answer}
-use Rattle.tp_base.specs.declared.answers.Look.{Look}
 use Rattle.tp_base.specs.declared.answers.Outcome.{Outcome}
 use Rattle.tp_base.specs.declared.answers.Outcome.TheVariants as outcome
 use Rattle.tp_base.specs.declared.answers.Answer.TheVariants as answer
 use Rattle.tp_base.specs.declared.answers.Look.TheVariants as look
 use Rattle.tp_base.specs.declared.answers.TakeResult.TheVariants.{Plain}
-use Rattle.tp_base.specs.declared.rows.Status.{Status}
-use Rattle.tp_base.specs.declared.rows.Status.TheVariants.{Running}
 use Rattle.tp_base.specs.declared.rows.PoolRow.{PoolRow}
 use Rattle.tp_base.specs.declared.rows.ObjectRow.{ObjectRow}
 use Rattle.tp_base.specs.declared.rows.CallbackRow.{CallbackRow}
 use Rattle.tp_base.specs.declared.rows.WorkerRow.{WorkerRow}
 use Rattle.tp_model.specs.World.{World}
-use Rattle.tp_model.specs.Counts.{numbered, callback_of, has_number, is_live, is_pending, is_running, is_pending_in, is_running_in, is_running_long_in, is_high, is_normal, is_low, waiting, queue, next, pending, running, running_long, maximum, minimum, attached, slots, owed, least_pool, is_in_need, is_below_minimum}
-use Rattle.tp_model.specs.Conditions.{worker_of, is_actor}
+use Rattle.tp_model.specs.Counts.{numbered, callback_of, has_number, is_live, is_pending, is_running, is_pending_in, is_running_in, is_running_long_in, is_high, is_normal, is_low, waiting, queue, next, pending, running, running_long, maximum, minimum, attached, slots, owed, is_in_need, is_below_minimum}
+use Rattle.tp_model.specs.Conditions.{worker_of}
 use Rattle.tp_model.specs.Step.{Step, Accepted, Refused, Looked, Full, first_refusal, unless_refused, unless_full, within, cost, outcome_of, world_after, is_accepted}
-use Rattle.tp_model.specs.Rows.{with_new_pool, with_pool, create_pool_row, create_pool_refusals, create_pool_effect, pool_refusals, is_used, change_pool, closed, close_pool_row, with_maximum, set_maximum_row, with_minimum, set_minimum_row, another_in_need, may_leave, leave, detach_refusals, detach_of, detach_effect, detach_row, marked_long, mark_long, may_run_long_refusals, may_run_long_of, may_run_long_effect, may_run_long_row, with_object, with_new_callback, with_callback, with_worker, with_client, replaced, started, returned, new_object, new_callback, create_row, create_refusals, create_effect, submit_work_row, submit_work_refusals, submit_work_effect, attach_row, attach_refusals, attach_effect, pool_to_join, take_row, take_refusals, take_effect, take_in, take_next, start, return_row, return_refusals, return_effect, return_of, finish_callback, finish_row, finish_refusals, finish_effect}
+use Rattle.tp_model.specs.Rows.{with_new_pool, with_pool, create_pool_row, create_pool_refusals, create_pool_effect, pool_refusals, is_used, change_pool, closed, close_pool_row, with_maximum, set_maximum_row, with_minimum, set_minimum_row, another_in_need, may_leave, leave, detach_refusals, detach_of, detach_effect, detach_row, marked_long, mark_long, may_run_long_refusals, may_run_long_of, may_run_long_effect, may_run_long_row, with_object, with_worker, with_client, replaced, started, returned, new_object, new_callback, create_row, create_refusals, create_effect, submit_work_row, submit_work_refusals, submit_work_effect, attach_row, attach_refusals, attach_effect, pool_to_join, take_row, take_refusals, take_effect, take_in, take_next, start, return_row, return_refusals, return_effect, return_of, finish_callback, finish_row, finish_refusals, finish_effect}
 use Rattle.tp_model.specs.Table.{row_at, step}
-use Rattle.tp_model.specs.Sound.{IsSound, RunsOn, IsWorkerSound, AreWorkersSound}
+use Rattle.tp_model.specs.Sound.{IsSound, IsWorkerSound, AreWorkersSound}
 use Rattle.tp_model.specs.Remembered.{Remembered, lives, forget, made_by, step_of, remembered_after, StandsFor, Meets, Goes}
 use Rattle.tp_model.proofs.Lists.{any_filter, filter_filter, find_kept, find_passes, find_agree, all_filter}
 use Rattle.tp_model.proofs.Callbacks.{over_not_pending, over_not_running, pending_lives, rising_filter, length_replaced, filter_replaced_out, filter_replaced_filter, found_all}
-use Rattle.tp_model.proofs.Refusals.{numbered_some}
 use Rattle.tp_model.proofs.Soundness.{row_sound, next_pending, runs_on}
 
 -- ---- counts
@@ -75,7 +71,7 @@ slots_forget w = ap (λ cs. length cs + length w.armings) (live_again w.callback
 pub owed_forget : (w : World) → owed (forget w) ≡ owed w
 owed_forget w =
     let same : filter (λ (c : CallbackRow). is_running c.status) (filter lives w.callbacks) ≡ filter (λ (c : CallbackRow). is_running c.status) w.callbacks
-          = filter_filter (λ (c : CallbackRow). is_running c.status) lives (λ c e. over_not_running c.status e) w.callbacks in
+    = filter_filter (λ (c : CallbackRow). is_running c.status) lives (λ c e. over_not_running c.status e) w.callbacks in
     rw same
 
 in_need_forget : (w : World) (pool : ℕ) → is_in_need (forget w) pool ≡ is_in_need w pool
@@ -87,8 +83,8 @@ below_minimum_forget w pool = rw (filter_filter (is_running_long_in pool) lives 
 to_join_forget : (w : World) → pool_to_join (forget w) ≡ pool_to_join w
 to_join_forget w =
     ap₂ option_or
-      (find_agree (is_in_need (forget w)) (is_in_need w) (in_need_forget w) (range_with_len 0 (length w.pools)))
-      (find_agree (is_below_minimum (forget w)) (is_below_minimum w) (below_minimum_forget w) (range_with_len 0 (length w.pools)))
+    (find_agree (is_in_need (forget w)) (is_in_need w) (in_need_forget w) (range_with_len 0 (length w.pools)))
+    (find_agree (is_below_minimum (forget w)) (is_below_minimum w) (below_minimum_forget w) (range_with_len 0 (length w.pools)))
 
 -- ---- what a forgotten world keeps
 
@@ -135,12 +131,12 @@ create_pool_alike : (w : World) (who : Who) → AreAlike (forget w) w (create_po
 unfolding create_pool_row
 create_pool_alike w who =
     alike_unless (forget w) w (first_refusal (create_pool_refusals w who)) (first_refusal (create_pool_refusals w who)) (create_pool_effect (forget w)) (create_pool_effect w) refl
-      (refl, as_live (with_new_pool w) (filter lives w.callbacks) w.callbacks (live_again w.callbacks), omega arith, omega arith)
+    (refl, as_live (with_new_pool w) (filter lives w.callbacks) w.callbacks (live_again w.callbacks), omega arith, omega arith)
 
 used_forget : (w : World) (pool : ℕ) → is_used (forget w) pool ≡ is_used w pool
 used_forget w pool =
     ap (λ b. list_any (λ (o : ObjectRow). not o.released && (o.env.pool.0 == pool)) w.objects || b)
-      (any_filter (λ (c : CallbackRow). is_live c.status && (c.pool.0 == pool)) lives (λ c e. ap (λ b. b && (c.pool.0 == pool)) e) w.callbacks)
+    (any_filter (λ (c : CallbackRow). is_live c.status && (c.pool.0 == pool)) lives (λ c e. ap (λ b. b && (c.pool.0 == pool)) e) w.callbacks)
 
 change_alike : (w : World) (pool : ℕ) (change : PoolRow → PoolRow) (told also : Answer) (row : Option PoolRow) → told ≡ also → AreAlike (forget w) w (change_pool (forget w) pool change told row) (change_pool w pool change also row)
 change_alike w pool change told also None same = refl
@@ -151,25 +147,25 @@ close_pool_alike : (w : World) (who : Who) (pool : ℕ) → AreAlike (forget w) 
 unfolding close_pool_row
 close_pool_alike w who pool =
     alike_unless (forget w) w (first_refusal (pool_refusals w who pool)) (first_refusal (pool_refusals w who pool)) (change_pool (forget w) pool closed (answer.Closed (is_used (forget w) pool)) (slice_get w.pools pool)) (change_pool w pool closed (answer.Closed (is_used w pool)) (slice_get w.pools pool)) refl
-      (change_alike w pool closed (answer.Closed (is_used (forget w) pool)) (answer.Closed (is_used w pool)) (slice_get w.pools pool) (ap (λ b. answer.Closed b) (used_forget w pool)))
+    (change_alike w pool closed (answer.Closed (is_used (forget w) pool)) (answer.Closed (is_used w pool)) (slice_get w.pools pool) (ap (λ b. answer.Closed b) (used_forget w pool)))
 
 set_maximum_alike : (w : World) (who : Who) (pool value : ℕ) → AreAlike (forget w) w (set_maximum_row (forget w) who pool value) (set_maximum_row w who pool value)
 unfolding set_maximum_row
 set_maximum_alike w who pool value =
     alike_unless (forget w) w (first_refusal (pool_refusals w who pool)) (first_refusal (pool_refusals w who pool)) (change_pool (forget w) pool (with_maximum value) answer.Done (slice_get w.pools pool)) (change_pool w pool (with_maximum value) answer.Done (slice_get w.pools pool)) refl
-      (change_alike w pool (with_maximum value) answer.Done answer.Done (slice_get w.pools pool) refl)
+    (change_alike w pool (with_maximum value) answer.Done answer.Done (slice_get w.pools pool) refl)
 
 set_minimum_alike : (w : World) (who : Who) (pool value : ℕ) → AreAlike (forget w) w (set_minimum_row (forget w) who pool value) (set_minimum_row w who pool value)
 unfolding set_minimum_row
 set_minimum_alike w who pool value =
     alike_unless (forget w) w (first_refusal (pool_refusals w who pool)) (first_refusal (pool_refusals w who pool)) (change_pool (forget w) pool (with_minimum value) answer.Done (slice_get w.pools pool)) (change_pool w pool (with_minimum value) answer.Done (slice_get w.pools pool)) refl
-      (change_alike w pool (with_minimum value) answer.Done answer.Done (slice_get w.pools pool) refl)
+    (change_alike w pool (with_minimum value) answer.Done answer.Done (slice_get w.pools pool) refl)
 
 create_alike : (fresh : ℕ) (w : World) (who : Who) (kind : Kind) (routine : RoutineId) (context : ℕ) (env : Environ) → AreAlike (forget w) w (create_row (forget w) who kind routine context env) (create_row w who kind routine context env)
 unfolding create_row
 create_alike fresh w who kind routine context env =
     alike_unless (forget w) w (first_refusal (create_refusals w who env)) (first_refusal (create_refusals w who env)) (create_effect (forget w) kind routine context env) (create_effect w kind routine context env) refl
-      (refl, as_live (with_object w (new_object kind routine context env)) (filter lives w.callbacks) w.callbacks (live_again w.callbacks), omega arith, omega arith)
+    (refl, as_live (with_object w (new_object kind routine context env)) (filter lives w.callbacks) w.callbacks (live_again w.callbacks), omega arith, omega arith)
 
 submit_refusals_forget : (w : World) (who : Who) (object : ℕ) → first_refusal (submit_work_refusals (forget w) who object) ≡ first_refusal (submit_work_refusals w who object)
 submit_refusals_forget w who object = rw (live_again w.callbacks)
@@ -177,18 +173,20 @@ submit_refusals_forget w who object = rw (live_again w.callbacks)
 submit_effect_alike : (fresh : ℕ) (w : World) (object : ℕ) (row : Option ObjectRow) → AreAlike (forget w) w (submit_work_effect (forget w) fresh object row) (submit_work_effect w fresh object row)
 submit_effect_alike fresh w object None = refl
 submit_effect_alike fresh w object (Some row) =
-    let c : CallbackRow = new_callback fresh object row Plain in
-    (refl, as_live w (filter lives w.callbacks ++ c ∷ []) (w.callbacks ++ c ∷ [])
-        (filter-append lives (filter lives w.callbacks) (c ∷ []) ∙ ap (λ t. t ++ filter lives (c ∷ [])) (live_again w.callbacks) ∙ sym (filter-append lives w.callbacks (c ∷ []))),
+    let c : CallbackRow = new_callback fresh object row Plain in (
+      refl,
+      as_live w (filter lives w.callbacks ++ c ∷ []) (w.callbacks ++ c ∷ [])
+          (filter-append lives (filter lives w.callbacks) (c ∷ []) ∙ ap (λ t. t ++ filter lives (c ∷ [])) (live_again w.callbacks) ∙ sym (filter-append lives w.callbacks (c ∷ []))),
       omega (arith, length-append (filter lives w.callbacks) (c ∷ []), length-append w.callbacks (c ∷ [])),
-      omega (arith, length-append w.callbacks (c ∷ [])))
+      omega (arith, length-append w.callbacks (c ∷ [])),
+    )
 
 submit_work_alike : (fresh : ℕ) (w : World) (who : Who) (object : ℕ) → AreAlike (forget w) w (submit_work_row (forget w) fresh who object) (submit_work_row w fresh who object)
 unfolding submit_work_row
 submit_work_alike fresh w who object =
     alike_unless (forget w) w (first_refusal (submit_work_refusals (forget w) who object)) (first_refusal (submit_work_refusals w who object))
-      (submit_work_effect (forget w) fresh object (numbered w.objects object)) (submit_work_effect w fresh object (numbered w.objects object))
-      (submit_refusals_forget w who object) (submit_effect_alike fresh w object (numbered w.objects object))
+    (submit_work_effect (forget w) fresh object (numbered w.objects object)) (submit_work_effect w fresh object (numbered w.objects object))
+    (submit_refusals_forget w who object) (submit_effect_alike fresh w object (numbered w.objects object))
 
 attach_effect_alike : (w : World) (who : Who) (pool : Option ℕ) → AreAlike (forget w) w (attach_effect (forget w) who pool) (attach_effect w who pool)
 attach_effect_alike w (Worker number) (Some pool) =
@@ -200,7 +198,7 @@ attach_alike : (w : World) (who : Who) → AreAlike (forget w) w (attach_row (fo
 unfolding attach_row
 attach_alike w who =
     alike_unless (forget w) w (first_refusal (attach_refusals w who)) (first_refusal (attach_refusals w who)) (attach_effect (forget w) who (pool_to_join (forget w))) (attach_effect w who (pool_to_join w)) refl
-      (subst (λ p. AreAlike (forget w) w (attach_effect (forget w) who p) (attach_effect w who (pool_to_join w))) (sym (to_join_forget w)) (attach_effect_alike w who (pool_to_join w)))
+    (subst (λ p. AreAlike (forget w) w (attach_effect (forget w) who p) (attach_effect w who (pool_to_join w))) (sym (to_join_forget w)) (attach_effect_alike w who (pool_to_join w)))
 
 another_forget : (w : World) (pool : ℕ) → another_in_need (forget w) pool ≡ another_in_need w pool
 another_forget w pool =
@@ -209,16 +207,16 @@ another_forget w pool =
 may_leave_forget : (w : World) (pool : ℕ) → may_leave (forget w) pool ≡ may_leave w pool
 may_leave_forget w pool =
     ap₂ (λ (n : ℕ) (bc : Bool). nat_lt (maximum w pool) (attached w pool) || ((n == 0) && bc)) (pending_forget w pool)
-      (ap₂ (λ (n : ℕ) (b : Bool). nat_lt (minimum w pool) (attached w pool - n) || b) (running_long_forget w pool) (another_forget w pool))
+    (ap₂ (λ (n : ℕ) (b : Bool). nat_lt (minimum w pool) (attached w pool - n) || b) (running_long_forget w pool) (another_forget w pool))
 
 leave_alike : (w : World) (number : ℕ) (pool : PoolId) → AreAlike (forget w) w (leave (forget w) number pool) (leave w number pool)
 leave_alike w number pool =
     let row : WorkerRow = record { pool = None; callback = None } in
     subst (λ b. AreAlike (forget w) w (cond b (Accepted answer.Done (with_worker (forget w) number row)) (Looked look.Stay)) (leave w number pool)) (sym (may_leave_forget w pool.0))
-      (elim (may_leave w pool.0) as (λ b. AreAlike (forget w) w (cond b (Accepted answer.Done (with_worker (forget w) number row)) (Looked look.Stay)) (cond b (Accepted answer.Done (with_worker w number row)) (Looked look.Stay))) [
-        true ↦ (refl, as_live (with_worker w number row) (filter lives w.callbacks) w.callbacks (live_again w.callbacks), omega arith, omega arith)
+    (elim (may_leave w pool.0) as (λ b. AreAlike (forget w) w (cond b (Accepted answer.Done (with_worker (forget w) number row)) (Looked look.Stay)) (cond b (Accepted answer.Done (with_worker w number row)) (Looked look.Stay))) [
+      | true ↦ (refl, as_live (with_worker w number row) (filter lives w.callbacks) w.callbacks (live_again w.callbacks), omega arith, omega arith)
       | false ↦ refl
-      ])
+    ])
 
 detach_of_alike : (w : World) (who : Who) (pool : Option PoolId) → AreAlike (forget w) w (detach_of (forget w) who pool) (detach_of w who pool)
 detach_of_alike w (Worker number) (Some pool) = leave_alike w number pool
@@ -238,19 +236,20 @@ take_next_alike : (fresh : ℕ) (w : World) (number : ℕ) (pool : PoolId) (c : 
 take_next_alike fresh w number pool None is s = refl
 take_next_alike fresh w number pool (Some c) is s =
     subst (λ n. AreAlike (forget w) w (cond (nat_le (maximum w pool.0) n) (Looked (look.AtMaximum n)) (start (forget w) number pool c)) (cond (nat_le (maximum w pool.0) (running w pool.0)) (Looked (look.AtMaximum (running w pool.0))) (start w number pool c)))
-      (sym (running_forget w pool.0))
-      (elim (nat_le (maximum w pool.0) (running w pool.0)) as (λ b. AreAlike (forget w) w (cond b (Looked (look.AtMaximum (running w pool.0))) (start (forget w) number pool c)) (cond b (Looked (look.AtMaximum (running w pool.0))) (start w number pool c))) [
-        true ↦ refl
+    (sym (running_forget w pool.0))
+    (elim (nat_le (maximum w pool.0) (running w pool.0)) as (λ b. AreAlike (forget w) w (cond b (Looked (look.AtMaximum (running w pool.0))) (start (forget w) number pool c)) (cond b (Looked (look.AtMaximum (running w pool.0))) (start w number pool c))) [
+      | true ↦ refl
       | false ↦
           let found = next_pending fresh w pool.0 c s is in
           let living : lives c ≡ true = pending_lives c.status (first (is_pending c.status) (c.pool.0 == pool.0) found.1) in
-          let r : CallbackRow = started c number in
-          (refl,
+          let r : CallbackRow = started c number in (
+            refl,
             as_live (with_worker w number (record { pool = Some pool; callback = Some c.number })) (replaced r (filter lives w.callbacks)) (replaced r w.callbacks)
-              (filter_replaced_filter lives r w.callbacks (found_all (λ x. lives x ≡ true) c.number c 1 fresh w.callbacks s.numbers found.0 living)),
+                (filter_replaced_filter lives r w.callbacks (found_all (λ x. lives x ≡ true) c.number c 1 fresh w.callbacks s.numbers found.0 living)),
             omega (arith, length_replaced r (filter lives w.callbacks), length_replaced r w.callbacks),
-            omega (arith, length_replaced r w.callbacks))
-      ])
+            omega (arith, length_replaced r w.callbacks),
+          )
+    ])
   where
     first : (a b : Bool) → (a && b) ≡ true → a ≡ true
     first true b e = refl
@@ -270,17 +269,18 @@ take_alike : (fresh : ℕ) (w : World) (who : Who) → IsSound fresh w → AreAl
 unfolding take_row
 take_alike fresh w who s =
     alike_unless (forget w) w (first_refusal (take_refusals w who)) (first_refusal (take_refusals w who)) (take_effect (forget w) who (worker_of w who)) (take_effect w who (worker_of w who)) refl
-      (take_effect_alike fresh w who (worker_of w who) s)
+    (take_effect_alike fresh w who (worker_of w who) s)
 
 finish_callback_alike : (w : World) (number : ℕ) (row : WorkerRow) (c : Option CallbackRow) → AreAlike (forget w) w (finish_callback (forget w) number row c) (finish_callback w number row c)
 finish_callback_alike w number row None = refl
 finish_callback_alike w number row (Some c) =
-    let r : CallbackRow = returned c in
-    (refl,
+    let r : CallbackRow = returned c in (
+      refl,
       as_live (with_worker w number (record row { callback = None })) (replaced r (filter lives w.callbacks)) (replaced r w.callbacks)
-        (filter_replaced_out lives r (filter lives w.callbacks) refl ∙ ap (filter (λ (x : CallbackRow). not (has_number c.number x))) (live_again w.callbacks) ∙ sym (filter_replaced_out lives r w.callbacks refl)),
+          (filter_replaced_out lives r (filter lives w.callbacks) refl ∙ ap (filter (λ (x : CallbackRow). not (has_number c.number x))) (live_again w.callbacks) ∙ sym (filter_replaced_out lives r w.callbacks refl)),
       omega (arith, length_replaced r (filter lives w.callbacks), length_replaced r w.callbacks),
-            omega (arith, length_replaced r w.callbacks))
+      omega (arith, length_replaced r w.callbacks),
+    )
 
 return_of_alike : (fresh : ℕ) (w : World) (number : ℕ) (row : WorkerRow) (callback : Option ℕ) → numbered w.workers number ≡ Some row → row.callback ≡ callback → IsSound fresh w → AreAlike (forget w) w (return_of (forget w) number row callback) (return_of w number row callback)
 return_of_alike fresh w number row None is runs s = refl
@@ -298,16 +298,17 @@ return_alike : (fresh : ℕ) (w : World) (who : Who) → IsSound fresh w → Are
 unfolding return_row
 return_alike fresh w who s =
     alike_unless (forget w) w (first_refusal (return_refusals w who)) (first_refusal (return_refusals w who)) (return_effect (forget w) who (worker_of w who)) (return_effect w who (worker_of w who)) refl
-      (return_effect_alike fresh w who (worker_of w who) refl s)
+    (return_effect_alike fresh w who (worker_of w who) refl s)
 
 mark_long_alike : (fresh : ℕ) (w : World) (c : Option CallbackRow) → IfSome c (λ x. (find (has_number x.number) w.callbacks ≡ Some x) × (lives x ≡ true)) → IsSound fresh w → AreAlike (forget w) w (mark_long (forget w) c) (mark_long w c)
 mark_long_alike fresh w None known s = refl
 mark_long_alike fresh w (Some c) known s =
-    let r : CallbackRow = marked_long c in
-    (refl,
+    let r : CallbackRow = marked_long c in (
+      refl,
       as_live w (replaced r (filter lives w.callbacks)) (replaced r w.callbacks) (filter_replaced_filter lives r w.callbacks (found_all (λ x. lives x ≡ true) c.number c 1 fresh w.callbacks s.numbers known.0 known.1)),
       omega (arith, length_replaced r (filter lives w.callbacks), length_replaced r w.callbacks),
-      omega (arith, length_replaced r w.callbacks))
+      omega (arith, length_replaced r w.callbacks),
+    )
 
 may_run_long_of_alike : (fresh : ℕ) (w : World) (number : ℕ) (row : WorkerRow) (callback : Option ℕ) → numbered w.workers number ≡ Some row → row.callback ≡ callback → IsSound fresh w → AreAlike (forget w) w (may_run_long_of (forget w) callback) (may_run_long_of w callback)
 may_run_long_of_alike fresh w number row None is runs s = refl
@@ -317,8 +318,8 @@ may_run_long_of_alike fresh w number row (Some callback) is runs s =
     let same : on.callback.number ≡ callback = eqb-true on.callback.number callback (find_passes (has_number callback) on.callback w.callbacks on.found) in
     let kept : find (has_number callback) (filter lives w.callbacks) ≡ Some on.callback = find_kept (has_number callback) lives on.callback living w.callbacks on.found in
     subst (λ c. AreAlike (forget w) w (mark_long (forget w) c) (mark_long w (callback_of w callback))) (sym kept)
-      (subst (λ c. AreAlike (forget w) w (mark_long (forget w) (Some on.callback)) (mark_long w c)) (sym on.found)
-        (mark_long_alike fresh w (Some on.callback) (ap (λ n. find (has_number n) w.callbacks) same ∙ on.found, living) s))
+    (subst (λ c. AreAlike (forget w) w (mark_long (forget w) (Some on.callback)) (mark_long w c)) (sym on.found)
+    (mark_long_alike fresh w (Some on.callback) (ap (λ n. find (has_number n) w.callbacks) same ∙ on.found, living) s))
 
 may_run_long_effect_alike : (fresh : ℕ) (w : World) (who : Who) (row : Option WorkerRow) → worker_of w who ≡ row → IsSound fresh w → AreAlike (forget w) w (may_run_long_effect (forget w) row) (may_run_long_effect w row)
 may_run_long_effect_alike fresh w who None is s = refl
@@ -329,7 +330,7 @@ may_run_long_alike : (fresh : ℕ) (w : World) (who : Who) → IsSound fresh w �
 unfolding may_run_long_row
 may_run_long_alike fresh w who s =
     alike_unless (forget w) w (first_refusal (may_run_long_refusals w who)) (first_refusal (may_run_long_refusals w who)) (may_run_long_effect (forget w) (worker_of w who)) (may_run_long_effect w (worker_of w who)) refl
-      (may_run_long_effect_alike fresh w who (worker_of w who) refl s)
+    (may_run_long_effect_alike fresh w who (worker_of w who) refl s)
 
 finish_effect_alike : (w : World) (who : Who) → AreAlike (forget w) w (finish_effect (forget w) who) (finish_effect w who)
 finish_effect_alike w (Client number) =
@@ -368,7 +369,7 @@ cost_alike w after_v after_w same =
 full_alike : (v w : World) (room m n : ℕ) (e f : Step) → m ≡ n → AreAlike v w e f → AreAlike v w (unless_full room m e) (unless_full room n f)
 full_alike v w room m n e f same h =
     subst (λ k. AreAlike v w (cond (nat_lt room k) (Full room k) e) (cond (nat_lt room n) (Full room n) f)) (sym same)
-      (elim (nat_lt room n) as (λ b. AreAlike v w (cond b (Full room n) e) (cond b (Full room n) f)) [ true ↦ (refl, refl) | false ↦ h ])
+    (elim (nat_lt room n) as (λ b. AreAlike v w (cond b (Full room n) e) (cond b (Full room n) f)) [ true ↦ (refl, refl) | false ↦ h ])
 
 within_alike : (w : World) (room : ℕ) (e f : Step) → AreAlike (forget w) w e f → AreAlike (forget w) w (within (forget w) room e) (within w room f)
 within_alike w room (Accepted a after_v) (Accepted b after_w) h =
@@ -392,8 +393,8 @@ within_alike w room (Full a m) (Looked b) h = absurd h
 sound_full : (fresh : ℕ) (w : World) (room cost : ℕ) (s : Step) → IsSound fresh w → IsSound (fresh + made_by w s) (world_after w s) → IsSound (fresh + made_by w (unless_full room cost s)) (world_after w (unless_full room cost s))
 sound_full fresh w room cost s before sound =
     elim (nat_lt room cost) as (λ b. IsSound (fresh + made_by w (cond b (Full room cost) s)) (world_after w (cond b (Full room cost) s))) [
-      true ↦ subst (λ n. IsSound n w) (omega arith) before
-    | false ↦ sound
+      | true ↦ subst (λ n. IsSound n w) (omega arith) before
+      | false ↦ sound
     ]
 
 pub sound_within : (fresh : ℕ) (w : World) (room : ℕ) (s : Step) → IsSound fresh w → IsSound (fresh + made_by w s) (world_after w s) → IsSound (fresh + made_by w (within w room s)) (world_after w (within w room s))
@@ -433,7 +434,7 @@ goes_alike w (Full a m) (Looked b) h = absurd h
 step_alike : (w : World) (room : ℕ) (who : Who) (call : Call) → IsSound (length w.callbacks + 1) w → GoesAlike (forget w) w (within (forget w) room (row_at (forget w) (length w.callbacks + 1) who call)) (step w room who call)
 step_alike w room who call s =
     goes_alike w (within (forget w) room (row_at (forget w) (length w.callbacks + 1) who call)) (step w room who call)
-      (within_alike w room (row_at (forget w) (length w.callbacks + 1) who call) (row_at w (length w.callbacks + 1) who call) (row_alike (length w.callbacks + 1) w who call s))
+    (within_alike w room (row_at (forget w) (length w.callbacks + 1) who call) (row_at w (length w.callbacks + 1) who call) (row_alike (length w.callbacks + 1) w who call s))
 
 -- what is remembered after a step is what lives after it, and how many were made
 remembered_world : (e : Remembered) (s : Step) → forget e.world ≡ e.world → (remembered_after e s).world ≡ forget (world_after e.world s)
@@ -473,7 +474,7 @@ meets old new w room who call told goes stands =
         remembers = ap (λ (r : Remembered). r.world) is ∙ remembered_world old (step_of old room who call) whole ∙ left;
         counts = counted;
         sound = subst (λ n. IsSound n (world_after w (step w room who call))) (omega (arith, counted, alike.more))
-          (sound_within fresh w room (row_at w fresh who call) sound (row_sound fresh w who call sound));
+            (sound_within fresh w room (row_at w fresh who call) sound (row_sound fresh w who call sound));
       };
       ages = ap (λ (r : Remembered). r.age) is ∙ remembered_age old (step_of old room who call) ∙ ap (λ b. cond b (old.age + 1) old.age) (ap is_accepted same ∙ alike.accepted);
     }

@@ -1,14 +1,14 @@
 -- What filters, searches and changes of rows leave of each other.
-use Rattle.std.proofs.Common.{◌≡◌, ◌≢◌, ℕ, suc, zero, ◌+◌, ◌-◌, ◌<◌, ◌≤◌, Bool, true, false, cond, not, ◌&&◌, ◌||◌, ◌==◌, List, [], ◌∷◌, ◌++◌, length, map, slice_get, slice_set, get_or, set, Option, Some, None, refl, sym, ap, ◌∙◌, subst, arith, filter, find, option_map}
-use Rattle.std.specs.List.{AllByRecursion, range_with_len, list_any}
+use Rattle.std.proofs.Common.{◌≡◌, ℕ, suc, zero, ◌+◌, ◌<◌, ◌≤◌, Bool, true, false, cond, ◌||◌, List, [], ◌∷◌, ◌++◌, length, map, slice_get, slice_set, Some, refl, sym, ap, ◌∙◌, subst, arith, filter, find}
+use Rattle.std.specs.List.{AllByRecursion, list_any}
 
 -- a filter by p sees nothing of a filter by what p implies
 pub filter_filter : {X : Type 0} (p q : X → Bool) → ((x : X) → q x ≡ false → p x ≡ false) → (xs : List X) → filter p (filter q xs) ≡ filter p xs
 filter_filter p q h [] = refl
 filter_filter {X} p q h (x ∷ xs) =
     elim (q x) as (λ b. q x ≡ b → filter p (cond b (x ∷ filter q xs) (filter q xs)) ≡ filter p (x ∷ xs)) [
-      true ↦ λ _. ap (λ t. cond (p x) (x ∷ t) t) (filter_filter p q h xs)
-    | false ↦ λ e. filter_filter p q h xs ∙ ap (λ b. cond b (x ∷ filter p xs) (filter p xs)) (sym (h x e))
+      | true ↦ λ _. ap (λ t. cond (p x) (x ∷ t) t) (filter_filter p q h xs)
+      | false ↦ λ e. filter_filter p q h xs ∙ ap (λ b. cond b (x ∷ filter p xs) (filter p xs)) (sym (h x e))
     ] refl
 
 -- what is found and passes q is found among what passes q
@@ -16,15 +16,15 @@ pub find_kept : {X : Type 0} (p q : X → Bool) (c : X) → q c ≡ true → (xs
 find_kept p q c kept [] e = e
 find_kept {X} p q c kept (x ∷ xs) e =
     elim (p x) as (λ b. p x ≡ b → cond b (Some x) (find p xs) ≡ Some c → find p (filter q (x ∷ xs)) ≡ Some c) [
-      true ↦ λ px found.
-        let same : x ≡ c = cc in
-        let qx : q x ≡ true = ap q same ∙ kept in
-        ap (λ b. find p (cond b (x ∷ filter q xs) (filter q xs))) qx ∙ ap (λ b. cond b (Some x) (find p (filter q xs))) px ∙ found
-    | false ↦ λ px found.
-        elim (q x) as (λ b. find p (cond b (x ∷ filter q xs) (filter q xs)) ≡ Some c) [
-          true ↦ ap (λ b. cond b (Some x) (find p (filter q xs))) px ∙ find_kept p q c kept xs found
-        | false ↦ find_kept p q c kept xs found
-        ]
+      | true ↦ λ px found.
+          let same : x ≡ c = cc in
+          let qx : q x ≡ true = ap q same ∙ kept in
+          ap (λ b. find p (cond b (x ∷ filter q xs) (filter q xs))) qx ∙ ap (λ b. cond b (Some x) (find p (filter q xs))) px ∙ found
+      | false ↦ λ px found.
+          elim (q x) as (λ b. find p (cond b (x ∷ filter q xs) (filter q xs)) ≡ Some c) [
+            | true ↦ ap (λ b. cond b (Some x) (find p (filter q xs))) px ∙ find_kept p q c kept xs found
+            | false ↦ find_kept p q c kept xs found
+          ]
     ] refl e
 
 -- what is found passes the test
@@ -32,8 +32,8 @@ pub find_passes : {X : Type 0} (p : X → Bool) (c : X) (xs : List X) → find p
 find_passes p c [] e = cc
 find_passes {X} p c (x ∷ xs) e =
     elim (p x) as (λ b. p x ≡ b → cond b (Some x) (find p xs) ≡ Some c → p c ≡ true) [
-      true ↦ λ px found. let same : x ≡ c = cc in ap p (sym same) ∙ px
-    | false ↦ λ px found. find_passes p c xs found
+      | true ↦ λ px found. let same : x ≡ c = cc in ap p (sym same) ∙ px
+      | false ↦ λ px found. find_passes p c xs found
     ] refl e
 
 -- what is found has what all have
@@ -41,8 +41,8 @@ pub find_all : {X : Type 0} (P : X → Type 0) (p : X → Bool) (c : X) (xs : Li
 find_all P p c [] all e = absurd cc
 find_all {X} P p c (x ∷ xs) all e =
     elim (p x) as (λ b. cond b (Some x) (find p xs) ≡ Some c → P c) [
-      true ↦ λ found. let same : x ≡ c = cc in subst P same all.0
-    | false ↦ λ found. find_all P p c xs all.1 found
+      | true ↦ λ found. let same : x ≡ c = cc in subst P same all.0
+      | false ↦ λ found. find_all P p c xs all.1 found
     ] e
 
 -- tests that agree find the same
@@ -55,8 +55,8 @@ pub all_filter : {X : Type 0} (P : X → Type 0) (p : X → Bool) (xs : List X) 
 all_filter P p [] all = tt
 all_filter {X} P p (x ∷ xs) all =
     elim (p x) as (λ b. AllByRecursion P (cond b (x ∷ filter p xs) (filter p xs))) [
-      true ↦ (all.0, all_filter P p xs all.1)
-    | false ↦ all_filter P p xs all.1
+      | true ↦ (all.0, all_filter P p xs all.1)
+      | false ↦ all_filter P p xs all.1
     ]
 
 pub all_append : {X : Type 0} (P : X → Type 0) (xs : List X) (x : X) → AllByRecursion P xs → P x → AllByRecursion P (xs ++ x ∷ [])
@@ -77,11 +77,11 @@ pub length_filter_le : {X : Type 0} (p q : X → Bool) → ((x : X) → q x ≡ 
 length_filter_le p q h [] = omega arith
 length_filter_le {X} p q h (x ∷ xs) =
     elim (q x) as (λ b. q x ≡ b → length (cond (p x) (x ∷ filter p xs) (filter p xs)) ≤ length (cond b (x ∷ filter q xs) (filter q xs))) [
-      true ↦ λ _. elim (p x) as (λ b. length (cond b (x ∷ filter p xs) (filter p xs)) ≤ length (x ∷ filter q xs)) [
-          true ↦ omega (arith, length_filter_le p q h xs)
+      | true ↦ λ _. elim (p x) as (λ b. length (cond b (x ∷ filter p xs) (filter p xs)) ≤ length (x ∷ filter q xs)) [
+        | true ↦ omega (arith, length_filter_le p q h xs)
         | false ↦ omega (arith, length_filter_le p q h xs)
-        ]
-    | false ↦ λ e. subst (λ b. length (cond b (x ∷ filter p xs) (filter p xs)) ≤ length (filter q xs)) (sym (h x e)) (length_filter_le p q h xs)
+      ]
+      | false ↦ λ e. subst (λ b. length (cond b (x ∷ filter p xs) (filter p xs)) ≤ length (filter q xs)) (sym (h x e)) (length_filter_le p q h xs)
     ] refl
 
 pub slice_get_append : {X : Type 0} (xs ys : List X) (i : ℕ) (x : X) → slice_get xs i ≡ Some x → slice_get (xs ++ ys) i ≡ Some x
@@ -96,14 +96,14 @@ length_filter_set p [] i old new e = absurd cc
 length_filter_set {X} p (x ∷ xs) zero old new e =
     let same : x ≡ old = cc in
     subst (λ o. length (filter p (new ∷ xs)) + cond (p o) 1 0 ≡ length (filter p (x ∷ xs)) + cond (p new) 1 0) same
-      (elim (p new) as (λ b. length (cond b (new ∷ filter p xs) (filter p xs)) + cond (p x) 1 0 ≡ length (filter p (x ∷ xs)) + cond b 1 0) [
-        true ↦ elim (p x) as (λ b. length (new ∷ filter p xs) + cond b 1 0 ≡ length (cond b (x ∷ filter p xs) (filter p xs)) + 1) [ true ↦ omega arith | false ↦ omega arith ]
+    (elim (p new) as (λ b. length (cond b (new ∷ filter p xs) (filter p xs)) + cond (p x) 1 0 ≡ length (filter p (x ∷ xs)) + cond b 1 0) [
+      | true ↦ elim (p x) as (λ b. length (new ∷ filter p xs) + cond b 1 0 ≡ length (cond b (x ∷ filter p xs) (filter p xs)) + 1) [ true ↦ omega arith | false ↦ omega arith ]
       | false ↦ elim (p x) as (λ b. length (filter p xs) + cond b 1 0 ≡ length (cond b (x ∷ filter p xs) (filter p xs)) + 0) [ true ↦ omega arith | false ↦ omega arith ]
-      ])
+    ])
 length_filter_set {X} p (x ∷ xs) (suc i) old new e =
     elim (p x) as (λ b. length (cond b (x ∷ filter p (slice_set xs i new)) (filter p (slice_set xs i new))) + cond (p old) 1 0 ≡ length (cond b (x ∷ filter p xs) (filter p xs)) + cond (p new) 1 0) [
-      true ↦ omega (arith, length_filter_set p xs i old new e)
-    | false ↦ length_filter_set p xs i old new e
+      | true ↦ omega (arith, length_filter_set p xs i old new e)
+      | false ↦ length_filter_set p xs i old new e
     ]
 
 -- below a bound, and so below a greater one
@@ -116,6 +116,6 @@ pub any_filter : {X : Type 0} (test p : X → Bool) → ((x : X) → p x ≡ fal
 any_filter test p h [] = refl
 any_filter {X} test p h (x ∷ xs) =
     elim (p x) as (λ b. p x ≡ b → list_any test (cond b (x ∷ filter p xs) (filter p xs)) ≡ (test x || list_any test xs)) [
-      true ↦ λ _. ap (λ t. test x || t) (any_filter test p h xs)
-    | false ↦ λ e. any_filter test p h xs ∙ ap (λ b. b || list_any test xs) (sym (h x e))
+      | true ↦ λ _. ap (λ t. test x || t) (any_filter test p h xs)
+      | false ↦ λ e. any_filter test p h xs ∙ ap (λ b. b || list_any test xs) (sym (h x e))
     ] refl

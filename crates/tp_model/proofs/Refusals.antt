@@ -1,10 +1,8 @@
 -- What is known of a call that meets no refusal.
-use Rattle.std.proofs.Common.{◌≡◌, ℕ, suc, zero, ◌+◌, ◌-◌, ◌<◌, ◌≤◌, Bool, true, false, cond, not, ◌&&◌, ◌||◌, ◌==◌, List, [], ◌∷◌, length, slice_get, Option, Some, None, is_some, refl, sym, ap, ◌∙◌, arith, ne_eqb}
+use Rattle.std.proofs.Common.{◌≡◌, ℕ, suc, zero, ◌-◌, ◌<◌, ◌≤◌, Bool, true, false, cond, not, ◌&&◌, ◌||◌, ◌==◌, List, [], ◌∷◌, length, slice_get, Option, Some, None, is_some, refl, sym, ap, ◌∙◌, arith, ne_eqb}
 use Rattle.std.proofs.lemmas.Option.{slice_get_within}
 use Rattle.tp_base.specs.declared.answers.Refusal.{Refusal}
-use Rattle.tp_model.specs.World.{World}
 use Rattle.tp_model.specs.Counts.{numbered}
-use Rattle.tp_model.specs.Conditions.{is_pool}
 use Rattle.tp_model.specs.Step.{first_refusal}
 
 pub false_true : false ≡ true → ⊥
@@ -19,8 +17,8 @@ pub none_holds : (refusals : List (Bool × Refusal)) → first_refusal refusals 
 none_holds [] e = tt
 none_holds (r ∷ rs) e =
     elim r.0 as (λ b. cond b (Some r.1) (first_refusal rs) ≡ None → (b ≡ false) × NoneHolds rs) [
-      true ↦ λ h. absurd cc
-    | false ↦ λ h. (refl, none_holds rs h)
+      | true ↦ λ h. absurd cc
+      | false ↦ λ h. (refl, none_holds rs h)
     ] e
 
 pub neither : (a b : Bool) → (a || b) ≡ false → (a ≡ false) × (b ≡ false)

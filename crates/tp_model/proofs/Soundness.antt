@@ -1,5 +1,5 @@
 -- Every row keeps what is true of all worlds that can be reached.
-use Rattle.std.proofs.Common.{◌≡◌, ◌≢◌, ℕ, suc, zero, ◌+◌, ◌-◌, ◌<◌, ◌≤◌, Bool, true, false, cond, not, ◌&&◌, ◌||◌, ◌==◌, List, [], ◌∷◌, ◌++◌, length, map, slice_get, slice_set, replicate, Option, Some, None, is_some, nat_le, refl, sym, ap, ◌∙◌, append_assoc, subst, arith, filter, find, eqb-true, eq-eqb, ne_eqb, add-one, length-append, length-set}
+use Rattle.std.proofs.Common.{◌≡◌, ◌≢◌, ℕ, suc, zero, ◌+◌, ◌-◌, ◌<◌, ◌≤◌, Bool, true, false, cond, not, ◌&&◌, ◌||◌, ◌==◌, List, [], ◌∷◌, ◌++◌, length, slice_get, slice_set, replicate, Option, Some, None, nat_le, refl, sym, ap, ◌∙◌, append_assoc, subst, arith, find, eqb-true, ne_eqb, length-append, length-set}
 use Rattle.std.specs.List.{AllByRecursion}
 use Rattle.tp_base.specs.declared.ids.Who.{Who}
 use Rattle.tp_base.specs.declared.ids.Who.TheVariants.{Client, Worker}
@@ -14,7 +14,7 @@ use Rattle.tp_base.specs.declared.answers.TakeResult.TheVariants.{Plain}
 use Rattle.tp_base.specs.declared.limits.Limits.{Limits}
 use Rattle.tp_base.specs.declared.rows.Slots.{Slots}
 use Rattle.tp_base.specs.declared.rows.Status.{Status}
-use Rattle.tp_base.specs.declared.rows.Status.TheVariants.{Expected, Issued, Pending, Running, Returned, Cancelled}
+use Rattle.tp_base.specs.declared.rows.Status.TheVariants.{Running}
 use Rattle.tp_base.specs.declared.answers.Answer.{Answer}
 use Rattle.tp_base.specs.declared.answers.Answer.TheVariants as answer
 use Rattle.tp_base.specs.declared.rows.PoolRow.{PoolRow}
@@ -22,16 +22,16 @@ use Rattle.tp_base.specs.declared.rows.ObjectRow.{ObjectRow}
 use Rattle.tp_base.specs.declared.rows.CallbackRow.{CallbackRow}
 use Rattle.tp_base.specs.declared.rows.WorkerRow.{WorkerRow}
 use Rattle.tp_model.specs.World.{World, opening, unattached, new_pool}
-use Rattle.tp_model.specs.Counts.{numbered, callback_of, has_number, is_pending, is_pending_in, is_high, is_normal, is_low, queue, waiting, next, pending, running, maximum}
-use Rattle.tp_model.specs.Conditions.{is_actor, is_pool, is_no_group_or_group, worker_of, is_worker}
-use Rattle.tp_model.specs.Step.{Step, Accepted, Refused, Looked, Full, first_refusal, unless_refused, world_after}
+use Rattle.tp_model.specs.Counts.{numbered, callback_of, has_number, is_pending, is_pending_in, is_high, is_normal, is_low, waiting, next, running, maximum}
+use Rattle.tp_model.specs.Conditions.{is_actor, is_pool, is_no_group_or_group, worker_of}
+use Rattle.tp_model.specs.Step.{Step, Accepted, Looked, first_refusal, unless_refused, world_after}
 use Rattle.tp_base.specs.declared.answers.Look.TheVariants as look
 use Rattle.tp_model.specs.Rows.{with_new_pool, with_pool, create_pool_row, create_pool_refusals, create_pool_effect, pool_refusals, is_used, change_pool, closed, close_pool_row, with_maximum, set_maximum_row, with_minimum, set_minimum_row, may_leave, leave, detach_refusals, detach_of, detach_effect, detach_row, marked_long, mark_long, may_run_long_refusals, may_run_long_of, may_run_long_effect, may_run_long_row, with_object, with_new_callback, with_callback, with_worker, with_client, replaced, started, returned, new_object, new_callback, no_actions, create_row, create_refusals, create_effect, submit_work_row, submit_work_refusals, submit_work_effect, attach_row, attach_refusals, attach_effect, pool_to_join, take_row, take_refusals, take_effect, take_in, take_next, start, return_row, return_refusals, return_effect, return_of, finish_callback, finish_row, finish_refusals, finish_effect}
 use Rattle.tp_model.specs.Table.{row_at}
-use Rattle.tp_model.specs.Sound.{IsSound, IsRising, RunsOn, IsWorkerSound, AreWorkersSound}
+use Rattle.tp_model.specs.Sound.{IsSound, RunsOn, IsWorkerSound, AreWorkersSound}
 use Rattle.tp_model.specs.Remembered.{made_by}
-use Rattle.tp_model.proofs.Lists.{all_below, find_passes, find_all, all_append, all_map, all_get, slice_get_append}
-use Rattle.tp_model.proofs.Callbacks.{rising_append, rising_replaced, length_replaced, find_replaced, find_replaced_other, find_appended, replaced_number, kept_found}
+use Rattle.tp_model.proofs.Lists.{all_below, find_passes, find_all, all_append, all_map, all_get}
+use Rattle.tp_model.proofs.Callbacks.{rising_append, rising_replaced, length_replaced, find_replaced, find_replaced_other, find_appended, kept_found}
 use Rattle.tp_model.proofs.Refusals.{none_holds, neither, not_false, both, made, numbered_some, false_true}
 
 -- ---- workers
@@ -62,9 +62,10 @@ workers_changed : (r : CallbackRow) (cs : List CallbackRow) (new : WorkerRow) (f
     → IsWorkerSound (replaced r cs) (first + place) new.pool new.callback
     → AreWorkersSound cs first ws → AreWorkersSound (replaced r cs) first (slice_set ws place new)
 workers_changed r cs new first place [] other here s = tt
-workers_changed r cs new first zero (w ∷ ws) other here s =
-    (subst (λ n. IsWorkerSound (replaced r cs) n new.pool new.callback) (omega arith) here,
-     workers_kept (first + 1) ws (λ worker h. other worker (λ e. omega (arith, e, h))) s.1)
+workers_changed r cs new first zero (w ∷ ws) other here s = (
+  subst (λ n. IsWorkerSound (replaced r cs) n new.pool new.callback) (omega arith) here,
+  workers_kept (first + 1) ws (λ worker h. other worker (λ e. omega (arith, e, h))) s.1,
+)
   where
     workers_kept : (from : ℕ) (rest : List WorkerRow) → ((worker : ℕ) → first < worker → (p : PoolId) (number : ℕ) → RunsOn cs worker p number → has_number number r ≡ false) → AreWorkersSound cs (first + 1) rest → AreWorkersSound (replaced r cs) (first + 1) rest
     workers_kept from rest above s = from_place (first + 1) rest (omega arith) above s
@@ -72,11 +73,12 @@ workers_changed r cs new first zero (w ∷ ws) other here s =
         from_place : (at : ℕ) (rows : List WorkerRow) → first < at → ((worker : ℕ) → first < worker → (p : PoolId) (number : ℕ) → RunsOn cs worker p number → has_number number r ≡ false) → AreWorkersSound cs at rows → AreWorkersSound (replaced r cs) at rows
         from_place at [] lt h t = tt
         from_place at (x ∷ xs) lt h t = (worker_kept r cs at x.pool x.callback (h at lt) t.0, from_place (at + 1) xs (omega (arith, lt)) h t.1)
-workers_changed r cs new first (suc place) (w ∷ ws) other here s =
-    (worker_kept r cs first w.pool w.callback (other first (λ e. omega (arith, e))) s.0,
-     workers_changed r cs new (first + 1) place ws
-       (λ worker h. other worker (λ e. h (omega (arith, e))))
-       (subst (λ n. IsWorkerSound (replaced r cs) n new.pool new.callback) (omega arith) here) s.1)
+workers_changed r cs new first (suc place) (w ∷ ws) other here s = (
+  worker_kept r cs first w.pool w.callback (other first (λ e. omega (arith, e))) s.0,
+  workers_changed r cs new (first + 1) place ws
+      (λ worker h. other worker (λ e. h (omega (arith, e))))
+      (subst (λ n. IsWorkerSound (replaced r cs) n new.pool new.callback) (omega arith) here) s.1,
+)
 
 -- a worker that runs nothing may be put in any place
 workers_freed : (cs : List CallbackRow) (new : WorkerRow) (first place : ℕ) (ws : List WorkerRow) → new.callback ≡ None → AreWorkersSound cs first ws → AreWorkersSound cs first (slice_set ws place new)
@@ -120,7 +122,8 @@ pub sound_new_pool : (fresh : ℕ) (w : World) → IsSound fresh w → IsSound f
 sound_new_pool fresh w s =
     let more : length w.pools ≤ length (w.pools ++ new_pool w.limits ∷ []) = omega (arith, length-append w.pools (new_pool w.limits ∷ [])) in
     record {
-      numbers = s.numbers; workers = s.workers;
+      numbers = s.numbers;
+      workers = s.workers;
       object_pools = all_below (λ (o : ObjectRow). o.env.pool.0) (length w.pools) (length (w.pools ++ new_pool w.limits ∷ [])) more w.objects s.object_pools;
       callback_pools = all_below (λ (c : CallbackRow). c.pool.0) (length w.pools) (length (w.pools ++ new_pool w.limits ∷ [])) more w.callbacks s.callback_pools;
     }
@@ -129,7 +132,8 @@ pub sound_pool : (fresh : ℕ) (w : World) (number : ℕ) (row : PoolRow) → Is
 sound_pool fresh w number row s =
     let as_many : length w.pools ≡ length (slice_set w.pools number row) = sym (length-set w.pools number row) in
     record {
-      numbers = s.numbers; workers = s.workers;
+      numbers = s.numbers;
+      workers = s.workers;
       object_pools = subst (λ n. AllByRecursion (λ (o : ObjectRow). o.env.pool.0 < n) w.objects) as_many s.object_pools;
       callback_pools = subst (λ n. AllByRecursion (λ (c : CallbackRow). c.pool.0 < n) w.callbacks) as_many s.callback_pools;
     }
@@ -138,7 +142,7 @@ sound_pool fresh w number row s =
 pools_replaced : (pools : ℕ) (r : CallbackRow) (cs : List CallbackRow) → r.pool.0 < pools → AllByRecursion (λ (c : CallbackRow). c.pool.0 < pools) cs → AllByRecursion (λ (c : CallbackRow). c.pool.0 < pools) (replaced r cs)
 pools_replaced pools r cs home all =
     all_map (λ (c : CallbackRow). c.pool.0 < pools) (λ c. cond (has_number r.number c) r c)
-      (λ c h. elim (has_number r.number c) as (λ b. (cond b r c).pool.0 < pools) [ true ↦ home | false ↦ h ]) cs all
+    (λ c h. elim (has_number r.number c) as (λ b. (cond b r c).pool.0 < pools) [ true ↦ home | false ↦ h ]) cs all
 
 -- a worker begins a pending callback of its pool
 pub sound_started : (fresh : ℕ) (w : World) (worker : ℕ) (pool : PoolId) (c : CallbackRow) → 1 ≤ worker → find (has_number c.number) w.callbacks ≡ Some c → is_pending c.status ≡ true → c.pool ≡ pool → IsSound fresh w
@@ -148,10 +152,10 @@ sound_started fresh w worker pool c from_one found waits home s =
     record {
       numbers = rising_replaced r 1 fresh w.callbacks s.numbers;
       workers = workers_changed r w.callbacks (record { pool = Some pool; callback = Some c.number }) 1 (worker - 1) w.workers
-        (λ other _ p number runs. ne_eqb c.number number (λ e. not_pending runs.callback.status other runs.associated runs.slots runs.runs
-            (let same : runs.callback ≡ c = same_found number c.number runs.callback c w.callbacks e runs.found found in ap (λ (x : CallbackRow). is_pending x.status) same ∙ waits)))
-        (record { callback = r; associated = true; slots = no_actions; found = find_replaced r c w.callbacks found; runs = ap (λ n. Running n true no_actions) (omega (arith, from_one)); at_home = home })
-        s.workers;
+          (λ other _ p number runs. ne_eqb c.number number (λ e. not_pending runs.callback.status other runs.associated runs.slots runs.runs
+          (let same : runs.callback ≡ c = same_found number c.number runs.callback c w.callbacks e runs.found found in ap (λ (x : CallbackRow). is_pending x.status) same ∙ waits)))
+          (record { callback = r; associated = true; slots = no_actions; found = find_replaced r c w.callbacks found; runs = ap (λ n. Running n true no_actions) (omega (arith, from_one)); at_home = home })
+          s.workers;
       object_pools = s.object_pools;
       callback_pools = pools_replaced (length w.pools) r w.callbacks (find_all (λ (x : CallbackRow). x.pool.0 < length w.pools) (has_number c.number) c w.callbacks s.callback_pools found) s.callback_pools;
     }
@@ -171,10 +175,10 @@ sound_returned fresh w worker row pool c from_one runs found s =
     record {
       numbers = rising_replaced r 1 fresh w.callbacks s.numbers;
       workers = workers_changed r w.callbacks (record row { callback = None }) 1 (worker - 1) w.workers
-        (λ other apart p number others. ne_eqb c.number number (λ e. apart
-            (same_worker other worker others.associated runs.associated others.slots runs.slots others.callback.status runs.callback.status others.runs runs.runs
-              (ap (λ (x : CallbackRow). x.status) (same_found number c.number others.callback runs.callback w.callbacks e others.found runs.found)) ∙ omega (arith, from_one))))
-        tt s.workers;
+          (λ other apart p number others. ne_eqb c.number number (λ e. apart
+          (same_worker other worker others.associated runs.associated others.slots runs.slots others.callback.status runs.callback.status others.runs runs.runs
+          (ap (λ (x : CallbackRow). x.status) (same_found number c.number others.callback runs.callback w.callbacks e others.found runs.found)) ∙ omega (arith, from_one))))
+          tt s.workers;
       object_pools = s.object_pools;
       callback_pools = pools_replaced (length w.pools) r w.callbacks (find_all (λ (x : CallbackRow). x.pool.0 < length w.pools) (has_number c.number) c w.callbacks s.callback_pools found) s.callback_pools;
     }
@@ -193,16 +197,18 @@ worker_same r c cs worker pool None found status at s = tt
 worker_same r c cs worker None (Some number) found status at s = s
 worker_same r c cs worker (Some pool) (Some number) found status at s =
     elim (has_number number r) as (λ b. has_number number r ≡ b → RunsOn (replaced r cs) worker pool number) [
-      true ↦ λ e.
-        let is : r.number ≡ number = eqb-true r.number number e in
-        let same : s.callback ≡ c = same_row number r.number s.callback c is s.found found in
-        record {
-          callback = r; associated = s.associated; slots = s.slots;
-          found = ap (λ n. find (has_number n) (replaced r cs)) (sym is) ∙ find_replaced r c cs found;
-          runs = status ∙ ap (λ (x : CallbackRow). x.status) (sym same) ∙ s.runs;
-          at_home = at ∙ ap (λ (x : CallbackRow). x.pool) (sym same) ∙ s.at_home;
-        }
-    | false ↦ λ e. record { callback = s.callback; associated = s.associated; slots = s.slots; found = find_replaced_other r number cs e ∙ s.found; runs = s.runs; at_home = s.at_home }
+      | true ↦ λ e.
+          let is : r.number ≡ number = eqb-true r.number number e in
+          let same : s.callback ≡ c = same_row number r.number s.callback c is s.found found in
+          record {
+            callback = r;
+            associated = s.associated;
+            slots = s.slots;
+            found = ap (λ n. find (has_number n) (replaced r cs)) (sym is) ∙ find_replaced r c cs found;
+            runs = status ∙ ap (λ (x : CallbackRow). x.status) (sym same) ∙ s.runs;
+            at_home = at ∙ ap (λ (x : CallbackRow). x.pool) (sym same) ∙ s.at_home;
+          }
+      | false ↦ λ e. record { callback = s.callback; associated = s.associated; slots = s.slots; found = find_replaced_other r number cs e ∙ s.found; runs = s.runs; at_home = s.at_home }
     ] refl
   where
     same_row : (m n : ℕ) (x y : CallbackRow) → n ≡ m → find (has_number m) cs ≡ Some x → find (has_number n) cs ≡ Some y → x ≡ y
@@ -265,23 +271,23 @@ create_sound : (fresh : ℕ) (w : World) (who : Who) (kind : Kind) (routine : Ro
 unfolding create_row
 create_sound fresh w who kind routine context env s =
     sound_unless fresh w (first_refusal (create_refusals w who env)) (create_effect w kind routine context env) s (λ clear.
-      let none_missing = (none_holds (create_refusals w who env) clear).0 in
-      let pool_made = (neither (not (is_actor w who)) (not (is_pool w env.pool.0)) (neither (not (is_actor w who) || not (is_pool w env.pool.0)) (not (is_no_group_or_group w env.group.0)) none_missing).0).1 in
-      as_many fresh w (with_object w (new_object kind routine context env)) refl
-        (sound_object fresh w (new_object kind routine context env) (made w.pools env.pool.0 (not_false (is_pool w env.pool.0) pool_made)) s))
+    let none_missing = (none_holds (create_refusals w who env) clear).0 in
+    let pool_made = (neither (not (is_actor w who)) (not (is_pool w env.pool.0)) (neither (not (is_actor w who) || not (is_pool w env.pool.0)) (not (is_no_group_or_group w env.group.0)) none_missing).0).1 in
+    as_many fresh w (with_object w (new_object kind routine context env)) refl
+    (sound_object fresh w (new_object kind routine context env) (made w.pools env.pool.0 (not_false (is_pool w env.pool.0) pool_made)) s))
 
 submit_effect_sound : (fresh : ℕ) (w : World) (object : ℕ) (row : Option ObjectRow) → numbered w.objects object ≡ row → IsSound fresh w → SoundAfter fresh w (submit_work_effect w fresh object row)
 submit_effect_sound fresh w object None is s = as_many fresh w w refl s
 submit_effect_sound fresh w object (Some row) is s =
     let c : CallbackRow = new_callback fresh object row Plain in
     one_more fresh w (with_new_callback w c) (length-append w.callbacks (c ∷ []))
-      (sound_new_callback fresh w c refl (all_get (λ (o : ObjectRow). o.env.pool.0 < length w.pools) w.objects (object - 1) row s.object_pools (numbered_some w.objects object row is).0) s)
+    (sound_new_callback fresh w c refl (all_get (λ (o : ObjectRow). o.env.pool.0 < length w.pools) w.objects (object - 1) row s.object_pools (numbered_some w.objects object row is).0) s)
 
 submit_work_sound : (fresh : ℕ) (w : World) (who : Who) (object : ℕ) → IsSound fresh w → SoundAfter fresh w (submit_work_row w fresh who object)
 unfolding submit_work_row
 submit_work_sound fresh w who object s =
     sound_unless fresh w (first_refusal (submit_work_refusals w who object)) (submit_work_effect w fresh object (numbered w.objects object)) s
-      (λ _. submit_effect_sound fresh w object (numbered w.objects object) refl s)
+    (λ _. submit_effect_sound fresh w object (numbered w.objects object) refl s)
 
 attach_effect_sound : (fresh : ℕ) (w : World) (who : Who) (pool : Option ℕ) → IsSound fresh w → SoundAfter fresh w (attach_effect w who pool)
 attach_effect_sound fresh w (Worker number) (Some pool) s =
@@ -302,8 +308,8 @@ leave_sound : (fresh : ℕ) (w : World) (number : ℕ) (pool : PoolId) → IsSou
 leave_sound fresh w number pool s =
     let row : WorkerRow = record { pool = None; callback = None } in
     elim (may_leave w pool.0) as (λ b. SoundAfter fresh w (cond b (Accepted answer.Done (with_worker w number row)) (Looked look.Stay))) [
-      true ↦ as_many fresh w (with_worker w number row) refl (sound_free_worker fresh w number row refl s)
-    | false ↦ as_many fresh w w refl s
+      | true ↦ as_many fresh w (with_worker w number row) refl (sound_free_worker fresh w number row refl s)
+      | false ↦ as_many fresh w w refl s
     ]
 
 detach_of_sound : (fresh : ℕ) (w : World) (who : Who) (pool : Option PoolId) → IsSound fresh w → SoundAfter fresh w (detach_of w who pool)
@@ -341,12 +347,12 @@ take_next_sound : (fresh : ℕ) (w : World) (number : ℕ) (pool : PoolId) (c : 
 take_next_sound fresh w number pool None from_one is s = as_many fresh w w refl s
 take_next_sound fresh w number pool (Some c) from_one is s =
     elim (nat_le (maximum w pool.0) (running w pool.0)) as (λ b. SoundAfter fresh w (cond b (Looked (look.AtMaximum (running w pool.0))) (start w number pool c))) [
-      true ↦ as_many fresh w w refl s
-    | false ↦
-        let found = next_pending fresh w pool.0 c s is in
-        let waits = both (is_pending c.status) (c.pool.0 == pool.0) found.1 in
-        let home : c.pool ≡ pool = same_pool c.pool pool (eqb-true c.pool.0 pool.0 waits.1) in
-        as_many fresh w (with_worker (with_callback w (started c number)) number (record { pool = Some pool; callback = Some c.number })) (length_replaced (started c number) w.callbacks)
+      | true ↦ as_many fresh w w refl s
+      | false ↦
+          let found = next_pending fresh w pool.0 c s is in
+          let waits = both (is_pending c.status) (c.pool.0 == pool.0) found.1 in
+          let home : c.pool ≡ pool = same_pool c.pool pool (eqb-true c.pool.0 pool.0 waits.1) in
+          as_many fresh w (with_worker (with_callback w (started c number)) number (record { pool = Some pool; callback = Some c.number })) (length_replaced (started c number) w.callbacks)
           (sound_started fresh w number pool c from_one found.0 waits.0 home s)
     ]
   where
@@ -372,7 +378,7 @@ pub runs_on : (fresh : ℕ) (w : World) (number : ℕ) (row : WorkerRow) (callba
 runs_on fresh w number row callback s is runs =
     let place = numbered_some w.workers number row is in
     let sound : IsWorkerSound w.callbacks number row.pool row.callback =
-      subst (λ n. IsWorkerSound w.callbacks n row.pool row.callback) (omega (arith, place.1)) (worker_at w.callbacks 1 (number - 1) w.workers row s.workers place.0) in
+    subst (λ n. IsWorkerSound w.callbacks n row.pool row.callback) (omega (arith, place.1)) (worker_at w.callbacks 1 (number - 1) w.workers row s.workers place.0) in
     in_pool row.pool refl (subst (λ c. IsWorkerSound w.callbacks number row.pool c) runs sound)
   where
     in_pool : (pool : Option PoolId) → row.pool ≡ pool → IsWorkerSound w.callbacks number pool (Some callback) → (p : PoolId) × (row.pool ≡ Some p) × RunsOn w.callbacks number p callback
@@ -385,9 +391,9 @@ finish_callback_sound fresh w number row callback (Some c) is runs found s =
     let on = runs_on fresh w number row callback s is runs in
     let same : c.number ≡ callback = eqb-true c.number callback (find_passes (has_number callback) c w.callbacks found) in
     as_many fresh w (with_worker (with_callback w (returned c)) number (record row { callback = None })) (length_replaced (returned c) w.callbacks)
-      (sound_returned fresh w number row on.0 c (numbered_some w.workers number row is).1
-        (subst (λ n. RunsOn w.callbacks number on.0 n) (sym same) on.2)
-        (ap (λ n. find (has_number n) w.callbacks) same ∙ found) s)
+    (sound_returned fresh w number row on.0 c (numbered_some w.workers number row is).1
+    (subst (λ n. RunsOn w.callbacks number on.0 n) (sym same) on.2)
+    (ap (λ n. find (has_number n) w.callbacks) same ∙ found) s)
 
 return_of_sound : (fresh : ℕ) (w : World) (number : ℕ) (row : WorkerRow) (callback : Option ℕ) → numbered w.workers number ≡ Some row → row.callback ≡ callback → IsSound fresh w → SoundAfter fresh w (return_of w number row callback)
 return_of_sound fresh w number row None is runs s = as_many fresh w w refl s

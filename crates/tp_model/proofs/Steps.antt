@@ -1,17 +1,16 @@
 -- The step where the row is known.
-use Rattle.std.proofs.Common.{◌≡◌, ℕ, ◌+◌, ◌-◌, ◌<◌, ◌≤◌, Bool, true, false, cond, Option, Some, None, nat_lt, refl, sym, ap, ◌∙◌, subst, arith, ltb-false, lt-ltb, le-ltb}
+use Rattle.std.proofs.Common.{◌≡◌, ℕ, ◌+◌, ◌<◌, ◌≤◌, true, false, cond, Option, Some, None, nat_lt, refl, sym, ap, ◌∙◌, lt-ltb, le-ltb}
 use Rattle.tp_base.specs.declared.ids.Who.{Who}
 use Rattle.tp_base.specs.declared.calls.Call.{Call}
 use Rattle.tp_base.specs.declared.answers.Answer.{Answer}
-use Rattle.tp_base.specs.declared.answers.Answer.TheVariants as answer
 use Rattle.tp_base.specs.declared.answers.Refusal.{Refusal}
 use Rattle.tp_base.specs.declared.answers.Look.{Look}
 use Rattle.tp_base.specs.declared.answers.Outcome.{Outcome}
 use Rattle.tp_base.specs.declared.answers.Outcome.TheVariants as outcome
 use Rattle.tp_model.specs.World.{World}
-use Rattle.tp_model.specs.Step.{Step, Accepted, Refused, Looked, Full, first_refusal, unless_refused, unless_full, within, cost, outcome_of}
+use Rattle.tp_model.specs.Step.{Step, Accepted, Refused, Looked, Full, unless_refused, unless_full, within, cost, outcome_of}
 use Rattle.tp_model.specs.Table.{row_at}
-use Rattle.tp_model.specs.Remembered.{Remembered, Goes, step_of, remembered_after, forget}
+use Rattle.tp_model.specs.Remembered.{Remembered, Goes, step_of, remembered_after}
 
 pub unless_none : (r : Option Refusal) (e : Step) → r ≡ None → unless_refused r e ≡ e
 unless_none r e is = ap (λ x. unless_refused x e) is
@@ -43,11 +42,11 @@ module _ (e : Remembered) (room : ℕ) (who : Who) (call : Call) where
   pub goes_full : (answer : Answer) (after : World) (price : ℕ) (told : Outcome) → row_at e.world (e.made + 1) who call ≡ Accepted answer after → cost e.world after ≡ price → room < price → told ≡ outcome.Full room price → Goes e e (step_of e room who call) told
   goes_full answer after price told is costs short says =
       let same : step_of e room who call ≡ Full room price =
-            ap (within e.world room) is ∙ ap (λ n. unless_full room n (Accepted answer after)) costs ∙ is_full room price (Accepted answer after) short in
+      ap (within e.world room) is ∙ ap (λ n. unless_full room n (Accepted answer after)) costs ∙ is_full room price (Accepted answer after) short in
       record { tells = says ∙ ap outcome_of (sym same); keeps = ap (remembered_after e) (sym same) }
 
   pub goes_accepted : (answer : Answer) (after : World) (price : ℕ) (new : Remembered) (told : Outcome) → row_at e.world (e.made + 1) who call ≡ Accepted answer after → cost e.world after ≡ price → price ≤ room → told ≡ outcome.Done answer → new ≡ remembered_after e (Accepted answer after) → Goes e new (step_of e room who call) told
   goes_accepted answer after price new told is costs fits says keeps =
       let same : step_of e room who call ≡ Accepted answer after =
-            ap (within e.world room) is ∙ ap (λ n. unless_full room n (Accepted answer after)) costs ∙ not_full room price (Accepted answer after) fits in
+      ap (within e.world room) is ∙ ap (λ n. unless_full room n (Accepted answer after)) costs ∙ not_full room price (Accepted answer after) fits in
       record { tells = says ∙ ap outcome_of (sym same); keeps = keeps ∙ ap (remembered_after e) (sym same) }

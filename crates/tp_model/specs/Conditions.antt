@@ -1,5 +1,5 @@
 -- The conditions of the refusals that several calls share, with the actor or the thing named as their subject.
-use Rattle.std.specs.Prelude.{ℕ, ◌+◌, Bool, true, false, not, ◌||◌, ◌==◌, nat_lt, nat_le, List, length, slice_get, is_some, is_none, if◌then◌else◌, None, Some, Option}
+use Rattle.std.specs.Prelude.{ℕ, ◌+◌, Bool, true, false, ◌||◌, ◌==◌, nat_lt, slice_get, is_some, is_none, None, Option}
 use Rattle.std.specs.List.{list_any}
 use Rattle.std.specs.Option.{option_map_or}
 use Rattle.tp_base.specs.declared.ids.Who.{Who}

@@ -10,7 +10,7 @@ use Rattle.tp_base.specs.declared.answers.Outcome.TheVariants.{Done}
 use Rattle.tp_base.specs.declared.limits.Limits.{Limits}
 use Rattle.tp_model.specs.World.{World, opening}
 use Rattle.tp_model.specs.Counts.{owed}
-use Rattle.tp_model.specs.Step.{Step, outcome_of, world_after, entries_of}
+use Rattle.tp_model.specs.Step.{outcome_of, world_after, entries_of}
 use Rattle.tp_model.specs.Table.{row, step}
 
 -- what a history of a capacity with so many entries has left, less what the world owes it

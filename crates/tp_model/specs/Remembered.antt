@@ -1,5 +1,5 @@
 -- What an engine remembers of a world: all but the callbacks that returned or were cancelled.
-use Rattle.std.specs.Prelude.{◌≡◌, ℕ, ◌+◌, ◌-◌, Bool, List, length, if◌then◌else◌}
+use Rattle.std.specs.Prelude.{◌≡◌, ℕ, ◌+◌, ◌-◌, Bool, length, if◌then◌else◌}
 use Rattle.std.specs.List.{filter}
 use Rattle.tp_base.specs.declared.ids.Who.{Who}
 use Rattle.tp_base.specs.declared.calls.Call.{Call}
@@ -37,7 +37,7 @@ remembered_in e after = record {
   world = forget after;
   made = e.made + (length after.callbacks - length e.world.callbacks);
   age = e.age + 1;
-  }
+}
 
 -- nothing but an accepted step changes what is remembered
 abbrev pub remembered_after : Remembered → Step → Remembered

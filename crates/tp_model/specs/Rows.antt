@@ -6,7 +6,6 @@ use Rattle.std.specs.List.{list_any}
 use Rattle.tp_base.specs.declared.ids.Who.{Who}
 use Rattle.tp_base.specs.declared.ids.Who.TheVariants.{Client, Worker}
 use Rattle.tp_base.specs.declared.ids.PoolId.{PoolId}
-use Rattle.tp_base.specs.declared.ids.ObjectId.{ObjectId}
 use Rattle.tp_base.specs.declared.ids.RoutineId.{RoutineId}
 use Rattle.tp_base.specs.declared.calls.Kind.{Kind}
 use Rattle.tp_base.specs.declared.calls.Environ.{Environ}
@@ -173,7 +172,7 @@ new_callback number object row result = record {
   long = row.env.long;
   result = result;
   status = Pending;
-  }
+}
 
 abbrev pub submit_work_effect : World → ℕ → ℕ → Option ObjectRow → Step
 submit_work_effect w fresh object None = Refused NoSuch
@@ -267,8 +266,8 @@ started c worker = record c { status = Running worker true no_actions }
 abbrev pub start : World → ℕ → PoolId → CallbackRow → Step
 start w worker pool c =
     Accepted
-      (answer.Taken c.number c.object c.routine c.context c.result)
-      (with_worker (with_callback w (started c worker)) worker (record { pool = Some pool; callback = Some c.number }))
+    (answer.Taken c.number c.object c.routine c.context c.result)
+    (with_worker (with_callback w (started c worker)) worker (record { pool = Some pool; callback = Some c.number }))
 
 abbrev pub take_next : World → ℕ → PoolId → Option CallbackRow → Step
 take_next w worker pool None = Looked look.Empty
@@ -307,8 +306,8 @@ abbrev pub finish_callback : World → ℕ → WorkerRow → Option CallbackRow 
 finish_callback w worker row None = Refused NotRunning
 finish_callback w worker row (Some c) =
     Accepted
-      (answer.Returned Unasked Unasked Unasked Unasked 0 0)
-      (with_worker (with_callback w (returned c)) worker (record row { callback = None }))
+    (answer.Returned Unasked Unasked Unasked Unasked 0 0)
+    (with_worker (with_callback w (returned c)) worker (record row { callback = None }))
 
 abbrev pub return_of : World → ℕ → WorkerRow → Option ℕ → Step
 return_of w worker row None = Refused NotRunning

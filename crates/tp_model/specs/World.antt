@@ -1,6 +1,5 @@
 -- A world: all that the machine is at one moment, as plain lists.
 use Rattle.std.specs.Prelude.{ℕ, List, [], ◌∷◌, replicate, false, None}
-use Rattle.tp_base.specs.declared.ids.PoolId.{PoolId}
 use Rattle.tp_base.specs.declared.ids.Who.{Who}
 use Rattle.tp_base.specs.declared.ids.ObjectId.{ObjectId}
 use Rattle.tp_base.specs.declared.limits.Limits.{Limits}
@@ -67,4 +66,4 @@ opening limits = record {
   waits = [];
   now = 0;
   given_up = 0;
-  }
+}

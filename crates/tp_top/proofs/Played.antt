@@ -59,11 +59,11 @@ played_next calls i made engine new entries after outcome text longer p next goe
       w = world_after w came;
       stands = m.stands;
       told =
-        ap (λ n. longer ++ answers_text (play_from (world_after w came) 65536 n rest)) m.counts
-        ∙ ap (λ t. t ++ behind) (line ∙ ap (λ t. text ++ (t ++ 10 ∷ [])) told)
-        ∙ append_assoc text (text_of_outcome (outcome_of came) ++ 10 ∷ []) behind
-        ∙ ap (λ t. text ++ t) (append_assoc (text_of_outcome (outcome_of came)) (10 ∷ []) behind ∙ sym now)
-        ∙ p.told;
+          ap (λ n. longer ++ answers_text (play_from (world_after w came) 65536 n rest)) m.counts
+          ∙ ap (λ t. t ++ behind) (line ∙ ap (λ t. text ++ (t ++ 10 ∷ [])) told)
+          ∙ append_assoc text (text_of_outcome (outcome_of came) ++ 10 ∷ []) behind
+          ∙ ap (λ t. text ++ t) (append_assoc (text_of_outcome (outcome_of came)) (10 ∷ []) behind ∙ sym now)
+          ∙ p.told;
       young = omega (arith, m.ages, p.young);
       few = omega (arith, m.counts, entries_most came, p.few);
     }

@@ -23,8 +23,12 @@ pub overflow_sub-self : goal.overflow_sub-self
 overflow_sub-self c =
     let i = c.self.inside in
     let w = world_of i.limits i.pools i.objects i.callbacks.rows i.clients.items in
-    omega (arith, owed_left w c.args.number c.requires.idle.0
-    (subst (λ (r : Remembered). numbered r.world.workers c.args.number ≡ Some (record { pool = Some c.requires.idle.0; callback = None })) (sym c.self.view_is) c.requires.idle.1), c.self.invariant.owes)
+    omega (
+      arith,
+      owed_left w c.args.number c.requires.idle.0
+          (subst (λ (r : Remembered). numbered r.world.workers c.args.number ≡ Some (record { pool = Some c.requires.idle.0; callback = None })) (sym c.self.view_is) c.requires.idle.1),
+      c.self.invariant.owes,
+    )
 
 pub invariant_of-self : goal.invariant_of-self
 invariant_of-self c =

@@ -1,6 +1,5 @@
-use Rattle.std.proofs.Common.{◌≡◌, ◌||◌, ◌&&◌, ◌==◌, ◌<◌, nat_lt, length, slice_get, Some, is_some, sym, ap, ap₂, ◌∙◌, subst, refl}
+use Rattle.std.proofs.Common.{◌≡◌, ◌||◌, ◌&&◌, ◌==◌, ◌<◌, nat_lt, length, sym, ap, ap₂, ◌∙◌, subst}
 use Rattle.std.specs.List.{list_any}
-use Rattle.std.specs.Option.{option_map_or}
 use Rattle.tp_base.specs.declared.rows.CallbackRow.{CallbackRow}
 use Rattle.tp_model.specs.Counts.{is_live, pending, running}
 use Rattle.tp_model.specs.Remembered.{Remembered}

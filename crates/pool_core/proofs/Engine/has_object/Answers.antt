@@ -1,8 +1,7 @@
-use Rattle.std.proofs.Common.{◌≡◌, ℕ, ◌+◌, ◌<◌, ◌≤◌, true, false, length, map, slice_get, refl, sym, ap, ◌∙◌, subst, arith, ⊎_elim}
+use Rattle.std.proofs.Common.{◌≡◌, ◌≤◌, false, length, slice_get, sym, ap, ◌∙◌, arith, ⊎_elim}
 use Rattle.std.proofs.Math.Nat.{eq-or-lt_of_le}
 use Rattle.std.specs.Option.{option_map_or}
 use Rattle.std.proofs.lemmas.List.{length-map}
-use Rattle.handle_table.specs.Table.{Table}
 use Rattle.tp_model.specs.Remembered.{Remembered}
 use Rattle.pool_core.specs.Parts.{shown_object}
 use Rattle.pool_core.proofs.Using.{any_at, any_nowhere, binds, bound_shown}

@@ -1,5 +1,5 @@
 use Rattle.std.proofs.Common.{◌≡◌, ℕ, ◌-◌, ◌&&◌, ◌||◌, ◌==◌, Bool, nat_lt, sym, ap, ap₂, ◌∙◌}
-use Rattle.tp_model.specs.Counts.{running_long, attached, maximum, minimum, available, pending}
+use Rattle.tp_model.specs.Counts.{running_long, attached, pending}
 use Rattle.tp_model.specs.Rows.{may_leave, another_in_need}
 use Rattle.tp_model.specs.Remembered.{Remembered}
 use Rattle.pool_core.specs.Parts.{world_of}

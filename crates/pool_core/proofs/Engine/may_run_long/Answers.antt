@@ -1,11 +1,10 @@
-use Rattle.std.proofs.Common.{◌≡◌, ℕ, ◌+◌, ◌<◌, length, None, Some, find, refl, sym, ap, ◌∙◌, arith}
-use Rattle.tp_base.specs.declared.ids.PoolId.{PoolId}
+use Rattle.std.proofs.Common.{◌≡◌, ℕ, ◌+◌, ◌<◌, length, Some, refl, sym, ap, ◌∙◌, arith}
 use Rattle.tp_base.specs.declared.calls.Call.TheVariants.{MayRunLong}
 use Rattle.tp_base.specs.declared.answers.Answer.TheVariants as answer
 use Rattle.tp_base.specs.declared.answers.Outcome.TheVariants.{Done}
 use Rattle.tp_base.specs.declared.rows.CallbackRow.{CallbackRow}
 use Rattle.tp_model.specs.World.{World}
-use Rattle.tp_model.specs.Counts.{numbered, has_number, callback_of}
+use Rattle.tp_model.specs.Counts.{has_number, callback_of}
 use Rattle.tp_model.specs.Conditions.{runs_callback}
 use Rattle.tp_model.specs.Step.{cost}
 use Rattle.tp_model.specs.Sound.{IsSound}
