@@ -1,5 +1,5 @@
 -- How two cuts of one list lie.
-use Rattle.std.proofs.Common.{◌≡◌, List, [], ◌∷◌, ◌++◌, refl, sym, ap, ◌∙◌, subst}
+use Rattle.std.proofs.Common.{◌≡◌, List, [], ◌∷◌, ◌++◌, refl, sym, ap, subst}
 
 -- of `a ++ b ≡ c ++ d`: the left cut is further on, the right one is, or they are one
 pub data Cut {A : Type 0} (a b c d : List A) : Type 0 where

@@ -1,13 +1,15 @@
 -- Fronts of decimal numbers.
-use Rattle.std.proofs.Common.{◌≡◌, ℕ, suc, ◌+◌, ◌-◌, ◌*◌, ◌/◌, ◌%◌, ◌^◌, ◌<◌, ◌≤◌, List, [], ◌∷◌, ◌++◌, length, take, drop, get_or, refl, sym, ap, ◌∙◌, subst, arith, length-drop, ◌⊎◌, inl, inr}
-use Rattle.std.proofs.lemmas.List.{append-nil, append_assoc, length-append, drop_more, take_more}
+use Rattle.std.proofs.Common.{◌≡◌, ℕ, ◌+◌, ◌-◌, ◌*◌, ◌/◌, ◌%◌, ◌^◌, ◌<◌, ◌≤◌, List, [], ◌∷◌, ◌++◌, length, take, drop, get_or, refl, sym, ap, ◌∙◌, arith, ◌⊎◌, inl, inr, IsTrue}
+use Rattle.std.proofs.lemmas.List.{length-append, take_more}
 use Rattle.std.proofs.lemmas.Fmt.{decimal_step, decimal_by_steps, decimal_digit, decimal_nonempty, decimal_injective}
 use Rattle.std.specs.Prelude.{decimal}
-use Rattle.line_grammar.specs.Language.{Begins, Stops, Reaches, AnyOf, IsReadTo, IsStuck, IsRead}
-use Rattle.line_grammar.specs.Numbers.{IsNumber, Numbers, IsLonger}
+use Rattle.line_grammar.specs.Language.{Stops, AnyOf, IsReadTo, IsStuck}
+use Rattle.line_grammar.specs.Numbers.{Numbers, IsLonger}
 use Rattle.line_grammar.specs.Parts.{IsPart}
+use Rattle.line_grammar.specs.Words.{lacks}
 use Rattle.line_grammar.proofs.Cuts.{Cut, cut, further, nearer, same}
 use Rattle.line_grammar.proofs.Pairs.{one_then}
+use Rattle.line_grammar.proofs.WordFacts.{lacks_push}
 
 -- what is known of the first byte of a number's text
 record StartsAs (n b : ℕ) : Type 0 where
@@ -26,10 +28,13 @@ starts_one n small = (omega arith, λ b rest e. let first : 48 + n ≡ b = cc in
 starts_more : (n : ℕ) (ds : List ℕ) → 10 ≤ n → Starts (n / 10) ds → Starts n (ds ++ ((48 + n % 10) ∷ []))
 unfolding Starts
 starts_more n [] large s = absurd (omega (arith, s.0))
-starts_more n (d ∷ ds) large s = (omega arith, λ b rest e.
-    let first : d ≡ b = cc in
-    let old = s.1 d ds refl in
-    record { digit_least = omega (arith, old.digit_least); digit_most = omega (arith, old.digit_most); at_most = omega (arith, old.at_most); not_zero = λ h. omega (arith, old.not_zero) })
+starts_more n (d ∷ ds) large s = (
+  omega arith,
+  λ b rest e.
+      let first : d ≡ b = cc in
+      let old = s.1 d ds refl in
+      record { digit_least = omega (arith, old.digit_least); digit_most = omega (arith, old.digit_most); at_most = omega (arith, old.at_most); not_zero = λ h. omega (arith, old.not_zero) },
+)
 
 pub starts : (n b : ℕ) (rest : List ℕ) → n < 2 ^ 64 → decimal n ≡ b ∷ rest → (48 ≤ b) × (b ≤ 57) × (b - 48 ≤ n) × (0 < n → 48 < b)
 unfolding Starts
@@ -49,15 +54,18 @@ Longer n ds = n < 2 ^ 64 → (ds ≡ decimal n) × ((v b : ℕ) (rest : List ℕ
 
 longer_one : (n : ℕ) → n < 10 → Longer n ((48 + n) ∷ [])
 unfolding Longer
-longer_one n small bound = (sym (decimal_digit n small), λ v b rest vb e.
-    absurd (omega (arith, ap length e, length-append (decimal v) (b ∷ rest), decimal_nonempty v vb)))
+longer_one n small bound = (
+  sym (decimal_digit n small),
+  λ v b rest vb e.
+      absurd (omega (arith, ap length e, length-append (decimal v) (b ∷ rest), decimal_nonempty v vb)),
+)
 
 longer_more : (n : ℕ) (ds : List ℕ) → 10 ≤ n → Longer (n / 10) ds → Longer n (ds ++ ((48 + n % 10) ∷ []))
 unfolding Longer
 longer_more n ds large h bound =
     let old = h (omega arith) in
     (ap (λ l. l ++ ((48 + n % 10) ∷ [])) old.0 ∙ sym (decimal_step n large bound), λ v b rest vb e. by_cut v b rest vb (cut ds ((48 + n % 10) ∷ []) (decimal v) (b ∷ rest) e))
-    where
+  where
     by_cut : (v b : ℕ) (rest : List ℕ) → v < 2 ^ 64 → Cut ds ((48 + n % 10) ∷ []) (decimal v) (b ∷ rest) → GoesOn n v b
     by_cut v b rest vb (further x m e f) =
         let first : b ≡ x = cc in
@@ -92,12 +100,12 @@ pub record IsSoFar (text : List ℕ) (least most value size : ℕ) : Type 0 wher
 
 pub so_far_first : (text : List ℕ) (least most digit : ℕ) → digit < 10 → digit ≤ most → (0 < least → 0 < digit) → 0 < length text → get_or text 0 0 ≡ 48 + digit → IsSoFar text least most digit 1
 so_far_first text least most digit small fits low long e = record {
-    begun = omega arith;
-    within = omega arith;
-    at_most = fits;
-    split = let one : take 1 text ≡ get_or text 0 0 ∷ [] = take_more text 0 0 long in one ∙ ap (λ b. b ∷ []) e ∙ sym (decimal_digit digit small);
-    positive = low;
-  }
+  begun = omega arith;
+  within = omega arith;
+  at_most = fits;
+  split = let one : take 1 text ≡ get_or text 0 0 ∷ [] = take_more text 0 0 long in one ∙ ap (λ b. b ∷ []) e ∙ sym (decimal_digit digit small);
+  positive = low;
+}
 
 pub so_far_next : (text : List ℕ) (least most value size longer : ℕ) → most < 2 ^ 64 → IsSoFar text least most value size → size < length text
     → IsLonger most value (get_or text size 0) longer → IsSoFar text least most longer (size + 1)
@@ -114,7 +122,6 @@ so_far_next text least most value size longer bound s more l =
     }
 
 module _ (least most : ℕ) (bound : most < 2 ^ 64) where
-
   number_stops : (front rest : List ℕ) (value : ℕ) → value ≤ most → front ≡ decimal value
       → ((byte : ℕ) (more : List ℕ) (longer : ℕ) → rest ≡ byte ∷ more → IsLonger most value byte longer → ⊥)
       → Stops (AnyOf (Numbers least most)) front rest
@@ -128,23 +135,23 @@ module _ (least most : ℕ) (bound : most < 2 ^ 64) where
       → ((byte : ℕ) (more : List ℕ) (longer : ℕ) → drop size text ≡ byte ∷ more → IsLonger most value byte longer → ⊥)
       → IsReadTo (Numbers least most) text value size
   number_read text value size s low none = record {
-      within = s.within;
-      text_of = record { at_least = low; at_most = s.at_most; split = s.split };
-      stops = number_stops (take size text) (drop size text) value s.at_most s.split none;
-    }
+    within = s.within;
+    text_of = record { at_least = low; at_most = s.at_most; split = s.split };
+    stops = number_stops (take size text) (drop size text) value s.at_most s.split none;
+  }
 
   -- a number below the least that digits behind it make one of the language
   pub number_short : (text : List ℕ) (value size : ℕ) → IsSoFar text least most value size → value < least → 0 < value → least ≤ 19 → 199 ≤ most
       → ((byte : ℕ) (more : List ℕ) (longer : ℕ) → drop size text ≡ byte ∷ more → IsLonger most value byte longer → ⊥)
       → IsStuck (Numbers least most) text size
   number_short text value size s low positive small large none = record {
-      within = s.within;
-      absent = λ (m, number). let same_value : value ≡ m = decimal_injective value m (omega (arith, s.at_most)) (omega (arith, number.at_most)) (sym s.split ∙ number.split) in omega (arith, number.at_least);
-      reaches = record {
-        begins = (57 ∷ [], (value * 10 + 9, record { at_least = omega arith; at_most = omega arith; split = ap (λ l. l ++ 57 ∷ []) s.split ∙ sym (decimal_longer value 9 positive (omega arith) (omega arith)) }));
-        stops = number_stops (take size text) (drop size text) value s.at_most s.split none;
-      };
-    }
+    within = s.within;
+    absent = λ (m, number). let same_value : value ≡ m = decimal_injective value m (omega (arith, s.at_most)) (omega (arith, number.at_most)) (sym s.split ∙ number.split) in omega (arith, number.at_least);
+    reaches = record {
+      begins = (57 ∷ [], (value * 10 + 9, record { at_least = omega arith; at_most = omega arith; split = ap (λ l. l ++ 57 ∷ []) s.split ∙ sym (decimal_longer value 9 positive (omega arith) (omega arith)) }));
+      stops = number_stops (take size text) (drop size text) value s.at_most s.split none;
+    };
+  }
 
   number_missing_stops : (text : List ℕ) → ((b : ℕ) (rest : List ℕ) → text ≡ b ∷ rest → (m : ℕ) (more : List ℕ) → least ≤ m → m ≤ most → decimal m ≡ b ∷ more → ⊥)
       → Stops (AnyOf (Numbers least most)) [] text
@@ -154,13 +161,13 @@ module _ (least most : ℕ) (bound : most < 2 ^ 64) where
   number_missing : (text : List ℕ) → least ≤ most → ((b : ℕ) (rest : List ℕ) → text ≡ b ∷ rest → (m : ℕ) (more : List ℕ) → least ≤ m → m ≤ most → decimal m ≡ b ∷ more → ⊥)
       → IsStuck (Numbers least most) text 0
   number_missing text room none = record {
-      within = omega arith;
-      absent = λ (m, number). omega (arith, decimal_nonempty m (omega (arith, number.at_most)), ap length number.split);
-      reaches = record {
-        begins = (decimal least, (least, record { at_least = omega arith; at_most = room; split = refl }));
-        stops = number_missing_stops text none;
-      };
-    }
+    within = omega arith;
+    absent = λ (m, number). omega (arith, decimal_nonempty m (omega (arith, number.at_most)), ap length number.split);
+    reaches = record {
+      begins = (decimal least, (least, record { at_least = omega arith; at_most = room; split = refl }));
+      stops = number_missing_stops text none;
+    };
+  }
 
   -- no digit stands there
   pub no_number : (text : List ℕ) → least ≤ most → ((byte : ℕ) (rest : List ℕ) → text ≡ byte ∷ rest → 48 ≤ byte → 57 < byte) → IsStuck (Numbers least most) text 0
@@ -174,14 +181,29 @@ module _ (least most : ℕ) (bound : most < 2 ^ 64) where
       let byte : 48 + digit ≡ b = sym first ∙ ap (λ l. get_or l 0 0) e in
       elim wrong [ inl w ↦ omega (arith, s.2) | inr w ↦ omega (arith, s.3, w.0, w.1) ])
 
-
 pub numbers_part : (least most separator : ℕ) → most < 2 ^ 64 → separator < 48 → IsPart separator (Numbers least most)
 numbers_part least most separator bound low = record {
-    unique = λ v w text a b. decimal_injective v w (omega (arith, a.at_most)) (omega (arith, b.at_most)) (sym a.split ∙ b.split);
-    apart = λ v w text more a b.
-        let on = goes_on w v separator more (omega (arith, b.at_most)) (omega (arith, a.at_most)) (sym b.split ∙ ap (λ l. l ++ separator ∷ more) a.split) in
-        omega (arith, on.0);
-  }
+  unique = λ v w text a b. decimal_injective v w (omega (arith, a.at_most)) (omega (arith, b.at_most)) (sym a.split ∙ b.split);
+  apart = λ v w text more a b.
+      let on = goes_on w v separator more (omega (arith, b.at_most)) (omega (arith, a.at_most)) (sym b.split ∙ ap (λ l. l ++ separator ∷ more) a.split) in
+      omega (arith, on.0);
+}
 
 pub some_number : (least most : ℕ) → least ≤ most → AnyOf (Numbers least most) (decimal least)
 some_number least most room = (least, record { at_least = omega arith; at_most = room; split = refl })
+
+-- digits alone stand in a number
+DigitsLack : ℕ → ℕ → List ℕ → Type 0
+DigitsLack separator n ds = IsTrue (lacks separator ds)
+
+lack_one : (separator : ℕ) → separator < 48 → (n : ℕ) → n < 10 → DigitsLack separator n ((48 + n) ∷ [])
+unfolding DigitsLack
+lack_one separator low n small = lacks_push separator (48 + n) [] refl (λ e. omega arith)
+
+lack_more : (separator : ℕ) → separator < 48 → (n : ℕ) (ds : List ℕ) → 10 ≤ n → DigitsLack separator (n / 10) ds → DigitsLack separator n (ds ++ ((48 + n % 10) ∷ []))
+unfolding DigitsLack
+lack_more separator low n ds large h = lacks_push separator (48 + n % 10) ds h (λ e. omega arith)
+
+pub decimal_lacks : (separator : ℕ) → separator < 48 → (n : ℕ) → n < 2 ^ 64 → IsTrue (lacks separator (decimal n))
+unfolding DigitsLack
+decimal_lacks separator low n bound = decimal_by_steps (DigitsLack separator) (lack_one separator low) (lack_more separator low) n bound

@@ -1,9 +1,8 @@
 -- Reading one part, and then what follows it.
-use Rattle.std.proofs.Common.{◌≡◌, ℕ, ◌+◌, ◌-◌, ◌≤◌, List, [], ◌∷◌, ◌++◌, length, take, drop, refl, sym, ap, ◌∙◌, subst, append_assoc, arith, length-drop, length-take}
-use Rattle.std.proofs.lemmas.List.{append-nil, take-append-drop, drop-drop, length-append, take_at, drop_at, length-take-le}
+use Rattle.std.proofs.Common.{◌≡◌, ℕ, ◌+◌, List, [], ◌∷◌, ◌++◌, take, drop, refl, sym, ap, ◌∙◌, subst, append_assoc, arith, length-drop}
+use Rattle.std.proofs.lemmas.List.{append-nil, take-append-drop, drop-drop}
 use Rattle.std.proofs.Math.Seq.{take-add}
-use Rattle.std.specs.Prelude.{Result, Ok, Err}
-use Rattle.line_grammar.specs.Language.{Begins, Stops, Reaches, AnyOf, IsReadTo, IsStuck, IsRead, IsFault, IsParsed, IsWhole}
+use Rattle.line_grammar.specs.Language.{Stops, Reaches, AnyOf, IsReadTo, IsStuck}
 use Rattle.line_grammar.specs.Parts.{IsPair, Pairs, Opens, IsPart, IsTail}
 use Rattle.line_grammar.proofs.Cuts.{Cut, cut, further, nearer, same}
 
@@ -42,8 +41,7 @@ take_both : {A : Type 0} (n m : ℕ) (s : List A) → take (n + m) s ≡ take n 
 take_both n m s = take-add n m s
 
 module _ {V U A : Type 0} (separator : A) (P : V → List A → Type 0) (R : V → U → List A → Type 0)
-  (part : IsPart separator P) (tail : (v : V) → IsTail separator (R v)) where
-
+    (part : IsPart separator P) (tail : (v : V) → IsTail separator (R v)) where
   -- behind a part that was read, a text that goes along with what follows begins with the very part
   at_cut : (front rest : List A) (v : V) → P v front → Stops (AnyOf P) front rest
       → (t : List A) → GoesAlong t rest → (w : V) (u : U) (f b : List A) → P w f → R w u b
@@ -76,7 +74,7 @@ module _ {V U A : Type 0} (separator : A) (P : V → List A → Type 0) (R : V �
       → (t : List A) → GoesAlong t rest → (w : V) (u : U) → IsPair P R w u (front ++ t) → R v u t
   pair_at front rest v p stops t along w u pair =
       let ends = at_cut front rest v p stops t along w u pair.front pair.back pair.first pair.second
-          (cut front t pair.front pair.back pair.split) in
+      (cut front t pair.front pair.back pair.split) in
       let first : P w front = subst (λ l. P w l) ends.0 pair.first in
       let second : R w u t = subst (λ l. R w u l) ends.1 pair.second in
       subst (λ y. R y u t) (part.unique w v front first p) second
@@ -85,28 +83,34 @@ module _ {V U A : Type 0} (separator : A) (P : V → List A → Type 0) (R : V �
       → (t : List A) → GoesAlong t rest → AnyOf (Pairs P R) (front ++ t) → ⊥
   no_pair front rest reach none t along ((w, u), pair) =
       no_cut front rest reach none t along w u pair.front pair.back pair.first pair.second
-          (cut front t pair.front pair.back pair.split)
+      (cut front t pair.front pair.back pair.split)
 
   -- the place where the first part is stuck
   reaches_first : (front rest : List A) → Reaches (AnyOf P) front rest → (AnyOf P front → ⊥) → Reaches (AnyOf (Pairs P R)) front rest
   reaches_first front rest reach none = record {
-      begins = let more = reach.begins in let end = (tail more.1.0).some in
-          (more.0 ++ end.1, ((more.1.0, end.0), record { front = front ++ more.0; back = end.1; split = sym (append_assoc front more.0 end.1); first = more.1.1; second = end.2 }));
-      stops = stops_first rest reach.stops (λ t along pair. no_pair front rest reach none t along pair);
-    }
+    begins = let more = reach.begins in let end = (tail more.1.0).some in
+        (more.0 ++ end.1, ((more.1.0, end.0), record { front = front ++ more.0; back = end.1; split = sym (append_assoc front more.0 end.1); first = more.1.1; second = end.2 }));
+    stops = stops_first rest reach.stops (λ t along pair. no_pair front rest reach none t along pair);
+  }
     where
-    stops_first : (rest : List A) → Stops (AnyOf P) front rest → ((t : List A) → GoesAlong t rest → AnyOf (Pairs P R) (front ++ t) → ⊥) → Stops (AnyOf (Pairs P R)) front rest
-    stops_first [] s h = tt
-    stops_first (x ∷ rest) s h = λ (more, pair). h (x ∷ more) refl (subst (AnyOf (Pairs P R)) (one_then front x more) pair)
+      stops_first : (rest : List A) → Stops (AnyOf P) front rest → ((t : List A) → GoesAlong t rest → AnyOf (Pairs P R) (front ++ t) → ⊥) → Stops (AnyOf (Pairs P R)) front rest
+      stops_first [] s h = tt
+      stops_first (x ∷ rest) s h = λ (more, pair). h (x ∷ more) refl (subst (AnyOf (Pairs P R)) (one_then front x more) pair)
 
   stops_second : (front middle rest : List A) (v : V) → P v front → Stops (AnyOf P) front (middle ++ rest)
       → Stops (AnyOf (R v)) middle rest → Stops (AnyOf (Pairs P R)) (front ++ middle) rest
   stops_second front middle [] v p s h = tt
   stops_second front middle (x ∷ rest) v p s h = λ (more, ((w, u), pair)).
       let regrouped : ((front ++ middle) ++ x ∷ []) ++ more ≡ front ++ ((middle ++ x ∷ []) ++ more) =
-          ap (λ l. l ++ more) (append_assoc front middle (x ∷ [])) ∙ append_assoc front (middle ++ x ∷ []) more in
-      h (more, (u, pair_at front (middle ++ x ∷ rest) v p s ((middle ++ x ∷ []) ++ more) (along_next middle x rest more) w u
-          (subst (λ l. IsPair P R w u l) regrouped pair)))
+      ap (λ l. l ++ more) (append_assoc front middle (x ∷ [])) ∙ append_assoc front (middle ++ x ∷ []) more in
+      h (
+        more,
+        (
+          u,
+          pair_at front (middle ++ x ∷ rest) v p s ((middle ++ x ∷ []) ++ more) (along_next middle x rest more) w u
+              (subst (λ l. IsPair P R w u l) regrouped pair),
+        ),
+      )
 
   pub pairs_read : (s : List A) (v : V) (n : ℕ) → IsReadTo P s v n → (u : U) (m : ℕ) → IsReadTo (R v) (drop n s) u m → IsReadTo (Pairs P R) s (v, u) (n + m)
   pairs_read s v n first u m second =
@@ -118,16 +122,16 @@ module _ {V U A : Type 0} (separator : A) (P : V → List A → Type 0) (R : V �
             subst (λ l. Stops (AnyOf (Pairs P R)) l (drop (n + m) s)) (sym fronts)
             (subst (λ l. Stops (AnyOf (Pairs P R)) (take n s ++ take m (drop n s)) l) rest
             (stops_second (take n s) (take m (drop n s)) (drop m (drop n s)) v first.text_of
-              (subst (λ l. Stops (AnyOf P) (take n s) l) (sym (take-append-drop m (drop n s))) first.stops) second.stops));
+            (subst (λ l. Stops (AnyOf P) (take n s) l) (sym (take-append-drop m (drop n s))) first.stops) second.stops));
       }
 
   pub pairs_stuck_first : (s : List A) (k : ℕ) → IsStuck P s k → IsStuck (Pairs P R) s k
   pairs_stuck_first s k stuck = record {
-      within = stuck.within;
-      absent = λ pair. no_pair (take k s) (drop k s) stuck.reaches stuck.absent [] tt
-          (subst (λ l. AnyOf (Pairs P R) l) (sym (append-nil (take k s))) pair);
-      reaches = reaches_first (take k s) (drop k s) stuck.reaches stuck.absent;
-    }
+    within = stuck.within;
+    absent = λ pair. no_pair (take k s) (drop k s) stuck.reaches stuck.absent [] tt
+        (subst (λ l. AnyOf (Pairs P R) l) (sym (append-nil (take k s))) pair);
+    reaches = reaches_first (take k s) (drop k s) stuck.reaches stuck.absent;
+  }
 
   pub pairs_stuck_second : (s : List A) (v : V) (n : ℕ) → IsReadTo P s v n → (k : ℕ) → IsStuck (R v) (drop n s) k → IsStuck (Pairs P R) s (n + k)
   pairs_stuck_second s v n first k stuck =
@@ -137,8 +141,11 @@ module _ {V U A : Type 0} (separator : A) (P : V → List A → Type 0) (R : V �
       let stops_here : Stops (AnyOf P) (take n s) (take k (drop n s) ++ drop k (drop n s)) = subst (λ l. Stops (AnyOf P) (take n s) l) whole first.stops in
       record {
         within = omega (arith, first.within, stuck.within, length-drop n s);
-        absent = λ ((w, u), pair). stuck.absent (u, pair_at (take n s) (take k (drop n s) ++ drop k (drop n s)) v first.text_of stops_here (take k (drop n s))
-            (along_front (take k (drop n s)) (drop k (drop n s))) w u (subst (λ l. IsPair P R w u l) fronts pair));
+        absent = λ ((w, u), pair). stuck.absent (
+          u,
+          pair_at (take n s) (take k (drop n s) ++ drop k (drop n s)) v first.text_of stops_here (take k (drop n s))
+              (along_front (take k (drop n s)) (drop k (drop n s))) w u (subst (λ l. IsPair P R w u l) fronts pair),
+        );
         reaches = record {
           begins = let more = stuck.reaches.begins in
               (more.0, ((v, more.1.0), record { front = take n s; back = take k (drop n s) ++ more.0; split = ap (λ l. l ++ more.0) fronts ∙ append_assoc (take n s) (take k (drop n s)) more.0; first = first.text_of; second = more.1.1 }));
@@ -161,20 +168,20 @@ module _ {V U A : Type 0} (separator : A) (P : V → List A → Type 0) (R : V �
   -- a pair is a part again
   pub pairs_part : ((v : V) → IsPart separator (R v)) → IsPart separator (Pairs P R)
   pairs_part parts = record {
-      unique = λ (v, u) (w, x) text a b.
-          let opened = (tail v).opens u a.back a.second in
-          let here : IsPair P R w x (a.front ++ a.back) = subst (λ l. IsPair P R w x l) a.split b in
-          let second : R v x a.back = pair_at a.front a.back v a.first (stops_at_separator v a.front a.first a.back opened) a.back (along_itself a.back) w x here in
-          let ends = at_cut a.front a.back v a.first (stops_at_separator v a.front a.first a.back opened) a.back (along_itself a.back) w x b.front b.back b.first b.second
-              (cut a.front a.back b.front b.back (sym a.split ∙ b.split)) in
-          let values : w ≡ v = part.unique w v a.front (subst (λ l. P w l) ends.0 b.first) a.first in
-          let others : u ≡ x = (parts v).unique u x a.back a.second second in
-          let pairs : (v, u) ≡ (w, x) = cc in
-          pairs;
-      apart = λ (v, u) (w, x) text more a b.
-          let after = a.back ++ separator ∷ more in
-          let opened : Opens separator after = opens_behind a.back more ((tail v).opens u a.back a.second) in
-          let whole : text ++ separator ∷ more ≡ a.front ++ after = ap (λ l. l ++ separator ∷ more) a.split ∙ append_assoc a.front a.back (separator ∷ more) in
-          let second : R v x after = pair_at a.front after v a.first (stops_at_separator v a.front a.first after opened) after (along_itself after) w x (subst (λ l. IsPair P R w x l) whole b) in
-          (parts v).apart u x a.back more a.second second;
-    }
+    unique = λ (v, u) (w, x) text a b.
+        let opened = (tail v).opens u a.back a.second in
+        let here : IsPair P R w x (a.front ++ a.back) = subst (λ l. IsPair P R w x l) a.split b in
+        let second : R v x a.back = pair_at a.front a.back v a.first (stops_at_separator v a.front a.first a.back opened) a.back (along_itself a.back) w x here in
+        let ends = at_cut a.front a.back v a.first (stops_at_separator v a.front a.first a.back opened) a.back (along_itself a.back) w x b.front b.back b.first b.second
+        (cut a.front a.back b.front b.back (sym a.split ∙ b.split)) in
+        let values : w ≡ v = part.unique w v a.front (subst (λ l. P w l) ends.0 b.first) a.first in
+        let others : u ≡ x = (parts v).unique u x a.back a.second second in
+        let pairs : (v, u) ≡ (w, x) = cc in
+        pairs;
+    apart = λ (v, u) (w, x) text more a b.
+        let after = a.back ++ separator ∷ more in
+        let opened : Opens separator after = opens_behind a.back more ((tail v).opens u a.back a.second) in
+        let whole : text ++ separator ∷ more ≡ a.front ++ after = ap (λ l. l ++ separator ∷ more) a.split ∙ append_assoc a.front a.back (separator ∷ more) in
+        let second : R v x after = pair_at a.front after v a.first (stops_at_separator v a.front a.first after opened) after (along_itself after) w x (subst (λ l. IsPair P R w x l) whole b) in
+        (parts v).apart u x a.back more a.second second;
+  }

@@ -1,14 +1,14 @@
 -- The first fault of many lines, from that of one.
-use Rattle.std.proofs.Common.{◌≡◌, ℕ, ◌+◌, ◌<◌, ◌≤◌, List, [], ◌∷◌, ◌++◌, length, take, drop, refl, sym, ap, ◌∙◌, subst, arith, ◌⊎◌, inl, inr, Bool, true, false, nat_eq, IsTrue}
-use Rattle.std.specs.Prelude.{All, if◌then◌else◌}
-use Rattle.std.proofs.lemmas.Bool.{eqb-false}
-use Rattle.std.proofs.lemmas.List.{append-nil, append_assoc, take-append-drop, length-take-le, append_cancel_left}
+use Rattle.std.proofs.Common.{◌≡◌, ℕ, ◌+◌, List, [], ◌∷◌, ◌++◌, length, take, drop, refl, sym, ap, ◌∙◌, subst, ◌⊎◌, inl, inr, IsTrue}
+use Rattle.std.specs.Prelude.{All}
+use Rattle.std.proofs.lemmas.List.{append-nil, append_assoc, take-append-drop, length-take-le}
+use Rattle.std.proofs.lemmas.List.Elements.{All-head, All-tail}
 use Rattle.line_grammar.specs.Language.{Begins, Stops, Reaches, IsFault}
 use Rattle.line_grammar.specs.Parts.{Opens}
 use Rattle.line_grammar.specs.Traces.{EndedLine, trace_text, IsTrace, IsTraceFault}
 use Rattle.line_grammar.specs.Words.{lacks}
 use Rattle.line_grammar.proofs.Cuts.{Cut, cut, further, nearer, same}
-use Rattle.line_grammar.proofs.Pairs.{one_then}
+use Rattle.line_grammar.proofs.Pairs.{along_itself, one_then, stopped}
 use Rattle.line_grammar.proofs.WordFacts.{lacks_apart}
 
 -- no separator stands anywhere in a text that lacks it
@@ -16,10 +16,14 @@ pub not_within : (separator x : ℕ) (a b text : List ℕ) → IsTrue (lacks sep
 not_within separator x a b text h e at =
     lacks_apart separator a b (subst (λ y. IsTrue (lacks separator (a ++ y ∷ b))) at (subst (λ t. IsTrue (lacks separator t)) e h))
 
+nothing_ended : (line rest : List ℕ) → line ++ 10 ∷ rest ≡ [] → ⊥
+nothing_ended [] rest e = cc
+nothing_ended (x ∷ line) rest e = cc
+
 -- the last element apart
 front_of_ended : (line : List ℕ) (f : List ℕ) (x : ℕ) (rest : List ℕ) → f ++ x ∷ rest ≡ line ++ 10 ∷ [] → ((x ≡ 10) × (f ≡ line)) ⊎ ((m : List ℕ) × (line ≡ f ++ x ∷ m))
 front_of_ended line f x rest e = by_cut (cut f (x ∷ rest) line (10 ∷ []) e)
-    where
+  where
     too_long : (y : ℕ) (m r : List ℕ) → 10 ∷ [] ≡ y ∷ m ++ (x ∷ rest) → ⊥
     too_long y [] r e = cc
     too_long y (z ∷ m) r e = cc
@@ -28,7 +32,6 @@ front_of_ended line f x rest e = by_cut (cut f (x ∷ rest) line (10 ∷ []) e)
     by_cut (further y m a b) = absurd (too_long y m (x ∷ rest) b)
     by_cut (nearer y m a b) = let first : x ≡ y = cc in inr (m, a ∙ ap (λ z. f ++ z ∷ m) (sym first))
     by_cut (same a b) = let first : x ≡ 10 = cc in inl (first, a)
-
 
 module _ (L : List ℕ → Type 0) (feedless : (line : List ℕ) → L line → IsTrue (lacks 10 line)) where
   ended : (line : List ℕ) → L line → EndedLine L (line ++ 10 ∷ [])
@@ -44,14 +47,16 @@ module _ (L : List ℕ → Type 0) (feedless : (line : List ℕ) → L line → 
   stops_within : (front : List ℕ) (x : ℕ) (rest : List ℕ) → (x ≡ 10 → ⊥) → (Begins L (front ++ x ∷ []) → ⊥) → Stops (EndedLine L) front (x ∷ rest)
   stops_within front x rest not_feed none = λ (more, e).
       elim (front_of_ended e.line front x more (sym (one_then front x more) ∙ e.split)) [
-        inl (at, same_line) ↦ not_feed at
-      | inr (m, longer) ↦ none (m, subst L (longer ∙ sym (one_then front x m)) e.is_line) ]
+        | inl (at, same_line) ↦ not_feed at
+        | inr (m, longer) ↦ none (m, subst L (longer ∙ sym (one_then front x m)) e.is_line)
+      ]
 
   stops_feed : (text rest : List ℕ) → (L text → ⊥) → Stops (EndedLine L) text (10 ∷ rest)
   stops_feed text rest none = λ (more, e).
       elim (front_of_ended e.line text 10 more (sym (one_then text 10 more) ∙ e.split)) [
-        inl (at, same_line) ↦ none (subst L (sym same_line) e.is_line)
-      | inr (m, longer) ↦ not_within 10 10 text m e.line (feedless e.line e.is_line) longer refl ]
+        | inl (at, same_line) ↦ none (subst L (sym same_line) e.is_line)
+        | inr (m, longer) ↦ not_within 10 10 text m e.line (feedless e.line e.is_line) longer refl
+      ]
 
   fault_stops : (front inner back : List ℕ) → (text : List ℕ) → text ≡ front ++ inner → IsTrue (lacks 10 text) → (L text → ⊥) → Stops L front inner → Opens 10 back → Stops (EndedLine L) front (inner ++ back)
   fault_stops front [] [] text e h none stops opened = tt
@@ -64,9 +69,9 @@ module _ (L : List ℕ → Type 0) (feedless : (line : List ℕ) → L line → 
   pub line_fault : (text : List ℕ) (place : ℕ) → IsTrue (lacks 10 text) → IsFault L text place → (back : List ℕ) → Opens 10 back
       → Reaches (EndedLine L) (take place text) (drop place text ++ back)
   line_fault text place h fault back opened = record {
-      begins = begins_ended (take place text) fault.reaches.begins;
-      stops = fault_stops (take place text) (drop place text) back text (sym (take-append-drop place text)) h fault.absent fault.reaches.stops opened;
-    }
+    begins = begins_ended (take place text) fault.reaches.begins;
+    stops = fault_stops (take place text) (drop place text) back text (sym (take-append-drop place text)) h fault.absent fault.reaches.stops opened;
+  }
 
   front_lacks : (front inner text : List ℕ) → text ≡ front ++ inner → IsTrue (lacks 10 text) → EndedLine L front → ⊥
   front_lacks front inner text e h ended_front =
@@ -79,9 +84,12 @@ module _ (L : List ℕ → Type 0) (feedless : (line : List ℕ) → L line → 
       → IsTraceFault L bytes (length lines + 1) (place + 1)
   fault_in_line bytes lines text back each split h opened left place fault =
       let fronts : text ++ back ≡ take place text ++ (drop place text ++ back) =
-          ap (λ l. l ++ back) (sym (take-append-drop place text)) ∙ append_assoc (take place text) (drop place text) back in
+      ap (λ l. l ++ back) (sym (take-append-drop place text)) ∙ append_assoc (take place text) (drop place text) back in
       record {
-        lines = lines; front = take place text; back = drop place text ++ back; each = each;
+        lines = lines;
+        front = take place text;
+        back = drop place text ++ back;
+        each = each;
         split = split ∙ ap (λ l. trace_text lines ++ l) fronts;
         left = λ e. left (fronts ∙ e);
         open_line = front_lacks (take place text) (drop place text) text (sym (take-append-drop place text)) h;
@@ -94,17 +102,67 @@ module _ (L : List ℕ → Type 0) (feedless : (line : List ℕ) → L line → 
   pub fault_at_end : (bytes : List ℕ) (lines : List (List ℕ)) (text : List ℕ) → All L lines → bytes ≡ trace_text lines ++ text → (text ≡ [] → ⊥)
       → L text → IsTraceFault L bytes (length lines + 1) (length text + 1)
   fault_at_end bytes lines text each split left l = record {
-      lines = lines; front = text; back = []; each = each;
-      split = split ∙ ap (λ t. trace_text lines ++ t) (sym (append-nil text));
-      left = λ e. left (sym (append-nil text) ∙ e);
-      open_line = not_ended text (feedless text l);
-      reaches = record { begins = (10 ∷ [], ended text l); stops = tt };
-      line_of = refl;
-      column_of = refl;
-    }
+    lines = lines;
+    front = text;
+    back = [];
+    each = each;
+    split = split ∙ ap (λ t. trace_text lines ++ t) (sym (append-nil text));
+    left = λ e. left (sym (append-nil text) ∙ e);
+    open_line = not_ended text (feedless text l);
+    reaches = record { begins = (10 ∷ [], ended text l); stops = tt };
+    line_of = refl;
+    column_of = refl;
+  }
 
   -- one more line
   pub trace_more : (lines : List (List ℕ)) (line : List ℕ) → trace_text (lines ++ line ∷ []) ≡ trace_text lines ++ (line ++ 10 ∷ [])
   trace_more [] line = refl
   trace_more (first ∷ lines) line =
       ap (λ l. first ++ 10 ∷ l) (trace_more lines line) ∙ sym (append_assoc first (10 ∷ trace_text lines) (line ++ 10 ∷ []))
+
+  -- the first line of two texts is one
+  line_same : (a b r s : List ℕ) → L a → L b → a ++ 10 ∷ r ≡ b ++ 10 ∷ s → (a ≡ b) × (r ≡ s)
+  line_same a b r s p q e = by_cut (cut a (10 ∷ r) b (10 ∷ s) e)
+    where
+      by_cut : Cut a (10 ∷ r) b (10 ∷ s) → (a ≡ b) × (r ≡ s)
+      by_cut (further x m f g) = let at : x ≡ 10 = cc in absurd (not_within 10 x b m a (feedless a p) f at)
+      by_cut (nearer x m f g) = let at : x ≡ 10 = cc in absurd (not_within 10 x a m b (feedless b q) f at)
+      by_cut (same f g) = let rests : r ≡ s = cc in (f, rests)
+
+  -- bytes have one reading as lines
+  pub trace_unique : (lines others : List (List ℕ)) → All L lines → All L others → trace_text lines ≡ trace_text others → lines ≡ others
+  trace_unique [] [] p q e = refl
+  trace_unique [] (l ∷ others) p q e = absurd (nothing_ended l (trace_text others) (sym e))
+  trace_unique (k ∷ lines) [] p q e = absurd (nothing_ended k (trace_text lines) e)
+  trace_unique (k ∷ lines) (l ∷ others) p q e =
+      let first = line_same k l (trace_text lines) (trace_text others) (All-head L k lines p) (All-head L l others q) e in
+      let rest : lines ≡ others = trace_unique lines others (All-tail L k lines p) (All-tail L l others q) first.1 in
+      ap (λ x. x ∷ lines) first.0 ∙ ap (λ ls. l ∷ ls) rest
+
+  -- bytes with a fault are no lines
+  no_trace : (front back : List ℕ) → (front ++ back ≡ [] → ⊥) → (EndedLine L front → ⊥) → Reaches (EndedLine L) front back
+      → (lines others : List (List ℕ)) → All L lines → All L others → trace_text lines ++ (front ++ back) ≡ trace_text others → ⊥
+  no_trace front back left open_line reach [] [] p q e = left e
+  no_trace front back left open_line reach [] (l ∷ others) p q e =
+      by_cut (cut front back (l ++ 10 ∷ []) (trace_text others) (e ∙ sym (append_assoc l (10 ∷ []) (trace_text others))))
+    where
+      by_cut : Cut front back (l ++ 10 ∷ []) (trace_text others) → ⊥
+      by_cut (further x m f g) =
+          let more = reach.begins in
+          let whole : l ++ 10 ∷ (x ∷ m ++ more.0) ≡ more.1.line ++ 10 ∷ [] =
+          sym (append_assoc l (10 ∷ []) (x ∷ m ++ more.0)) ∙ sym (append_assoc (l ++ 10 ∷ []) (x ∷ m) more.0) ∙ ap (λ t. t ++ more.0) (sym f) ∙ more.1.split in
+          let rests = (line_same l more.1.line (x ∷ m ++ more.0) [] (All-head L l others q) more.1.is_line whole).1 in
+          let no_such : ⊥ = cc in no_such
+      by_cut (nearer x m f g) =
+          stopped (EndedLine L) front back reach.stops back (along_itself back) x m (m ++ trace_text others) g
+          (record { line = l; is_line = All-head L l others q; split = sym f })
+      by_cut (same f g) = open_line (record { line = l; is_line = All-head L l others q; split = f })
+  no_trace front back left open_line reach (k ∷ lines) [] p q e = nothing_ended k (trace_text lines ++ (front ++ back)) (sym (append_assoc k (10 ∷ trace_text lines) (front ++ back)) ∙ e)
+  no_trace front back left open_line reach (k ∷ lines) (l ∷ others) p q e =
+      let first = line_same k l (trace_text lines ++ (front ++ back)) (trace_text others) (All-head L k lines p) (All-head L l others q)
+      (sym (append_assoc k (10 ∷ trace_text lines) (front ++ back)) ∙ e) in
+      no_trace front back left open_line reach lines others (All-tail L k lines p) (All-tail L l others q) first.1
+
+  pub fault_is_no_trace : (bytes : List ℕ) (line column : ℕ) → IsTraceFault L bytes line column → (lines : List (List ℕ)) → IsTrace L bytes lines → ⊥
+  fault_is_no_trace bytes line column fault lines trace =
+      no_trace fault.front fault.back fault.left fault.open_line fault.reaches fault.lines lines fault.each trace.each (sym fault.split ∙ trace.split)

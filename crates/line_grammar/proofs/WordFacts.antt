@@ -1,12 +1,12 @@
 -- Words and choices.
-use Rattle.std.proofs.Common.{◌≡◌, ◌≢◌, ℕ, suc, ◌+◌, ◌-◌, ◌<◌, ◌≤◌, List, [], ◌∷◌, ◌++◌, length, take, drop, get_or, refl, sym, ap, ◌∙◌, subst, arith, length-drop, ◌⊎◌, inl, inr, Bool, true, false, cond, nat_eq, IsTrue}
+use Rattle.std.proofs.Common.{◌≡◌, ℕ, ◌+◌, ◌-◌, ◌<◌, ◌≤◌, List, [], ◌∷◌, ◌++◌, length, take, drop, get_or, refl, sym, ap, ◌∙◌, subst, arith, length-drop, ◌⊎◌, inl, inr, Bool, true, false, nat_eq, IsTrue}
 use Rattle.std.proofs.lemmas.Bool.{ltb-true, ltb-false, cases_eq, eqb-false, eqb-true}
-use Rattle.std.proofs.lemmas.List.{append-nil, append_assoc, length-append, length-take-le, take-append-drop, get_or-drop, get_or_at, drop-drop, take_more}
+use Rattle.std.proofs.lemmas.List.{append-nil, append_assoc, length-take-le, take-append-drop, get_or-drop, get_or_at, drop-drop, take_more}
 use Rattle.std.proofs.Math.Seq.{take-add}
 use Rattle.std.proofs.lemmas.Slice.Eq.{bytes_eq-Decides}
 use Rattle.std.specs.Prelude.{bytes_eq, Result, Ok, Err, nat_lt, if◌then◌else◌}
-use Rattle.line_grammar.specs.Language.{Begins, Stops, Reaches, AnyOf, IsReadTo, IsStuck, IsRead}
-use Rattle.line_grammar.specs.Words.{IsWord, Word, Either, further_of, lacks}
+use Rattle.line_grammar.specs.Language.{Begins, Stops, AnyOf, IsReadTo, IsStuck, IsRead}
+use Rattle.line_grammar.specs.Words.{Word, Either, further_of, lacks}
 use Rattle.line_grammar.specs.Parts.{IsPart}
 use Rattle.line_grammar.proofs.Pairs.{one_then}
 
@@ -24,13 +24,13 @@ word_stops meaning word text k within apart (b ∷ rest) e = λ (more, (v, w)).
 pub word_stuck : {V : Type 0} (meaning : V) (word text : List ℕ) (k : ℕ) → k < length word → k ≤ length text → take k word ≡ take k text
     → (k < length text → get_or word k 0 ≡ get_or text k 0 → ⊥) → IsStuck (Word meaning word) text k
 word_stuck meaning word text k more within shared apart = record {
-    within = within;
-    absent = λ (v, w). omega (arith, ap length w.split, length-take-le k text within);
-    reaches = record {
-      begins = (drop k word, (meaning, record { means = refl; split = ap (λ l. l ++ drop k word) (sym shared) ∙ take-append-drop k word }));
-      stops = word_stops meaning word text k within apart (drop k text) refl;
-    };
-  }
+  within = within;
+  absent = λ (v, w). omega (arith, ap length w.split, length-take-le k text within);
+  reaches = record {
+    begins = (drop k word, (meaning, record { means = refl; split = ap (λ l. l ++ drop k word) (sym shared) ∙ take-append-drop k word }));
+    stops = word_stops meaning word text k within apart (drop k text) refl;
+  };
+}
 
 -- texts that a test tells apart
 pub differ : (a b : List ℕ) → bytes_eq a b ≡ false → a ≡ b → ⊥
@@ -46,7 +46,7 @@ module _ {A : Type 0} (L : List A → Type 0) where
   stops_behind f [] (x ∷ rest) stops = λ b. stops (subst (λ l. Begins L (l ++ x ∷ [])) (append-nil f) b)
   stops_behind f (y ∷ g) (x ∷ rest) stops = λ (more, l).
       let regrouped : ((f ++ y ∷ g) ++ x ∷ []) ++ more ≡ (f ++ y ∷ []) ++ (g ++ x ∷ more) =
-          one_then (f ++ y ∷ g) x more ∙ append_assoc f (y ∷ g) (x ∷ more) ∙ sym (one_then f y (g ++ x ∷ more)) in
+      one_then (f ++ y ∷ g) x more ∙ append_assoc f (y ∷ g) (x ∷ more) ∙ sym (one_then f y (g ++ x ∷ more)) in
       stops (g ++ x ∷ more, subst L regrouped l)
 
   pub stops_later : (t : List A) (n m : ℕ) → n ≤ m → Stops L (take n t) (drop n t) → Stops L (take m t) (drop m t)
@@ -70,7 +70,7 @@ module _ {A : Type 0} (L : List A → Type 0) where
       let e : n + k ≡ m = omega arith in
       let fronts : take m t ≡ take n t ++ take k (drop n t) = ap (λ i. take i t) (sym e) ∙ take-add n k t in
       absent_split (take n t) (take k (drop n t)) (drop k (drop n t)) (omega (arith, length-take-le k (drop n t) (omega (arith, length-drop n t))))
-          (subst (λ l. Stops L (take n t) l) (sym (take-append-drop k (drop n t))) stops) (subst L fronts l)
+      (subst (λ l. Stops L (take n t) l) (sym (take-append-drop k (drop n t))) stops) (subst L fronts l)
 
 -- a choice
 module _ {V A : Type 0} (P Q : V → List A → Type 0) where
@@ -90,21 +90,23 @@ module _ {V A : Type 0} (P Q : V → List A → Type 0) where
 
   stuck_left : (t : List A) (k : ℕ) → IsStuck P t k → Stops (AnyOf Q) (take k t) (drop k t) → (AnyOf Q (take k t) → ⊥) → IsStuck (Either P Q) t k
   stuck_left t k stuck s none = record {
-      within = stuck.within;
-      absent = λ e. elim (either_of (take k t) e) [ inl p ↦ stuck.absent p | inr q ↦ none q ];
-      reaches = record {
-        begins = let more = stuck.reaches.begins in (more.0, (more.1.0, inl more.1.1));
-        stops = stops_either (take k t) (drop k t) stuck.reaches.stops s };
-    }
+    within = stuck.within;
+    absent = λ e. elim (either_of (take k t) e) [ inl p ↦ stuck.absent p | inr q ↦ none q ];
+    reaches = record {
+      begins = let more = stuck.reaches.begins in (more.0, (more.1.0, inl more.1.1));
+      stops = stops_either (take k t) (drop k t) stuck.reaches.stops s;
+    };
+  }
 
   stuck_right : (t : List A) (k : ℕ) → IsStuck Q t k → Stops (AnyOf P) (take k t) (drop k t) → (AnyOf P (take k t) → ⊥) → IsStuck (Either P Q) t k
   stuck_right t k stuck s none = record {
-      within = stuck.within;
-      absent = λ e. elim (either_of (take k t) e) [ inl p ↦ none p | inr q ↦ stuck.absent q ];
-      reaches = record {
-        begins = let more = stuck.reaches.begins in (more.0, (more.1.0, inr more.1.1));
-        stops = stops_either (take k t) (drop k t) s stuck.reaches.stops };
-    }
+    within = stuck.within;
+    absent = λ e. elim (either_of (take k t) e) [ inl p ↦ none p | inr q ↦ stuck.absent q ];
+    reaches = record {
+      begins = let more = stuck.reaches.begins in (more.0, (more.1.0, inr more.1.1));
+      stops = stops_either (take k t) (drop k t) s stuck.reaches.stops;
+    };
+  }
 
   both_read : (t : List A) (v w : V) (n m : ℕ) → IsReadTo P t v n → IsReadTo Q t w m → (b : Bool) → nat_lt n m ≡ b → IsRead (Either P Q) t (if b then Ok (w, m) else Ok (v, n))
   both_read t v w n m p q true e = read_right t w m q (stops_later (AnyOf P) t n m (omega (arith, ltb-true n m e)) p.stops)
@@ -121,8 +123,9 @@ module _ {V A : Type 0} (P Q : V → List A → Type 0) where
   neither_read : (t : List A) (j k : ℕ) → IsStuck P t j → IsStuck Q t k → (b : Bool) → nat_lt j k ≡ b → IsRead (Either P Q) t (if b then Err k else Err j)
   neither_read t j k p q true e = stuck_right t k q (stops_later (AnyOf P) t j k (omega (arith, ltb-true j k e)) p.reaches.stops) (absent_later (AnyOf P) t j k (ltb-true j k e) q.within p.reaches.stops)
   neither_read t j k p q false e = elim (cases_eq j k) [
-      inl same ↦ let Q_at : IsStuck Q t j = subst (λ i. IsStuck Q t i) (sym same) q in stuck_left t j p Q_at.reaches.stops Q_at.absent
-    | inr other ↦ let less : k < j = omega (arith, ltb-false j k e) in stuck_left t j p (stops_later (AnyOf Q) t k j (omega arith) q.reaches.stops) (absent_later (AnyOf Q) t k j less p.within q.reaches.stops) ]
+    | inl same ↦ let Q_at : IsStuck Q t j = subst (λ i. IsStuck Q t i) (sym same) q in stuck_left t j p Q_at.reaches.stops Q_at.absent
+    | inr other ↦ let less : k < j = omega (arith, ltb-false j k e) in stuck_left t j p (stops_later (AnyOf Q) t k j (omega arith) q.reaches.stops) (absent_later (AnyOf Q) t k j less p.within q.reaches.stops)
+  ]
 
   pub either_read : (t : List A) (r s : Result (V × ℕ) ℕ) → IsRead P t r → IsRead Q t s → IsRead (Either P Q) t (further_of r s)
   either_read t (Ok (v, n)) (Ok (w, m)) p q = both_read t v w n m p q (nat_lt n m) refl
@@ -152,6 +155,12 @@ lacks_push separator x [] h apart = lacks_all separator x [] (nat_eq x separator
 lacks_push separator x (y ∷ text) h apart =
     let old = lacks_cons separator y text (nat_eq y separator) refl h in
     lacks_all separator y (text ++ x ∷ []) (nat_eq y separator) refl old.0 (lacks_push separator x text old.1 apart)
+
+pub lacks_append : (separator : ℕ) (text more : List ℕ) → IsTrue (lacks separator text) → IsTrue (lacks separator more) → IsTrue (lacks separator (text ++ more))
+lacks_append separator [] more h k = k
+lacks_append separator (x ∷ text) more h k =
+    let old = lacks_cons separator x text (nat_eq x separator) refl h in
+    lacks_all separator x (text ++ more) (nat_eq x separator) refl old.0 (lacks_append separator text more old.1 k)
 
 pub lacks_next : (separator : ℕ) (text : List ℕ) (i : ℕ) → i < length text → IsTrue (lacks separator (take i text)) → (get_or text i 0 ≡ separator → ⊥) → IsTrue (lacks separator (take (i + 1) text))
 lacks_next separator text i inside h apart = subst (λ t. IsTrue (lacks separator t)) (sym (take_more text i 0 inside)) (lacks_push separator (get_or text i 0) (take i text) h apart)

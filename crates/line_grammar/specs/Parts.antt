@@ -1,5 +1,5 @@
 -- Parts of a line, one after another, with a separator between them.
-use Rattle.std.specs.Prelude.{◌≡◌, ℕ, List, [], ◌∷◌, ◌++◌, Contains}
+use Rattle.std.specs.Prelude.{◌≡◌, List, [], ◌∷◌, ◌++◌}
 
 -- the texts of W behind the element `first`
 pub record IsLed {V A : Type 0} (first : A) (W : V → List A → Type 0) (value : V) (text : List A) : Type 0 where

@@ -1,6 +1,65 @@
-//! Reading of texts by a grammar.
+//! Reading of texts by a grammar, with the exact place of a fault.
+//!
+//! A language is a set of texts, each of which stands for a value. A reader looks at the front of a text
+//! and answers how it goes along with its language (`IsRead`): `Ok` with a value and the size of its text,
+//! where that is the longest front that it shares with a text of the language, or `Err` with the place up
+//! to which the front goes along. Readers of parts make readers of lines, for languages whose parts can be
+//! told from the separator behind them.
+//!
+//! - `read_number` and `read_prefixed` read numbers of a range, without leading zeros;
+//! - `read_word` reads one word, and `further` chooses among readers;
+//! - `behind` takes one byte off, and `size_before` finds a separator.
+//!
+//! The fault of a text is the longest front that it shares with a text of the language (`IsFault`); that of
+//! many lines is the first fault of one (`IsTraceFault`). `proofs` has the laws by which readers join.
 
 #![tactic(auto)]
 
 pub mod numbers;
 pub mod words;
+
+#[cfg(test)]
+mod tests {
+    use crate::numbers::{read_number, read_prefixed};
+    use crate::words::{behind, further, read_word, size_before};
+
+    #[test]
+    fn numbers_in_range(rt: HostRuntime) {
+        let cases = [
+            ("0", 0, 9, Ok((0, 1))),
+            ("0", 1, 9, Err(0)),
+            ("05", 0, 9, Ok((0, 1))),
+            ("12 3", 0, 65_535, Ok((12, 2))),
+            ("65536", 0, 65_535, Ok((6_553, 4))),
+            (
+                "18446744073709551615",
+                0,
+                18_446_744_073_709_551_615,
+                Ok((18_446_744_073_709_551_615, 20)),
+            ),
+            ("", 0, 9, Err(0)),
+            ("-1", 0, 9, Err(0)),
+            ("5", 16, 131_072, Err(1)),
+            ("16", 16, 131_072, Ok((16, 2))),
+        ];
+        for (text, least, most, read) in cases {
+            assert_eq!(rt; read_number(text.as_bytes(), least, most), read, "{text}");
+        }
+        assert_eq!(rt; read_prefixed(b'c', "c17".as_bytes(), 1, 16), Ok((1, 2)));
+        assert_eq!(rt; read_prefixed(b'c', "w1".as_bytes(), 1, 16), Err(0));
+        assert_eq!(rt; read_prefixed(b'c', "c0".as_bytes(), 1, 16), Err(1));
+    }
+
+    #[test]
+    fn words_and_choices(rt: HostRuntime) {
+        let text = "set-timer-e".as_bytes();
+        let short = read_word(1_u8, "set-timer", text);
+        let long = read_word(2_u8, "set-timer-ex", text);
+        assert_eq!(rt; short, Ok((1, 9)));
+        assert_eq!(rt; long, Err(11));
+        assert_eq!(rt; further(short, long), Err(11));
+        assert_eq!(rt; size_before(b'-', text), 3);
+        assert!(rt; behind(b's', text).is_some());
+        assert!(rt; behind(b't', text).is_none());
+    }
+}

@@ -29,7 +29,11 @@ pub fn read_number(text: &[u8], least: u64, most: u64) -> Result<(u64, usize), u
         value = longer;
         size += 1;
     }
-    if value < least { Err(size) } else { Ok((value, size)) }
+    if value < least {
+        Err(size)
+    } else {
+        Ok((value, size))
+    }
 }
 
 // The digit that the text begins with.
@@ -59,7 +63,11 @@ fn longer_number(text: &[u8], size: usize, value: u64, most: u64) -> Option<u64>
         return None;
     }
     let digit = u64::from(byte - b'0');
-    if digit <= most && value <= (most - digit) / 10 { Some(value * 10 + digit) } else { None }
+    if digit <= most && value <= (most - digit) / 10 {
+        Some(value * 10 + digit)
+    } else {
+        None
+    }
 }
 
 /// Reads a letter, and a number from `least` to `most` behind it.

@@ -11,7 +11,11 @@ pub fn read_word<V: Copy>(meaning: V, word: &str, text: &[u8]) -> Result<(V, usi
 {
     let bytes = word.as_bytes();
     let size = shared_front(bytes, text);
-    if size == bytes.len() { Ok((meaning, size)) } else { Err(size) }
+    if size == bytes.len() {
+        Ok((meaning, size))
+    } else {
+        Err(size)
+    }
 }
 
 /// Of what two readers found at the front of one text, the one that came further.

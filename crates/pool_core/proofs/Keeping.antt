@@ -1,5 +1,5 @@
 -- Each move of an engine keeps what its parts keep.
-use Rattle.std.proofs.Common.{◌≡◌, ◌≢◌, ℕ, suc, zero, ◌+◌, ◌-◌, ◌<◌, ◌≤◌, Bool, true, false, cond, not, ◌&&◌, ◌==◌, List, [], ◌∷◌, ◌++◌, length, map, nat_lt, slice_get, slice_set, get_or, replicate, Option, Some, None, is_some, refl, sym, ap, ap₂, ◌∙◌, subst, arith, filter, find, sum_by, option_map, eqb-true, eq-eqb, ne_eqb, length-append, length-set, get_or-set_same, get_or-set_other, lt-ltb}
+use Rattle.std.proofs.Common.{◌≡◌, ◌≢◌, ℕ, suc, zero, ◌+◌, ◌-◌, ◌<◌, ◌≤◌, Bool, true, false, cond, not, ◌&&◌, ◌||◌, ◌==◌, List, [], ◌∷◌, ◌++◌, length, map, nat_lt, slice_get, slice_set, get_or, replicate, Option, Some, None, is_some, refl, sym, ap, ap₂, ◌∙◌, subst, arith, filter, find, sum_by, option_map, eqb-true, eq-eqb, ne_eqb, length-append, length-set, get_or-set_same, get_or-set_other, lt-ltb}
 use Rattle.std.specs.List.{AllByRecursion}
 use Rattle.std.specs.Option.{option_map_or}
 use Rattle.std.proofs.lemmas.List.{map-append, map-set, length-map}
@@ -14,6 +14,8 @@ use Rattle.tp_base.specs.declared.rows.Slots.{Slots}
 use Rattle.tp_base.specs.declared.rows.CallbackRow.{CallbackRow}
 use Rattle.tp_base.specs.declared.rows.WorkerRow.{WorkerRow}
 use Rattle.tp_base.specs.declared.rows.ClientRow.{ClientRow}
+use Rattle.tp_base.specs.declared.rows.ObjectRow.{ObjectRow}
+use Rattle.tp_base.specs.declared.rows.PoolRow.{PoolRow}
 use Rattle.callback_rows.specs.LiveCallbacks.{LiveCallbacks}
 use Rattle.handle_table.specs.Table.{Table, live, with_row}
 use Rattle.prio_queue.specs.Pending.{Pending, Entry, queue_of, with_queue, held, with_entry, without_number}
@@ -22,19 +24,19 @@ use Rattle.pool_rows.specs.Workers.{is_attached_to, runs_in, runs_long_in, unatt
 use Rattle.pool_rows.specs.declared.WorkerRow as kept
 use Rattle.tp_base.specs.Ranges.{AreLimitsInRange}
 use Rattle.tp_model.specs.World.{World, opening, unattached, unfinished}
-use Rattle.tp_model.specs.Counts.{numbered, has_number, is_pending, is_pending_in, is_running, is_running_in, is_running_long_in, queue, running, running_long, owed}
-use Rattle.tp_model.specs.Rows.{with_new_callback, with_callback, with_worker, with_client, replaced, started, returned}
+use Rattle.tp_model.specs.Counts.{numbered, has_number, is_pending, is_pending_in, is_running, is_live, is_running_in, is_running_long_in, queue, running, running_long, owed}
+use Rattle.tp_model.specs.Rows.{with_new_callback, with_callback, with_worker, with_client, replaced, started, returned, marked_long}
 use Rattle.tp_model.specs.Sound.{IsSound, IsRising, RunsOn, IsWorkerSound, AreWorkersSound}
 use Rattle.tp_model.specs.Remembered.{lives, forget}
-use Rattle.tp_model.proofs.Lists.{find_kept, find_passes, length_filter_set, filter_filter, all_map, all_get}
+use Rattle.tp_model.proofs.Lists.{find_kept, find_passes, length_filter_set, filter_filter, all_map, all_get, all_append, all_filter, all_below}
 use Rattle.tp_model.proofs.Callbacks.{pending_lives, pending_not_running, find_appended, find_replaced, find_replaced_other, filter_replaced_out, length_filter_replaced, found_all, found_bounds, over_not_pending}
 use Rattle.tp_model.proofs.Refusals.{false_true}
-use Rattle.tp_model.proofs.Soundness.{sound_object, sound_new_callback, sound_free_worker, sound_client, sound_started, sound_returned, runs_on, opening_sound}
+use Rattle.tp_model.proofs.Soundness.{sound_object, sound_new_callback, sound_free_worker, sound_client, sound_started, sound_returned, sound_marked, runs_on, opening_sound}
 use Rattle.tp_model.proofs.Forgetting.{forget_sound, owed_forget, running_forget, running_long_forget, queue_forget}
-use Rattle.tp_model.proofs.Costs.{owed_new_callback, owed_attached, owed_started, owed_returned, owed_finished}
+use Rattle.tp_model.proofs.Costs.{owed_worker, owed_callback, owed_new_callback, owed_attached, owed_started, owed_returned, owed_finished}
 use Rattle.pool_core.specs.declared.objects.Object.{Object}
 use Rattle.pool_core.specs.Parts.{world_of, shown_object, shown_worker, entry_of}
-use Rattle.pool_core.specs.Kept.{AreKept, AreMarked, IsMarked, waits}
+use Rattle.pool_core.specs.Kept.{AreKept, AreMarked, IsMarked, waits, waits_or_runs}
 use Rattle.pool_core.proofs.Queued.{queued_more, queued_elsewhere, queued_less, queue_longer, length_queue, filter_all, filter_replaced_none, queued_same, queued_apart}
 
 -- parts that are equal to those
@@ -63,6 +65,7 @@ kept_object {limits} {pools} {objects} {callbacks} {queues} {clients} {made} {ow
       queue_slots = k.queue_slots;
       queue_count = k.queue_count;
       live = k.live;
+      at_work = k.at_work;
       sound = subst (λ os. IsSound (made + 1) (record w { objects = os })) (sym shown) (sound_object (made + 1) w (shown_object (live o)) home k.sound);
       queued = k.queued;
       held_all = k.held_all;
@@ -133,6 +136,7 @@ kept_pending {limits} {pools} {objects} {callbacks} {queues} {clients} {made} {o
       queue_slots = k.queue_slots;
       queue_count = length-set queues.queues c.pool.0 (with_entry (entry_of c) (queue_of queues c.pool.0)) ∙ k.queue_count;
       live = filter-append lives callbacks.rows (c ∷ []) ∙ ap₂ (λ xs b. xs ++ cond b (c ∷ []) []) k.live (pending_lives c.status pends);
+      at_work = all_append (λ x. waits_or_runs x ≡ true) callbacks.rows c k.at_work (ap (λ b. b || is_running c.status) pends);
       sound = sound_new_callback (made + 1) w c number home k.sound;
       queued = each_pool queues c.pool.0 (with_entry (entry_of c) (queue_of queues c.pool.0)) (λ p. map entry_of (queue v p)) (λ p. map entry_of (queue w p)) within placed
           (λ p apart. ap (map entry_of) (sym (queued_elsewhere w c p apart))) k.queued;
@@ -184,6 +188,7 @@ kept_attached {limits} {pools} {objects} {callbacks} {queues} {clients} {made} {
       queue_slots = k.queue_slots;
       queue_count = k.queue_count;
       live = k.live;
+      at_work = k.at_work;
       sound = subst (λ ws. IsSound (made + 1) (record w { workers = ws })) (sym shown) (sound_free_worker (made + 1) w number (shown_worker new) refl k.sound);
       queued = k.queued;
       held_all = k.held_all;
@@ -212,6 +217,10 @@ pub live_replaced : (r : CallbackRow) (cs : List CallbackRow) → lives r ≡ tr
 live_replaced r cs here live =
     let all : AllByRecursion (λ x. lives x ≡ true) cs = subst (λ xs. AllByRecursion (λ x. lives x ≡ true) xs) live (all_pass lives cs) in
     filter_all lives (replaced r cs) (all_map (λ x. lives x ≡ true) (λ c. cond (has_number r.number c) r c) (λ c h. elim (has_number r.number c) as (λ b. lives (cond b r c) ≡ true) [ true ↦ here | false ↦ h ]) cs all)
+
+at_work_replaced : (r : CallbackRow) (cs : List CallbackRow) → waits_or_runs r ≡ true → AllByRecursion (λ x. waits_or_runs x ≡ true) cs → AllByRecursion (λ x. waits_or_runs x ≡ true) (replaced r cs)
+at_work_replaced r cs here all =
+    all_map (λ x. waits_or_runs x ≡ true) (λ c. cond (has_number r.number c) r c) (λ c h. elim (has_number r.number c) as (λ b. waits_or_runs (cond b r c) ≡ true) [ true ↦ here | false ↦ h ]) cs all
 
 same_found : (m n : ℕ) (x y : CallbackRow) (cs : List CallbackRow) → n ≡ m → find (has_number m) cs ≡ Some x → find (has_number n) cs ≡ Some y → x ≡ y
 same_found m n x y cs e fx fy =
@@ -276,6 +285,7 @@ kept_started {limits} {pools} {objects} {callbacks} {queues} {clients} {made} {o
       queue_slots = k.queue_slots;
       queue_count = length-set queues.queues pool.0 (without_number c.number (queue_of queues pool.0)) ∙ k.queue_count;
       live = live_replaced r callbacks.rows refl k.live;
+      at_work = at_work_replaced r callbacks.rows refl k.at_work;
       sound = subst (λ ws. IsSound (made + 1) (record v { workers = ws })) (sym shown) (sound_started (made + 1) w number pool c from_one found pends in_pool k.sound);
       queued = each_pool queues pool.0 (without_number c.number (queue_of queues pool.0)) (λ p. map entry_of (queue v p)) (λ p. map entry_of (queue w p)) within placed
           (λ p apart. ap (map entry_of) (sym (elsewhere w p apart rising))) k.queued;
@@ -451,6 +461,7 @@ kept_returned {limits} {pools} {objects} {callbacks} {queues} {clients} {made} {
       queue_slots = k.queue_slots;
       queue_count = k.queue_count;
       live = ap (filter lives) rows_now ∙ filter_filter lives lives (λ _ e. e) (replaced r callbacks.rows) ∙ sym rows_now;
+      at_work = all_filter (λ x. waits_or_runs x ≡ true) (λ (x : CallbackRow). not (x.number == c.number)) callbacks.rows k.at_work;
       sound = subst (λ u. IsSound (made + 1) u) (sym world_now) (forget_sound (made + 1) v (sound_returned (made + 1) w number (shown_worker row) on.0 c from_one on.1 found k.sound));
       queued = λ p. k.queued p ∙ ap (map entry_of) (sym (ap (λ u. queue u p) world_now ∙ queue_forget v p ∙ queued_same w r c (made + 1) p rising found waits_not refl));
       held_all = k.held_all ∙ ap length (sym same_waiting);
@@ -514,6 +525,7 @@ kept_finished {limits} {pools} {objects} {callbacks} {queues} {clients} {made} {
       queue_slots = k.queue_slots;
       queue_count = k.queue_count;
       live = k.live;
+      at_work = k.at_work;
       sound = sound_client (made + 1) w number new k.sound;
       queued = k.queued;
       held_all = k.held_all;
@@ -527,6 +539,185 @@ kept_finished {limits} {pools} {objects} {callbacks} {queues} {clients} {made} {
   where
     less_one : (m n : ℕ) → n + 1 ≡ m → m - 1 ≡ n
     less_one m n e = omega (arith, e)
+
+-- ---- pools
+
+sound_pools : (fresh : ℕ) (w : World) (ps : List PoolRow) → length w.pools ≤ length ps → IsSound fresh w → IsSound fresh (record w { pools = ps })
+sound_pools fresh w ps more s =
+    record {
+      numbers = s.numbers;
+      workers = s.workers;
+      object_pools = all_below (λ (o : ObjectRow). o.env.pool.0) (length w.pools) (length ps) more w.objects s.object_pools;
+      callback_pools = all_below (λ (c : CallbackRow). c.pool.0) (length w.pools) (length ps) more w.callbacks s.callback_pools;
+    }
+
+-- other rows of pools, and no fewer
+pub kept_pools : {limits : Limits} {pools : Pools} {objects : Table Object} {callbacks : LiveCallbacks} {queues : Pending} {clients : List ClientRow} {made owes age : ℕ} (ps : List PoolRow)
+    → length pools.pools ≤ length ps → length ps ≤ limits.pools → AreKept limits pools objects callbacks queues clients made owes age → AreKept limits (record pools { pools = ps }) objects callbacks queues clients made owes (age + 1)
+kept_pools {limits} {pools} {objects} {callbacks} {queues} {clients} {made} {owes} {age} ps more within k =
+    let w : World = world_of limits pools objects callbacks.rows clients in
+    record {
+      in_range = k.in_range;
+      pool_limit = k.pool_limit;
+      pools_within = within;
+      worker_count = k.worker_count;
+      client_count = k.client_count;
+      object_limit = k.object_limit;
+      slot_limit = k.slot_limit;
+      queue_slots = k.queue_slots;
+      queue_count = k.queue_count;
+      live = k.live;
+      at_work = k.at_work;
+      sound = sound_pools (made + 1) w ps more k.sound;
+      queued = k.queued;
+      held_all = k.held_all;
+      marked = k.marked;
+      run = k.run;
+      run_long = k.run_long;
+      owes = k.owes;
+      few_made = omega (arith, k.few_made);
+      few_owed = omega (arith, k.few_owed);
+    }
+
+-- ---- a worker leaves
+
+pub owed_left : (w : World) (number : ℕ) (pool : PoolId) → numbered w.workers number ≡ Some (record { pool = Some pool; callback = None }) → owed (with_worker w number (record { pool = None; callback = None })) + 1 ≡ owed w
+owed_left w number pool is =
+    let less = owed_worker w number (record { pool = Some pool; callback = None }) (record { pool = None; callback = None }) is in omega (arith, less)
+
+pub kept_detached : {limits : Limits} {pools : Pools} {objects : Table Object} {callbacks : LiveCallbacks} {queues : Pending} {clients : List ClientRow} {made owes age : ℕ} (number : ℕ) (row : kept.WorkerRow) (pool : PoolId)
+    → slice_get pools.workers (number - 1) ≡ Some row → 1 ≤ number → row.pool ≡ Some pool → row.callback ≡ 0
+    → AreKept limits pools objects callbacks queues clients made owes age
+    → AreKept limits (record pools { workers = slice_set pools.workers (number - 1) unattached_row }) objects callbacks queues clients made (owes - 1) (age + 1)
+kept_detached {limits} {pools} {objects} {callbacks} {queues} {clients} {made} {owes} {age} number row pool is from_one at idle k =
+    let w : World = world_of limits pools objects callbacks.rows clients in
+    let shown : map shown_worker (slice_set pools.workers (number - 1) unattached_row) ≡ slice_set w.workers (number - 1) (record { pool = None; callback = None }) = map-set shown_worker pools.workers (number - 1) unattached_row in
+    let shows : shown_worker row ≡ record { pool = Some pool; callback = None } = ap₂ (λ (p : Option PoolId) (n : ℕ). record { pool = p; callback = cond (n == 0) None (Some n) }) at idle in
+    let was : numbered w.workers number ≡ Some (record { pool = Some pool; callback = None }) = worker_shown pools.workers number row is from_one ∙ ap (λ r. Some r) shows in
+    record {
+      in_range = k.in_range;
+      pool_limit = k.pool_limit;
+      pools_within = k.pools_within;
+      worker_count = length-set pools.workers (number - 1) unattached_row ∙ k.worker_count;
+      client_count = k.client_count;
+      object_limit = k.object_limit;
+      slot_limit = k.slot_limit;
+      queue_slots = k.queue_slots;
+      queue_count = k.queue_count;
+      live = k.live;
+      at_work = k.at_work;
+      sound = subst (λ ws. IsSound (made + 1) (record w { workers = ws })) (sym shown) (sound_free_worker (made + 1) w number (record { pool = None; callback = None }) refl k.sound);
+      queued = k.queued;
+      held_all = k.held_all;
+      marked = marked_set callbacks.rows pools.workers (number - 1) unattached_row (λ runs. absurd (runs refl)) k.marked;
+      run = λ p. k.run p ∙ sym (length_same (runs_in p) pools.workers (number - 1) row unattached_row is (idle_before p));
+      run_long = λ p. k.run_long p ∙ sym (length_same (runs_long_in p) pools.workers (number - 1) row unattached_row is (ap (λ b. b && row.long) (idle_before p)));
+      owes = ap (λ n. n - 1) k.owes ∙ less_one (owed w) (owed (with_worker w number (record { pool = None; callback = None }))) (owed_left w number pool was) ∙ sym (ap (λ ws. owed (record w { workers = ws })) shown);
+      few_made = omega (arith, k.few_made);
+      few_owed = omega (arith, k.few_owed);
+    }
+  where
+    less_one : (m n : ℕ) → n + 1 ≡ m → m - 1 ≡ n
+    less_one m n e = omega (arith, e)
+
+    idle_before : (p : ℕ) → runs_in p row ≡ false
+    idle_before p = ap (λ n. is_attached_to p row && nat_lt 0 n) idle ∙ elim (is_attached_to p row) as (λ b. (b && nat_lt 0 0) ≡ false) [ true ↦ refl | false ↦ refl ]
+
+-- ---- a callback is marked as long
+
+set_twice : {X : Type 0} (xs : List X) (i : ℕ) (x y : X) → slice_set (slice_set xs i x) i y ≡ slice_set xs i y
+set_twice [] i x y = refl
+set_twice (z ∷ zs) zero x y = refl
+set_twice (z ∷ zs) (suc i) x y = ap (λ t. z ∷ t) (set_twice zs i x y)
+
+pub set_there : {X : Type 0} (xs : List X) (i : ℕ) (x : X) → slice_get xs i ≡ Some x → slice_set xs i x ≡ xs
+set_there [] i x e = refl
+set_there (y ∷ ys) zero x e = cc
+set_there (y ∷ ys) (suc i) x e = ap (λ t. y ∷ t) (set_there ys i x e)
+
+-- the worker's row shows the same
+pub shows_same : (ws : List kept.WorkerRow) (place : ℕ) (row : kept.WorkerRow) → slice_get ws place ≡ Some row → map shown_worker (slice_set ws place (record row { long = true })) ≡ map shown_worker ws
+shows_same ws place row is =
+    map-set shown_worker ws place (record row { long = true })
+    ∙ set_there (map shown_worker ws) place (shown_worker row) (slice_get-map shown_worker ws place ∙ ap (option_map shown_worker) is)
+
+-- workers that run other callbacks than the one that is replaced
+marked_apart : (r : CallbackRow) (cs : List CallbackRow) (ws : List kept.WorkerRow) → AllByRecursion (λ (w : kept.WorkerRow). w.callback ≢ 0 → w.callback ≢ r.number) ws → AreMarked cs ws → AreMarked (replaced r cs) ws
+marked_apart r cs [] apart m = tt
+marked_apart r cs (w ∷ ws) apart m = (
+  (λ runs. let had = m.0 runs in (had.0, find_replaced_other r w.callback cs (ne_eqb r.number w.callback (λ e. apart.0 runs (sym e))) ∙ had.1, had.2)),
+  marked_apart r cs ws apart.1 m.1,
+)
+
+pub kept_marked : {limits : Limits} {pools : Pools} {objects : Table Object} {callbacks : LiveCallbacks} {queues : Pending} {clients : List ClientRow} {made owes age : ℕ} (number : ℕ) (row : kept.WorkerRow) (c : CallbackRow)
+    → slice_get pools.workers (number - 1) ≡ Some row → 1 ≤ number → row.callback ≡ c.number → find (has_number c.number) callbacks.rows ≡ Some c
+    → AreKept limits pools objects callbacks queues clients made owes age
+    → AreKept limits (record pools { workers = slice_set pools.workers (number - 1) (record row { long = true }) }) objects (record callbacks { rows = replaced (marked_long c) callbacks.rows }) queues clients made owes (age + 1)
+kept_marked {limits} {pools} {objects} {callbacks} {queues} {clients} {made} {owes} {age} number row c is from_one runs found k =
+    let r : CallbackRow = marked_long c in
+    let new : kept.WorkerRow = record row { long = true } in
+    let rest : kept.WorkerRow = record row { callback = 0; long = false } in
+    let w : World = world_of limits pools objects callbacks.rows clients in
+    let v : World = with_callback w r in
+    let on = run_by number row c is from_one runs found k in
+    let rising : IsRising 1 (made + 1) callbacks.rows = k.sound.numbers in
+    let ran : is_running c.status ≡ true = ap is_running on.2.status in
+    let waits_not : is_pending c.status ≡ false = running_not_pending c.status ran in
+    let world_now : world_of limits (record pools { workers = slice_set pools.workers (number - 1) new }) objects (replaced r callbacks.rows) clients ≡ v
+    = ap (λ ws. record v { workers = ws }) (shows_same pools.workers (number - 1) row is) in
+    let same_waiting : filter waits (replaced r callbacks.rows) ≡ filter waits callbacks.rows
+    = filter_replaced_none waits r callbacks.rows waits_not (found_all (λ x. waits x ≡ false) c.number c 1 (made + 1) callbacks.rows rising found waits_not) in
+    let others = others_apart c number on.2.associated on.2.slots callbacks.rows 1 (number - 1) pools.workers rest found on.2.status (omega (arith, from_one)) refl k.sound.workers in
+    let paid = owed_callback (made + 1) w c r k.sound found in
+    record {
+      in_range = k.in_range;
+      pool_limit = k.pool_limit;
+      pools_within = k.pools_within;
+      worker_count = length-set pools.workers (number - 1) new ∙ k.worker_count;
+      client_count = k.client_count;
+      object_limit = k.object_limit;
+      slot_limit = k.slot_limit;
+      queue_slots = k.queue_slots;
+      queue_count = k.queue_count;
+      live = live_replaced r callbacks.rows (ap is_live on.2.status) k.live;
+      at_work = at_work_replaced r callbacks.rows (ap₂ (λ a b. a || b) waits_not ran) k.at_work;
+      sound = subst (λ u. IsSound (made + 1) u) (sym world_now) (sound_marked (made + 1) w c found k.sound);
+      queued = λ p. k.queued p ∙ ap (map entry_of) (sym (queued_same w r c (made + 1) p rising found waits_not waits_not));
+      held_all = k.held_all ∙ ap length (sym same_waiting);
+      marked = subst (λ ws. AreMarked (replaced r callbacks.rows) ws) (set_twice pools.workers (number - 1) rest new)
+          (marked_set (replaced r callbacks.rows) (slice_set pools.workers (number - 1) rest) (number - 1) new
+          (λ _. (r, ap (λ n. find (has_number n) (replaced r callbacks.rows)) runs ∙ find_replaced r c callbacks.rows found, refl))
+          (marked_apart r callbacks.rows (slice_set pools.workers (number - 1) rest) others (marked_set callbacks.rows pools.workers (number - 1) rest (λ runs_now. absurd (runs_now refl)) k.marked)));
+      run = λ p. counted p (is_running_in p) (runs_in p) (ran_in p on.0 on.2.at on.2.home ran) (ran_in p on.0 on.2.at on.2.home ran) rising (k.run p);
+      run_long = λ p. counted p (is_running_long_in p) (runs_long_in p) (ap₂ (λ a b. a && b) (ran_in p on.0 on.2.at on.2.home ran) on.2.mark) (ap (λ b. b && true) (ran_in p on.0 on.2.at on.2.home ran)) rising (k.run_long p);
+      owes = k.owes ∙ sym (ap owed world_now ∙ as_before (owed v) (owed w) (one_if (is_running c.status)) paid);
+      few_made = omega (arith, k.few_made);
+      few_owed = omega (arith, k.few_owed);
+    }
+  where
+    as_before : (m n b : ℕ) → m + b ≡ n + b → m ≡ n
+    as_before m n b e = omega (arith, e)
+
+    ran_in : (p : ℕ) (pool : PoolId) → row.pool ≡ Some pool → c.pool ≡ pool → is_running c.status ≡ true → is_running_in p c ≡ runs_in p row
+    ran_in p pool at home ran =
+        ap₂ (λ a (q : PoolId). a && (q.0 == p)) ran home
+        ∙ sym (ap₂ (λ (q : Option PoolId) (b : Bool). option_map_or (λ (x : PoolId). x.0 == p) q false && b) at (lt-ltb 0 row.callback (busy row c number is from_one runs found k)) ∙ and_true (pool.0 == p))
+      where
+        and_true : (b : Bool) → (b && true) ≡ b
+        and_true true = refl
+        and_true false = refl
+
+    counted : (p : ℕ) (of_callbacks : CallbackRow → Bool) (of_workers : kept.WorkerRow → Bool) → of_callbacks c ≡ of_workers row → of_callbacks (marked_long c) ≡ of_workers (record row { long = true }) → IsRising 1 (made + 1) callbacks.rows
+        → length (filter of_callbacks callbacks.rows) ≡ length (filter of_workers pools.workers)
+        → length (filter of_callbacks (replaced (marked_long c) callbacks.rows)) ≡ length (filter of_workers (slice_set pools.workers (number - 1) (record row { long = true })))
+    counted p of_callbacks of_workers alike after rising same =
+        let callbacks_now : length (filter of_callbacks (replaced (marked_long c) callbacks.rows)) + one_if (of_callbacks c) ≡ length (filter of_callbacks callbacks.rows) + one_if (of_callbacks (marked_long c))
+        = length_filter_replaced of_callbacks (marked_long c) c 1 (made + 1) callbacks.rows rising found in
+        let workers_now : length (filter of_workers (slice_set pools.workers (number - 1) (record row { long = true }))) + one_if (of_workers row) ≡ length (filter of_workers pools.workers) + one_if (of_workers (record row { long = true }))
+        = length_filter_set of_workers pools.workers (number - 1) row (record row { long = true }) is in
+        let before : one_if (of_callbacks c) ≡ one_if (of_workers row) = ap one_if alike in
+        let now : one_if (of_callbacks (marked_long c)) ≡ one_if (of_workers (record row { long = true })) = ap one_if after in
+        omega (arith, callbacks_now, workers_now, before, now, same)
 
 -- ---- the parts of an engine that is opened
 
@@ -577,6 +768,7 @@ kept_open limits in_range =
       queue_slots = refl;
       queue_count = length_rep [] limits.pools;
       live = refl;
+      at_work = tt;
       sound = subst (λ ws. IsSound 1 (record (opening limits) { workers = ws })) (sym shown) (opening_sound limits);
       queued = λ pool. no_entries limits.pools pool;
       held_all = none_held limits.pools;

@@ -3,3 +3,4 @@ pub mod Keeping
 pub mod Queued
 pub mod Refusing
 pub mod Showing
+pub mod Using

@@ -8,19 +8,21 @@ use Rattle.tp_base.specs.declared.answers.Refusal.TheVariants.{NoSuch, WrongKind
 use Rattle.tp_base.specs.declared.rows.GroupRow.{GroupRow}
 use Rattle.tp_base.specs.declared.rows.ClientRow.{ClientRow}
 use Rattle.tp_base.specs.declared.rows.WorkerRow.{WorkerRow}
+use Rattle.tp_base.specs.declared.rows.PoolRow.{PoolRow}
+use Rattle.tp_base.specs.declared.answers.Answer.{Answer}
 use Rattle.tp_base.specs.declared.ids.Who.TheVariants.{Client, Worker}
 use Rattle.tp_base.specs.declared.ids.PoolId.{PoolId}
-use Rattle.tp_model.proofs.Refusals.{none_holds, not_false}
+use Rattle.tp_model.proofs.Refusals.{none_holds, neither, not_false}
 use Rattle.tp_model.specs.World.{World}
 use Rattle.tp_model.specs.Counts.{numbered, callback_of, next}
 use Rattle.tp_model.specs.Conditions.{worker_of, is_actor, is_finished, is_without_callback, is_in_wait, is_pool, is_closed_pool, is_no_group_or_group, is_closed_group, is_object, is_work_object, is_released, lacks_slots_for, is_worker, runs_callback, is_attached}
-use Rattle.tp_model.specs.Step.{Accepted, Looked, first_refusal}
+use Rattle.tp_model.specs.Step.{Step, Accepted, Looked, first_refusal, unless_refused}
 use Rattle.tp_model.proofs.Steps.{unless_none}
 use Rattle.tp_base.specs.declared.answers.Answer.TheVariants as answer
 use Rattle.tp_base.specs.declared.answers.Look.TheVariants as look
 use Rattle.tp_base.specs.declared.answers.SlotWord.TheVariants.{Unasked}
 use Rattle.tp_base.specs.declared.rows.CallbackRow.{CallbackRow}
-use Rattle.tp_model.specs.Rows.{create_refusals, submit_work_refusals, attach_refusals, attach_row, attach_effect, pool_to_join, take_refusals, take_row, take_effect, take_next, return_refusals, return_row, return_effect, finish_callback, returned, finish_refusals, with_worker, with_callback}
+use Rattle.tp_model.specs.Rows.{create_refusals, submit_work_refusals, attach_refusals, attach_row, attach_effect, pool_to_join, take_refusals, take_row, take_effect, take_next, return_refusals, return_row, return_effect, finish_callback, returned, finish_refusals, with_worker, with_callback, with_pool, pool_refusals, change_pool, may_leave, leave, detach_refusals, detach_row, detach_effect, may_run_long_refusals, may_run_long_row, may_run_long_effect, mark_long, marked_long, has_spare}
 
 -- the same refusals, with equal conditions
 abbrev pub AreSame : List (Bool × Refusal) → List (Bool × Refusal) → Type 0
@@ -195,3 +197,54 @@ return_one w who number pool c is clear row found =
     unless_none (first_refusal (return_refusals w who)) (return_effect w who (worker_of w who)) clear
     ∙ ap (λ x. return_effect w x (worker_of w x)) is ∙ ap (return_effect w (Worker number)) row
     ∙ ap (finish_callback w number (record { pool = Some pool; callback = Some c.number })) found
+
+-- the pool of a call on a pool that isn't refused
+pub pool_ready : (w : World) (who : Who) (pool : ℕ) → first_refusal (pool_refusals w who pool) ≡ None → (row : PoolRow) × (slice_get w.pools pool ≡ Some row)
+pool_ready w who pool clear =
+    let there = (neither (not (is_actor w who)) (not (is_pool w pool)) (none_holds (pool_refusals w who pool) clear).0).1 in
+    is_some_of (slice_get w.pools pool) (not_false (is_pool w pool) there)
+
+pub pool_one : (w : World) (who : Who) (pool : ℕ) (change : PoolRow → PoolRow) (told : Answer) (row : PoolRow) → first_refusal (pool_refusals w who pool) ≡ None → slice_get w.pools pool ≡ Some row
+    → unless_refused (first_refusal (pool_refusals w who pool)) (change_pool w pool change told (slice_get w.pools pool)) ≡ Accepted told (with_pool w pool (change row))
+pool_one w who pool change told row clear is =
+    unless_none (first_refusal (pool_refusals w who pool)) (change_pool w pool change told (slice_get w.pools pool)) clear ∙ ap (change_pool w pool change told) is
+
+detach_of_worker : (w : World) (who : Who) (number : ℕ) (pool : PoolId) → who ≡ Worker number → first_refusal (detach_refusals w who) ≡ None → numbered w.workers number ≡ Some (record { pool = Some pool; callback = None })
+    → detach_row w who ≡ leave w number pool
+unfolding detach_row
+detach_of_worker w who number pool is clear row =
+    unless_none (first_refusal (detach_refusals w who)) (detach_effect w who (worker_of w who)) clear
+    ∙ ap (λ x. detach_effect w x (worker_of w x)) is ∙ ap (detach_effect w (Worker number)) row
+
+pub detach_stays : (w : World) (who : Who) (number : ℕ) (pool : PoolId) → who ≡ Worker number → first_refusal (detach_refusals w who) ≡ None → numbered w.workers number ≡ Some (record { pool = Some pool; callback = None }) → may_leave w pool.0 ≡ false
+    → detach_row w who ≡ Looked look.Stay
+detach_stays w who number pool is clear row stays =
+    detach_of_worker w who number pool is clear row ∙ ap (λ b. cond b (Accepted answer.Done (with_worker w number (record { pool = None; callback = None }))) (Looked look.Stay)) stays
+
+pub detach_one : (w : World) (who : Who) (number : ℕ) (pool : PoolId) → who ≡ Worker number → first_refusal (detach_refusals w who) ≡ None → numbered w.workers number ≡ Some (record { pool = Some pool; callback = None }) → may_leave w pool.0 ≡ true
+    → detach_row w who ≡ Accepted answer.Done (with_worker w number (record { pool = None; callback = None }))
+detach_one w who number pool is clear row leaves =
+    detach_of_worker w who number pool is clear row ∙ ap (λ b. cond b (Accepted answer.Done (with_worker w number (record { pool = None; callback = None }))) (Looked look.Stay)) leaves
+
+-- the worker of a call that a callback makes
+pub may_run_long_ready : (w : World) (who : Who) → first_refusal (may_run_long_refusals w who) ≡ None → runs_callback w who ≡ true
+may_run_long_ready w who clear = not_false (runs_callback w who) (none_holds (may_run_long_refusals w who) clear).1.1.0
+
+pub runs_as_worker : (w : World) (who : Who) → runs_callback w who ≡ true → is_worker who ≡ true
+runs_as_worker w (Worker number) e = refl
+runs_as_worker w (Client number) e = cc
+
+pub runs_of : (w : World) (number : ℕ) → runs_callback w (Worker number) ≡ true → (row : WorkerRow) × (callback : ℕ) × (numbered w.workers number ≡ Some row) × (row.callback ≡ Some callback)
+runs_of w number e = known (numbered w.workers number) refl e
+  where
+    known : (o : Option WorkerRow) → numbered w.workers number ≡ o → option_map_or (λ (r : WorkerRow). is_some r.callback) o false ≡ true → (row : WorkerRow) × (callback : ℕ) × (numbered w.workers number ≡ Some row) × (row.callback ≡ Some callback)
+    known None is busy = absurd cc
+    known (Some row) is busy = let callback = is_some_of row.callback busy in (row, callback.0, is, callback.1)
+
+pub may_run_long_one : (w : World) (who : Who) (number : ℕ) (pool : PoolId) (c : CallbackRow) → who ≡ Worker number → first_refusal (may_run_long_refusals w who) ≡ None
+    → numbered w.workers number ≡ Some (record { pool = Some pool; callback = Some c.number }) → callback_of w c.number ≡ Some c
+    → may_run_long_row w who ≡ Accepted (answer.Flag (has_spare w c.pool.0)) (with_callback w (marked_long c))
+unfolding may_run_long_row
+may_run_long_one w who number pool c is clear row found =
+    unless_none (first_refusal (may_run_long_refusals w who)) (may_run_long_effect w (worker_of w who)) clear
+    ∙ ap (λ x. may_run_long_effect w (worker_of w x)) is ∙ ap (may_run_long_effect w) row ∙ ap (mark_long w) found

@@ -8,8 +8,9 @@ use Rattle.tp_base.specs.declared.limits.Limits.{Limits}
 use Rattle.tp_base.specs.declared.rows.CallbackRow.{CallbackRow}
 use Rattle.tp_base.specs.declared.rows.WorkerRow.{WorkerRow}
 use Rattle.tp_base.specs.declared.rows.ClientRow.{ClientRow}
+use Rattle.tp_base.specs.declared.rows.PoolRow.{PoolRow}
 use Rattle.handle_table.specs.Table.{Table}
-use Rattle.pool_rows.specs.Pools.{Pools, worker_of, with_worker as with_kept_worker}
+use Rattle.pool_rows.specs.Pools.{Pools, worker_of, with_worker as with_kept_worker, with_pool as with_kept_pool}
 use Rattle.pool_rows.specs.declared.WorkerRow as kept
 use Rattle.tp_model.specs.World.{World}
 use Rattle.tp_model.specs.Counts.{numbered, has_number}
@@ -19,6 +20,7 @@ use Rattle.tp_model.proofs.Callbacks.{filter_replaced_out}
 use Rattle.tp_model.proofs.Refusals.{numbered_some}
 use Rattle.pool_core.specs.declared.objects.Object.{Object}
 use Rattle.pool_core.specs.Parts.{world_of, shown_worker}
+use Rattle.pool_core.proofs.Keeping.{shows_same}
 
 -- the row here behind a row of the world
 pub record IsBehind (workers : List kept.WorkerRow) (number : ℕ) (pool : Option PoolId) (callback : Option ℕ) : Type 0 where
@@ -95,3 +97,15 @@ module _ (limits : Limits) (pools : Pools) (objects : Table Object) (rows : List
 
   pub shows_finished : (number : ℕ) → world_of limits pools objects rows (slice_set clients (number - 1) (record { finished = true })) ≡ forget (with_client (world_of limits pools objects rows clients) number (record { finished = true }))
   shows_finished number = ap (λ cs. record (world_of limits pools objects rows (slice_set clients (number - 1) (record { finished = true }))) { callbacks = cs }) (sym live)
+
+  pub shows_pools : (ps : List PoolRow) → world_of limits (record pools { pools = ps }) objects rows clients ≡ forget (record (world_of limits pools objects rows clients) { pools = ps })
+  shows_pools ps = ap (λ cs. record (world_of limits pools objects rows clients) { pools = ps; callbacks = cs }) (sym live)
+
+  pub shows_marked : (place : ℕ) (row : kept.WorkerRow) (r : CallbackRow) → slice_get pools.workers place ≡ Some row → filter lives (replaced r rows) ≡ replaced r rows
+      → world_of limits (record pools { workers = slice_set pools.workers place (record row { long = true }) }) objects (replaced r rows) clients ≡ forget (with_callback (world_of limits pools objects rows clients) r)
+  shows_marked place row r is still =
+      ap₂ (λ cs ws. record (world_of limits pools objects rows clients) { callbacks = cs; workers = ws }) (sym still) (shows_same pools.workers place row is)
+
+-- one pool's row is changed
+pub pool_changed : (pools : Pools) (pool : ℕ) (row : PoolRow) (f : PoolRow → PoolRow) → slice_get pools.pools pool ≡ Some row → with_kept_pool pool f pools ≡ record pools { pools = slice_set pools.pools pool (f row) }
+pool_changed pools pool row f is = ap (λ o. record pools { pools = option_map_or (λ r. slice_set pools.pools pool (f r)) o pools.pools }) is

@@ -1,5 +1,5 @@
 -- What the parts of an engine keep between calls: each index and each counter says of the rows what it is for.
-use Rattle.std.specs.Prelude.{◌≡◌, ◌≢◌, ℕ, ◌+◌, ◌*◌, ◌≤◌, Bool, List, length, map, Some}
+use Rattle.std.specs.Prelude.{◌≡◌, ◌≢◌, ℕ, ◌+◌, ◌*◌, ◌≤◌, Bool, true, ◌||◌, List, length, map, Some}
 use Rattle.std.specs.List.{filter, find, AllByRecursion}
 use Rattle.tp_base.specs.declared.limits.Limits.{Limits}
 use Rattle.tp_base.specs.declared.rows.ClientRow.{ClientRow}
@@ -11,7 +11,7 @@ use Rattle.prio_queue.specs.Pending.{Pending, queue_of, held}
 use Rattle.pool_rows.specs.Pools.{Pools}
 use Rattle.pool_rows.specs.Workers.{runs_in, runs_long_in}
 use Rattle.pool_rows.specs.declared.WorkerRow.{WorkerRow}
-use Rattle.tp_model.specs.Counts.{has_number, is_pending, queue, running, running_long, owed}
+use Rattle.tp_model.specs.Counts.{has_number, is_pending, is_running, queue, running, running_long, owed}
 use Rattle.tp_model.specs.Sound.{IsSound}
 use Rattle.tp_model.specs.Remembered.{lives}
 use Rattle.pool_core.specs.Parts.{world_of, entry_of}
@@ -19,6 +19,9 @@ use Rattle.pool_core.specs.declared.objects.Object.{Object}
 
 abbrev pub waits : CallbackRow → Bool
 waits c = is_pending c.status
+
+abbrev pub waits_or_runs : CallbackRow → Bool
+waits_or_runs c = is_pending c.status || is_running c.status
 
 -- what a worker runs is kept, and the worker has its long mark
 abbrev pub IsMarked : List CallbackRow → WorkerRow → Type 0
@@ -39,6 +42,8 @@ pub record AreKept (limits : Limits) (pools : Pools) (objects : Table Object) (c
   pub queue_count : length queues.queues ≡ limits.pools
   -- no callback that is over is kept
   pub live : filter lives callbacks.rows ≡ callbacks.rows
+  -- and each that is kept waits for a worker or runs
+  pub at_work : AllByRecursion (λ c. waits_or_runs c ≡ true) callbacks.rows
   pub sound : IsSound (made + 1) (world_of limits pools objects callbacks.rows clients)
   -- the queues hold exactly the pending callbacks, in the order in which they are taken
   pub queued : (pool : ℕ) → queue_of queues pool ≡ map entry_of (queue (world_of limits pools objects callbacks.rows clients) pool)

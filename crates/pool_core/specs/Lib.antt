@@ -1,4 +1,5 @@
 pub mod Actors
 pub mod Kept
 pub mod Parts
+pub mod Uses
 pub mod View

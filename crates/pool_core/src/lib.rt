@@ -35,8 +35,10 @@ use tp_base::rows::ClientRow;
 
 mod actors;
 mod clients;
+mod in_callback;
 mod moves;
 mod objects;
+mod pools;
 mod refusals;
 mod work;
 mod workers;
@@ -106,6 +108,10 @@ impl Engine {
         ensures { (w : World) → StandsFor self.old w → Meets self.old self.new w (step w room who call) result }
     {
         match call {
+            Call::CreatePool => self.create_pool(who, room),
+            Call::ClosePool { pool } => self.close_pool(who, pool, room),
+            Call::SetMaximum { pool, value } => self.set_maximum(who, pool, value, room),
+            Call::SetMinimum { pool, value } => self.set_minimum(who, pool, value, room),
             Call::Create {
                 kind,
                 routine,
@@ -114,8 +120,10 @@ impl Engine {
             } => self.create(who, kind, routine, context, env, room),
             Call::SubmitWork { object } => self.submit_work(who, object, room),
             Call::Attach => self.attach(who, room),
+            Call::Detach => self.detach(who, room),
             Call::Take => self.take(who, room),
             Call::Return => self.return_callback(who, room),
+            Call::MayRunLong => self.may_run_long(who, room),
             Call::Finish => self.finish(who, room),
         }
     }

@@ -1,13 +1,15 @@
 //! The moves of an engine: here alone its parts change, so that what each index and counter is for
 //! stays true.
 
-ghost use Rattle.std.specs.Prelude.{◌≡◌, ◌+◌, ◌-◌, ◌^◌, ◌<◌, length, None, Some, true, false};
+ghost use Rattle.std.specs.Prelude.{◌≡◌, ◌+◌, ◌-◌, ◌^◌, ◌<◌, length, slice_get, None, Some, true, false};
 ghost use Rattle.handle_table.specs.Table.{live};
 ghost use Rattle.tp_base.specs.declared.rows.WorkerRow.{WorkerRow};
 ghost use Rattle.tp_base.specs.declared.rows.CallbackRow.{CallbackRow};
 ghost use Rattle.tp_model.specs.Counts.{numbered, callback_of, is_pending};
 ghost use Rattle.tp_model.specs.Conditions.{lacks_slots_for};
-ghost use Rattle.tp_model.specs.Rows.{with_object, with_new_callback, with_callback, with_worker, with_client, started, returned};
+ghost use Rattle.tp_base.specs.declared.ids.PoolId.{PoolId};
+ghost use Rattle.tp_base.specs.declared.rows.PoolRow.{PoolRow};
+ghost use Rattle.tp_model.specs.Rows.{with_object, with_new_callback, with_callback, with_worker, with_client, with_new_pool, with_pool, closed, with_maximum, with_minimum, started, returned, marked_long};
 ghost use Rattle.tp_model.specs.Remembered.{remembered_in};
 ghost use Rattle.pool_core.specs.Parts.{priority_byte as priority_byte_of};
 
@@ -37,6 +39,50 @@ fn priority_byte(priority: Priority) -> u8
 
 impl Engine {
     ghost use Rattle.pool_core.specs.Parts.{shown_object};
+
+    /// Makes a pool, and answers its number.
+    pub(crate) fn add_pool(&mut self) -> PoolId
+        requires room { length self.old.world.pools < self.old.world.limits.pools }
+        requires young { self.old.age < 2 ^ 47 }
+        ensures number { result.0 ≡ length self.old.world.pools }
+        ensures after { self.new ≡ remembered_in self.old (with_new_pool self.old.world) }
+    {
+        self.age += 1;
+        match self.pools.create() {
+            Ok(pool) => pool,
+            Err(_) => unreachable!(),
+        }
+    }
+
+    /// Closes a pool.
+    pub(crate) fn mark_closed(&mut self, pool: PoolId)
+        requires made { pool.0 < length self.old.world.pools }
+        requires young { self.old.age < 2 ^ 47 }
+        ensures { (row : PoolRow) → slice_get self.old.world.pools pool.0 ≡ Some row → self.new ≡ remembered_in self.old (with_pool self.old.world pool.0 (closed row)) }
+    {
+        self.pools.close(pool);
+        self.age += 1;
+    }
+
+    /// Sets how many callbacks of a pool may run at once.
+    pub(crate) fn change_maximum(&mut self, pool: PoolId, value: u32)
+        requires made { pool.0 < length self.old.world.pools }
+        requires young { self.old.age < 2 ^ 47 }
+        ensures { (row : PoolRow) → slice_get self.old.world.pools pool.0 ≡ Some row → self.new ≡ remembered_in self.old (with_pool self.old.world pool.0 (with_maximum value row)) }
+    {
+        self.pools.set_maximum(pool, value);
+        self.age += 1;
+    }
+
+    /// Sets how many workers a pool keeps.
+    pub(crate) fn change_minimum(&mut self, pool: PoolId, value: u32)
+        requires made { pool.0 < length self.old.world.pools }
+        requires young { self.old.age < 2 ^ 47 }
+        ensures { (row : PoolRow) → slice_get self.old.world.pools pool.0 ≡ Some row → self.new ≡ remembered_in self.old (with_pool self.old.world pool.0 (with_minimum value row)) }
+    {
+        self.pools.set_minimum(pool, value);
+        self.age += 1;
+    }
 
     /// Makes an object, and answers its number.
     pub(crate) fn add_object(&mut self, object: Object) -> u32
@@ -84,6 +130,17 @@ impl Engine {
         self.age += 1;
     }
 
+    /// Detaches an idle worker from its pool.
+    pub(crate) fn detach_worker(&mut self, number: u32)
+        requires idle { (pool : PoolId) × (numbered self.old.world.workers number ≡ Some (record { pool = Some pool; callback = None })) }
+        requires young { self.old.age < 2 ^ 47 }
+        ensures { self.new ≡ remembered_in self.old (with_worker self.old.world number (record { pool = None; callback = None })) }
+    {
+        self.pools.detach(number);
+        self.owed -= 1;
+        self.age += 1;
+    }
+
     /// Lets an idle worker of a pool run a callback that waits there.
     pub(crate) fn start_callback(&mut self, number: u32, pool: PoolId, callback: CallbackRow)
         requires idle { numbered self.old.world.workers number ≡ Some (record { pool = Some pool; callback = None }) }
@@ -105,6 +162,22 @@ impl Engine {
         let _was_pending = self.queues.remove(pool.0, callback.number);
         self.pools.take(number, callback.number, callback.long);
         self.owed += 1;
+        self.age += 1;
+    }
+
+    /// Notes that the callback that a worker runs may run long.
+    pub(crate) fn mark_long(&mut self, number: u32, callback: CallbackRow)
+        requires runs { (pool : PoolId) × (numbered self.old.world.workers number ≡ Some (record { pool = Some pool; callback = Some callback.number })) }
+        requires found { callback_of self.old.world callback.number ≡ Some callback }
+        requires young { self.old.age < 2 ^ 47 }
+        ensures { self.new ≡ remembered_in self.old (with_callback self.old.world (marked_long callback)) }
+    {
+        let long = CallbackRow {
+            long: true,
+            ..callback
+        };
+        let _was_there = self.callbacks.replace(long);
+        self.pools.mark_long(number);
         self.age += 1;
     }
 

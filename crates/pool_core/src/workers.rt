@@ -1,13 +1,13 @@
-//! Pools and their workers: attaching, taking callbacks and returning from them.
+//! Workers of pools: attaching, detaching, taking callbacks and returning from them.
 
-ghost use Rattle.std.specs.Prelude.{◌≡◌, ◌^◌, ◌<◌, ◌≤◌, ◌-◌, ◌==◌, ◌&&◌, nat_lt, ◌+◌, ℕ, length, IfSome, None, Some, true, if◌then◌else◌};
+ghost use Rattle.std.specs.Prelude.{◌≡◌, ◌^◌, ◌<◌, ◌≤◌, ◌-◌, ◌==◌, ◌&&◌, ◌||◌, not, nat_lt, ◌+◌, ℕ, length, IfSome, None, Some, true, if◌then◌else◌};
 ghost use Rattle.tp_base.specs.declared.ids.Who.TheVariants.{Worker};
 ghost use Rattle.tp_base.specs.declared.rows.WorkerRow.{WorkerRow};
 ghost use Rattle.tp_model.specs.Conditions.{is_pool, is_closed_pool, is_worker};
 ghost use Rattle.tp_model.specs.Sound.{IsSound};
 ghost use Rattle.tp_model.specs.Counts.{numbered, callback_of, is_pending, is_running, next, running, maximum, is_in_need, is_below_minimum, least_pool};
 ghost use Rattle.tp_model.specs.Step.{first_refusal};
-ghost use Rattle.tp_model.specs.Rows.{attach_refusals, take_refusals, return_refusals, pool_to_join};
+ghost use Rattle.tp_model.specs.Rows.{attach_refusals, take_refusals, return_refusals, pool_to_join, another_in_need, may_leave};
 ghost use Rattle.tp_model.specs.Remembered.{step_of, Goes};
 
 use crate::Engine;
@@ -19,7 +19,7 @@ use tp_base::ids::{PoolId, Who};
 use tp_base::rows::CallbackRow;
 
 /// The number of a worker.
-fn worker_number(who: Who) -> u32
+pub(crate) fn worker_number(who: Who) -> u32
     requires { is_worker who ≡ true }
     ensures { who ≡ Worker result }
 {
@@ -45,6 +45,16 @@ fn keeps_too_few(counts: Counts) -> bool
 {
     let minimum = if counts.closed { 0 } else { counts.minimum };
     counts.attached.saturating_sub(counts.long) < minimum && counts.attached < counts.maximum
+}
+
+// The pool has more workers than its maximum, or nothing waits there and it has more workers for
+// short callbacks than its minimum, or nothing waits there and another pool is in need.
+fn can_spare_one(waiting: u32, counts: Counts, another: bool) -> bool
+    ensures { result ≡ (nat_lt counts.maximum counts.attached || ((waiting == 0) && (nat_lt (if counts.closed then 0 else counts.minimum) (counts.attached - counts.long) || another))) }
+{
+    let minimum = if counts.closed { 0 } else { counts.minimum };
+    counts.maximum < counts.attached
+        || (waiting == 0 && (minimum < counts.attached.saturating_sub(counts.long) || another))
 }
 
 impl Engine {
@@ -159,6 +169,7 @@ impl Engine {
         Outcome::Done(Answer::Attached { pool: PoolId(pool) })
     }
 
+    // The refusals of a worker that must be attached and idle.
     fn take_refusal(&self, who: Who) -> Option<Refusal>
         ensures { result ≡ first_refusal (take_refusals self.now.world who) }
     {
@@ -200,6 +211,57 @@ impl Engine {
             Some(number) => self.callbacks.find(number),
             None => None,
         }
+    }
+
+    // It is another pool than this one, and in need.
+    fn is_other_in_need(&self, pool: PoolId, other: PoolId) -> bool
+        requires { other.0 < length self.now.world.pools }
+        ensures { result ≡ (not (other.0 == pool.0) && is_in_need self.now.world other.0) }
+    {
+        other.0 != pool.0 && self.is_in_need(other)
+    }
+
+    // Some pool but this one is in need.
+    fn is_another_in_need(&self, pool: PoolId) -> bool
+        ensures { result ≡ another_in_need self.now.world pool.0 }
+    {
+        let pools = self.pools.pools();
+        for number in 0..pools {
+            if self.is_other_in_need(pool, PoolId(number)) {
+                return true;
+            }
+        }
+        false
+    }
+
+    // A worker of the pool that runs nothing may leave it.
+    fn may_leave(&self, pool: PoolId) -> bool
+        requires { pool.0 < length self.now.world.pools }
+        ensures { result ≡ may_leave self.now.world pool.0 }
+    {
+        let another = self.is_another_in_need(pool);
+        match self.pools.counts(pool) {
+            None => unreachable!(),
+            Some(counts) => can_spare_one(self.queues.len(pool.0), counts, another),
+        }
+    }
+
+    /// Lets an idle worker leave its pool.
+    pub(crate) fn detach(&mut self, who: Who, room: u64) -> Outcome
+        requires { self.old.age < 2 ^ 47 }
+        ensures { Goes self.old self.new (step_of self.old room who Call.Detach) result }
+    {
+        match self.take_refusal(who) {
+            Some(refusal) => return refused(refusal, room),
+            None => {}
+        }
+        let number = worker_number(who);
+        let pool = self.pool_of(number);
+        if !self.may_leave(pool) {
+            return Outcome::Look(Look::Stay);
+        }
+        self.detach_worker(number);
+        Outcome::Done(Answer::Done)
     }
 
     /// Lets a worker begin the next callback of its pool.
@@ -269,8 +331,8 @@ impl Engine {
         ])
     }
 
-    // The pool of a worker that runs a callback, and the callback's number.
-    fn busy_worker(&self, number: u32) -> (PoolId, u64)
+    /// The pool of a worker that runs a callback, and the callback's number.
+    pub(crate) fn busy_worker(&self, number: u32) -> (PoolId, u64)
         requires { (row : WorkerRow) × (callback : ℕ) × (numbered self.now.world.workers number ≡ Some row) × (row.callback ≡ Some callback) }
         ensures { numbered self.now.world.workers number ≡ Some (record { pool = Some result.0; callback = Some result.1 }) }
     {
@@ -283,8 +345,8 @@ impl Engine {
         }
     }
 
-    // The callback of this number, which a worker runs.
-    fn callback_run(&self, number: u32, pool: PoolId, callback: u64) -> CallbackRow
+    /// The callback of this number, which a worker runs.
+    pub(crate) fn callback_run(&self, number: u32, pool: PoolId, callback: u64) -> CallbackRow
         requires { numbered self.now.world.workers number ≡ Some (record { pool = Some pool; callback = Some callback }) }
         ensures number { result.number ≡ callback }
         ensures found { callback_of self.now.world callback ≡ Some result }

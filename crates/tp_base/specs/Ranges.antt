@@ -2,7 +2,7 @@
 use Rattle.std.specs.Prelude.{◌≡◌, ℕ, ◌≤◌}
 use Rattle.tp_base.specs.declared.limits.Limits.{Limits}
 use Rattle.tp_base.specs.declared.calls.Call.{Call}
-use Rattle.tp_base.specs.declared.calls.Call.TheVariants.{Create, SubmitWork, Attach, Take, Return, Finish}
+use Rattle.tp_base.specs.declared.calls.Call.TheVariants.{CreatePool, ClosePool, SetMaximum, SetMinimum, Create, SubmitWork, Attach, Detach, Take, Return, MayRunLong, Finish}
 use Rattle.tp_base.specs.declared.calls.Environ.{Environ}
 
 -- a machine has at least a worker, the default pool and a slot, and at most 65,535 of anything
@@ -33,7 +33,13 @@ pub record IsRoutineInRange (routine : ℕ) : Type 0 where
 abbrev pub IsCallInRange : Call → Type 0
 IsCallInRange (Create kind routine context env) = IsRoutineInRange routine.0 × IsEnvironInRange env
 IsCallInRange (SubmitWork object) = object.0 ≤ 65535
+IsCallInRange CreatePool = Unit {0}
+IsCallInRange (ClosePool pool) = pool.0 ≤ 65535
+IsCallInRange (SetMaximum pool value) = pool.0 ≤ 65535
+IsCallInRange (SetMinimum pool value) = pool.0 ≤ 65535
 IsCallInRange Attach = Unit {0}
+IsCallInRange Detach = Unit {0}
+IsCallInRange MayRunLong = Unit {0}
 IsCallInRange Take = Unit {0}
 IsCallInRange Return = Unit {0}
 IsCallInRange Finish = Unit {0}

@@ -38,6 +38,14 @@ pub struct Environ {
 /// A call of one actor.
 #[derive(Clone, Copy, Debug, PartialEq)]
 pub enum Call {
+    /// Makes a pool: `CreateThreadpool`.
+    CreatePool,
+    /// Closes a pool: `CloseThreadpool`.
+    ClosePool { pool: PoolId },
+    /// Sets how many callbacks of a pool may run at once: `SetThreadpoolThreadMaximum`.
+    SetMaximum { pool: PoolId, value: u32 },
+    /// Sets how many workers a pool keeps: `SetThreadpoolThreadMinimum`.
+    SetMinimum { pool: PoolId, value: u32 },
     /// Makes an object: `CreateThreadpoolWork` and its like for the other kinds.
     Create {
         kind: Kind,
@@ -51,10 +59,14 @@ pub enum Call {
     },
     /// An unattached worker joins a pool that needs one.
     Attach,
+    /// An idle worker leaves its pool, if it isn't wanted there.
+    Detach,
     /// An idle worker takes the next pending callback of its pool and begins to run it.
     Take,
     /// A worker's callback returns.
     Return,
+    /// A running callback says that it may run long: `CallbackMayRunLong`.
+    MayRunLong,
     /// A client makes no further call.
     Finish,
 }
@@ -88,7 +100,16 @@ impl Call {
         match self {
             Call::Create { routine, env, .. } => routine.in_range() && env.in_range(),
             Call::SubmitWork { object } => object.0 <= 65_535,
-            Call::Attach | Call::Take | Call::Return | Call::Finish => true,
+            Call::ClosePool { pool } => pool.0 <= 65_535,
+            Call::SetMaximum { pool, .. } => pool.0 <= 65_535,
+            Call::SetMinimum { pool, .. } => pool.0 <= 65_535,
+            Call::CreatePool
+            | Call::Attach
+            | Call::Detach
+            | Call::Take
+            | Call::Return
+            | Call::MayRunLong
+            | Call::Finish => true,
         }
     }
 }

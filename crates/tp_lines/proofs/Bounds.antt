@@ -1,10 +1,10 @@
 -- No line is long.
-use Rattle.std.proofs.Common.{◌≡◌, ℕ, suc, ◌+◌, ◌*◌, ◌<◌, ◌≤◌, ◌^◌, List, [], ◌∷◌, ◌++◌, length, take, refl, sym, ap, ◌∙◌, subst, arith, ◌⊎◌, inl, inr, Bool, true, false, IsTrue}
+use Rattle.std.proofs.Common.{◌≡◌, ℕ, ◌*◌, ◌<◌, ◌≤◌, ◌^◌, List, [], ◌∷◌, ◌++◌, length, take, refl, ap, arith, inl, inr, Bool, true, false, IsTrue}
 use Rattle.std.specs.Prelude.{decimal, nat_le, if◌then◌else◌}
 use Rattle.std.proofs.lemmas.Fmt.{length-decimal-le}
 use Rattle.std.proofs.lemmas.List.{length-append, length-take-le}
 use Rattle.std.proofs.lemmas.Bool.{leb-true}
-use Rattle.line_grammar.specs.Language.{Begins, AnyOf, IsReadTo, IsStuck}
+use Rattle.line_grammar.specs.Language.{IsReadTo, IsStuck}
 use Rattle.tp_base.specs.declared.answers.ActionKind.{ActionKind}
 use Rattle.tp_base.specs.declared.answers.ActionKind.TheVariants.{Section, Mutex, Semaphore, Event}
 use Rattle.tp_base.specs.declared.answers.SlotWord.{SlotWord}
@@ -25,9 +25,9 @@ use Rattle.tp_lines.specs.declared.shapes.Word.{Word}
 use Rattle.tp_lines.specs.declared.shapes.Word.TheVariants as word
 use Rattle.tp_lines.specs.declared.values.Value.{Value}
 use Rattle.tp_lines.specs.declared.values.Value.TheVariants as value
-use Rattle.tp_lines.specs.Calls.{IsCallLine, CallLines, IsWhoInRange}
-use Rattle.tp_lines.specs.CallRows.{IsCallText, CallTexts}
-use Rattle.tp_lines.specs.Fields.{form_of, IsSoundForm, Holds, form_text, part_text, AreHeld, tail_text}
+use Rattle.tp_lines.specs.Calls.{CallLines, IsWhoInRange}
+use Rattle.tp_lines.specs.CallRows.{IsCallText}
+use Rattle.tp_lines.specs.Fields.{form_of, IsSoundForm, Holds, part_text, AreHeld, tail_text}
 use Rattle.tp_lines.specs.Rows.{IsListed, Rows}
 use Rattle.tp_lines.specs.Shapes.{text_of_word}
 use Rattle.tp_lines.specs.Values.{number_of, kind_of, priority_of, long_of, flag_of, slot_of, action_of}
@@ -71,11 +71,17 @@ action_short Semaphore = omega arith
 action_short Event = omega arith
 
 word_short : (w : Word) → length (text_of_word w) ≤ 30
+word_short word.CreatePool = omega arith
+word_short word.ClosePool = omega arith
+word_short word.SetMaximum = omega arith
+word_short word.SetMinimum = omega arith
 word_short word.Create = omega arith
 word_short word.Submit = omega arith
 word_short word.Attach = omega arith
+word_short word.Detach = omega arith
 word_short word.Take = omega arith
 word_short word.Return = omega arith
+word_short word.MayRunLong = omega arith
 word_short word.Finish = omega arith
 word_short word.Done = omega arith
 word_short word.Made = omega arith

@@ -1,9 +1,9 @@
 -- Entries: the line of a call, an arrow and an answer.
-use Rattle.std.proofs.Common.{◌≡◌, ℕ, ◌+◌, ◌<◌, ◌≤◌, List, [], ◌∷◌, ◌++◌, length, take, drop, refl, sym, ap, ◌∙◌, subst, arith, IsTrue}
-use Rattle.std.specs.Prelude.{Result, Ok, Err, codes}
+use Rattle.std.proofs.Common.{◌≡◌, ℕ, ◌+◌, ◌≤◌, List, ◌∷◌, ◌++◌, length, drop, refl, sym, ap, ◌∙◌, subst, arith}
+use Rattle.std.specs.Prelude.{codes}
 use Rattle.std.proofs.lemmas.List.{append_assoc, length-append}
-use Rattle.line_grammar.specs.Language.{AnyOf, IsRead, IsReadTo, IsStuck}
-use Rattle.line_grammar.specs.Parts.{IsLed, Led, IsPair, Pairs, IsPart, IsTail}
+use Rattle.line_grammar.specs.Language.{AnyOf, IsReadTo, IsStuck}
+use Rattle.line_grammar.specs.Parts.{Led, IsPair, Pairs, IsPart, IsTail}
 use Rattle.line_grammar.proofs.Pairs.{pairs_read, pairs_stuck_first, pairs_stuck_second, pairs_part}
 use Rattle.line_grammar.proofs.Readings.{part_renamed, read_renamed, stuck_renamed, led_none, led_part, led_tail, led_then, led_then_stuck}
 use Rattle.tp_base.specs.declared.answers.Answer.{Answer}
@@ -18,10 +18,9 @@ use Rattle.tp_lines.specs.declared.shapes.Shape.{Shape}
 use Rattle.tp_lines.specs.declared.values.Value.{Value}
 use Rattle.tp_lines.specs.Rows.{Rows}
 use Rattle.tp_lines.specs.AnswerRows.{AnswerTexts, ArrowTexts, Endings, IsAnswerText, IsRefusalText, IsResultText}
-use Rattle.tp_lines.specs.Answers.{EntryLines, IsEntryLine, line_of_entry, text_of_answer, words_of_answer}
-use Rattle.tp_lines.specs.Calls.{CallLines, IsCallLine, line_of_call}
-use Rattle.tp_lines.specs.Words.{joined}
-use Rattle.tp_lines.proofs.AnswerFacts.{answer_part, answer_row, answer_tail, ending_short}
+use Rattle.tp_lines.specs.Answers.{EntryLines, text_of_answer}
+use Rattle.tp_lines.specs.Calls.{CallLines, line_of_call}
+use Rattle.tp_lines.proofs.AnswerFacts.{answer_part, answer_row, answer_tail, ending_holds}
 use Rattle.tp_lines.proofs.Bounds.{line_short, row_short}
 use Rattle.tp_lines.proofs.RefusalFacts.{refusal_row}
 use Rattle.tp_lines.proofs.ResultFacts.{result_row}
@@ -72,7 +71,7 @@ arrow_tail = led_tail 32 (Led 45 (Led 62 AnswerTexts)) (45 ∷ 62 ∷ answer_tai
 abbrev entry_of : ((Who × Call) × Answer) → Entry
 entry_of ((who, call), answer) = record { who = who; call = call; answer = answer }
 
-arrow_text : (x : Answer) (t : List ℕ) → ArrowTexts x t → (rest : List ℕ) × (t ≡ 32 ∷ 45 ∷ 62 ∷ rest) × IsAnswerText x rest
+pub arrow_text : (x : Answer) (t : List ℕ) → ArrowTexts x t → (rest : List ℕ) × (t ≡ 32 ∷ 45 ∷ 62 ∷ rest) × IsAnswerText x rest
 arrow_text x t a =
     let b = a.behind in let c = b.behind in
     (c.rest, a.split ∙ ap (λ l. 32 ∷ l) b.split ∙ ap (λ l. 32 ∷ 45 ∷ l) c.split, c.behind)
@@ -84,19 +83,35 @@ entry_to : (who : Who) (call : Call) (answer : Answer) (t : List ℕ) → IsPair
 entry_to who call answer t pair =
     let a = arrow_text answer pair.back pair.second in
     record {
-      who_in_range = pair.first.who_in_range; call_in_range = pair.first.call_in_range; readable = pair.first.readable; answer_in_range = a.2.in_range;
+      who_in_range = pair.first.who_in_range;
+      call_in_range = pair.first.call_in_range;
+      readable = pair.first.readable;
+      answer_in_range = a.2.in_range;
       split = pair.split ∙ ap (λ l. l ++ pair.back) pair.first.split ∙ ap (λ l. line_of_call who call ++ l) (a.1 ∙ ap (λ l. 32 ∷ 45 ∷ 62 ∷ l) a.2.split)
           ∙ sym (append_assoc (line_of_call who call) (codes " -> ") (text_of_answer answer));
     }
 
+pub entry_pair : (entry : Entry) (t : List ℕ) → EntryLines entry t → IsPair CallLines (λ p. ArrowTexts) (entry.who, entry.call) entry.answer t
+entry_pair entry t a = record {
+  front = line_of_call entry.who entry.call;
+  back = codes " -> " ++ text_of_answer entry.answer;
+  split = a.split ∙ append_assoc (line_of_call entry.who entry.call) (codes " -> ") (text_of_answer entry.answer);
+  first = record { who_in_range = a.who_in_range; call_in_range = a.call_in_range; readable = a.readable; split = refl };
+  second = record {
+    rest = 45 ∷ 62 ∷ 32 ∷ text_of_answer entry.answer;
+    split = refl;
+    behind =
+        record {
+          rest = 62 ∷ 32 ∷ text_of_answer entry.answer;
+          split = refl;
+          behind =
+              record { rest = 32 ∷ text_of_answer entry.answer; split = refl; behind = record { in_range = a.answer_in_range; split = refl } };
+        };
+  };
+}
+
 entry_row : (entry : Entry) (t : List ℕ) → EntryLines entry t → (p : (Who × Call) × Answer) × EntryRows p t × (entry ≡ entry_of p)
-entry_row entry t a = (((entry.who, entry.call), entry.answer), record {
-    front = line_of_call entry.who entry.call; back = codes " -> " ++ text_of_answer entry.answer;
-    split = a.split ∙ append_assoc (line_of_call entry.who entry.call) (codes " -> ") (text_of_answer entry.answer);
-    first = record { who_in_range = a.who_in_range; call_in_range = a.call_in_range; readable = a.readable; split = refl };
-    second = record { rest = 45 ∷ 62 ∷ 32 ∷ text_of_answer entry.answer; split = refl; behind =
-        record { rest = 62 ∷ 32 ∷ text_of_answer entry.answer; split = refl; behind =
-        record { rest = 32 ∷ text_of_answer entry.answer; split = refl; behind = record { in_range = a.answer_in_range; split = refl } } } } }, refl)
+entry_row entry t a = (((entry.who, entry.call), entry.answer), entry_pair entry t a, refl)
 
 entry_back : (entry : Entry) (t : List ℕ) → EntryLines entry t → AnyOf EntryRows t
 entry_back entry t a = let r = entry_row entry t a in (r.0, r.1)
@@ -134,14 +149,18 @@ refusal_short x t a = let r = refusal_row x t a in row_short REFUSALS.shapes ref
 
 pub answer_short : (x : Answer) (t : List ℕ) → IsAnswerText x t → length t ≤ 440
 answer_short x t a = let r = answer_row x t a in by_row r.0 t r.1
-    where
+  where
     by_row : (p : (Shape × List Value) × Ending) (t : List ℕ) → Pairs (Rows ANSWERS.shapes) (λ q. Endings q.0.word) p t → length t ≤ 440
     by_row ((s, values), end) t pair =
-        omega (arith, ap length pair.split, length-append pair.front pair.back, row_short ANSWERS.shapes refl (s, values) pair.front pair.first,
-          ending_short 220 result_short refusal_short s.word end pair.back pair.second)
+        omega (
+          arith,
+          ap length pair.split,
+          length-append pair.front pair.back,
+          row_short ANSWERS.shapes refl (s, values) pair.front pair.first,
+          ending_holds (λ l. length l ≤ 220) (omega arith) result_short refusal_short s.word end pair.back pair.second,
+        )
 
 pub entry_short : (entry : Entry) (t : List ℕ) → EntryLines entry t → length t ≤ 700
-unfolding entry_row
 entry_short entry t a =
-    let r = entry_row entry t a in let pair = r.1 in let b = arrow_text entry.answer pair.back pair.second in
+    let pair = entry_pair entry t a in let b = arrow_text entry.answer pair.back pair.second in
     omega (arith, ap length pair.split, length-append pair.front pair.back, line_short (entry.who, entry.call) pair.front pair.first, ap length b.1, answer_short entry.answer b.0 b.2)

@@ -1,9 +1,9 @@
 -- Fields, one after another.
-use Rattle.std.proofs.Common.{◌≡◌, ℕ, ◌+◌, ◌<◌, ◌≤◌, List, [], ◌∷◌, ◌++◌, length, take, drop, get_or, set, refl, sym, ap, ◌∙◌, subst, arith, ◌⊎◌, inl, inr}
-use Rattle.std.specs.Prelude.{Result, Ok, Err}
+use Rattle.std.proofs.Common.{◌≡◌, ℕ, ◌+◌, ◌<◌, ◌≤◌, List, [], ◌∷◌, ◌++◌, length, take, drop, get_or, set, refl, sym, ap, ◌∙◌, subst, arith}
+use Rattle.std.specs.Prelude.{Ok, Err}
 use Rattle.std.proofs.lemmas.List.{drop_more, get_or-take, get_or-set_same, take-take, take-set}
-use Rattle.line_grammar.specs.Language.{Begins, Stops, Reaches, AnyOf, IsRead, IsReadTo, IsStuck}
-use Rattle.line_grammar.specs.Parts.{IsLed, Led, IsPair, Pairs, Opens, IsPart, IsTail}
+use Rattle.line_grammar.specs.Language.{Stops, AnyOf, IsReadTo, IsStuck}
+use Rattle.line_grammar.specs.Parts.{Led, IsPair, Pairs, Opens, IsPart, IsTail}
 use Rattle.line_grammar.proofs.Pairs.{pairs_read, pairs_stuck_first, pairs_stuck_second, pairs_part}
 use Rattle.line_grammar.proofs.Readings.{read_same, part_renamed, led_part, read_renamed, stuck_renamed, led_none, led_then, led_then_stuck}
 use Rattle.tp_lines.specs.declared.fields.Form.{Form}
@@ -11,7 +11,7 @@ use Rattle.tp_lines.specs.declared.fields.Form.TheVariants as form
 use Rattle.tp_lines.specs.declared.shapes.Field.{Field}
 use Rattle.tp_lines.specs.declared.values.Value.{Value}
 use Rattle.tp_lines.specs.declared.values.Value.TheVariants as value
-use Rattle.tp_lines.specs.Fields.{form_of, IsSoundForm, Holds, form_text, IsFormText, FormTexts, part_text, IsPartText, PartTexts, AreHeld, tail_text, IsTailText, Tails}
+use Rattle.tp_lines.specs.Fields.{form_of, IsSoundForm, form_text, FormTexts, part_text, IsPartText, PartTexts, AreHeld, tail_text, Tails}
 use Rattle.tp_lines.proofs.FormFacts.{form_part, form_some, form_sound}
 
 -- a form that is written has the space before it
@@ -58,13 +58,13 @@ module _ (f : Form) (sound : IsSoundForm f) (used : f ≡ form.Nothing → ⊥) 
 
 unused_part : IsPart 32 (PartTexts form.Nothing)
 unused_part = record {
-    unique = λ v w text a b. a.holds ∙ sym b.holds;
-    apart = λ v w text more a b. let no_such : ⊥ = behind_nothing text more b.split in no_such;
-  }
+  unique = λ v w text a b. a.holds ∙ sym b.holds;
+  apart = λ v w text more a b. let no_such : ⊥ = behind_nothing text more b.split in no_such;
+}
   where
-  behind_nothing : (text more : List ℕ) → text ++ 32 ∷ more ≡ [] → ⊥
-  behind_nothing [] more e = cc
-  behind_nothing (x ∷ text) more e = cc
+    behind_nothing : (text more : List ℕ) → text ++ 32 ∷ more ≡ [] → ⊥
+    behind_nothing [] more e = cc
+    behind_nothing (x ∷ text) more e = cc
 
 pub parts_part : (f : Form) → IsSoundForm f → IsPart 32 (PartTexts f)
 parts_part form.Nothing sound = unused_part
@@ -113,24 +113,32 @@ tails_some before (f ∷ fields) =
 
 pub tails_tail : (before : Value) (fields : List Field) → IsTail 32 (Tails before fields)
 tails_tail before fields = record {
-    opens = λ values t tail. subst (λ l. Opens 32 l) (sym tail.split) (opens_tail before fields values);
-    some = tails_some before fields;
-  }
+  opens = λ values t tail. subst (λ l. Opens 32 l) (sym tail.split) (opens_tail before fields values);
+  some = tails_some before fields;
+}
 
 -- the first field and the others
 cons_to : (before : Value) (f : Field) (fields : List Field) (v : Value) (vs : List Value) (t : List ℕ)
     → IsPair (PartTexts (form_of before f)) (λ w. Tails w fields) v vs t → Tails before (f ∷ fields) (v ∷ vs) t
 cons_to before f fields v vs t p = record {
-    holds = (p.first.holds, p.second.holds);
-    split = p.split ∙ ap (λ l. l ++ p.back) p.first.split ∙ ap (λ l. part_text (form_of before f) v ++ l) p.second.split;
-  }
+  holds = (p.first.holds, p.second.holds);
+  split = p.split ∙ ap (λ l. l ++ p.back) p.first.split ∙ ap (λ l. part_text (form_of before f) v ++ l) p.second.split;
+}
 
 cons_back : (before : Value) (f : Field) (fields : List Field) (u : List Value) (t : List ℕ)
     → Tails before (f ∷ fields) u t → (p : Value × List Value) × (Pairs (PartTexts (form_of before f)) (λ w. Tails w fields) p t) × (u ≡ p.0 ∷ p.1)
 cons_back before f fields [] t tail = absurd tail.holds
-cons_back before f fields (v ∷ vs) t tail = ((v, vs), record {
-    front = part_text (form_of before f) v; back = tail_text v fields vs; split = tail.split;
-    first = record { holds = tail.holds.0; split = refl }; second = record { holds = tail.holds.1; split = refl } }, refl)
+cons_back before f fields (v ∷ vs) t tail = (
+  (v, vs),
+  record {
+    front = part_text (form_of before f) v;
+    back = tail_text v fields vs;
+    split = tail.split;
+    first = record { holds = tail.holds.0; split = refl };
+    second = record { holds = tail.holds.1; split = refl };
+  },
+  refl,
+)
 
 module _ (before : Value) (f : Field) (fields : List Field) where
   part_here : IsPart 32 (PartTexts (form_of before f))
@@ -169,24 +177,23 @@ no_fields before text = record { within = omega arith; text_of = record { holds 
 -- tails are parts
 pub tails_part : (before : Value) (fields : List Field) → IsPart 32 (Tails before fields)
 tails_part before [] = record {
-    unique = λ v w text a b. none_held before v a.holds ∙ sym (none_held before w b.holds);
-    apart = λ v w text more a b. behind_nothing text more b.split;
-  }
+  unique = λ v w text a b. none_held before v a.holds ∙ sym (none_held before w b.holds);
+  apart = λ v w text more a b. behind_nothing text more b.split;
+}
   where
-  none_held : (before : Value) (v : List Value) → AreHeld before [] v → v ≡ []
-  none_held before [] h = refl
-  none_held before (x ∷ v) h = absurd h
+    none_held : (before : Value) (v : List Value) → AreHeld before [] v → v ≡ []
+    none_held before [] h = refl
+    none_held before (x ∷ v) h = absurd h
 
-  behind_nothing : (text more : List ℕ) → text ++ 32 ∷ more ≡ [] → ⊥
-  behind_nothing [] more e = cc
-  behind_nothing (x ∷ text) more e = cc
+    behind_nothing : (text more : List ℕ) → text ++ 32 ∷ more ≡ [] → ⊥
+    behind_nothing [] more e = cc
+    behind_nothing (x ∷ text) more e = cc
 tails_part before (f ∷ fields) =
     part_renamed 32 (Pairs (PartTexts (form_of before f)) (λ w. Tails w fields)) (Tails before (f ∷ fields)) (λ p. p.0 ∷ p.1) (cons_back before f fields)
     (pairs_part 32 (PartTexts (form_of before f)) (λ w. Tails w fields) (parts_part (form_of before f) (form_sound before f)) (λ w. tails_tail w fields) (λ w. tails_part w fields))
 
 -- the field at an index
 module _ (before : Value) (fields : List Field) (i : ℕ) (inside : i < length fields) (none : Field) (f : Form) (here : f ≡ form_of before (get_or fields i none)) (text : List ℕ) where
-
   pub stuck_at : (k : ℕ) → IsStuck (PartTexts f) text k → IsStuck (Tails before (drop i fields)) text k
   stuck_at k stuck =
       subst (λ l. IsStuck (Tails before l) text k) (sym (drop_more fields i none inside))
@@ -197,7 +204,7 @@ module _ (before : Value) (fields : List Field) (i : ℕ) (inside : i < length f
   stuck_behind v n read rest e k stuck =
       subst (λ l. IsStuck (Tails before l) text (n + k)) (sym (drop_more fields i none inside))
       (fields_stuck_second before (get_or fields i none) (drop (i + 1) fields) text v n (subst (λ g. IsReadTo (PartTexts g) text v n) here read)
-        k (subst (λ l. IsStuck (Tails v (drop (i + 1) fields)) l k) e stuck))
+      k (subst (λ l. IsStuck (Tails v (drop (i + 1) fields)) l k) e stuck))
 
   pub read_at : (v : Value) (n : ℕ) → IsReadTo (PartTexts f) text v n → (rest : List ℕ) → rest ≡ drop n text
       → (old new : List Value) → i < length old → i < length new → take (i + 1) new ≡ take (i + 1) (set old i v)
@@ -209,7 +216,7 @@ module _ (before : Value) (fields : List Field) (i : ℕ) (inside : i < length f
       subst (λ l. IsReadTo (Tails before (drop i fields)) text l (n + m)) (sym values)
       (subst (λ l. IsReadTo (Tails before l) text (v ∷ drop (i + 1) new) (n + m)) (sym (drop_more fields i none inside))
       (fields_read before (get_or fields i none) (drop (i + 1) fields) text v n (subst (λ g. IsReadTo (PartTexts g) text v n) here read)
-        (drop (i + 1) new) m (subst (λ l. IsReadTo (Tails v (drop (i + 1) fields)) l (drop (i + 1) new) m) e more)))
+      (drop (i + 1) new) m (subst (λ l. IsReadTo (Tails v (drop (i + 1) fields)) l (drop (i + 1) new) m) e more)))
 
 pub kept_before : (old new : List Value) (i : ℕ) (v : Value) → take (i + 1) new ≡ take (i + 1) (set old i v) → take i new ≡ take i old
 kept_before old new i v kept =

@@ -1,6 +1,6 @@
 -- The forms of fields, as languages.
-use Rattle.std.proofs.Common.{◌≡◌, ℕ, ◌+◌, ◌<◌, ◌≤◌, ◌^◌, List, [], ◌∷◌, ◌++◌, refl, sym, ap, ◌∙◌, subst, arith, ◌⊎◌, inl, inr, Bool, true, false, IsTrue}
-use Rattle.std.specs.Prelude.{codes, decimal, Result, Ok, Err, nat_eq, if◌then◌else◌}
+use Rattle.std.proofs.Common.{◌≡◌, ℕ, ◌<◌, ◌≤◌, ◌^◌, List, ◌∷◌, refl, sym, ap, ◌∙◌, subst, arith, inl, inr, Bool, true, false, IsTrue}
+use Rattle.std.specs.Prelude.{codes, decimal, Result, nat_eq, if◌then◌else◌}
 use Rattle.tp_base.specs.declared.answers.ActionKind.{ActionKind}
 use Rattle.tp_base.specs.declared.answers.ActionKind.TheVariants.{Section, Mutex, Semaphore, Event}
 use Rattle.tp_base.specs.declared.answers.SlotWord.{SlotWord}
@@ -10,9 +10,9 @@ use Rattle.tp_base.specs.declared.calls.Priority.{Priority}
 use Rattle.tp_base.specs.declared.calls.Priority.TheVariants.{High, Normal, Low}
 use Rattle.line_grammar.specs.Language.{AnyOf, IsRead, IsStuck}
 use Rattle.line_grammar.specs.Numbers.{IsNumber, Numbers}
-use Rattle.line_grammar.specs.Parts.{IsLed, Led, IsPart}
+use Rattle.line_grammar.specs.Parts.{Led, IsPart}
 use Rattle.line_grammar.specs.Words.{IsWord, Word, Either, lacks}
-use Rattle.line_grammar.proofs.NumberFacts.{numbers_part, some_number}
+use Rattle.line_grammar.proofs.NumberFacts.{numbers_part}
 use Rattle.line_grammar.proofs.Readings.{read_same, part_renamed, led_part, stuck_renamed}
 use Rattle.line_grammar.proofs.WordFacts.{differ, lacking_part}
 use Rattle.tp_lines.specs.declared.fields.Form.{Form}
@@ -21,7 +21,7 @@ use Rattle.tp_lines.specs.declared.shapes.Field.{Field}
 use Rattle.tp_lines.specs.declared.shapes.Field.TheVariants as field
 use Rattle.tp_lines.specs.declared.values.Value.{Value}
 use Rattle.tp_lines.specs.declared.values.Value.TheVariants as value
-use Rattle.tp_lines.specs.Fields.{form_of, IsSoundRange, IsSoundForm, IsNumberValue, Holds, form_text, IsFormText, FormTexts}
+use Rattle.tp_lines.specs.Fields.{form_of, IsSoundRange, IsSoundForm, Holds, form_text, IsFormText, FormTexts}
 use Rattle.tp_lines.specs.Values.{number_of, kind_of, priority_of, long_of, flag_of, slot_of, action_of}
 use Rattle.tp_lines.specs.Words.{text_of_kind, text_of_priority, text_of_long, text_of_flag, text_of_slot, text_of_action}
 
@@ -124,8 +124,9 @@ number_back least most held text t = (number_of held, record { at_least = t.hold
 
 pub prefixed_to : (letter least most number : ℕ) (text : List ℕ) → Led letter (Numbers least most) number text → IsFormText (form.Prefixed letter least most) (value.Number number) text
 prefixed_to letter least most number text l = record {
-    holds = record { is = refl; at_least = l.behind.at_least; at_most = l.behind.at_most };
-    split = l.split ∙ ap (λ t. letter ∷ t) l.behind.split }
+  holds = record { is = refl; at_least = l.behind.at_least; at_most = l.behind.at_most };
+  split = l.split ∙ ap (λ t. letter ∷ t) l.behind.split;
+}
 
 pub prefixed_back : (letter least most : ℕ) (held : Value) (text : List ℕ) → IsFormText (form.Prefixed letter least most) held text → AnyOf (Led letter (Numbers least most)) text
 prefixed_back letter least most held text t = (number_of held, record { rest = decimal (number_of held); split = t.split; behind = record { at_least = t.holds.at_least; at_most = t.holds.at_most; split = refl } })
@@ -285,7 +286,7 @@ form_sound before field.Callback = range_sound 0 18446744073709551615 (omega ari
 form_sound before field.Count = range_sound 0 65535 (omega arith) (omega arith) (omega arith)
 form_sound before field.Level = range_sound 0 2147483647 (omega arith) (omega arith) (omega arith)
 form_sound before field.Time = range_sound 0 9223372036854775807 (omega arith) (omega arith) (omega arith)
-form_sound before field.Error = range_sound 0 4294967295 (omega arith) (omega arith) (omega arith)
+form_sound before field.Small = range_sound 0 4294967295 (omega arith) (omega arith) (omega arith)
 form_sound before field.Bytes = range_sound 0 18446744073709551615 (omega arith) (omega arith) (omega arith)
 form_sound before field.Origin = range_sound 0 65535 (omega arith) (omega arith) (omega arith)
 form_sound before field.Cleanup = range_sound 0 18446744073709551615 (omega arith) (omega arith) (omega arith)

@@ -2,10 +2,12 @@ pub mod AnswerFacts
 pub mod Bounds
 pub mod CallFacts
 pub mod EntryFacts
+pub mod Feeds
 pub mod FieldFacts
 pub mod FormFacts
 pub mod RefusalFacts
 pub mod ResultFacts
 pub mod RowFacts
+pub mod ShapeFacts
 pub mod WhoFacts
 pub mod WordRows

@@ -1,13 +1,13 @@
 -- Rows of a table.
 use Rattle.std.proofs.Common.{◌≡◌, ℕ, zero, suc, ◌+◌, ◌<◌, ◌≤◌, List, [], ◌∷◌, ◌++◌, length, take, drop, get_or, refl, sym, ap, ◌∙◌, subst, arith, ◌⊎◌, inl, inr, Bool, true, false, IsTrue}
-use Rattle.std.specs.Prelude.{Result, Ok, Err, bytes_eq, if◌then◌else◌}
+use Rattle.std.specs.Prelude.{Result, bytes_eq, if◌then◌else◌}
 use Rattle.std.proofs.lemmas.List.{take_more}
 use Rattle.std.proofs.lemmas.Slice.Eq.{bytes_eq-Decides}
-use Rattle.line_grammar.specs.Language.{Begins, Stops, Reaches, AnyOf, IsRead, IsReadTo, IsStuck}
-use Rattle.line_grammar.specs.Parts.{IsLed, Led, IsPair, Pairs, Opens, IsPart, IsTail}
-use Rattle.line_grammar.specs.Words.{IsWord, Word, Either, lacks, further_of}
+use Rattle.line_grammar.specs.Language.{Stops, AnyOf, IsRead, IsReadTo, IsStuck}
+use Rattle.line_grammar.specs.Parts.{Led, Opens, IsPart, IsTail}
+use Rattle.line_grammar.specs.Words.{Word, Either, lacks, further_of}
 use Rattle.line_grammar.proofs.Pairs.{pairs_read, pairs_stuck_first, pairs_stuck_second, pairs_part, one_then}
-use Rattle.line_grammar.proofs.Readings.{read_same, led_part, led_none, led_then, led_then_stuck}
+use Rattle.line_grammar.proofs.Readings.{read_same, led_part}
 use Rattle.line_grammar.proofs.WordFacts.{differ, lacking_part, lacks_apart, further_read}
 use Rattle.tp_lines.specs.declared.shapes.Shape.{Shape}
 use Rattle.tp_lines.specs.declared.shapes.Word.{Word as Verb}
@@ -16,7 +16,7 @@ use Rattle.tp_lines.specs.declared.values.Value.{Value}
 use Rattle.tp_lines.specs.declared.values.Value.TheVariants.{Nothing}
 use Rattle.tp_lines.specs.Fields.{Tails}
 use Rattle.tp_lines.specs.Rows.{IsListed, IsShapeText, ShapeTexts, Rows, has_word, are_apart}
-use Rattle.tp_lines.specs.Shapes.{text_of_word}
+use Rattle.tp_lines.specs.Shapes.{AreDistinct, text_of_word}
 use Rattle.tp_lines.proofs.FieldFacts.{tails_tail, tails_part}
 
 pub listed_at : (shapes : List Shape) (i : ℕ) (d : Shape) → i < length shapes → IsListed shapes (get_or shapes i d)
@@ -47,8 +47,9 @@ module _ (shapes : List Shape) (s : Shape) where
 
   more_back : (x : Shape) (t : List ℕ) → ShapeTexts (shapes ++ s ∷ []) x t → Either (ShapeTexts shapes) (Word s (text_of_word s.word)) x t
   more_back x t a = elim (listed_cases shapes s x a.listed) [
-      inl listed ↦ inl (record { listed = listed; split = a.split })
-    | inr e ↦ inr (record { means = e; split = a.split ∙ ap (λ y. text_of_word y.word) e }) ]
+    | inl listed ↦ inl (record { listed = listed; split = a.split })
+    | inr e ↦ inr (record { means = e; split = a.split ∙ ap (λ y. text_of_word y.word) e })
+  ]
 
   pub one_more : (text : List ℕ) (r q z : Result (Shape × ℕ) ℕ) → z ≡ further_of r q → IsRead (ShapeTexts shapes) text r
       → IsRead (Word s (text_of_word s.word)) text q → IsRead (ShapeTexts (shapes ++ s ∷ [])) text z
@@ -67,11 +68,17 @@ module _ (shapes : List Shape) (s : Shape) where
 
 -- the words hold no space
 pub word_lacks : (w : Verb) → IsTrue (lacks 32 (text_of_word w))
+word_lacks word.CreatePool = refl
+word_lacks word.ClosePool = refl
+word_lacks word.SetMaximum = refl
+word_lacks word.SetMinimum = refl
 word_lacks word.Create = refl
 word_lacks word.Submit = refl
 word_lacks word.Attach = refl
+word_lacks word.Detach = refl
 word_lacks word.Take = refl
 word_lacks word.Return = refl
+word_lacks word.MayRunLong = refl
 word_lacks word.Finish = refl
 word_lacks word.Done = refl
 word_lacks word.Made = refl
@@ -159,15 +166,16 @@ shapes_part shapes apart = lacking_part 32 (ShapeTexts shapes)
 pub shape_read : (shapes : List Shape) (text : List ℕ) (shape : Shape) (size : ℕ) → size ≤ length text → IsShapeText shapes shape (take size text)
     → Opens 32 (drop size text) → IsReadTo (ShapeTexts shapes) text shape size
 shape_read shapes text shape size within listed opened = record {
-    within = within; text_of = listed;
-    stops = shape_stops (take size text) listed (drop size text) opened;
-  }
+  within = within;
+  text_of = listed;
+  stops = shape_stops (take size text) listed (drop size text) opened;
+}
   where
-  shape_stops : (front : List ℕ) → IsShapeText shapes shape front → (rest : List ℕ) → Opens 32 rest → Stops (AnyOf (ShapeTexts shapes)) front rest
-  shape_stops front a [] opened = tt
-  shape_stops front a (x ∷ rest) opened = λ (more, (other, b)).
-      let whole : text_of_word other.word ≡ front ++ x ∷ more = sym b.split ∙ one_then front x more in
-      lacks_apart 32 front more (subst (λ y. IsTrue (lacks 32 (front ++ y ∷ more))) opened (subst (λ t. IsTrue (lacks 32 t)) whole (word_lacks other.word)))
+    shape_stops : (front : List ℕ) → IsShapeText shapes shape front → (rest : List ℕ) → Opens 32 rest → Stops (AnyOf (ShapeTexts shapes)) front rest
+    shape_stops front a [] opened = tt
+    shape_stops front a (x ∷ rest) opened = λ (more, (other, b)).
+        let whole : text_of_word other.word ≡ front ++ x ∷ more = sym b.split ∙ one_then front x more in
+        lacks_apart 32 front more (subst (λ y. IsTrue (lacks 32 (front ++ y ∷ more))) opened (subst (λ t. IsTrue (lacks 32 t)) whole (word_lacks other.word)))
 
 pub some_shape : (shapes : List Shape) → 0 < length shapes → (t : List ℕ) × AnyOf (ShapeTexts shapes) t
 some_shape [] some = let no_such : ⊥ = omega arith in absurd no_such
@@ -217,3 +225,13 @@ first_shape shapes d some word e text r read =
     let one : take 1 shapes ≡ get_or shapes 0 d ∷ [] = take_more shapes 0 d some in
     subst (λ l. IsRead (ShapeTexts l) text r) (sym one)
     (one_shape shapes (get_or shapes 0 d) text r (subst (λ w. IsRead (Word (get_or shapes 0 d) w) text r) e read))
+
+-- shapes whose words are apart are distinct
+pub distinct : (shapes : List Shape) → IsTrue (are_apart shapes) → AreDistinct shapes
+distinct [] apart i j d order inside = let no_such : ⊥ = omega arith in absurd no_such
+distinct (s ∷ shapes) apart zero zero d order inside = let no_such : ⊥ = omega arith in absurd no_such
+distinct (s ∷ shapes) apart zero (suc j) d order inside = λ words counts.
+    no_word (text_of_word s.word) shapes (apart_cons s shapes (has_word (text_of_word s.word) shapes) refl apart).0 (get_or shapes j d) (listed_at shapes j d (omega arith)) (ap text_of_word words)
+distinct (s ∷ shapes) apart (suc i) zero d order inside = let no_such : ⊥ = omega arith in absurd no_such
+distinct (s ∷ shapes) apart (suc i) (suc j) d order inside =
+    distinct shapes (apart_cons s shapes (has_word (text_of_word s.word) shapes) refl apart).1 i j d (omega arith) (omega arith)

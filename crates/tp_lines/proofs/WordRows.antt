@@ -1,5 +1,5 @@
 -- Rows as lists of words.
-use Rattle.std.proofs.Common.{◌≡◌, ℕ, List, [], ◌∷◌, ◌++◌, refl, sym, ap, ◌∙◌, subst, arith, ◌≤◌}
+use Rattle.std.proofs.Common.{◌≡◌, ℕ, List, [], ◌∷◌, ◌++◌, refl, sym, ap, ◌∙◌, ◌≤◌}
 use Rattle.std.proofs.lemmas.List.{append-nil, append_assoc}
 use Rattle.tp_lines.specs.declared.fields.Form.{Form}
 use Rattle.tp_lines.specs.declared.fields.Form.TheVariants as form
@@ -10,7 +10,7 @@ use Rattle.tp_lines.specs.declared.values.Value.TheVariants as value
 use Rattle.tp_lines.specs.Fields.{form_of, form_text, part_text, AreHeld, tail_text}
 use Rattle.tp_lines.specs.Rows.{IsListed, Rows}
 use Rattle.tp_lines.specs.Shapes.{text_of_word}
-use Rattle.tp_lines.specs.Values.{number_of, small_of}
+use Rattle.tp_lines.specs.Values.{small_of}
 use Rattle.tp_lines.specs.Words.{joined}
 use Rattle.tp_lines.proofs.CallFacts.{row_text, row_from, small_is}
 

@@ -1,6 +1,5 @@
 -- The calls that the rows of a table stand for.
-use Rattle.std.specs.Prelude.{◌≡◌, ℕ, ◌≤◌, decimal, List, [], ◌∷◌, ◌++◌, Option, Some, None, slice_index_or}
-use Rattle.line_grammar.specs.Parts.{Pairs}
+use Rattle.std.specs.Prelude.{◌≡◌, ℕ, ◌≤◌, decimal, List, ◌∷◌, Option, Some, None, slice_index_or}
 use Rattle.tp_base.specs.declared.calls.Call.{Call}
 use Rattle.tp_base.specs.declared.calls.Call.TheVariants as call
 use Rattle.tp_base.specs.declared.ids.Who.{Who}
@@ -19,13 +18,24 @@ abbrev pub value_at : List Value → ℕ → Value
 value_at values index = slice_index_or values index Nothing
 
 abbrev pub call_of : Word → List Value → Option Call
+call_of word.CreatePool values = Some call.CreatePool
+call_of word.ClosePool values = Some (call.ClosePool (record { 0 = small_of (value_at values 0) }))
+call_of word.SetMaximum values = Some (call.SetMaximum (record { 0 = small_of (value_at values 0) }) (small_of (value_at values 1)))
+call_of word.SetMinimum values = Some (call.SetMinimum (record { 0 = small_of (value_at values 0) }) (small_of (value_at values 1)))
 call_of word.Create values = Some (call.Create (kind_of (value_at values 0)) (record { 0 = small_of (value_at values 1) }) (number_of (value_at values 2))
-    (record { pool = record { 0 = small_of (value_at values 3) }; group = record { 0 = small_of (value_at values 6) }; cancel = record { 0 = small_of (value_at values 7) };
-      priority = priority_of (value_at values 4); long = long_of (value_at values 5) }))
+    (record {
+      pool = record { 0 = small_of (value_at values 3) };
+      group = record { 0 = small_of (value_at values 6) };
+      cancel = record { 0 = small_of (value_at values 7) };
+      priority = priority_of (value_at values 4);
+      long = long_of (value_at values 5);
+    }))
 call_of word.Submit values = Some (call.SubmitWork (record { 0 = small_of (value_at values 0) }))
 call_of word.Attach values = Some call.Attach
+call_of word.Detach values = Some call.Detach
 call_of word.Take values = Some call.Take
 call_of word.Return values = Some call.Return
+call_of word.MayRunLong values = Some call.MayRunLong
 call_of word.Finish values = Some call.Finish
 call_of _ values = None
 

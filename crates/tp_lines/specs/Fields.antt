@@ -1,5 +1,5 @@
 -- How the fields of a line are written, and what they may hold.
-use Rattle.std.specs.Prelude.{◌≡◌, ℕ, ◌+◌, ◌<◌, ◌≤◌, ◌^◌, List, [], ◌∷◌, ◌++◌, codes, decimal, nat_eq, if◌then◌else◌}
+use Rattle.std.specs.Prelude.{◌≡◌, ℕ, ◌<◌, ◌≤◌, ◌^◌, List, [], ◌∷◌, ◌++◌, decimal, nat_eq, if◌then◌else◌}
 use Rattle.tp_base.specs.declared.calls.Kind.TheVariants.{Work}
 use Rattle.tp_lines.specs.declared.fields.Form.{Form}
 use Rattle.tp_lines.specs.declared.fields.Form.TheVariants as form
@@ -27,7 +27,7 @@ form_of before field.Callback = form.Number 0 18446744073709551615
 form_of before field.Count = form.Number 0 65535
 form_of before field.Level = form.Number 0 2147483647
 form_of before field.Time = form.Number 0 9223372036854775807
-form_of before field.Error = form.Number 0 4294967295
+form_of before field.Small = form.Number 0 4294967295
 form_of before field.Bytes = form.Number 0 18446744073709551615
 form_of before field.Origin = form.Prefixed 111 0 65535
 form_of before field.Cleanup = form.Prefixed 121 0 18446744073709551615

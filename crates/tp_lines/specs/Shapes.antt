@@ -1,14 +1,24 @@
 -- The texts of the words of shapes.
-use Rattle.std.specs.Prelude.{ℕ, List, codes}
+use Rattle.std.specs.Prelude.{◌≡◌, ℕ, Bool, true, false, List, codes, count_by}
+use Rattle.std.specs.List.{AllPairs}
+use Rattle.tp_lines.specs.declared.shapes.Field.{Field}
+use Rattle.tp_lines.specs.declared.shapes.Field.TheVariants.{Nothing}
+use Rattle.tp_lines.specs.declared.shapes.Shape.{Shape}
 use Rattle.tp_lines.specs.declared.shapes.Word.{Word}
 use Rattle.tp_lines.specs.declared.shapes.Word.TheVariants as word
 
 abbrev pub text_of_word : Word → List ℕ
+text_of_word word.CreatePool = codes "create-pool"
+text_of_word word.ClosePool = codes "close-pool"
+text_of_word word.SetMaximum = codes "set-maximum"
+text_of_word word.SetMinimum = codes "set-minimum"
 text_of_word word.Create = codes "create"
 text_of_word word.Submit = codes "submit"
 text_of_word word.Attach = codes "attach"
+text_of_word word.Detach = codes "detach"
 text_of_word word.Take = codes "take"
 text_of_word word.Return = codes "return"
+text_of_word word.MayRunLong = codes "may-run-long"
 text_of_word word.Finish = codes "finish"
 text_of_word word.Done = codes "ok"
 text_of_word word.Made = codes "made"
@@ -61,3 +71,19 @@ text_of_word word.ObjectLimit = codes "object-limit"
 text_of_word word.CallbackLimit = codes "callback-limit"
 text_of_word word.NotAttached = codes "not-attached"
 text_of_word word.AlreadyAttached = codes "already-attached"
+
+-- whether a field is used
+abbrev pub used : Field → Bool
+used Nothing = false
+used _ = true
+
+abbrev pub field_count : Shape → ℕ
+field_count shape = count_by used shape.fields
+
+-- the shapes have other words, or other numbers of fields
+abbrev pub AreApart : Shape → Shape → Type 0
+AreApart one other = one.word ≡ other.word → field_count one ≡ field_count other → ⊥
+
+-- no two shapes have the same word and the same number of fields
+abbrev pub AreDistinct : List Shape → Type 0
+AreDistinct shapes = AllPairs AreApart shapes

@@ -4,12 +4,11 @@ ghost use Rattle.std.specs.Prelude.{◌≡◌};
 ghost use Rattle.line_grammar.specs.Language.{IsRead};
 ghost use Rattle.tp_lines.specs.AnswerRows.{answer_of, AnswerTexts, Endings, refusal_of, RefusalTexts, result_of, ResultTexts};
 
-use tp_base::answers::{Answer, Refusal, TakeResult};
-use tp_base::ids::{ObjectId, PoolId, RoutineId};
-
 use crate::rows::read_row;
 use crate::shapes::{ANSWERS, REFUSALS, RESULTS, Word};
 use crate::values::Value;
+use tp_base::answers::{Answer, Refusal, TakeResult};
+use tp_base::ids::{ObjectId, PoolId, RoutineId};
 
 /// What stands behind the fields of an answer.
 #[derive(Clone, Copy)]
@@ -29,7 +28,10 @@ pub fn result_of(word: Word, values: &[Value; 8]) -> Option<TakeResult>
         Word::Plain => TakeResult::Plain,
         Word::Object => TakeResult::WaitObject0,
         Word::Timeout => TakeResult::WaitTimeout,
-        Word::Io => TakeResult::Io { error: values[0].small(), bytes: values[1].number() },
+        Word::Io => TakeResult::Io {
+            error: values[0].small(),
+            bytes: values[1].number(),
+        },
         _ => return None,
     };
     Some(taken)
@@ -52,13 +54,21 @@ pub fn refusal_of(word: Word, values: &[Value; 8]) -> Option<Refusal>
         Word::InWait => Refusal::InWait,
         Word::NoWaitBegun => Refusal::NoWaitBegun,
         Word::OwnCallback => Refusal::OwnCallback,
-        Word::HasMembers => Refusal::HasMembers { object: ObjectId(values[0].small()) },
+        Word::HasMembers => Refusal::HasMembers {
+            object: ObjectId(values[0].small()),
+        },
         Word::NotStarted => Refusal::NotStarted,
         Word::NoOperation => Refusal::NoOperation,
-        Word::OperationsOutstanding => Refusal::OperationsOutstanding { io: ObjectId(values[0].small()) },
-        Word::SlotTaken => Refusal::SlotTaken { kind: values[0].action() },
+        Word::OperationsOutstanding => Refusal::OperationsOutstanding {
+            io: ObjectId(values[0].small()),
+        },
+        Word::SlotTaken => Refusal::SlotTaken {
+            kind: values[0].action(),
+        },
         Word::NotOwner => Refusal::NotOwner,
-        Word::OverMaximum => Refusal::OverMaximum { count: values[0].small() },
+        Word::OverMaximum => Refusal::OverMaximum {
+            count: values[0].small(),
+        },
         Word::NotWaitable => Refusal::NotWaitable,
         Word::ClockEnd => Refusal::ClockEnd,
         Word::ObjectLimit => Refusal::ObjectLimit,
@@ -77,29 +87,81 @@ pub fn answer_of(word: Word, values: &[Value; 8], ending: Ending) -> Option<Answ
 {
     let answer = match word {
         Word::Done => Answer::Done,
-        Word::Made => Answer::Made { number: values[0].small() },
-        Word::Queued => Answer::Queued { first: values[0].number(), count: values[1].small() },
-        Word::Was => Answer::WasSet { was: values[0].flag(), first: values[1].number(), count: values[2].small() },
-        Word::Flag => Answer::Flag { value: values[0].flag() },
+        Word::Made => Answer::Made {
+            number: values[0].small(),
+        },
+        Word::Queued => Answer::Queued {
+            first: values[0].number(),
+            count: values[1].small(),
+        },
+        Word::Was => Answer::WasSet {
+            was: values[0].flag(),
+            first: values[1].number(),
+            count: values[2].small(),
+        },
+        Word::Flag => Answer::Flag {
+            value: values[0].flag(),
+        },
         Word::Freed => Answer::Closed { later: false },
         Word::Later => Answer::Closed { later: true },
-        Word::Closing => Answer::Closing { covered: values[0].small(), cancelled: values[1].small(), notices: values[2].small() },
-        Word::Begun => Answer::Begun { covered: values[0].small(), cancelled: values[1].small() },
+        Word::Closing => Answer::Closing {
+            covered: values[0].small(),
+            cancelled: values[1].small(),
+            notices: values[2].small(),
+        },
+        Word::Begun => Answer::Begun {
+            covered: values[0].small(),
+            cancelled: values[1].small(),
+        },
         Word::Ended => Answer::Ended,
         Word::Exhausted => Answer::Exhausted,
         Word::Stalled => Answer::Stalled,
-        Word::Notice => Answer::Notice { object: ObjectId(values[0].small()), routine: RoutineId(values[1].small()), context: values[2].number(), cleanup: values[3].number() },
-        Word::Started => Answer::Started { callback: values[0].number() },
-        Word::Operation => Answer::Operation { callback: values[0].number() },
-        Word::Cancelled => Answer::Cancelled { callback: values[0].number() },
-        Word::Count => Answer::Count { previous: values[0].small(), first: values[1].number(), count: values[2].small() },
-        Word::Advanced => Answer::Advanced { now: values[0].number(), first: values[1].number(), count: values[2].small() },
-        Word::Attached => Answer::Attached { pool: PoolId(values[0].small()) },
+        Word::Notice => Answer::Notice {
+            object: ObjectId(values[0].small()),
+            routine: RoutineId(values[1].small()),
+            context: values[2].number(),
+            cleanup: values[3].number(),
+        },
+        Word::Started => Answer::Started {
+            callback: values[0].number(),
+        },
+        Word::Operation => Answer::Operation {
+            callback: values[0].number(),
+        },
+        Word::Cancelled => Answer::Cancelled {
+            callback: values[0].number(),
+        },
+        Word::Count => Answer::Count {
+            previous: values[0].small(),
+            first: values[1].number(),
+            count: values[2].small(),
+        },
+        Word::Advanced => Answer::Advanced {
+            now: values[0].number(),
+            first: values[1].number(),
+            count: values[2].small(),
+        },
+        Word::Attached => Answer::Attached {
+            pool: PoolId(values[0].small()),
+        },
         Word::Taken => match ending {
-            Ending::Result(taken) => Answer::Taken { callback: values[0].number(), object: ObjectId(values[1].small()), routine: RoutineId(values[2].small()), context: values[3].number(), result: taken },
+            Ending::Result(taken) => Answer::Taken {
+                callback: values[0].number(),
+                object: ObjectId(values[1].small()),
+                routine: RoutineId(values[2].small()),
+                context: values[3].number(),
+                result: taken,
+            },
             _ => return None,
         },
-        Word::Returned => Answer::Returned { section: values[0].slot(), mutex: values[1].slot(), semaphore: values[2].slot(), event: values[3].slot(), first: values[4].number(), count: values[5].small() },
+        Word::Returned => Answer::Returned {
+            section: values[0].slot(),
+            mutex: values[1].slot(),
+            semaphore: values[2].slot(),
+            event: values[3].slot(),
+            first: values[4].number(),
+            count: values[5].small(),
+        },
         Word::Refused => match ending {
             Ending::Refusal(refusal) => Answer::Refused(refusal),
             _ => return None,

@@ -5,20 +5,31 @@ ghost use Rattle.line_grammar.specs.Language.{IsRead};
 ghost use Rattle.tp_lines.specs.CallRows.{call_of, CallTexts, ClientTexts, WhoTexts, WorkerTexts};
 ghost use Rattle.tp_lines.specs.Calls.{CallLines};
 
+use crate::rows::read_row;
+use crate::shapes::{CALLS, Word};
+use crate::values::Value;
 use line_grammar::numbers::read_prefixed;
 use line_grammar::words::further;
 use tp_base::calls::{Call, Environ};
 use tp_base::ids::{GroupId, ObjectId, PoolId, RoutineId, Who};
-
-use crate::rows::read_row;
-use crate::shapes::{CALLS, Word};
-use crate::values::Value;
 
 /// The call that a word and the values behind it stand for, where the word is one of a call.
 pub fn call_of(word: Word, values: &[Value; 8]) -> Option<Call>
     ensures { result ≡ call_of word values.now }
 {
     let call = match word {
+        Word::CreatePool => Call::CreatePool,
+        Word::ClosePool => Call::ClosePool {
+            pool: PoolId(values[0].small()),
+        },
+        Word::SetMaximum => Call::SetMaximum {
+            pool: PoolId(values[0].small()),
+            value: values[1].small(),
+        },
+        Word::SetMinimum => Call::SetMinimum {
+            pool: PoolId(values[0].small()),
+            value: values[1].small(),
+        },
         Word::Create => Call::Create {
             kind: values[0].kind(),
             routine: RoutineId(values[1].small()),
@@ -31,10 +42,14 @@ pub fn call_of(word: Word, values: &[Value; 8]) -> Option<Call>
                 long: values[5].long(),
             },
         },
-        Word::Submit => Call::SubmitWork { object: ObjectId(values[0].small()) },
+        Word::Submit => Call::SubmitWork {
+            object: ObjectId(values[0].small()),
+        },
         Word::Attach => Call::Attach,
+        Word::Detach => Call::Detach,
         Word::Take => Call::Take,
         Word::Return => Call::Return,
+        Word::MayRunLong => Call::MayRunLong,
         Word::Finish => Call::Finish,
         _ => return None,
     };

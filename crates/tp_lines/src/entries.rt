@@ -5,11 +5,10 @@ ghost use Rattle.line_grammar.specs.Language.{IsRead};
 ghost use Rattle.tp_lines.specs.AnswerRows.{ArrowTexts};
 ghost use Rattle.tp_lines.specs.Answers.{EntryLines};
 
-use line_grammar::words::behind;
-use tp_base::answers::{Answer, Entry};
-
 use crate::answers::read_answer;
 use crate::calls::read_call_line;
+use line_grammar::words::behind;
+use tp_base::answers::{Answer, Entry};
 
 // Reads an arrow, and the answer behind it.
 fn read_arrow(text: &[u8]) -> Result<(Answer, usize), usize>

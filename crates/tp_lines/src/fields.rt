@@ -4,13 +4,12 @@ ghost use Rattle.std.specs.Prelude.{◌≡◌, ◌≤◌, drop, take, MatchResul
 ghost use Rattle.line_grammar.specs.Language.{IsRead, IsReadTo, IsStuck};
 ghost use Rattle.tp_lines.specs.Fields.{form_of, FormTexts, IsSoundForm, PartTexts, Tails};
 
+use crate::shapes::Field;
+use crate::values::Value;
 use line_grammar::numbers::{read_number, read_prefixed};
 use line_grammar::words::{behind, further, read_word};
 use tp_base::answers::{ActionKind, SlotWord};
 use tp_base::calls::{Kind, Priority};
-
-use crate::shapes::Field;
-use crate::values::Value;
 
 /// How a field is written.
 #[derive(Clone, Copy)]
@@ -37,29 +36,81 @@ pub fn form_of(before: Value, field: Field) -> Form
 {
     match field {
         Field::Nothing => Form::Nothing,
-        Field::Id => Form::Number { least: 0, most: ID_MOST },
+        Field::Id => Form::Number {
+            least: 0,
+            most: ID_MOST,
+        },
         Field::Kind => Form::Kind,
-        Field::Routine => Form::Prefixed { letter: b'r', least: 1, most: ID_MOST },
-        Field::Context => Form::Prefixed { letter: b'x', least: 0, most: u64::MAX },
-        Field::Pool => Form::Prefixed { letter: b'p', least: 0, most: ID_MOST },
+        Field::Routine => Form::Prefixed {
+            letter: b'r',
+            least: 1,
+            most: ID_MOST,
+        },
+        Field::Context => Form::Prefixed {
+            letter: b'x',
+            least: 0,
+            most: u64::MAX,
+        },
+        Field::Pool => Form::Prefixed {
+            letter: b'p',
+            least: 0,
+            most: ID_MOST,
+        },
         Field::Priority => Form::Priority,
         Field::Length => Form::Length,
-        Field::Group => Form::Prefixed { letter: b'g', least: 0, most: ID_MOST },
-        Field::Made => Form::Number { least: 1, most: ID_MOST },
-        Field::Callback => Form::Number { least: 0, most: u64::MAX },
-        Field::Count => Form::Number { least: 0, most: ID_MOST },
-        Field::Level => Form::Number { least: 0, most: 2_147_483_647 },
-        Field::Time => Form::Number { least: 0, most: 9_223_372_036_854_775_807 },
-        Field::Error => Form::Number { least: 0, most: 4_294_967_295 },
-        Field::Bytes => Form::Number { least: 0, most: u64::MAX },
-        Field::Origin => Form::Prefixed { letter: b'o', least: 0, most: ID_MOST },
-        Field::Cleanup => Form::Prefixed { letter: b'y', least: 0, most: u64::MAX },
+        Field::Group => Form::Prefixed {
+            letter: b'g',
+            least: 0,
+            most: ID_MOST,
+        },
+        Field::Made => Form::Number {
+            least: 1,
+            most: ID_MOST,
+        },
+        Field::Callback => Form::Number {
+            least: 0,
+            most: u64::MAX,
+        },
+        Field::Count => Form::Number {
+            least: 0,
+            most: ID_MOST,
+        },
+        Field::Level => Form::Number {
+            least: 0,
+            most: 2_147_483_647,
+        },
+        Field::Time => Form::Number {
+            least: 0,
+            most: 9_223_372_036_854_775_807,
+        },
+        Field::Small => Form::Number {
+            least: 0,
+            most: 4_294_967_295,
+        },
+        Field::Bytes => Form::Number {
+            least: 0,
+            most: u64::MAX,
+        },
+        Field::Origin => Form::Prefixed {
+            letter: b'o',
+            least: 0,
+            most: ID_MOST,
+        },
+        Field::Cleanup => Form::Prefixed {
+            letter: b'y',
+            least: 0,
+            most: u64::MAX,
+        },
         Field::Flag => Form::Flag,
         Field::Slot => Form::Slot,
         Field::Action => Form::Action,
         Field::Cancel => {
             let most = if before.number() == 0 { 0 } else { ID_MOST };
-            Form::Prefixed { letter: b'q', least: 0, most }
+            Form::Prefixed {
+                letter: b'q',
+                least: 0,
+                most,
+            }
         }
     }
 }
@@ -75,7 +126,11 @@ pub fn read_form(form: Form, text: &[u8]) -> Result<(Value, usize), usize>
             Ok((number, size)) => Ok((Value::Number(number), size)),
             Err(place) => Err(place),
         },
-        Form::Prefixed { letter, least, most } => match read_prefixed(letter, text, least, most) {
+        Form::Prefixed {
+            letter,
+            least,
+            most,
+        } => match read_prefixed(letter, text, least, most) {
             Ok((number, size)) => Ok((Value::Number(number), size)),
             Err(place) => Err(place),
         },

@@ -2,16 +2,24 @@
 //! the machine answers.
 //!
 //! A text is a line without its line feed. `parse_call` and `parse_entry` read a line, or tell the place
-//! of its fault. `print_entry`, `print_answer`, `print_look` and `print_full` append one.
+//! of its fault; `read_entry` reads the entry at the front of a longer text. `print_entry`, `print_answer`, `print_look` and `print_full` append one.
+//!
+//! The definitions build a text from words, each with one space behind it but the last (`words_of_call`,
+//! `words_of_answer`). The readers go by tables of shapes (`CALLS`, `ANSWERS`, `RESULTS`, `REFUSALS`): a
+//! word, and up to eight fields. A table's lines are read by `read_row`, whatever the table; what a row
+//! stands for is said by one function a table (`call_of`, `answer_of`). A new call is a shape, an arm of
+//! `call_of`, an arm of `words_of_call`, and two cases of a proof: the row's call, and the call's row.
 
 #![tactic(auto)]
 
-pub mod answers;
-pub mod calls;
+mod answers;
+mod calls;
 pub mod entries;
-pub mod fields;
+mod fields;
 pub mod parse;
 pub mod print;
-pub mod rows;
+mod rows;
 pub mod shapes;
-pub mod values;
+#[cfg(test)]
+mod tests;
+mod values;

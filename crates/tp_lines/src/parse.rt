@@ -1,6 +1,7 @@
 //! Reading of whole lines.
 
-ghost use Rattle.std.specs.Prelude.{◌≡◌, ◌<◌, ◌+◌, ◌^◌, ℕ, IfErr, IfOk};
+ghost use Rattle.std.specs.Prelude.{◌≡◌, ◌<◌, ◌+◌, ◌^◌, ℕ, List, IfErr, IfOk, IsTrue};
+ghost use Rattle.line_grammar.specs.Words.{lacks};
 ghost use Rattle.tp_base.specs.declared.answers.Entry.{Entry};
 ghost use Rattle.tp_base.specs.declared.calls.Call.{Call};
 ghost use Rattle.tp_base.specs.declared.ids.Who.{Who};
@@ -8,12 +9,11 @@ ghost use Rattle.tp_lines.specs.Answers.{IsEntryLine};
 ghost use Rattle.tp_lines.specs.Calls.{IsCallLine};
 ghost use Rattle.tp_lines.specs.Faults.{IsAt, IsEntry, IsLine, IsLineFault};
 
+use crate::calls::read_call_line;
+use crate::entries::read_entry;
 use tp_base::answers::Entry;
 use tp_base::calls::Call;
 use tp_base::ids::Who;
-
-use crate::calls::read_call_line;
-use crate::entries::read_entry;
 
 /// Whether a faulty line may still become one.
 #[derive(Clone, Copy, Debug, PartialEq)]
@@ -71,11 +71,24 @@ pub fn parse_entry(text: &[u8]) -> Result<Entry, LineFault>
     }
 }
 
+/// No line feed stands in a line, so the lines of a text are those between its line feeds.
+pub fn lines_hold_no_feed()
+    ensures calls { (text : List ℕ) → IsLine text → IsTrue (lacks 10 text) }
+    ensures entries { (text : List ℕ) → IsEntry text → IsTrue (lacks 10 text) }
+{}
+
 // The fault of a text that goes along with a line up to the place.
 fn fault_at(text: &[u8], place: usize) -> LineFault
     requires { place + 1 < 2 ^ 32 }
     ensures { IsAt text.now place result }
 {
-    let kind = if place == text.len() { LineKind::Unfinished } else { LineKind::Unexpected };
-    LineFault { column: (place + 1) as u32, kind }
+    let kind = if place == text.len() {
+        LineKind::Unfinished
+    } else {
+        LineKind::Unexpected
+    };
+    LineFault {
+        column: (place + 1) as u32,
+        kind,
+    }
 }

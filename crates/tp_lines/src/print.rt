@@ -2,11 +2,10 @@
 
 ghost use Rattle.std.specs.Prelude.{◌≡◌, ◌++◌, ◌∷◌, OnOk, OnErr, IfOk, string_bytes};
 ghost use Rattle.tp_lines.specs.Answers.{line_of_entry, text_of_answer, text_of_full, text_of_look, words_of_refusal, words_of_result};
-ghost use Rattle.tp_lines.specs.Calls.{line_of_call, words_of_environ};
-ghost use Rattle.tp_lines.specs.Words.{joined, text_of_action, text_of_flag, text_of_kind, text_of_priority, text_of_slot};
+ghost use Rattle.tp_lines.specs.Calls.{line_of_call, words_of_call, words_of_environ};
+ghost use Rattle.tp_lines.specs.Words.{joined, text_of_action, text_of_flag, text_of_kind, text_of_priority, text_of_slot, text_of_who};
 
 use std::alloc::{AllocError, Global};
-
 use tp_base::answers::{ActionKind, Answer, Entry, Look, Refusal, SlotWord, TakeResult};
 use tp_base::calls::{Call, Environ, Kind, Priority};
 use tp_base::ids::Who;
@@ -62,34 +61,67 @@ pub(crate) fn answer_text(alloc: Global, answer: &Answer) -> Result<String, Allo
         }
         Answer::Flag { value } => format!(in alloc; "flag {}", flag_text(*value)),
         Answer::Closed { later } => {
-            if *later { format!(in alloc; "later") } else { format!(in alloc; "freed") }
+            if *later {
+                format!(in alloc; "later")
+            } else {
+                format!(in alloc; "freed")
+            }
         }
-        Answer::Closing { covered, cancelled, notices } => {
-            format!(in alloc; "closing {covered} {cancelled} {notices}")
-        }
+        Answer::Closing {
+            covered,
+            cancelled,
+            notices,
+        } => { format!(in alloc; "closing {covered} {cancelled} {notices}") }
         Answer::Begun { covered, cancelled } => format!(in alloc; "begun {covered} {cancelled}"),
         Answer::Ended => format!(in alloc; "ended"),
         Answer::Exhausted => format!(in alloc; "exhausted"),
         Answer::Stalled => format!(in alloc; "stalled"),
-        Answer::Notice { object, routine, context, cleanup } => {
-            format!(in alloc; "notice o{} r{} x{context} y{cleanup}", object.0, routine.0)
-        }
+        Answer::Notice {
+            object,
+            routine,
+            context,
+            cleanup,
+        } => { format!(in alloc; "notice o{} r{} x{context} y{cleanup}", object.0, routine.0) }
         Answer::Started { callback } => format!(in alloc; "started {callback}"),
         Answer::Operation { callback } => format!(in alloc; "operation {callback}"),
         Answer::Cancelled { callback } => format!(in alloc; "cancelled {callback}"),
-        Answer::Count { previous, first, count } => {
-            format!(in alloc; "count {previous} {first} {count}")
-        }
+        Answer::Count {
+            previous,
+            first,
+            count,
+        } => { format!(in alloc; "count {previous} {first} {count}") }
         Answer::Advanced { now, first, count } => {
             format!(in alloc; "advanced {now} {first} {count}")
         }
         Answer::Attached { pool } => format!(in alloc; "attached {}", pool.0),
-        Answer::Taken { callback, object, routine, context, result: taken } => {
+        Answer::Taken {
+            callback,
+            object,
+            routine,
+            context,
+            result: taken,
+        } => {
             let how = result_text(alloc, *taken)?;
-            format!(in alloc; "taken {callback} o{} r{} x{context}{}", object.0, routine.0, how.as_str())
+            format!(in alloc;
+                "taken {callback} o{} r{} x{context}{}",
+                object.0,
+                routine.0,
+                how.as_str()
+            )
         }
-        Answer::Returned { section, mutex, semaphore, event, first, count } => {
-            let locks = format!(in alloc; "returned {} {}", slot_text(*section), slot_text(*mutex))?;
+        Answer::Returned {
+            section,
+            mutex,
+            semaphore,
+            event,
+            first,
+            count,
+        } => {
+            let locks = format!(in alloc;
+                "returned {} {}",
+                slot_text(*section),
+                slot_text(*mutex)
+            )?;
             let others = format!(in alloc; "{} {}", slot_text(*semaphore), slot_text(*event))?;
             format!(in alloc; "{} {} {first} {count}", locks.as_str(), others.as_str())
         }
@@ -132,7 +164,10 @@ fn refusal_text(alloc: Global, refusal: Refusal) -> Result<String, AllocError>
         Refusal::HasMembers { object } => format!(in alloc; " has-members {}", object.0),
         Refusal::NotStarted => format!(in alloc; " not-started"),
         Refusal::NoOperation => format!(in alloc; " no-operation"),
-        Refusal::OperationsOutstanding { io } => format!(in alloc; " operations-outstanding {}", io.0),
+        Refusal::OperationsOutstanding { io } => format!(in alloc;
+            " operations-outstanding {}",
+            io.0
+        ),
         Refusal::SlotTaken { kind } => format!(in alloc; " slot-taken {}", action_text(kind)),
         Refusal::NotOwner => format!(in alloc; " not-owner"),
         Refusal::OverMaximum { count } => format!(in alloc; " over-maximum {count}"),
@@ -174,24 +209,53 @@ fn action_text(kind: ActionKind) -> &'static str
 }
 
 // The line of a call.
-fn call_text(alloc: Global, who: Who, call: &Call) -> Result<String, AllocError>
+fn call_line(alloc: Global, who: Who, call: &Call) -> Result<String, AllocError>
     ensures { IfOk result (λ text. string_bytes text ≡ line_of_call who call.now) }
 {
-    let actor = match who {
-        Who::Client(number) => format!(in alloc; "c{number}")?,
-        Who::Worker(number) => format!(in alloc; "w{number}")?,
-    };
+    let actor = who_text(alloc, who)?;
+    let words = call_text(alloc, call)?;
+    format!(in alloc; "{} {}", actor.as_str(), words.as_str())
+}
+
+fn who_text(alloc: Global, who: Who) -> Result<String, AllocError>
+    ensures { IfOk result (λ text. string_bytes text ≡ text_of_who who) }
+{
+    match who {
+        Who::Client(number) => format!(in alloc; "c{number}"),
+        Who::Worker(number) => format!(in alloc; "w{number}"),
+    }
+}
+
+// The text of a call behind its actor.
+fn call_text(alloc: Global, call: &Call) -> Result<String, AllocError>
+    ensures { IfOk result (λ text. string_bytes text ≡ joined (words_of_call call.now)) }
+{
     match call {
-        Call::Create { kind, routine, context, env } => {
+        Call::CreatePool => format!(in alloc; "create-pool"),
+        Call::ClosePool { pool } => format!(in alloc; "close-pool {}", pool.0),
+        Call::SetMaximum { pool, value } => format!(in alloc; "set-maximum {} {value}", pool.0),
+        Call::SetMinimum { pool, value } => format!(in alloc; "set-minimum {} {value}", pool.0),
+        Call::Create {
+            kind,
+            routine,
+            context,
+            env,
+        } => {
             let kind = kind_text(*kind);
             let place = environ_text(alloc, *env)?;
-            format!(in alloc; "{} create {kind} r{} x{context} {}", actor.as_str(), routine.0, place.as_str())
+            format!(in alloc;
+                "create {kind} r{} x{context} {}",
+                routine.0,
+                place.as_str()
+            )
         }
-        Call::SubmitWork { object } => format!(in alloc; "{} submit {}", actor.as_str(), object.0),
-        Call::Attach => format!(in alloc; "{} attach", actor.as_str()),
-        Call::Take => format!(in alloc; "{} take", actor.as_str()),
-        Call::Return => format!(in alloc; "{} return", actor.as_str()),
-        Call::Finish => format!(in alloc; "{} finish", actor.as_str()),
+        Call::SubmitWork { object } => format!(in alloc; "submit {}", object.0),
+        Call::Attach => format!(in alloc; "attach"),
+        Call::Detach => format!(in alloc; "detach"),
+        Call::Take => format!(in alloc; "take"),
+        Call::Return => format!(in alloc; "return"),
+        Call::MayRunLong => format!(in alloc; "may-run-long"),
+        Call::Finish => format!(in alloc; "finish"),
     }
 }
 
@@ -200,7 +264,10 @@ fn environ_text(alloc: Global, env: Environ) -> Result<String, AllocError>
 {
     let priority = priority_text(env.priority);
     let long = if env.long { "long" } else { "short" };
-    format!(in alloc; "p{} {priority} {long} g{} q{}", env.pool.0, env.group.0, env.cancel.0)
+    format!(in alloc;
+        "p{} {priority} {long} g{} q{}",
+        env.pool.0, env.group.0, env.cancel.0
+    )
 }
 
 fn kind_text(kind: Kind) -> &'static str
@@ -229,7 +296,7 @@ pub fn print_entry(alloc: Global, entry: &Entry, out: &mut Vec<u8>) -> Result<()
     ensures ok { OnOk result (out.new.items ≡ out.old.items ++ line_of_entry entry.now) }
     ensures err { OnErr result (out.new.items ≡ out.old.items) }
 {
-    let call = call_text(alloc, entry.who, &entry.call)?;
+    let call = call_line(alloc, entry.who, &entry.call)?;
     let answer = answer_text(alloc, &entry.answer)?;
     let line = format!(in alloc; "{} -> {}", call.as_str(), answer.as_str())?;
     out.extend_from_slice(line.as_bytes())?;

@@ -2,27 +2,13 @@
 
 ghost use Rattle.std.specs.Prelude.{◌≡◌, ◌<◌, ◌≤◌, ℕ, List, ◌∷◌, length, drop, take, IfSome, IsTrue, MatchResult};
 ghost use Rattle.line_grammar.specs.Language.{IsRead, IsReadTo, IsStuck};
-ghost use Rattle.line_grammar.specs.Parts.{Led, Opens};
+ghost use Rattle.line_grammar.specs.Parts.{Led};
 ghost use Rattle.tp_lines.specs.Rows.{are_apart, Rows, IsShapeText, ShapeTexts};
-
-use line_grammar::words::{behind, further, read_word};
 
 use crate::fields::read_fields;
 use crate::shapes::{Shape, word_text};
 use crate::values::Value;
-
-// How many bytes the text has before its first space.
-fn word_size(text: &[u8]) -> usize
-    ensures within { result ≤ length text.now }
-    ensures ended { Opens 32 (drop result text.now) }
-{
-    for (index, byte) in text.iter().enumerate() {
-        if *byte == b' ' {
-            return index;
-        }
-    }
-    text.len()
-}
+use line_grammar::words::{behind, further, read_word, size_before};
 
 // The shape with this word. The lengths and the first bytes tell most others apart.
 fn find_shape(shapes: &[Shape], word: &[u8]) -> Option<Shape>
@@ -57,7 +43,7 @@ pub fn read_shape(shapes: &[Shape], text: &[u8]) -> Result<(Shape, usize), usize
     requires { 0 < length shapes.now }
     ensures { IsRead (ShapeTexts shapes.now) text.now result }
 {
-    let size = word_size(text);
+    let size = size_before(b' ', text);
     let (word, _) = text.split_at(size);
     match find_shape(shapes, word) {
         Some(shape) => Ok((shape, size)),

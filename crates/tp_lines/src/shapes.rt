@@ -1,17 +1,24 @@
 //! The shapes of lines: a word, and the fields behind it.
 
-ghost use Rattle.std.specs.Prelude.{◌≡◌};
-ghost use Rattle.tp_lines.specs.Shapes.{text_of_word};
+ghost use Rattle.std.specs.Prelude.{◌≡◌, ◌<◌, ◌↔◌, ℕ, IsTrue, length, slice_index_or};
+ghost use Rattle.tp_lines.specs.declared.shapes.Shape.{Shape};
+ghost use Rattle.tp_lines.specs.Shapes.{AreApart, AreDistinct, field_count, text_of_word, used};
 
 /// The word that a line's shape begins with: a call, an answer, with what a callback is called, or why a
 /// call was refused.
 #[derive(Clone, Copy, Debug, PartialEq)]
 pub enum Word {
+    CreatePool,
+    ClosePool,
+    SetMaximum,
+    SetMinimum,
     Create,
     Submit,
     Attach,
+    Detach,
     Take,
     Return,
+    MayRunLong,
     Finish,
     Done,
     Made,
@@ -101,7 +108,7 @@ pub enum Field {
     /// A time of the clock, from 0 to 9,223,372,036,854,775,807.
     Time,
     /// A number of 32 bits.
-    Error,
+    Small,
     /// A number of 64 bits.
     Bytes,
     /// `o` and the number of an object.
@@ -127,6 +134,74 @@ pub struct Shape {
 #[derive(Clone, Copy)]
 pub struct Table<const N: usize> {
     pub shapes: [Shape; N],
+}
+
+impl<const N: usize> Table<N> {
+    /// Whether no two shapes have the same word and the same number of fields.
+    pub fn is_distinct(&self) -> bool
+        ensures { IsTrue result ↔ AreDistinct self.now.shapes }
+    {
+        are_distinct(&self.shapes)
+    }
+}
+
+/// No two shapes of one table have the same word and the same number of fields.
+pub fn tables_are_distinct()
+    ensures calls { AreDistinct CALLS.shapes }
+    ensures answers { AreDistinct ANSWERS.shapes }
+    ensures results { AreDistinct RESULTS.shapes }
+    ensures refusals { AreDistinct REFUSALS.shapes }
+{}
+
+fn are_distinct(shapes: &[Shape]) -> bool
+    ensures { IsTrue result ↔ AreDistinct shapes.now }
+{
+    for index in 0..shapes.len() {
+        if !is_new(shapes, index) {
+            return false;
+        }
+    }
+    true
+}
+
+// Whether the shape at the index is apart from each before it.
+fn is_new(shapes: &[Shape], index: usize) -> bool
+    requires { index < length shapes.now }
+    ensures { IsTrue result ↔ ((k : ℕ) (d : Shape) → k < index →
+        AreApart (slice_index_or shapes.now k d) (slice_index_or shapes.now index d)) }
+{
+    for earlier in 0..index {
+        if !is_apart(&shapes[earlier], &shapes[index]) {
+            return false;
+        }
+    }
+    true
+}
+
+fn is_apart(one: &Shape, other: &Shape) -> bool
+    ensures { IsTrue result ↔ AreApart one.now other.now }
+{
+    if one.word == other.word {
+        field_count(one) != field_count(other)
+    } else {
+        true
+    }
+}
+
+// How many fields are used.
+fn field_count(shape: &Shape) -> usize
+    ensures { result ≡ field_count shape.now }
+{
+    shape.fields.iter().filter(|field| is_used(**field)).count()
+}
+
+fn is_used(field: Field) -> bool
+    ensures { result ≡ used field }
+{
+    match field {
+        Field::Nothing => false,
+        _ => true,
+    }
 }
 
 // Up to eight fields; the others are unused.
@@ -161,83 +236,278 @@ macro_rules! fields {
 }
 
 /// The calls.
-pub const CALLS: Table<6> = Table {
+pub const CALLS: Table<12> = Table {
     shapes: [
-        Shape { word: Word::Create, fields: fields!(Kind Routine Context Pool Priority Length Group Cancel) },
-        Shape { word: Word::Submit, fields: fields!(Id) },
-        Shape { word: Word::Attach, fields: fields!() },
-        Shape { word: Word::Take, fields: fields!() },
-        Shape { word: Word::Return, fields: fields!() },
-        Shape { word: Word::Finish, fields: fields!() },
+        Shape {
+            word: Word::CreatePool,
+            fields: fields!(),
+        },
+        Shape {
+            word: Word::ClosePool,
+            fields: fields!(Id),
+        },
+        Shape {
+            word: Word::SetMaximum,
+            fields: fields!(Id Small),
+        },
+        Shape {
+            word: Word::SetMinimum,
+            fields: fields!(Id Small),
+        },
+        Shape {
+            word: Word::Create,
+            fields: fields!(Kind Routine Context Pool Priority Length Group Cancel),
+        },
+        Shape {
+            word: Word::Submit,
+            fields: fields!(Id),
+        },
+        Shape {
+            word: Word::Attach,
+            fields: fields!(),
+        },
+        Shape {
+            word: Word::Detach,
+            fields: fields!(),
+        },
+        Shape {
+            word: Word::Take,
+            fields: fields!(),
+        },
+        Shape {
+            word: Word::Return,
+            fields: fields!(),
+        },
+        Shape {
+            word: Word::MayRunLong,
+            fields: fields!(),
+        },
+        Shape {
+            word: Word::Finish,
+            fields: fields!(),
+        },
     ],
 };
 
 /// The answers. Behind `taken` stands a result, and behind `refused` a refusal.
 pub const ANSWERS: Table<22> = Table {
     shapes: [
-        Shape { word: Word::Done, fields: fields!() },
-        Shape { word: Word::Made, fields: fields!(Made) },
-        Shape { word: Word::Queued, fields: fields!(Callback Count) },
-        Shape { word: Word::Was, fields: fields!(Flag Callback Count) },
-        Shape { word: Word::Flag, fields: fields!(Flag) },
-        Shape { word: Word::Freed, fields: fields!() },
-        Shape { word: Word::Later, fields: fields!() },
-        Shape { word: Word::Closing, fields: fields!(Count Count Count) },
-        Shape { word: Word::Begun, fields: fields!(Count Count) },
-        Shape { word: Word::Ended, fields: fields!() },
-        Shape { word: Word::Exhausted, fields: fields!() },
-        Shape { word: Word::Stalled, fields: fields!() },
-        Shape { word: Word::Notice, fields: fields!(Origin Routine Context Cleanup) },
-        Shape { word: Word::Started, fields: fields!(Callback) },
-        Shape { word: Word::Operation, fields: fields!(Callback) },
-        Shape { word: Word::Cancelled, fields: fields!(Callback) },
-        Shape { word: Word::Count, fields: fields!(Level Callback Count) },
-        Shape { word: Word::Advanced, fields: fields!(Time Callback Count) },
-        Shape { word: Word::Attached, fields: fields!(Id) },
-        Shape { word: Word::Taken, fields: fields!(Callback Origin Routine Context) },
-        Shape { word: Word::Returned, fields: fields!(Slot Slot Slot Slot Callback Count) },
-        Shape { word: Word::Refused, fields: fields!() },
+        Shape {
+            word: Word::Done,
+            fields: fields!(),
+        },
+        Shape {
+            word: Word::Made,
+            fields: fields!(Made),
+        },
+        Shape {
+            word: Word::Queued,
+            fields: fields!(Callback Count),
+        },
+        Shape {
+            word: Word::Was,
+            fields: fields!(Flag Callback Count),
+        },
+        Shape {
+            word: Word::Flag,
+            fields: fields!(Flag),
+        },
+        Shape {
+            word: Word::Freed,
+            fields: fields!(),
+        },
+        Shape {
+            word: Word::Later,
+            fields: fields!(),
+        },
+        Shape {
+            word: Word::Closing,
+            fields: fields!(Count Count Count),
+        },
+        Shape {
+            word: Word::Begun,
+            fields: fields!(Count Count),
+        },
+        Shape {
+            word: Word::Ended,
+            fields: fields!(),
+        },
+        Shape {
+            word: Word::Exhausted,
+            fields: fields!(),
+        },
+        Shape {
+            word: Word::Stalled,
+            fields: fields!(),
+        },
+        Shape {
+            word: Word::Notice,
+            fields: fields!(Origin Routine Context Cleanup),
+        },
+        Shape {
+            word: Word::Started,
+            fields: fields!(Callback),
+        },
+        Shape {
+            word: Word::Operation,
+            fields: fields!(Callback),
+        },
+        Shape {
+            word: Word::Cancelled,
+            fields: fields!(Callback),
+        },
+        Shape {
+            word: Word::Count,
+            fields: fields!(Level Callback Count),
+        },
+        Shape {
+            word: Word::Advanced,
+            fields: fields!(Time Callback Count),
+        },
+        Shape {
+            word: Word::Attached,
+            fields: fields!(Id),
+        },
+        Shape {
+            word: Word::Taken,
+            fields: fields!(Callback Origin Routine Context),
+        },
+        Shape {
+            word: Word::Returned,
+            fields: fields!(Slot Slot Slot Slot Callback Count),
+        },
+        Shape {
+            word: Word::Refused,
+            fields: fields!(),
+        },
     ],
 };
 
 /// With what a callback is called.
 pub const RESULTS: Table<4> = Table {
     shapes: [
-        Shape { word: Word::Plain, fields: fields!() },
-        Shape { word: Word::Object, fields: fields!() },
-        Shape { word: Word::Timeout, fields: fields!() },
-        Shape { word: Word::Io, fields: fields!(Error Bytes) },
+        Shape {
+            word: Word::Plain,
+            fields: fields!(),
+        },
+        Shape {
+            word: Word::Object,
+            fields: fields!(),
+        },
+        Shape {
+            word: Word::Timeout,
+            fields: fields!(),
+        },
+        Shape {
+            word: Word::Io,
+            fields: fields!(Small Bytes),
+        },
     ],
 };
 
 /// Why a call was refused.
 pub const REFUSALS: Table<25> = Table {
     shapes: [
-        Shape { word: Word::NoSuch, fields: fields!() },
-        Shape { word: Word::WrongKind, fields: fields!() },
-        Shape { word: Word::Released, fields: fields!() },
-        Shape { word: Word::PoolClosed, fields: fields!() },
-        Shape { word: Word::GroupClosed, fields: fields!() },
-        Shape { word: Word::DefaultPool, fields: fields!() },
-        Shape { word: Word::NotWorker, fields: fields!() },
-        Shape { word: Word::NotRunning, fields: fields!() },
-        Shape { word: Word::StillRunning, fields: fields!() },
-        Shape { word: Word::InWait, fields: fields!() },
-        Shape { word: Word::NoWaitBegun, fields: fields!() },
-        Shape { word: Word::OwnCallback, fields: fields!() },
-        Shape { word: Word::HasMembers, fields: fields!(Id) },
-        Shape { word: Word::NotStarted, fields: fields!() },
-        Shape { word: Word::NoOperation, fields: fields!() },
-        Shape { word: Word::OperationsOutstanding, fields: fields!(Id) },
-        Shape { word: Word::SlotTaken, fields: fields!(Action) },
-        Shape { word: Word::NotOwner, fields: fields!() },
-        Shape { word: Word::OverMaximum, fields: fields!(Level) },
-        Shape { word: Word::NotWaitable, fields: fields!() },
-        Shape { word: Word::ClockEnd, fields: fields!() },
-        Shape { word: Word::ObjectLimit, fields: fields!() },
-        Shape { word: Word::CallbackLimit, fields: fields!() },
-        Shape { word: Word::NotAttached, fields: fields!() },
-        Shape { word: Word::AlreadyAttached, fields: fields!() },
+        Shape {
+            word: Word::NoSuch,
+            fields: fields!(),
+        },
+        Shape {
+            word: Word::WrongKind,
+            fields: fields!(),
+        },
+        Shape {
+            word: Word::Released,
+            fields: fields!(),
+        },
+        Shape {
+            word: Word::PoolClosed,
+            fields: fields!(),
+        },
+        Shape {
+            word: Word::GroupClosed,
+            fields: fields!(),
+        },
+        Shape {
+            word: Word::DefaultPool,
+            fields: fields!(),
+        },
+        Shape {
+            word: Word::NotWorker,
+            fields: fields!(),
+        },
+        Shape {
+            word: Word::NotRunning,
+            fields: fields!(),
+        },
+        Shape {
+            word: Word::StillRunning,
+            fields: fields!(),
+        },
+        Shape {
+            word: Word::InWait,
+            fields: fields!(),
+        },
+        Shape {
+            word: Word::NoWaitBegun,
+            fields: fields!(),
+        },
+        Shape {
+            word: Word::OwnCallback,
+            fields: fields!(),
+        },
+        Shape {
+            word: Word::HasMembers,
+            fields: fields!(Id),
+        },
+        Shape {
+            word: Word::NotStarted,
+            fields: fields!(),
+        },
+        Shape {
+            word: Word::NoOperation,
+            fields: fields!(),
+        },
+        Shape {
+            word: Word::OperationsOutstanding,
+            fields: fields!(Id),
+        },
+        Shape {
+            word: Word::SlotTaken,
+            fields: fields!(Action),
+        },
+        Shape {
+            word: Word::NotOwner,
+            fields: fields!(),
+        },
+        Shape {
+            word: Word::OverMaximum,
+            fields: fields!(Level),
+        },
+        Shape {
+            word: Word::NotWaitable,
+            fields: fields!(),
+        },
+        Shape {
+            word: Word::ClockEnd,
+            fields: fields!(),
+        },
+        Shape {
+            word: Word::ObjectLimit,
+            fields: fields!(),
+        },
+        Shape {
+            word: Word::CallbackLimit,
+            fields: fields!(),
+        },
+        Shape {
+            word: Word::NotAttached,
+            fields: fields!(),
+        },
+        Shape {
+            word: Word::AlreadyAttached,
+            fields: fields!(),
+        },
     ],
 };
 
@@ -246,11 +516,17 @@ pub fn word_text(word: Word) -> &'static str
     ensures { result.now ≡ text_of_word word }
 {
     match word {
+        Word::CreatePool => "create-pool",
+        Word::ClosePool => "close-pool",
+        Word::SetMaximum => "set-maximum",
+        Word::SetMinimum => "set-minimum",
         Word::Create => "create",
         Word::Submit => "submit",
         Word::Attach => "attach",
+        Word::Detach => "detach",
         Word::Take => "take",
         Word::Return => "return",
+        Word::MayRunLong => "may-run-long",
         Word::Finish => "finish",
         Word::Done => "ok",
         Word::Made => "made",

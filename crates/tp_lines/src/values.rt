@@ -38,7 +38,11 @@ impl Value {
     {
         match self {
             Value::Number(number) => {
-                if number <= 4_294_967_295 { number as u32 } else { 0 }
+                if number <= 4_294_967_295 {
+                    number as u32
+                } else {
+                    0
+                }
             }
             _ => 0,
         }

@@ -1,6 +1,6 @@
 -- A world without the callbacks that are over answers every call as the whole one does.
-use Rattle.std.proofs.Common.{◌≡◌, ℕ, suc, zero, ◌+◌, ◌-◌, ◌<◌, ◌≤◌, Bool, true, false, cond, not, ◌&&◌, ◌||◌, ◌==◌, List, [], ◌∷◌, ◌++◌, length, map, slice_get, slice_set, Option, Some, None, is_some, nat_lt, nat_le, refl, sym, ap, ap₂, ◌∙◌, subst, arith, filter, find, eqb-true, length-append}
-use Rattle.std.specs.List.{AllByRecursion, range_with_len}
+use Rattle.std.proofs.Common.{◌≡◌, ℕ, suc, zero, ◌+◌, ◌-◌, ◌<◌, ◌≤◌, Bool, true, false, cond, not, ◌&&◌, ◌||◌, ◌==◌, List, [], ◌∷◌, ◌++◌, length, map, slice_get, slice_set, Option, Some, None, is_some, IfSome, nat_lt, nat_le, refl, sym, ap, ap₂, ◌∙◌, subst, arith, filter, find, eqb-true, length-append}
+use Rattle.std.specs.List.{AllByRecursion, range_with_len, list_any}
 use Rattle.std.specs.Option.{option_or}
 use Rattle.std.proofs.lemmas.List.Elements.{filter-append}
 use Rattle.tp_base.specs.declared.ids.Who.{Who}
@@ -10,7 +10,7 @@ use Rattle.tp_base.specs.declared.ids.RoutineId.{RoutineId}
 use Rattle.tp_base.specs.declared.calls.Kind.{Kind}
 use Rattle.tp_base.specs.declared.calls.Environ.{Environ}
 use Rattle.tp_base.specs.declared.calls.Call.{Call}
-use Rattle.tp_base.specs.declared.calls.Call.TheVariants.{Create, SubmitWork, Attach, Take, Return, Finish}
+use Rattle.tp_base.specs.declared.calls.Call.TheVariants.{CreatePool, ClosePool, SetMaximum, SetMinimum, Create, SubmitWork, Attach, Detach, Take, Return, MayRunLong, Finish}
 use Rattle.tp_base.specs.declared.calls.Priority.{Priority}
 use Rattle.tp_base.specs.declared.answers.Refusal.{Refusal}
 use Rattle.tp_base.specs.declared.answers.Answer.{Answer}
@@ -22,18 +22,19 @@ use Rattle.tp_base.specs.declared.answers.Look.TheVariants as look
 use Rattle.tp_base.specs.declared.answers.TakeResult.TheVariants.{Plain}
 use Rattle.tp_base.specs.declared.rows.Status.{Status}
 use Rattle.tp_base.specs.declared.rows.Status.TheVariants.{Running}
+use Rattle.tp_base.specs.declared.rows.PoolRow.{PoolRow}
 use Rattle.tp_base.specs.declared.rows.ObjectRow.{ObjectRow}
 use Rattle.tp_base.specs.declared.rows.CallbackRow.{CallbackRow}
 use Rattle.tp_base.specs.declared.rows.WorkerRow.{WorkerRow}
 use Rattle.tp_model.specs.World.{World}
-use Rattle.tp_model.specs.Counts.{numbered, callback_of, has_number, is_live, is_pending, is_running, is_pending_in, is_running_in, is_running_long_in, is_high, is_normal, is_low, waiting, queue, next, pending, running, running_long, maximum, slots, owed, least_pool, is_in_need, is_below_minimum}
+use Rattle.tp_model.specs.Counts.{numbered, callback_of, has_number, is_live, is_pending, is_running, is_pending_in, is_running_in, is_running_long_in, is_high, is_normal, is_low, waiting, queue, next, pending, running, running_long, maximum, minimum, attached, slots, owed, least_pool, is_in_need, is_below_minimum}
 use Rattle.tp_model.specs.Conditions.{worker_of, is_actor}
 use Rattle.tp_model.specs.Step.{Step, Accepted, Refused, Looked, Full, first_refusal, unless_refused, unless_full, within, cost, outcome_of, world_after, is_accepted}
-use Rattle.tp_model.specs.Rows.{with_object, with_new_callback, with_callback, with_worker, with_client, replaced, started, returned, new_object, new_callback, create_row, create_refusals, create_effect, submit_work_row, submit_work_refusals, submit_work_effect, attach_row, attach_refusals, attach_effect, pool_to_join, take_row, take_refusals, take_effect, take_in, take_next, start, return_row, return_refusals, return_effect, return_of, finish_callback, finish_row, finish_refusals, finish_effect}
+use Rattle.tp_model.specs.Rows.{with_new_pool, with_pool, create_pool_row, create_pool_refusals, create_pool_effect, pool_refusals, is_used, change_pool, closed, close_pool_row, with_maximum, set_maximum_row, with_minimum, set_minimum_row, another_in_need, may_leave, leave, detach_refusals, detach_of, detach_effect, detach_row, marked_long, mark_long, may_run_long_refusals, may_run_long_of, may_run_long_effect, may_run_long_row, with_object, with_new_callback, with_callback, with_worker, with_client, replaced, started, returned, new_object, new_callback, create_row, create_refusals, create_effect, submit_work_row, submit_work_refusals, submit_work_effect, attach_row, attach_refusals, attach_effect, pool_to_join, take_row, take_refusals, take_effect, take_in, take_next, start, return_row, return_refusals, return_effect, return_of, finish_callback, finish_row, finish_refusals, finish_effect}
 use Rattle.tp_model.specs.Table.{row_at, step}
 use Rattle.tp_model.specs.Sound.{IsSound, RunsOn, IsWorkerSound, AreWorkersSound}
 use Rattle.tp_model.specs.Remembered.{Remembered, lives, forget, made_by, step_of, remembered_after, StandsFor, Meets, Goes}
-use Rattle.tp_model.proofs.Lists.{filter_filter, find_kept, find_passes, find_agree, all_filter}
+use Rattle.tp_model.proofs.Lists.{any_filter, filter_filter, find_kept, find_passes, find_agree, all_filter}
 use Rattle.tp_model.proofs.Callbacks.{over_not_pending, over_not_running, pending_lives, rising_filter, length_replaced, filter_replaced_out, filter_replaced_filter, found_all}
 use Rattle.tp_model.proofs.Refusals.{numbered_some}
 use Rattle.tp_model.proofs.Soundness.{row_sound, next_pending, runs_on}
@@ -130,6 +131,40 @@ alike_unless v w (Some a) None e f same h = absurd cc
 as_live : (w : World) (cs ds : List CallbackRow) → filter lives cs ≡ filter lives ds → forget (record w { callbacks = cs }) ≡ forget (record w { callbacks = ds })
 as_live w cs ds e = ap (λ ls. record w { callbacks = ls }) e
 
+create_pool_alike : (w : World) (who : Who) → AreAlike (forget w) w (create_pool_row (forget w) who) (create_pool_row w who)
+unfolding create_pool_row
+create_pool_alike w who =
+    alike_unless (forget w) w (first_refusal (create_pool_refusals w who)) (first_refusal (create_pool_refusals w who)) (create_pool_effect (forget w)) (create_pool_effect w) refl
+      (refl, as_live (with_new_pool w) (filter lives w.callbacks) w.callbacks (live_again w.callbacks), omega arith, omega arith)
+
+used_forget : (w : World) (pool : ℕ) → is_used (forget w) pool ≡ is_used w pool
+used_forget w pool =
+    ap (λ b. list_any (λ (o : ObjectRow). not o.released && (o.env.pool.0 == pool)) w.objects || b)
+      (any_filter (λ (c : CallbackRow). is_live c.status && (c.pool.0 == pool)) lives (λ c e. ap (λ b. b && (c.pool.0 == pool)) e) w.callbacks)
+
+change_alike : (w : World) (pool : ℕ) (change : PoolRow → PoolRow) (told also : Answer) (row : Option PoolRow) → told ≡ also → AreAlike (forget w) w (change_pool (forget w) pool change told row) (change_pool w pool change also row)
+change_alike w pool change told also None same = refl
+change_alike w pool change told also (Some row) same =
+    (same, as_live (with_pool w pool (change row)) (filter lives w.callbacks) w.callbacks (live_again w.callbacks), omega arith, omega arith)
+
+close_pool_alike : (w : World) (who : Who) (pool : ℕ) → AreAlike (forget w) w (close_pool_row (forget w) who pool) (close_pool_row w who pool)
+unfolding close_pool_row
+close_pool_alike w who pool =
+    alike_unless (forget w) w (first_refusal (pool_refusals w who pool)) (first_refusal (pool_refusals w who pool)) (change_pool (forget w) pool closed (answer.Closed (is_used (forget w) pool)) (slice_get w.pools pool)) (change_pool w pool closed (answer.Closed (is_used w pool)) (slice_get w.pools pool)) refl
+      (change_alike w pool closed (answer.Closed (is_used (forget w) pool)) (answer.Closed (is_used w pool)) (slice_get w.pools pool) (ap (λ b. answer.Closed b) (used_forget w pool)))
+
+set_maximum_alike : (w : World) (who : Who) (pool value : ℕ) → AreAlike (forget w) w (set_maximum_row (forget w) who pool value) (set_maximum_row w who pool value)
+unfolding set_maximum_row
+set_maximum_alike w who pool value =
+    alike_unless (forget w) w (first_refusal (pool_refusals w who pool)) (first_refusal (pool_refusals w who pool)) (change_pool (forget w) pool (with_maximum value) answer.Done (slice_get w.pools pool)) (change_pool w pool (with_maximum value) answer.Done (slice_get w.pools pool)) refl
+      (change_alike w pool (with_maximum value) answer.Done answer.Done (slice_get w.pools pool) refl)
+
+set_minimum_alike : (w : World) (who : Who) (pool value : ℕ) → AreAlike (forget w) w (set_minimum_row (forget w) who pool value) (set_minimum_row w who pool value)
+unfolding set_minimum_row
+set_minimum_alike w who pool value =
+    alike_unless (forget w) w (first_refusal (pool_refusals w who pool)) (first_refusal (pool_refusals w who pool)) (change_pool (forget w) pool (with_minimum value) answer.Done (slice_get w.pools pool)) (change_pool w pool (with_minimum value) answer.Done (slice_get w.pools pool)) refl
+      (change_alike w pool (with_minimum value) answer.Done answer.Done (slice_get w.pools pool) refl)
+
 create_alike : (fresh : ℕ) (w : World) (who : Who) (kind : Kind) (routine : RoutineId) (context : ℕ) (env : Environ) → AreAlike (forget w) w (create_row (forget w) who kind routine context env) (create_row w who kind routine context env)
 unfolding create_row
 create_alike fresh w who kind routine context env =
@@ -166,6 +201,38 @@ unfolding attach_row
 attach_alike w who =
     alike_unless (forget w) w (first_refusal (attach_refusals w who)) (first_refusal (attach_refusals w who)) (attach_effect (forget w) who (pool_to_join (forget w))) (attach_effect w who (pool_to_join w)) refl
       (subst (λ p. AreAlike (forget w) w (attach_effect (forget w) who p) (attach_effect w who (pool_to_join w))) (sym (to_join_forget w)) (attach_effect_alike w who (pool_to_join w)))
+
+another_forget : (w : World) (pool : ℕ) → another_in_need (forget w) pool ≡ another_in_need w pool
+another_forget w pool =
+    ap is_some (find_agree (λ other. not (other == pool) && is_in_need (forget w) other) (λ other. not (other == pool) && is_in_need w other) (λ other. ap (λ b. not (other == pool) && b) (in_need_forget w other)) (range_with_len 0 (length w.pools)))
+
+may_leave_forget : (w : World) (pool : ℕ) → may_leave (forget w) pool ≡ may_leave w pool
+may_leave_forget w pool =
+    ap₂ (λ (n : ℕ) (bc : Bool). nat_lt (maximum w pool) (attached w pool) || ((n == 0) && bc)) (pending_forget w pool)
+      (ap₂ (λ (n : ℕ) (b : Bool). nat_lt (minimum w pool) (attached w pool - n) || b) (running_long_forget w pool) (another_forget w pool))
+
+leave_alike : (w : World) (number : ℕ) (pool : PoolId) → AreAlike (forget w) w (leave (forget w) number pool) (leave w number pool)
+leave_alike w number pool =
+    let row : WorkerRow = record { pool = None; callback = None } in
+    subst (λ b. AreAlike (forget w) w (cond b (Accepted answer.Done (with_worker (forget w) number row)) (Looked look.Stay)) (leave w number pool)) (sym (may_leave_forget w pool.0))
+      (elim (may_leave w pool.0) as (λ b. AreAlike (forget w) w (cond b (Accepted answer.Done (with_worker (forget w) number row)) (Looked look.Stay)) (cond b (Accepted answer.Done (with_worker w number row)) (Looked look.Stay))) [
+        true ↦ (refl, as_live (with_worker w number row) (filter lives w.callbacks) w.callbacks (live_again w.callbacks), omega arith, omega arith)
+      | false ↦ refl
+      ])
+
+detach_of_alike : (w : World) (who : Who) (pool : Option PoolId) → AreAlike (forget w) w (detach_of (forget w) who pool) (detach_of w who pool)
+detach_of_alike w (Worker number) (Some pool) = leave_alike w number pool
+detach_of_alike w (Worker number) None = refl
+detach_of_alike w (Client number) pool = refl
+
+detach_effect_alike : (w : World) (who : Who) (row : Option WorkerRow) → AreAlike (forget w) w (detach_effect (forget w) who row) (detach_effect w who row)
+detach_effect_alike w who None = refl
+detach_effect_alike w who (Some row) = detach_of_alike w who row.pool
+
+detach_alike : (w : World) (who : Who) → AreAlike (forget w) w (detach_row (forget w) who) (detach_row w who)
+unfolding detach_row
+detach_alike w who =
+    alike_unless (forget w) w (first_refusal (detach_refusals w who)) (first_refusal (detach_refusals w who)) (detach_effect (forget w) who (worker_of w who)) (detach_effect w who (worker_of w who)) refl (detach_effect_alike w who (worker_of w who))
 
 take_next_alike : (fresh : ℕ) (w : World) (number : ℕ) (pool : PoolId) (c : Option CallbackRow) → next w pool.0 ≡ c → IsSound fresh w → AreAlike (forget w) w (take_next (forget w) number pool c) (take_next w number pool c)
 take_next_alike fresh w number pool None is s = refl
@@ -233,6 +300,37 @@ return_alike fresh w who s =
     alike_unless (forget w) w (first_refusal (return_refusals w who)) (first_refusal (return_refusals w who)) (return_effect (forget w) who (worker_of w who)) (return_effect w who (worker_of w who)) refl
       (return_effect_alike fresh w who (worker_of w who) refl s)
 
+mark_long_alike : (fresh : ℕ) (w : World) (c : Option CallbackRow) → IfSome c (λ x. (find (has_number x.number) w.callbacks ≡ Some x) × (lives x ≡ true)) → IsSound fresh w → AreAlike (forget w) w (mark_long (forget w) c) (mark_long w c)
+mark_long_alike fresh w None known s = refl
+mark_long_alike fresh w (Some c) known s =
+    let r : CallbackRow = marked_long c in
+    (refl,
+      as_live w (replaced r (filter lives w.callbacks)) (replaced r w.callbacks) (filter_replaced_filter lives r w.callbacks (found_all (λ x. lives x ≡ true) c.number c 1 fresh w.callbacks s.numbers known.0 known.1)),
+      omega (arith, length_replaced r (filter lives w.callbacks), length_replaced r w.callbacks),
+      omega (arith, length_replaced r w.callbacks))
+
+may_run_long_of_alike : (fresh : ℕ) (w : World) (number : ℕ) (row : WorkerRow) (callback : Option ℕ) → numbered w.workers number ≡ Some row → row.callback ≡ callback → IsSound fresh w → AreAlike (forget w) w (may_run_long_of (forget w) callback) (may_run_long_of w callback)
+may_run_long_of_alike fresh w number row None is runs s = refl
+may_run_long_of_alike fresh w number row (Some callback) is runs s =
+    let on = (runs_on fresh w number row callback s is runs).2 in
+    let living : lives on.callback ≡ true = ap is_live on.runs in
+    let same : on.callback.number ≡ callback = eqb-true on.callback.number callback (find_passes (has_number callback) on.callback w.callbacks on.found) in
+    let kept : find (has_number callback) (filter lives w.callbacks) ≡ Some on.callback = find_kept (has_number callback) lives on.callback living w.callbacks on.found in
+    subst (λ c. AreAlike (forget w) w (mark_long (forget w) c) (mark_long w (callback_of w callback))) (sym kept)
+      (subst (λ c. AreAlike (forget w) w (mark_long (forget w) (Some on.callback)) (mark_long w c)) (sym on.found)
+        (mark_long_alike fresh w (Some on.callback) (ap (λ n. find (has_number n) w.callbacks) same ∙ on.found, living) s))
+
+may_run_long_effect_alike : (fresh : ℕ) (w : World) (who : Who) (row : Option WorkerRow) → worker_of w who ≡ row → IsSound fresh w → AreAlike (forget w) w (may_run_long_effect (forget w) row) (may_run_long_effect w row)
+may_run_long_effect_alike fresh w who None is s = refl
+may_run_long_effect_alike fresh w (Worker number) (Some row) is s = may_run_long_of_alike fresh w number row row.callback is refl s
+may_run_long_effect_alike fresh w (Client number) (Some row) is s = absurd cc
+
+may_run_long_alike : (fresh : ℕ) (w : World) (who : Who) → IsSound fresh w → AreAlike (forget w) w (may_run_long_row (forget w) who) (may_run_long_row w who)
+unfolding may_run_long_row
+may_run_long_alike fresh w who s =
+    alike_unless (forget w) w (first_refusal (may_run_long_refusals w who)) (first_refusal (may_run_long_refusals w who)) (may_run_long_effect (forget w) (worker_of w who)) (may_run_long_effect w (worker_of w who)) refl
+      (may_run_long_effect_alike fresh w who (worker_of w who) refl s)
+
 finish_effect_alike : (w : World) (who : Who) → AreAlike (forget w) w (finish_effect (forget w) who) (finish_effect w who)
 finish_effect_alike w (Client number) =
     (refl, as_live (with_client w number (record { finished = true })) (filter lives w.callbacks) w.callbacks (live_again w.callbacks), omega arith, omega arith)
@@ -247,11 +345,17 @@ live_forgotten : (w : World) → forget (forget w) ≡ forget w
 live_forgotten w = as_live w (filter lives w.callbacks) w.callbacks (live_again w.callbacks)
 
 pub row_alike : (fresh : ℕ) (w : World) (who : Who) (call : Call) → IsSound fresh w → AreAlike (forget w) w (row_at (forget w) fresh who call) (row_at w fresh who call)
+row_alike fresh w who CreatePool s = create_pool_alike w who
+row_alike fresh w who (ClosePool pool) s = close_pool_alike w who pool.0
+row_alike fresh w who (SetMaximum pool value) s = set_maximum_alike w who pool.0 value
+row_alike fresh w who (SetMinimum pool value) s = set_minimum_alike w who pool.0 value
 row_alike fresh w who (Create kind routine context env) s = create_alike fresh w who kind routine context env
 row_alike fresh w who (SubmitWork object) s = submit_work_alike fresh w who object.0
 row_alike fresh w who Attach s = attach_alike w who
+row_alike fresh w who Detach s = detach_alike w who
 row_alike fresh w who Take s = take_alike fresh w who s
 row_alike fresh w who Return s = return_alike fresh w who s
+row_alike fresh w who MayRunLong s = may_run_long_alike fresh w who s
 row_alike fresh w who Finish s = finish_alike w who
 
 -- ---- with the room of a history

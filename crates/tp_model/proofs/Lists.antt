@@ -1,6 +1,6 @@
 -- What filters, searches and changes of rows leave of each other.
 use Rattle.std.proofs.Common.{◌≡◌, ◌≢◌, ℕ, suc, zero, ◌+◌, ◌-◌, ◌<◌, ◌≤◌, Bool, true, false, cond, not, ◌&&◌, ◌||◌, ◌==◌, List, [], ◌∷◌, ◌++◌, length, map, slice_get, slice_set, get_or, set, Option, Some, None, refl, sym, ap, ◌∙◌, subst, arith, filter, find, option_map}
-use Rattle.std.specs.List.{AllByRecursion, range_with_len}
+use Rattle.std.specs.List.{AllByRecursion, range_with_len, list_any}
 
 -- a filter by p sees nothing of a filter by what p implies
 pub filter_filter : {X : Type 0} (p q : X → Bool) → ((x : X) → q x ≡ false → p x ≡ false) → (xs : List X) → filter p (filter q xs) ≡ filter p xs
@@ -105,3 +105,17 @@ length_filter_set {X} p (x ∷ xs) (suc i) old new e =
       true ↦ omega (arith, length_filter_set p xs i old new e)
     | false ↦ length_filter_set p xs i old new e
     ]
+
+-- below a bound, and so below a greater one
+pub all_below : {X : Type 0} (f : X → ℕ) (n m : ℕ) → n ≤ m → (xs : List X) → AllByRecursion (λ x. f x < n) xs → AllByRecursion (λ x. f x < m) xs
+all_below f n m le [] all = tt
+all_below f n m le (x ∷ xs) all = (omega (arith, all.0, le), all_below f n m le xs all.1)
+
+-- a test that fails where p does sees nothing of a filter by p
+pub any_filter : {X : Type 0} (test p : X → Bool) → ((x : X) → p x ≡ false → test x ≡ false) → (xs : List X) → list_any test (filter p xs) ≡ list_any test xs
+any_filter test p h [] = refl
+any_filter {X} test p h (x ∷ xs) =
+    elim (p x) as (λ b. p x ≡ b → list_any test (cond b (x ∷ filter p xs) (filter p xs)) ≡ (test x || list_any test xs)) [
+      true ↦ λ _. ap (λ t. test x || t) (any_filter test p h xs)
+    | false ↦ λ e. any_filter test p h xs ∙ ap (λ b. b || list_any test xs) (sym (h x e))
+    ] refl

@@ -1,5 +1,5 @@
 -- Every row keeps what is true of all worlds that can be reached.
-use Rattle.std.proofs.Common.{◌≡◌, ◌≢◌, ℕ, suc, zero, ◌+◌, ◌-◌, ◌<◌, ◌≤◌, Bool, true, false, cond, not, ◌&&◌, ◌||◌, ◌==◌, List, [], ◌∷◌, ◌++◌, length, map, slice_get, slice_set, replicate, Option, Some, None, is_some, nat_le, refl, sym, ap, ◌∙◌, append_assoc, subst, arith, filter, find, eqb-true, eq-eqb, ne_eqb, add-one, length-append}
+use Rattle.std.proofs.Common.{◌≡◌, ◌≢◌, ℕ, suc, zero, ◌+◌, ◌-◌, ◌<◌, ◌≤◌, Bool, true, false, cond, not, ◌&&◌, ◌||◌, ◌==◌, List, [], ◌∷◌, ◌++◌, length, map, slice_get, slice_set, replicate, Option, Some, None, is_some, nat_le, refl, sym, ap, ◌∙◌, append_assoc, subst, arith, filter, find, eqb-true, eq-eqb, ne_eqb, add-one, length-append, length-set}
 use Rattle.std.specs.List.{AllByRecursion}
 use Rattle.tp_base.specs.declared.ids.Who.{Who}
 use Rattle.tp_base.specs.declared.ids.Who.TheVariants.{Client, Worker}
@@ -8,26 +8,29 @@ use Rattle.tp_base.specs.declared.ids.RoutineId.{RoutineId}
 use Rattle.tp_base.specs.declared.calls.Kind.{Kind}
 use Rattle.tp_base.specs.declared.calls.Environ.{Environ}
 use Rattle.tp_base.specs.declared.calls.Call.{Call}
-use Rattle.tp_base.specs.declared.calls.Call.TheVariants.{Create, SubmitWork, Attach, Take, Return, Finish}
+use Rattle.tp_base.specs.declared.calls.Call.TheVariants.{CreatePool, ClosePool, SetMaximum, SetMinimum, Create, SubmitWork, Attach, Detach, Take, Return, MayRunLong, Finish}
 use Rattle.tp_base.specs.declared.answers.Refusal.{Refusal}
 use Rattle.tp_base.specs.declared.answers.TakeResult.TheVariants.{Plain}
 use Rattle.tp_base.specs.declared.limits.Limits.{Limits}
 use Rattle.tp_base.specs.declared.rows.Slots.{Slots}
 use Rattle.tp_base.specs.declared.rows.Status.{Status}
 use Rattle.tp_base.specs.declared.rows.Status.TheVariants.{Expected, Issued, Pending, Running, Returned, Cancelled}
+use Rattle.tp_base.specs.declared.answers.Answer.{Answer}
+use Rattle.tp_base.specs.declared.answers.Answer.TheVariants as answer
+use Rattle.tp_base.specs.declared.rows.PoolRow.{PoolRow}
 use Rattle.tp_base.specs.declared.rows.ObjectRow.{ObjectRow}
 use Rattle.tp_base.specs.declared.rows.CallbackRow.{CallbackRow}
 use Rattle.tp_base.specs.declared.rows.WorkerRow.{WorkerRow}
-use Rattle.tp_model.specs.World.{World, opening, unattached}
+use Rattle.tp_model.specs.World.{World, opening, unattached, new_pool}
 use Rattle.tp_model.specs.Counts.{numbered, callback_of, has_number, is_pending, is_pending_in, is_high, is_normal, is_low, queue, waiting, next, pending, running, maximum}
 use Rattle.tp_model.specs.Conditions.{is_actor, is_pool, is_no_group_or_group, worker_of, is_worker}
 use Rattle.tp_model.specs.Step.{Step, Accepted, Refused, Looked, Full, first_refusal, unless_refused, world_after}
 use Rattle.tp_base.specs.declared.answers.Look.TheVariants as look
-use Rattle.tp_model.specs.Rows.{with_object, with_new_callback, with_callback, with_worker, with_client, replaced, started, returned, new_object, new_callback, no_actions, create_row, create_refusals, create_effect, submit_work_row, submit_work_refusals, submit_work_effect, attach_row, attach_refusals, attach_effect, pool_to_join, take_row, take_refusals, take_effect, take_in, take_next, start, return_row, return_refusals, return_effect, return_of, finish_callback, finish_row, finish_refusals, finish_effect}
+use Rattle.tp_model.specs.Rows.{with_new_pool, with_pool, create_pool_row, create_pool_refusals, create_pool_effect, pool_refusals, is_used, change_pool, closed, close_pool_row, with_maximum, set_maximum_row, with_minimum, set_minimum_row, may_leave, leave, detach_refusals, detach_of, detach_effect, detach_row, marked_long, mark_long, may_run_long_refusals, may_run_long_of, may_run_long_effect, may_run_long_row, with_object, with_new_callback, with_callback, with_worker, with_client, replaced, started, returned, new_object, new_callback, no_actions, create_row, create_refusals, create_effect, submit_work_row, submit_work_refusals, submit_work_effect, attach_row, attach_refusals, attach_effect, pool_to_join, take_row, take_refusals, take_effect, take_in, take_next, start, return_row, return_refusals, return_effect, return_of, finish_callback, finish_row, finish_refusals, finish_effect}
 use Rattle.tp_model.specs.Table.{row_at}
 use Rattle.tp_model.specs.Sound.{IsSound, IsRising, RunsOn, IsWorkerSound, AreWorkersSound}
 use Rattle.tp_model.specs.Remembered.{made_by}
-use Rattle.tp_model.proofs.Lists.{find_passes, find_all, all_append, all_map, all_get, slice_get_append}
+use Rattle.tp_model.proofs.Lists.{all_below, find_passes, find_all, all_append, all_map, all_get, slice_get_append}
 use Rattle.tp_model.proofs.Callbacks.{rising_append, rising_replaced, length_replaced, find_replaced, find_replaced_other, find_appended, replaced_number, kept_found}
 use Rattle.tp_model.proofs.Refusals.{none_holds, neither, not_false, both, made, numbered_some, false_true}
 
@@ -112,6 +115,25 @@ sound_free_worker fresh w worker row free s =
 pub sound_client : (fresh : ℕ) (w : World) (client : ℕ) (row : _) → IsSound fresh w → IsSound fresh (with_client w client row)
 sound_client fresh w client row s = record { numbers = s.numbers; workers = s.workers; object_pools = s.object_pools; callback_pools = s.callback_pools }
 
+-- a further pool, and another row of a pool
+pub sound_new_pool : (fresh : ℕ) (w : World) → IsSound fresh w → IsSound fresh (with_new_pool w)
+sound_new_pool fresh w s =
+    let more : length w.pools ≤ length (w.pools ++ new_pool w.limits ∷ []) = omega (arith, length-append w.pools (new_pool w.limits ∷ [])) in
+    record {
+      numbers = s.numbers; workers = s.workers;
+      object_pools = all_below (λ (o : ObjectRow). o.env.pool.0) (length w.pools) (length (w.pools ++ new_pool w.limits ∷ [])) more w.objects s.object_pools;
+      callback_pools = all_below (λ (c : CallbackRow). c.pool.0) (length w.pools) (length (w.pools ++ new_pool w.limits ∷ [])) more w.callbacks s.callback_pools;
+    }
+
+pub sound_pool : (fresh : ℕ) (w : World) (number : ℕ) (row : PoolRow) → IsSound fresh w → IsSound fresh (with_pool w number row)
+sound_pool fresh w number row s =
+    let as_many : length w.pools ≡ length (slice_set w.pools number row) = sym (length-set w.pools number row) in
+    record {
+      numbers = s.numbers; workers = s.workers;
+      object_pools = subst (λ n. AllByRecursion (λ (o : ObjectRow). o.env.pool.0 < n) w.objects) as_many s.object_pools;
+      callback_pools = subst (λ n. AllByRecursion (λ (c : CallbackRow). c.pool.0 < n) w.callbacks) as_many s.callback_pools;
+    }
+
 -- pools of callbacks stay where a row of the same pool is put in the place of another
 pools_replaced : (pools : ℕ) (r : CallbackRow) (cs : List CallbackRow) → r.pool.0 < pools → AllByRecursion (λ (c : CallbackRow). c.pool.0 < pools) cs → AllByRecursion (λ (c : CallbackRow). c.pool.0 < pools) (replaced r cs)
 pools_replaced pools r cs home all =
@@ -164,6 +186,42 @@ sound_returned fresh w worker row pool c from_one runs found s =
     same_found m n x y cs e fx fy =
         let both_found : Some x ≡ Some y = sym fx ∙ ap (λ k. find (has_number k) cs) (sym e) ∙ fy in cc
 
+-- a row that runs where the one before it ran
+worker_same : (r c : CallbackRow) (cs : List CallbackRow) (worker : ℕ) (pool : Option PoolId) (callback : Option ℕ) → find (has_number r.number) cs ≡ Some c → r.status ≡ c.status → r.pool ≡ c.pool
+    → IsWorkerSound cs worker pool callback → IsWorkerSound (replaced r cs) worker pool callback
+worker_same r c cs worker pool None found status at s = tt
+worker_same r c cs worker None (Some number) found status at s = s
+worker_same r c cs worker (Some pool) (Some number) found status at s =
+    elim (has_number number r) as (λ b. has_number number r ≡ b → RunsOn (replaced r cs) worker pool number) [
+      true ↦ λ e.
+        let is : r.number ≡ number = eqb-true r.number number e in
+        let same : s.callback ≡ c = same_row number r.number s.callback c is s.found found in
+        record {
+          callback = r; associated = s.associated; slots = s.slots;
+          found = ap (λ n. find (has_number n) (replaced r cs)) (sym is) ∙ find_replaced r c cs found;
+          runs = status ∙ ap (λ (x : CallbackRow). x.status) (sym same) ∙ s.runs;
+          at_home = at ∙ ap (λ (x : CallbackRow). x.pool) (sym same) ∙ s.at_home;
+        }
+    | false ↦ λ e. record { callback = s.callback; associated = s.associated; slots = s.slots; found = find_replaced_other r number cs e ∙ s.found; runs = s.runs; at_home = s.at_home }
+    ] refl
+  where
+    same_row : (m n : ℕ) (x y : CallbackRow) → n ≡ m → find (has_number m) cs ≡ Some x → find (has_number n) cs ≡ Some y → x ≡ y
+    same_row m n x y e fx fy = let both_found : Some x ≡ Some y = sym fx ∙ ap (λ k. find (has_number k) cs) (sym e) ∙ fy in cc
+
+workers_same : (r c : CallbackRow) (cs : List CallbackRow) (worker : ℕ) (ws : List WorkerRow) → find (has_number r.number) cs ≡ Some c → r.status ≡ c.status → r.pool ≡ c.pool → AreWorkersSound cs worker ws → AreWorkersSound (replaced r cs) worker ws
+workers_same r c cs worker [] found status at s = tt
+workers_same r c cs worker (w ∷ ws) found status at s = (worker_same r c cs worker w.pool w.callback found status at s.0, workers_same r c cs (worker + 1) ws found status at s.1)
+
+-- a callback gets the long mark
+pub sound_marked : (fresh : ℕ) (w : World) (c : CallbackRow) → find (has_number c.number) w.callbacks ≡ Some c → IsSound fresh w → IsSound fresh (with_callback w (marked_long c))
+sound_marked fresh w c found s =
+    record {
+      numbers = rising_replaced (marked_long c) 1 fresh w.callbacks s.numbers;
+      workers = workers_same (marked_long c) c w.callbacks 1 w.workers found refl refl s.workers;
+      object_pools = s.object_pools;
+      callback_pools = pools_replaced (length w.pools) (marked_long c) w.callbacks (find_all (λ (x : CallbackRow). x.pool.0 < length w.pools) (has_number c.number) c w.callbacks s.callback_pools found) s.callback_pools;
+    }
+
 -- ---- each row
 
 abbrev SoundAfter : ℕ → World → Step → Type 0
@@ -178,6 +236,30 @@ one_more fresh w v e s = subst (λ n. IsSound n v) (omega (arith, e)) s
 sound_unless : (fresh : ℕ) (w : World) (r : Option Refusal) (e : Step) → IsSound fresh w → (r ≡ None → SoundAfter fresh w e) → SoundAfter fresh w (unless_refused r e)
 sound_unless fresh w None e s h = h refl
 sound_unless fresh w (Some refusal) e s h = as_many fresh w w refl s
+
+create_pool_sound : (fresh : ℕ) (w : World) (who : Who) → IsSound fresh w → SoundAfter fresh w (create_pool_row w who)
+unfolding create_pool_row
+create_pool_sound fresh w who s =
+    sound_unless fresh w (first_refusal (create_pool_refusals w who)) (create_pool_effect w) s (λ _. as_many fresh w (with_new_pool w) refl (sound_new_pool fresh w s))
+
+change_sound : (fresh : ℕ) (w : World) (pool : ℕ) (change : PoolRow → PoolRow) (told : Answer) (row : Option PoolRow) → IsSound fresh w → SoundAfter fresh w (change_pool w pool change told row)
+change_sound fresh w pool change told None s = as_many fresh w w refl s
+change_sound fresh w pool change told (Some row) s = as_many fresh w (with_pool w pool (change row)) refl (sound_pool fresh w pool (change row) s)
+
+close_pool_sound : (fresh : ℕ) (w : World) (who : Who) (pool : ℕ) → IsSound fresh w → SoundAfter fresh w (close_pool_row w who pool)
+unfolding close_pool_row
+close_pool_sound fresh w who pool s =
+    sound_unless fresh w (first_refusal (pool_refusals w who pool)) (change_pool w pool closed (answer.Closed (is_used w pool)) (slice_get w.pools pool)) s (λ _. change_sound fresh w pool closed (answer.Closed (is_used w pool)) (slice_get w.pools pool) s)
+
+set_maximum_sound : (fresh : ℕ) (w : World) (who : Who) (pool value : ℕ) → IsSound fresh w → SoundAfter fresh w (set_maximum_row w who pool value)
+unfolding set_maximum_row
+set_maximum_sound fresh w who pool value s =
+    sound_unless fresh w (first_refusal (pool_refusals w who pool)) (change_pool w pool (with_maximum value) answer.Done (slice_get w.pools pool)) s (λ _. change_sound fresh w pool (with_maximum value) answer.Done (slice_get w.pools pool) s)
+
+set_minimum_sound : (fresh : ℕ) (w : World) (who : Who) (pool value : ℕ) → IsSound fresh w → SoundAfter fresh w (set_minimum_row w who pool value)
+unfolding set_minimum_row
+set_minimum_sound fresh w who pool value s =
+    sound_unless fresh w (first_refusal (pool_refusals w who pool)) (change_pool w pool (with_minimum value) answer.Done (slice_get w.pools pool)) s (λ _. change_sound fresh w pool (with_minimum value) answer.Done (slice_get w.pools pool) s)
 
 create_sound : (fresh : ℕ) (w : World) (who : Who) (kind : Kind) (routine : RoutineId) (context : ℕ) (env : Environ) → IsSound fresh w → SoundAfter fresh w (create_row w who kind routine context env)
 unfolding create_row
@@ -215,6 +297,28 @@ attach_sound fresh w who s =
 
 abbrev IsWaiting : World → ℕ → CallbackRow → Type 0
 IsWaiting w pool c = (find (has_number c.number) w.callbacks ≡ Some c) × (is_pending_in pool c ≡ true)
+
+leave_sound : (fresh : ℕ) (w : World) (number : ℕ) (pool : PoolId) → IsSound fresh w → SoundAfter fresh w (leave w number pool)
+leave_sound fresh w number pool s =
+    let row : WorkerRow = record { pool = None; callback = None } in
+    elim (may_leave w pool.0) as (λ b. SoundAfter fresh w (cond b (Accepted answer.Done (with_worker w number row)) (Looked look.Stay))) [
+      true ↦ as_many fresh w (with_worker w number row) refl (sound_free_worker fresh w number row refl s)
+    | false ↦ as_many fresh w w refl s
+    ]
+
+detach_of_sound : (fresh : ℕ) (w : World) (who : Who) (pool : Option PoolId) → IsSound fresh w → SoundAfter fresh w (detach_of w who pool)
+detach_of_sound fresh w (Worker number) (Some pool) s = leave_sound fresh w number pool s
+detach_of_sound fresh w (Worker number) None s = as_many fresh w w refl s
+detach_of_sound fresh w (Client number) pool s = as_many fresh w w refl s
+
+detach_effect_sound : (fresh : ℕ) (w : World) (who : Who) (row : Option WorkerRow) → IsSound fresh w → SoundAfter fresh w (detach_effect w who row)
+detach_effect_sound fresh w who None s = as_many fresh w w refl s
+detach_effect_sound fresh w who (Some row) s = detach_of_sound fresh w who row.pool s
+
+detach_sound : (fresh : ℕ) (w : World) (who : Who) → IsSound fresh w → SoundAfter fresh w (detach_row w who)
+unfolding detach_row
+detach_sound fresh w who s =
+    sound_unless fresh w (first_refusal (detach_refusals w who)) (detach_effect w who (worker_of w who)) s (λ _. detach_effect_sound fresh w who (worker_of w who) s)
 
 -- what is taken next is pending in the pool, and found by its number
 pub next_pending : (fresh : ℕ) (w : World) (pool : ℕ) (c : CallbackRow) → IsSound fresh w → next w pool ≡ Some c → (find (has_number c.number) w.callbacks ≡ Some c) × (is_pending_in pool c ≡ true)
@@ -299,6 +403,25 @@ unfolding return_row
 return_sound fresh w who s =
     sound_unless fresh w (first_refusal (return_refusals w who)) (return_effect w who (worker_of w who)) s (λ _. return_effect_sound fresh w who (worker_of w who) refl s)
 
+mark_long_sound : (fresh : ℕ) (w : World) (callback : ℕ) (c : Option CallbackRow) → callback_of w callback ≡ c → IsSound fresh w → SoundAfter fresh w (mark_long w c)
+mark_long_sound fresh w callback None found s = as_many fresh w w refl s
+mark_long_sound fresh w callback (Some c) found s =
+    let same : c.number ≡ callback = eqb-true c.number callback (find_passes (has_number callback) c w.callbacks found) in
+    as_many fresh w (with_callback w (marked_long c)) (length_replaced (marked_long c) w.callbacks) (sound_marked fresh w c (ap (λ n. find (has_number n) w.callbacks) same ∙ found) s)
+
+may_run_long_of_sound : (fresh : ℕ) (w : World) (callback : Option ℕ) → IsSound fresh w → SoundAfter fresh w (may_run_long_of w callback)
+may_run_long_of_sound fresh w None s = as_many fresh w w refl s
+may_run_long_of_sound fresh w (Some callback) s = mark_long_sound fresh w callback (callback_of w callback) refl s
+
+may_run_long_effect_sound : (fresh : ℕ) (w : World) (row : Option WorkerRow) → IsSound fresh w → SoundAfter fresh w (may_run_long_effect w row)
+may_run_long_effect_sound fresh w None s = as_many fresh w w refl s
+may_run_long_effect_sound fresh w (Some row) s = may_run_long_of_sound fresh w row.callback s
+
+may_run_long_sound : (fresh : ℕ) (w : World) (who : Who) → IsSound fresh w → SoundAfter fresh w (may_run_long_row w who)
+unfolding may_run_long_row
+may_run_long_sound fresh w who s =
+    sound_unless fresh w (first_refusal (may_run_long_refusals w who)) (may_run_long_effect w (worker_of w who)) s (λ _. may_run_long_effect_sound fresh w (worker_of w who) s)
+
 finish_effect_sound : (fresh : ℕ) (w : World) (who : Who) → IsSound fresh w → SoundAfter fresh w (finish_effect w who)
 finish_effect_sound fresh w (Client number) s = as_many fresh w (with_client w number (record { finished = true })) refl (sound_client fresh w number (record { finished = true }) s)
 finish_effect_sound fresh w (Worker number) s = as_many fresh w w refl s
@@ -310,11 +433,17 @@ finish_sound fresh w who s =
 
 -- each call leaves a world of which the same is true
 pub row_sound : (fresh : ℕ) (w : World) (who : Who) (call : Call) → IsSound fresh w → IsSound (fresh + made_by w (row_at w fresh who call)) (world_after w (row_at w fresh who call))
+row_sound fresh w who CreatePool s = create_pool_sound fresh w who s
+row_sound fresh w who (ClosePool pool) s = close_pool_sound fresh w who pool.0 s
+row_sound fresh w who (SetMaximum pool value) s = set_maximum_sound fresh w who pool.0 value s
+row_sound fresh w who (SetMinimum pool value) s = set_minimum_sound fresh w who pool.0 value s
 row_sound fresh w who (Create kind routine context env) s = create_sound fresh w who kind routine context env s
 row_sound fresh w who (SubmitWork object) s = submit_work_sound fresh w who object.0 s
 row_sound fresh w who Attach s = attach_sound fresh w who s
+row_sound fresh w who Detach s = detach_sound fresh w who s
 row_sound fresh w who Take s = take_sound fresh w who s
 row_sound fresh w who Return s = return_sound fresh w who s
+row_sound fresh w who MayRunLong s = may_run_long_sound fresh w who s
 row_sound fresh w who Finish s = finish_sound fresh w who s
 
 -- and it is true of the opening world

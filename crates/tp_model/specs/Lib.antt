@@ -1,6 +1,8 @@
 pub mod Conditions
 pub mod Counts
 pub mod History
+pub mod Laws
+pub mod Moves
 pub mod Remembered
 pub mod Rows
 pub mod Sound

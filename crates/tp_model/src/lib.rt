@@ -1,3 +1,17 @@
-//! The machine as definitions: worlds, steps, histories.
+//! The machine as definitions: worlds, steps, histories, and the laws that every legal history
+//! keeps.
 
 #![tactic(auto)]
+
+ghost use Rattle.std.specs.Prelude.{ℕ, List};
+ghost use Rattle.tp_base.specs.declared.answers.Entry.{Entry};
+ghost use Rattle.tp_base.specs.declared.limits.Limits.{Limits};
+ghost use Rattle.tp_model.specs.History.{IsLegal};
+ghost use Rattle.tp_model.specs.Laws.{KeepsLaws};
+
+/// Every legal history keeps the laws, with any limits and any capacity. It does nothing: who calls
+/// it knows this.
+#[tactic(auto, using(crate::proofs::Laws::keeps_laws))]
+pub fn legal_keeps_laws()
+    ensures laws { (limits : Limits) (capacity : ℕ) (history : List Entry) → IsLegal limits capacity history → KeepsLaws limits history }
+{}

@@ -1,22 +1,25 @@
 -- No call is accepted with a refusal for its answer.
-use Rattle.std.proofs.Common.{◌≡◌, ℕ, ◌+◌, length, refl, Bool, true, false, Option, None, Some, nat_le}
+use Rattle.std.proofs.Common.{◌≡◌, ℕ, ◌+◌, List, length, refl, Bool, true, false, Option, None, Some, nat_le, slice_get}
 use Rattle.std.specs.Prelude.{if◌then◌else◌}
 use Rattle.tp_base.specs.declared.calls.Call.{Call}
-use Rattle.tp_base.specs.declared.calls.Call.TheVariants.{Create, SubmitWork, Attach, Take, Return, Finish}
+use Rattle.tp_base.specs.declared.calls.Call.TheVariants.{CreatePool, ClosePool, SetMaximum, SetMinimum, Create, SubmitWork, Attach, Detach, Take, Return, MayRunLong, Finish}
 use Rattle.tp_base.specs.declared.calls.Environ.{Environ}
 use Rattle.tp_base.specs.declared.calls.Kind.{Kind}
 use Rattle.tp_base.specs.declared.ids.PoolId.{PoolId}
 use Rattle.tp_base.specs.declared.ids.RoutineId.{RoutineId}
 use Rattle.tp_base.specs.declared.ids.Who.{Who}
 use Rattle.tp_base.specs.declared.ids.Who.TheVariants.{Client, Worker}
+use Rattle.tp_base.specs.declared.answers.Answer.{Answer}
+use Rattle.tp_base.specs.declared.answers.Answer.TheVariants as answer
 use Rattle.tp_base.specs.declared.answers.Refusal.{Refusal}
 use Rattle.tp_base.specs.declared.rows.CallbackRow.{CallbackRow}
 use Rattle.tp_base.specs.declared.rows.ObjectRow.{ObjectRow}
+use Rattle.tp_base.specs.declared.rows.PoolRow.{PoolRow}
 use Rattle.tp_base.specs.declared.rows.WorkerRow.{WorkerRow}
 use Rattle.tp_model.specs.Conditions.{worker_of}
 use Rattle.tp_model.specs.Counts.{callback_of, maximum, next, numbered, running}
 use Rattle.tp_model.specs.History.{is_refusal}
-use Rattle.tp_model.specs.Rows.{create_row, create_refusals, create_effect, submit_work_row, submit_work_refusals, submit_work_effect, attach_row, attach_refusals, attach_effect, pool_to_join, take_row, take_refusals, take_effect, take_in, take_next, start, return_row, return_refusals, return_effect, return_of, finish_callback, finish_row, finish_refusals, finish_effect}
+use Rattle.tp_model.specs.Rows.{create_pool_row, create_pool_refusals, create_pool_effect, close_pool_row, set_maximum_row, set_minimum_row, pool_refusals, change_pool, is_used, closed, with_maximum, with_minimum, detach_row, detach_refusals, detach_effect, detach_of, may_leave, with_worker, may_run_long_row, may_run_long_refusals, may_run_long_effect, may_run_long_of, mark_long, create_row, create_refusals, create_effect, submit_work_row, submit_work_refusals, submit_work_effect, attach_row, attach_refusals, attach_effect, pool_to_join, take_row, take_refusals, take_effect, take_in, take_next, start, return_row, return_refusals, return_effect, return_of, finish_callback, finish_row, finish_refusals, finish_effect}
 use Rattle.tp_model.specs.Step.{Step, Accepted, Refused, Looked, Full, first_refusal, unless_refused}
 use Rattle.tp_model.specs.Table.{row, row_at}
 use Rattle.tp_model.specs.World.{World}
@@ -30,6 +33,62 @@ IsHonest (Full room cost) = Unit {0}
 unless : (r : Option Refusal) (effect : Step) → IsHonest effect → IsHonest (unless_refused r effect)
 unless (Some refusal) effect h = tt
 unless None effect h = h
+
+create_pool_honest : (w : World) (who : Who) → IsHonest (create_pool_row w who)
+unfolding create_pool_row
+create_pool_honest w who = unless (first_refusal (create_pool_refusals w who)) (create_pool_effect w) refl
+
+change_honest : (w : World) (pool : ℕ) (change : PoolRow → PoolRow) (told : Answer) (row : Option PoolRow) → is_refusal told ≡ false → IsHonest (change_pool w pool change told row)
+change_honest w pool change told None h = tt
+change_honest w pool change told (Some row) h = h
+
+close_pool_honest : (w : World) (who : Who) (pool : ℕ) → IsHonest (close_pool_row w who pool)
+unfolding close_pool_row
+close_pool_honest w who pool =
+    unless (first_refusal (pool_refusals w who pool)) (change_pool w pool closed (answer.Closed (is_used w pool)) (slice_get w.pools pool)) (change_honest w pool closed (answer.Closed (is_used w pool)) (slice_get w.pools pool) refl)
+
+set_maximum_honest : (w : World) (who : Who) (pool value : ℕ) → IsHonest (set_maximum_row w who pool value)
+unfolding set_maximum_row
+set_maximum_honest w who pool value =
+    unless (first_refusal (pool_refusals w who pool)) (change_pool w pool (with_maximum value) answer.Done (slice_get w.pools pool)) (change_honest w pool (with_maximum value) answer.Done (slice_get w.pools pool) refl)
+
+set_minimum_honest : (w : World) (who : Who) (pool value : ℕ) → IsHonest (set_minimum_row w who pool value)
+unfolding set_minimum_row
+set_minimum_honest w who pool value =
+    unless (first_refusal (pool_refusals w who pool)) (change_pool w pool (with_minimum value) answer.Done (slice_get w.pools pool)) (change_honest w pool (with_minimum value) answer.Done (slice_get w.pools pool) refl)
+
+either_honest : (b : Bool) (one other : Step) → IsHonest one → IsHonest other → IsHonest (if b then one else other)
+either_honest true one other h k = h
+either_honest false one other h k = k
+
+detach_of_honest : (w : World) (who : Who) (pool : Option PoolId) → IsHonest (detach_of w who pool)
+detach_of_honest w (Worker number) (Some pool) = either_honest (may_leave w pool.0) (Accepted answer.Done (with_worker w number (record { pool = None; callback = None }))) (Looked _) refl tt
+detach_of_honest w (Worker number) None = tt
+detach_of_honest w (Client number) pool = tt
+
+detach_effect_honest : (w : World) (who : Who) (row : Option WorkerRow) → IsHonest (detach_effect w who row)
+detach_effect_honest w who None = tt
+detach_effect_honest w who (Some row) = detach_of_honest w who row.pool
+
+detach_honest : (w : World) (who : Who) → IsHonest (detach_row w who)
+unfolding detach_row
+detach_honest w who = unless (first_refusal (detach_refusals w who)) (detach_effect w who (worker_of w who)) (detach_effect_honest w who (worker_of w who))
+
+mark_long_honest : (w : World) (c : Option CallbackRow) → IsHonest (mark_long w c)
+mark_long_honest w None = tt
+mark_long_honest w (Some c) = refl
+
+may_run_long_of_honest : (w : World) (callback : Option ℕ) → IsHonest (may_run_long_of w callback)
+may_run_long_of_honest w None = tt
+may_run_long_of_honest w (Some callback) = mark_long_honest w (callback_of w callback)
+
+may_run_long_effect_honest : (w : World) (row : Option WorkerRow) → IsHonest (may_run_long_effect w row)
+may_run_long_effect_honest w None = tt
+may_run_long_effect_honest w (Some row) = may_run_long_of_honest w row.callback
+
+may_run_long_honest : (w : World) (who : Who) → IsHonest (may_run_long_row w who)
+unfolding may_run_long_row
+may_run_long_honest w who = unless (first_refusal (may_run_long_refusals w who)) (may_run_long_effect w (worker_of w who)) (may_run_long_effect_honest w (worker_of w who))
 
 create_honest : (w : World) (who : Who) (kind : Kind) (routine : RoutineId) (context : ℕ) (env : Environ) → IsHonest (create_row w who kind routine context env)
 unfolding create_row
@@ -100,6 +159,12 @@ unfolding finish_row
 finish_honest w who = unless (first_refusal (finish_refusals w who)) (finish_effect w who) (finish_effect_honest w who)
 
 row_at_honest : (w : World) (fresh : ℕ) (who : Who) (call : Call) → IsHonest (row_at w fresh who call)
+row_at_honest w fresh who CreatePool = create_pool_honest w who
+row_at_honest w fresh who (ClosePool pool) = close_pool_honest w who pool.0
+row_at_honest w fresh who (SetMaximum pool value) = set_maximum_honest w who pool.0 value
+row_at_honest w fresh who (SetMinimum pool value) = set_minimum_honest w who pool.0 value
+row_at_honest w fresh who Detach = detach_honest w who
+row_at_honest w fresh who MayRunLong = may_run_long_honest w who
 row_at_honest w fresh who (Create kind routine context env) = create_honest w who kind routine context env
 row_at_honest w fresh who (SubmitWork object) = submit_honest w fresh who object.0
 row_at_honest w fresh who Attach = attach_honest w who

@@ -1,10 +1,11 @@
+pub mod Alike
+pub mod Deciding
 pub mod EndedFacts
 pub mod Feeds
 pub mod FreeLines
 pub mod HeaderFacts
+pub mod Honest
+pub mod Judging
 pub mod Keys
 pub mod Places
 pub mod SoFar
-pub mod Honest
-pub mod Judging
-pub mod Alike

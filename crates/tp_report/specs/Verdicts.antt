@@ -52,6 +52,12 @@ IsVerdictOrNoMemory (Ok verdict) header entries = IsVerdict (limits_of header) h
 IsVerdictOrNoMemory (Err NoMemory) header entries = Unit {0}
 IsVerdictOrNoMemory (Err (At line column)) header entries = ⊥
 
+-- P, where the answer is that the history is legal
+abbrev pub IfLegal : Result Verdict CheckFault → Type 0 → Type 0
+IfLegal (Ok (Legal len)) P = P
+IfLegal (Ok (NotLegal position outcome)) P = Unit {0}
+IfLegal (Err fault) P = Unit {0}
+
 -- the text of an outcome, without its line feed
 abbrev pub text_of_outcome : Outcome → List ℕ
 text_of_outcome (Done answer) = text_of_answer answer

@@ -14,7 +14,7 @@ mod verdict;
 
 pub use checking::check;
 pub use history::CheckFault;
-pub use verdict::{Verdict, print_verdict};
+pub use verdict::{Verdict, print_outcome, print_verdict};
 
 #[cfg(test)]
 mod tests;

@@ -101,9 +101,10 @@ fn not_legal_text(alloc: Global, position: u32, outcome: &Outcome) -> Result<Vec
     Ok(text)
 }
 
-// Appends the text of an outcome.
-fn print_outcome(alloc: Global, outcome: &Outcome, text: &mut Vec<u8>) -> Result<(), AllocError>
-    ensures { OnOk result (text.new.items ≡ text.old.items ++ text_of_outcome outcome.now) }
+/// Appends the text of an outcome: an answer, a look or full. There is no line feed.
+pub fn print_outcome(alloc: Global, outcome: &Outcome, text: &mut Vec<u8>) -> Result<(), AllocError>
+    ensures ok { OnOk result (text.new.items ≡ text.old.items ++ text_of_outcome outcome.now) }
+    ensures err { OnErr result (text.new.items ≡ text.old.items) }
 {
     match outcome {
         Outcome::Done(answer) => print_answer(alloc, answer, text),

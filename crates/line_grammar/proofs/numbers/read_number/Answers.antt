@@ -1,4 +1,4 @@
-use Rattle.std.proofs.Common.{arith, ◌≡◌, ◌<◌, inl, inr, min}
+use Rattle.std.proofs.Common.{arith, ◌<◌, inl, inr}
 use Rattle.line_grammar.proofs.NumberFacts.{so_far_first, so_far_next, number_read, number_short, no_number, wrong_digit}
 use Rattle.line_grammar.proofs.numbers.read_number.Goals as goal
 
@@ -20,7 +20,7 @@ loop-longer-init c =
 pub loop-longer-preserved : goal.loop-longer-preserved
 loop-longer-preserved c =
     so_far_next c.args.text.now c.args.least c.args.most c.loop-longer.value c.loop-longer.size c.in-Some-longer_number.longer (omega arith)
-        c.loop-longer.invariant c.in-Some-longer_number.ensures.0 c.in-Some-longer_number.ensures.1
+    c.loop-longer.invariant c.in-Some-longer_number.ensures.0 c.in-Some-longer_number.ensures.1
 
 pub returns-then-value-least : goal.returns-then-value-least
 returns-then-value-least c =

@@ -1,7 +1,6 @@
-use Rattle.std.proofs.Common.{◌≡◌, refl}
 use Rattle.std.specs.Prelude.{decimal}
 use Rattle.line_grammar.specs.Numbers.{Numbers}
-use Rattle.line_grammar.proofs.Readings.{led_none, led_then, led_then_stuck}
+use Rattle.line_grammar.proofs.Readings.{led_none}
 use Rattle.line_grammar.proofs.NumberFacts.{some_number}
 use Rattle.line_grammar.proofs.numbers.read_prefixed.Goals as goal
 

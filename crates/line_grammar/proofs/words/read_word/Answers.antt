@@ -1,4 +1,4 @@
-use Rattle.std.proofs.Common.{arith, ◌≡◌, ◌<◌, ◌≤◌, length, get_or, ap, ◌∙◌, sym, take, subst}
+use Rattle.std.proofs.Common.{arith, ◌<◌, length, subst}
 use Rattle.line_grammar.specs.Language.{IsStuck}
 use Rattle.line_grammar.specs.Words.{Word}
 use Rattle.line_grammar.proofs.WordFacts.{word_stuck}

@@ -1,6 +1,6 @@
 use Rattle.std.proofs.Common.{sym, subst}
 use Rattle.tp_base.specs.declared.calls.Call.{Call}
-use Rattle.tp_base.specs.declared.calls.Call.TheVariants.{Create, SubmitWork, Attach, Take, Return, Finish}
+use Rattle.tp_base.specs.declared.calls.Call.TheVariants.{CreatePool, ClosePool, SetMaximum, SetMinimum, Create, SubmitWork, Attach, Detach, Take, Return, MayRunLong, Finish}
 use Rattle.tp_model.specs.Table.{step}
 use Rattle.tp_model.specs.Remembered.{Meets}
 use Rattle.tp_model.proofs.Forgetting.{meets}
@@ -35,3 +35,33 @@ pub returns-in-Finish : goal.returns-in-Finish
 returns-in-Finish c w stands =
     subst (λ (x : Call). Meets c.args.self.now c.finish.new.self w (step w c.args.room c.args.who x) c.finish.result) (sym c.in-Finish.is)
     (meets c.args.self.now c.finish.new.self w c.args.room c.args.who Finish c.finish.result c.finish.ensures stands)
+
+pub returns-in-CreatePool : goal.returns-in-CreatePool
+returns-in-CreatePool c w stands =
+    subst (λ (x : Call). Meets c.args.self.now c.create_pool.new.self w (step w c.args.room c.args.who x) c.create_pool.result) (sym c.in-CreatePool.is)
+    (meets c.args.self.now c.create_pool.new.self w c.args.room c.args.who CreatePool c.create_pool.result c.create_pool.ensures stands)
+
+pub returns-in-ClosePool : goal.returns-in-ClosePool
+returns-in-ClosePool c w stands =
+    subst (λ (x : Call). Meets c.args.self.now c.close_pool.new.self w (step w c.args.room c.args.who x) c.close_pool.result) (sym c.in-ClosePool.is)
+    (meets c.args.self.now c.close_pool.new.self w c.args.room c.args.who (ClosePool c.in-ClosePool.pool) c.close_pool.result c.close_pool.ensures stands)
+
+pub returns-in-SetMaximum : goal.returns-in-SetMaximum
+returns-in-SetMaximum c w stands =
+    subst (λ (x : Call). Meets c.args.self.now c.set_maximum.new.self w (step w c.args.room c.args.who x) c.set_maximum.result) (sym c.in-SetMaximum.is)
+    (meets c.args.self.now c.set_maximum.new.self w c.args.room c.args.who (SetMaximum c.in-SetMaximum.pool c.in-SetMaximum.value) c.set_maximum.result c.set_maximum.ensures stands)
+
+pub returns-in-SetMinimum : goal.returns-in-SetMinimum
+returns-in-SetMinimum c w stands =
+    subst (λ (x : Call). Meets c.args.self.now c.set_minimum.new.self w (step w c.args.room c.args.who x) c.set_minimum.result) (sym c.in-SetMinimum.is)
+    (meets c.args.self.now c.set_minimum.new.self w c.args.room c.args.who (SetMinimum c.in-SetMinimum.pool c.in-SetMinimum.value) c.set_minimum.result c.set_minimum.ensures stands)
+
+pub returns-in-Detach : goal.returns-in-Detach
+returns-in-Detach c w stands =
+    subst (λ (x : Call). Meets c.args.self.now c.detach.new.self w (step w c.args.room c.args.who x) c.detach.result) (sym c.in-Detach.is)
+    (meets c.args.self.now c.detach.new.self w c.args.room c.args.who Detach c.detach.result c.detach.ensures stands)
+
+pub returns-in-MayRunLong : goal.returns-in-MayRunLong
+returns-in-MayRunLong c w stands =
+    subst (λ (x : Call). Meets c.args.self.now c.may_run_long.new.self w (step w c.args.room c.args.who x) c.may_run_long.result) (sym c.in-MayRunLong.is)
+    (meets c.args.self.now c.may_run_long.new.self w c.args.room c.args.who MayRunLong c.may_run_long.result c.may_run_long.ensures stands)

@@ -14,4 +14,4 @@ returns-in_default-behind-2 c =
 pub returns-in-Err : goal.returns-in-Err
 returns-in-Err c =
     arrow_stuck c.args.text.now c.in-Some.dash.now c.in-Some-behind.head.now c.in-Some-behind-2.rest.now c.in-Some.ensures c.in-Some-behind.ensures c.in-Some-behind-2.ensures
-        c.in-Err.place c.in-Err.ensures
+    c.in-Err.place c.in-Err.ensures

@@ -1,4 +1,4 @@
-use Rattle.std.proofs.Common.{ℕ, List, sym, subst}
+use Rattle.std.proofs.Common.{sym, subst}
 use Rattle.line_grammar.specs.Language.{IsStuck}
 use Rattle.tp_lines.specs.Fields.{FormTexts}
 use Rattle.tp_lines.proofs.FormFacts.{number_stuck, prefixed_stuck}

@@ -1,9 +1,6 @@
 use Rattle.std.specs.Prelude.{codes}
-use Rattle.tp_base.specs.declared.answers.ActionKind.TheVariants.{Section, Mutex, Semaphore, Event}
-use Rattle.tp_base.specs.declared.answers.SlotWord.TheVariants.{Unasked, Performed, NotOwner, OverMaximum}
-use Rattle.tp_base.specs.declared.calls.Priority.TheVariants.{High, Normal, Low}
 use Rattle.std.proofs.Common.{true, false}
-use Rattle.line_grammar.specs.Words.{Word, Either}
+use Rattle.line_grammar.specs.Words.{Word}
 use Rattle.line_grammar.proofs.WordFacts.{further_read}
 use Rattle.tp_lines.specs.declared.values.Value.TheVariants as value
 use Rattle.tp_lines.proofs.FormFacts.{lengths_read}

@@ -1,8 +1,5 @@
 use Rattle.std.specs.Prelude.{codes}
-use Rattle.tp_base.specs.declared.answers.ActionKind.TheVariants.{Section, Mutex, Semaphore, Event}
-use Rattle.tp_base.specs.declared.answers.SlotWord.TheVariants.{Unasked, Performed, NotOwner, OverMaximum}
 use Rattle.tp_base.specs.declared.calls.Priority.TheVariants.{High, Normal, Low}
-use Rattle.std.proofs.Common.{true, false}
 use Rattle.line_grammar.specs.Words.{Word, Either}
 use Rattle.line_grammar.proofs.WordFacts.{further_read}
 use Rattle.tp_lines.specs.declared.values.Value.TheVariants as value
@@ -17,4 +14,4 @@ returns c =
     let three = Word (value.Priority Low) (codes "low") in
     priorities_read text c.further.result
     (further_read one (Either two three) text _ _ _ c.further.ensures c.read_word-high.ensures
-      (further_read two three text _ _ _ c.further-others.ensures c.read_word-normal.ensures c.read_word-low.ensures))
+    (further_read two three text _ _ _ c.further-others.ensures c.read_word-normal.ensures c.read_word-low.ensures))

@@ -1,8 +1,5 @@
 use Rattle.std.specs.Prelude.{codes}
-use Rattle.tp_base.specs.declared.answers.ActionKind.TheVariants.{Section, Mutex, Semaphore, Event}
 use Rattle.tp_base.specs.declared.answers.SlotWord.TheVariants.{Unasked, Performed, NotOwner, OverMaximum}
-use Rattle.tp_base.specs.declared.calls.Priority.TheVariants.{High, Normal, Low}
-use Rattle.std.proofs.Common.{true, false}
 use Rattle.line_grammar.specs.Words.{Word, Either}
 use Rattle.line_grammar.proofs.WordFacts.{further_read}
 use Rattle.tp_lines.specs.declared.values.Value.TheVariants as value
@@ -18,5 +15,5 @@ returns c =
     let four = Word (value.Slot OverMaximum) (codes "over-maximum") in
     slots_read text c.further.result
     (further_read (Either one two) (Either three four) text _ _ _ c.further.ensures
-      (further_read one two text _ _ _ c.further-done.ensures c.read_word-unasked.ensures c.read_word-performed.ensures)
-      (further_read three four text _ _ _ c.further-left.ensures c.read_word-owner.ensures c.read_word-maximum.ensures))
+    (further_read one two text _ _ _ c.further-done.ensures c.read_word-unasked.ensures c.read_word-performed.ensures)
+    (further_read three four text _ _ _ c.further-left.ensures c.read_word-owner.ensures c.read_word-maximum.ensures))

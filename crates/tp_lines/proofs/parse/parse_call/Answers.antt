@@ -1,4 +1,4 @@
-use Rattle.std.proofs.Common.{arith, sym, ap, ◌≤◌, ◌<◌, length}
+use Rattle.std.proofs.Common.{arith, sym, ap, ◌<◌, length}
 use Rattle.std.specs.Prelude.{Ok}
 use Rattle.line_grammar.proofs.Readings.{whole_text, longer_text, stuck_text}
 use Rattle.tp_lines.specs.Calls.{CallLines}

@@ -1,0 +1,3 @@
+pub mod Entries
+pub mod Meaning
+pub mod View

@@ -1,0 +1,611 @@
+//! Lines written by hand, and the places of faults.
+
+use crate::parse::{LineFault, LineKind, parse_call, parse_entry};
+use crate::print::{print_answer, print_entry, print_full, print_look};
+use crate::shapes::{ANSWERS, CALLS, Field, Shape, Table, Word};
+use std::alloc::{AllocError, Global};
+use std::process::Abort;
+use std::test::Fail;
+use tp_base::answers::{ActionKind, Answer, Entry, Look, Refusal, SlotWord, TakeResult};
+use tp_base::calls::{Call, Environ, Kind, Priority};
+use tp_base::ids::{GroupId, KernelId, ObjectId, PoolId, RoutineId, Who};
+
+// The text is no line of a call, and this is its fault.
+fn check_call_fault(rt: &impl Abort, text: &str, fault: LineFault) {
+    assert_eq!(rt; parse_call(text.as_bytes()), Err(fault), "{text}");
+}
+
+// The text is no line of an entry, and this is its fault.
+fn check_entry_fault(rt: &impl Abort, text: &str, fault: LineFault) {
+    assert_eq!(rt; parse_entry(text.as_bytes()), Err(fault), "{text}");
+}
+
+#[test]
+fn faults_of_calls(rt: HostRuntime) {
+    let cases = [
+        ("", 1, LineKind::Unfinished),
+        ("c", 2, LineKind::Unfinished),
+        ("x1 take", 1, LineKind::Unexpected),
+        ("c0 take", 2, LineKind::Unexpected),
+        ("c01 take", 2, LineKind::Unexpected),
+        ("c17 take", 3, LineKind::Unexpected),
+        ("w65 take", 3, LineKind::Unexpected),
+        ("c1", 3, LineKind::Unfinished),
+        ("c1 ", 4, LineKind::Unfinished),
+        ("c1  take", 4, LineKind::Unexpected),
+        ("c1\ttake", 3, LineKind::Unexpected),
+        ("c1 Take", 4, LineKind::Unexpected),
+        ("c1 tak", 7, LineKind::Unfinished),
+        ("c1 takes", 8, LineKind::Unexpected),
+        ("c1 take ", 8, LineKind::Unexpected),
+        ("c1 take\r", 8, LineKind::Unexpected),
+        ("c1 t\u{e9}", 5, LineKind::Unexpected),
+        ("c1 attach now", 10, LineKind::Unexpected),
+        ("c1 submit", 10, LineKind::Unfinished),
+        ("c1 submit -1", 11, LineKind::Unexpected),
+        ("c1 submit 05", 12, LineKind::Unexpected),
+        ("c1 submit 65536", 15, LineKind::Unexpected),
+        ("c1 create timer", 11, LineKind::Unexpected),
+        ("c1 create work r0", 17, LineKind::Unexpected),
+        (
+            "c1 create work r1 x18446744073709551616",
+            39,
+            LineKind::Unexpected,
+        ),
+        ("c1 create work r1 x7 p0 medium", 25, LineKind::Unexpected),
+        ("c1 create work r1 x7 p0 nor", 28, LineKind::Unfinished),
+        (
+            "c1 create work r1 x7 p0 normal short g0 q5",
+            42,
+            LineKind::Unexpected,
+        ),
+        (
+            "c1 create work r1 x7 p0 low long g1 q65535 ",
+            43,
+            LineKind::Unexpected,
+        ),
+    ];
+    for (text, column, kind) in cases {
+        check_call_fault(&rt, text, LineFault { column, kind });
+    }
+}
+
+#[test]
+fn faults_of_pools(rt: HostRuntime) {
+    let cases = [
+        ("c1 creat", 9, LineKind::Unfinished),
+        ("c1 create", 10, LineKind::Unfinished),
+        ("c1 create-", 11, LineKind::Unfinished),
+        ("c1 create-pools", 15, LineKind::Unexpected),
+        ("c1 create-pool ", 15, LineKind::Unexpected),
+        ("c1 create-pool 1", 15, LineKind::Unexpected),
+        ("c1 create-work r1", 11, LineKind::Unexpected),
+        ("c1 createpool", 10, LineKind::Unexpected),
+        ("c1 create pool", 11, LineKind::Unexpected),
+        ("c1 close-pool", 14, LineKind::Unfinished),
+        ("c1 close-pool ", 15, LineKind::Unfinished),
+        ("c1 close-pool p1", 15, LineKind::Unexpected),
+        ("c1 close-pool 65536", 19, LineKind::Unexpected),
+        ("c1 close-pool 00", 16, LineKind::Unexpected),
+        ("c1 close-pool 1 2", 16, LineKind::Unexpected),
+        ("c1 close-pools 1", 14, LineKind::Unexpected),
+        ("c1 close-pool1", 14, LineKind::Unexpected),
+    ];
+    for (text, column, kind) in cases {
+        check_call_fault(&rt, text, LineFault { column, kind });
+    }
+}
+
+#[test]
+fn faults_of_pool_sizes(rt: HostRuntime) {
+    let cases = [
+        ("c1 set-m", 9, LineKind::Unfinished),
+        ("c1 set-mi 1 2", 10, LineKind::Unexpected),
+        ("c1 set-maximun 1 2", 14, LineKind::Unexpected),
+        ("c1 set-maximum p1 ", 16, LineKind::Unexpected),
+        ("c1 set-maximum 1", 17, LineKind::Unfinished),
+        ("c1 set-maximum 1 ", 18, LineKind::Unfinished),
+        ("c1 set-maximum 65536 1", 20, LineKind::Unexpected),
+        ("c1 set-maximum 65535 4294967296", 31, LineKind::Unexpected),
+        ("c1 set-maximum 1  2", 18, LineKind::Unexpected),
+        ("c1 set-maximum 1 2 3", 19, LineKind::Unexpected),
+        ("c1 set-maximum -1 2", 16, LineKind::Unexpected),
+        ("c1 set-maximum 1 -2", 18, LineKind::Unexpected),
+        ("c1 set-minimum p1 01", 16, LineKind::Unexpected),
+        ("c1 set-minimum 1 01", 19, LineKind::Unexpected),
+        ("c1 set-minimum 1 2 ", 19, LineKind::Unexpected),
+        ("c1 set-minimum 1,2", 17, LineKind::Unexpected),
+        ("c1 set-minimum 1 4294967300", 27, LineKind::Unexpected),
+        ("c1 set-minimum 1 99999999999", 27, LineKind::Unexpected),
+    ];
+    for (text, column, kind) in cases {
+        check_call_fault(&rt, text, LineFault { column, kind });
+    }
+}
+
+#[test]
+fn faults_of_workers(rt: HostRuntime) {
+    let cases = [
+        ("w1 detach now", 10, LineKind::Unexpected),
+        ("w1 detac", 9, LineKind::Unfinished),
+        ("w1 detached", 10, LineKind::Unexpected),
+        ("w1 deattach", 6, LineKind::Unexpected),
+        ("w1 attachdetach", 10, LineKind::Unexpected),
+        ("w1 attack", 9, LineKind::Unexpected),
+        ("w1 may-run", 11, LineKind::Unfinished),
+        ("w1 may-run-longer", 16, LineKind::Unexpected),
+        ("w1 may run long", 7, LineKind::Unexpected),
+        ("w1 retire", 7, LineKind::Unexpected),
+        ("w0 detach", 2, LineKind::Unexpected),
+        ("w6", 3, LineKind::Unfinished),
+        ("w100 detach", 4, LineKind::Unexpected),
+        ("c18446744073709551616 take", 3, LineKind::Unexpected),
+        (" c1 take", 1, LineKind::Unexpected),
+        ("C1 take", 1, LineKind::Unexpected),
+    ];
+    for (text, column, kind) in cases {
+        check_call_fault(&rt, text, LineFault { column, kind });
+    }
+}
+
+#[test]
+fn faults_of_objects(rt: HostRuntime) {
+    let cases = [
+        ("c1 create work r65536 x0", 21, LineKind::Unexpected),
+        ("c1 create work r1 7 p0", 19, LineKind::Unexpected),
+        ("c1 create work r1 x7 p65536 low", 27, LineKind::Unexpected),
+        (
+            "c1 create work r1 x7 p0 high  long",
+            30,
+            LineKind::Unexpected,
+        ),
+        (
+            "c1 create work r1 x7 p0 high long g0 q00",
+            40,
+            LineKind::Unexpected,
+        ),
+        (
+            "c1 create work r1 x7 p0 low short g65536 q1",
+            40,
+            LineKind::Unexpected,
+        ),
+        (
+            "c1 create work r1 x7 p0 low short g1",
+            37,
+            LineKind::Unfinished,
+        ),
+    ];
+    for (text, column, kind) in cases {
+        check_call_fault(&rt, text, LineFault { column, kind });
+    }
+}
+
+// The text is read as this call, and printed again in an entry.
+fn check_call(
+    rt: &impl Abort,
+    alloc: Global,
+    text: &str,
+    who: Who,
+    call: Call,
+) -> Result<(), AllocError> {
+    assert_eq!(rt; parse_call(text.as_bytes()), Ok((who, call)), "{text}");
+    let line = format!(in alloc; "{text} -> ok")?;
+    let entry = Entry {
+        who,
+        call,
+        answer: Answer::Done,
+    };
+    let mut out = Vec::new(alloc);
+    print_entry(alloc, &entry, &mut out)?;
+    assert_eq!(rt; out.as_slice(), line.as_bytes(), "{text}");
+    Ok(())
+}
+
+#[test]
+fn calls_of_lines(rt: HostRuntime) -> Result<(), Fail> {
+    let env = Environ {
+        pool: PoolId(3),
+        group: GroupId(65_535),
+        cancel: RoutineId(9),
+        priority: Priority::High,
+        long: true,
+    };
+    let create = Call::Create {
+        kind: Kind::Work,
+        routine: RoutineId(1),
+        context: 18_446_744_073_709_551_615,
+        env,
+    };
+    let cases = [
+        ("c1 attach", Who::Client(1), Call::Attach),
+        ("w64 take", Who::Worker(64), Call::Take),
+        ("w10 return", Who::Worker(10), Call::Return),
+        ("c16 finish", Who::Client(16), Call::Finish),
+        (
+            "c2 submit 0",
+            Who::Client(2),
+            Call::SubmitWork {
+                object: ObjectId(0),
+            },
+        ),
+        (
+            "c1 create work r1 x18446744073709551615 p3 high long g65535 q9",
+            Who::Client(1),
+            create,
+        ),
+    ];
+    for (text, who, call) in cases {
+        check_call(&rt, rt.alloc(), text, who, call)?;
+    }
+    Ok(())
+}
+
+#[test]
+fn calls_of_pools_there_and_back(rt: HostRuntime) -> Result<(), Fail> {
+    let cases = [
+        ("c1 create-pool", Call::CreatePool),
+        ("c1 close-pool 0", Call::ClosePool { pool: PoolId(0) }),
+        (
+            "c1 close-pool 65535",
+            Call::ClosePool {
+                pool: PoolId(65_535),
+            },
+        ),
+        (
+            "c1 set-maximum 1 0",
+            Call::SetMaximum {
+                pool: PoolId(1),
+                value: 0,
+            },
+        ),
+        (
+            "c1 set-maximum 65535 4294967295",
+            Call::SetMaximum {
+                pool: PoolId(65_535),
+                value: 4_294_967_295,
+            },
+        ),
+        (
+            "c1 set-minimum 0 7",
+            Call::SetMinimum {
+                pool: PoolId(0),
+                value: 7,
+            },
+        ),
+        (
+            "c1 set-minimum 12 4294967295",
+            Call::SetMinimum {
+                pool: PoolId(12),
+                value: 4_294_967_295,
+            },
+        ),
+        ("c1 detach", Call::Detach),
+        ("c1 may-run-long", Call::MayRunLong),
+    ];
+    for (text, call) in cases {
+        check_call(&rt, rt.alloc(), text, Who::Client(1), call)?;
+    }
+    Ok(())
+}
+
+#[test]
+fn faults_of_entries(rt: HostRuntime) {
+    let cases = [
+        ("c1 take", 8, LineKind::Unfinished),
+        ("c1 take -> ", 12, LineKind::Unfinished),
+        ("c1 take - ok", 10, LineKind::Unexpected),
+        ("c1 take -> oks", 14, LineKind::Unexpected),
+        ("c1 take -> made 0", 17, LineKind::Unexpected),
+        ("c1 take -> was maybe 0 0", 16, LineKind::Unexpected),
+        ("c1 take -> refused not-", 24, LineKind::Unfinished),
+        ("c1 take -> refused not-ours", 25, LineKind::Unexpected),
+        (
+            "c1 take -> refused over-maximum 2147483648",
+            42,
+            LineKind::Unexpected,
+        ),
+        (
+            "c1 take -> taken 1 o1 r1 x7 io 4294967296 0",
+            41,
+            LineKind::Unexpected,
+        ),
+        (
+            "c1 take -> returned - - - done 0 0 ",
+            35,
+            LineKind::Unexpected,
+        ),
+        (
+            "c1 take -> advanced 9223372036854775808 0 0",
+            39,
+            LineKind::Unexpected,
+        ),
+        ("c1 take -> queued 1", 20, LineKind::Unfinished),
+        ("c1 take -> queued  1 1", 19, LineKind::Unexpected),
+        ("c1 take -> queued 1 65536", 25, LineKind::Unexpected),
+        ("c1 take -> flag yess", 20, LineKind::Unexpected),
+        ("c1 take -> flag maybe", 17, LineKind::Unexpected),
+        ("c1 take -> frozen", 14, LineKind::Unexpected),
+        ("c1 take -> later 1", 17, LineKind::Unexpected),
+        ("c1 take -> closing 1 2", 23, LineKind::Unfinished),
+        ("c1 take -> begun 01 2", 19, LineKind::Unexpected),
+        ("c1 take -> notice 1", 19, LineKind::Unexpected),
+        ("c1 take -> notice o1 r0 x1 y1", 23, LineKind::Unexpected),
+        ("c1 take -> count 2147483648 0 0", 27, LineKind::Unexpected),
+        ("c1 take -> attached", 20, LineKind::Unfinished),
+        (
+            "c1 take -> taken 1 o1 r1 x7 objects",
+            35,
+            LineKind::Unexpected,
+        ),
+        ("c1 take -> taken 1 o1 r1 x7", 28, LineKind::Unfinished),
+        ("c1 take -> returned - done - -", 31, LineKind::Unfinished),
+        ("c1 take -> refused", 19, LineKind::Unfinished),
+        (
+            "c1 take -> refused slot-taken timer",
+            31,
+            LineKind::Unexpected,
+        ),
+        (
+            "c1 take -> refused has-members 65536",
+            36,
+            LineKind::Unexpected,
+        ),
+        ("c1 take -> exhaust", 19, LineKind::Unfinished),
+    ];
+    for (text, column, kind) in cases {
+        check_entry_fault(&rt, text, LineFault { column, kind });
+    }
+}
+
+#[test]
+fn faults_of_entries_of_pools(rt: HostRuntime) {
+    let cases = [
+        ("c1 take -> look empty", 13, LineKind::Unexpected),
+        ("c1 take -> full 1 3", 13, LineKind::Unexpected),
+        ("c1 take -> made 65536", 21, LineKind::Unexpected),
+        ("c1 create-pool -> made 1 ", 25, LineKind::Unexpected),
+        ("c1 create-pool ->", 18, LineKind::Unfinished),
+        ("c1 create-pool->", 15, LineKind::Unexpected),
+        ("c1 close-pool 1 -> free", 24, LineKind::Unfinished),
+        ("c1 close-pool 1 -> freed later", 25, LineKind::Unexpected),
+        ("c1 close-pool -> freed", 15, LineKind::Unexpected),
+        ("c1 set-maximum 1 -> ok", 18, LineKind::Unexpected),
+        (
+            "c1 set-maximum 1 4294967295 -> okay",
+            34,
+            LineKind::Unexpected,
+        ),
+        (
+            "w1 detach -> refused default-pool 1",
+            34,
+            LineKind::Unexpected,
+        ),
+        ("w1 may-run-long -> flag true", 25, LineKind::Unexpected),
+        ("w1 may-run-long -> flag y", 26, LineKind::Unfinished),
+        ("c1 take => ok", 9, LineKind::Unexpected),
+        ("c1 take ->  ok", 12, LineKind::Unexpected),
+        ("c1 take -> ok\r", 14, LineKind::Unexpected),
+    ];
+    for (text, column, kind) in cases {
+        check_entry_fault(&rt, text, LineFault { column, kind });
+    }
+}
+
+#[test]
+fn faults_of_answers(rt: HostRuntime) {
+    let cases = [
+        ("c1 take -> queued 1", 20, LineKind::Unfinished),
+        ("c1 take -> queued 1 65536", 25, LineKind::Unexpected),
+        (
+            "c1 take -> queued 18446744073709551616 0",
+            38,
+            LineKind::Unexpected,
+        ),
+        ("c1 take -> attached 01", 22, LineKind::Unexpected),
+        ("c1 take -> attached p0", 21, LineKind::Unexpected),
+        ("c1 take -> taken 5 0 r2 x7 plain", 20, LineKind::Unexpected),
+        (
+            "c1 take -> taken 5 o0 r0 x7 plain",
+            24,
+            LineKind::Unexpected,
+        ),
+        (
+            "c1 take -> taken 5 o0 r2 x7 plain 1",
+            34,
+            LineKind::Unexpected,
+        ),
+        (
+            "c1 take -> returned - done not over",
+            31,
+            LineKind::Unexpected,
+        ),
+        ("c1 take -> refused over-maximum", 32, LineKind::Unfinished),
+        (
+            "c1 take -> refused slot-taken lock",
+            31,
+            LineKind::Unexpected,
+        ),
+        ("c1 take -> notice o1 r2 x3 x4", 28, LineKind::Unexpected),
+        ("c1 take -> was yes 4", 21, LineKind::Unfinished),
+        (
+            "c1 take -> advanced 9223372036854775807 0",
+            42,
+            LineKind::Unfinished,
+        ),
+    ];
+    for (text, column, kind) in cases {
+        check_entry_fault(&rt, text, LineFault { column, kind });
+    }
+}
+
+// An entry is printed as this line, and read again.
+fn check_entry(
+    rt: &impl Abort,
+    alloc: Global,
+    text: &str,
+    answer: Answer,
+) -> Result<(), AllocError> {
+    let entry = Entry {
+        who: Who::Worker(7),
+        call: Call::Return,
+        answer,
+    };
+    let mut out = Vec::new(alloc);
+    print_entry(alloc, &entry, &mut out)?;
+    assert_eq!(rt; out.as_slice(), text.as_bytes(), "{text}");
+    assert_eq!(rt; parse_entry(text.as_bytes()), Ok(entry), "{text}");
+    Ok(())
+}
+
+#[test]
+fn entries_there_and_back(rt: HostRuntime) -> Result<(), Fail> {
+    let plain = TakeResult::Plain;
+    let taken = Answer::Taken {
+        callback: 5,
+        object: ObjectId(0),
+        routine: RoutineId(2),
+        context: 7,
+        result: plain,
+    };
+    let moved = Answer::Taken {
+        callback: 5,
+        object: ObjectId(1),
+        routine: RoutineId(2),
+        context: 7,
+        result: TakeResult::Io {
+            error: 4_294_967_295,
+            bytes: 512,
+        },
+    };
+    let returned = Answer::Returned {
+        section: SlotWord::Unasked,
+        mutex: SlotWord::Performed,
+        semaphore: SlotWord::NotOwner,
+        event: SlotWord::OverMaximum,
+        first: 3,
+        count: 1,
+    };
+    let notice = Answer::Notice {
+        object: ObjectId(1),
+        routine: RoutineId(2),
+        context: 3,
+        cleanup: 4,
+    };
+    let held = Refusal::SlotTaken {
+        kind: ActionKind::Semaphore,
+    };
+    let cases = [
+        ("w7 return -> ok", Answer::Done),
+        ("w7 return -> made 65535", Answer::Made { number: 65_535 }),
+        (
+            "w7 return -> was no 4 2",
+            Answer::WasSet {
+                was: false,
+                first: 4,
+                count: 2,
+            },
+        ),
+        ("w7 return -> later", Answer::Closed { later: true }),
+        ("w7 return -> freed", Answer::Closed { later: false }),
+        (
+            "w7 return -> closing 1 2 3",
+            Answer::Closing {
+                covered: 1,
+                cancelled: 2,
+                notices: 3,
+            },
+        ),
+        ("w7 return -> notice o1 r2 x3 y4", notice),
+        (
+            "w7 return -> count 2147483647 0 0",
+            Answer::Count {
+                previous: 2_147_483_647,
+                first: 0,
+                count: 0,
+            },
+        ),
+        (
+            "w7 return -> advanced 9 8 7",
+            Answer::Advanced {
+                now: 9,
+                first: 8,
+                count: 7,
+            },
+        ),
+        (
+            "w7 return -> attached 0",
+            Answer::Attached { pool: PoolId(0) },
+        ),
+        ("w7 return -> taken 5 o0 r2 x7 plain", taken),
+        ("w7 return -> taken 5 o1 r2 x7 io 4294967295 512", moved),
+        (
+            "w7 return -> returned - done not-owner over-maximum 3 1",
+            returned,
+        ),
+        (
+            "w7 return -> refused no-such",
+            Answer::Refused(Refusal::NoSuch),
+        ),
+        (
+            "w7 return -> refused has-members 12",
+            Answer::Refused(Refusal::HasMembers {
+                object: ObjectId(12),
+            }),
+        ),
+        (
+            "w7 return -> refused slot-taken semaphore",
+            Answer::Refused(held),
+        ),
+        (
+            "w7 return -> refused already-attached",
+            Answer::Refused(Refusal::AlreadyAttached),
+        ),
+    ];
+    for (text, answer) in cases {
+        check_entry(&rt, rt.alloc(), text, answer)?;
+    }
+    Ok(())
+}
+
+#[test]
+fn printed(rt: HostRuntime) -> Result<(), Fail> {
+    let mut out = Vec::new(rt.alloc());
+    print_answer(rt.alloc(), &Answer::Queued { first: 3, count: 2 }, &mut out)?;
+    assert_eq!(rt; out.as_slice(), "queued 3 2".as_bytes());
+    out.clear();
+    print_full(rt.alloc(), 1, 3, &mut out)?;
+    assert_eq!(rt; out.as_slice(), "full 1 3".as_bytes());
+    let looks = [
+        ("look not-yet callback 8", Look::NotYet { callback: 8 }),
+        (
+            "look not-yet kernel 2",
+            Look::NotYetKernel {
+                kernel: KernelId(2),
+            },
+        ),
+        ("look empty", Look::Empty),
+        ("look at-maximum 4", Look::AtMaximum { running: 4 }),
+        ("look no-need", Look::NoNeed),
+        ("look stay", Look::Stay),
+    ];
+    for (text, look) in looks {
+        out.clear();
+        print_look(rt.alloc(), &look, &mut out)?;
+        assert_eq!(rt; out.as_slice(), text.as_bytes(), "{text}");
+    }
+    Ok(())
+}
+
+#[test]
+fn distinct_tables(rt: HostRuntime) {
+    let take = Shape {
+        word: Word::Take,
+        fields: [Field::Nothing; 8],
+    };
+    let twice = Table {
+        shapes: [take, take],
+    };
+    assert!(rt; CALLS.is_distinct());
+    assert!(rt; ANSWERS.is_distinct());
+    assert!(rt; !twice.is_distinct());
+}

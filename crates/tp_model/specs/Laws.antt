@@ -1,0 +1,13 @@
+-- The laws of histories. They speak of entries alone, and of the callbacks that are left after the last one.
+use Rattle.std.specs.Prelude.{ℕ, List}
+use Rattle.tp_base.specs.declared.answers.Entry.{Entry}
+use Rattle.tp_base.specs.declared.limits.Limits.{Limits}
+pub mod Entries
+pub mod Once
+pub mod Maximum
+use Once.{AreOnce}
+use Maximum.{IsWithinMaximum}
+
+pub record KeepsLaws (limits : Limits) (history : List Entry) : Type 0 where
+  pub once : AreOnce limits history
+  pub maximum : IsWithinMaximum limits history

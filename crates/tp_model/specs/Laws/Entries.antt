@@ -1,0 +1,131 @@
+-- What the entries of a history tell of callbacks and workers.
+use Rattle.std.specs.Prelude.{◌≡◌, ℕ, Bool, true, false, not, ◌&&◌, ◌||◌, ◌==◌, max, List, [], ◌∷◌, ◌++◌, length, if◌then◌else◌, is_some, None, Some, Option}
+use Rattle.std.specs.Option.{option_or}
+use Rattle.std.specs.List.{filter, list_any, position, range_with_len, flat_map, filter_map, sum_by, fold}
+use Rattle.tp_base.specs.declared.ids.Who.TheVariants.{Worker}
+use Rattle.tp_base.specs.declared.calls.Call.{Call}
+use Rattle.tp_base.specs.declared.calls.Call.TheVariants.{Return, SetMaximum, SetMinimum}
+use Rattle.tp_base.specs.declared.answers.Answer.{Answer}
+use Rattle.tp_base.specs.declared.answers.Answer.TheVariants.{Queued, WasSet, Count, Advanced, Returned, Started, Cancelled, Closing, Begun, Attached, Taken}
+use Rattle.tp_base.specs.declared.answers.Entry.{Entry}
+use Rattle.tp_base.specs.declared.limits.Limits.{Limits}
+use Rattle.tp_model.specs.Conditions.{is_same_actor}
+use Rattle.tp_model.specs.History.{is_refusal}
+
+abbrev pub is_among : ℕ → List ℕ → Bool
+is_among n numbers = list_any (λ m. m == n) numbers
+
+abbrev pub times : ℕ → List ℕ → ℕ
+times n numbers = length (filter (λ m. m == n) numbers)
+
+-- of each entry of a history, with what stands before it
+abbrev pub AtEach : (List Entry → Entry → Type 0) → List Entry → Type 0
+AtEach P history = (before later : List Entry) (entry : Entry) → before ++ entry ∷ later ≡ history → P before entry
+
+-- ---- callbacks, by their numbers
+
+-- those that an answer tells to be pending now
+abbrev pub queued_by : Answer → List ℕ
+queued_by (Queued first count) = range_with_len first count
+queued_by (WasSet was first count) = range_with_len first count
+queued_by (Count previous first count) = range_with_len first count
+queued_by (Advanced now first count) = range_with_len first count
+queued_by (Returned section mutex semaphore event first count) = range_with_len first count
+queued_by _ = []
+
+-- the one that an answer tells to be expected now
+abbrev pub started_by : Answer → List ℕ
+started_by (Started callback) = callback ∷ []
+started_by _ = []
+
+-- those that an entry makes
+abbrev pub made_by : Entry → List ℕ
+made_by entry = started_by entry.answer ++ queued_by entry.answer
+
+abbrev pub taken_by : Answer → Option ℕ
+taken_by (Taken callback object routine context result) = Some callback
+taken_by _ = None
+
+-- the one that an answer names as cancelled
+abbrev pub cancelled_by : Answer → Option ℕ
+cancelled_by (Cancelled callback) = Some callback
+cancelled_by _ = None
+
+-- how many a wait or a close says that it cancelled
+abbrev pub cancelled_count : Answer → ℕ
+cancelled_count (Begun covered cancelled) = cancelled
+cancelled_count (Closing covered cancelled notices) = cancelled
+cancelled_count _ = 0
+
+abbrev pub numbers_made : List Entry → List ℕ
+numbers_made history = flat_map made_by history
+
+abbrev pub numbers_queued : List Entry → List ℕ
+numbers_queued history = flat_map (λ entry. queued_by entry.answer) history
+
+abbrev pub numbers_taken : List Entry → List ℕ
+numbers_taken history = filter_map (λ entry. taken_by entry.answer) history
+
+abbrev pub numbers_cancelled : List Entry → List ℕ
+numbers_cancelled history = filter_map (λ entry. cancelled_by entry.answer) history
+
+abbrev pub count_cancelled : List Entry → ℕ
+count_cancelled history = sum_by (λ entry. cancelled_count entry.answer) history
+
+-- the place of the entry that makes the callback
+abbrev pub born : List Entry → ℕ → Option ℕ
+born history n = position (λ entry. is_among n (made_by entry)) history
+
+-- the place of the first entry after which the callback may be taken
+abbrev pub ready : List Entry → ℕ → Option ℕ
+ready history n = position (λ entry. is_among n (queued_by entry.answer)) history
+
+-- ---- workers
+
+abbrev pub is_by : ℕ → Entry → Bool
+is_by worker entry = is_same_actor entry.who (Worker worker)
+
+abbrev pub is_taken : Entry → Bool
+is_taken entry = is_some (taken_by entry.answer)
+
+abbrev pub is_return_call : Call → Bool
+is_return_call Return = true
+is_return_call _ = false
+
+-- an accepted Return
+abbrev pub is_returned : Entry → Bool
+is_returned entry = is_return_call entry.call && not (is_refusal entry.answer)
+
+-- a run begins where the worker takes a callback, and ends at the worker's next accepted Return
+abbrev pub run_after : ℕ → Bool → Entry → Bool
+run_after worker within entry = if is_by worker entry then is_taken entry || (within && not (is_returned entry)) else within
+
+-- whether the worker stands within a run
+abbrev pub is_within_run : List Entry → ℕ → Bool
+is_within_run history worker = fold (run_after worker) false history
+
+abbrev pub attached_by : Answer → Option ℕ
+attached_by (Attached pool) = Some pool.0
+attached_by _ = None
+
+abbrev pub pool_after : ℕ → Option ℕ → Entry → Option ℕ
+pool_after worker pool entry = if is_by worker entry then option_or (attached_by entry.answer) pool else pool
+
+-- the pool that the worker's last answer Attached names
+abbrev pub last_pool : List Entry → ℕ → Option ℕ
+last_pool history worker = fold (pool_after worker) None history
+
+-- ---- pools
+
+abbrev pub maximum_set : ℕ → ℕ → Call → ℕ
+maximum_set pool maximum (SetMaximum other value) = if other.0 == pool then max value 1 else maximum
+maximum_set pool maximum (SetMinimum other value) = if other.0 == pool then max maximum value else maximum
+maximum_set pool maximum _ = maximum
+
+abbrev pub maximum_after : ℕ → ℕ → Entry → ℕ
+maximum_after pool maximum entry = if is_refusal entry.answer then maximum else maximum_set pool maximum entry.call
+
+-- as many callbacks of the pool as there are workers, until an accepted call sets another maximum (0 counts as 1) or a
+-- minimum above it
+abbrev pub told_maximum : Limits → List Entry → ℕ → ℕ
+told_maximum limits history pool = fold (maximum_after pool) limits.workers history

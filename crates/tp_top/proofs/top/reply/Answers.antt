@@ -1,0 +1,23 @@
+use Rattle.std.proofs.Common.{◌≡◌, arith, ap, length, ◌++◌, ◌∙◌, sym, subst}
+use Rattle.tp_report.specs.Verdicts.{verdict_text}
+use Rattle.tp_top.specs.Ends.{IsOutput, IsReply}
+use Rattle.tp_top.proofs.Checked.{output_of_verdict, reply_of_fault}
+use Rattle.tp_top.proofs.SoFar.{trace_count}
+use Rattle.tp_top.proofs.top.reply.Goals as goal
+
+pub play_trace-requires-clause-few : goal.play_trace-requires-clause-few
+play_trace-requires-clause-few c =
+    omega (arith, c.requires, trace_count c.args.bytes.now c.in_ok-calls-in-Trace.calls.items c.in_ok-calls-in-Trace.ensures.ok, ap length c.deref.ensures.value)
+
+pub returns-in_err-verdict-in-Check : goal.returns-in_err-verdict-in-Check
+returns-in_err-verdict-in-Check c =
+    subst (λ k. IsReply k c.args.bytes.now c.from_residual-in_err-verdict-in-Check.result) (sym c.in-Check.is)
+    (reply_of_fault c.args.bytes.now c.in_err-verdict-in-Check.field-0.0 c.from_residual-in_err-verdict-in-Check.result c.from_residual-in_err-verdict-in-Check.ensures.1
+    c.in_err-verdict-in-Check.ensures.err c.in_err-verdict-in-Check.ensures.only)
+
+pub returns-in_ok-print_verdict-in-Check : goal.returns-in_ok-print_verdict-in-Check
+returns-in_ok-print_verdict-in-Check c =
+    subst (λ k. IsOutput k c.args.bytes.now c.print_verdict.new.out.items c.into.result) (sym c.in-Check.is)
+    (output_of_verdict c.args.bytes.now c.print_verdict.new.out.items c.in_ok-verdict-in-Check.verdict c.into.result
+    c.in_ok-verdict-in-Check.ensures.ok c.in_ok-verdict-in-Check.ensures.only
+    (c.in_ok-print_verdict-in-Check.ensures.ok ∙ ap (λ l. l ++ verdict_text c.in_ok-verdict-in-Check.verdict) c.new-text.ensures.items) c.into.ensures)

@@ -1,0 +1,80 @@
+//! The program tpool: the thread pool of Windows as a machine, played from text.
+//!
+//! `tpool trace` reads call lines from standard input and writes what each call comes to, a line
+//! each, to standard output. All of it is `tp_main`, which is proved over any source and any sink;
+//! here it meets the real streams. The exit status is 0, or that of the first thing that went
+//! wrong, with a line on standard error.
+//!
+//! ```text
+//! $ tpool trace
+//! c1 create work r1 x7 p0 normal short g0 q0
+//! c1 submit 1
+//! made 1
+//! queued 1 1
+//! ```
+
+#![tactic(auto)]
+
+mod command;
+mod playing;
+mod reading;
+mod status;
+#[cfg(test)]
+mod tests;
+mod top;
+mod words;
+
+use status::Status;
+use std::io::{Error, ErrorKind};
+use std::process::ExitCode;
+use std::{env, io};
+use top::tp_main;
+use tp_edge::{ReadEdge, WriteEdge};
+use words::WordList;
+
+fn main(rt: HostRuntime) -> ExitCode {
+    let status = match read_words(&rt) {
+        Ok(words) => {
+            let mut source = ReadEdge::new(rt.stdin());
+            let mut sink = WriteEdge::new(rt.stdout());
+            tp_main(rt.alloc(), &words, &mut source, &mut sink)
+        }
+        Err(status) => status,
+    };
+    // Where the line can't be written, the exit status still tells what went wrong.
+    let _ = report(&rt, status);
+    ExitCode::from(status.code())
+}
+
+/// The words behind the program's name. One that is no text is no word of a command.
+fn read_words(rt: &HostRuntime) -> Result<WordList, Status> {
+    let mut words = WordList::new(rt.alloc());
+    let arguments = env::args(rt).map_err(word_fault)?;
+    for word in arguments.skip(1) {
+        words.push(word.as_str())?;
+    }
+    Ok(words)
+}
+
+/// What it means that the words can't be had.
+fn word_fault(error: Error) -> Status {
+    match error.kind() {
+        ErrorKind::InvalidData => Status::Words,
+        _ => Status::NoMemory,
+    }
+}
+
+/// Prints the line of a status, if it has one.
+fn report(rt: &HostRuntime, status: Status) -> io::Result<()> {
+    match status {
+        Status::Fine | Status::NotLegal => Ok(()),
+        Status::Words => eprintln!(rt; "tpool: bad words"),
+        Status::BadLine { line, column } => {
+            eprintln!(rt; "tpool: bad line {line} column {column}")
+        }
+        Status::ReadFault => eprintln!(rt; "tpool: read fault"),
+        Status::WriteFault => eprintln!(rt; "tpool: write fault"),
+        Status::NoMemory => eprintln!(rt; "tpool: want of memory"),
+        Status::TooLong => eprintln!(rt; "tpool: input too long"),
+    }
+}
