@@ -1,6 +1,6 @@
 //! The first line of a history.
 
-ghost use Rattle.std.specs.Prelude.{◌≡◌, ◌<◌, ◌≤◌, ◌+◌};
+ghost use Rattle.std.specs.Prelude.{◌<◌, ◌≤◌};
 ghost use Rattle.line_grammar.specs.Language.{IsRead};
 ghost use Rattle.tp_report.specs.Histories.{HeaderLines};
 ghost use Rattle.tp_report.specs.Readings.{Keyed, Sizes};

@@ -1,9 +1,9 @@
 //! Reading of histories.
 
-ghost use Rattle.std.specs.Prelude.{◌≡◌, ◌<◌, ◌≤◌, ◌+◌, List, IfErr, IfOk};
+ghost use Rattle.std.specs.Prelude.{◌≡◌, ◌≤◌, List, IfErr, IfOk};
 ghost use Rattle.tp_base.specs.declared.answers.Entry.{Entry};
 ghost use Rattle.tp_report.specs.declared.headers.Header.{Header};
-ghost use Rattle.tp_report.specs.Histories.{HasHeaderLine, IsHistory};
+ghost use Rattle.tp_report.specs.Histories.{IsHistory};
 ghost use Rattle.tp_report.specs.Results.{AreEntries, IsHistoryOrNoMemory, IsPlaceBehind, IsPlaceIn};
 
 use crate::headers::Header;
