@@ -5,7 +5,7 @@ use Rattle.tp_base.specs.declared.answers.Outcome.{Outcome}
 use Rattle.tp_base.specs.declared.answers.Outcome.TheVariants.{Done}
 use Rattle.tp_base.specs.declared.limits.Limits.{Limits}
 use Rattle.tp_model.specs.World.{World, opening}
-use Rattle.tp_model.specs.History.{IsLegal, IsLegalFrom, after_from, led_to, room}
+use Rattle.tp_model.specs.History.{IsLegalFrom, after_from, led_to, room}
 use Rattle.tp_model.specs.Step.{outcome_of}
 use Rattle.tp_model.specs.Table.{step}
 use Rattle.tp_report.specs.declared.verdict.Verdict.{Verdict}
@@ -46,9 +46,9 @@ same_place w capacity entries (p ∷ ps) (o ∷ os) a b behind rest e right also
     let heads : p ≡ o = first p o (ps ++ a ∷ behind) (os ++ b ∷ rest) e in
     let tails : ps ++ a ∷ behind ≡ os ++ b ∷ rest = others p o (ps ++ a ∷ behind) (os ++ b ∷ rest) e in
     let there = same_place (led_to w p) capacity (entries + 1) ps os a b behind rest tails right.1
-            (subst (λ x. IsLegalFrom (led_to w x) capacity (entries + 1) os) (sym heads) also.1)
-            (λ h. wrong (ap (λ n. comes_to (after_from (led_to w p) ps) capacity n a) (more entries (length ps)) ∙ h))
-            (λ h. too (ap₂ (λ x n. comes_to (after_from (led_to w x) os) capacity n b) (sym heads) (more entries (length os)) ∙ h)) in
+    (subst (λ x. IsLegalFrom (led_to w x) capacity (entries + 1) os) (sym heads) also.1)
+    (λ h. wrong (ap (λ n. comes_to (after_from (led_to w p) ps) capacity n a) (more entries (length ps)) ∙ h))
+    (λ h. too (ap₂ (λ x n. comes_to (after_from (led_to w x) os) capacity n b) (sym heads) (more entries (length os)) ∙ h)) in
     (ap₂ (λ x xs. x ∷ xs) heads there.0, there.1)
   where
     first : (x y : Entry) (xs ys : List Entry) → x ∷ xs ≡ y ∷ ys → x ≡ y
@@ -64,8 +64,8 @@ wrong_once : (limits : Limits) (capacity : ℕ) (history : List Entry) (p q : �
 unfolding comes_to
 wrong_once limits capacity history p q o r at also =
     let same = same_place (opening limits) capacity 0 at.before also.before at.entry also.entry at.behind also.behind (sym at.split ∙ also.split) at.legal also.legal
-            (λ h. at.wrong (at.told ∙ ap (λ n. comes_to (after_from (opening limits) at.before) capacity n at.entry) (zero_more (length at.before)) ∙ h))
-            (λ h. also.wrong (also.told ∙ ap (λ n. comes_to (after_from (opening limits) also.before) capacity n also.entry) (zero_more (length also.before)) ∙ h)) in
+    (λ h. at.wrong (at.told ∙ ap (λ n. comes_to (after_from (opening limits) at.before) capacity n at.entry) (zero_more (length at.before)) ∙ h))
+    (λ h. also.wrong (also.told ∙ ap (λ n. comes_to (after_from (opening limits) also.before) capacity n also.entry) (zero_more (length also.before)) ∙ h)) in
     (at.place ∙ ap (λ xs. length xs + 1) same.0 ∙ sym also.place, at.told ∙ ap₂ (λ xs x. outcome_behind limits capacity xs x) same.0 same.1 ∙ sym also.told)
   where
     zero_more : (n : ℕ) → n ≡ 0 + n

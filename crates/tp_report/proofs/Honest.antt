@@ -1,5 +1,5 @@
 -- No call is accepted with a refusal for its answer.
-use Rattle.std.proofs.Common.{◌≡◌, ℕ, ◌+◌, List, length, refl, Bool, true, false, Option, None, Some, nat_le, slice_get}
+use Rattle.std.proofs.Common.{◌≡◌, ℕ, ◌+◌, length, refl, Bool, true, false, Option, None, Some, nat_le, slice_get}
 use Rattle.std.specs.Prelude.{if◌then◌else◌}
 use Rattle.tp_base.specs.declared.calls.Call.{Call}
 use Rattle.tp_base.specs.declared.calls.Call.TheVariants.{CreatePool, ClosePool, SetMaximum, SetMinimum, Create, SubmitWork, Attach, Detach, Take, Return, MayRunLong, Finish}

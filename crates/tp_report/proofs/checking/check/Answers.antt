@@ -1,4 +1,4 @@
-use Rattle.std.proofs.Common.{◌≡◌, ℕ, List, subst, sym}
+use Rattle.std.proofs.Common.{◌≡◌, ℕ, List, subst}
 use Rattle.tp_base.specs.declared.answers.Entry.{Entry}
 use Rattle.tp_base.specs.declared.limits.Limits.{Limits}
 use Rattle.tp_report.specs.declared.headers.Header.{Header}
@@ -23,7 +23,7 @@ pub returns-clause-only : goal.returns-clause-only
 returns-clause-only c = λ header entries h.
     let is = c.in_ok-history.ensures.only header entries h in
     of_history c.limits-limits.result c.in_ok-history.history.header header c.deref.result.now c.in_ok-history.history.entries.items entries c.in_ok-verdict.verdict
-        c.in_ok-verdict.ensures c.limits-limits.ensures.value c.deref.ensures.value is.0 is.1
+    c.in_ok-verdict.ensures c.limits-limits.ensures.value c.deref.ensures.value is.0 is.1
 
 legal_keeps : (limits : Limits) (capacity : ℕ) (entries : List Entry) (verdict : Verdict) → IsVerdict limits capacity entries verdict → IfLegal (Ok verdict) (KeepsLaws limits entries)
 legal_keeps limits capacity entries (Legal len) v = keeps_laws limits capacity entries v.0

@@ -13,4 +13,4 @@ text_is start held printed pushed told position e f g h =
 pub returns : goal.returns
 returns c =
     text_is c.as_bytes.result.now c.in_ok-text.text.items c.print_outcome.new.text.items c.push.new.self.items (text_of_outcome c.args.outcome.now) c.args.position
-        (c.as_bytes.ensures.value ∙ c.in_ok-start.ensures.ok) c.in_ok-text.ensures.items c.in_ok-print_outcome.ensures.ok c.in_ok-push.ensures.items
+    (c.as_bytes.ensures.value ∙ c.in_ok-start.ensures.ok) c.in_ok-text.ensures.items c.in_ok-print_outcome.ensures.ok c.in_ok-push.ensures.items
