@@ -2,7 +2,8 @@
 //! the machine answers.
 //!
 //! A text is a line without its line feed. `parse_call` and `parse_entry` read a line, or tell the place
-//! of its fault; `read_entry` reads the entry at the front of a longer text. `print_entry`, `print_answer`, `print_look` and `print_full` append one.
+//! of its fault; `read_entry` reads the entry at the front of a longer text. `print_entry`,
+//! `print_answer`, `print_look` and `print_full` append one.
 //!
 //! The definitions build a text from words, each with one space behind it but the last (`words_of_call`,
 //! `words_of_answer`). The readers go by tables of shapes (`CALLS`, `ANSWERS`, `RESULTS`, `REFUSALS`): a
