@@ -14,6 +14,108 @@ const PLAIN_PATH: &str = "c1 create work r1 x7 p0 normal short g0 q0\n\
 const PLAIN_ANSWERS: &str = "made 1\nqueued 1 1\nattached 0\ntaken 1 o1 r1 x7 plain\n\
     returned - - - - 0 0\n";
 
+const PRIORITIES: &str = "c1 create work r1 x0 p0 low short g0 q0\n\
+    c1 create work r2 x0 p0 normal short g0 q0\n\
+    c1 create work r3 x0 p0 high short g0 q0\n\
+    c1 submit 1\n\
+    c1 submit 2\n\
+    c1 submit 3\n\
+    w1 attach\n\
+    w1 take\n\
+    w1 return\n\
+    w1 take\n\
+    w1 return\n\
+    w1 take\n";
+
+const PRIORITIES_ANSWERS: &str = "made 1\n\
+    made 2\n\
+    made 3\n\
+    queued 1 1\n\
+    queued 2 1\n\
+    queued 3 1\n\
+    attached 0\n\
+    taken 3 o3 r3 x0 plain\n\
+    returned - - - - 0 0\n\
+    taken 2 o2 r2 x0 plain\n\
+    returned - - - - 0 0\n\
+    taken 1 o1 r1 x0 plain\n";
+
+const LOWERED_MAXIMUM: &str = "c1 create-pool\n\
+    c1 set-maximum 1 3\n\
+    c1 create work r1 x0 p1 normal short g0 q0\n\
+    c1 submit 1\n\
+    c1 submit 1\n\
+    c1 submit 1\n\
+    w1 attach\n\
+    w1 take\n\
+    w2 attach\n\
+    w2 take\n\
+    w3 attach\n\
+    c1 set-maximum 1 1\n\
+    w3 take\n\
+    w1 return\n\
+    w3 take\n\
+    w2 return\n\
+    w3 take\n";
+
+const LOWERED_MAXIMUM_ANSWERS: &str = "made 1\n\
+    ok\n\
+    made 1\n\
+    queued 1 1\n\
+    queued 2 1\n\
+    queued 3 1\n\
+    attached 1\n\
+    taken 1 o1 r1 x0 plain\n\
+    attached 1\n\
+    taken 2 o1 r1 x0 plain\n\
+    attached 1\n\
+    ok\n\
+    look at-maximum 2\n\
+    returned - - - - 0 0\n\
+    look at-maximum 1\n\
+    returned - - - - 0 0\n\
+    taken 3 o1 r1 x0 plain\n";
+
+const LONG_CALLBACKS: &str = "c1 create-pool\n\
+    c1 set-minimum 1 1\n\
+    w1 attach\n\
+    w2 attach\n\
+    w1 detach\n\
+    c1 create work r1 x0 p1 normal long g0 q0\n\
+    c1 submit 1\n\
+    w1 take\n\
+    w2 attach\n\
+    w1 may-run-long\n\
+    w1 return\n\
+    w2 detach\n";
+
+const LONG_CALLBACKS_ANSWERS: &str = "made 1\n\
+    ok\n\
+    attached 1\n\
+    look no-need\n\
+    look stay\n\
+    made 1\n\
+    queued 1 1\n\
+    taken 1 o1 r1 x0 plain\n\
+    attached 1\n\
+    flag yes\n\
+    returned - - - - 0 0\n\
+    ok\n";
+
+const HISTORY: &str = "history 1 clients 1 workers 4 events 65536\n\
+    c1 create work r1 x7 p0 normal short g0 q0 -> made 1\n\
+    c1 submit 1 -> queued 1 1\n\
+    end 2\n";
+
+const WRONG_HISTORY: &str = "history 1 clients 1 workers 4 events 65536\n\
+    c1 create work r1 x7 p0 normal short g0 q0 -> made 1\n\
+    c1 submit 1 -> queued 2 1\n\
+    end 2\n";
+
+const CUT_HISTORY: &str = "history 1 clients 1 workers 4 events 65536\n\
+    c1 create work r1 x7 p0 normal short g0 q0 -> made 1\n\
+    c1 submit 1 -> que";
+
 /// How much a stream moves in one call, and the number of its call that fails, or 0.
 #[derive(Clone, Copy)]
 struct Stream {
@@ -55,6 +157,9 @@ fn plays_what_the_lines_say(rt: HostRuntime) -> Result<(), Fail> {
     for (input, output) in [
         ("", ""),
         (PLAIN_PATH, PLAIN_ANSWERS),
+        (PRIORITIES, PRIORITIES_ANSWERS),
+        (LOWERED_MAXIMUM, LOWERED_MAXIMUM_ANSWERS),
+        (LONG_CALLBACKS, LONG_CALLBACKS_ANSWERS),
         (
             "w1 take\nw1 return\nw5 attach\n",
             "refused not-attached\nrefused not-running\nrefused no-such\n",
@@ -168,5 +273,32 @@ fn plays_the_longest_input(rt: HostRuntime) -> Result<(), Fail> {
     let (status, text) = run(&rt, "trace", &input, WHOLE, WHOLE)?;
     assert_eq!(rt; status, Status::TooLong);
     assert_eq!(rt; text.len(), 0);
+    Ok(())
+}
+
+/// A legal history, one with a wrong number, and one that is cut off.
+#[test]
+fn judges_histories(rt: HostRuntime) -> Result<(), Fail> {
+    for (input, status, output) in [
+        (HISTORY, Status::Fine, "legal 2\n"),
+        (
+            WRONG_HISTORY,
+            Status::NotLegal,
+            "not legal at 2: queued 1 1\n",
+        ),
+        (
+            CUT_HISTORY,
+            Status::BadLine {
+                line: 3,
+                column: 19,
+            },
+            "",
+        ),
+        ("", Status::BadLine { line: 1, column: 1 }, ""),
+    ] {
+        let (ended, text) = run(&rt, "check", input.as_bytes(), WHOLE, WHOLE)?;
+        assert_eq!(rt; ended, status, "at {output:?}");
+        assert_eq!(rt; text.as_slice(), output.as_bytes(), "at {output:?}");
+    }
     Ok(())
 }
