@@ -4,7 +4,7 @@
 copy=$room/checkout
 mkdir -p "$copy/crates" "$room/with_rt"
 cp -p "$here/tpool" "$here/crates.txt" "$copy"
-for crate in "$here"/crates/*/; do
+for crate in "$here/crates"/*/; do
     name=$(basename "$crate")
     mkdir "$copy/crates/$name"
     for part in src specs proofs; do

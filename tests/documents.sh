@@ -92,7 +92,19 @@ bad_lines() {
     done <<<"$2"
 }
 
-for file in "$here"/README.md "$here"/docs/*.md; do
+# The headings of a page, as links name them.
+headings_of() {
+    sed -n 's/^#\{1,\} //p' "$1" | tr '[:upper:]' '[:lower:]' | tr -cd 'a-z0-9_ \n-' | tr ' ' '-'
+}
+
+# Whether a link of a page leads somewhere.
+leads_somewhere() {
+    local to=$1/${2%%#*}
+    [[ $2 != '#'* ]] || to=$3
+    [[ -e $to ]] && { [[ $2 != *'#'* ]] || headings_of "$to" | awk -v wanted="${2#*#}" '$0 == wanted { found = 1 } END { exit !found }'; }
+}
+
+for file in "$here"/README.md "$here/docs"/*.md; do
     page=${file#"$here"/}
     each_part plays "$page, table" < <(tables_of "$file" '| Call | Prints |')
     each_part bad_lines "$page, bad lines" < <(tables_of "$file" '| Line | Column |')
@@ -103,4 +115,7 @@ for file in "$here"/README.md "$here"/docs/*.md; do
     [[ -z $examples ]] || plays "$page, examples" "$examples"
     unmarked=$(awk '/^```/ { inside = !inside; if (inside && $0 !~ /^```(console|history|text|sh)$/) print NR }' "$file")
     try "$page: each block is marked" 0 '' '' test -z "$unmarked"
+    while IFS= read -r link; do
+        try "$page: the link $link" 0 '' '' leads_somewhere "$(dirname "$file")" "$link" "$file"
+    done < <(awk '{ while (match($0, /\]\([^)]*\)/)) { print substr($0, RSTART + 2, RLENGTH - 3); $0 = substr($0, RSTART + RLENGTH) } }' "$file" | awk '!/^https?:/ && !seen[$0]++')
 done

@@ -75,7 +75,7 @@ shows trace '1 column 10' $'w1 attach -> attached 0\n' 'an answer stands here, a
 shows trace '1 column 4' $'w1  attach\n' 'a space too many'
 shows trace '1 column 10' $'w1 attach \n' 'a space too many'
 shows trace '1 column 1' $' w1 attach\n' 'a space in front of the line'
-shows trace '1 column 1' $'W1 attach\n' 'words are in small letters'
+shows trace '1 column 1' $'C1 take\n' 'words are in small letters'
 shows trace '1 column 12' $'c1 submit 01\n' 'a number has no leading zeros'
 shows trace '1 column 10' $'c1 submit\n' 'the line ends here, and something is missing'
 shows trace '1 column 4' $'w1 \xc3\xa4\n' 'a byte that is not ASCII'
