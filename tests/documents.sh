@@ -104,6 +104,10 @@ leads_somewhere() {
     [[ -e $to ]] && { [[ $2 != *'#'* ]] || headings_of "$to" | awk -v wanted="${2#*#}" '$0 == wanted { found = 1 } END { exit !found }'; }
 }
 
+# The table of the README is the example that it names.
+table_is_example() { diff <(tables_of "$here/README.md" '| Call | Prints |' | sed -n '/^--$/q;s/\t.*//p') "$here/examples/pools.trace"; }
+try 'the table of the README is examples/pools.trace' 0 '' '' table_is_example
+
 for file in "$here"/README.md "$here/docs"/*.md; do
     page=${file#"$here"/}
     each_part plays "$page, table" < <(tables_of "$file" '| Call | Prints |')

@@ -37,8 +37,16 @@ try 'nothing can be written of a verdict' 2 '' $'tpool: bad line 1 column 1\n' t
 try 'nobody reads' 4 '' $'tpool: write fault\n' into_closed_pipe "$program" trace
 try 'no line of a fault can be written' 1 '' '' errors_to /dev/full "$program"
 
-too_long() { yes 'w1 take' | head -c 16777217 | "$program" trace; }
-longest() { yes 'w1 attach' | head -c 16777210 | "$program" trace | cksum; }
+without_output() { "$@" >&-; }
+without_errors() { "$@" 2>&-; }
+try 'standard input is closed' 3 '' $'tpool: read fault\n' without_input "$program" trace
+try 'standard output is closed' 4 '' $'tpool: write fault\n' without_output "$program" trace
+try 'standard error is closed' 1 '' '' without_errors "$program"
+
+takes() { yes 'w1 take' | head -c "$1"; }
+too_long() { takes 16777217 | "$program" trace; }
+longest() { takes 16777216 | "$program" trace | wc -l; }
+short_of_memory() { takes 16000000 | (ulimit -v 20000 && "$program" trace); }
 try 'an input that is too long' 6 '' $'tpool: input too long\n' too_long
-little_memory() { (ulimit -v "$1" && "${@:2}"); }
-try 'memory is refused' 5 '' $'tpool: want of memory\n' little_memory 20000 "$program" trace
+try 'the longest input' 0 $'2097152\n' '' longest
+try 'memory is refused' 5 '' $'tpool: want of memory\n' short_of_memory

@@ -9,7 +9,7 @@ answers=$'made 1\nqueued 1 1\nattached 0\ntaken 1 o1 r1 x7 plain\nreturned - - -
 # A folder with the commands that the script uses, and without rt.
 tools=$room/tools
 mkdir "$tools"
-for tool in bash env cat head tail tr cut sed awk od find mktemp rm readlink dirname date touch nproc tee git sleep cp mkdir; do
+for tool in bash env cat head tail tr cut sed awk od find mktemp rm readlink dirname date touch nproc tee git sleep cp mkdir wc; do
     ! path=$(type -P "$tool") || ln -s "$path" "$tools/$tool"
 done
 without_rt() { PATH=$tools "$@"; }
@@ -118,4 +118,4 @@ try 'help that can not be written' 4 '' '~*' to /dev/full "$tpool" help
 full_history() { yes 'c1 create-pool' | head -n 70000 | "$tpool" history | tee "$room/full" | "$tpool" check && tail -n 1 "$room/full"; }
 try 'the history of a trace that fills it is legal' 0 $'legal 65535\nend 65535\n' '' full_history
 pools_history() { "$tpool" history "$here/examples/pools.trace" | "$tpool" check; }
-try 'the history of the pools is legal' 0 $'legal 17\n' '' pools_history
+try 'the history of the pools is legal' 0 $'legal 18\n' '' pools_history
