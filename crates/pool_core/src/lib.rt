@@ -10,6 +10,15 @@
 //! Each call is two functions: one that only reads and finds the first refusal that applies, and one
 //! that does what the call does. The indexes and counters (queues, tallies, entries owed) change in
 //! `moves` alone.
+//!
+//! ```text
+//! let mut engine = Engine::open(alloc, limits)?;         // of one client
+//! engine.owed()                                          // 1: the client has to finish
+//! engine.step(Who::Client(1), Call::CreatePool, 100)     // Done(Made { number: 1 })
+//! engine.step(Who::Worker(1), Call::Take, 100)           // Done(Refused(NotAttached))
+//! engine.step(Who::Worker(1), Call::Attach, 100)         // Look(NoNeed)
+//! engine.age()                                           // 1: one call was accepted
+//! ```
 
 #![tactic(auto)]
 
