@@ -78,12 +78,12 @@ is_legal() {
     try "$1" 0 '~legal *' '' "$program" check
 }
 
-# Each row of a table of bad lines. A line that is shown cut, or told in words, can't be run.
+# Each row of a table of bad lines: the line, its beginning and ` ..`, or words for it.
 bad_lines() {
     local line column
     while IFS=$'\t' read -r line column; do
         case $line in
-        *' ..') continue ;;
+        *' ..') input=${line% ..}$'\n' ;;
         'an empty line') input=$'\n' ;;
         *'` and no LF') input=${line%%\`*} ;;
         *) input=$line$'\n' ;;
@@ -107,6 +107,9 @@ leads_somewhere() {
 # The table of the README is the example that it names.
 table_is_example() { diff <(tables_of "$here/README.md" '| Call | Prints |' | sed -n '/^--$/q;s/\t.*//p') "$here/examples/pools.trace"; }
 try 'the table of the README is examples/pools.trace' 0 '' '' table_is_example
+
+names_kit() { awk -v kit="$(sed -n "s/^kit='\(.*\)'/\1/p" "$tpool")" 'index($0, kit) { found = 1 } END { exit !found }' "$here/README.md"; }
+try 'the README names the kit of the script' 0 '' '' names_kit
 
 for file in "$here"/README.md "$here/docs"/*.md; do
     page=${file#"$here"/}

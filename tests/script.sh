@@ -63,6 +63,7 @@ shows() {
 end=$'history 1 clients 1 workers 1 events 16\n'
 shows trace '1 column 10' $'w1 attach\r\n' 'a carriage return: lines end in LF alone, and not in CR LF'
 shows trace '1 column 10' 'w1 attach' 'the input ends here: the line feed is missing, or more'
+shows check '2 column 5' "$end"$'end 1\n' 'the end line has the number of the entries'
 shows check '2 column 1' "$end" 'the input ends here, and one more line is missing'
 shows trace '1 column 1' $'\xef\xbb\xbfw1 attach\n' 'a byte order mark, it seems: the lines are plain ASCII'
 shows trace '1 column 3' $'w1\tattach\n' 'a tab: one space stands between two words'
