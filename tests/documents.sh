@@ -111,6 +111,12 @@ try 'the table of the README is examples/pools.trace' 0 '' '' table_is_example
 names_kit() { awk -v kit="$(sed -n "s/^kit='\(.*\)'/\1/p" "$tpool")" 'index($0, kit) { found = 1 } END { exit !found }' "$here/README.md"; }
 try 'the README names the kit of the script' 0 '' '' names_kit
 
+# Whether each file that a path with braces stands for is there. It has letters and the like alone.
+stands_there() {
+    local paths
+    [[ $1 =~ ^[a-zA-Z0-9_./{},-]+$ ]] && eval "paths=($1)" && inside "$here" ls -d "${paths[@]}"
+}
+
 for file in "$here"/README.md "$here/docs"/*.md; do
     page=${file#"$here"/}
     each_part plays "$page, table" < <(tables_of "$file" '| Call | Prints |')
@@ -125,4 +131,7 @@ for file in "$here"/README.md "$here/docs"/*.md; do
     while IFS= read -r link; do
         try "$page: the link $link" 0 '' '' leads_somewhere "$(dirname "$file")" "$link" "$file"
     done < <(awk '{ while (match($0, /\]\([^)]*\)/)) { print substr($0, RSTART + 2, RLENGTH - 3); $0 = substr($0, RSTART + RLENGTH) } }' "$file" | awk '!/^https?:/ && !seen[$0]++')
+    while IFS= read -r path; do
+        try "$page: the path $path" 0 '~*' '' stands_there "$path"
+    done < <(awk '{ while (match($0, /`(crates|docs|examples|tests)\/[^` ]*`/)) { print substr($0, RSTART + 1, RLENGTH - 2); $0 = substr($0, RSTART + RLENGTH) } }' "$file" | awk '!seen[$0]++')
 done
