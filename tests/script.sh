@@ -115,6 +115,12 @@ for command in trace show history; do
     try "nothing can be written: $command" 4 '' $'tpool: write fault\n' to /dev/full "$tpool" "$command"
     try "nobody reads: $command" 4 '' $'tpool: write fault\n' into_closed_pipe "$tpool" "$command"
 done
+for command in trace show history help; do
+    try "standard output is closed: $command" 4 '' '~*' without_output "$tpool" "$command"
+    [[ $command == help ]] || try "standard input is closed: $command" 3 '' $'tpool: read fault\n' without_input "$tpool" "$command"
+done
+try 'standard error is closed' 0 "$answers" '' without_errors "$tpool" trace "$trace"
+try 'standard error is closed, and there is no such file' 3 '' '' without_errors "$tpool" trace "$room/none"
 try 'help that can not be written' 4 '' '~*' to /dev/full "$tpool" help
 full_history() { yes 'c1 create-pool' | head -n 70000 | "$tpool" history | tee "$room/full" | "$tpool" check && tail -n 1 "$room/full"; }
 try 'the history of a trace that fills it is legal' 0 $'legal 65535\nend 65535\n' '' full_history
