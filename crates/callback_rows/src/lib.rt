@@ -6,15 +6,6 @@
 //! `after` the row that follows a number, so that a caller goes along the list by its numbers.
 //! The rows rise by number, so a number is found by halving. After `push` of the rows 2, 5 and 9 and
 //! `remove(2)`, `find(2)` is None, and `after(2)` is the row 5.
-//!
-//! ```text
-//! let mut live = CallbackRows::open(alloc, 8)?;
-//! live.push(two);          // a row of number 2
-//! live.push(five);         // a row of number 5
-//! live.remove(2)           // true
-//! live.find(2)             // None
-//! live.after(2)            // Some(five)
-//! ```
 
 #![tactic(auto)]
 

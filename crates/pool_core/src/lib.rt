@@ -1,6 +1,15 @@
 //! The engine of the thread pool machine: it remembers of the world what can still matter, and
 //! answers each call as the machine does.
 //!
+//! ```text
+//! let mut engine = Engine::open(alloc, limits)?;         // of one client
+//! engine.owed()                                          // 1: the client has to finish
+//! engine.step(Who::Client(1), Call::CreatePool, 100)     // Done(Made { number: 1 })
+//! engine.step(Who::Worker(1), Call::Take, 100)           // Done(Refused(NotAttached))
+//! engine.step(Who::Worker(1), Call::Attach, 100)         // Look(NoNeed)
+//! engine.age()                                           // 1: one call was accepted
+//! ```
+//!
 //! `open` takes all memory; `step` makes a call of an actor; `owed` is the number of entries for
 //! which the history must keep room; `age` is the number of steps that were accepted. What an
 //! engine remembers is a world without the callbacks that are over (`Remembered` of `tp_model`):
@@ -10,15 +19,6 @@
 //! Each call is two functions: one that only reads and finds the first refusal that applies, and one
 //! that does what the call does. The indexes and counters (queues, tallies, entries owed) change in
 //! `moves` alone.
-//!
-//! ```text
-//! let mut engine = Engine::open(alloc, limits)?;         // of one client
-//! engine.owed()                                          // 1: the client has to finish
-//! engine.step(Who::Client(1), Call::CreatePool, 100)     // Done(Made { number: 1 })
-//! engine.step(Who::Worker(1), Call::Take, 100)           // Done(Refused(NotAttached))
-//! engine.step(Who::Worker(1), Call::Attach, 100)         // Look(NoNeed)
-//! engine.age()                                           // 1: one call was accepted
-//! ```
 
 #![tactic(auto)]
 
