@@ -1,7 +1,7 @@
 -- Rising numbers: where a number belongs, and what is left without it.
 use Rattle.std.proofs.Common.{◌≡◌, ◌≢◌, ℕ, suc, ◌+◌, ◌-◌, ◌<◌, ◌≤◌, ◌==◌, Bool, true, false, not, nat_lt, List, ◌∷◌, ◌++◌, length, take, drop, get_or, filter, refl, sym, ap, subst, ◌∙◌, arith, ⊎_elim, Result, Ok, Err, OnOk, OnErr, Option, Some, None, OnSome, IsSome}
 use Rattle.std.specs.List.{All, insert, remove}
-use Rattle.std.specs.List.Sorted.{IsStrictlyIncreasing, IsBinarySearchResult}
+use Rattle.std.specs.List.Sorted.{IsStrictlyIncreasing, IsNonDecreasing, IsBinarySearchResult}
 use Rattle.std.specs.Ordering.{nat_cmp}
 use Rattle.std.proofs.lemmas.List.Sorted.{searched}
 use Rattle.std.proofs.Math.Seq.{drop-cons}
@@ -30,6 +30,10 @@ rises_or_same xs rises i j le within =
     (λ same. omega (arith, ap (λ k. get_or xs k 0) same))
     (λ apart. omega (arith, rises_along xs rises i j (omega arith) within))
     (cases_eq i j)
+
+pub never_fall : (xs : List ℕ) → IsStrictlyIncreasing xs → IsNonDecreasing xs
+never_fall xs rises i j d le within =
+    omega (arith, rises_or_same xs rises i j le within, get_or_default xs i d 0 (omega arith), get_or_default xs j d 0 within)
 
 -- what is true of the first elements, and of the elements from a place on
 all_of_front : (P : ℕ → Type 0) (xs : List ℕ) (place : ℕ) → place ≤ length xs → ((k : ℕ) → k < place → P (get_or xs k 0)) → All P (take place xs)
@@ -118,16 +122,15 @@ absent_from number xs free k lt same =
     let there : contains_number number xs ≡ true = list_any_at (λ n. n == number) xs k 0 lt (eq-eqb _ _ same) in
     cc
 
--- the place that a walk from the back stops at
-pub splits : (number : ℕ) (xs : List ℕ) (place : ℕ) → IsStrictlyIncreasing xs → contains_number number xs ≡ false → place ≤ length xs → ((k : ℕ) → place ≤ k → k < length xs → number < get_or xs k 0) → (0 < place → get_or xs (place - 1) 0 ≤ number) → SplitsAt number xs place
-splits number xs place rises free within above last = record {
+-- the place where the numbers below this one end
+pub splits : (number : ℕ) (xs : List ℕ) (place : ℕ) → contains_number number xs ≡ false → place ≤ length xs → ((k : ℕ) → k < place → get_or xs k 0 < number) → ((k : ℕ) → place ≤ k → k < length xs → number ≤ get_or xs k 0) → SplitsAt number xs place
+splits number xs place free within below not_below = record {
   within = within;
-  below = λ k lt.
-      let up = rises_or_same xs rises k (place - 1) (omega arith) (omega arith) in
-      let edge = last (omega arith) in
-      let apart = absent_from number xs free k (omega arith) in
+  below = below;
+  above = λ k le lt.
+      let apart = absent_from number xs free k lt in
+      let edge = not_below k le lt in
       ⊎_elim (λ same. absurd (apart same)) (λ other. omega arith) (cases_eq (get_or xs k 0) number);
-  above = above;
 }
 
 -- what fails only where it is full succeeds where there is room

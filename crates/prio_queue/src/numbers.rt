@@ -1,22 +1,19 @@
 //! Rising numbers in a queue.
-ghost use Rattle.std.specs.Prelude.{◌≡◌, ℕ, ◌+◌, ◌-◌, ◌<◌, ◌≤◌, false, length, slice_index};
+ghost use Rattle.std.specs.Prelude.{◌≡◌, ℕ, ◌+◌, ◌<◌, ◌≤◌, false, length, slice_index};
 ghost use Rattle.std.specs.VecDeque.{deque_len, deque_capacity};
 ghost use Rattle.std.specs.List.Sorted.{IsStrictlyIncreasing};
 ghost use Rattle.prio_queue.specs.Line.{with_number, contains_number, all_but};
 
 use std::collections::VecDeque;
 
-/// How many of the numbers are not above this one, counted from the back.
+/// How many of the numbers are below this one, found by halving.
 fn place_of(queue: &VecDeque<u64>, number: u64) -> usize
+    requires { IsStrictlyIncreasing queue.now.items }
     ensures within { result ≤ length queue.now.items }
-    ensures above { (k : ℕ) → result ≤ k → k < length queue.now.items → number < slice_index queue.now.items k }
-    ensures not_above { 0 < result → slice_index queue.now.items (result - 1) ≤ number }
+    ensures below { (k : ℕ) → k < result → slice_index queue.now.items k < number }
+    ensures not_below { (k : ℕ) → result ≤ k → k < length queue.now.items → number ≤ slice_index queue.now.items k }
 {
-    let mut place = queue.len();
-    while place > 0 && number < queue[place - 1] {
-        place -= 1;
-    }
-    place
+    queue.partition_point(|held| *held < number)
 }
 
 /// Puts the number in its place, for which there is room.

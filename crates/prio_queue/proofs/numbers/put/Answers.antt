@@ -7,7 +7,7 @@ is_inserted : (c : goal.After-insert) → c.insert.new.self.items ≡ insert c.a
 is_inserted c = since_room _ _ _ _ c.insert.ensures.items c.insert.ensures.full c.requires.room
 
 its_place : (c : goal.After-insert) → SplitsAt c.args.number c.args.queue.now.items c.place_of-place.result
-its_place c = splits _ _ _ c.requires.rises c.requires.free c.place_of-place.ensures.within c.place_of-place.ensures.above c.place_of-place.ensures.not_above
+its_place c = splits _ _ _ c.requires.free c.place_of-place.ensures.within c.place_of-place.ensures.below c.place_of-place.ensures.not_below
 
 pub returns-clause-items : goal.returns-clause-items
 returns-clause-items c = is_inserted c ∙ inserted _ _ _ (its_place c)
