@@ -20,7 +20,6 @@
 ghost use Rattle.std.specs.Prelude.{◌≡◌, ◌<◌, [], length, replicate, IfOk};
 ghost use Rattle.prio_queue.specs.Pending.{entry, queue_of, with_queue, held, has_number, IsFree, with_entry, without_number, first_number, IsInOrder};
 
-mod numbers;
 mod pool_queue;
 
 use pool_queue::PoolQueue;

@@ -1,7 +1,8 @@
 -- Rising numbers: where a number belongs, and what is left without it.
-use Rattle.std.proofs.Common.{◌≡◌, ◌≢◌, ℕ, suc, ◌+◌, ◌-◌, ◌<◌, ◌≤◌, ◌==◌, Bool, true, false, not, nat_lt, List, ◌∷◌, ◌++◌, length, take, drop, get_or, filter, refl, sym, ap, subst, ◌∙◌, arith, ⊎_elim, Result, Ok, Err, OnOk, OnErr, Option, Some, None, OnSome, IsSome}
-use Rattle.std.specs.List.{All, insert, remove}
-use Rattle.std.specs.List.Sorted.{IsStrictlyIncreasing, IsNonDecreasing, IsBinarySearchResult}
+use Rattle.std.proofs.Common.{◌≡◌, ◌≢◌, ℕ, suc, ◌+◌, ◌-◌, ◌<◌, ◌≤◌, ◌==◌, Bool, true, false, not, nat_lt, List, ◌∷◌, ◌++◌, length, take, drop, get_or, filter, refl, sym, ap, subst, ◌∙◌, arith, ⊎_elim, Result, Ok, Err, OnOk, OnErr, Option, Some, None, OnSome, IsSome, [], zero}
+use Rattle.std.specs.Prelude.{find, is_ok}
+use Rattle.std.specs.List.{All, insert, remove, slice_get}
+use Rattle.std.specs.List.Sorted.{IsStrictlyIncreasing, IsNonDecreasing, IsBinarySearchResult, IsPartitionPoint}
 use Rattle.std.specs.Ordering.{nat_cmp}
 use Rattle.std.proofs.lemmas.List.Sorted.{searched}
 use Rattle.std.proofs.Math.Seq.{drop-cons}
@@ -10,9 +11,10 @@ use Rattle.std.proofs.lemmas.List.Elements.{filter-append}
 use Rattle.std.proofs.lemmas.List.Edits.{length-insert, get_or-insert_below, get_or-insert_at, get_or-insert_above}
 use Rattle.std.proofs.lemmas.List.Folds.{list_any_none, list_any_at}
 use Rattle.std.proofs.lemmas.List.Kept.{AllPairs-from_increasing}
+use Rattle.std.proofs.lemmas.Bool.Decides.{nat_tests}
 use Rattle.std.proofs.lemmas.Bool.{cases_order, cases_lt, cases_eq, lt-ltb, le-ltb, ne_eqb, eq-eqb}
-use Rattle.prio_queue.specs.Line.{with_number, contains_number, all_but}
-use Rattle.prio_queue.proofs.Filters.{filter_keeps, filter_drops}
+use Rattle.rising_numbers.specs.Rising.{with_number, contains_number, all_but}
+use Rattle.rising_numbers.proofs.Filters.{filter_keeps, filter_drops}
 
 -- the numbers below `place` are below this one, and the others are above it
 pub record SplitsAt (number : ℕ) (numbers : List ℕ) (place : ℕ) : Type 0 where
@@ -123,13 +125,13 @@ absent_from number xs free k lt same =
     cc
 
 -- the place where the numbers below this one end
-pub splits : (number : ℕ) (xs : List ℕ) (place : ℕ) → contains_number number xs ≡ false → place ≤ length xs → ((k : ℕ) → k < place → get_or xs k 0 < number) → ((k : ℕ) → place ≤ k → k < length xs → number ≤ get_or xs k 0) → SplitsAt number xs place
-splits number xs place free within below not_below = record {
+pub splits : (number : ℕ) (xs : List ℕ) (place : ℕ) → contains_number number xs ≡ false → place ≤ length xs → IsPartitionPoint (λ n. n < number) (λ n. number ≤ n) xs place → SplitsAt number xs place
+splits number xs place free within parted = record {
   within = within;
-  below = below;
+  below = λ k lt. parted.0 k 0 (omega arith) lt;
   above = λ k le lt.
       let apart = absent_from number xs free k lt in
-      let edge = not_below k le lt in
+      let edge = parted.1 k 0 le lt in
       ⊎_elim (λ same. absurd (apart same)) (λ other. omega arith) (cases_eq (get_or xs k 0) number);
 }
 
@@ -154,3 +156,19 @@ search_absent number xs place rises h k d lt same =
     (λ below. omega (arith, parts.1 k below))
     (λ above. omega (arith, parts.2 k above lt))
     (cases_lt k place)
+
+-- whether a number is there is whether it is found
+pub is_found : (number : ℕ) (xs : List ℕ) (r : Result ℕ ℕ) → IsStrictlyIncreasing xs → IsBinarySearchResult (λ y. nat_cmp y number) xs r → is_ok r ≡ contains_number number xs
+is_found number xs (Ok place) rises h =
+    let at = search_found number xs place rises h in
+    sym (list_any_at (λ n. n == number) xs place 0 at.0 (eq-eqb _ _ at.1))
+is_found number xs (Err place) rises h = sym (absent_not_found number xs (search_absent number xs place rises h))
+
+-- the first number above this one stands where the numbers up to it end
+pub find_above : (number : ℕ) (xs : List ℕ) (place : ℕ) → place ≤ length xs → IsPartitionPoint (λ n. n ≤ number) (λ n. number < n) xs place → find (λ n. nat_lt number n) xs ≡ slice_get xs place
+find_above number [] place within parted = refl
+find_above number (x ∷ xs) zero within parted = grind (arith, nat_tests, parted.1 0 x (omega arith) (omega arith))
+find_above number (x ∷ xs) (suc place) within parted =
+    let rest : find (λ n. nat_lt number n) xs ≡ slice_get xs place =
+    find_above number xs place (omega arith) (λ k d le lt. parted.0 (suc k) d (omega arith) (omega arith), λ k d le lt. parted.1 (suc k) d (omega arith) (omega arith)) in
+    grind (arith, nat_tests, parted.0 0 x (omega arith) (omega arith))
