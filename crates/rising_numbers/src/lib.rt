@@ -1,7 +1,7 @@
 //! Distinct numbers in rising order, seen as the list of them and how many there is room for.
 //!
 //! `open` takes the memory, and no other call takes any. `push` appends a number that is above all
-//! others, `put` puts one in its place among them, and `take_out` takes one out; `first`, `after`
+//! others, `put` puts one in its place among them, and `take_out` takes one out; `first`, `get`, `after`
 //! and `contains` read. A number is found by halving. `put` and `take_out` then move the numbers
 //! before its place or those behind it, whichever are fewer: none at either end of the list.
 //!
@@ -18,6 +18,7 @@
 #![tactic(auto)]
 
 ghost use Rattle.std.specs.Prelude.{◌≡◌, ◌+◌, ◌<◌, ◌≤◌, [], ◌∷◌, ◌++◌, All, IfOk, false, find, length, nat_lt, slice_get};
+ghost use Rattle.std.specs.Bool.{OnTrue};
 ghost use Rattle.std.specs.List.Sorted.{IsStrictlyIncreasing};
 ghost use Rattle.rising_numbers.specs.Rising.{all_but, contains_number, with_number};
 
@@ -83,6 +84,13 @@ impl RisingNumbers {
         self.numbers.front().copied()
     }
 
+    /// The number at this place, counted from 0 at the least, or None past the greatest.
+    pub fn get(&self, place: u32) -> Option<u64>
+        ensures { result ≡ slice_get self.now.numbers place }
+    {
+        self.numbers.get(place as usize).copied()
+    }
+
     /// The least number above this one, or None where there is none.
     pub fn after(&self, number: u64) -> Option<u64>
         ensures { result ≡ find (λ n. nat_lt number n) self.now.numbers }
@@ -116,6 +124,7 @@ impl RisingNumbers {
         ensures found { result ≡ contains_number number self.old.numbers }
         ensures after { self.new ≡ record self.old { numbers = all_but number self.old.numbers } }
         ensures len { length self.new.numbers ≤ length self.old.numbers }
+        ensures one_fewer { OnTrue result (length self.new.numbers + 1 ≡ length self.old.numbers) }
     {
         match self.numbers.binary_search(&number) {
             Ok(place) => {
@@ -154,7 +163,10 @@ mod tests {
         assert!(rt; numbers.take_out(4));
         assert!(rt; !numbers.take_out(4));
         assert_eq!(rt; (numbers.contains(4), numbers.contains(7)), (false, true));
-        assert_eq!(rt; numbers.first(), Some(7));
+        assert_eq!(rt;
+            (numbers.first(), numbers.get(1), numbers.get(2)),
+            (Some(7), Some(9), None)
+        );
         numbers.clear();
         assert_eq!(rt; (numbers.len(), numbers.first()), (0, None));
         Ok(())

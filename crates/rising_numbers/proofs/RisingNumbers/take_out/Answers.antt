@@ -24,3 +24,8 @@ pub returns-in-Ok-clause-len : goal.returns-in-Ok-clause-len
 returns-in-Ok-clause-len c =
     let fewer = since_some _ _ c.remove.ensures.len (c.remove.ensures.variant.1 c.in-Ok.ensures.bound) in
     rw (← c.self.view_is) (omega (arith, fewer))
+
+pub returns-in-Ok-clause-one_fewer : goal.returns-in-Ok-clause-one_fewer
+returns-in-Ok-clause-one_fewer c =
+    let fewer = since_some _ _ c.remove.ensures.len (c.remove.ensures.variant.1 c.in-Ok.ensures.bound) in
+    rw (← c.self.view_is) (omega (arith, fewer))
