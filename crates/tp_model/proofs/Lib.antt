@@ -1,14 +1,1 @@
-pub mod Callbacks
-pub mod Costs
-pub mod Entries
-pub mod Examples
-pub mod Forgetting
-pub mod LawExamples
-pub mod Laws
-pub mod Lists
-pub mod Maximum
-pub mod Moving
-pub mod Once
-pub mod Refusals
-pub mod Soundness
-pub mod Steps
+

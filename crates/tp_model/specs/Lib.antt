@@ -1,10 +1,12 @@
+pub mod Allowed
+pub mod Calls
+pub mod Changes
 pub mod Conditions
 pub mod Counts
 pub mod History
 pub mod Laws
-pub mod Moves
+pub mod Refusing
 pub mod Remembered
-pub mod Rows
 pub mod Sound
 pub mod Step
 pub mod Table
