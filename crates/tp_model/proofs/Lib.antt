@@ -1,1 +1,6 @@
-
+pub mod Callbacks
+pub mod Costs
+pub mod Growing
+pub mod Lists
+pub mod Preserving
+pub mod Refusals

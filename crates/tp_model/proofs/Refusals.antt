@@ -1,0 +1,48 @@
+-- What is known of a call that meets no refusal.
+use Rattle.std.proofs.Common.{◌≡◌, ℕ, suc, zero, ◌-◌, ◌<◌, ◌≤◌, Bool, true, false, cond, not, ◌&&◌, ◌||◌, ◌==◌, List, [], ◌∷◌, length, slice_get, Option, Some, None, is_some, refl, sym, ap, ◌∙◌, arith, ne_eqb}
+use Rattle.std.proofs.lemmas.Option.{slice_get_within}
+use Rattle.tp_base.specs.declared.answers.Refusal.{Refusal}
+use Rattle.tp_model.specs.Counts.{numbered}
+use Rattle.tp_model.specs.Refusing.{first_refusal}
+
+pub false_true : false ≡ true → ⊥
+false_true e = cc
+
+-- none of the conditions holds
+abbrev pub NoneHolds : List (Bool × Refusal) → Type 0
+NoneHolds [] = Unit {0}
+NoneHolds (r ∷ rs) = (r.0 ≡ false) × NoneHolds rs
+
+pub none_holds : (refusals : List (Bool × Refusal)) → first_refusal refusals ≡ None → NoneHolds refusals
+none_holds [] e = tt
+none_holds (r ∷ rs) e =
+    elim r.0 as (λ b. cond b (Some r.1) (first_refusal rs) ≡ None → (b ≡ false) × NoneHolds rs) [
+      | true ↦ λ h. absurd cc
+      | false ↦ λ h. (refl, none_holds rs h)
+    ] e
+
+pub neither : (a b : Bool) → (a || b) ≡ false → (a ≡ false) × (b ≡ false)
+neither true b e = absurd cc
+neither false b e = (refl, e)
+
+pub not_false : (b : Bool) → not b ≡ false → b ≡ true
+not_false true e = refl
+not_false false e = cc
+
+pub both : (a b : Bool) → (a && b) ≡ true → (a ≡ true) × (b ≡ true)
+both true b e = (refl, e)
+both false b e = absurd cc
+
+pub made : {X : Type 0} (xs : List X) (i : ℕ) → is_some (slice_get xs i) ≡ true → i < length xs
+made xs i e = known (slice_get xs i) refl e
+  where
+    known : (o : Option _) → slice_get xs i ≡ o → is_some o ≡ true → i < length xs
+    known None is e = absurd (false_true e)
+    known (Some x) is e = slice_get_within xs i x is
+
+-- a numbered row stands one place below its number
+pub numbered_some : {X : Type 0} (rows : List X) (number : ℕ) (row : X) → numbered rows number ≡ Some row → (slice_get rows (number - 1) ≡ Some row) × (1 ≤ number)
+numbered_some rows zero row e = absurd cc
+numbered_some rows (suc number) row e =
+    let above : (suc number == 0) ≡ false = ne_eqb (suc number) 0 (λ h. omega (arith, h)) in
+    (sym (ap (λ b. cond b None (slice_get rows (suc number - 1))) above) ∙ e, omega arith)
