@@ -7,6 +7,7 @@ pub mod History
 pub mod Laws
 pub mod Refusing
 pub mod Remembered
+pub mod Safe
 pub mod Sound
 pub mod Step
 pub mod Table

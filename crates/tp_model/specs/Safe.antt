@@ -1,0 +1,20 @@
+-- What is known of the plan of a call: its change is allowed, and made by the actor, and its answer is none of a refusal.
+use Rattle.std.specs.Prelude.{◌≡◌, ℕ, false}
+use Rattle.tp_base.specs.declared.ids.Who.{Who}
+use Rattle.tp_base.specs.declared.answers.Answer.{Answer}
+use Rattle.tp_base.specs.declared.plans.Change.{Change}
+use Rattle.tp_base.specs.declared.plans.Plan.{Plan}
+use Rattle.tp_base.specs.declared.plans.Plan.TheVariants.{Refused, Looked, Does}
+use Rattle.tp_model.specs.World.{World}
+use Rattle.tp_model.specs.History.{is_refusal}
+use Rattle.tp_model.specs.Allowed.{IsAllowed, IsMadeBy}
+
+pub record IsSafeChange (fresh : ℕ) (w : World) (who : Who) (answer : Answer) (ch : Change) : Type 0 where
+  pub allowed : IsAllowed fresh w ch
+  pub made_by : IsMadeBy who ch
+  pub accepted : is_refusal answer ≡ false
+
+abbrev pub IsSafe : ℕ → World → Who → Plan → Type 0
+IsSafe fresh w who (Refused refusal) = Unit {0}
+IsSafe fresh w who (Looked look) = Unit {0}
+IsSafe fresh w who (Does answer ch) = IsSafeChange fresh w who answer ch
