@@ -1,8 +1,11 @@
 pub mod Actors
 pub mod Callbacks
 pub mod Costs
+pub mod Forgetting
 pub mod Growing
 pub mod Lists
+pub mod Meeting
 pub mod Planning
 pub mod Preserving
 pub mod Refusals
+pub mod Steps

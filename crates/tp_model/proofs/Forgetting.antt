@@ -1,0 +1,225 @@
+-- A world without the callbacks that are over has the same plan for every call, and each change leaves of it what it leaves of the whole one.
+use Rattle.std.proofs.Common.{◌≡◌, ℕ, ◌+◌, ◌-◌, ◌<◌, ◌≤◌, Bool, true, false, cond, not, ◌&&◌, ◌||◌, ◌==◌, List, [], ◌∷◌, ◌++◌, length, slice_get, Option, Some, None, is_some, option_map, nat_lt, nat_le, refl, sym, ap, ap₂, ◌∙◌, subst, arith, filter, find, eqb-true}
+use Rattle.std.specs.List.{range_with_len, list_any}
+use Rattle.std.specs.Option.{option_or}
+use Rattle.std.proofs.lemmas.List.Elements.{filter-append}
+use Rattle.tp_base.specs.declared.ids.Who.{Who}
+use Rattle.tp_base.specs.declared.ids.Who.TheVariants.{Client, Worker}
+use Rattle.tp_base.specs.declared.ids.PoolId.{PoolId}
+use Rattle.tp_base.specs.declared.ids.ObjectId.{ObjectId}
+use Rattle.tp_base.specs.declared.calls.Call.{Call}
+use Rattle.tp_base.specs.declared.calls.Call.TheVariants.{CreatePool, ClosePool, SetMaximum, SetMinimum, Create, SubmitWork, Attach, Detach, Take, Return, MayRunLong, Finish}
+use Rattle.tp_base.specs.declared.calls.Priority.{Priority}
+use Rattle.tp_base.specs.declared.answers.Answer.TheVariants as answer
+use Rattle.tp_base.specs.declared.answers.Look.TheVariants as look
+use Rattle.tp_base.specs.declared.plans.Idle.{Idle}
+use Rattle.tp_base.specs.declared.plans.Busy.{Busy}
+use Rattle.tp_base.specs.declared.plans.Mark.{Mark}
+use Rattle.tp_base.specs.declared.plans.Mark.TheVariants.{Long}
+use Rattle.tp_base.specs.declared.plans.PoolChange.{PoolChange}
+use Rattle.tp_base.specs.declared.plans.PoolChange.TheVariants.{Close}
+use Rattle.tp_base.specs.declared.plans.Change.{Change}
+use Rattle.tp_base.specs.declared.plans.Change.TheVariants as change
+use Rattle.tp_base.specs.declared.plans.Plan.TheVariants as plan
+use Rattle.tp_base.specs.declared.rows.PoolRow.{PoolRow}
+use Rattle.tp_base.specs.declared.rows.ObjectRow.{ObjectRow}
+use Rattle.tp_base.specs.declared.rows.CallbackRow.{CallbackRow}
+use Rattle.tp_base.specs.declared.rows.WorkerRow.{WorkerRow}
+use Rattle.tp_model.specs.World.{World, unattached}
+use Rattle.tp_model.specs.Counts.{numbered, callback_of, has_number, is_live, is_pending, is_running, is_pending_in, is_running_in, is_running_long_in, is_high, is_normal, is_low, waiting, queue, next, pending, running, running_long, maximum, minimum, attached, slots, owed, is_in_need, is_below_minimum}
+use Rattle.tp_model.specs.Conditions.{busy_row, busy_in, busy_of, idle_of}
+use Rattle.tp_model.specs.Refusing.{first_refusal, unless_refused}
+use Rattle.tp_model.specs.Changes.{with_new_pool, with_object, with_worker, with_client, change_pool, pool_after, with_pool, replaced, taken, marked, returned, finished, changed}
+use Rattle.tp_model.specs.Calls.Pools.{is_used, change_pool_plan, create_pool_plan, close_pool_plan, set_maximum_plan, set_minimum_plan}
+use Rattle.tp_model.specs.Calls.Objects.{create_plan}
+use Rattle.tp_model.specs.Calls.Work.{submit_work_refusals, submit, submit_work_plan}
+use Rattle.tp_model.specs.Calls.Workers.{attach_refusals, attach_to, attach_plan, pool_to_join, idle_refusals, another_in_need, may_leave, detach, detach_plan, take_callback, take, take_plan, return_refusals, return, return_plan}
+use Rattle.tp_model.specs.Calls.InCallback.{busy_refusals, may_run_long, may_run_long_plan}
+use Rattle.tp_model.specs.Calls.Clients.{finish_plan}
+use Rattle.tp_model.specs.Table.{plan_at}
+use Rattle.tp_model.specs.Sound.{IsSound, IsWorkerSound, AreWorkersSound, RunsOn}
+use Rattle.tp_model.specs.Allowed.{IsAllowed}
+use Rattle.tp_model.specs.Remembered.{lives, forget}
+use Rattle.tp_model.proofs.Lists.{any_filter, filter_filter, find_kept, find_agree, all_filter}
+use Rattle.tp_model.proofs.Callbacks.{over_not_pending, over_not_running, pending_lives, rising_filter, filter_replaced_out, filter_replaced_filter, found_all}
+use Rattle.tp_model.proofs.Preserving.{worker_at}
+use Rattle.tp_model.proofs.Refusals.{numbered_some}
+
+-- ---- counts
+
+live_again : (cs : List CallbackRow) → filter lives (filter lives cs) ≡ filter lives cs
+live_again cs = filter_filter lives lives (λ _ e. e) cs
+
+over_not_pending_in : (pool : ℕ) (c : CallbackRow) → lives c ≡ false → is_pending_in pool c ≡ false
+over_not_pending_in pool c e = ap (λ b. b && (c.pool.0 == pool)) (over_not_pending c.status e)
+
+over_not_running_in : (pool : ℕ) (c : CallbackRow) → lives c ≡ false → is_running_in pool c ≡ false
+over_not_running_in pool c e = ap (λ b. b && (c.pool.0 == pool)) (over_not_running c.status e)
+
+pub pending_forget : (w : World) (pool : ℕ) → pending (forget w) pool ≡ pending w pool
+pending_forget w pool = ap length (filter_filter (is_pending_in pool) lives (over_not_pending_in pool) w.callbacks)
+
+pub running_forget : (w : World) (pool : ℕ) → running (forget w) pool ≡ running w pool
+running_forget w pool = ap length (filter_filter (is_running_in pool) lives (over_not_running_in pool) w.callbacks)
+
+pub running_long_forget : (w : World) (pool : ℕ) → running_long (forget w) pool ≡ running_long w pool
+running_long_forget w pool = ap length (filter_filter (is_running_long_in pool) lives (λ c e. ap (λ b. b && c.long) (over_not_running_in pool c e)) w.callbacks)
+
+waiting_forget : (w : World) (pool : ℕ) (test : Priority → Bool) → waiting (forget w) pool test ≡ waiting w pool test
+waiting_forget w pool test = filter_filter (λ c. is_pending_in pool c && test c.priority) lives (λ c e. ap (λ b. b && test c.priority) (over_not_pending_in pool c e)) w.callbacks
+
+pub queue_forget : (w : World) (pool : ℕ) → queue (forget w) pool ≡ queue w pool
+queue_forget w pool =
+    ap₂ (λ hn l. hn ++ l) (ap₂ (λ h n. h ++ n) (waiting_forget w pool is_high) (waiting_forget w pool is_normal)) (waiting_forget w pool is_low)
+
+next_forget : (w : World) (pool : ℕ) → next (forget w) pool ≡ next w pool
+next_forget w pool = ap (λ q. slice_get q 0) (queue_forget w pool)
+
+slots_forget : (w : World) → slots (forget w) ≡ slots w
+slots_forget w = ap (λ cs. length cs + length w.armings) (live_again w.callbacks)
+
+pub owed_forget : (w : World) → owed (forget w) ≡ owed w
+owed_forget w =
+    let same : filter (λ (c : CallbackRow). is_running c.status) (filter lives w.callbacks) ≡ filter (λ (c : CallbackRow). is_running c.status) w.callbacks
+    = filter_filter (λ (c : CallbackRow). is_running c.status) lives (λ c e. over_not_running c.status e) w.callbacks in
+    rw same
+
+in_need_forget : (w : World) (pool : ℕ) → is_in_need (forget w) pool ≡ is_in_need w pool
+in_need_forget w pool = rw (filter_filter (is_pending_in pool) lives (over_not_pending_in pool) w.callbacks)
+
+below_minimum_forget : (w : World) (pool : ℕ) → is_below_minimum (forget w) pool ≡ is_below_minimum w pool
+below_minimum_forget w pool = rw (filter_filter (is_running_long_in pool) lives (λ c e. ap (λ b. b && c.long) (over_not_running_in pool c e)) w.callbacks)
+
+to_join_forget : (w : World) → pool_to_join (forget w) ≡ pool_to_join w
+to_join_forget w =
+    ap₂ option_or
+    (find_agree (is_in_need (forget w)) (is_in_need w) (in_need_forget w) (range_with_len 0 (length w.pools)))
+    (find_agree (is_below_minimum (forget w)) (is_below_minimum w) (below_minimum_forget w) (range_with_len 0 (length w.pools)))
+
+-- ---- what a forgotten world keeps
+
+worker_forget : (cs : List CallbackRow) (worker : ℕ) (pool : Option PoolId) (callback : Option ℕ) → IsWorkerSound cs worker pool callback → IsWorkerSound (filter lives cs) worker pool callback
+worker_forget cs worker pool None s = tt
+worker_forget cs worker None (Some number) s = s
+worker_forget cs worker (Some pool) (Some number) s =
+    record { callback = s.callback; associated = s.associated; slots = s.slots; found = find_kept (has_number number) lives s.callback (ap is_live s.runs) cs s.found; runs = s.runs; at_home = s.at_home }
+
+workers_forget : (cs : List CallbackRow) (worker : ℕ) (ws : List WorkerRow) → AreWorkersSound cs worker ws → AreWorkersSound (filter lives cs) worker ws
+workers_forget cs worker [] s = tt
+workers_forget cs worker (r ∷ rs) s = (worker_forget cs worker r.pool r.callback s.0, workers_forget cs (worker + 1) rs s.1)
+
+pub forget_sound : (fresh : ℕ) (w : World) → IsSound fresh w → IsSound fresh (forget w)
+forget_sound fresh w s =
+    record {
+      numbers = rising_filter lives 1 fresh w.callbacks s.numbers;
+      workers = workers_forget w.callbacks 1 w.workers s.workers;
+      object_pools = s.object_pools;
+      callback_pools = all_filter (λ (c : CallbackRow). c.pool.0 < length w.pools) lives w.callbacks s.callback_pools;
+    }
+
+-- ---- plans
+
+used_forget : (w : World) (pool : ℕ) → is_used (forget w) pool ≡ is_used w pool
+used_forget w pool =
+    ap (λ b. list_any (λ (o : ObjectRow). not o.released && (o.env.pool.0 == pool)) w.objects || b)
+    (any_filter (λ (c : CallbackRow). is_live c.status && (c.pool.0 == pool)) lives (λ c e. ap (λ b. b && (c.pool.0 == pool)) e) w.callbacks)
+
+submit_refusals_forget : (w : World) (who : Who) (object : ℕ) → first_refusal (submit_work_refusals (forget w) who object) ≡ first_refusal (submit_work_refusals w who object)
+submit_refusals_forget w who object = rw (live_again w.callbacks)
+
+another_forget : (w : World) (pool : ℕ) → another_in_need (forget w) pool ≡ another_in_need w pool
+another_forget w pool =
+    ap is_some (find_agree (λ other. not (other == pool) && is_in_need (forget w) other) (λ other. not (other == pool) && is_in_need w other) (λ other. ap (λ b. not (other == pool) && b) (in_need_forget w other)) (range_with_len 0 (length w.pools)))
+
+may_leave_forget : (w : World) (pool : ℕ) → may_leave (forget w) pool ≡ may_leave w pool
+may_leave_forget w pool =
+    ap₂ (λ (n : ℕ) (bc : Bool). nat_lt (maximum w pool) (attached w pool) || ((n == 0) && bc)) (pending_forget w pool)
+    (ap₂ (λ (n : ℕ) (b : Bool). nat_lt (minimum w pool) (attached w pool - n) || b) (running_long_forget w pool) (another_forget w pool))
+
+detach_forget : (w : World) (by : Option Idle) → detach (forget w) by ≡ detach w by
+detach_forget w None = refl
+detach_forget w (Some by) = ap (λ b. cond b (plan.Does answer.Done (change.Detach by)) (plan.Looked look.Stay)) (may_leave_forget w by.pool.0)
+
+take_callback_forget : (w : World) (by : Idle) (c : Option CallbackRow) → take_callback (forget w) by c ≡ take_callback w by c
+take_callback_forget w by None = refl
+take_callback_forget w by (Some c) =
+    ap (λ n. cond (nat_le (maximum w by.pool.0) n) (plan.Looked (look.AtMaximum n)) (plan.Does (answer.Taken c.number c.object c.routine c.context c.result) (change.Take by c))) (running_forget w by.pool.0)
+
+take_forget : (w : World) (by : Option Idle) → take (forget w) by ≡ take w by
+take_forget w None = refl
+take_forget w (Some by) = ap (take_callback (forget w) by) (next_forget w by.pool.0) ∙ take_callback_forget w by (next w by.pool.0)
+
+busy_row_forget : (fresh : ℕ) (w : World) (number : ℕ) (pool : Option PoolId) (callback : Option ℕ) → IsSound fresh w → numbered w.workers number ≡ Some (record { pool = pool; callback = callback }) → busy_row (forget w) number pool callback ≡ busy_row w number pool callback
+busy_row_forget fresh w number (Some pool) (Some callback) s stands =
+    let at = numbered_some w.workers number (record { pool = Some pool; callback = Some callback }) stands in
+    let on : RunsOn w.callbacks (1 + (number - 1)) pool callback = worker_at w.callbacks 1 (number - 1) w.workers (record { pool = Some pool; callback = Some callback }) s.workers at.0 in
+    ap (option_map (λ (c : CallbackRow). record { worker = number; pool = pool; callback = c })) (find_kept (has_number callback) lives on.callback (ap is_live on.runs) w.callbacks on.found ∙ sym on.found)
+busy_row_forget fresh w number (Some pool) None s stands = refl
+busy_row_forget fresh w number None callback s stands = refl
+
+busy_in_forget : (fresh : ℕ) (w : World) (number : ℕ) (row : Option WorkerRow) → IsSound fresh w → numbered w.workers number ≡ row → busy_in (forget w) number row ≡ busy_in w number row
+busy_in_forget fresh w number None s stands = refl
+busy_in_forget fresh w number (Some row) s stands = busy_row_forget fresh w number row.pool row.callback s stands
+
+busy_forget : (fresh : ℕ) (w : World) (who : Who) → IsSound fresh w → busy_of (forget w) who ≡ busy_of w who
+busy_forget fresh w (Client number) s = refl
+busy_forget fresh w (Worker number) s = busy_in_forget fresh w number (numbered w.workers number) s refl
+
+pub plan_forget : (fresh room : ℕ) (w : World) (who : Who) (call : Call) → IsSound fresh w → plan_at (forget w) fresh room who call ≡ plan_at w fresh room who call
+unfolding create_pool_plan close_pool_plan set_maximum_plan set_minimum_plan create_plan submit_work_plan attach_plan detach_plan take_plan return_plan may_run_long_plan finish_plan
+plan_forget fresh room w who CreatePool s = refl
+plan_forget fresh room w who (ClosePool pool) s = ap (λ b. change_pool_plan w who pool Close (answer.Closed b)) (used_forget w pool.0)
+plan_forget fresh room w who (SetMaximum pool value) s = refl
+plan_forget fresh room w who (SetMinimum pool value) s = refl
+plan_forget fresh room w who (Create kind routine context env) s = refl
+plan_forget fresh room w who (SubmitWork object) s =
+    ap (λ r. unless_refused r (submit fresh object (numbered w.objects object.0))) (submit_refusals_forget w who object.0)
+plan_forget fresh room w who Attach s = ap (λ p. unless_refused (first_refusal (attach_refusals w who)) (attach_to who p)) (to_join_forget w)
+plan_forget fresh room w who Detach s = ap (unless_refused (first_refusal (idle_refusals w who))) (detach_forget w (idle_of w who))
+plan_forget fresh room w who Take s = ap (unless_refused (first_refusal (idle_refusals w who))) (take_forget w (idle_of w who))
+plan_forget fresh room w who Return s = ap (λ by. unless_refused (first_refusal (return_refusals w who)) (return by)) (busy_forget fresh w who s)
+plan_forget fresh room w who MayRunLong s = ap (λ by. unless_refused (first_refusal (busy_refusals w who)) (may_run_long w by)) (busy_forget fresh w who s)
+plan_forget fresh room w who Finish s = refl
+
+-- ---- changes
+
+-- the callbacks of a world, and those of it that live
+as_live : (w : World) (cs ds : List CallbackRow) → filter lives cs ≡ filter lives ds → forget (record w { callbacks = cs }) ≡ forget (record w { callbacks = ds })
+as_live w cs ds e = ap (λ ls. record w { callbacks = ls }) e
+
+pub live_forgotten : (w : World) → forget (forget w) ≡ forget w
+live_forgotten w = as_live w (filter lives w.callbacks) w.callbacks (live_again w.callbacks)
+
+change_pool_forget : (w : World) (pool : ℕ) (how : PoolChange) (row : Option PoolRow) → forget (change_pool (forget w) pool how row) ≡ forget (change_pool w pool how row)
+change_pool_forget w pool how None = live_forgotten w
+change_pool_forget w pool how (Some row) = live_forgotten (with_pool w pool (pool_after how row))
+
+-- a live row in the place of another
+replaced_forget : (fresh : ℕ) (w : World) (r c : CallbackRow) → IsSound fresh w → r.number ≡ c.number → find (has_number c.number) w.callbacks ≡ Some c → lives c ≡ true → filter lives (replaced r (filter lives w.callbacks)) ≡ filter lives (replaced r w.callbacks)
+replaced_forget fresh w r c s same found living =
+    filter_replaced_filter lives r w.callbacks (found_all (λ x. lives x ≡ true) r.number c 1 fresh w.callbacks s.numbers (ap (λ n. find (has_number n) w.callbacks) same ∙ found) living)
+
+marked_forget : (fresh : ℕ) (w : World) (mark : Mark) (c : CallbackRow) → IsSound fresh w → find (has_number c.number) w.callbacks ≡ Some c → lives c ≡ true → filter lives (replaced (marked mark c) (filter lives w.callbacks)) ≡ filter lives (replaced (marked mark c) w.callbacks)
+marked_forget fresh w Long c s found living = replaced_forget fresh w (marked Long c) c s refl found living
+
+pub changed_forget : (fresh : ℕ) (w : World) (ch : Change) → IsSound fresh w → IsAllowed fresh w ch → forget (changed (forget w) ch) ≡ forget (changed w ch)
+changed_forget fresh w change.CreatePool s a = live_forgotten (with_new_pool w)
+changed_forget fresh w (change.ChangePool pool how) s a = change_pool_forget w pool.0 how (slice_get w.pools pool.0)
+changed_forget fresh w (change.CreateObject row) s a = live_forgotten (with_object w row)
+changed_forget fresh w (change.QueueCallback c) s a =
+    as_live w (filter lives w.callbacks ++ c ∷ []) (w.callbacks ++ c ∷ [])
+    (filter-append lives (filter lives w.callbacks) (c ∷ []) ∙ ap (λ t. t ++ filter lives (c ∷ [])) (live_again w.callbacks) ∙ sym (filter-append lives w.callbacks (c ∷ [])))
+changed_forget fresh w (change.Attach worker pool) s a = live_forgotten (changed w (change.Attach worker pool))
+changed_forget fresh w (change.Detach by) s a = live_forgotten (changed w (change.Detach by))
+changed_forget fresh w (change.Take by c) s a =
+    let r : CallbackRow = taken c by.worker in
+    as_live (with_worker w by.worker (record { pool = Some by.pool; callback = Some c.number })) (replaced r (filter lives w.callbacks)) (replaced r w.callbacks)
+    (replaced_forget fresh w r c s refl a.found (pending_lives c.status a.pending))
+changed_forget fresh w (change.Mark by mark) s a =
+    let r : CallbackRow = marked mark by.callback in
+    as_live w (replaced r (filter lives w.callbacks)) (replaced r w.callbacks) (marked_forget fresh w mark by.callback s a.found (ap is_live a.running))
+changed_forget fresh w (change.Return by) s a =
+    let r : CallbackRow = returned by.callback in
+    as_live (with_worker w by.worker (record { pool = Some by.pool; callback = None })) (replaced r (filter lives w.callbacks)) (replaced r w.callbacks)
+    (filter_replaced_out lives r (filter lives w.callbacks) refl ∙ ap (filter (λ (x : CallbackRow). not (has_number by.callback.number x))) (live_again w.callbacks) ∙ sym (filter_replaced_out lives r w.callbacks refl))
+changed_forget fresh w (change.Finish client) s a = live_forgotten (with_client w client finished)
