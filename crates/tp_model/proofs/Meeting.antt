@@ -31,10 +31,10 @@ AreAlike v w (Full a m) (Full b n) = (a ≡ b) × (m ≡ n)
 AreAlike v w _ _ = ⊥
 
 -- the plan of a call leads to the same from both
-plan_alike : (fresh : ℕ) (w : World) (who : Who) (p : Plan) → IsSound fresh w → IsSafe fresh w who p → IsSafe fresh (forget w) who p → AreAlike (forget w) w (stepped (forget w) p) (stepped w p)
-plan_alike fresh w who (plan.Refused refusal) s safe left = refl
-plan_alike fresh w who (plan.Looked look) s safe left = refl
-plan_alike fresh w who (plan.Does answer ch) s safe left =
+plan_alike : (fresh : ℕ) (w : World) (who : Who) (call : Call) (p : Plan) → IsSound fresh w → IsSafe fresh w who call p → IsSafe fresh (forget w) who call p → AreAlike (forget w) w (stepped (forget w) p) (stepped w p)
+plan_alike fresh w who call (plan.Refused refusal) s safe left = refl
+plan_alike fresh w who call (plan.Looked look) s safe left = refl
+plan_alike fresh w who call (plan.Does answer ch) s safe left =
     let more = grows fresh w ch safe.allowed in
     let left_more = grows fresh (forget w) ch left.allowed in
     (refl, changed_forget fresh w ch s safe.allowed, omega (arith, more, left_more), omega (arith, more))
@@ -43,18 +43,18 @@ row_alike : (room : ℕ) (w : World) (who : Who) (call : Call) → IsSound (leng
 row_alike room w who call s =
     let fresh : ℕ = length w.callbacks + 1 in
     let same : plan_at (forget w) fresh room who call ≡ plan_at w fresh room who call = plan_forget fresh room w who call s in
-    let left : IsSafe fresh (forget w) who (plan_at w fresh room who call) = subst (IsSafe fresh (forget w) who) same (plan_safe fresh room (forget w) who call (forget_sound fresh w s)) in
+    let left : IsSafe fresh (forget w) who call (plan_at w fresh room who call) = subst (IsSafe fresh (forget w) who call) same (plan_safe fresh room (forget w) who call (forget_sound fresh w s)) in
     subst (λ p. AreAlike (forget w) w (stepped (forget w) p) (row w room who call)) (sym same)
-    (plan_alike fresh w who (plan_at w fresh room who call) s (plan_safe fresh room w who call s) left)
+    (plan_alike fresh w who call (plan_at w fresh room who call) s (plan_safe fresh room w who call s) left)
 
 -- each step leads to a world of which the same is true
-step_sound : (fresh : ℕ) (w : World) (who : Who) (p : Plan) → IsSound fresh w → IsSafe fresh w who p → IsSound (fresh + made_by w (stepped w p)) (world_after w (stepped w p))
-step_sound fresh w who (plan.Refused refusal) s safe = subst (λ n. IsSound n w) (omega arith) s
-step_sound fresh w who (plan.Looked look) s safe = subst (λ n. IsSound n w) (omega arith) s
-step_sound fresh w who (plan.Does answer ch) s safe = subst (λ n. IsSound n (changed w ch)) (omega (arith, grows fresh w ch safe.allowed)) (changed_sound fresh w ch s safe.allowed)
+step_sound : (fresh : ℕ) (w : World) (who : Who) (call : Call) (p : Plan) → IsSound fresh w → IsSafe fresh w who call p → IsSound (fresh + made_by w (stepped w p)) (world_after w (stepped w p))
+step_sound fresh w who call (plan.Refused refusal) s safe = subst (λ n. IsSound n w) (omega arith) s
+step_sound fresh w who call (plan.Looked look) s safe = subst (λ n. IsSound n w) (omega arith) s
+step_sound fresh w who call (plan.Does answer ch) s safe = subst (λ n. IsSound n (changed w ch)) (omega (arith, grows fresh w ch safe.allowed)) (changed_sound fresh w ch s safe.allowed)
 
 row_sound : (room : ℕ) (w : World) (who : Who) (call : Call) → IsSound (length w.callbacks + 1) w → IsSound (length w.callbacks + 1 + made_by w (row w room who call)) (world_after w (row w room who call))
-row_sound room w who call s = step_sound (length w.callbacks + 1) w who (plan_at w (length w.callbacks + 1) room who call) s (plan_safe (length w.callbacks + 1) room w who call s)
+row_sound room w who call s = step_sound (length w.callbacks + 1) w who call (plan_at w (length w.callbacks + 1) room who call) s (plan_safe (length w.callbacks + 1) room w who call s)
 
 -- ---- with the room of a history
 

@@ -11,4 +11,5 @@ pub mod Safe
 pub mod Sound
 pub mod Step
 pub mod Table
+pub mod Told
 pub mod World
