@@ -5,6 +5,7 @@ pub mod Forgetting
 pub mod Growing
 pub mod Lists
 pub mod Meeting
+pub mod Moving
 pub mod Planning
 pub mod Preserving
 pub mod Refusals

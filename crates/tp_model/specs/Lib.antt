@@ -5,6 +5,7 @@ pub mod Conditions
 pub mod Counts
 pub mod History
 pub mod Laws
+pub mod Moves
 pub mod Refusing
 pub mod Remembered
 pub mod Safe

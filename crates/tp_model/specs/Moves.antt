@@ -1,0 +1,148 @@
+-- How an accepted call moves callbacks and workers: one thing becomes of those that there are, and some are made.
+use Rattle.std.specs.Prelude.{◌≡◌, ℕ, ◌+◌, ◌-◌, ◌<◌, Bool, true, false, List, [], ◌∷◌, ◌++◌, map, slice_get, slice_set, None, Some, Option}
+use Rattle.std.specs.List.{filter, find}
+use Rattle.std.specs.Option.{option_map_or}
+use Rattle.tp_base.specs.declared.ids.Who.TheVariants.{Worker}
+use Rattle.tp_base.specs.declared.ids.PoolId.{PoolId}
+use Rattle.tp_base.specs.declared.answers.Entry.{Entry}
+use Rattle.tp_base.specs.declared.rows.Status.{Status}
+use Rattle.tp_base.specs.declared.rows.Status.TheVariants.{Expected, Pending}
+use Rattle.tp_base.specs.declared.rows.PoolRow.{PoolRow}
+use Rattle.tp_base.specs.declared.rows.CallbackRow.{CallbackRow}
+use Rattle.tp_base.specs.declared.rows.WorkerRow.{WorkerRow}
+use Rattle.tp_model.specs.World.{World}
+use Rattle.tp_model.specs.Counts.{numbered, has_number, is_pending, is_running, running, maximum}
+use Rattle.tp_model.specs.Changes.{replaced, taken, returned}
+use Rattle.tp_model.specs.Laws.Entries.{Run, made_by, queued_by, maximum_after}
+use Rattle.tp_model.specs.Told.{deed_by, nothing}
+
+-- ---- callbacks and workers that there are; `kept` and `staff` are what becomes of them
+
+-- no callback and no worker changes
+pub record Stays (w : World) (entry : Entry) (kept : List CallbackRow) (staff : List WorkerRow) : Type 0 where
+  pub tells : deed_by entry ≡ nothing
+  pub callbacks : kept ≡ w.callbacks
+  pub workers : staff ≡ w.workers
+
+-- a callback changes, and its status, its object and its pool stay the same
+pub record Marks (w : World) (entry : Entry) (kept : List CallbackRow) (staff : List WorkerRow) : Type 0 where
+  pub old : CallbackRow
+  pub new : CallbackRow
+  pub tells : deed_by entry ≡ nothing
+  pub found : find (has_number new.number) w.callbacks ≡ Some old
+  pub status : new.status ≡ old.status
+  pub object : new.object ≡ old.object
+  pub pool : new.pool ≡ old.pool
+  pub callbacks : kept ≡ replaced new w.callbacks
+  pub workers : staff ≡ w.workers
+
+-- the actor is a worker that runs nothing
+pub record IsFree (w : World) (entry : Entry) (worker : ℕ) : Type 0 where
+  pub row : WorkerRow
+  pub by : entry.who ≡ Worker worker
+  pub stands : numbered w.workers worker ≡ Some row
+  pub free : row.callback ≡ None
+
+abbrev pub put : World → ℕ → WorkerRow → List WorkerRow
+put w worker row = slice_set w.workers (worker - 1) row
+
+-- a worker joins a pool
+pub record Attaches (w : World) (entry : Entry) (kept : List CallbackRow) (staff : List WorkerRow) : Type 0 where
+  pub worker : ℕ
+  pub pool : PoolId
+  pub actor : IsFree w entry worker
+  pub tells : deed_by entry ≡ record nothing { attached = Some pool.0 }
+  pub callbacks : kept ≡ w.callbacks
+  pub workers : staff ≡ put w worker (record { pool = Some pool; callback = None })
+
+-- a worker leaves its pool
+pub record Detaches (w : World) (entry : Entry) (kept : List CallbackRow) (staff : List WorkerRow) : Type 0 where
+  pub worker : ℕ
+  pub actor : IsFree w entry worker
+  pub tells : deed_by entry ≡ nothing
+  pub callbacks : kept ≡ w.callbacks
+  pub workers : staff ≡ put w worker (record { pool = None; callback = None })
+
+abbrev pub run_of : CallbackRow → Run
+run_of c = record { number = c.number; object = c.object }
+
+-- a worker begins a pending callback of its pool
+pub record Takes (w : World) (entry : Entry) (kept : List CallbackRow) (staff : List WorkerRow) : Type 0 where
+  pub worker : ℕ
+  pub pool : PoolId
+  pub callback : CallbackRow
+  pub actor : IsFree w entry worker
+  pub home : actor.row.pool ≡ Some pool
+  pub tells : deed_by entry ≡ record nothing { taken = Some callback.number; run = Some (run_of callback) }
+  pub found : find (has_number callback.number) w.callbacks ≡ Some callback
+  pub waits : is_pending callback.status ≡ true
+  pub pool_same : callback.pool ≡ pool
+  pub below : running w pool.0 < maximum w pool.0
+  pub callbacks : kept ≡ replaced (taken callback worker) w.callbacks
+  pub workers : staff ≡ put w worker (record { pool = Some pool; callback = Some callback.number })
+
+-- a worker's callback returns
+pub record Returns (w : World) (entry : Entry) (kept : List CallbackRow) (staff : List WorkerRow) : Type 0 where
+  pub worker : ℕ
+  pub row : WorkerRow
+  pub pool : PoolId
+  pub callback : CallbackRow
+  pub by : entry.who ≡ Worker worker
+  pub stands : numbered w.workers worker ≡ Some row
+  pub busy : row.callback ≡ Some callback.number
+  pub home : row.pool ≡ Some pool
+  pub tells : deed_by entry ≡ record nothing { returned = true }
+  pub found : find (has_number callback.number) w.callbacks ≡ Some callback
+  pub runs : is_running callback.status ≡ true
+  pub pool_same : callback.pool ≡ pool
+  pub callbacks : kept ≡ replaced (returned callback) w.callbacks
+  pub workers : staff ≡ put w worker (record row { callback = None })
+
+pub data Move (w : World) (entry : Entry) (kept : List CallbackRow) (staff : List WorkerRow) : Type 0 where
+  Stay : Stays w entry kept staff → Move w entry kept staff
+  Mark : Marks w entry kept staff → Move w entry kept staff
+  Attach : Attaches w entry kept staff → Move w entry kept staff
+  Detach : Detaches w entry kept staff → Move w entry kept staff
+  Take : Takes w entry kept staff → Move w entry kept staff
+  Return : Returns w entry kept staff → Move w entry kept staff
+
+-- ---- callbacks that are made
+
+abbrev pub is_new : Status → Bool
+is_new Expected = true
+is_new Pending = true
+is_new _ = false
+
+-- numbered on from a number, and none of them has begun
+pub record IsNew (number : ℕ) (c : CallbackRow) : Type 0 where
+  pub numbered : c.number ≡ number
+  pub unbegun : is_new c.status ≡ true
+
+abbrev pub AreNew : ℕ → List CallbackRow → Type 0
+AreNew number [] = Unit {0}
+AreNew number (c ∷ cs) = IsNew number c × AreNew (number + 1) cs
+
+abbrev pub numbers_of : List CallbackRow → List ℕ
+numbers_of cs = map (λ c. c.number) cs
+
+abbrev pub waiting_of : List CallbackRow → List ℕ
+waiting_of cs = numbers_of (filter (λ c. is_pending c.status) cs)
+
+pub record Moves (fresh : ℕ) (w : World) (entry : Entry) (after : World) : Type 0 where
+  pub kept : List CallbackRow
+  pub new : List CallbackRow
+  pub move : Move w entry kept after.workers
+  pub rows : AreNew fresh new
+  pub made : made_by entry ≡ numbers_of new
+  pub queued : queued_by entry.answer ≡ waiting_of new
+  pub callbacks : after.callbacks ≡ kept ++ new
+
+-- the maximum of a pool, and of one that is not made yet the one that it will begin with
+abbrev pub maximum_at : World → ℕ → ℕ
+maximum_at w pool = option_map_or (λ (p : PoolRow). p.maximum) (slice_get w.pools pool) w.limits.workers
+
+-- an entry leads from a world to another
+pub record Leads (fresh : ℕ) (w : World) (entry : Entry) (after : World) : Type 0 where
+  pub moves : Moves fresh w entry after
+  pub limits : after.limits ≡ w.limits
+  pub maxima : (pool : ℕ) → maximum_at after pool ≡ maximum_after pool (maximum_at w pool) entry
