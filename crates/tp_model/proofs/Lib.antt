@@ -1,11 +1,13 @@
 pub mod Actors
 pub mod Callbacks
 pub mod Costs
+pub mod Entries
 pub mod Forgetting
 pub mod Growing
 pub mod Lists
 pub mod Meeting
 pub mod Moving
+pub mod Once
 pub mod Planning
 pub mod Preserving
 pub mod Refusals

@@ -1,0 +1,121 @@
+-- What an entry of a legal history leads to, and what is kept along a history.
+use Rattle.std.proofs.Common.{◌≡◌, ℕ, ◌+◌, ◌-◌, ◌≤◌, Bool, true, false, cond, ◌&&◌, List, [], ◌∷◌, ◌++◌, length, nat_lt, Some, refl, sym, ap, ◌∙◌, append_assoc, subst, arith}
+use Rattle.std.proofs.lemmas.List.{append-nil}
+use Rattle.tp_base.specs.declared.ids.Who.{Who}
+use Rattle.tp_base.specs.declared.calls.Call.{Call}
+use Rattle.tp_base.specs.declared.calls.Call.TheVariants.{CreatePool}
+use Rattle.tp_base.specs.declared.answers.Answer.{Answer}
+use Rattle.tp_base.specs.declared.answers.Answer.TheVariants as answer
+use Rattle.tp_base.specs.declared.answers.Refusal.{Refusal}
+use Rattle.tp_base.specs.declared.answers.Outcome.TheVariants as outcome
+use Rattle.tp_base.specs.declared.answers.Entry.{Entry}
+use Rattle.tp_base.specs.declared.plans.Change.{Change}
+use Rattle.tp_base.specs.declared.plans.Plan.{Plan}
+use Rattle.tp_base.specs.declared.plans.Plan.TheVariants as plans
+use Rattle.tp_model.specs.World.{World}
+use Rattle.tp_model.specs.Changes.{changed}
+use Rattle.tp_model.specs.Step.{Step, Accepted, Refused, Looked, Full, stepped, within, cost, outcome_of}
+use Rattle.tp_model.specs.Table.{plan, step}
+use Rattle.tp_model.specs.History.{is_refusal, change_of, change_told, led_by, led_to, after_from, room, IsLegalFrom}
+use Rattle.tp_model.specs.Sound.{IsSound}
+use Rattle.tp_model.specs.Safe.{IsSafeChange}
+use Rattle.tp_model.specs.Laws.Entries.{is_return_call}
+use Rattle.tp_model.specs.Told.{nothing, told, told_by}
+use Rattle.tp_model.specs.Moves.{Stay, Leads}
+use Rattle.tp_model.proofs.Growing.{grows}
+use Rattle.tp_model.proofs.Preserving.{changed_sound}
+use Rattle.tp_model.proofs.Steps.{plan_allowed}
+use Rattle.tp_model.proofs.Moving.{change_leads}
+
+-- the number that the next callback gets
+abbrev pub fresh_in : World → ℕ
+fresh_in w = length w.callbacks + 1
+
+-- an entry leads to a sound world, as its call moves what there is
+pub record LeadsOn (w : World) (entry : Entry) (after : World) : Type 0 where
+  pub leads : Leads (fresh_in w) w entry after
+  pub sound : IsSound (fresh_in after) after
+
+refused_leads : (w : World) (who : Who) (call : Call) (refusal : Refusal) → Leads (fresh_in w) w (record { who = who; call = call; answer = answer.Refused refusal }) w
+refused_leads w who call refusal =
+    record {
+      moves = record {
+        kept = w.callbacks;
+        new = [];
+        move = Stay (record { tells = ap (λ b. record nothing { returned = b }) (never (is_return_call call)); callbacks = refl; workers = refl });
+        rows = tt;
+        made = refl;
+        queued = refl;
+        callbacks = sym (append-nil w.callbacks);
+      };
+      limits = refl;
+      maxima = λ pool. refl;
+    }
+  where
+    never : (b : Bool) → (b && false) ≡ false
+    never true = refl
+    never false = refl
+
+-- an entry's answer tells the change of its plan
+pub told_change : (w : World) (left : ℕ) (who : Who) (call : Call) (a : Answer) (ch : Change) → plan w left who call ≡ plans.Does a ch → change_told w who call a ≡ Some ch
+told_change w left who CreatePool a ch is = ap change_of is
+told_change w left who _ a ch is = ap change_of is
+
+-- an entry of a legal history leads on
+pub entry_leads : (w : World) (left : ℕ) (entry : Entry) → IsSound (fresh_in w) w → outcome_of (step w left entry.who entry.call) ≡ outcome.Done entry.answer → LeadsOn w entry (led_to w entry)
+entry_leads w left entry s answers = of_plan (plan w left entry.who entry.call) refl answers
+  where
+    of_change : (a : Answer) (ch : Change) → a ≡ entry.answer → plan w left entry.who entry.call ≡ plans.Does a ch → LeadsOn w entry (led_to w entry)
+    of_change a ch same is =
+        let safe : IsSafeChange (fresh_in w) w entry.who entry.call a ch = plan_allowed (fresh_in w) left w entry.who entry.call a ch s is in
+        let makes : change_told w entry.who entry.call entry.answer ≡ Some ch = ap (change_told w entry.who entry.call) (sym same) ∙ told_change w left entry.who entry.call a ch is in
+        let there : led_to w entry ≡ changed w ch = ap (λ b. cond b w (led_by w (change_told w entry.who entry.call entry.answer))) (ap is_refusal (sym same) ∙ safe.accepted) ∙ ap (led_by w) makes in
+        let tells : told_by entry ≡ told (fresh_in w) w ch = ap (λ (x : Answer). told_by (record { who = entry.who; call = entry.call; answer = x })) (sym same) ∙ safe.tells in
+        subst (LeadsOn w entry) (sym there)
+        (record {
+          leads = change_leads (fresh_in w) w entry ch safe.allowed safe.made_by tells;
+          sound = subst (λ n. IsSound n (changed w ch)) (omega (arith, grows (fresh_in w) w ch safe.allowed)) (changed_sound (fresh_in w) w ch s safe.allowed);
+        })
+
+    of_plan : (p : Plan) → plan w left entry.who entry.call ≡ p → outcome_of (within w left (stepped w p)) ≡ outcome.Done entry.answer → LeadsOn w entry (led_to w entry)
+    of_plan (plans.Does a ch) is says =
+        elim (nat_lt left (cost w (changed w ch))) as (λ b. outcome_of (cond b (Full left (cost w (changed w ch))) (Accepted a (changed w ch))) ≡ outcome.Done entry.answer → LeadsOn w entry (led_to w entry)) [
+          | true ↦ λ e. absurd cc
+          | false ↦ λ e. of_change a ch (cc) is
+        ] says
+    of_plan (plans.Refused refusal) is says =
+        elim (nat_lt left 1) as (λ b. outcome_of (cond b (Full left 1) (Refused refusal)) ≡ outcome.Done entry.answer → LeadsOn w entry (led_to w entry)) [
+          | true ↦ λ e. absurd cc
+          | false ↦ λ e.
+              let same : answer.Refused refusal ≡ entry.answer = cc in
+              let stays : led_to w entry ≡ w = ap (λ a. cond (is_refusal a) w (led_by w (change_told w entry.who entry.call a))) (sym same) in
+              subst (LeadsOn w entry) (sym stays)
+              (record { leads = subst (λ (a : Answer). Leads (fresh_in w) w (record { who = entry.who; call = entry.call; answer = a }) w) same (refused_leads w entry.who entry.call refusal); sound = s })
+        ] says
+    of_plan (plans.Looked look) is says = absurd cc
+
+-- ---- along a history
+
+-- each entry keeps the property
+abbrev pub IsKept : (List Entry → World → Type 0) → Type 0
+IsKept P = (before : List Entry) (w : World) (left : ℕ) (entry : Entry) → P before w → outcome_of (step w left entry.who entry.call) ≡ outcome.Done entry.answer → P (before ++ entry ∷ []) (led_to w entry)
+
+pub kept_to_end : (P : List Entry → World → Type 0) → IsKept P → (capacity entries : ℕ) (before rest : List Entry) (w : World) → P before w → IsLegalFrom w capacity entries rest → P (before ++ rest) (after_from w rest)
+kept_to_end P keeps capacity entries before [] w p legal = subst (λ h. P h w) (sym (append-nil before)) p
+kept_to_end P keeps capacity entries before (entry ∷ rest) w p legal =
+    subst (λ h. P h (after_from (led_to w entry) rest)) (append_assoc before (entry ∷ []) rest)
+    (kept_to_end P keeps capacity (entries + 1) (before ++ entry ∷ []) rest (led_to w entry) (keeps before w (room capacity w entries) entry p legal.0) legal.1)
+
+-- a world in which the property holds, and in which the entry's answer is the machine's
+pub record Reached (P : List Entry → World → Type 0) (before : List Entry) (entry : Entry) : Type 0 where
+  pub world : World
+  pub left : ℕ
+  pub holds : P before world
+  pub answers : outcome_of (step world left entry.who entry.call) ≡ outcome.Done entry.answer
+
+pub kept_to_entry : (P : List Entry → World → Type 0) → IsKept P → (capacity entries : ℕ) (before between later : List Entry) (entry : Entry) (w : World) → P before w → IsLegalFrom w capacity entries (between ++ entry ∷ later) → Reached P (before ++ between) entry
+kept_to_entry P keeps capacity entries before [] later entry w p legal =
+    record { world = w; left = room capacity w entries; holds = subst (λ h. P h w) (sym (append-nil before)) p; answers = legal.0 }
+kept_to_entry P keeps capacity entries before (first ∷ between) later entry w p legal =
+    subst (λ h. Reached P h entry) (append_assoc before (first ∷ []) between)
+    (kept_to_entry P keeps capacity (entries + 1) (before ++ first ∷ []) between later entry (led_to w first) (keeps before w (room capacity w entries) first p legal.0) legal.1)

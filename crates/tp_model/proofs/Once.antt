@@ -1,0 +1,501 @@
+-- The law Once: what the entries so far tell of each callback is what its status says.
+use Rattle.std.proofs.Common.{◌≡◌, ℕ, suc, zero, ◌+◌, ◌<◌, ◌≤◌, Bool, true, false, cond, not, ◌||◌, ◌==◌, List, [], ◌∷◌, ◌++◌, length, Option, Some, None, is_some, slice_get, get_or, refl, sym, ap, ◌∙◌, append_assoc, subst, arith, filter, find, ◌⊎◌, inl, inr, eqb-true, length-append, lt-ltb}
+use Rattle.std.specs.List.{All, cons_option, list_any, range_with_len, flat_map, filter_map, position, position_or_len, prefix_len}
+use Rattle.std.specs.Option.{option_to_list}
+use Rattle.std.proofs.lemmas.List.{append-nil, length-map}
+use Rattle.std.proofs.lemmas.Grind.{flat_map-append}
+use Rattle.std.proofs.lemmas.List.Elements.{filter_map-append, filter-append, All-map}
+use Rattle.std.proofs.lemmas.Option.{slice_get-get_or}
+use Rattle.std.proofs.lemmas.List.Sums.{sum_by_push}
+use Rattle.std.proofs.lemmas.List.Folds.{list_any-append}
+use Rattle.std.proofs.lemmas.List.FromFn.{length-range_with_len}
+use Rattle.tp_base.specs.declared.ids.ObjectId.{ObjectId}
+use Rattle.tp_base.specs.declared.rows.Status.{Status}
+use Rattle.tp_base.specs.declared.rows.Status.TheVariants.{Expected, Issued, Pending, Running, Returned, Cancelled}
+use Rattle.tp_base.specs.declared.rows.CallbackRow.{CallbackRow}
+use Rattle.tp_base.specs.declared.rows.WorkerRow.{WorkerRow}
+use Rattle.tp_base.specs.declared.answers.Entry.{Entry}
+use Rattle.tp_model.specs.World.{World}
+use Rattle.tp_model.specs.Counts.{has_number, is_pending, is_running}
+use Rattle.tp_model.specs.Changes.{replaced, taken as taken_row, returned}
+use Rattle.tp_model.specs.Sound.{IsRising}
+use Rattle.tp_model.specs.Laws.Entries.{Run, is_among, times, numbers_made, numbers_queued, numbers_taken, numbers_cancelled, count_cancelled, made_by, queued_by, taken_by, cancelled_by, cancelled_count}
+use Rattle.tp_model.specs.Laws.Once.{is_left, left, TakesReady, TakesUncancelled}
+use Rattle.tp_model.specs.Told.{Deed, deed_by, nothing}
+use Rattle.tp_model.specs.Moves.{Move, Stay, Mark, Attach, Detach, Take, Return, Moves, run_of, AreNew, IsNew, is_new, numbers_of, waiting_of}
+use Rattle.tp_model.proofs.Callbacks.{find_appended, find_replaced, find_replaced_other, length_replaced, length_filter_replaced, kept_found}
+use Rattle.tp_model.proofs.Refusals.{false_true}
+
+-- ---- what a status says
+
+abbrev pub has_begun : Status → Bool
+has_begun (Running worker associated slots) = true
+has_begun Returned = true
+has_begun _ = false
+
+abbrev pub is_cancelled : Status → Bool
+is_cancelled Cancelled = true
+is_cancelled _ = false
+
+abbrev begun : CallbackRow → Bool
+begun c = has_begun c.status
+
+abbrev dropped : CallbackRow → Bool
+dropped c = is_cancelled c.status
+
+pub pending_unbegun : (s : Status) → is_pending s ≡ true → has_begun s ≡ false
+pending_unbegun Pending e = refl
+pending_unbegun Expected e = refl
+pending_unbegun Issued e = refl
+pending_unbegun (Running worker associated slots) e = cc
+pending_unbegun Returned e = cc
+pending_unbegun Cancelled e = refl
+
+pub pending_uncancelled : (s : Status) → is_pending s ≡ true → is_cancelled s ≡ false
+pending_uncancelled Cancelled e = cc
+pending_uncancelled _ e = refl
+
+running_begun : (s : Status) → is_running s ≡ true → has_begun s ≡ true
+running_begun (Running worker associated slots) e = refl
+running_begun Expected e = cc
+running_begun Issued e = cc
+running_begun Pending e = cc
+running_begun Returned e = refl
+running_begun Cancelled e = cc
+
+running_uncancelled : (s : Status) → is_running s ≡ true → is_cancelled s ≡ false
+running_uncancelled Cancelled e = cc
+running_uncancelled _ e = refl
+
+new_unbegun : (s : Status) → is_new s ≡ true → has_begun s ≡ false
+new_unbegun Expected e = refl
+new_unbegun Pending e = refl
+new_unbegun Issued e = refl
+new_unbegun Cancelled e = refl
+new_unbegun (Running worker associated slots) e = cc
+new_unbegun Returned e = cc
+
+new_uncancelled : (s : Status) → is_new s ≡ true → is_cancelled s ≡ false
+new_uncancelled Cancelled e = cc
+new_uncancelled _ e = refl
+
+abbrev pub one_if : Bool → ℕ
+one_if b = cond b 1 0
+
+abbrev times_begun : Option CallbackRow → ℕ
+times_begun None = 0
+times_begun (Some c) = cond (has_begun c.status) 1 0
+
+-- ---- the entries and the statuses agree
+
+pub record Agrees (made queued taken cancelled : List ℕ) (count : ℕ) (cs : List CallbackRow) : Type 0 where
+  pub in_order : made ≡ range_with_len 1 (length cs)
+  pub taken_begun : (n : ℕ) → times n taken ≡ times_begun (find (has_number n) cs)
+  pub pending_queued : (n : ℕ) (c : CallbackRow) → find (has_number n) cs ≡ Some c → is_pending c.status ≡ true → is_among n queued ≡ true
+  pub named_cancelled : (n : ℕ) → is_among n cancelled ≡ true → (c : CallbackRow) × (find (has_number n) cs ≡ Some c) × (is_cancelled c.status ≡ true)
+  pub as_many_taken : length taken ≡ length (filter begun cs)
+  pub as_many_cancelled : count + length cancelled ≡ length (filter dropped cs)
+
+-- with what an entry tells of the callbacks that there are
+abbrev AgreesWith : List ℕ → List ℕ → List ℕ → List ℕ → ℕ → Deed → List CallbackRow → Type 0
+AgreesWith made queued taken cancelled count deed cs =
+    Agrees made queued (taken ++ option_to_list deed.taken) (cancelled ++ option_to_list deed.cancelled) (count + deed.count) cs
+
+range_more : (a n : ℕ) → range_with_len a n ++ (a + n) ∷ [] ≡ range_with_len a (n + 1)
+range_more a zero = let next : a + 0 ≡ a = omega arith in ap (λ m. m ∷ []) next
+range_more a (suc n) =
+    let next : a + suc n ≡ a + 1 + n = omega arith in
+    let longer : suc (n + 1) ≡ suc n + 1 = omega arith in
+    ap (λ m. a ∷ (range_with_len (a + 1) n ++ m ∷ [])) next ∙ ap (λ t. a ∷ t) (range_more (a + 1) n) ∙ ap (λ m. range_with_len a m) longer
+
+pub count_appended : (p : CallbackRow → Bool) (cs : List CallbackRow) (c : CallbackRow) → p c ≡ false → length (filter p (cs ++ c ∷ [])) ≡ length (filter p cs)
+count_appended p [] c out = ap (λ b. length (cond b (c ∷ []) [])) out
+count_appended p (d ∷ cs) c out =
+    elim (p d) as (λ b. length (cond b (d ∷ filter p (cs ++ c ∷ [])) (filter p (cs ++ c ∷ []))) ≡ length (cond b (d ∷ filter p cs) (filter p cs))) [
+      | true ↦ ap suc (count_appended p cs c out)
+      | false ↦ count_appended p cs c out
+    ]
+
+begun_appended : (n : ℕ) (cs : List CallbackRow) (c : CallbackRow) → has_begun c.status ≡ false → times_begun (find (has_number n) (cs ++ c ∷ [])) ≡ times_begun (find (has_number n) cs)
+begun_appended n [] c still =
+    elim (has_number n c) as (λ b. times_begun (cond b (Some c) None) ≡ 0) [
+      | true ↦ ap one_if still
+      | false ↦ refl
+    ]
+begun_appended n (d ∷ cs) c still =
+    elim (has_number n d) as (λ b. times_begun (cond b (Some d) (find (has_number n) (cs ++ c ∷ []))) ≡ times_begun (cond b (Some d) (find (has_number n) cs))) [
+      | true ↦ refl
+      | false ↦ begun_appended n cs c still
+    ]
+
+-- what is found in a longer list was there, or is what was added
+found_appended : (n : ℕ) (cs : List CallbackRow) (c x : CallbackRow) → find (has_number n) (cs ++ c ∷ []) ≡ Some x → (find (has_number n) cs ≡ Some x) ⊎ (has_number n c ≡ true)
+found_appended n [] c x e =
+    elim (has_number n c) as (λ b. cond b (Some c) None ≡ Some x → (None ≡ Some x) ⊎ (b ≡ true)) [
+      | true ↦ λ _. inr refl
+      | false ↦ λ f. absurd cc
+    ] e
+found_appended n (d ∷ cs) c x e =
+    elim (has_number n d) as (λ b. cond b (Some d) (find (has_number n) (cs ++ c ∷ [])) ≡ Some x → (cond b (Some d) (find (has_number n) cs) ≡ Some x) ⊎ (has_number n c ≡ true)) [
+      | true ↦ λ f. inl f
+      | false ↦ λ f. found_appended n cs c x f
+    ] e
+
+-- what was added is found where none of its number was there
+find_last : (n : ℕ) (cs : List CallbackRow) (c : CallbackRow) → find (has_number n) cs ≡ None → has_number n c ≡ true → find (has_number n) (cs ++ c ∷ []) ≡ Some c
+find_last n [] c none here = ap (λ b. cond b (Some c) None) here
+find_last n (d ∷ cs) c none here =
+    elim (has_number n d) as (λ b. cond b (Some d) (find (has_number n) cs) ≡ None → cond b (Some d) (find (has_number n) (cs ++ c ∷ [])) ≡ Some c) [
+      | true ↦ λ e. absurd cc
+      | false ↦ λ e. find_last n cs c e here
+    ] none
+
+among_front : (n : ℕ) (xs ys : List ℕ) → is_among n xs ≡ true → is_among n (xs ++ ys) ≡ true
+among_front n xs ys e = list_any-append (λ m. m == n) xs ys ∙ ap (λ b. b || is_among n ys) e
+
+among_back : (n : ℕ) (xs : List ℕ) (m : ℕ) → (m == n) ≡ true → is_among n (xs ++ m ∷ []) ≡ true
+among_back n xs m e = list_any-append (λ k. k == n) xs (m ∷ []) ∙ ap (λ b. is_among n xs || (b || false)) e ∙ or_true (is_among n xs)
+  where
+    or_true : (b : Bool) → (b || true) ≡ true
+    or_true true = refl
+    or_true false = refl
+
+-- the rows found for one number are one
+same_row : (n m : ℕ) (x y : CallbackRow) (cs : List CallbackRow) → n ≡ m → find (has_number n) cs ≡ Some x → find (has_number m) cs ≡ Some y → x ≡ y
+same_row n m x y cs e fx fy = let both_found : Some x ≡ Some y = sym fx ∙ ap (λ k. find (has_number k) cs) e ∙ fy in cc
+
+module _ (made queued taken cancelled : List ℕ) (count : ℕ) (cs : List CallbackRow) where
+  agrees_same : Agrees made queued taken cancelled count cs → AgreesWith made queued taken cancelled count nothing cs
+  agrees_same a =
+      record {
+        in_order = a.in_order;
+        taken_begun = λ n. ap (times n) (append-nil taken) ∙ a.taken_begun n;
+        pending_queued = a.pending_queued;
+        named_cancelled = λ n named. a.named_cancelled n (ap (is_among n) (sym (append-nil cancelled)) ∙ named);
+        as_many_taken = ap length (append-nil taken) ∙ a.as_many_taken;
+        as_many_cancelled = omega (arith, ap length (append-nil cancelled), a.as_many_cancelled);
+      }
+
+  -- one callback more, which has not begun
+  agrees_made : (c : CallbackRow) (fresh : ℕ) → Agrees made queued taken cancelled count cs → fresh ≡ length cs + 1 → c.number ≡ fresh → is_new c.status ≡ true → Agrees (made ++ c.number ∷ []) (queued ++ waiting_of (c ∷ [])) taken cancelled count (cs ++ c ∷ [])
+  agrees_made c fresh a is number new =
+      record {
+        in_order = ap (λ t. t ++ c.number ∷ []) a.in_order ∙ ap (λ n. range_with_len 1 (length cs) ++ n ∷ []) (omega (arith, is, number)) ∙ range_more 1 (length cs) ∙ ap (range_with_len 1) (sym (length-append cs (c ∷ [])));
+        taken_begun = λ n. a.taken_begun n ∙ sym (begun_appended n cs c (new_unbegun c.status new));
+        pending_queued = λ n x found pending. was_queued n x found pending (found_appended n cs c x found);
+        named_cancelled = λ n named. let old = a.named_cancelled n named in (old.0, find_appended n cs old.0 c old.1, old.2);
+        as_many_taken = a.as_many_taken ∙ sym (count_appended begun cs c (new_unbegun c.status new));
+        as_many_cancelled = omega (arith, a.as_many_cancelled, count_appended dropped cs c (new_uncancelled c.status new));
+      }
+    where
+      here_queued : (n : ℕ) → is_pending c.status ≡ true → has_number n c ≡ true → is_among n (queued ++ waiting_of (c ∷ [])) ≡ true
+      here_queued n pending here = ap (λ b. is_among n (queued ++ numbers_of (cond b (c ∷ []) []))) pending ∙ among_back n queued c.number here
+
+      was_queued : (n : ℕ) (x : CallbackRow) → find (has_number n) (cs ++ c ∷ []) ≡ Some x → is_pending x.status ≡ true → (find (has_number n) cs ≡ Some x) ⊎ (has_number n c ≡ true) → is_among n (queued ++ waiting_of (c ∷ [])) ≡ true
+      was_queued n x found pending (inl old) = among_front n queued (waiting_of (c ∷ [])) (a.pending_queued n x old pending)
+      was_queued n x found pending (inr here) = of_old (find (has_number n) cs) refl
+        where
+          of_old : (o : Option CallbackRow) → find (has_number n) cs ≡ o → is_among n (queued ++ waiting_of (c ∷ [])) ≡ true
+          of_old (Some y) was =
+              let same : Some y ≡ Some x = sym (find_appended n cs y c was) ∙ found in
+              let is_x : y ≡ x = cc in
+              among_front n queued (waiting_of (c ∷ [])) (a.pending_queued n y was (ap (λ (z : CallbackRow). is_pending z.status) is_x ∙ pending))
+          of_old None was =
+              let same : Some c ≡ Some x = sym (find_last n cs c was here) ∙ found in
+              let is_x : c ≡ x = cc in
+              here_queued n (ap (λ (z : CallbackRow). is_pending z.status) is_x ∙ pending) here
+
+  -- a row in place of the one of its number: what the others agree on stays
+  module _ (fresh : ℕ) (c d : CallbackRow) (rising : IsRising 1 fresh cs) (found : find (has_number d.number) cs ≡ Some c) where
+    replaced_pending : ((n : ℕ) (x : CallbackRow) → find (has_number n) cs ≡ Some x → is_pending x.status ≡ true → is_among n queued ≡ true) → (is_pending d.status ≡ true → is_pending c.status ≡ true)
+        → (n : ℕ) (x : CallbackRow) → find (has_number n) (replaced d cs) ≡ Some x → is_pending x.status ≡ true → is_among n queued ≡ true
+    replaced_pending old kept n x there waits =
+        elim (has_number n d) as (λ b. has_number n d ≡ b → is_among n queued ≡ true) [
+          | true ↦ λ e.
+              let is : d.number ≡ n = eqb-true d.number n e in
+              let same : d ≡ x = same_row d.number n d x (replaced d cs) is (find_replaced d c cs found) there in
+              old n c (ap (λ k. find (has_number k) cs) (sym is) ∙ found) (kept (ap (λ (y : CallbackRow). is_pending y.status) same ∙ waits))
+          | false ↦ λ e. old n x (sym (find_replaced_other d n cs e) ∙ there) waits
+        ] refl
+
+    replaced_cancelled : ((n : ℕ) → is_among n cancelled ≡ true → (x : CallbackRow) × (find (has_number n) cs ≡ Some x) × (is_cancelled x.status ≡ true)) → (is_cancelled c.status ≡ true → is_cancelled d.status ≡ true)
+        → (n : ℕ) → is_among n cancelled ≡ true → (x : CallbackRow) × (find (has_number n) (replaced d cs) ≡ Some x) × (is_cancelled x.status ≡ true)
+    replaced_cancelled old kept n named =
+        let before = old n named in
+        elim (has_number n d) as (λ b. has_number n d ≡ b → (x : CallbackRow) × (find (has_number n) (replaced d cs) ≡ Some x) × (is_cancelled x.status ≡ true)) [
+          | true ↦ λ e.
+              let is : d.number ≡ n = eqb-true d.number n e in
+              let same : before.0 ≡ c = same_row n d.number before.0 c cs (sym is) before.1 found in
+              (d, ap (λ k. find (has_number k) (replaced d cs)) (sym is) ∙ find_replaced d c cs found, kept (ap (λ (y : CallbackRow). is_cancelled y.status) (sym same) ∙ before.2))
+          | false ↦ λ e. (before.0, find_replaced_other d n cs e ∙ before.1, before.2)
+        ] refl
+
+    -- a callback that begins nothing new, nor is cancelled
+    agrees_marked : Agrees made queued taken cancelled count cs → has_begun d.status ≡ has_begun c.status → is_cancelled d.status ≡ is_cancelled c.status → (is_pending d.status ≡ true → is_pending c.status ≡ true)
+        → AgreesWith made queued taken cancelled count nothing (replaced d cs)
+    agrees_marked a same_begun same_cancelled waits =
+        record {
+          in_order = a.in_order ∙ ap (range_with_len 1) (sym (length_replaced d cs));
+          taken_begun = λ n. ap (times n) (append-nil taken) ∙ a.taken_begun n ∙ as_begun n;
+          pending_queued = replaced_pending a.pending_queued waits;
+          named_cancelled = λ n named. replaced_cancelled a.named_cancelled (λ e. same_cancelled ∙ e) n (ap (is_among n) (sym (append-nil cancelled)) ∙ named);
+          as_many_taken = ap length (append-nil taken) ∙ a.as_many_taken ∙ as_many begun same_begun;
+          as_many_cancelled = omega (arith, ap length (append-nil cancelled), a.as_many_cancelled, as_many dropped same_cancelled);
+        }
+      where
+        as_many : (p : CallbackRow → Bool) → p d ≡ p c → length (filter p cs) ≡ length (filter p (replaced d cs))
+        as_many p same = omega (arith, length_filter_replaced p d c 1 fresh cs rising found, ap one_if same)
+
+        as_begun : (n : ℕ) → times_begun (find (has_number n) cs) ≡ times_begun (find (has_number n) (replaced d cs))
+        as_begun n =
+            elim (has_number n d) as (λ b. has_number n d ≡ b → times_begun (find (has_number n) cs) ≡ times_begun (find (has_number n) (replaced d cs))) [
+              | true ↦ λ e.
+                  let is : d.number ≡ n = eqb-true d.number n e in
+                  subst (λ k. times_begun (find (has_number k) cs) ≡ times_begun (find (has_number k) (replaced d cs))) is
+                  (ap times_begun found ∙ ap one_if (sym same_begun) ∙ ap times_begun (sym (find_replaced d c cs found)))
+              | false ↦ λ e. ap times_begun (sym (find_replaced_other d n cs e))
+            ] refl
+
+    -- a pending callback is taken
+    agrees_taken : (run : Option Run) → Agrees made queued taken cancelled count cs → is_pending c.status ≡ true → has_begun d.status ≡ true → is_cancelled d.status ≡ false → is_pending d.status ≡ false
+        → AgreesWith made queued taken cancelled count (record nothing { taken = Some d.number; run = run }) (replaced d cs)
+    agrees_taken run a waits begins uncancelled unpending =
+        record {
+          in_order = a.in_order ∙ ap (range_with_len 1) (sym (length_replaced d cs));
+          taken_begun = λ n. times_more n ∙ as_begun n;
+          pending_queued = replaced_pending a.pending_queued (λ e. absurd (false_true (sym unpending ∙ e)));
+          named_cancelled = λ n named. replaced_cancelled a.named_cancelled (λ e. absurd (false_true (sym (pending_uncancelled c.status waits) ∙ e))) n (ap (is_among n) (sym (append-nil cancelled)) ∙ named);
+          as_many_taken = omega (arith, length-append taken (d.number ∷ []), a.as_many_taken, length_filter_replaced begun d c 1 fresh cs rising found, ap one_if begins, ap one_if (pending_unbegun c.status waits));
+          as_many_cancelled = omega (arith, ap length (append-nil cancelled), a.as_many_cancelled, length_filter_replaced dropped d c 1 fresh cs rising found, ap one_if uncancelled, ap one_if (pending_uncancelled c.status waits));
+        }
+      where
+        times_more : (n : ℕ) → times n (taken ++ d.number ∷ []) ≡ times n taken + cond (d.number == n) 1 0
+        times_more n =
+            ap length (filter-append (λ m. m == n) taken (d.number ∷ [])) ∙ length-append (filter (λ m. m == n) taken) (filter (λ m. m == n) (d.number ∷ []))
+            ∙ elim (d.number == n) as (λ b. times n taken + length (cond b (d.number ∷ []) []) ≡ times n taken + cond b 1 0) [ true ↦ refl | false ↦ refl ]
+
+        as_begun : (n : ℕ) → times n taken + cond (d.number == n) 1 0 ≡ times_begun (find (has_number n) (replaced d cs))
+        as_begun n =
+            elim (d.number == n) as (λ b. (d.number == n) ≡ b → times n taken + cond b 1 0 ≡ times_begun (find (has_number n) (replaced d cs))) [
+              | true ↦ λ e.
+                  let is : d.number ≡ n = eqb-true d.number n e in
+                  let none : times n taken ≡ 0 = a.taken_begun n ∙ ap (λ k. times_begun (find (has_number k) cs)) (sym is) ∙ ap times_begun found ∙ ap one_if (pending_unbegun c.status waits) in
+                  let one : times_begun (find (has_number n) (replaced d cs)) ≡ 1 = ap (λ k. times_begun (find (has_number k) (replaced d cs))) (sym is) ∙ ap times_begun (find_replaced d c cs found) ∙ ap one_if begins in
+                  omega (arith, none, one)
+              | false ↦ λ e.
+                  let others : times n taken ≡ times_begun (find (has_number n) (replaced d cs)) = a.taken_begun n ∙ ap times_begun (sym (find_replaced_other d n cs e)) in
+                  omega (arith, others)
+            ] refl
+
+-- ---- every move keeps it
+
+move_agrees : (made queued taken cancelled : List ℕ) (count fresh : ℕ) (w : World) (entry : Entry) (kept : List CallbackRow) (staff : List WorkerRow) → IsRising 1 fresh w.callbacks
+    → Agrees made queued taken cancelled count w.callbacks → Move w entry kept staff → AgreesWith made queued taken cancelled count (deed_by entry) kept
+move_agrees made queued taken cancelled count fresh w entry kept staff rising a move = of_move move
+  where
+    to : (deed : Deed) (cs : List CallbackRow) → deed_by entry ≡ deed → kept ≡ cs → AgreesWith made queued taken cancelled count deed cs → AgreesWith made queued taken cancelled count (deed_by entry) kept
+    to deed cs tells same here = subst (λ (t : Deed). AgreesWith made queued taken cancelled count t kept) (sym tells) (subst (λ l. AgreesWith made queued taken cancelled count deed l) (sym same) here)
+
+    still : AgreesWith made queued taken cancelled count nothing w.callbacks
+    still = agrees_same made queued taken cancelled count w.callbacks a
+
+    of_move : Move w entry kept staff → AgreesWith made queued taken cancelled count (deed_by entry) kept
+    of_move (Stay m) = to nothing w.callbacks m.tells m.callbacks still
+    of_move (Mark m) =
+        to nothing (replaced m.new w.callbacks) m.tells m.callbacks
+        (agrees_marked made queued taken cancelled count w.callbacks fresh m.old m.new rising m.found a (ap has_begun m.status) (ap is_cancelled m.status) (λ e. ap is_pending (sym m.status) ∙ e))
+    of_move (Attach m) = to (record nothing { attached = Some m.pool.0 }) w.callbacks m.tells m.callbacks still
+    of_move (Detach m) = to nothing w.callbacks m.tells m.callbacks still
+    of_move (Take m) =
+        let d : CallbackRow = taken_row m.callback m.worker in
+        to (record nothing { taken = Some m.callback.number; run = Some (run_of m.callback) }) (replaced d w.callbacks) m.tells m.callbacks
+        (agrees_taken made queued taken cancelled count w.callbacks fresh m.callback d rising m.found (Some (run_of m.callback)) a m.waits refl refl refl)
+    of_move (Return m) =
+        let d : CallbackRow = returned m.callback in
+        to (record nothing { returned = true }) (replaced d w.callbacks) m.tells m.callbacks
+        (agrees_marked made queued taken cancelled count w.callbacks fresh m.callback d rising m.found a (sym (running_begun m.callback.status m.runs)) (sym (running_uncancelled m.callback.status m.runs)) (λ e. absurd (false_true e)))
+
+-- as many callbacks as before
+pub move_as_many : (w : World) (entry : Entry) (kept : List CallbackRow) (staff : List WorkerRow) → Move w entry kept staff → length kept ≡ length w.callbacks
+move_as_many w entry kept staff (Stay m) = ap length m.callbacks
+move_as_many w entry kept staff (Mark m) = ap length m.callbacks ∙ length_replaced m.new w.callbacks
+move_as_many w entry kept staff (Attach m) = ap length m.callbacks
+move_as_many w entry kept staff (Detach m) = ap length m.callbacks
+move_as_many w entry kept staff (Take m) = ap length m.callbacks ∙ length_replaced (taken_row m.callback m.worker) w.callbacks
+move_as_many w entry kept staff (Return m) = ap length m.callbacks ∙ length_replaced (returned m.callback) w.callbacks
+
+-- the callbacks that are made, one by one
+new_agree : (made queued taken cancelled : List ℕ) (count fresh : ℕ) (cs new : List CallbackRow) → fresh ≡ length cs + 1 → AreNew fresh new → Agrees made queued taken cancelled count cs
+    → Agrees (made ++ numbers_of new) (queued ++ waiting_of new) taken cancelled count (cs ++ new)
+new_agree made queued taken cancelled count fresh cs [] is rows a =
+    subst (λ m. Agrees m (queued ++ []) taken cancelled count (cs ++ [])) (sym (append-nil made))
+    (subst (λ q. Agrees made q taken cancelled count (cs ++ [])) (sym (append-nil queued)) (subst (Agrees made queued taken cancelled count) (sym (append-nil cs)) a))
+new_agree made queued taken cancelled count fresh cs (c ∷ new) is rows a =
+    let one : Agrees (made ++ c.number ∷ []) (queued ++ waiting_of (c ∷ [])) taken cancelled count (cs ++ c ∷ []) = agrees_made made queued taken cancelled count cs c fresh a is rows.0.numbered rows.0.unbegun in
+    let longer : fresh + 1 ≡ length (cs ++ c ∷ []) + 1 = omega (arith, is, length-append cs (c ∷ [])) in
+    let rest : Agrees ((made ++ c.number ∷ []) ++ numbers_of new) ((queued ++ waiting_of (c ∷ [])) ++ waiting_of new) taken cancelled count ((cs ++ c ∷ []) ++ new)
+    = new_agree (made ++ c.number ∷ []) (queued ++ waiting_of (c ∷ [])) taken cancelled count (fresh + 1) (cs ++ c ∷ []) new longer rows.1 one in
+    subst (λ m. Agrees m (queued ++ waiting_of (c ∷ new)) taken cancelled count (cs ++ c ∷ new)) (append_assoc made (c.number ∷ []) (numbers_of new))
+    (subst (λ q. Agrees ((made ++ c.number ∷ []) ++ numbers_of new) q taken cancelled count (cs ++ c ∷ new)) (waiting_split queued c new)
+    (subst (Agrees ((made ++ c.number ∷ []) ++ numbers_of new) ((queued ++ waiting_of (c ∷ [])) ++ waiting_of new) taken cancelled count) (append_assoc cs (c ∷ []) new) rest))
+  where
+    waiting_split : (qs : List ℕ) (d : CallbackRow) (ds : List CallbackRow) → (qs ++ waiting_of (d ∷ [])) ++ waiting_of ds ≡ qs ++ waiting_of (d ∷ ds)
+    waiting_split qs d ds =
+        append_assoc qs (waiting_of (d ∷ [])) (waiting_of ds)
+        ∙ elim (is_pending d.status) as (λ b. qs ++ (numbers_of (cond b (d ∷ []) []) ++ waiting_of ds) ≡ qs ++ numbers_of (cond b (d ∷ filter (λ (x : CallbackRow). is_pending x.status) ds) (filter (λ (x : CallbackRow). is_pending x.status) ds))) [ true ↦ refl | false ↦ refl ]
+
+-- ---- along a history
+
+abbrev pub AgreesAfter : List Entry → World → Type 0
+AgreesAfter history w = Agrees (numbers_made history) (numbers_queued history) (numbers_taken history) (numbers_cancelled history) (count_cancelled history) w.callbacks
+
+-- one entry more tells what it tells besides
+agrees_entry : (before : List Entry) (entry : Entry) (cs : List CallbackRow)
+    → AgreesWith (numbers_made before ++ made_by entry) (numbers_queued before ++ queued_by entry.answer) (numbers_taken before) (numbers_cancelled before) (count_cancelled before) (deed_by entry) cs
+    → Agrees (numbers_made (before ++ entry ∷ [])) (numbers_queued (before ++ entry ∷ [])) (numbers_taken (before ++ entry ∷ [])) (numbers_cancelled (before ++ entry ∷ [])) (count_cancelled (before ++ entry ∷ [])) cs
+agrees_entry before entry cs a =
+    subst (λ m. Agrees m (numbers_queued all) (numbers_taken all) (numbers_cancelled all) (count_cancelled all) cs) (sym (lists made_by))
+    (subst (λ q. Agrees (numbers_made before ++ made_by entry) q (numbers_taken all) (numbers_cancelled all) (count_cancelled all) cs) (sym (lists (λ (e : Entry). queued_by e.answer)))
+    (subst (λ t. Agrees (numbers_made before ++ made_by entry) (numbers_queued before ++ queued_by entry.answer) t (numbers_cancelled all) (count_cancelled all) cs) (sym (ones (λ (e : Entry). taken_by e.answer)))
+    (subst (λ c. Agrees (numbers_made before ++ made_by entry) (numbers_queued before ++ queued_by entry.answer) (numbers_taken before ++ option_to_list (taken_by entry.answer)) c (count_cancelled all) cs) (sym (ones (λ (e : Entry). cancelled_by e.answer)))
+    (subst (λ s. Agrees (numbers_made before ++ made_by entry) (numbers_queued before ++ queued_by entry.answer) (numbers_taken before ++ option_to_list (taken_by entry.answer)) (numbers_cancelled before ++ option_to_list (cancelled_by entry.answer)) s cs)
+    (sym (sum_by_push (λ (e : Entry). cancelled_count e.answer) before entry)) a))))
+  where
+    all : List Entry
+    all = before ++ entry ∷ []
+
+    lists : (f : Entry → List ℕ) → flat_map f (before ++ entry ∷ []) ≡ flat_map f before ++ f entry
+    lists f = flat_map-append f before (entry ∷ []) ∙ ap (λ t. flat_map f before ++ t) (append-nil (f entry))
+
+    single : (o : Option ℕ) → cons_option o [] ≡ option_to_list o
+    single None = refl
+    single (Some n) = refl
+
+    ones : (f : Entry → Option ℕ) → filter_map f (before ++ entry ∷ []) ≡ filter_map f before ++ option_to_list (f entry)
+    ones f = filter_map-append f before (entry ∷ []) ∙ ap (λ t. filter_map f before ++ t) (single (f entry))
+
+pub agrees_on : (before : List Entry) (w : World) (entry : Entry) (after : World) → IsRising 1 (length w.callbacks + 1) w.callbacks → AgreesAfter before w → Moves (length w.callbacks + 1) w entry after → AgreesAfter (before ++ entry ∷ []) after
+agrees_on before w entry after rising a moves =
+    let moved = move_agrees (numbers_made before) (numbers_queued before) (numbers_taken before) (numbers_cancelled before) (count_cancelled before) (length w.callbacks + 1) w entry moves.kept after.workers rising a moves.move in
+    let longer : length w.callbacks + 1 ≡ length moves.kept + 1 = ap (λ n. n + 1) (sym (move_as_many w entry moves.kept after.workers moves.move)) in
+    let made = new_agree (numbers_made before) (numbers_queued before) (numbers_taken before ++ option_to_list (taken_by entry.answer)) (numbers_cancelled before ++ option_to_list (cancelled_by entry.answer)) (count_cancelled before + cancelled_count entry.answer)
+        (length w.callbacks + 1) moves.kept moves.new longer moves.rows moved in
+    agrees_entry before entry after.callbacks
+    (subst (λ m. AgreesWith (numbers_made before ++ m) (numbers_queued before ++ queued_by entry.answer) (numbers_taken before) (numbers_cancelled before) (count_cancelled before) (deed_by entry) after.callbacks) (sym moves.made)
+    (subst (λ q. AgreesWith (numbers_made before ++ numbers_of moves.new) (numbers_queued before ++ q) (numbers_taken before) (numbers_cancelled before) (count_cancelled before) (deed_by entry) after.callbacks) (sym moves.queued)
+    (subst (AgreesWith (numbers_made before ++ numbers_of moves.new) (numbers_queued before ++ waiting_of moves.new) (numbers_taken before) (numbers_cancelled before) (count_cancelled before) (deed_by entry)) (sym moves.callbacks) made)))
+
+-- ---- what the law says of an entry
+
+-- what an entry takes was pending
+pub taken_waits : (w : World) (entry : Entry) (kept : List CallbackRow) (staff : List WorkerRow) (n : ℕ) → Move w entry kept staff → taken_by entry.answer ≡ Some n → (c : CallbackRow) × (find (has_number n) w.callbacks ≡ Some c) × (is_pending c.status ≡ true)
+taken_waits w entry kept staff n (Take m) e =
+    let is : m.callback.number ≡ n = number_is (ap (λ (t : Deed). t.taken) m.tells) in
+    (m.callback, ap (λ k. find (has_number k) w.callbacks) (sym is) ∙ m.found, m.waits)
+  where
+    number_is : taken_by entry.answer ≡ Some m.callback.number → m.callback.number ≡ n
+    number_is h = let both_told : Some m.callback.number ≡ Some n = sym h ∙ e in cc
+taken_waits w entry kept staff n (Stay m) e = absurd (let h = sym (ap (λ (t : Deed). t.taken) m.tells) ∙ e in cc)
+taken_waits w entry kept staff n (Mark m) e = absurd (let h = sym (ap (λ (t : Deed). t.taken) m.tells) ∙ e in cc)
+taken_waits w entry kept staff n (Attach m) e = absurd (let h = sym (ap (λ (t : Deed). t.taken) m.tells) ∙ e in cc)
+taken_waits w entry kept staff n (Detach m) e = absurd (let h = sym (ap (λ (t : Deed). t.taken) m.tells) ∙ e in cc)
+taken_waits w entry kept staff n (Return m) e = absurd (let h = sym (ap (λ (t : Deed). t.taken) m.tells) ∙ e in cc)
+
+-- a first place that passes is within the list
+passes_within : {X : Type 0} (p : X → Bool) (xs : List X) → list_any p xs ≡ true → is_some (position p xs) ≡ true
+passes_within {X} p xs e = ap (λ b. is_some (cond b (Some (position_or_len p xs)) None)) (lt-ltb (position_or_len p xs) (length xs) (before_end xs e))
+  where
+    before_end : (ys : List X) → list_any p ys ≡ true → prefix_len (λ x. not (p x)) ys < length ys
+    before_end [] h = absurd (false_true h)
+    before_end (y ∷ ys) h =
+        elim (p y) as (λ b. (b || list_any p ys) ≡ true → cond (not b) (1 + prefix_len (λ x. not (p x)) ys) 0 < length (y ∷ ys)) [
+          | true ↦ λ _. omega arith
+          | false ↦ λ rest. omega (arith, before_end ys rest)
+        ] h
+
+among_some : (n : ℕ) (history : List Entry) → is_among n (numbers_queued history) ≡ true → list_any (λ (e : Entry). is_among n (queued_by e.answer)) history ≡ true
+among_some n [] e = absurd (false_true e)
+among_some n (entry ∷ rest) e =
+    elim (is_among n (queued_by entry.answer)) as (λ b. (b || is_among n (numbers_queued rest)) ≡ true → (b || list_any (λ (x : Entry). is_among n (queued_by x.answer)) rest) ≡ true) [
+      | true ↦ λ _. refl
+      | false ↦ λ h. among_some n rest h
+    ] (sym (list_any-append (λ m. m == n) (queued_by entry.answer) (numbers_queued rest)) ∙ e)
+
+pub takes_ready : (before : List Entry) (w : World) (entry : Entry) (after : World) → AgreesAfter before w → Moves (length w.callbacks + 1) w entry after → TakesReady before entry
+takes_ready before w entry after a moves n e =
+    let taken = taken_waits w entry moves.kept after.workers n moves.move e in
+    passes_within (λ (x : Entry). is_among n (queued_by x.answer)) before (among_some n before (a.pending_queued n taken.0 taken.1 taken.2))
+
+pub takes_uncancelled : (before : List Entry) (w : World) (entry : Entry) (after : World) → AgreesAfter before w → Moves (length w.callbacks + 1) w entry after → TakesUncancelled before entry
+takes_uncancelled before w entry after a moves n e =
+    let taken = taken_waits w entry moves.kept after.workers n moves.move e in
+    not_true (is_among n (numbers_cancelled before)) (λ named.
+    let old = a.named_cancelled n named in
+    let same : old.0 ≡ taken.0 = same_row n n old.0 taken.0 w.callbacks refl old.1 taken.1 in
+    false_true (sym (pending_uncancelled taken.0.status taken.2) ∙ ap (λ (x : CallbackRow). is_cancelled x.status) (sym same) ∙ old.2))
+  where
+    not_true : (b : Bool) → (b ≡ true → ⊥) → b ≡ false
+    not_true true h = absurd (h refl)
+    not_true false h = refl
+
+-- ---- what it says of a whole history
+
+abbrev lefts : CallbackRow → Bool
+lefts c = is_left c.status
+
+left_unbegun : (s : Status) → is_left s ≡ true → has_begun s ≡ false
+left_unbegun Expected e = refl
+left_unbegun Issued e = refl
+left_unbegun Pending e = refl
+left_unbegun (Running worker associated slots) e = cc
+left_unbegun Returned e = cc
+left_unbegun Cancelled e = cc
+
+-- a callback has begun, is cancelled or is left
+one_of_three : (s : Status) → one_if (has_begun s) + one_if (is_cancelled s) + one_if (is_left s) ≡ 1
+one_of_three Expected = refl
+one_of_three Issued = refl
+one_of_three Pending = refl
+one_of_three (Running worker associated slots) = refl
+one_of_three Returned = refl
+one_of_three Cancelled = refl
+
+none_missed : (cs : List CallbackRow) → length cs ≡ length (filter begun cs) + length (filter dropped cs) + length (filter lefts cs)
+none_missed [] = refl
+none_missed (c ∷ cs) = omega (arith, none_missed cs, one_of_three c.status, one_more begun, one_more dropped, one_more lefts)
+  where
+    one_more : (p : CallbackRow → Bool) → length (filter p (c ∷ cs)) ≡ length (filter p cs) + one_if (p c)
+    one_more p = elim (p c) as (λ b. length (cond b (c ∷ filter p cs) (filter p cs)) ≡ length (filter p cs) + one_if b) [ true ↦ omega arith | false ↦ omega arith ]
+
+none_among : {X : Type 0} (p : X → Bool) (xs : List X) → length (filter p xs) ≡ 0 → list_any p xs ≡ false
+none_among p [] e = refl
+none_among {X} p (x ∷ xs) e =
+    elim (p x) as (λ b. length (cond b (x ∷ filter p xs) (filter p xs)) ≡ 0 → (b || list_any p xs) ≡ false) [
+      | true ↦ λ h. absurd (omega (arith, h))
+      | false ↦ λ h. none_among p xs h
+    ] e
+
+module _ (history : List Entry) (w : World) (rising : IsRising 1 (length w.callbacks + 1) w.callbacks) (a : AgreesAfter history w) where
+  pub made_in_order : numbers_made history ≡ range_with_len 1 (length (numbers_made history))
+  made_in_order = a.in_order ∙ ap (range_with_len 1) (sym (ap length a.in_order ∙ length-range_with_len 1 (length w.callbacks)))
+
+  pub taken_once : (n : ℕ) → times n (numbers_taken history) ≤ 1
+  taken_once n = subst (λ k. k ≤ 1) (sym (a.taken_begun n)) (at_most_one (find (has_number n) w.callbacks))
+    where
+      at_most_one : (o : Option CallbackRow) → times_begun o ≤ 1
+      at_most_one None = omega arith
+      at_most_one (Some c) = elim (has_begun c.status) as (λ b. cond b 1 0 ≤ 1) [ true ↦ omega arith | false ↦ omega arith ]
+
+  pub left_untaken : All (λ l. is_among l.0 (numbers_taken history) ≡ false) (left w)
+  left_untaken =
+      All-map (λ l. is_among l.0 (numbers_taken history) ≡ false) (λ c. (c.number, c.object, c.status)) (filter lefts w.callbacks)
+      (λ k d within. untaken k (get_or (filter lefts w.callbacks) k d) (slice_get-get_or (filter lefts w.callbacks) k d within))
+    where
+      untaken : (k : ℕ) (c : CallbackRow) → slice_get (filter lefts w.callbacks) k ≡ Some c → is_among c.number (numbers_taken history) ≡ false
+      untaken k c is =
+          let kept = kept_found lefts 1 (length w.callbacks + 1) w.callbacks k c rising is in
+          none_among (λ m. m == c.number) (numbers_taken history) (a.taken_begun c.number ∙ ap times_begun kept.0 ∙ ap one_if (left_unbegun c.status kept.1))
+
+  pub made_are : length (numbers_made history) ≡ length (numbers_taken history) + count_cancelled history + length (numbers_cancelled history) + length (left w)
+  made_are =
+      omega (arith, ap length a.in_order, length-range_with_len 1 (length w.callbacks), none_missed w.callbacks, a.as_many_taken, a.as_many_cancelled, length-map {B = ℕ × ObjectId × Status} (filter lefts w.callbacks) (λ c. (c.number, c.object, c.status)))
