@@ -1,7 +1,7 @@
 -- What is known of an actor that is an idle or a busy worker, and of the callback that is next.
 use Rattle.std.specs.List.{range_with_len}
 use Rattle.std.specs.Option.{option_or}
-use Rattle.std.proofs.Common.{◌≡◌, ℕ, suc, zero, ◌+◌, ◌-◌, ◌<◌, ◌≤◌, Bool, true, false, cond, length, ◌&&◌, ◌==◌, List, [], ◌∷◌, ◌++◌, slice_get, Option, Some, None, is_some, option_map, refl, sym, ap, ap₂, ◌∙◌, append_assoc, subst, arith, find, eqb-true}
+use Rattle.std.proofs.Common.{◌≡◌, ℕ, suc, zero, ◌+◌, ◌-◌, ◌<◌, Bool, true, false, cond, length, ◌&&◌, List, [], ◌∷◌, ◌++◌, slice_get, Option, Some, None, option_map, refl, sym, ap, ◌∙◌, append_assoc, subst, arith, find, eqb-true}
 use Rattle.tp_base.specs.declared.ids.Who.{Who}
 use Rattle.tp_base.specs.declared.ids.Who.TheVariants.{Client, Worker}
 use Rattle.tp_base.specs.declared.ids.PoolId.{PoolId}
@@ -14,7 +14,7 @@ use Rattle.tp_model.specs.World.{World}
 use Rattle.tp_model.specs.Counts.{numbered, callback_of, has_number, is_pending_in, is_high, is_normal, is_low, waiting, next, least_pool, is_in_need, is_below_minimum}
 use Rattle.tp_model.specs.Conditions.{idle_row, idle_in, idle_of, busy_row, busy_in, busy_of}
 use Rattle.tp_model.specs.Calls.Workers.{pool_to_join}
-use Rattle.tp_model.specs.Sound.{IsSound, IsWorkerSound, RunsOn}
+use Rattle.tp_model.specs.Sound.{IsSound, RunsOn}
 use Rattle.tp_model.specs.Allowed.{Idles, Runs}
 use Rattle.tp_model.proofs.Lists.{find_passes}
 use Rattle.tp_model.proofs.Callbacks.{kept_found}

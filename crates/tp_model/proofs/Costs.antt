@@ -13,7 +13,7 @@ use Rattle.tp_base.specs.declared.rows.WorkerRow.{WorkerRow}
 use Rattle.tp_base.specs.declared.rows.ClientRow.{ClientRow}
 use Rattle.tp_model.specs.World.{World, unattached, unfinished}
 use Rattle.tp_model.specs.Counts.{numbered, has_number, is_pending, is_running, owed}
-use Rattle.tp_model.specs.Changes.{with_new_callback, with_callback, with_worker, with_client, change_pool, taken, marked, returned, finished, changed}
+use Rattle.tp_model.specs.Changes.{with_new_callback, with_callback, with_worker, with_client, change_pool, taken, marked, returned, changed}
 use Rattle.tp_model.specs.Sound.{IsSound}
 use Rattle.tp_model.specs.Allowed.{IsAllowed, price}
 use Rattle.tp_model.proofs.Lists.{length_filter_set}

@@ -1,5 +1,5 @@
 -- What an entry of a legal history leads to, and what is kept along a history.
-use Rattle.std.proofs.Common.{◌≡◌, ℕ, ◌+◌, ◌-◌, ◌≤◌, Bool, true, false, cond, ◌&&◌, List, [], ◌∷◌, ◌++◌, length, nat_lt, Some, refl, sym, ap, ◌∙◌, append_assoc, subst, arith}
+use Rattle.std.proofs.Common.{◌≡◌, ℕ, ◌+◌, Bool, true, false, cond, ◌&&◌, List, [], ◌∷◌, ◌++◌, length, nat_lt, Some, refl, sym, ap, ◌∙◌, append_assoc, subst, arith}
 use Rattle.std.proofs.lemmas.List.{append-nil}
 use Rattle.tp_base.specs.declared.ids.Who.{Who}
 use Rattle.tp_base.specs.declared.calls.Call.{Call}
@@ -14,7 +14,7 @@ use Rattle.tp_base.specs.declared.plans.Plan.{Plan}
 use Rattle.tp_base.specs.declared.plans.Plan.TheVariants as plans
 use Rattle.tp_model.specs.World.{World}
 use Rattle.tp_model.specs.Changes.{changed}
-use Rattle.tp_model.specs.Step.{Step, Accepted, Refused, Looked, Full, stepped, within, cost, outcome_of}
+use Rattle.tp_model.specs.Step.{Accepted, Refused, Full, stepped, within, cost, outcome_of}
 use Rattle.tp_model.specs.Table.{plan, step}
 use Rattle.tp_model.specs.History.{is_refusal, change_of, change_told, led_by, led_to, after_from, room, IsLegalFrom}
 use Rattle.tp_model.specs.Sound.{IsSound}

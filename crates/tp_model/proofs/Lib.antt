@@ -2,9 +2,13 @@ pub mod Actors
 pub mod Callbacks
 pub mod Costs
 pub mod Entries
+mod Examples
 pub mod Forgetting
 pub mod Growing
+mod LawExamples
+pub mod Laws
 pub mod Lists
+pub mod Maximum
 pub mod Meeting
 pub mod Moving
 pub mod Once

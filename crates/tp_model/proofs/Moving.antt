@@ -1,9 +1,8 @@
 -- Each change moves callbacks, workers and pools as its entry tells.
-use Rattle.std.proofs.Common.{◌≡◌, ◌≢◌, ℕ, suc, zero, ◌-◌, ◌<◌, Bool, true, false, cond, ◌==◌, max, List, [], ◌∷◌, ◌++◌, length, slice_get, slice_set, get_or, Option, Some, None, refl, sym, ap, ◌∙◌, subst, find, eqb-true, eq-eqb}
+use Rattle.std.proofs.Common.{◌≡◌, ◌≢◌, ℕ, suc, zero, ◌<◌, Bool, true, false, cond, ◌==◌, max, List, [], ◌∷◌, ◌++◌, length, slice_get, slice_set, get_or, Option, Some, None, refl, sym, ap, ◌∙◌, subst, eqb-true, eq-eqb}
 use Rattle.std.specs.Option.{option_map_or}
 use Rattle.std.proofs.lemmas.Option.{slice_get-get_or}
 use Rattle.std.proofs.lemmas.List.{append-nil}
-use Rattle.tp_base.specs.declared.ids.Who.TheVariants.{Worker}
 use Rattle.tp_base.specs.declared.plans.Mark.{Mark}
 use Rattle.tp_base.specs.declared.plans.Mark.TheVariants.{Long}
 use Rattle.tp_base.specs.declared.plans.PoolChange.{PoolChange}
@@ -15,15 +14,13 @@ use Rattle.tp_base.specs.declared.answers.Entry.{Entry}
 use Rattle.tp_base.specs.declared.rows.PoolRow.{PoolRow}
 use Rattle.tp_base.specs.declared.rows.Status.{Status}
 use Rattle.tp_base.specs.declared.rows.Status.TheVariants.{Pending}
-use Rattle.tp_base.specs.declared.rows.CallbackRow.{CallbackRow}
-use Rattle.tp_base.specs.declared.rows.WorkerRow.{WorkerRow}
 use Rattle.tp_model.specs.World.{World, new_pool, unattached}
-use Rattle.tp_model.specs.Counts.{numbered, has_number, is_pending, is_running}
+use Rattle.tp_model.specs.Counts.{is_pending, is_running}
 use Rattle.tp_model.specs.Changes.{change_pool, pool_after, with_pool, marked, changed}
 use Rattle.tp_model.specs.Allowed.{IsAllowed, IsMadeBy, Runs}
 use Rattle.tp_model.specs.Laws.Entries.{made_by, queued_by}
-use Rattle.tp_model.specs.Told.{Told, Deed, deed_by, nothing, silent, maxima_by, told, told_by}
-use Rattle.tp_model.specs.Moves.{Move, Stay, Mark as Marking, Attach, Detach, Take, Return, IsFree, IsNew, Moves, Leads, maximum_at, is_new, numbers_of}
+use Rattle.tp_model.specs.Told.{Told, deed_by, nothing, silent, maxima_by, told, told_by}
+use Rattle.tp_model.specs.Moves.{Move, Stay, Mark as Marking, Attach, Detach, Take, Return, Moves, Leads, maximum_at, is_new, numbers_of}
 use Rattle.tp_model.proofs.Refusals.{false_true}
 
 -- ---- pools

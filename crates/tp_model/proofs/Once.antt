@@ -22,7 +22,7 @@ use Rattle.tp_model.specs.Sound.{IsRising}
 use Rattle.tp_model.specs.Laws.Entries.{Run, is_among, times, numbers_made, numbers_queued, numbers_taken, numbers_cancelled, count_cancelled, made_by, queued_by, taken_by, cancelled_by, cancelled_count}
 use Rattle.tp_model.specs.Laws.Once.{is_left, left, TakesReady, TakesUncancelled}
 use Rattle.tp_model.specs.Told.{Deed, deed_by, nothing}
-use Rattle.tp_model.specs.Moves.{Move, Stay, Mark, Attach, Detach, Take, Return, Moves, run_of, AreNew, IsNew, is_new, numbers_of, waiting_of}
+use Rattle.tp_model.specs.Moves.{Move, Stay, Mark, Attach, Detach, Take, Return, Moves, run_of, AreNew, is_new, numbers_of, waiting_of}
 use Rattle.tp_model.proofs.Callbacks.{find_appended, find_replaced, find_replaced_other, length_replaced, length_filter_replaced, kept_found}
 use Rattle.tp_model.proofs.Refusals.{false_true}
 
@@ -379,7 +379,7 @@ agrees_on before w entry after rising a moves =
     let moved = move_agrees (numbers_made before) (numbers_queued before) (numbers_taken before) (numbers_cancelled before) (count_cancelled before) (length w.callbacks + 1) w entry moves.kept after.workers rising a moves.move in
     let longer : length w.callbacks + 1 ≡ length moves.kept + 1 = ap (λ n. n + 1) (sym (move_as_many w entry moves.kept after.workers moves.move)) in
     let made = new_agree (numbers_made before) (numbers_queued before) (numbers_taken before ++ option_to_list (taken_by entry.answer)) (numbers_cancelled before ++ option_to_list (cancelled_by entry.answer)) (count_cancelled before + cancelled_count entry.answer)
-        (length w.callbacks + 1) moves.kept moves.new longer moves.rows moved in
+    (length w.callbacks + 1) moves.kept moves.new longer moves.rows moved in
     agrees_entry before entry after.callbacks
     (subst (λ m. AgreesWith (numbers_made before ++ m) (numbers_queued before ++ queued_by entry.answer) (numbers_taken before) (numbers_cancelled before) (count_cancelled before) (deed_by entry) after.callbacks) (sym moves.made)
     (subst (λ q. AgreesWith (numbers_made before ++ numbers_of moves.new) (numbers_queued before ++ q) (numbers_taken before) (numbers_cancelled before) (count_cancelled before) (deed_by entry) after.callbacks) (sym moves.queued)

@@ -1,5 +1,5 @@
 -- The plan of each call asks for a change that is allowed, made by the actor.
-use Rattle.std.proofs.Common.{◌≡◌, ℕ, ◌<◌, Bool, true, false, cond, not, ◌||◌, ◌&&◌, ◌==◌, List, length, nat_le, Option, Some, None, is_some, refl, sym, ap, ◌∙◌, eqb-true, slice_get}
+use Rattle.std.proofs.Common.{◌≡◌, ℕ, ◌<◌, Bool, true, false, cond, not, ◌||◌, ◌==◌, List, length, nat_le, Option, Some, None, is_some, refl, sym, ap, ◌∙◌, eqb-true}
 use Rattle.std.specs.Option.{option_map_or}
 use Rattle.std.proofs.lemmas.Bool.{leb-false}
 use Rattle.tp_base.specs.declared.ids.Who.{Who}
@@ -32,7 +32,7 @@ use Rattle.tp_model.specs.Conditions.{is_actor, is_pool, is_finished, is_attache
 use Rattle.tp_model.specs.Refusing.{first_refusal, unless_refused}
 use Rattle.tp_model.specs.History.{is_refusal}
 use Rattle.tp_model.specs.Calls.Pools.{create_pool_refusals, create_pool_plan, pool_refusals, change_pool_plan, is_used, close_pool_plan, set_maximum_plan, set_minimum_plan}
-use Rattle.tp_model.specs.Calls.Objects.{create_refusals, new_object, create_plan}
+use Rattle.tp_model.specs.Calls.Objects.{create_refusals, create_plan}
 use Rattle.tp_model.specs.Calls.Work.{submit_work_refusals, submit, submit_work_plan}
 use Rattle.tp_model.specs.Calls.Workers.{attach_refusals, attach_to, attach_plan, pool_to_join, idle_refusals, may_leave, detach, detach_plan, take_callback, take, take_plan, return_refusals, return, return_plan}
 use Rattle.tp_model.specs.Calls.InCallback.{busy_refusals, may_run_long, may_run_long_plan}

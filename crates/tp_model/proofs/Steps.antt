@@ -1,5 +1,5 @@
 -- The step where the plan is known.
-use Rattle.std.proofs.Common.{◌≡◌, ℕ, ◌+◌, ◌-◌, ◌<◌, ◌≤◌, true, false, cond, nat_lt, refl, sym, ap, ◌∙◌, subst, arith, lt-ltb, le-ltb}
+use Rattle.std.proofs.Common.{◌≡◌, ℕ, ◌+◌, ◌<◌, ◌≤◌, true, false, cond, nat_lt, refl, sym, ap, ◌∙◌, subst, arith, lt-ltb, le-ltb}
 use Rattle.tp_base.specs.declared.ids.Who.{Who}
 use Rattle.tp_base.specs.declared.calls.Call.{Call}
 use Rattle.tp_base.specs.declared.answers.Answer.{Answer}
@@ -10,7 +10,6 @@ use Rattle.tp_base.specs.declared.answers.Outcome.TheVariants as outcome
 use Rattle.tp_base.specs.declared.plans.Change.{Change}
 use Rattle.tp_base.specs.declared.plans.Plan.TheVariants as plan
 use Rattle.tp_model.specs.World.{World}
-use Rattle.tp_model.specs.Counts.{owed}
 use Rattle.tp_model.specs.Changes.{changed}
 use Rattle.tp_model.specs.Step.{Step, Accepted, Refused, Looked, Full, stepped, unless_full, within, cost, outcome_of}
 use Rattle.tp_model.specs.Table.{plan_at}

@@ -11,7 +11,7 @@ ghost use Rattle.tp_model.specs.Laws.{KeepsLaws};
 
 /// Every legal history keeps the laws, with any limits and any capacity. It does nothing: who calls
 /// it knows this.
-#[tactic(auto)]
+#[tactic(auto, using(crate::proofs::Laws::keeps_laws))]
 pub fn legal_keeps_laws()
     ensures laws { (limits : Limits) (capacity : ℕ) (history : List Entry) → IsLegal limits capacity history → KeepsLaws limits history }
 {}

@@ -3,7 +3,7 @@
 use Rattle.std.specs.Prelude.{ℕ, Bool, not, ◌||◌, ◌&&◌, ◌==◌, nat_lt, nat_le, is_some, List, [], ◌∷◌, if◌then◌else◌, Option, None, Some}
 use Rattle.std.specs.Option.{option_or}
 use Rattle.tp_base.specs.declared.ids.Who.{Who}
-use Rattle.tp_base.specs.declared.ids.Who.TheVariants.{Client, Worker}
+use Rattle.tp_base.specs.declared.ids.Who.TheVariants.{Worker}
 use Rattle.tp_base.specs.declared.answers.Refusal.{Refusal}
 use Rattle.tp_base.specs.declared.answers.Refusal.TheVariants.{NoSuch, Released, NotWorker, NotRunning, StillRunning, InWait, NotAttached, AlreadyAttached}
 use Rattle.tp_base.specs.declared.answers.SlotWord.TheVariants.{Unasked}
