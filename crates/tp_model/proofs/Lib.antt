@@ -14,5 +14,6 @@ pub mod Moving
 pub mod Once
 pub mod Planning
 pub mod Preserving
+pub mod Ranging
 pub mod Refusals
 pub mod Steps
