@@ -21,12 +21,14 @@ pub(crate) fn finish(world: &LiveWorld, who: Who) -> Plan
         (actor.finished, Refusal::Released),
         (actor.in_wait, Refusal::InWait),
     ]);
-    match (refusal, who) {
-        (Some(refusal), _) => Plan::Refused(refusal),
-        (None, Who::Client(client)) => Plan::Does {
+    if let Some(refusal) = refusal {
+        return Plan::Refused(refusal);
+    }
+    match who {
+        Who::Client(client) => Plan::Does {
             answer: Answer::Done,
             change: Change::Finish { client },
         },
-        (None, Who::Worker(_)) => Plan::Refused(Refusal::WrongKind),
+        Who::Worker(_) => Plan::Refused(Refusal::WrongKind),
     }
 }

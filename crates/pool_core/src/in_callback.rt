@@ -21,20 +21,19 @@ pub(crate) fn may_run_long(world: &LiveWorld, who: Who) -> Plan
         (!actor.runs, Refusal::NotRunning),
         (actor.in_wait, Refusal::InWait),
     ]);
-    match refusal {
-        Some(refusal) => return Plan::Refused(refusal),
-        None => {}
+    if let Some(refusal) = refusal {
+        return Plan::Refused(refusal);
     }
-    match world.busy(who) {
-        None => Plan::Refused(Refusal::NotRunning),
-        Some(by) => Plan::Does {
-            answer: Answer::Flag {
-                value: world.has_spare(by.callback.pool),
-            },
-            change: Change::Mark {
-                by,
-                mark: Mark::Long,
-            },
+    let Some(by) = world.busy(who) else {
+        return Plan::Refused(Refusal::NotRunning);
+    };
+    Plan::Does {
+        answer: Answer::Flag {
+            value: world.has_spare(by.callback.pool),
+        },
+        change: Change::Mark {
+            by,
+            mark: Mark::Long,
         },
     }
 }

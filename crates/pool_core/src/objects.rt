@@ -38,19 +38,19 @@ pub(crate) fn create(
         (actor.in_wait, Refusal::InWait),
         (world.lacks_object(), Refusal::ObjectLimit),
     ]);
-    match refusal {
-        Some(refusal) => Plan::Refused(refusal),
-        None => Plan::Does {
-            answer: Answer::Made {
-                number: world.next_object(),
-            },
-            change: Change::CreateObject(ObjectRow {
-                kind,
-                routine,
-                context,
-                env,
-                released: false,
-            }),
+    if let Some(refusal) = refusal {
+        return Plan::Refused(refusal);
+    }
+    Plan::Does {
+        answer: Answer::Made {
+            number: world.next_object(),
         },
+        change: Change::CreateObject(ObjectRow {
+            kind,
+            routine,
+            context,
+            env,
+            released: false,
+        }),
     }
 }

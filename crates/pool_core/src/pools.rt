@@ -24,14 +24,14 @@ pub(crate) fn create_pool(world: &LiveWorld, who: Who) -> Plan
         (actor.in_wait, Refusal::InWait),
         (world.lacks_pool(), Refusal::ObjectLimit),
     ]);
-    match refusal {
-        Some(refusal) => Plan::Refused(refusal),
-        None => Plan::Does {
-            answer: Answer::Made {
-                number: world.next_pool(),
-            },
-            change: Change::CreatePool,
+    if let Some(refusal) = refusal {
+        return Plan::Refused(refusal);
+    }
+    Plan::Does {
+        answer: Answer::Made {
+            number: world.next_pool(),
         },
+        change: Change::CreatePool,
     }
 }
 

@@ -49,23 +49,15 @@ pub(crate) fn submit_work(world: &LiveWorld, who: Who, object: ObjectId) -> Plan
         (actor.in_wait, Refusal::InWait),
         (world.lacks_slot(), Refusal::CallbackLimit),
     ]);
-    match refusal {
-        Some(refusal) => return Plan::Refused(refusal),
-        None => {}
+    if let Some(refusal) = refusal {
+        return Plan::Refused(refusal);
     }
-    match world.object(object) {
-        None => Plan::Refused(Refusal::NoSuch),
-        Some(row) => {
-            let first = world.next_number();
-            Plan::Does {
-                answer: Answer::Queued { first, count: 1 },
-                change: Change::QueueCallback(new_callback(
-                    first,
-                    object,
-                    row,
-                    TakeResult::Plain,
-                )),
-            }
-        }
+    let Some(row) = world.object(object) else {
+        return Plan::Refused(Refusal::NoSuch);
+    };
+    let first = world.next_number();
+    Plan::Does {
+        answer: Answer::Queued { first, count: 1 },
+        change: Change::QueueCallback(new_callback(first, object, row, TakeResult::Plain)),
     }
 }

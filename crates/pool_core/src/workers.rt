@@ -24,9 +24,11 @@ pub(crate) fn attach(world: &LiveWorld, who: Who) -> Plan
         (actor.runs, Refusal::StillRunning),
         (actor.is_attached, Refusal::AlreadyAttached),
     ]);
-    match (refusal, who, world.pool_to_join()) {
-        (Some(refusal), _, _) => Plan::Refused(refusal),
-        (None, Who::Worker(worker), Some(pool)) => Plan::Does {
+    if let Some(refusal) = refusal {
+        return Plan::Refused(refusal);
+    }
+    match (who, world.pool_to_join()) {
+        (Who::Worker(worker), Some(pool)) => Plan::Does {
             answer: Answer::Attached { pool: PoolId(pool) },
             change: Change::Attach {
                 worker,
@@ -56,22 +58,18 @@ fn idle_refusal(world: &LiveWorld, who: Who) -> Option<Refusal>
 pub(crate) fn detach(world: &LiveWorld, who: Who) -> Plan
     ensures { result ≡ detach_plan world.now.world who }
 {
-    match idle_refusal(world, who) {
-        Some(refusal) => return Plan::Refused(refusal),
-        None => {}
+    if let Some(refusal) = idle_refusal(world, who) {
+        return Plan::Refused(refusal);
     }
-    match world.idle(who) {
-        None => Plan::Refused(Refusal::NotAttached),
-        Some(by) => {
-            if world.may_leave(by.pool) {
-                Plan::Does {
-                    answer: Answer::Done,
-                    change: Change::Detach(by),
-                }
-            } else {
-                Plan::Looked(Look::Stay)
-            }
-        }
+    let Some(by) = world.idle(who) else {
+        return Plan::Refused(Refusal::NotAttached);
+    };
+    if !world.may_leave(by.pool) {
+        return Plan::Looked(Look::Stay);
+    }
+    Plan::Does {
+        answer: Answer::Done,
+        change: Change::Detach(by),
     }
 }
 
@@ -80,9 +78,8 @@ pub(crate) fn detach(world: &LiveWorld, who: Who) -> Plan
 pub(crate) fn take(world: &LiveWorld, who: Who) -> Plan
     ensures { result ≡ take_plan world.now.world who }
 {
-    match idle_refusal(world, who) {
-        Some(refusal) => return Plan::Refused(refusal),
-        None => {}
+    if let Some(refusal) = idle_refusal(world, who) {
+        return Plan::Refused(refusal);
     }
     let Some(by) = world.idle(who) else {
         return Plan::Refused(Refusal::NotAttached);
@@ -119,22 +116,21 @@ pub(crate) fn return_callback(world: &LiveWorld, who: Who) -> Plan
         (!actor.runs, Refusal::NotRunning),
         (actor.in_wait, Refusal::InWait),
     ]);
-    match refusal {
-        Some(refusal) => return Plan::Refused(refusal),
-        None => {}
+    if let Some(refusal) = refusal {
+        return Plan::Refused(refusal);
     }
-    match world.busy(who) {
-        None => Plan::Refused(Refusal::NotRunning),
-        Some(by) => Plan::Does {
-            answer: Answer::Returned {
-                section: SlotWord::Unasked,
-                mutex: SlotWord::Unasked,
-                semaphore: SlotWord::Unasked,
-                event: SlotWord::Unasked,
-                first: 0,
-                count: 0,
-            },
-            change: Change::Return(by),
+    let Some(by) = world.busy(who) else {
+        return Plan::Refused(Refusal::NotRunning);
+    };
+    Plan::Does {
+        answer: Answer::Returned {
+            section: SlotWord::Unasked,
+            mutex: SlotWord::Unasked,
+            semaphore: SlotWord::Unasked,
+            event: SlotWord::Unasked,
+            first: 0,
+            count: 0,
         },
+        change: Change::Return(by),
     }
 }
