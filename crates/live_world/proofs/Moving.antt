@@ -90,6 +90,7 @@ sized_worker pools place new home k =
     record {
       in_range = k.in_range;
       pool_limit = k.pool_limit;
+      pools_least = k.pools_least;
       pools_within = k.pools_within;
       worker_count = length-set pools.workers place new ∙ k.worker_count;
       homes = all_set (IsHome (length pools.pools)) pools.workers place new home k.homes;

@@ -53,6 +53,7 @@ opened_parts limits in_range =
         sized = record {
           in_range = in_range;
           pool_limit = refl;
+          pools_least = omega arith;
           pools_within = omega (arith, in_range.pools_least);
           worker_count = length_replicate unattached_row limits.workers;
           homes = all_replicate (IsHome 1) unattached_row tt limits.workers;

@@ -33,6 +33,7 @@ IsHome pools worker = IfSome worker.pool (λ (pool : PoolId). pool.0 < pools)
 pub record AreSized (limits : Limits) (pools : Pools) (objects : Table Object) (clients : List ClientRow) : Type 0 where
   pub in_range : AreLimitsInRange limits
   pub pool_limit : pools.limit ≡ limits.pools
+  pub pools_least : 1 ≤ length pools.pools
   pub pools_within : length pools.pools ≤ limits.pools
   pub worker_count : length pools.workers ≡ limits.workers
   pub homes : AllByRecursion (IsHome (length pools.pools)) pools.workers

@@ -1,4 +1,5 @@
 pub mod Actors
+pub mod Bounds
 pub mod Invariant
 pub mod Live
 pub mod Parts

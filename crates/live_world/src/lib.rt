@@ -13,6 +13,7 @@ ghost use Rattle.tp_base.specs.Ranges.{AreLimitsInRange};
 ghost use Rattle.tp_model.specs.World.{opening};
 ghost use Rattle.tp_model.specs.Remembered.{forget};
 ghost use Rattle.tp_model.specs.Sound.{IsSound};
+ghost use Rattle.live_world.specs.Bounds.{IsBounded};
 
 use callback_rows::CallbackRows;
 use handle_table::Rows;
@@ -81,7 +82,8 @@ impl LiveWorld {
 
     /// What is true of every live world. It does nothing: who calls it knows this.
     pub fn is_reachable(&self)
-        ensures { IsSound (self.now.made + 1) self.now.world }
+        ensures sound { IsSound (self.now.made + 1) self.now.world }
+        ensures bounded { IsBounded self.now.world }
     {
         let _ = &self.limits;
     }

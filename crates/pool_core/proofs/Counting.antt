@@ -1,5 +1,5 @@
 -- What a change adds to the counts of an engine, and what they are at first.
-use Rattle.std.proofs.Common.{◌≡◌, ℕ, suc, zero, ◌+◌, ◌-◌, ◌*◌, ◌≤◌, Bool, true, false, not, cond, List, [], ◌∷◌, length, replicate, refl, sym, ap, ◌∙◌, arith, filter, is_some}
+use Rattle.std.proofs.Common.{◌≡◌, ℕ, suc, zero, ◌≤◌, Bool, true, false, not, cond, ◌∷◌, length, replicate, refl, ap, ◌∙◌, arith, filter, is_some}
 use Rattle.tp_base.specs.declared.limits.Limits.{Limits}
 use Rattle.tp_base.specs.declared.plans.Change.{Change}
 use Rattle.tp_base.specs.declared.plans.Change.TheVariants as change

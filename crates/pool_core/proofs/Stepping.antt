@@ -1,5 +1,5 @@
 -- What an engine does by the plan of a call meets the step.
-use Rattle.std.proofs.Common.{◌≡◌, ℕ, ◌+◌, ◌<◌, ◌≤◌, Bool, true, false, cond, nat_lt, None, Some, refl, sym, ap, ◌∙◌, subst, ltb-false}
+use Rattle.std.proofs.Common.{◌≡◌, ℕ, ◌+◌, ◌<◌, ◌≤◌, true, false, cond, nat_lt, Some, refl, sym, subst, ltb-false}
 use Rattle.std.proofs.lemmas.Bool.{ltb-true}
 use Rattle.tp_base.specs.declared.ids.Who.{Who}
 use Rattle.tp_base.specs.declared.calls.Call.{Call}

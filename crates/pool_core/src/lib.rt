@@ -14,11 +14,12 @@
 #![tactic(auto)]
 
 ghost use Rattle.std.specs.Prelude.{◌≡◌, ◌+◌, ◌^◌, ◌<◌, ◌≤◌, IfOk, IfSome};
-ghost use Rattle.tp_base.specs.Ranges.{AreLimitsInRange, IsCallInRange};
+ghost use Rattle.tp_base.specs.Ranges.{AreLimitsInRange, IsCallInRange, IsAnswerInRange, IsOutcomeInRange};
 ghost use Rattle.tp_model.specs.World.{World, opening};
 ghost use Rattle.tp_model.specs.Counts.{owed};
 ghost use Rattle.tp_model.specs.Changes.{changed};
 ghost use Rattle.tp_model.specs.Allowed.{IsAllowed};
+ghost use Rattle.tp_model.specs.Ranged.{IsChangeInRange};
 ghost use Rattle.tp_model.specs.Table.{step};
 ghost use Rattle.tp_model.specs.Remembered.{StandsFor, Meets, remembered_in};
 
@@ -88,7 +89,8 @@ impl Engine {
     pub fn step(&mut self, who: Who, call: Call, room: u64) -> Outcome
         requires in_range { IsCallInRange call }
         requires young { self.old.age < 2 ^ 47 }
-        ensures { (w : World) → StandsFor self.old w → Meets self.old self.new w (step w room who call) result }
+        ensures meets { (w : World) → StandsFor self.old w → Meets self.old self.new w (step w room who call) result }
+        ensures in_range { IsOutcomeInRange result }
     {
         self.live.is_reachable();
         match plan(&self.live, who, call, room) {
@@ -101,11 +103,14 @@ impl Engine {
     // Makes a change for an answer, where the history has room for what they cost.
     fn enter(&mut self, answer: Answer, change: Option<Change>, room: u64) -> Outcome
         requires allowed { IfSome change (IsAllowed (self.old.made + 1) self.old.world) }
+        requires answer_in_range { IsAnswerInRange answer }
+        requires change_in_range { IfSome change IsChangeInRange }
         requires young { self.old.age < 2 ^ 47 }
         ensures full { room < cost_of change → result ≡ Outcome.Full room (cost_of change) }
         ensures unchanged { room < cost_of change → self.new ≡ self.old }
         ensures done { cost_of change ≤ room → result ≡ Outcome.Done answer }
         ensures entered { cost_of change ≤ room → self.new ≡ entered self.old change }
+        ensures in_range { IsOutcomeInRange result }
     {
         let cost = change.map_or(1, price);
         if room < cost {
@@ -120,6 +125,7 @@ impl Engine {
     // Makes a change that the world allows, and counts what the history owes and the age.
     fn apply(&mut self, change: Change)
         requires allowed { IsAllowed (self.old.made + 1) self.old.world change }
+        requires in_range { IsChangeInRange change }
         requires young { self.old.age < 2 ^ 47 }
         ensures { self.new ≡ remembered_in self.old (changed self.old.world change) }
     {

@@ -1,6 +1,6 @@
 //! Calls on objects of all kinds: `CreateThreadpoolWork` and its like for timers, waits and I/O.
 
-ghost use Rattle.std.specs.Prelude.{◌≡◌};
+ghost use Rattle.std.specs.Prelude.{◌≡◌, ◌^◌, ◌<◌};
 ghost use Rattle.tp_model.specs.Calls.Objects.{create_plan};
 
 use crate::refusals::{either, first_of};
@@ -21,7 +21,8 @@ pub(crate) fn create(
     context: u64,
     env: Environ,
 ) -> Plan
-    ensures { result ≡ create_plan world.now.world who kind routine context env }
+    ensures plan { result ≡ create_plan world.now.world who kind routine context env }
+    ensures wide { context < 2 ^ 64 }
 {
     let actor = world.actor(who);
     let lacks_pool = !world.is_pool(env.pool);

@@ -2,6 +2,7 @@
 
 ghost use Rattle.std.specs.Prelude.{◌≡◌, ◌+◌, ◌^◌, ◌<◌};
 ghost use Rattle.tp_model.specs.Allowed.{price as price_of};
+ghost use Rattle.tp_model.specs.Ranged.{IsWide};
 ghost use Rattle.tp_model.specs.Table.{plan_at};
 
 use crate::{clients, in_callback, objects, pools, work, workers};
@@ -13,7 +14,8 @@ use tp_base::plans::{Change, Plan};
 /// What a call comes to, where the history has room for so many entries. It changes nothing.
 pub(crate) fn plan(world: &LiveWorld, who: Who, call: Call, room: u64) -> Plan
     requires { world.now.made < 2 ^ 63 }
-    ensures { result ≡ plan_at world.now.world (world.now.made + 1) room who call }
+    ensures plan { result ≡ plan_at world.now.world (world.now.made + 1) room who call }
+    ensures wide { IsWide call }
 {
     match call {
         Call::CreatePool => pools::create_pool(world, who),

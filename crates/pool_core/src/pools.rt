@@ -41,10 +41,7 @@ fn pool_refusal(world: &LiveWorld, who: Who, pool: PoolId) -> Option<Refusal>
 {
     let actor = world.actor(who);
     first_of(&[
-        (
-            either(!actor.exists, !world.is_pool(pool)),
-            Refusal::NoSuch,
-        ),
+        (either(!actor.exists, !world.is_pool(pool)), Refusal::NoSuch),
         (actor.finished, Refusal::Released),
         (world.is_closed_pool(pool), Refusal::PoolClosed),
         (pool.0 == 0, Refusal::DefaultPool),

@@ -1,12 +1,16 @@
-use Rattle.std.proofs.Common.{◌≡◌, ℕ, ◌+◌, sym, ap, ◌∙◌, subst}
+use Rattle.std.proofs.Common.{◌≡◌, ℕ, ◌+◌, ◌<◌, ◌^◌, sym, ap, ◌∙◌, subst, arith}
 use Rattle.tp_base.specs.declared.ids.Who.{Who}
 use Rattle.tp_base.specs.declared.calls.Call.{Call}
 use Rattle.tp_base.specs.declared.plans.Plan.{Plan}
+use Rattle.tp_base.specs.Ranges.{IsCallInRange}
 use Rattle.tp_model.specs.Table.{plan_at}
+use Rattle.tp_model.specs.Ranged.{IsWide, IsPlanInRange}
 use Rattle.tp_model.specs.Sound.{IsSound}
 use Rattle.tp_model.specs.Remembered.{Remembered}
 use Rattle.tp_model.proofs.Steps.{plan_allowed}
-use Rattle.pool_core.specs.View.{remembered}
+use Rattle.tp_model.proofs.Ranging.{plan_ranged}
+use Rattle.live_world.specs.Bounds.{IsBounded}
+use Rattle.pool_core.specs.View.{remembered, IsEngine}
 use Rattle.pool_core.specs.declared.Engine.TheInside.{Inside}
 use Rattle.pool_core.proofs.Stepping.{meets_looked, meets_refused, meets_done}
 use Rattle.pool_core.proofs.Engine.step.Goals as goal
@@ -22,25 +26,55 @@ sound i e same s = subst (λ (r : Remembered). IsSound (r.made + 1) r.world) sam
 pub enter-requires-in-Does-clause-allowed : goal.enter-requires-in-Does-clause-allowed
 enter-requires-in-Does-clause-allowed c =
     let e = c.args.self.now in
-    (plan_allowed (e.made + 1) c.args.room e.world c.args.who c.args.call c.in-Does.answer c.in-Does.change (sound c.self.inside e c.self.view_is c.is_reachable.ensures)
-    (planned c.self.inside e c.args.room c.args.who c.args.call c.plan.result _ c.self.view_is c.plan.ensures c.in-Does.is)).allowed
+    (plan_allowed (e.made + 1) c.args.room e.world c.args.who c.args.call c.in-Does.answer c.in-Does.change (sound c.self.inside e c.self.view_is c.is_reachable.ensures.sound)
+    (planned c.self.inside e c.args.room c.args.who c.args.call c.plan.result _ c.self.view_is c.plan.ensures.plan c.in-Does.is)).allowed
 
-pub returns-in-Looked : goal.returns-in-Looked
-returns-in-Looked c w stands =
+pub returns-in-Looked-clause-meets : goal.returns-in-Looked-clause-meets
+returns-in-Looked-clause-meets c w stands =
     meets_looked c.args.self.now w c.args.room c.args.who c.args.call c.in-Looked.look
-    (planned c.self.inside c.args.self.now c.args.room c.args.who c.args.call c.plan.result _ c.self.view_is c.plan.ensures c.in-Looked.is) stands
+    (planned c.self.inside c.args.self.now c.args.room c.args.who c.args.call c.plan.result _ c.self.view_is c.plan.ensures.plan c.in-Looked.is) stands
 
-pub returns-in-Refused : goal.returns-in-Refused
-returns-in-Refused c w stands =
+pub returns-in-Refused-clause-meets : goal.returns-in-Refused-clause-meets
+returns-in-Refused-clause-meets c w stands =
     let h = c.enter.ensures in
     meets_refused c.args.self.now w c.args.room c.args.who c.args.call c.enter.new.self c.in-Refused.refusal c.enter.result
-    (planned c.self.inside c.args.self.now c.args.room c.args.who c.args.call c.plan.result _ c.self.view_is c.plan.ensures c.in-Refused.is)
+    (planned c.self.inside c.args.self.now c.args.room c.args.who c.args.call c.plan.result _ c.self.view_is c.plan.ensures.plan c.in-Refused.is)
     (record { full = h.full; unchanged = h.unchanged; done = h.done; entered = h.entered }) stands
 
-pub returns-in-Does : goal.returns-in-Does
-returns-in-Does c w stands =
+pub returns-in-Does-clause-meets : goal.returns-in-Does-clause-meets
+returns-in-Does-clause-meets c w stands =
     let h = c.enter-in-Does.ensures in
     meets_done c.args.self.now w c.args.room c.args.who c.args.call c.enter-in-Does.new.self c.in-Does.answer c.in-Does.change c.enter-in-Does.result
-    (sound c.self.inside c.args.self.now c.self.view_is c.is_reachable.ensures)
-    (planned c.self.inside c.args.self.now c.args.room c.args.who c.args.call c.plan.result _ c.self.view_is c.plan.ensures c.in-Does.is)
+    (sound c.self.inside c.args.self.now c.self.view_is c.is_reachable.ensures.sound)
+    (planned c.self.inside c.args.self.now c.args.room c.args.who c.args.call c.plan.result _ c.self.view_is c.plan.ensures.plan c.in-Does.is)
     (record { full = h.full; unchanged = h.unchanged; done = h.done; entered = h.entered }) stands
+
+-- ---- ranges
+
+-- the plan's numbers are in range
+ranged : (i : Inside) (e : Remembered) (room : ℕ) (who : Who) (call : Call) (plan is : Plan) → remembered i ≡ e → IsEngine i → e.age < 2 ^ 47 → IsSound (i.live.made + 1) i.live.world → IsBounded i.live.world → IsCallInRange call → IsWide call
+    → plan ≡ plan_at i.live.world (i.live.made + 1) room who call → plan ≡ is → IsPlanInRange is
+ranged i e room who call plan is same k young s b in_range wide made found =
+    let few : i.live.made + 1 < 2 ^ 64 = omega (arith, k.few_made, young, ap (λ (r : Remembered). r.age) same) in
+    subst IsPlanInRange (sym made ∙ found)
+    (plan_ranged (i.live.made + 1) i.live.world few s (record { limits = b.limits; pools_least = b.pools_least; pools_most = b.pools_most; running_most = b.running_most; rows = k.rows }) room who call in_range wide)
+
+pub returns-in-Looked-clause-in_range : goal.returns-in-Looked-clause-in_range
+returns-in-Looked-clause-in_range c =
+    ranged c.self.inside c.args.self.now c.args.room c.args.who c.args.call c.plan.result _ c.self.view_is c.self.invariant c.requires.young c.is_reachable.ensures.sound c.is_reachable.ensures.bounded c.requires.in_range c.plan.ensures.wide
+    c.plan.ensures.plan c.in-Looked.is
+
+pub enter-requires-clause-answer_in_range : goal.enter-requires-clause-answer_in_range
+enter-requires-clause-answer_in_range c =
+    ranged c.self.inside c.args.self.now c.args.room c.args.who c.args.call c.plan.result _ c.self.view_is c.self.invariant c.requires.young c.is_reachable.ensures.sound c.is_reachable.ensures.bounded c.requires.in_range c.plan.ensures.wide
+    c.plan.ensures.plan c.in-Refused.is
+
+pub enter-requires-in-Does-clause-answer_in_range : goal.enter-requires-in-Does-clause-answer_in_range
+enter-requires-in-Does-clause-answer_in_range c =
+    (ranged c.self.inside c.args.self.now c.args.room c.args.who c.args.call c.plan.result _ c.self.view_is c.self.invariant c.requires.young c.is_reachable.ensures.sound c.is_reachable.ensures.bounded c.requires.in_range c.plan.ensures.wide
+    c.plan.ensures.plan c.in-Does.is).0
+
+pub enter-requires-in-Does-clause-change_in_range : goal.enter-requires-in-Does-clause-change_in_range
+enter-requires-in-Does-clause-change_in_range c =
+    (ranged c.self.inside c.args.self.now c.args.room c.args.who c.args.call c.plan.result _ c.self.view_is c.self.invariant c.requires.young c.is_reachable.ensures.sound c.is_reachable.ensures.bounded c.requires.in_range c.plan.ensures.wide
+    c.plan.ensures.plan c.in-Does.is).1
