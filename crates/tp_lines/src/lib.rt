@@ -17,6 +17,7 @@ mod answers;
 mod calls;
 pub mod entries;
 mod fields;
+pub mod good;
 pub mod parse;
 pub mod print;
 mod rows;
