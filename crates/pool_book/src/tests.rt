@@ -1,3 +1,5 @@
+ghost use Rattle.std.specs.Prelude.{◌≤◌};
+
 use super::*;
 use std::alloc::Global;
 use std::test::Fail;
@@ -6,7 +8,6 @@ use tp_base::answers::{Answer, Look, Refusal};
 // A book of so many clients and two workers.
 fn book_of(alloc: Global, clients: u32, capacity: u32) -> Result<Book, AllocError>
     requires { clients ≤ 16 }
-    ensures { IfOk result (λ book. (book.capacity ≡ capacity) × (book.history ≡ [])) }
 {
     Book::open(alloc, program_limits(clients, 2), capacity)
 }
@@ -28,7 +29,13 @@ fn accepted_and_refused_calls_are_entries(rt: HostRuntime) -> Result<(), Fail> {
             1,
             18,
         ),
-        (client, Call::CreatePool, Outcome::Done(Answer::Made { number: 1 }), 2, 17),
+        (
+            client,
+            Call::CreatePool,
+            Outcome::Done(Answer::Made { number: 1 }),
+            2,
+            17,
+        ),
         // The client's finish was owed.
         (client, Call::Finish, Outcome::Done(Answer::Done), 3, 17),
     ] {
@@ -44,9 +51,15 @@ fn accepted_and_refused_calls_are_entries(rt: HostRuntime) -> Result<(), Fail> {
 fn room_is_none_where_more_is_owed(rt: HostRuntime) -> Result<(), Fail> {
     let mut book = book_of(rt.alloc(), 3, 1)?;
     assert_eq!(rt; book.room(), 0);
-    assert_eq!(rt; book.step(Who::Worker(1), Call::Take), Outcome::Full { room: 0, cost: 1 });
+    assert_eq!(rt;
+        book.step(Who::Worker(1), Call::Take),
+        Outcome::Full { room: 0, cost: 1 }
+    );
     assert_eq!(rt; book.len(), 0);
-    assert_eq!(rt; book.step(Who::Client(1), Call::Finish), Outcome::Done(Answer::Done));
+    assert_eq!(rt;
+        book.step(Who::Client(1), Call::Finish),
+        Outcome::Done(Answer::Done)
+    );
     assert_eq!(rt; book.len(), 1);
     assert_eq!(rt; book.room(), 0);
     Ok(())

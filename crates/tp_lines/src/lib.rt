@@ -14,7 +14,7 @@
 #![tactic(auto)]
 
 mod answers;
-mod calls;
+pub mod calls;
 pub mod entries;
 mod fields;
 pub mod good;

@@ -1,25 +1,15 @@
--- What the reading of a history answers.
-use Rattle.std.specs.Prelude.{◌≡◌, ℕ, ◌+◌, ◌≤◌, List, ◌∷◌, ◌++◌, length, map, All, Result, Ok, Err}
+-- How far a history behind its header is read and judged.
+use Rattle.std.specs.Prelude.{◌≡◌, ℕ, ◌+◌, ◌≤◌, List, ◌∷◌, ◌++◌, length, map, All}
 use Rattle.line_grammar.specs.Language.{AnyOf, Reaches}
 use Rattle.line_grammar.specs.Traces.{EndedLine, trace_text}
+use Rattle.pool_book.specs.Recordings.{Recording}
 use Rattle.tp_base.specs.declared.answers.Entry.{Entry}
 use Rattle.tp_lines.specs.Answers.{line_of_entry}
-use Rattle.tp_report.specs.Histories.{HasLine, IsHistoryFault, NextLines, end_line}
+use Rattle.tp_report.specs.Histories.{HasLine, NextLines, end_line}
+use Rattle.tp_report.specs.Verdicts.{IsVerdict, limits_of}
 use Rattle.tp_report.specs.declared.headers.Header.{Header}
-use Rattle.tp_report.specs.declared.history.CheckFault.{CheckFault}
-use Rattle.tp_report.specs.declared.history.CheckFault.TheVariants.{NoMemory, At}
-use Rattle.tp_report.specs.declared.history.History.{History}
-
--- the answer is this history, or memory was refused
-abbrev pub IsHistoryOrNoMemory : Result History CheckFault → Header → List Entry → Type 0
-IsHistoryOrNoMemory (Ok read) header entries = (read.header ≡ header) × (read.entries.items ≡ entries)
-IsHistoryOrNoMemory (Err NoMemory) header entries = Unit {0}
-IsHistoryOrNoMemory (Err (At line column)) header entries = ⊥
-
--- the place is that of the first fault of the bytes as a history
-abbrev pub IsPlaceIn : List ℕ → CheckFault → Type 0
-IsPlaceIn bytes NoMemory = Unit {0}
-IsPlaceIn bytes (At line column) = IsHistoryFault bytes line column
+use Rattle.tp_report.specs.declared.verdict.Verdict.{Verdict}
+use Rattle.tp_report.specs.declared.verdict.Verdict.TheVariants.{Legal, NotLegal}
 
 -- the lines of entries, each with its line feed
 abbrev pub entries_text : List Entry → List ℕ
@@ -48,6 +38,25 @@ pub record IsEntriesFault (events : ℕ) (text : List ℕ) (line column : ℕ) :
   pub line_of : line ≡ length entries + 2
   pub column_of : column ≡ length front + 1
 
-abbrev pub IsPlaceBehind : ℕ → List ℕ → CheckFault → Type 0
-IsPlaceBehind events text NoMemory = Unit {0}
-IsPlaceBehind events text (At line column) = IsEntriesFault events text line column
+-- what stands behind the header is a history's rest, and this is its verdict
+pub record IsVerdictBehind (header : Header) (text : List ℕ) (verdict : Verdict) : Type 0 where
+  pub entries : List Entry
+  pub are_entries : AreEntries header.events text entries
+  pub is_verdict : IsVerdict (limits_of header) header.events entries verdict
+
+abbrev pub len_told : Verdict → ℕ
+len_told (Legal len) = len
+len_told (NotLegal position outcome) = 0
+
+-- as long as each answer is the machine's, the book has all entries
+abbrev pub KeepsUp : List Entry → List Entry → Verdict → Type 0
+KeepsUp written entries (Legal len) = written ≡ entries
+KeepsUp written entries (NotLegal position outcome) = Unit {0}
+
+pub record IsJudgedTo (book : Recording) (entries : List Entry) (verdict : Verdict) : Type 0 where
+  pub written : KeepsUp book.history entries verdict
+  pub is_verdict : IsVerdict book.limits book.capacity entries verdict
+
+pub record IsSameMachine (old new : Recording) : Type 0 where
+  pub limits : new.limits ≡ old.limits
+  pub capacity : new.capacity ≡ old.capacity
