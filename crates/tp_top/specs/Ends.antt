@@ -1,5 +1,5 @@
 -- What stands between reading and the end of the program.
-use Rattle.std.specs.Prelude.{◌≡◌, ℕ, ◌+◌, ◌≤◌, ◌↔◌, List, length, Option, None, Some, Result, Ok, Err}
+use Rattle.std.specs.Prelude.{◌≡◌, ℕ, ◌≤◌, ◌↔◌, List, length, Option, Some, Result, Ok, Err}
 use Rattle.tp_edge.specs.Given.{with_given, TookFirst}
 use Rattle.tp_edge.specs.Taken.{behind, IsEnded}
 use Rattle.tp_edge.specs.declared.reading.ReadFault.{ReadFault as SourceFault}
