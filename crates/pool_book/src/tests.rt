@@ -3,7 +3,9 @@ ghost use Rattle.std.specs.Prelude.{◌≤◌};
 use super::*;
 use std::alloc::Global;
 use std::test::Fail;
-use tp_base::answers::{Answer, Look, Refusal};
+use tp_base::answers::{Answer, Look, Refusal, SlotWord, TakeResult};
+use tp_base::calls::{Environ, Kind, Priority};
+use tp_base::ids::{GroupId, ObjectId, PoolId, RoutineId};
 
 // A book of so many clients and two workers.
 fn book_of(alloc: Global, clients: u32, capacity: u32) -> Result<Book, AllocError>
@@ -63,4 +65,81 @@ fn room_is_none_where_more_is_owed(rt: HostRuntime) -> Result<(), Fail> {
     assert_eq!(rt; book.len(), 1);
     assert_eq!(rt; book.room(), 0);
     Ok(())
+}
+
+/// With room for 16 entries and eight clients, whose finish is owed.
+#[test]
+fn a_full_history_takes_what_it_is_owed(rt: HostRuntime) -> Result<(), Fail> {
+    let mut book = book_of(rt.alloc(), 8, 16)?;
+    let object = ObjectId(1);
+    let submit = Call::SubmitWork { object };
+    let create = Call::Create {
+        kind: Kind::Work,
+        routine: RoutineId(1),
+        context: 0,
+        env: Environ {
+            pool: PoolId(0),
+            group: GroupId(0),
+            cancel: RoutineId(0),
+            priority: Priority::Normal,
+            long: false,
+        },
+    };
+    for (who, call, outcome) in [
+        (
+            Who::Client(8),
+            create,
+            Outcome::Done(Answer::Made { number: 1 }),
+        ),
+        (Who::Client(8), submit, queued(1)),
+        (
+            Who::Worker(1),
+            Call::Attach,
+            Outcome::Done(Answer::Attached { pool: PoolId(0) }),
+        ),
+        (
+            Who::Worker(1),
+            Call::Take,
+            Outcome::Done(Answer::Taken {
+                callback: 1,
+                object,
+                routine: RoutineId(1),
+                context: 0,
+                result: TakeResult::Plain,
+            }),
+        ),
+        (Who::Client(8), submit, queued(2)),
+        (
+            Who::Worker(2),
+            Call::Attach,
+            Outcome::Full { room: 1, cost: 2 },
+        ),
+        (Who::Client(8), submit, queued(3)),
+        (Who::Client(8), submit, Outcome::Full { room: 0, cost: 1 }),
+        (
+            Who::Worker(1),
+            Call::Return,
+            Outcome::Done(Answer::Returned {
+                section: SlotWord::Unasked,
+                mutex: SlotWord::Unasked,
+                semaphore: SlotWord::Unasked,
+                event: SlotWord::Unasked,
+                first: 0,
+                count: 0,
+            }),
+        ),
+        (
+            Who::Worker(1),
+            Call::Take,
+            Outcome::Full { room: 0, cost: 2 },
+        ),
+    ] {
+        assert_eq!(rt; book.step(who, call), outcome);
+    }
+    assert_eq!(rt; book.len(), 7);
+    Ok(())
+}
+
+fn queued(first: u64) -> Outcome {
+    Outcome::Done(Answer::Queued { first, count: 1 })
 }
