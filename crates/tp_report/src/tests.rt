@@ -136,6 +136,7 @@ fn finds_a_client_far_behind(rt: HostRuntime) -> Result<(), Fail> {
     }
     text.extend_from_slice(b"c2 finish\n")?;
     want.extend_from_slice(b"ok\n")?;
+    assert!(rt; text.len() < 100_000);
     match trace(rt.alloc(), &text) {
         Ok(told) => assert_eq!(rt; told.as_slice(), want.as_slice()),
         Err(fault) => assert!(rt; false, "{fault:?}"),
