@@ -9,7 +9,7 @@ ghost use Rattle.tp_report.specs.Histories.{HasHeaderLine, IsHistory, IsHistoryF
 ghost use Rattle.tp_report.specs.Judging.{AreEntries, IsEntriesFault, IsVerdictBehind};
 ghost use Rattle.tp_report.specs.Verdicts.{IfLegal, IsJudged, IsVerdict, limits_of};
 
-use crate::faults::{TextFault, fault_behind};
+use crate::faults::{CheckFault, fault_behind};
 use crate::headers::Header;
 use crate::lines::{Next, read_header_line, read_next_line};
 use crate::verdict::{Verdict, judge};
@@ -20,7 +20,7 @@ use std::alloc::Global;
 ///
 /// `Legal` comes exactly where each is; `NotLegal` names the first that isn't. `At` comes exactly
 /// where the bytes are no history, and `NoMemory` where memory was refused.
-pub fn check(alloc: Global, bytes: &[u8]) -> Result<Verdict, TextFault>
+pub fn check(alloc: Global, bytes: &[u8]) -> Result<Verdict, CheckFault>
     ensures ok { IfOk result (λ verdict. IsJudged bytes.now verdict) }
     ensures only { (header : FirstLine) (entries : List Entry) → IsHistory bytes.now header entries →
         IsOrNoMemory (IsVerdict (limits_of header) header.events entries) result }
@@ -39,7 +39,7 @@ pub fn check(alloc: Global, bytes: &[u8]) -> Result<Verdict, TextFault>
 
 // Reads what stands behind the header of a history, the entries and the end line, and judges each entry
 // as it is read.
-fn check_behind(alloc: Global, header: Header, text: &[u8]) -> Result<Verdict, TextFault>
+fn check_behind(alloc: Global, header: Header, text: &[u8]) -> Result<Verdict, CheckFault>
     requires { HasHeaderLine header }
     ensures ok { IfOk result (λ verdict. IsVerdictBehind header text.now verdict) }
     ensures only { (entries : List Entry) → AreEntries header.events text.now entries → IsOrNoMemory (IsVerdict (limits_of header) header.events entries) result }

@@ -16,6 +16,9 @@ pub enum TextFault {
     At { line: u32, column: u32 },
 }
 
+/// Why a history was not judged.
+pub type CheckFault = TextFault;
+
 impl From<AllocError> for TextFault {
     ghost use Rattle.tp_report.specs.declared.faults.TextFault.TheVariants.{NoMemory};
 

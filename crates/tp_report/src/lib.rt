@@ -23,7 +23,7 @@ mod playing;
 mod verdict;
 
 pub use checking::check;
-pub use faults::TextFault;
+pub use faults::{CheckFault, TextFault};
 pub use playing::trace;
 pub use verdict::{Verdict, print_verdict};
 

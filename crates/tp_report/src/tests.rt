@@ -3,7 +3,7 @@ use std::alloc::Global;
 use std::test::Fail;
 
 // The text of the verdict on a history, or the place of its fault.
-fn verdict_on(alloc: Global, text: &str) -> Result<Vec<u8>, TextFault> {
+fn verdict_on(alloc: Global, text: &str) -> Result<Vec<u8>, CheckFault> {
     let verdict = check(alloc, text.as_bytes())?;
     let mut out = Vec::new(alloc);
     print_verdict(alloc, &verdict, &mut out)?;
@@ -88,7 +88,7 @@ fn names_the_first_fault(rt: HostRuntime) -> Result<(), Fail> {
     for (text, (line, column)) in cases {
         match verdict_on(rt.alloc(), text) {
             Ok(_) => assert!(rt; false, "a history: {text}"),
-            Err(fault) => assert_eq!(rt; fault, TextFault::At { line, column }, "at {text}"),
+            Err(fault) => assert_eq!(rt; fault, CheckFault::At { line, column }, "at {text}"),
         }
     }
     Ok(())
