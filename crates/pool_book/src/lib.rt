@@ -18,7 +18,7 @@
 #![tactic(auto)]
 
 ghost use Rattle.std.specs.Prelude.{◌≡◌, ◌≤◌, [], length, IfOk};
-ghost use Rattle.tp_base.specs.Ranges.{AreLimitsInRange, IsCallInRange};
+ghost use Rattle.tp_base.specs.Ranges.{AreLimitsInRange, IsCallInRange, IsOutcomeInRange};
 ghost use Rattle.tp_model.specs.History.{IsLegal};
 ghost use Rattle.tp_model.specs.Laws.{KeepsLaws};
 ghost use Rattle.pool_book.specs.Recordings.{outcome_behind, recorded, room_of, IsFirstOf};
@@ -113,6 +113,8 @@ impl Book {
         ensures first { IsFirstOf self.old self.new who call result }
         ensures legal { IsLegal self.new.limits self.new.capacity self.new.history }
         ensures laws { KeepsLaws self.new.limits self.new.history }
+        // The numbers of the outcome are those that a line can have.
+        ensures in_range { IsOutcomeInRange result }
     {
         let room = self.room();
         let outcome = self.engine.step(who, call, room);
