@@ -1,9 +1,19 @@
--- Which limits and calls are in range.
-use Rattle.std.specs.Prelude.{◌≡◌, ℕ, ◌≤◌}
+-- Which limits, calls, answers and looks are in range.
+use Rattle.std.specs.Prelude.{◌≡◌, ℕ, ◌<◌, ◌≤◌, ◌^◌}
 use Rattle.tp_base.specs.declared.limits.Limits.{Limits}
 use Rattle.tp_base.specs.declared.calls.Call.{Call}
 use Rattle.tp_base.specs.declared.calls.Call.TheVariants.{CreatePool, ClosePool, SetMaximum, SetMinimum, Create, SubmitWork, Attach, Detach, Take, Return, MayRunLong, Finish}
 use Rattle.tp_base.specs.declared.calls.Environ.{Environ}
+use Rattle.tp_base.specs.declared.answers.Answer.{Answer}
+use Rattle.tp_base.specs.declared.answers.Answer.TheVariants as answer
+use Rattle.tp_base.specs.declared.answers.Look.{Look}
+use Rattle.tp_base.specs.declared.answers.Look.TheVariants as look
+use Rattle.tp_base.specs.declared.answers.Outcome.{Outcome}
+use Rattle.tp_base.specs.declared.answers.Outcome.TheVariants as outcome
+use Rattle.tp_base.specs.declared.answers.Refusal.{Refusal}
+use Rattle.tp_base.specs.declared.answers.Refusal.TheVariants as refusal
+use Rattle.tp_base.specs.declared.answers.TakeResult.{TakeResult}
+use Rattle.tp_base.specs.declared.answers.TakeResult.TheVariants.{Io}
 
 -- a machine has at least a worker, the default pool and a slot, and at most 65,535 of anything
 pub record AreLimitsInRange (limits : Limits) : Type 0 where
@@ -43,3 +53,44 @@ IsCallInRange MayRunLong = Unit {0}
 IsCallInRange Take = Unit {0}
 IsCallInRange Return = Unit {0}
 IsCallInRange Finish = Unit {0}
+
+abbrev pub IsResultInRange : TakeResult → Type 0
+IsResultInRange (Io error bytes) = (error < 2 ^ 32) × (bytes < 2 ^ 64)
+IsResultInRange _ = Unit {0}
+
+abbrev pub IsRefusalInRange : Refusal → Type 0
+IsRefusalInRange (refusal.HasMembers object) = object.0 ≤ 65535
+IsRefusalInRange (refusal.OperationsOutstanding io) = io.0 ≤ 65535
+IsRefusalInRange (refusal.OverMaximum count) = count ≤ 2147483647
+IsRefusalInRange _ = Unit {0}
+
+-- the numbers of an answer are those that a line can have
+abbrev pub IsAnswerInRange : Answer → Type 0
+IsAnswerInRange (answer.Made number) = (1 ≤ number) × (number ≤ 65535)
+IsAnswerInRange (answer.Queued first count) = (first < 2 ^ 64) × (count ≤ 65535)
+IsAnswerInRange (answer.WasSet was first count) = (first < 2 ^ 64) × (count ≤ 65535)
+IsAnswerInRange (answer.Closing covered cancelled notices) = (covered ≤ 65535) × (cancelled ≤ 65535) × (notices ≤ 65535)
+IsAnswerInRange (answer.Begun covered cancelled) = (covered ≤ 65535) × (cancelled ≤ 65535)
+IsAnswerInRange (answer.Notice object routine context cleanup) = (object.0 ≤ 65535) × IsRoutineInRange routine.0 × (context < 2 ^ 64) × (cleanup < 2 ^ 64)
+IsAnswerInRange (answer.Started callback) = callback < 2 ^ 64
+IsAnswerInRange (answer.Operation callback) = callback < 2 ^ 64
+IsAnswerInRange (answer.Cancelled callback) = callback < 2 ^ 64
+IsAnswerInRange (answer.Count previous first count) = (previous ≤ 2147483647) × (first < 2 ^ 64) × (count ≤ 65535)
+IsAnswerInRange (answer.Advanced now first count) = (now ≤ 9223372036854775807) × (first < 2 ^ 64) × (count ≤ 65535)
+IsAnswerInRange (answer.Attached pool) = pool.0 ≤ 65535
+IsAnswerInRange (answer.Taken callback object routine context result) =
+    (callback < 2 ^ 64) × (object.0 ≤ 65535) × IsRoutineInRange routine.0 × (context < 2 ^ 64) × IsResultInRange result
+IsAnswerInRange (answer.Returned section mutex semaphore event first count) = (first < 2 ^ 64) × (count ≤ 65535)
+IsAnswerInRange (answer.Refused refusal) = IsRefusalInRange refusal
+IsAnswerInRange _ = Unit {0}
+
+abbrev pub IsLookInRange : Look → Type 0
+IsLookInRange (look.NotYet callback) = callback < 2 ^ 64
+IsLookInRange (look.NotYetKernel kernel) = kernel.0 ≤ 65535
+IsLookInRange (look.AtMaximum running) = running ≤ 65535
+IsLookInRange _ = Unit {0}
+
+abbrev pub IsOutcomeInRange : Outcome → Type 0
+IsOutcomeInRange (outcome.Done answer) = IsAnswerInRange answer
+IsOutcomeInRange (outcome.Look look) = IsLookInRange look
+IsOutcomeInRange (outcome.Full room cost) = (room < 2 ^ 64) × (cost < 2 ^ 64)

@@ -4,7 +4,7 @@ use Rattle.tp_base.specs.declared.rows.Status.{Status}
 use Rattle.tp_base.specs.declared.rows.Status.TheVariants.{Expected, Issued, Pending, Running, Returned, Cancelled}
 use Rattle.tp_base.specs.declared.rows.CallbackRow.{CallbackRow}
 use Rattle.tp_model.specs.Counts.{has_number, is_pending, is_running, is_live}
-use Rattle.tp_model.specs.Rows.{replaced}
+use Rattle.tp_model.specs.Changes.{replaced}
 use Rattle.tp_model.specs.Sound.{IsRising}
 use Rattle.std.specs.List.{AllByRecursion}
 

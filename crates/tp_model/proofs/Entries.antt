@@ -1,39 +1,35 @@
 -- What an entry of a legal history leads to, and what is kept along a history.
-use Rattle.std.proofs.Common.{◌≡◌, ℕ, ◌+◌, ◌-◌, ◌≤◌, Bool, true, false, cond, ◌&&◌, List, [], ◌∷◌, ◌++◌, length, nat_lt, refl, sym, ap, ◌∙◌, append_assoc, subst, arith, length-append}
+use Rattle.std.proofs.Common.{◌≡◌, ℕ, ◌+◌, Bool, true, false, cond, ◌&&◌, List, [], ◌∷◌, ◌++◌, length, nat_lt, Some, refl, sym, ap, ◌∙◌, append_assoc, subst, arith}
 use Rattle.std.proofs.lemmas.List.{append-nil}
 use Rattle.tp_base.specs.declared.ids.Who.{Who}
 use Rattle.tp_base.specs.declared.calls.Call.{Call}
+use Rattle.tp_base.specs.declared.calls.Call.TheVariants.{CreatePool}
 use Rattle.tp_base.specs.declared.answers.Answer.{Answer}
 use Rattle.tp_base.specs.declared.answers.Answer.TheVariants as answer
 use Rattle.tp_base.specs.declared.answers.Refusal.{Refusal}
 use Rattle.tp_base.specs.declared.answers.Outcome.TheVariants as outcome
 use Rattle.tp_base.specs.declared.answers.Entry.{Entry}
+use Rattle.tp_base.specs.declared.plans.Change.{Change}
+use Rattle.tp_base.specs.declared.plans.Plan.{Plan}
+use Rattle.tp_base.specs.declared.plans.Plan.TheVariants as plans
 use Rattle.tp_model.specs.World.{World}
-use Rattle.tp_model.specs.Step.{Step, Accepted, Refused, Looked, Full, within, cost, outcome_of, world_after}
-use Rattle.tp_model.specs.Table.{row, step}
-use Rattle.tp_model.specs.History.{is_refusal, led_to, after_from, room, IsLegalFrom}
+use Rattle.tp_model.specs.Changes.{changed}
+use Rattle.tp_model.specs.Step.{Accepted, Refused, Full, stepped, within, cost, outcome_of}
+use Rattle.tp_model.specs.Table.{plan, step}
+use Rattle.tp_model.specs.History.{is_refusal, change_of, change_told, led_by, led_to, after_from, room, IsLegalFrom}
 use Rattle.tp_model.specs.Sound.{IsSound}
-use Rattle.tp_model.specs.Remembered.{made_by}
+use Rattle.tp_model.specs.Safe.{IsSafeChange}
 use Rattle.tp_model.specs.Laws.Entries.{is_return_call}
-use Rattle.tp_model.specs.Moves.{Moves, Stay, Queue, Mark, Join, Leave, Start, Stop, Moved, Leads, nothing}
-use Rattle.tp_model.specs.Rows.{started, returned}
-use Rattle.tp_model.proofs.Callbacks.{length_replaced}
-use Rattle.tp_model.proofs.Soundness.{row_sound}
-use Rattle.tp_model.proofs.Moving.{row_moves}
+use Rattle.tp_model.specs.Told.{nothing, told, told_by}
+use Rattle.tp_model.specs.Moves.{Stay, Leads}
+use Rattle.tp_model.proofs.Growing.{grows}
+use Rattle.tp_model.proofs.Preserving.{changed_sound}
+use Rattle.tp_model.proofs.Steps.{plan_allowed}
+use Rattle.tp_model.proofs.Moving.{change_leads}
 
 -- the number that the next callback gets
 abbrev pub fresh_in : World → ℕ
 fresh_in w = length w.callbacks + 1
-
--- no move loses a callback
-moves_longer : (fresh : ℕ) (w : World) (entry : Entry) (after : World) → Moves fresh w entry after → length w.callbacks ≤ length after.callbacks
-moves_longer fresh w entry after (Stay m) = omega (arith, ap length m.callbacks)
-moves_longer fresh w entry after (Queue m) = omega (arith, ap length m.callbacks, length-append w.callbacks (m.callback ∷ []))
-moves_longer fresh w entry after (Mark m) = omega (arith, ap length m.callbacks, length_replaced m.new w.callbacks)
-moves_longer fresh w entry after (Join m) = omega (arith, ap length m.callbacks)
-moves_longer fresh w entry after (Leave m) = omega (arith, ap length m.callbacks)
-moves_longer fresh w entry after (Start m) = omega (arith, ap length m.callbacks, length_replaced (started m.callback m.worker) w.callbacks)
-moves_longer fresh w entry after (Stop m) = omega (arith, ap length m.callbacks, length_replaced (returned m.callback) w.callbacks)
 
 -- an entry leads to a sound world, as its call moves what there is
 pub record LeadsOn (w : World) (entry : Entry) (after : World) : Type 0 where
@@ -43,7 +39,15 @@ pub record LeadsOn (w : World) (entry : Entry) (after : World) : Type 0 where
 refused_leads : (w : World) (who : Who) (call : Call) (refusal : Refusal) → Leads (fresh_in w) w (record { who = who; call = call; answer = answer.Refused refusal }) w
 refused_leads w who call refusal =
     record {
-      moves = Stay (record { tells = ap (λ b. record nothing { returned = b }) (never (is_return_call call)); callbacks = refl; workers = refl });
+      moves = record {
+        kept = w.callbacks;
+        new = [];
+        move = Stay (record { tells = ap (λ b. record nothing { returned = b }) (never (is_return_call call)); callbacks = refl; workers = refl });
+        rows = tt;
+        made = refl;
+        queued = refl;
+        callbacks = sym (append-nil w.callbacks);
+      };
       limits = refl;
       maxima = λ pool. refl;
     }
@@ -52,37 +56,43 @@ refused_leads w who call refusal =
     never true = refl
     never false = refl
 
--- an entry of a legal history does
+-- an entry's answer tells the change of its plan
+pub told_change : (w : World) (left : ℕ) (who : Who) (call : Call) (a : Answer) (ch : Change) → plan w left who call ≡ plans.Does a ch → change_told w who call a ≡ Some ch
+told_change w left who CreatePool a ch is = ap change_of is
+told_change w left who _ a ch is = ap change_of is
+
+-- an entry of a legal history leads on
 pub entry_leads : (w : World) (left : ℕ) (entry : Entry) → IsSound (fresh_in w) w → outcome_of (step w left entry.who entry.call) ≡ outcome.Done entry.answer → LeadsOn w entry (led_to w entry)
-entry_leads w left entry s told = of_row (row w entry.who entry.call) refl (row_moves (fresh_in w) w entry.who entry.call s) (row_sound (fresh_in w) w entry.who entry.call s) told
+entry_leads w left entry s answers = of_plan (plan w left entry.who entry.call) refl answers
   where
-    of_answer : (told : Answer) (after : World) → told ≡ entry.answer → row w entry.who entry.call ≡ Accepted told after → (is_refusal told ≡ false) × Leads (fresh_in w) w (record { who = entry.who; call = entry.call; answer = told }) after → IsSound (fresh_in w + (length after.callbacks - length w.callbacks)) after → LeadsOn w entry (led_to w entry)
-    of_answer told after same is moved sound =
-        let there : led_to w entry ≡ after = ap (λ b. cond b w (world_after w (row w entry.who entry.call))) (ap is_refusal (sym same) ∙ moved.0) ∙ ap (world_after w) is in
-        let leads : Leads (fresh_in w) w entry after = subst (λ (a : Answer). Leads (fresh_in w) w (record { who = entry.who; call = entry.call; answer = a }) after) same moved.1 in
+    of_change : (a : Answer) (ch : Change) → a ≡ entry.answer → plan w left entry.who entry.call ≡ plans.Does a ch → LeadsOn w entry (led_to w entry)
+    of_change a ch same is =
+        let safe : IsSafeChange (fresh_in w) w entry.who entry.call a ch = plan_allowed (fresh_in w) left w entry.who entry.call a ch s is in
+        let makes : change_told w entry.who entry.call entry.answer ≡ Some ch = ap (change_told w entry.who entry.call) (sym same) ∙ told_change w left entry.who entry.call a ch is in
+        let there : led_to w entry ≡ changed w ch = ap (λ b. cond b w (led_by w (change_told w entry.who entry.call entry.answer))) (ap is_refusal (sym same) ∙ safe.accepted) ∙ ap (led_by w) makes in
+        let tells : told_by entry ≡ told (fresh_in w) w ch = ap (λ (x : Answer). told_by (record { who = entry.who; call = entry.call; answer = x })) (sym same) ∙ safe.tells in
         subst (LeadsOn w entry) (sym there)
         (record {
-          leads = leads;
-          sound = subst (λ n. IsSound n after) (omega (arith, moves_longer (fresh_in w) w entry after leads.moves)) sound;
+          leads = change_leads (fresh_in w) w entry ch safe.allowed safe.made_by tells;
+          sound = subst (λ n. IsSound n (changed w ch)) (omega (arith, grows (fresh_in w) w ch safe.allowed)) (changed_sound (fresh_in w) w ch s safe.allowed);
         })
 
-    of_row : (s : Step) → row w entry.who entry.call ≡ s → Moved (fresh_in w) w entry.who entry.call s → IsSound (fresh_in w + made_by w s) (world_after w s) → outcome_of (within w left s) ≡ outcome.Done entry.answer → LeadsOn w entry (led_to w entry)
-    of_row (Accepted answer after) is moved sound told =
-        elim (nat_lt left (cost w after)) as (λ b. outcome_of (cond b (Full left (cost w after)) (Accepted answer after)) ≡ outcome.Done entry.answer → LeadsOn w entry (led_to w entry)) [
+    of_plan : (p : Plan) → plan w left entry.who entry.call ≡ p → outcome_of (within w left (stepped w p)) ≡ outcome.Done entry.answer → LeadsOn w entry (led_to w entry)
+    of_plan (plans.Does a ch) is says =
+        elim (nat_lt left (cost w (changed w ch))) as (λ b. outcome_of (cond b (Full left (cost w (changed w ch))) (Accepted a (changed w ch))) ≡ outcome.Done entry.answer → LeadsOn w entry (led_to w entry)) [
           | true ↦ λ e. absurd cc
-          | false ↦ λ e. of_answer answer after (cc) is moved sound
-        ] told
-    of_row (Refused refusal) is moved sound told =
+          | false ↦ λ e. of_change a ch (cc) is
+        ] says
+    of_plan (plans.Refused refusal) is says =
         elim (nat_lt left 1) as (λ b. outcome_of (cond b (Full left 1) (Refused refusal)) ≡ outcome.Done entry.answer → LeadsOn w entry (led_to w entry)) [
           | true ↦ λ e. absurd cc
           | false ↦ λ e.
               let same : answer.Refused refusal ≡ entry.answer = cc in
-              let stays : led_to w entry ≡ w = ap (λ a. cond (is_refusal a) w (world_after w (row w entry.who entry.call))) (sym same) in
+              let stays : led_to w entry ≡ w = ap (λ a. cond (is_refusal a) w (led_by w (change_told w entry.who entry.call a))) (sym same) in
               subst (LeadsOn w entry) (sym stays)
               (record { leads = subst (λ (a : Answer). Leads (fresh_in w) w (record { who = entry.who; call = entry.call; answer = a }) w) same (refused_leads w entry.who entry.call refusal); sound = s })
-        ] told
-    of_row (Looked look) is moved sound told = absurd cc
-    of_row (Full short price) is moved sound told = absurd cc
+        ] says
+    of_plan (plans.Looked look) is says = absurd cc
 
 -- ---- along a history
 

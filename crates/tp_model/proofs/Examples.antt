@@ -13,7 +13,10 @@ use Rattle.tp_base.specs.declared.answers.TakeResult.TheVariants.{Plain}
 use Rattle.tp_base.specs.declared.answers.SlotWord.TheVariants.{Unasked}
 use Rattle.tp_base.specs.declared.answers.Refusal.TheVariants.{NotAttached, NoSuch, NotRunning, WrongKind, Released}
 use Rattle.tp_base.specs.declared.limits.Limits.{Limits}
-use Rattle.tp_model.specs.Rows.{create_row, submit_work_row, attach_row, take_row, return_row, finish_row}
+use Rattle.tp_model.specs.Calls.Objects.{create_plan}
+use Rattle.tp_model.specs.Calls.Work.{submit_work_plan}
+use Rattle.tp_model.specs.Calls.Workers.{attach_plan, take_plan, return_plan}
+use Rattle.tp_model.specs.Calls.Clients.{finish_plan}
 use Rattle.tp_model.specs.History.{play}
 
 limits : Limits
@@ -26,7 +29,7 @@ plain_path : play limits 65536
     ((Client 1, Create Work (record { 0 = 1 }) 7 (environ Normal)) ∷ (Client 1, SubmitWork (record { 0 = 1 })) ∷ (Worker 1, Attach) ∷ (Worker 1, Take) ∷ (Worker 1, Return) ∷ [])
     ≡ outcome.Done (answer.Made 1) ∷ outcome.Done (answer.Queued 1 1) ∷ outcome.Done (answer.Attached (record { 0 = 0 }))
     ∷ outcome.Done (answer.Taken 1 (record { 0 = 1 }) (record { 0 = 1 }) 7 Plain) ∷ outcome.Done (answer.Returned Unasked Unasked Unasked Unasked 0 0) ∷ []
-unfolding limits environ create_row submit_work_row attach_row take_row return_row
+unfolding limits environ create_plan submit_work_plan attach_plan take_plan return_plan
 plain_path = refl
 
 -- callbacks of a higher priority are taken first
@@ -39,7 +42,7 @@ priorities : play limits 65536
     ∷ outcome.Done (answer.Attached (record { 0 = 0 }))
     ∷ outcome.Done (answer.Taken 3 (record { 0 = 3 }) (record { 0 = 3 }) 0 Plain) ∷ outcome.Done (answer.Returned Unasked Unasked Unasked Unasked 0 0)
     ∷ outcome.Done (answer.Taken 2 (record { 0 = 2 }) (record { 0 = 2 }) 0 Plain) ∷ []
-unfolding limits environ create_row submit_work_row attach_row take_row return_row
+unfolding limits environ create_plan submit_work_plan attach_plan take_plan return_plan
 priorities = refl
 
 -- what a call comes to where it can't be done
@@ -48,5 +51,5 @@ refusals : play limits 8
     ≡ outcome.Done (answer.Refused NotAttached) ∷ outcome.Done (answer.Refused NotRunning) ∷ outcome.Done (answer.Refused NoSuch) ∷ outcome.Look look.NoNeed
     ∷ outcome.Done (answer.Refused NoSuch) ∷ outcome.Done (answer.Refused WrongKind) ∷ outcome.Done answer.Done ∷ outcome.Done (answer.Refused Released)
     ∷ outcome.Done (answer.Refused NotAttached) ∷ outcome.Full 0 1 ∷ []
-unfolding limits environ create_row submit_work_row attach_row take_row return_row finish_row
+unfolding limits environ create_plan submit_work_plan attach_plan take_plan return_plan finish_plan
 refusals = refl

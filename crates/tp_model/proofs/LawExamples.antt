@@ -13,7 +13,10 @@ use Rattle.tp_base.specs.declared.answers.SlotWord.TheVariants.{Unasked}
 use Rattle.tp_base.specs.declared.answers.Refusal.TheVariants.{DefaultPool}
 use Rattle.tp_base.specs.declared.rows.Status.TheVariants.{Pending}
 use Rattle.tp_base.specs.declared.limits.Limits.{Limits}
-use Rattle.tp_model.specs.Rows.{create_pool_row, set_maximum_row, set_minimum_row, create_row, submit_work_row, attach_row, take_row, return_row}
+use Rattle.tp_model.specs.Calls.Pools.{create_pool_plan, set_maximum_plan, set_minimum_plan}
+use Rattle.tp_model.specs.Calls.Objects.{create_plan}
+use Rattle.tp_model.specs.Calls.Work.{submit_work_plan}
+use Rattle.tp_model.specs.Calls.Workers.{attach_plan, take_plan, return_plan}
 use Rattle.tp_model.specs.History.{IsLegal, after}
 use Rattle.tp_model.specs.Laws.Entries.{numbers_made, numbers_taken, numbers_cancelled, count_cancelled, born, ready, is_within_run, last_pool, told_maximum}
 use Rattle.tp_model.specs.Laws.Once.{left}
@@ -50,7 +53,7 @@ ended =
 
 -- the machine's answers are these
 legal : IsLegal limits 65536 ended
-unfolding limits environ begun ended create_pool_row set_maximum_row set_minimum_row create_row submit_work_row attach_row take_row return_row
+unfolding limits environ begun ended create_pool_plan set_maximum_plan set_minimum_plan create_plan submit_work_plan attach_plan take_plan return_plan
 legal = (refl, (refl, (refl, (refl, (refl, (refl, (refl, (refl, (refl, (refl, tt))))))))))
 
 callbacks : (numbers_made ended ≡ 1 ∷ 2 ∷ []) × (numbers_taken ended ≡ 1 ∷ []) × (numbers_cancelled ended ≡ []) × (count_cancelled ended ≡ 0)
@@ -62,7 +65,7 @@ unfolding begun environ
 places = (refl, refl, refl)
 
 waiting : left (after limits begun) ≡ (2, record { 0 = 1 }, Pending) ∷ []
-unfolding limits environ begun create_pool_row set_maximum_row create_row submit_work_row attach_row take_row
+unfolding limits environ begun create_pool_plan set_maximum_plan create_plan submit_work_plan attach_plan take_plan
 waiting = refl
 
 workers : (is_within_run begun 1 ≡ true) × (is_within_run ended 1 ≡ false) × (is_within_run begun 2 ≡ false) × (last_pool ended 1 ≡ Some 1)

@@ -8,7 +8,7 @@ use Rattle.tp_model.specs.Sound.{IsSound}
 use Rattle.tp_model.specs.Laws.{KeepsLaws}
 use Rattle.tp_model.specs.Laws.Once.{AreOnce}
 use Rattle.tp_model.specs.Laws.Maximum.{IsWithinMaximum}
-use Rattle.tp_model.proofs.Soundness.{opening_sound}
+use Rattle.tp_model.proofs.Preserving.{opening_sound}
 use Rattle.tp_model.proofs.Entries.{fresh_in, LeadsOn, entry_leads, IsKept, kept_to_end, kept_to_entry, Reached}
 use Rattle.tp_model.proofs.Once.{AgreesAfter, agrees_on, takes_ready, takes_uncancelled, made_in_order, taken_once, left_untaken, made_are}
 use Rattle.tp_model.proofs.Maximum.{IsStaffed, is_staffed_on, takes_below, opening_staffed}

@@ -1,14 +1,19 @@
+pub mod Actors
 pub mod Callbacks
 pub mod Costs
 pub mod Entries
-pub mod Examples
+mod Examples
 pub mod Forgetting
-pub mod LawExamples
+pub mod Growing
+mod LawExamples
 pub mod Laws
 pub mod Lists
 pub mod Maximum
+pub mod Meeting
 pub mod Moving
 pub mod Once
+pub mod Planning
+pub mod Preserving
+pub mod Ranging
 pub mod Refusals
-pub mod Soundness
 pub mod Steps

@@ -1,12 +1,15 @@
 -- The law Maximum: what the entries so far tell of workers and pools is what the world says.
-use Rattle.std.proofs.Common.{◌≡◌, ◌≢◌, ℕ, suc, zero, ◌+◌, ◌-◌, ◌<◌, ◌≤◌, Bool, true, false, cond, not, ◌&&◌, ◌||◌, ◌==◌, List, [], ◌∷◌, ◌++◌, length, replicate, Option, Some, None, is_some, slice_get, slice_set, refl, sym, ap, ◌∙◌, subst, arith, filter, ne_eqb, eq-eqb, length-set}
+use Rattle.std.proofs.Common.{◌≡◌, ◌≢◌, ℕ, suc, zero, ◌+◌, ◌-◌, ◌<◌, ◌≤◌, Bool, true, false, cond, not, ◌&&◌, ◌||◌, ◌==◌, List, [], ◌∷◌, ◌++◌, length, replicate, Option, Some, None, is_some, slice_get, slice_set, refl, sym, ap, ◌∙◌, subst, arith, filter, ne_eqb, eq-eqb, length-append, length-set}
 use Rattle.std.specs.List.{range_with_len}
 use Rattle.std.specs.Option.{option_map_or, option_or}
 use Rattle.std.proofs.lemmas.List.{length-replicate}
+use Rattle.std.proofs.lemmas.List.Elements.{filter-append}
 use Rattle.std.proofs.lemmas.List.Sums.{fold-append}
 use Rattle.tp_base.specs.declared.ids.Who.TheVariants.{Worker}
 use Rattle.tp_base.specs.declared.ids.PoolId.{PoolId}
 use Rattle.tp_base.specs.declared.rows.PoolRow.{PoolRow}
+use Rattle.tp_base.specs.declared.rows.Status.{Status}
+use Rattle.tp_base.specs.declared.rows.Status.TheVariants.{Running}
 use Rattle.tp_base.specs.declared.rows.CallbackRow.{CallbackRow}
 use Rattle.tp_base.specs.declared.rows.WorkerRow.{WorkerRow}
 use Rattle.tp_base.specs.declared.answers.Entry.{Entry}
@@ -14,15 +17,16 @@ use Rattle.tp_base.specs.declared.limits.Limits.{Limits}
 use Rattle.tp_model.specs.World.{World, opening, unattached}
 use Rattle.tp_model.specs.Counts.{numbered, is_running, is_running_in, is_attached_to, running}
 use Rattle.tp_model.specs.Conditions.{is_same_actor}
-use Rattle.tp_model.specs.Rows.{replaced, started, returned}
+use Rattle.tp_model.specs.Changes.{replaced, taken as taken_row, returned}
 use Rattle.tp_model.specs.Sound.{IsSound, IsWorkerSound, AreWorkersSound}
 use Rattle.tp_model.specs.Laws.Entries.{is_taken, is_returned, attached_by, taken_by, is_by, run_after, pool_after, is_within_run, last_pool, maximum_after, told_maximum}
 use Rattle.tp_model.specs.Laws.Maximum.{runs_in, count_running, TakesBelowMaximum}
-use Rattle.tp_model.specs.Moves.{Told, told_by, nothing, Moves, Stay, Queue, Mark, Join, Leave, Start, Stop, Leads, IsFree, maximum_at, put}
+use Rattle.tp_model.specs.Told.{Deed, deed_by, nothing}
+use Rattle.tp_model.specs.Moves.{Move, Stay, Mark, Attach, Detach, Take, Return, Moves, AreNew, is_new, Leads, IsFree, maximum_at, put}
 use Rattle.tp_model.proofs.Lists.{length_filter_set}
 use Rattle.tp_model.proofs.Callbacks.{length_filter_replaced, pending_not_running}
 use Rattle.tp_model.proofs.Refusals.{numbered_some, false_true}
-use Rattle.tp_model.proofs.Once.{one_if, count_appended}
+use Rattle.tp_model.proofs.Once.{one_if}
 
 and_false : (b : Bool) → (b && false) ≡ false
 and_false true = refl
@@ -154,12 +158,15 @@ pub record IsStaffed (limits : Limits) (before : List Entry) (w : World) : Type 
   pub runs : (pool : ℕ) → busy pool w.workers ≡ running w pool
 
 -- every move keeps what is told of workers, and that as many are busy as callbacks run
-pub record StaysStaffed (before : List Entry) (entry : Entry) (w after : World) : Type 0 where
-  pub told : AreTold (before ++ entry ∷ []) 1 after.workers
-  pub many : length after.workers ≡ length w.workers
-  pub runs : (pool : ℕ) → busy pool after.workers ≡ running after pool
+abbrev count_runs : ℕ → List CallbackRow → ℕ
+count_runs pool cs = length (filter (is_running_in pool) cs)
 
-module _ (limits : Limits) (before : List Entry) (w : World) (entry : Entry) (after : World) (s : IsSound (length w.callbacks + 1) w) (i : IsStaffed limits before w) where
+pub record StaysStaffed (before : List Entry) (entry : Entry) (w : World) (kept : List CallbackRow) (staff : List WorkerRow) : Type 0 where
+  pub told : AreTold (before ++ entry ∷ []) 1 staff
+  pub many : length staff ≡ length w.workers
+  pub runs : (pool : ℕ) → busy pool staff ≡ count_runs pool kept
+
+module _ (limits : Limits) (before : List Entry) (w : World) (entry : Entry) (kept : List CallbackRow) (staff : List WorkerRow) (s : IsSound (length w.callbacks + 1) w) (i : IsStaffed limits before w) where
   is_actor : (worker : ℕ) → entry.who ≡ Worker worker → is_by worker entry ≡ true
   is_actor worker by = ap (λ w. is_same_actor w (Worker worker)) by ∙ eq-eqb worker worker refl
 
@@ -167,22 +174,22 @@ module _ (limits : Limits) (before : List Entry) (w : World) (entry : Entry) (af
   quiet : taken_by entry.answer ≡ None → attached_by entry.answer ≡ None → is_returned entry ≡ false → (worker : ℕ) → IsSame before entry worker
   quiet untaken unattached unreturned worker = record { within = run_same before entry worker untaken unreturned; joined = pool_same before entry worker unattached }
 
-  by_tells : (told : Told) → told_by entry ≡ told → told.taken ≡ None → told.attached ≡ None → told.returned ≡ false → (worker : ℕ) → IsSame before entry worker
-  by_tells told tells untaken unattached unreturned =
-      quiet (ap (λ (t : Told). t.taken) tells ∙ untaken) (ap (λ (t : Told). t.attached) tells ∙ unattached) (ap (λ (t : Told). t.returned) tells ∙ unreturned)
+  by_tells : (deed : Deed) → deed_by entry ≡ deed → deed.taken ≡ None → deed.attached ≡ None → deed.returned ≡ false → (worker : ℕ) → IsSame before entry worker
+  by_tells deed tells untaken unattached unreturned =
+      quiet (ap (λ (t : Deed). t.taken) tells ∙ untaken) (ap (λ (t : Deed). t.attached) tells ∙ unattached) (ap (λ (t : Deed). t.returned) tells ∙ unreturned)
 
   -- where no worker changes
-  staffed_same : (told : Told) → told_by entry ≡ told → told.taken ≡ None → told.attached ≡ None → told.returned ≡ false → after.workers ≡ w.workers → ((pool : ℕ) → running after pool ≡ running w pool) → StaysStaffed before entry w after
-  staffed_same told tells untaken unattached unreturned same running_same =
+  staffed_same : (deed : Deed) → deed_by entry ≡ deed → deed.taken ≡ None → deed.attached ≡ None → deed.returned ≡ false → staff ≡ w.workers → ((pool : ℕ) → count_runs pool kept ≡ running w pool) → StaysStaffed before entry w kept staff
+  staffed_same deed tells untaken unattached unreturned same running_same =
       record {
-        told = subst (AreTold (before ++ entry ∷ []) 1) (sym same) (told_same before entry 1 w.workers (λ worker _. by_tells told tells untaken unattached unreturned worker) i.told);
+        told = subst (AreTold (before ++ entry ∷ []) 1) (sym same) (told_same before entry 1 w.workers (λ worker _. by_tells deed tells untaken unattached unreturned worker) i.told);
         many = ap length same;
         runs = λ pool. ap (busy pool) same ∙ i.runs pool ∙ sym (running_same pool);
       }
 
   -- where the actor's row changes
-  staffed_put : (worker : ℕ) (row new : WorkerRow) → entry.who ≡ Worker worker → numbered w.workers worker ≡ Some row → after.workers ≡ put w worker new → (IsTold before worker row → IsTold (before ++ entry ∷ []) worker new)
-      → ((pool : ℕ) → running after pool + one_if (is_busy_in pool row) ≡ running w pool + one_if (is_busy_in pool new)) → StaysStaffed before entry w after
+  staffed_put : (worker : ℕ) (row new : WorkerRow) → entry.who ≡ Worker worker → numbered w.workers worker ≡ Some row → staff ≡ put w worker new → (IsTold before worker row → IsTold (before ++ entry ∷ []) worker new)
+      → ((pool : ℕ) → count_runs pool kept + one_if (is_busy_in pool row) ≡ running w pool + one_if (is_busy_in pool new)) → StaysStaffed before entry w kept staff
   staffed_put worker row new by stands changed told_new running_changed =
       let place = numbered_some w.workers worker row stands in
       let is : 1 + (worker - 1) ≡ worker = omega (arith, place.1) in
@@ -192,17 +199,17 @@ module _ (limits : Limits) (before : List Entry) (w : World) (entry : Entry) (af
             (told_put before entry 1 (worker - 1) w.workers new (λ other apart. others_same before entry worker other by (λ e. apart (e ∙ sym is)))
             (subst (λ n. IsTold (before ++ entry ∷ []) n new) (sym is) (told_new old)) i.told);
         many = ap length changed ∙ length-set w.workers (worker - 1) new;
-        runs = λ pool. as_many pool (busy pool after.workers) (ap (busy pool) changed) (length_filter_set (is_busy_in pool) w.workers (worker - 1) row new place.0);
+        runs = λ pool. as_many pool (busy pool staff) (ap (busy pool) changed) (length_filter_set (is_busy_in pool) w.workers (worker - 1) row new place.0);
       }
     where
-      as_many : (pool now : ℕ) → now ≡ busy pool (put w worker new) → busy pool (put w worker new) + cond (is_busy_in pool row) 1 0 ≡ busy pool w.workers + cond (is_busy_in pool new) 1 0 → now ≡ running after pool
+      as_many : (pool now : ℕ) → now ≡ busy pool (put w worker new) → busy pool (put w worker new) + cond (is_busy_in pool row) 1 0 ≡ busy pool w.workers + cond (is_busy_in pool new) 1 0 → now ≡ count_runs pool kept
       as_many pool now is filtered = omega (arith, is, filtered, i.runs pool, running_changed pool)
 
-  running_callbacks : (cs : List CallbackRow) → after.callbacks ≡ cs → (pool : ℕ) → running after pool ≡ length (filter (is_running_in pool) cs)
+  running_callbacks : (cs : List CallbackRow) → kept ≡ cs → (pool : ℕ) → count_runs pool kept ≡ length (filter (is_running_in pool) cs)
   running_callbacks cs same pool = ap (λ l. length (filter (is_running_in pool) l)) same
 
   -- where a worker that runs nothing gets a row that runs nothing
-  idle_put : (worker : ℕ) (actor : IsFree w entry worker) (new : WorkerRow) → new.callback ≡ None → after.callbacks ≡ w.callbacks → (pool : ℕ) → running after pool + one_if (is_busy_in pool actor.row) ≡ running w pool + one_if (is_busy_in pool new)
+  idle_put : (worker : ℕ) (actor : IsFree w entry worker) (new : WorkerRow) → new.callback ≡ None → kept ≡ w.callbacks → (pool : ℕ) → count_runs pool kept + one_if (is_busy_in pool actor.row) ≡ running w pool + one_if (is_busy_in pool new)
   idle_put worker actor new idle same pool =
       let was : one_if (is_busy_in pool actor.row) ≡ 0 = ap one_if (idle_not_busy pool actor.row actor.free) in
       let now : one_if (is_busy_in pool new) ≡ 0 = ap one_if (idle_not_busy pool new idle) in
@@ -228,62 +235,59 @@ module _ (limits : Limits) (before : List Entry) (w : World) (entry : Entry) (af
       ∙ ap (λ (o : Option ℕ). is_some o || (is_within_run before worker && not (is_returned entry))) untaken
       ∙ ap (λ b. is_within_run before worker && not b) returns ∙ and_false (is_within_run before worker)
 
-  staffed_on : Moves (length w.callbacks + 1) w entry after → StaysStaffed before entry w after
+  staffed_on : Move w entry kept staff → StaysStaffed before entry w kept staff
   staffed_on (Stay m) = staffed_same nothing m.tells refl refl refl m.workers (running_callbacks w.callbacks m.callbacks)
-  staffed_on (Queue m) =
-      staffed_same (record nothing { made = (length w.callbacks + 1) ∷ []; queued = (length w.callbacks + 1) ∷ [] }) m.tells refl refl refl m.workers
-      (λ pool. running_callbacks (w.callbacks ++ m.callback ∷ []) m.callbacks pool ∙ count_appended (is_running_in pool) w.callbacks m.callback (ap (λ b. b && (m.callback.pool.0 == pool)) (pending_not_running m.callback.status m.waits)))
   staffed_on (Mark m) = staffed_same nothing m.tells refl refl refl m.workers (λ pool. running_callbacks (replaced m.new w.callbacks) m.callbacks pool ∙ as_many pool)
     where
       as_many : (pool : ℕ) → length (filter (is_running_in pool) (replaced m.new w.callbacks)) ≡ length (filter (is_running_in pool) w.callbacks)
       as_many pool =
           let alike : one_if (is_running_in pool m.new) ≡ one_if (is_running_in pool m.old) = ap (λ b. one_if (is_running b && (m.new.pool.0 == pool))) m.status ∙ ap (λ (p : PoolId). one_if (is_running m.old.status && (p.0 == pool))) m.pool in
           omega (arith, length_filter_replaced (is_running_in pool) m.new m.old 1 (length w.callbacks + 1) w.callbacks s.numbers m.found, alike)
-  staffed_on (Join m) =
+  staffed_on (Attach m) =
       staffed_put m.worker m.actor.row (record { pool = Some m.pool; callback = None }) m.actor.by m.actor.stands m.workers
       (λ old. record {
-        within = run_same before entry m.worker (ap (λ (t : Told). t.taken) m.tells) (ap (λ (t : Told). t.returned) m.tells) ∙ old.within ∙ ap (λ (o : Option ℕ). is_some o) m.actor.free;
-        joined = λ pool home. joined_told m.worker (Some m.pool.0) m.actor.by (ap (λ (t : Told). t.attached) m.tells) ∙ ap (λ (p : PoolId). Some p.0) (same_pool m.pool pool home);
+        within = run_same before entry m.worker (ap (λ (t : Deed). t.taken) m.tells) (ap (λ (t : Deed). t.returned) m.tells) ∙ old.within ∙ ap (λ (o : Option ℕ). is_some o) m.actor.free;
+        joined = λ pool home. joined_told m.worker (Some m.pool.0) m.actor.by (ap (λ (t : Deed). t.attached) m.tells) ∙ ap (λ (p : PoolId). Some p.0) (same_pool m.pool pool home);
       })
       (idle_put m.worker m.actor (record { pool = Some m.pool; callback = None }) refl m.callbacks)
     where
       same_pool : (p q : PoolId) → Some p ≡ Some q → p ≡ q
       same_pool p q e = cc
-  staffed_on (Leave m) =
+  staffed_on (Detach m) =
       staffed_put m.worker m.actor.row (record { pool = None; callback = None }) m.actor.by m.actor.stands m.workers
       (λ old. record {
-        within = run_same before entry m.worker (ap (λ (t : Told). t.taken) m.tells) (ap (λ (t : Told). t.returned) m.tells) ∙ old.within ∙ ap (λ (o : Option ℕ). is_some o) m.actor.free;
+        within = run_same before entry m.worker (ap (λ (t : Deed). t.taken) m.tells) (ap (λ (t : Deed). t.returned) m.tells) ∙ old.within ∙ ap (λ (o : Option ℕ). is_some o) m.actor.free;
         joined = λ pool home. absurd (none_some pool home);
       })
       (idle_put m.worker m.actor (record { pool = None; callback = None }) refl m.callbacks)
     where
       none_some : (p : PoolId) → None ≡ Some p → ⊥
       none_some p e = cc
-  staffed_on (Start m) =
+  staffed_on (Take m) =
       staffed_put m.worker m.actor.row (record { pool = Some m.pool; callback = Some m.callback.number }) m.actor.by m.actor.stands m.workers
       (λ old. record {
-        within = run_begun m.worker m.callback.number m.actor.by (ap (λ (t : Told). t.taken) m.tells);
-        joined = λ pool home. pool_same before entry m.worker (ap (λ (t : Told). t.attached) m.tells) ∙ old.joined pool (m.home ∙ home);
+        within = run_begun m.worker m.callback.number m.actor.by (ap (λ (t : Deed). t.taken) m.tells);
+        joined = λ pool home. pool_same before entry m.worker (ap (λ (t : Deed). t.attached) m.tells) ∙ old.joined pool (m.home ∙ home);
       })
       more_run
     where
-      more_run : (pool : ℕ) → running after pool + one_if (is_busy_in pool m.actor.row) ≡ running w pool + one_if (is_busy_in pool (record { pool = Some m.pool; callback = Some m.callback.number }))
+      more_run : (pool : ℕ) → count_runs pool kept + one_if (is_busy_in pool m.actor.row) ≡ running w pool + one_if (is_busy_in pool (record { pool = Some m.pool; callback = Some m.callback.number }))
       more_run pool =
-          let d : CallbackRow = started m.callback m.worker in
+          let d : CallbackRow = taken_row m.callback m.worker in
           let was : one_if (is_busy_in pool m.actor.row) ≡ 0 = ap one_if (idle_not_busy pool m.actor.row m.actor.free) in
           let now : one_if (is_busy_in pool (record { pool = Some m.pool; callback = Some m.callback.number })) ≡ one_if (m.pool.0 == pool) = ap one_if (and_true (m.pool.0 == pool)) in
           let begins : one_if (is_running_in pool d) ≡ one_if (m.pool.0 == pool) = ap (λ (p : PoolId). one_if (p.0 == pool)) m.pool_same in
           let still : one_if (is_running_in pool m.callback) ≡ 0 = ap (λ b. one_if (b && (m.callback.pool.0 == pool))) (pending_not_running m.callback.status m.waits) in
           omega (arith, was, now, begins, still, running_callbacks (replaced d w.callbacks) m.callbacks pool, length_filter_replaced (is_running_in pool) d m.callback 1 (length w.callbacks + 1) w.callbacks s.numbers m.found)
-  staffed_on (Stop m) =
+  staffed_on (Return m) =
       staffed_put m.worker m.row (record m.row { callback = None }) m.by m.stands m.workers
       (λ old. record {
-        within = run_ended m.worker m.by (ap (λ (t : Told). t.taken) m.tells) (ap (λ (t : Told). t.returned) m.tells);
-        joined = λ pool home. pool_same before entry m.worker (ap (λ (t : Told). t.attached) m.tells) ∙ old.joined pool home;
+        within = run_ended m.worker m.by (ap (λ (t : Deed). t.taken) m.tells) (ap (λ (t : Deed). t.returned) m.tells);
+        joined = λ pool home. pool_same before entry m.worker (ap (λ (t : Deed). t.attached) m.tells) ∙ old.joined pool home;
       })
       fewer_run
     where
-      fewer_run : (pool : ℕ) → running after pool + one_if (is_busy_in pool m.row) ≡ running w pool + one_if (is_busy_in pool (record m.row { callback = None }))
+      fewer_run : (pool : ℕ) → count_runs pool kept + one_if (is_busy_in pool m.row) ≡ running w pool + one_if (is_busy_in pool (record m.row { callback = None }))
       fewer_run pool =
           let d : CallbackRow = returned m.callback in
           let was : one_if (is_busy_in pool m.row) ≡ one_if (m.pool.0 == pool) =
@@ -293,20 +297,35 @@ module _ (limits : Limits) (before : List Entry) (w : World) (entry : Entry) (af
           ap (λ b. one_if (b && (m.callback.pool.0 == pool))) m.runs ∙ ap (λ (p : PoolId). one_if (p.0 == pool)) m.pool_same in
           omega (arith, was, now, ran, running_callbacks (replaced d w.callbacks) m.callbacks pool, length_filter_replaced (is_running_in pool) d m.callback 1 (length w.callbacks + 1) w.callbacks s.numbers m.found)
 
+-- none of the callbacks that are made runs
+none_run : (pool fresh : ℕ) (new : List CallbackRow) → AreNew fresh new → length (filter (is_running_in pool) new) ≡ 0
+none_run pool fresh [] rows = refl
+none_run pool fresh (c ∷ cs) rows = ap (λ b. length (cond (b && (c.pool.0 == pool)) (c ∷ filter (is_running_in pool) cs) (filter (is_running_in pool) cs))) (new_still c.status rows.0.unbegun) ∙ none_run pool (fresh + 1) cs rows.1
+  where
+    new_still : (status : Status) → is_new status ≡ true → is_running status ≡ false
+    new_still (Running worker associated slots) e = cc
+    new_still _ e = refl
+
+module _ (limits : Limits) (before : List Entry) (w : World) (entry : Entry) (after : World) (s : IsSound (length w.callbacks + 1) w) (i : IsStaffed limits before w) where
+  running_after : (moves : Moves (length w.callbacks + 1) w entry after) (pool : ℕ) → running after pool ≡ count_runs pool moves.kept
+  running_after moves pool =
+      ap (count_runs pool) moves.callbacks ∙ ap length (filter-append (is_running_in pool) moves.kept moves.new) ∙ length-append (filter (is_running_in pool) moves.kept) (filter (is_running_in pool) moves.new)
+      ∙ ap (λ n. count_runs pool moves.kept + n) (none_run pool (length w.callbacks + 1) moves.new moves.rows) ∙ omega arith
+
   pub is_staffed_on : Leads (length w.callbacks + 1) w entry after → IsStaffed limits (before ++ entry ∷ []) after
   is_staffed_on leads =
-      let on = staffed_on leads.moves in
+      let on = staffed_on limits before w entry leads.moves.kept after.workers s i leads.moves.move in
       record {
         limit = ap (λ (l : Limits). l.workers) leads.limits ∙ i.limit;
         maxima = λ pool. leads.maxima pool ∙ ap (λ m. maximum_after pool m entry) (i.maxima pool) ∙ sym (fold-append (maximum_after pool) limits.workers before (entry ∷ []));
         told = on.told;
         many = on.many ∙ i.many;
-        runs = on.runs;
+        runs = λ pool. on.runs pool ∙ sym (running_after leads.moves pool);
       }
 
   -- a worker that takes a callback does so where fewer run than its pool's maximum
-  pub takes_below : Moves (length w.callbacks + 1) w entry after → TakesBelowMaximum limits before entry
-  takes_below (Start m) worker pool by takes home =
+  takes_by : (kept : List CallbackRow) (staff : List WorkerRow) → Move w entry kept staff → TakesBelowMaximum limits before entry
+  takes_by kept staff (Take m) worker pool by takes home =
       subst (λ p. count_running limits before p < told_maximum limits before p) pool_is
       (omega (arith, counted, i.runs m.pool.0, i.maxima m.pool.0, below_some m.pool.0 (slice_get w.pools m.pool.0) (running w m.pool.0) m.below))
     where
@@ -330,12 +349,14 @@ module _ (limits : Limits) (before : List Entry) (w : World) (entry : Entry) (af
 
       counted : count_running limits before m.pool.0 ≡ busy m.pool.0 w.workers
       counted = ap (λ n. length (filter (runs_in before m.pool.0) (range_with_len 1 n))) (sym i.many) ∙ count_busy before w.callbacks m.pool.0 1 w.workers i.told s.workers
-  takes_below (Stay m) worker pool by takes home = absurd (false_true (sym (ap (λ (t : Told). is_some t.taken) m.tells) ∙ takes))
-  takes_below (Queue m) worker pool by takes home = absurd (false_true (sym (ap (λ (t : Told). is_some t.taken) m.tells) ∙ takes))
-  takes_below (Mark m) worker pool by takes home = absurd (false_true (sym (ap (λ (t : Told). is_some t.taken) m.tells) ∙ takes))
-  takes_below (Join m) worker pool by takes home = absurd (false_true (sym (ap (λ (t : Told). is_some t.taken) m.tells) ∙ takes))
-  takes_below (Leave m) worker pool by takes home = absurd (false_true (sym (ap (λ (t : Told). is_some t.taken) m.tells) ∙ takes))
-  takes_below (Stop m) worker pool by takes home = absurd (false_true (sym (ap (λ (t : Told). is_some t.taken) m.tells) ∙ takes))
+  takes_by kept staff (Stay m) worker pool by takes home = absurd (false_true (sym (ap (λ (t : Deed). is_some t.taken) m.tells) ∙ takes))
+  takes_by kept staff (Mark m) worker pool by takes home = absurd (false_true (sym (ap (λ (t : Deed). is_some t.taken) m.tells) ∙ takes))
+  takes_by kept staff (Attach m) worker pool by takes home = absurd (false_true (sym (ap (λ (t : Deed). is_some t.taken) m.tells) ∙ takes))
+  takes_by kept staff (Detach m) worker pool by takes home = absurd (false_true (sym (ap (λ (t : Deed). is_some t.taken) m.tells) ∙ takes))
+  takes_by kept staff (Return m) worker pool by takes home = absurd (false_true (sym (ap (λ (t : Deed). is_some t.taken) m.tells) ∙ takes))
+
+  pub takes_below : Moves (length w.callbacks + 1) w entry after → TakesBelowMaximum limits before entry
+  takes_below moves = takes_by moves.kept after.workers moves.move
 
 -- ---- of the opening world
 

@@ -1,5 +1,5 @@
 -- The law Once: what the entries so far tell of each callback is what its status says.
-use Rattle.std.proofs.Common.{◌≡◌, ℕ, suc, zero, ◌+◌, ◌<◌, ◌≤◌, Bool, true, false, cond, not, ◌||◌, ◌==◌, List, [], ◌∷◌, ◌++◌, length, Option, Some, None, is_some, slice_get, get_or, refl, sym, ap, ◌∙◌, subst, arith, filter, find, ◌⊎◌, inl, inr, eqb-true, length-append, lt-ltb}
+use Rattle.std.proofs.Common.{◌≡◌, ℕ, suc, zero, ◌+◌, ◌<◌, ◌≤◌, Bool, true, false, cond, not, ◌||◌, ◌==◌, List, [], ◌∷◌, ◌++◌, length, Option, Some, None, is_some, slice_get, get_or, refl, sym, ap, ◌∙◌, append_assoc, subst, arith, filter, find, ◌⊎◌, inl, inr, eqb-true, length-append, lt-ltb}
 use Rattle.std.specs.List.{All, cons_option, list_any, range_with_len, flat_map, filter_map, position, position_or_len, prefix_len}
 use Rattle.std.specs.Option.{option_to_list}
 use Rattle.std.proofs.lemmas.List.{append-nil, length-map}
@@ -13,14 +13,16 @@ use Rattle.tp_base.specs.declared.ids.ObjectId.{ObjectId}
 use Rattle.tp_base.specs.declared.rows.Status.{Status}
 use Rattle.tp_base.specs.declared.rows.Status.TheVariants.{Expected, Issued, Pending, Running, Returned, Cancelled}
 use Rattle.tp_base.specs.declared.rows.CallbackRow.{CallbackRow}
+use Rattle.tp_base.specs.declared.rows.WorkerRow.{WorkerRow}
 use Rattle.tp_base.specs.declared.answers.Entry.{Entry}
 use Rattle.tp_model.specs.World.{World}
 use Rattle.tp_model.specs.Counts.{has_number, is_pending, is_running}
-use Rattle.tp_model.specs.Rows.{replaced, started, returned}
+use Rattle.tp_model.specs.Changes.{replaced, taken as taken_row, returned}
 use Rattle.tp_model.specs.Sound.{IsRising}
-use Rattle.tp_model.specs.Laws.Entries.{is_among, times, numbers_made, numbers_queued, numbers_taken, numbers_cancelled, count_cancelled, made_by, queued_by, taken_by, cancelled_by, cancelled_count}
+use Rattle.tp_model.specs.Laws.Entries.{Run, is_among, times, numbers_made, numbers_queued, numbers_taken, numbers_cancelled, count_cancelled, made_by, queued_by, taken_by, cancelled_by, cancelled_count}
 use Rattle.tp_model.specs.Laws.Once.{is_left, left, TakesReady, TakesUncancelled}
-use Rattle.tp_model.specs.Moves.{Told, told_by, nothing, Moves, Stay, Queue, Mark, Join, Leave, Start, Stop}
+use Rattle.tp_model.specs.Told.{Deed, deed_by, nothing}
+use Rattle.tp_model.specs.Moves.{Move, Stay, Mark, Attach, Detach, Take, Return, Moves, run_of, AreNew, is_new, numbers_of, waiting_of}
 use Rattle.tp_model.proofs.Callbacks.{find_appended, find_replaced, find_replaced_other, length_replaced, length_filter_replaced, kept_found}
 use Rattle.tp_model.proofs.Refusals.{false_true}
 
@@ -65,6 +67,18 @@ running_uncancelled : (s : Status) → is_running s ≡ true → is_cancelled s 
 running_uncancelled Cancelled e = cc
 running_uncancelled _ e = refl
 
+new_unbegun : (s : Status) → is_new s ≡ true → has_begun s ≡ false
+new_unbegun Expected e = refl
+new_unbegun Pending e = refl
+new_unbegun Issued e = refl
+new_unbegun Cancelled e = refl
+new_unbegun (Running worker associated slots) e = cc
+new_unbegun Returned e = cc
+
+new_uncancelled : (s : Status) → is_new s ≡ true → is_cancelled s ≡ false
+new_uncancelled Cancelled e = cc
+new_uncancelled _ e = refl
+
 abbrev pub one_if : Bool → ℕ
 one_if b = cond b 1 0
 
@@ -82,10 +96,10 @@ pub record Agrees (made queued taken cancelled : List ℕ) (count : ℕ) (cs : L
   pub as_many_taken : length taken ≡ length (filter begun cs)
   pub as_many_cancelled : count + length cancelled ≡ length (filter dropped cs)
 
--- with what an entry tells besides
-abbrev AgreesWith : List ℕ → List ℕ → List ℕ → List ℕ → ℕ → Told → List CallbackRow → Type 0
-AgreesWith made queued taken cancelled count told cs =
-    Agrees (made ++ told.made) (queued ++ told.queued) (taken ++ option_to_list told.taken) (cancelled ++ option_to_list told.cancelled) (count + told.count) cs
+-- with what an entry tells of the callbacks that there are
+abbrev AgreesWith : List ℕ → List ℕ → List ℕ → List ℕ → ℕ → Deed → List CallbackRow → Type 0
+AgreesWith made queued taken cancelled count deed cs =
+    Agrees made queued (taken ++ option_to_list deed.taken) (cancelled ++ option_to_list deed.cancelled) (count + deed.count) cs
 
 range_more : (a n : ℕ) → range_with_len a n ++ (a + n) ∷ [] ≡ range_with_len a (n + 1)
 range_more a zero = let next : a + 0 ≡ a = omega arith in ap (λ m. m ∷ []) next
@@ -127,6 +141,15 @@ found_appended n (d ∷ cs) c x e =
       | false ↦ λ f. found_appended n cs c x f
     ] e
 
+-- what was added is found where none of its number was there
+find_last : (n : ℕ) (cs : List CallbackRow) (c : CallbackRow) → find (has_number n) cs ≡ None → has_number n c ≡ true → find (has_number n) (cs ++ c ∷ []) ≡ Some c
+find_last n [] c none here = ap (λ b. cond b (Some c) None) here
+find_last n (d ∷ cs) c none here =
+    elim (has_number n d) as (λ b. cond b (Some d) (find (has_number n) cs) ≡ None → cond b (Some d) (find (has_number n) (cs ++ c ∷ [])) ≡ Some c) [
+      | true ↦ λ e. absurd cc
+      | false ↦ λ e. find_last n cs c e here
+    ] none
+
 among_front : (n : ℕ) (xs ys : List ℕ) → is_among n xs ≡ true → is_among n (xs ++ ys) ≡ true
 among_front n xs ys e = list_any-append (λ m. m == n) xs ys ∙ ap (λ b. b || is_among n ys) e
 
@@ -145,31 +168,42 @@ module _ (made queued taken cancelled : List ℕ) (count : ℕ) (cs : List Callb
   agrees_same : Agrees made queued taken cancelled count cs → AgreesWith made queued taken cancelled count nothing cs
   agrees_same a =
       record {
-        in_order = append-nil made ∙ a.in_order;
+        in_order = a.in_order;
         taken_begun = λ n. ap (times n) (append-nil taken) ∙ a.taken_begun n;
-        pending_queued = λ n c found waits. among_front n queued [] (a.pending_queued n c found waits);
+        pending_queued = a.pending_queued;
         named_cancelled = λ n named. a.named_cancelled n (ap (is_among n) (sym (append-nil cancelled)) ∙ named);
         as_many_taken = ap length (append-nil taken) ∙ a.as_many_taken;
         as_many_cancelled = omega (arith, ap length (append-nil cancelled), a.as_many_cancelled);
       }
 
-  agrees_queued : (c : CallbackRow) (fresh : ℕ) → Agrees made queued taken cancelled count cs → fresh ≡ length cs + 1 → c.number ≡ fresh → is_pending c.status ≡ true
-      → AgreesWith made queued taken cancelled count (record nothing { made = fresh ∷ []; queued = fresh ∷ [] }) (cs ++ c ∷ [])
-  agrees_queued c fresh a is number waits =
+  -- one callback more, which has not begun
+  agrees_made : (c : CallbackRow) (fresh : ℕ) → Agrees made queued taken cancelled count cs → fresh ≡ length cs + 1 → c.number ≡ fresh → is_new c.status ≡ true → Agrees (made ++ c.number ∷ []) (queued ++ waiting_of (c ∷ [])) taken cancelled count (cs ++ c ∷ [])
+  agrees_made c fresh a is number new =
       record {
-        in_order = ap (λ t. t ++ fresh ∷ []) a.in_order ∙ ap (λ n. range_with_len 1 (length cs) ++ n ∷ []) (omega (arith, is)) ∙ range_more 1 (length cs) ∙ ap (range_with_len 1) (sym (length-append cs (c ∷ [])));
-        taken_begun = λ n. ap (times n) (append-nil taken) ∙ a.taken_begun n ∙ sym (begun_appended n cs c (pending_unbegun c.status waits));
-        pending_queued = λ n x found pending. was_queued n x pending (found_appended n cs c x found);
-        named_cancelled = λ n named.
-            let old = a.named_cancelled n (ap (is_among n) (sym (append-nil cancelled)) ∙ named) in
-            (old.0, find_appended n cs old.0 c old.1, old.2);
-        as_many_taken = ap length (append-nil taken) ∙ a.as_many_taken ∙ sym (count_appended begun cs c (pending_unbegun c.status waits));
-        as_many_cancelled = omega (arith, ap length (append-nil cancelled), a.as_many_cancelled, count_appended dropped cs c (pending_uncancelled c.status waits));
+        in_order = ap (λ t. t ++ c.number ∷ []) a.in_order ∙ ap (λ n. range_with_len 1 (length cs) ++ n ∷ []) (omega (arith, is, number)) ∙ range_more 1 (length cs) ∙ ap (range_with_len 1) (sym (length-append cs (c ∷ [])));
+        taken_begun = λ n. a.taken_begun n ∙ sym (begun_appended n cs c (new_unbegun c.status new));
+        pending_queued = λ n x found pending. was_queued n x found pending (found_appended n cs c x found);
+        named_cancelled = λ n named. let old = a.named_cancelled n named in (old.0, find_appended n cs old.0 c old.1, old.2);
+        as_many_taken = a.as_many_taken ∙ sym (count_appended begun cs c (new_unbegun c.status new));
+        as_many_cancelled = omega (arith, a.as_many_cancelled, count_appended dropped cs c (new_uncancelled c.status new));
       }
     where
-      was_queued : (n : ℕ) (x : CallbackRow) → is_pending x.status ≡ true → (find (has_number n) cs ≡ Some x) ⊎ (has_number n c ≡ true) → is_among n (queued ++ fresh ∷ []) ≡ true
-      was_queued n x pending (inl found) = among_front n queued (fresh ∷ []) (a.pending_queued n x found pending)
-      was_queued n x pending (inr here) = among_back n queued fresh (ap (λ k. k == n) (sym number) ∙ here)
+      here_queued : (n : ℕ) → is_pending c.status ≡ true → has_number n c ≡ true → is_among n (queued ++ waiting_of (c ∷ [])) ≡ true
+      here_queued n pending here = ap (λ b. is_among n (queued ++ numbers_of (cond b (c ∷ []) []))) pending ∙ among_back n queued c.number here
+
+      was_queued : (n : ℕ) (x : CallbackRow) → find (has_number n) (cs ++ c ∷ []) ≡ Some x → is_pending x.status ≡ true → (find (has_number n) cs ≡ Some x) ⊎ (has_number n c ≡ true) → is_among n (queued ++ waiting_of (c ∷ [])) ≡ true
+      was_queued n x found pending (inl old) = among_front n queued (waiting_of (c ∷ [])) (a.pending_queued n x old pending)
+      was_queued n x found pending (inr here) = of_old (find (has_number n) cs) refl
+        where
+          of_old : (o : Option CallbackRow) → find (has_number n) cs ≡ o → is_among n (queued ++ waiting_of (c ∷ [])) ≡ true
+          of_old (Some y) was =
+              let same : Some y ≡ Some x = sym (find_appended n cs y c was) ∙ found in
+              let is_x : y ≡ x = cc in
+              among_front n queued (waiting_of (c ∷ [])) (a.pending_queued n y was (ap (λ (z : CallbackRow). is_pending z.status) is_x ∙ pending))
+          of_old None was =
+              let same : Some c ≡ Some x = sym (find_last n cs c was here) ∙ found in
+              let is_x : c ≡ x = cc in
+              here_queued n (ap (λ (z : CallbackRow). is_pending z.status) is_x ∙ pending) here
 
   -- a row in place of the one of its number: what the others agree on stays
   module _ (fresh : ℕ) (c d : CallbackRow) (rising : IsRising 1 fresh cs) (found : find (has_number d.number) cs ≡ Some c) where
@@ -201,9 +235,9 @@ module _ (made queued taken cancelled : List ℕ) (count : ℕ) (cs : List Callb
         → AgreesWith made queued taken cancelled count nothing (replaced d cs)
     agrees_marked a same_begun same_cancelled waits =
         record {
-          in_order = append-nil made ∙ a.in_order ∙ ap (range_with_len 1) (sym (length_replaced d cs));
+          in_order = a.in_order ∙ ap (range_with_len 1) (sym (length_replaced d cs));
           taken_begun = λ n. ap (times n) (append-nil taken) ∙ a.taken_begun n ∙ as_begun n;
-          pending_queued = λ n x there pending. among_front n queued [] (replaced_pending a.pending_queued waits n x there pending);
+          pending_queued = replaced_pending a.pending_queued waits;
           named_cancelled = λ n named. replaced_cancelled a.named_cancelled (λ e. same_cancelled ∙ e) n (ap (is_among n) (sym (append-nil cancelled)) ∙ named);
           as_many_taken = ap length (append-nil taken) ∙ a.as_many_taken ∙ as_many begun same_begun;
           as_many_cancelled = omega (arith, ap length (append-nil cancelled), a.as_many_cancelled, as_many dropped same_cancelled);
@@ -223,13 +257,13 @@ module _ (made queued taken cancelled : List ℕ) (count : ℕ) (cs : List Callb
             ] refl
 
     -- a pending callback is taken
-    agrees_taken : Agrees made queued taken cancelled count cs → is_pending c.status ≡ true → has_begun d.status ≡ true → is_cancelled d.status ≡ false → is_pending d.status ≡ false
-        → AgreesWith made queued taken cancelled count (record nothing { taken = Some d.number }) (replaced d cs)
-    agrees_taken a waits begins uncancelled unpending =
+    agrees_taken : (run : Option Run) → Agrees made queued taken cancelled count cs → is_pending c.status ≡ true → has_begun d.status ≡ true → is_cancelled d.status ≡ false → is_pending d.status ≡ false
+        → AgreesWith made queued taken cancelled count (record nothing { taken = Some d.number; run = run }) (replaced d cs)
+    agrees_taken run a waits begins uncancelled unpending =
         record {
-          in_order = append-nil made ∙ a.in_order ∙ ap (range_with_len 1) (sym (length_replaced d cs));
+          in_order = a.in_order ∙ ap (range_with_len 1) (sym (length_replaced d cs));
           taken_begun = λ n. times_more n ∙ as_begun n;
-          pending_queued = λ n x there pending. among_front n queued [] (replaced_pending a.pending_queued (λ e. absurd (false_true (sym unpending ∙ e))) n x there pending);
+          pending_queued = replaced_pending a.pending_queued (λ e. absurd (false_true (sym unpending ∙ e)));
           named_cancelled = λ n named. replaced_cancelled a.named_cancelled (λ e. absurd (false_true (sym (pending_uncancelled c.status waits) ∙ e))) n (ap (is_among n) (sym (append-nil cancelled)) ∙ named);
           as_many_taken = omega (arith, length-append taken (d.number ∷ []), a.as_many_taken, length_filter_replaced begun d c 1 fresh cs rising found, ap one_if begins, ap one_if (pending_unbegun c.status waits));
           as_many_cancelled = omega (arith, ap length (append-nil cancelled), a.as_many_cancelled, length_filter_replaced dropped d c 1 fresh cs rising found, ap one_if uncancelled, ap one_if (pending_uncancelled c.status waits));
@@ -255,34 +289,60 @@ module _ (made queued taken cancelled : List ℕ) (count : ℕ) (cs : List Callb
 
 -- ---- every move keeps it
 
-moves_agree : (made queued taken cancelled : List ℕ) (count fresh : ℕ) (w : World) (entry : Entry) (after : World) → IsRising 1 fresh w.callbacks → fresh ≡ length w.callbacks + 1
-    → Agrees made queued taken cancelled count w.callbacks → Moves fresh w entry after → AgreesWith made queued taken cancelled count (told_by entry) after.callbacks
-moves_agree made queued taken cancelled count fresh w entry after rising is a moves = of_move moves
+move_agrees : (made queued taken cancelled : List ℕ) (count fresh : ℕ) (w : World) (entry : Entry) (kept : List CallbackRow) (staff : List WorkerRow) → IsRising 1 fresh w.callbacks
+    → Agrees made queued taken cancelled count w.callbacks → Move w entry kept staff → AgreesWith made queued taken cancelled count (deed_by entry) kept
+move_agrees made queued taken cancelled count fresh w entry kept staff rising a move = of_move move
   where
-    to : (told : Told) (cs : List CallbackRow) → told_by entry ≡ told → after.callbacks ≡ cs → AgreesWith made queued taken cancelled count told cs → AgreesWith made queued taken cancelled count (told_by entry) after.callbacks
-    to told cs tells same here = subst (λ (t : Told). AgreesWith made queued taken cancelled count t after.callbacks) (sym tells) (subst (λ l. AgreesWith made queued taken cancelled count told l) (sym same) here)
+    to : (deed : Deed) (cs : List CallbackRow) → deed_by entry ≡ deed → kept ≡ cs → AgreesWith made queued taken cancelled count deed cs → AgreesWith made queued taken cancelled count (deed_by entry) kept
+    to deed cs tells same here = subst (λ (t : Deed). AgreesWith made queued taken cancelled count t kept) (sym tells) (subst (λ l. AgreesWith made queued taken cancelled count deed l) (sym same) here)
 
     still : AgreesWith made queued taken cancelled count nothing w.callbacks
     still = agrees_same made queued taken cancelled count w.callbacks a
 
-    of_move : Moves fresh w entry after → AgreesWith made queued taken cancelled count (told_by entry) after.callbacks
+    of_move : Move w entry kept staff → AgreesWith made queued taken cancelled count (deed_by entry) kept
     of_move (Stay m) = to nothing w.callbacks m.tells m.callbacks still
-    of_move (Queue m) =
-        to (record nothing { made = fresh ∷ []; queued = fresh ∷ [] }) (w.callbacks ++ m.callback ∷ []) m.tells m.callbacks
-        (agrees_queued made queued taken cancelled count w.callbacks m.callback fresh a is m.number m.waits)
     of_move (Mark m) =
         to nothing (replaced m.new w.callbacks) m.tells m.callbacks
         (agrees_marked made queued taken cancelled count w.callbacks fresh m.old m.new rising m.found a (ap has_begun m.status) (ap is_cancelled m.status) (λ e. ap is_pending (sym m.status) ∙ e))
-    of_move (Join m) = to (record nothing { attached = Some m.pool.0 }) w.callbacks m.tells m.callbacks still
-    of_move (Leave m) = to nothing w.callbacks m.tells m.callbacks still
-    of_move (Start m) =
-        let d : CallbackRow = started m.callback m.worker in
-        to (record nothing { taken = Some m.callback.number }) (replaced d w.callbacks) m.tells m.callbacks
-        (agrees_taken made queued taken cancelled count w.callbacks fresh m.callback d rising m.found a m.waits refl refl refl)
-    of_move (Stop m) =
+    of_move (Attach m) = to (record nothing { attached = Some m.pool.0 }) w.callbacks m.tells m.callbacks still
+    of_move (Detach m) = to nothing w.callbacks m.tells m.callbacks still
+    of_move (Take m) =
+        let d : CallbackRow = taken_row m.callback m.worker in
+        to (record nothing { taken = Some m.callback.number; run = Some (run_of m.callback) }) (replaced d w.callbacks) m.tells m.callbacks
+        (agrees_taken made queued taken cancelled count w.callbacks fresh m.callback d rising m.found (Some (run_of m.callback)) a m.waits refl refl refl)
+    of_move (Return m) =
         let d : CallbackRow = returned m.callback in
         to (record nothing { returned = true }) (replaced d w.callbacks) m.tells m.callbacks
         (agrees_marked made queued taken cancelled count w.callbacks fresh m.callback d rising m.found a (sym (running_begun m.callback.status m.runs)) (sym (running_uncancelled m.callback.status m.runs)) (λ e. absurd (false_true e)))
+
+-- as many callbacks as before
+pub move_as_many : (w : World) (entry : Entry) (kept : List CallbackRow) (staff : List WorkerRow) → Move w entry kept staff → length kept ≡ length w.callbacks
+move_as_many w entry kept staff (Stay m) = ap length m.callbacks
+move_as_many w entry kept staff (Mark m) = ap length m.callbacks ∙ length_replaced m.new w.callbacks
+move_as_many w entry kept staff (Attach m) = ap length m.callbacks
+move_as_many w entry kept staff (Detach m) = ap length m.callbacks
+move_as_many w entry kept staff (Take m) = ap length m.callbacks ∙ length_replaced (taken_row m.callback m.worker) w.callbacks
+move_as_many w entry kept staff (Return m) = ap length m.callbacks ∙ length_replaced (returned m.callback) w.callbacks
+
+-- the callbacks that are made, one by one
+new_agree : (made queued taken cancelled : List ℕ) (count fresh : ℕ) (cs new : List CallbackRow) → fresh ≡ length cs + 1 → AreNew fresh new → Agrees made queued taken cancelled count cs
+    → Agrees (made ++ numbers_of new) (queued ++ waiting_of new) taken cancelled count (cs ++ new)
+new_agree made queued taken cancelled count fresh cs [] is rows a =
+    subst (λ m. Agrees m (queued ++ []) taken cancelled count (cs ++ [])) (sym (append-nil made))
+    (subst (λ q. Agrees made q taken cancelled count (cs ++ [])) (sym (append-nil queued)) (subst (Agrees made queued taken cancelled count) (sym (append-nil cs)) a))
+new_agree made queued taken cancelled count fresh cs (c ∷ new) is rows a =
+    let one : Agrees (made ++ c.number ∷ []) (queued ++ waiting_of (c ∷ [])) taken cancelled count (cs ++ c ∷ []) = agrees_made made queued taken cancelled count cs c fresh a is rows.0.numbered rows.0.unbegun in
+    let longer : fresh + 1 ≡ length (cs ++ c ∷ []) + 1 = omega (arith, is, length-append cs (c ∷ [])) in
+    let rest : Agrees ((made ++ c.number ∷ []) ++ numbers_of new) ((queued ++ waiting_of (c ∷ [])) ++ waiting_of new) taken cancelled count ((cs ++ c ∷ []) ++ new)
+    = new_agree (made ++ c.number ∷ []) (queued ++ waiting_of (c ∷ [])) taken cancelled count (fresh + 1) (cs ++ c ∷ []) new longer rows.1 one in
+    subst (λ m. Agrees m (queued ++ waiting_of (c ∷ new)) taken cancelled count (cs ++ c ∷ new)) (append_assoc made (c.number ∷ []) (numbers_of new))
+    (subst (λ q. Agrees ((made ++ c.number ∷ []) ++ numbers_of new) q taken cancelled count (cs ++ c ∷ new)) (waiting_split queued c new)
+    (subst (Agrees ((made ++ c.number ∷ []) ++ numbers_of new) ((queued ++ waiting_of (c ∷ [])) ++ waiting_of new) taken cancelled count) (append_assoc cs (c ∷ []) new) rest))
+  where
+    waiting_split : (qs : List ℕ) (d : CallbackRow) (ds : List CallbackRow) → (qs ++ waiting_of (d ∷ [])) ++ waiting_of ds ≡ qs ++ waiting_of (d ∷ ds)
+    waiting_split qs d ds =
+        append_assoc qs (waiting_of (d ∷ [])) (waiting_of ds)
+        ∙ elim (is_pending d.status) as (λ b. qs ++ (numbers_of (cond b (d ∷ []) []) ++ waiting_of ds) ≡ qs ++ numbers_of (cond b (d ∷ filter (λ (x : CallbackRow). is_pending x.status) ds) (filter (λ (x : CallbackRow). is_pending x.status) ds))) [ true ↦ refl | false ↦ refl ]
 
 -- ---- along a history
 
@@ -291,7 +351,7 @@ AgreesAfter history w = Agrees (numbers_made history) (numbers_queued history) (
 
 -- one entry more tells what it tells besides
 agrees_entry : (before : List Entry) (entry : Entry) (cs : List CallbackRow)
-    → AgreesWith (numbers_made before) (numbers_queued before) (numbers_taken before) (numbers_cancelled before) (count_cancelled before) (told_by entry) cs
+    → AgreesWith (numbers_made before ++ made_by entry) (numbers_queued before ++ queued_by entry.answer) (numbers_taken before) (numbers_cancelled before) (count_cancelled before) (deed_by entry) cs
     → Agrees (numbers_made (before ++ entry ∷ [])) (numbers_queued (before ++ entry ∷ [])) (numbers_taken (before ++ entry ∷ [])) (numbers_cancelled (before ++ entry ∷ [])) (count_cancelled (before ++ entry ∷ [])) cs
 agrees_entry before entry cs a =
     subst (λ m. Agrees m (numbers_queued all) (numbers_taken all) (numbers_cancelled all) (count_cancelled all) cs) (sym (lists made_by))
@@ -316,25 +376,30 @@ agrees_entry before entry cs a =
 
 pub agrees_on : (before : List Entry) (w : World) (entry : Entry) (after : World) → IsRising 1 (length w.callbacks + 1) w.callbacks → AgreesAfter before w → Moves (length w.callbacks + 1) w entry after → AgreesAfter (before ++ entry ∷ []) after
 agrees_on before w entry after rising a moves =
+    let moved = move_agrees (numbers_made before) (numbers_queued before) (numbers_taken before) (numbers_cancelled before) (count_cancelled before) (length w.callbacks + 1) w entry moves.kept after.workers rising a moves.move in
+    let longer : length w.callbacks + 1 ≡ length moves.kept + 1 = ap (λ n. n + 1) (sym (move_as_many w entry moves.kept after.workers moves.move)) in
+    let made = new_agree (numbers_made before) (numbers_queued before) (numbers_taken before ++ option_to_list (taken_by entry.answer)) (numbers_cancelled before ++ option_to_list (cancelled_by entry.answer)) (count_cancelled before + cancelled_count entry.answer)
+    (length w.callbacks + 1) moves.kept moves.new longer moves.rows moved in
     agrees_entry before entry after.callbacks
-    (moves_agree (numbers_made before) (numbers_queued before) (numbers_taken before) (numbers_cancelled before) (count_cancelled before) (length w.callbacks + 1) w entry after rising refl a moves)
+    (subst (λ m. AgreesWith (numbers_made before ++ m) (numbers_queued before ++ queued_by entry.answer) (numbers_taken before) (numbers_cancelled before) (count_cancelled before) (deed_by entry) after.callbacks) (sym moves.made)
+    (subst (λ q. AgreesWith (numbers_made before ++ numbers_of moves.new) (numbers_queued before ++ q) (numbers_taken before) (numbers_cancelled before) (count_cancelled before) (deed_by entry) after.callbacks) (sym moves.queued)
+    (subst (AgreesWith (numbers_made before ++ numbers_of moves.new) (numbers_queued before ++ waiting_of moves.new) (numbers_taken before) (numbers_cancelled before) (count_cancelled before) (deed_by entry)) (sym moves.callbacks) made)))
 
 -- ---- what the law says of an entry
 
 -- what an entry takes was pending
-taken_waits : (fresh : ℕ) (w : World) (entry : Entry) (after : World) (n : ℕ) → Moves fresh w entry after → taken_by entry.answer ≡ Some n → (c : CallbackRow) × (find (has_number n) w.callbacks ≡ Some c) × (is_pending c.status ≡ true)
-taken_waits fresh w entry after n (Start m) e =
-    let is : m.callback.number ≡ n = number_is (ap (λ (t : Told). t.taken) m.tells) in
+pub taken_waits : (w : World) (entry : Entry) (kept : List CallbackRow) (staff : List WorkerRow) (n : ℕ) → Move w entry kept staff → taken_by entry.answer ≡ Some n → (c : CallbackRow) × (find (has_number n) w.callbacks ≡ Some c) × (is_pending c.status ≡ true)
+taken_waits w entry kept staff n (Take m) e =
+    let is : m.callback.number ≡ n = number_is (ap (λ (t : Deed). t.taken) m.tells) in
     (m.callback, ap (λ k. find (has_number k) w.callbacks) (sym is) ∙ m.found, m.waits)
   where
     number_is : taken_by entry.answer ≡ Some m.callback.number → m.callback.number ≡ n
     number_is h = let both_told : Some m.callback.number ≡ Some n = sym h ∙ e in cc
-taken_waits fresh w entry after n (Stay m) e = absurd (let h = sym (ap (λ (t : Told). t.taken) m.tells) ∙ e in cc)
-taken_waits fresh w entry after n (Queue m) e = absurd (let h = sym (ap (λ (t : Told). t.taken) m.tells) ∙ e in cc)
-taken_waits fresh w entry after n (Mark m) e = absurd (let h = sym (ap (λ (t : Told). t.taken) m.tells) ∙ e in cc)
-taken_waits fresh w entry after n (Join m) e = absurd (let h = sym (ap (λ (t : Told). t.taken) m.tells) ∙ e in cc)
-taken_waits fresh w entry after n (Leave m) e = absurd (let h = sym (ap (λ (t : Told). t.taken) m.tells) ∙ e in cc)
-taken_waits fresh w entry after n (Stop m) e = absurd (let h = sym (ap (λ (t : Told). t.taken) m.tells) ∙ e in cc)
+taken_waits w entry kept staff n (Stay m) e = absurd (let h = sym (ap (λ (t : Deed). t.taken) m.tells) ∙ e in cc)
+taken_waits w entry kept staff n (Mark m) e = absurd (let h = sym (ap (λ (t : Deed). t.taken) m.tells) ∙ e in cc)
+taken_waits w entry kept staff n (Attach m) e = absurd (let h = sym (ap (λ (t : Deed). t.taken) m.tells) ∙ e in cc)
+taken_waits w entry kept staff n (Detach m) e = absurd (let h = sym (ap (λ (t : Deed). t.taken) m.tells) ∙ e in cc)
+taken_waits w entry kept staff n (Return m) e = absurd (let h = sym (ap (λ (t : Deed). t.taken) m.tells) ∙ e in cc)
 
 -- a first place that passes is within the list
 passes_within : {X : Type 0} (p : X → Bool) (xs : List X) → list_any p xs ≡ true → is_some (position p xs) ≡ true
@@ -358,12 +423,12 @@ among_some n (entry ∷ rest) e =
 
 pub takes_ready : (before : List Entry) (w : World) (entry : Entry) (after : World) → AgreesAfter before w → Moves (length w.callbacks + 1) w entry after → TakesReady before entry
 takes_ready before w entry after a moves n e =
-    let taken = taken_waits (length w.callbacks + 1) w entry after n moves e in
+    let taken = taken_waits w entry moves.kept after.workers n moves.move e in
     passes_within (λ (x : Entry). is_among n (queued_by x.answer)) before (among_some n before (a.pending_queued n taken.0 taken.1 taken.2))
 
 pub takes_uncancelled : (before : List Entry) (w : World) (entry : Entry) (after : World) → AgreesAfter before w → Moves (length w.callbacks + 1) w entry after → TakesUncancelled before entry
 takes_uncancelled before w entry after a moves n e =
-    let taken = taken_waits (length w.callbacks + 1) w entry after n moves e in
+    let taken = taken_waits w entry moves.kept after.workers n moves.move e in
     not_true (is_among n (numbers_cancelled before)) (λ named.
     let old = a.named_cancelled n named in
     let same : old.0 ≡ taken.0 = same_row n n old.0 taken.0 w.callbacks refl old.1 taken.1 in

@@ -3,7 +3,7 @@ use Rattle.std.proofs.Common.{◌≡◌, ℕ, suc, zero, ◌-◌, ◌<◌, ◌�
 use Rattle.std.proofs.lemmas.Option.{slice_get_within}
 use Rattle.tp_base.specs.declared.answers.Refusal.{Refusal}
 use Rattle.tp_model.specs.Counts.{numbered}
-use Rattle.tp_model.specs.Step.{first_refusal}
+use Rattle.tp_model.specs.Refusing.{first_refusal}
 
 pub false_true : false ≡ true → ⊥
 false_true e = cc

@@ -1,5 +1,5 @@
 -- The conditions of the refusals that several calls share, with the actor or the thing named as their subject.
-use Rattle.std.specs.Prelude.{ℕ, ◌+◌, Bool, true, false, ◌||◌, ◌==◌, nat_lt, slice_get, is_some, is_none, None, Option}
+use Rattle.std.specs.Prelude.{ℕ, ◌+◌, Bool, true, false, ◌||◌, ◌==◌, nat_lt, slice_get, is_some, is_none, option_map, None, Some, Option}
 use Rattle.std.specs.List.{list_any}
 use Rattle.std.specs.Option.{option_map_or}
 use Rattle.tp_base.specs.declared.ids.Who.{Who}
@@ -11,8 +11,12 @@ use Rattle.tp_base.specs.declared.rows.GroupRow.{GroupRow}
 use Rattle.tp_base.specs.declared.rows.ObjectRow.{ObjectRow}
 use Rattle.tp_base.specs.declared.rows.WorkerRow.{WorkerRow}
 use Rattle.tp_base.specs.declared.rows.ClientRow.{ClientRow}
+use Rattle.tp_base.specs.declared.rows.CallbackRow.{CallbackRow}
+use Rattle.tp_base.specs.declared.ids.PoolId.{PoolId}
+use Rattle.tp_base.specs.declared.plans.Idle.{Idle}
+use Rattle.tp_base.specs.declared.plans.Busy.{Busy}
 use Rattle.tp_model.specs.World.{World, BegunWait}
-use Rattle.tp_model.specs.Counts.{numbered, slots}
+use Rattle.tp_model.specs.Counts.{numbered, callback_of, slots}
 
 -- the row of a worker, and none for a client
 abbrev pub worker_of : World → Who → Option WorkerRow
@@ -42,6 +46,32 @@ runs_callback w who = option_map_or (λ (r : WorkerRow). is_some r.callback) (wo
 
 abbrev pub is_attached : World → Who → Bool
 is_attached w who = option_map_or (λ (r : WorkerRow). is_some r.pool) (worker_of w who) false
+
+abbrev pub idle_row : ℕ → Option PoolId → Option ℕ → Option Idle
+idle_row worker (Some pool) None = Some (record { worker = worker; pool = pool })
+idle_row worker _ _ = None
+
+abbrev pub idle_in : ℕ → Option WorkerRow → Option Idle
+idle_in worker None = None
+idle_in worker (Some row) = idle_row worker row.pool row.callback
+
+-- the actor as an attached worker that runs nothing, if it is one
+abbrev pub idle_of : World → Who → Option Idle
+idle_of w (Client number) = None
+idle_of w (Worker number) = idle_in number (numbered w.workers number)
+
+abbrev pub busy_row : World → ℕ → Option PoolId → Option ℕ → Option Busy
+busy_row w worker (Some pool) (Some callback) = option_map (λ (c : CallbackRow). record { worker = worker; pool = pool; callback = c }) (callback_of w callback)
+busy_row w worker _ _ = None
+
+abbrev pub busy_in : World → ℕ → Option WorkerRow → Option Busy
+busy_in w worker None = None
+busy_in w worker (Some row) = busy_row w worker row.pool row.callback
+
+-- the actor as a worker that runs a callback, if it is one
+abbrev pub busy_of : World → Who → Option Busy
+busy_of w (Client number) = None
+busy_of w (Worker number) = busy_in w number (numbered w.workers number)
 
 abbrev pub is_same_actor : Who → Who → Bool
 is_same_actor (Client a) (Client b) = a == b

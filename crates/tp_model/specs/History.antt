@@ -1,5 +1,5 @@
 -- Histories: which are legal, and which outcomes a list of calls has.
-use Rattle.std.specs.Prelude.{◌≡◌, ℕ, ◌+◌, ◌-◌, Bool, true, false, List, [], ◌∷◌, if◌then◌else◌}
+use Rattle.std.specs.Prelude.{◌≡◌, ℕ, ◌+◌, ◌-◌, Bool, true, false, List, [], ◌∷◌, if◌then◌else◌, Option, None, Some}
 use Rattle.tp_base.specs.declared.ids.Who.{Who}
 use Rattle.tp_base.specs.declared.calls.Call.{Call}
 use Rattle.tp_base.specs.declared.answers.Answer.{Answer}
@@ -8,10 +8,14 @@ use Rattle.tp_base.specs.declared.answers.Entry.{Entry}
 use Rattle.tp_base.specs.declared.answers.Outcome.{Outcome}
 use Rattle.tp_base.specs.declared.answers.Outcome.TheVariants.{Done}
 use Rattle.tp_base.specs.declared.limits.Limits.{Limits}
+use Rattle.tp_base.specs.declared.plans.Change.{Change}
+use Rattle.tp_base.specs.declared.plans.Plan.{Plan}
+use Rattle.tp_base.specs.declared.plans.Plan.TheVariants.{Does}
 use Rattle.tp_model.specs.World.{World, opening}
+use Rattle.tp_model.specs.Changes.{changed}
 use Rattle.tp_model.specs.Counts.{owed}
 use Rattle.tp_model.specs.Step.{outcome_of, world_after, entries_of}
-use Rattle.tp_model.specs.Table.{row, step}
+use Rattle.tp_model.specs.Table.{plan, step}
 
 -- what a history of a capacity with so many entries has left, less what the world owes it
 abbrev pub room : ℕ → World → ℕ → ℕ
@@ -21,9 +25,21 @@ abbrev pub is_refusal : Answer → Bool
 is_refusal (Refused refusal) = true
 is_refusal _ = false
 
--- the world that an accepted entry leads to
+abbrev pub change_of : Plan → Option Change
+change_of (Does answer change) = Some change
+change_of _ = None
+
+-- the change that an accepted entry tells; it needs no room
+abbrev pub change_told : World → Who → Call → Answer → Option Change
+change_told w who call answer = change_of (plan w 0 who call)
+
+abbrev pub led_by : World → Option Change → World
+led_by w None = w
+led_by w (Some change) = changed w change
+
+-- the world that an entry leads to
 abbrev pub led_to : World → Entry → World
-led_to w entry = if is_refusal entry.answer then w else world_after w (row w entry.who entry.call)
+led_to w entry = if is_refusal entry.answer then w else led_by w (change_told w entry.who entry.call entry.answer)
 
 abbrev pub after_from : World → List Entry → World
 after_from w [] = w

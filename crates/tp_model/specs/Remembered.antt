@@ -7,8 +7,8 @@ use Rattle.tp_base.specs.declared.answers.Outcome.{Outcome}
 use Rattle.tp_base.specs.declared.rows.CallbackRow.{CallbackRow}
 use Rattle.tp_model.specs.World.{World}
 use Rattle.tp_model.specs.Counts.{is_live}
-use Rattle.tp_model.specs.Step.{Step, Accepted, Refused, Looked, Full, within, outcome_of, world_after, is_accepted}
-use Rattle.tp_model.specs.Table.{row_at}
+use Rattle.tp_model.specs.Step.{Step, Accepted, Refused, Looked, Full, stepped, within, outcome_of, world_after, is_accepted}
+use Rattle.tp_model.specs.Table.{plan_at}
 use Rattle.tp_model.specs.Sound.{IsSound}
 
 -- whether the callback may still run, or runs
@@ -26,7 +26,7 @@ pub record Remembered : Type 0 where
 
 -- the step, from what is remembered alone
 abbrev pub step_of : Remembered → ℕ → Who → Call → Step
-step_of e room who call = within e.world room (row_at e.world (e.made + 1) who call)
+step_of e room who call = within e.world room (stepped e.world (plan_at e.world (e.made + 1) room who call))
 
 abbrev pub made_by : World → Step → ℕ
 made_by w s = length (world_after w s).callbacks - length w.callbacks

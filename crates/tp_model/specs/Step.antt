@@ -1,12 +1,15 @@
 -- What a call comes to.
-use Rattle.std.specs.Prelude.{ℕ, ◌+◌, ◌-◌, Bool, true, false, nat_lt, List, [], ◌∷◌, if◌then◌else◌, None, Some, Option}
+use Rattle.std.specs.Prelude.{ℕ, ◌+◌, ◌-◌, Bool, true, false, nat_lt, if◌then◌else◌}
 use Rattle.tp_base.specs.declared.answers.Answer.{Answer}
 use Rattle.tp_base.specs.declared.answers.Answer.TheVariants as answer
 use Rattle.tp_base.specs.declared.answers.Refusal.{Refusal}
 use Rattle.tp_base.specs.declared.answers.Look.{Look}
 use Rattle.tp_base.specs.declared.answers.Outcome.{Outcome}
 use Rattle.tp_base.specs.declared.answers.Outcome.TheVariants as outcome
+use Rattle.tp_base.specs.declared.plans.Plan.{Plan}
+use Rattle.tp_base.specs.declared.plans.Plan.TheVariants as plan
 use Rattle.tp_model.specs.World.{World}
+use Rattle.tp_model.specs.Changes.{changed}
 use Rattle.tp_model.specs.Counts.{owed}
 
 pub data Step : Type 0 where
@@ -19,14 +22,11 @@ pub data Step : Type 0 where
   -- the history has no room for the entry and for what it would owe
   Full : (room : ℕ) → (cost : ℕ) → Step
 
--- the first refusal whose condition holds
-abbrev pub first_refusal : List (Bool × Refusal) → Option Refusal
-first_refusal [] = None
-first_refusal (r ∷ rs) = if r.0 then Some r.1 else first_refusal rs
-
-abbrev pub unless_refused : Option Refusal → Step → Step
-unless_refused (Some refusal) effect = Refused refusal
-unless_refused None effect = effect
+-- what a plan comes to
+abbrev pub stepped : World → Plan → Step
+stepped w (plan.Refused refusal) = Refused refusal
+stepped w (plan.Looked look) = Looked look
+stepped w (plan.Does answer change) = Accepted answer (changed w change)
 
 -- one entry, and what is owed more than before
 abbrev pub cost : World → World → ℕ

@@ -1,31 +1,41 @@
--- The row of each call, and the step.
+-- The plan of each call, and the step.
 use Rattle.std.specs.Prelude.{ℕ, ◌+◌, length}
 use Rattle.tp_base.specs.declared.ids.Who.{Who}
 use Rattle.tp_base.specs.declared.calls.Call.{Call}
 use Rattle.tp_base.specs.declared.calls.Call.TheVariants.{CreatePool, ClosePool, SetMaximum, SetMinimum, Create, SubmitWork, Attach, Detach, Take, Return, MayRunLong, Finish}
+use Rattle.tp_base.specs.declared.plans.Plan.{Plan}
 use Rattle.tp_model.specs.World.{World}
-use Rattle.tp_model.specs.Step.{Step, within}
-use Rattle.tp_model.specs.Rows.{create_pool_row, close_pool_row, set_maximum_row, set_minimum_row, detach_row, may_run_long_row, create_row, submit_work_row, attach_row, take_row, return_row, finish_row}
+use Rattle.tp_model.specs.Step.{Step, stepped, within}
+use Rattle.tp_model.specs.Calls.Pools.{create_pool_plan, close_pool_plan, set_maximum_plan, set_minimum_plan}
+use Rattle.tp_model.specs.Calls.Objects.{create_plan}
+use Rattle.tp_model.specs.Calls.Work.{submit_work_plan}
+use Rattle.tp_model.specs.Calls.Workers.{attach_plan, detach_plan, take_plan, return_plan}
+use Rattle.tp_model.specs.Calls.InCallback.{may_run_long_plan}
+use Rattle.tp_model.specs.Calls.Clients.{finish_plan}
 
--- with the number that the next callback gets
-abbrev pub row_at : World → ℕ → Who → Call → Step
-row_at w fresh who CreatePool = create_pool_row w who
-row_at w fresh who (ClosePool pool) = close_pool_row w who pool.0
-row_at w fresh who (SetMaximum pool value) = set_maximum_row w who pool.0 value
-row_at w fresh who (SetMinimum pool value) = set_minimum_row w who pool.0 value
-row_at w fresh who (Create kind routine context env) = create_row w who kind routine context env
-row_at w fresh who (SubmitWork object) = submit_work_row w fresh who object.0
-row_at w fresh who Attach = attach_row w who
-row_at w fresh who Detach = detach_row w who
-row_at w fresh who Take = take_row w who
-row_at w fresh who Return = return_row w who
-row_at w fresh who MayRunLong = may_run_long_row w who
-row_at w fresh who Finish = finish_row w who
+-- with the number that the next callback gets, and with the room of the history
+abbrev pub plan_at : World → ℕ → ℕ → Who → Call → Plan
+plan_at w fresh room who CreatePool = create_pool_plan w who
+plan_at w fresh room who (ClosePool pool) = close_pool_plan w who pool
+plan_at w fresh room who (SetMaximum pool value) = set_maximum_plan w who pool value
+plan_at w fresh room who (SetMinimum pool value) = set_minimum_plan w who pool value
+plan_at w fresh room who (Create kind routine context env) = create_plan w who kind routine context env
+plan_at w fresh room who (SubmitWork object) = submit_work_plan w fresh who object
+plan_at w fresh room who Attach = attach_plan w who
+plan_at w fresh room who Detach = detach_plan w who
+plan_at w fresh room who Take = take_plan w who
+plan_at w fresh room who Return = return_plan w who
+plan_at w fresh room who MayRunLong = may_run_long_plan w who
+plan_at w fresh room who Finish = finish_plan w who
 
 -- callbacks are numbered from 1 in the order in which they are made
-abbrev pub row : World → Who → Call → Step
-row w who call = row_at w (length w.callbacks + 1) who call
+abbrev pub plan : World → ℕ → Who → Call → Plan
+plan w room who call = plan_at w (length w.callbacks + 1) room who call
+
+-- what a call comes to in a world whose history has this room, but for what it costs
+abbrev pub row : World → ℕ → Who → Call → Step
+row w room who call = stepped w (plan w room who call)
 
 -- what a call comes to in a world whose history has this room
 abbrev pub step : World → ℕ → Who → Call → Step
-step w room who call = within w room (row w who call)
+step w room who call = within w room (row w room who call)

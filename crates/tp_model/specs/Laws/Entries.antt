@@ -3,6 +3,7 @@ use Rattle.std.specs.Prelude.{◌≡◌, ℕ, Bool, true, false, not, ◌&&◌, 
 use Rattle.std.specs.Option.{option_or}
 use Rattle.std.specs.List.{filter, list_any, position, range_with_len, flat_map, filter_map, sum_by, fold}
 use Rattle.tp_base.specs.declared.ids.Who.TheVariants.{Worker}
+use Rattle.tp_base.specs.declared.ids.ObjectId.{ObjectId}
 use Rattle.tp_base.specs.declared.calls.Call.{Call}
 use Rattle.tp_base.specs.declared.calls.Call.TheVariants.{Return, SetMaximum, SetMinimum}
 use Rattle.tp_base.specs.declared.answers.Answer.{Answer}
@@ -45,6 +46,15 @@ made_by entry = started_by entry.answer ++ queued_by entry.answer
 abbrev pub taken_by : Answer → Option ℕ
 taken_by (Taken callback object routine context result) = Some callback
 taken_by _ = None
+
+-- a callback that is taken, and its object
+pub record Run : Type 0 where
+  pub number : ℕ
+  pub object : ObjectId
+
+abbrev pub run_by : Answer → Option Run
+run_by (Taken callback object routine context result) = Some (record { number = callback; object = object })
+run_by _ = None
 
 -- the one that an answer names as cancelled
 abbrev pub cancelled_by : Answer → Option ℕ

@@ -1,0 +1,85 @@
+//! What a call comes to, as data: a refusal, a look, or an answer with the change that goes with it.
+
+use crate::answers::{Answer, Look, Refusal};
+use crate::ids::PoolId;
+use crate::rows::{CallbackRow, ObjectRow};
+
+/// A worker that is attached to a pool and runs nothing.
+#[derive(Clone, Copy)]
+pub struct Idle {
+    pub worker: u32,
+    pub pool: PoolId,
+}
+
+/// A worker that runs a callback of its pool.
+#[derive(Clone, Copy)]
+pub struct Busy {
+    pub worker: u32,
+    pub pool: PoolId,
+    pub callback: CallbackRow,
+}
+
+/// How the row of a pool changes.
+#[derive(Clone, Copy)]
+pub enum PoolChange {
+    Close,
+    /// How many of its callbacks may run at once.
+    Maximum(u32),
+    /// How many workers it keeps.
+    Minimum(u32),
+}
+
+/// What a running callback says of itself.
+#[derive(Clone, Copy)]
+pub enum Mark {
+    /// It may run long.
+    Long,
+}
+
+/// How a world changes by an accepted call.
+#[derive(Clone, Copy)]
+pub enum Change {
+    /// A further pool.
+    CreatePool,
+    ChangePool {
+        pool: PoolId,
+        how: PoolChange,
+    },
+    /// A further object.
+    CreateObject(ObjectRow),
+    /// A further callback, which waits for a worker.
+    QueueCallback(CallbackRow),
+    /// A worker joins a pool.
+    Attach {
+        worker: u32,
+        pool: PoolId,
+    },
+    /// A worker leaves its pool.
+    Detach(Idle),
+    /// A worker begins a callback of its pool.
+    Take {
+        by: Idle,
+        callback: CallbackRow,
+    },
+    Mark {
+        by: Busy,
+        mark: Mark,
+    },
+    /// The callback that a worker runs returns.
+    Return(Busy),
+    /// A client makes no further call.
+    Finish {
+        client: u32,
+    },
+}
+
+/// What a call comes to.
+#[derive(Clone, Copy)]
+pub enum Plan {
+    /// It changes nothing, for this reason.
+    Refused(Refusal),
+    /// Nothing happens yet.
+    Looked(Look),
+    /// It has this answer, and changes the world so.
+    Does { answer: Answer, change: Change },
+}

@@ -1,0 +1,254 @@
+-- Each change keeps what is true of all worlds that can be reached.
+use Rattle.std.proofs.Common.{◌≡◌, ◌≢◌, ℕ, suc, zero, ◌+◌, ◌-◌, ◌<◌, ◌≤◌, Bool, true, false, cond, List, [], ◌∷◌, ◌++◌, length, slice_get, slice_set, replicate, Option, Some, None, refl, sym, ap, ◌∙◌, subst, arith, find, eqb-true, ne_eqb, length-append, length-set}
+use Rattle.std.specs.List.{AllByRecursion}
+use Rattle.tp_base.specs.declared.ids.PoolId.{PoolId}
+use Rattle.tp_base.specs.declared.limits.Limits.{Limits}
+use Rattle.tp_base.specs.declared.plans.Change.{Change}
+use Rattle.tp_base.specs.declared.plans.Change.TheVariants as change
+use Rattle.tp_base.specs.declared.plans.Mark.{Mark}
+use Rattle.tp_base.specs.declared.plans.Mark.TheVariants.{Long}
+use Rattle.tp_base.specs.declared.plans.PoolChange.{PoolChange}
+use Rattle.tp_base.specs.declared.rows.Slots.{Slots}
+use Rattle.tp_base.specs.declared.rows.Status.{Status}
+use Rattle.tp_base.specs.declared.rows.Status.TheVariants.{Running}
+use Rattle.tp_base.specs.declared.rows.PoolRow.{PoolRow}
+use Rattle.tp_base.specs.declared.rows.ObjectRow.{ObjectRow}
+use Rattle.tp_base.specs.declared.rows.CallbackRow.{CallbackRow}
+use Rattle.tp_base.specs.declared.rows.WorkerRow.{WorkerRow}
+use Rattle.tp_model.specs.World.{World, opening, unattached, new_pool}
+use Rattle.tp_model.specs.Counts.{has_number, is_pending}
+use Rattle.tp_model.specs.Changes.{with_new_pool, with_pool, with_object, with_new_callback, with_callback, with_worker, with_client, replaced, change_pool, pool_after, taken, marked, returned, no_actions, finished, changed}
+use Rattle.tp_model.specs.Sound.{IsSound, RunsOn, IsWorkerSound, AreWorkersSound}
+use Rattle.tp_model.specs.Allowed.{IsAllowed, news}
+use Rattle.tp_model.proofs.Lists.{all_below, find_all, all_append, all_map}
+use Rattle.tp_model.proofs.Callbacks.{rising_append, rising_replaced, find_replaced, find_replaced_other, find_appended}
+use Rattle.tp_model.proofs.Refusals.{numbered_some, false_true}
+
+-- ---- workers
+
+-- what a worker runs is still found in longer lists of callbacks
+worker_appended : (c : CallbackRow) (cs : List CallbackRow) (worker : ℕ) (pool : Option PoolId) (callback : Option ℕ) → IsWorkerSound cs worker pool callback → IsWorkerSound (cs ++ c ∷ []) worker pool callback
+worker_appended c cs worker pool None s = tt
+worker_appended c cs worker None (Some number) s = s
+worker_appended c cs worker (Some pool) (Some number) s =
+    record { callback = s.callback; associated = s.associated; slots = s.slots; found = find_appended number cs s.callback c s.found; runs = s.runs; at_home = s.at_home }
+
+workers_appended : (c : CallbackRow) (cs : List CallbackRow) (worker : ℕ) (ws : List WorkerRow) → AreWorkersSound cs worker ws → AreWorkersSound (cs ++ c ∷ []) worker ws
+workers_appended c cs worker [] s = tt
+workers_appended c cs worker (r ∷ rs) s = (worker_appended c cs worker r.pool r.callback s.0, workers_appended c cs (worker + 1) rs s.1)
+
+-- a worker that runs another callback than the row that is replaced
+worker_kept : (r : CallbackRow) (cs : List CallbackRow) (worker : ℕ) (pool : Option PoolId) (callback : Option ℕ)
+    → ((p : PoolId) (number : ℕ) → RunsOn cs worker p number → has_number number r ≡ false)
+    → IsWorkerSound cs worker pool callback → IsWorkerSound (replaced r cs) worker pool callback
+worker_kept r cs worker pool None other s = tt
+worker_kept r cs worker None (Some number) other s = s
+worker_kept r cs worker (Some pool) (Some number) other s =
+    record { callback = s.callback; associated = s.associated; slots = s.slots; found = find_replaced_other r number cs (other pool number s) ∙ s.found; runs = s.runs; at_home = s.at_home }
+
+-- a row of callbacks and a row of workers are replaced, and each other worker runs another callback
+workers_changed : (r : CallbackRow) (cs : List CallbackRow) (new : WorkerRow) (first place : ℕ) (ws : List WorkerRow)
+    → ((worker : ℕ) → worker ≢ first + place → (p : PoolId) (number : ℕ) → RunsOn cs worker p number → has_number number r ≡ false)
+    → IsWorkerSound (replaced r cs) (first + place) new.pool new.callback
+    → AreWorkersSound cs first ws → AreWorkersSound (replaced r cs) first (slice_set ws place new)
+workers_changed r cs new first place [] other here s = tt
+workers_changed r cs new first zero (w ∷ ws) other here s = (
+  subst (λ n. IsWorkerSound (replaced r cs) n new.pool new.callback) (omega arith) here,
+  workers_kept (first + 1) ws (λ worker h. other worker (λ e. omega (arith, e, h))) s.1,
+)
+  where
+    workers_kept : (from : ℕ) (rest : List WorkerRow) → ((worker : ℕ) → first < worker → (p : PoolId) (number : ℕ) → RunsOn cs worker p number → has_number number r ≡ false) → AreWorkersSound cs (first + 1) rest → AreWorkersSound (replaced r cs) (first + 1) rest
+    workers_kept from rest above s = from_place (first + 1) rest (omega arith) above s
+      where
+        from_place : (at : ℕ) (rows : List WorkerRow) → first < at → ((worker : ℕ) → first < worker → (p : PoolId) (number : ℕ) → RunsOn cs worker p number → has_number number r ≡ false) → AreWorkersSound cs at rows → AreWorkersSound (replaced r cs) at rows
+        from_place at [] lt h t = tt
+        from_place at (x ∷ xs) lt h t = (worker_kept r cs at x.pool x.callback (h at lt) t.0, from_place (at + 1) xs (omega (arith, lt)) h t.1)
+workers_changed r cs new first (suc place) (w ∷ ws) other here s = (
+  worker_kept r cs first w.pool w.callback (other first (λ e. omega (arith, e))) s.0,
+  workers_changed r cs new (first + 1) place ws
+      (λ worker h. other worker (λ e. h (omega (arith, e))))
+      (subst (λ n. IsWorkerSound (replaced r cs) n new.pool new.callback) (omega arith) here) s.1,
+)
+
+-- a worker that runs nothing may be put in any place
+workers_freed : (cs : List CallbackRow) (new : WorkerRow) (first place : ℕ) (ws : List WorkerRow) → new.callback ≡ None → AreWorkersSound cs first ws → AreWorkersSound cs first (slice_set ws place new)
+workers_freed cs new first place [] e s = tt
+workers_freed cs new first zero (w ∷ ws) e s = (subst (λ c. IsWorkerSound cs first new.pool c) (sym e) tt, s.1)
+workers_freed cs new first (suc place) (w ∷ ws) e s = (s.0, workers_freed cs new (first + 1) place ws e s.1)
+
+-- the worker at a place
+pub worker_at : (cs : List CallbackRow) (first place : ℕ) (ws : List WorkerRow) (row : WorkerRow) → AreWorkersSound cs first ws → slice_get ws place ≡ Some row → IsWorkerSound cs (first + place) row.pool row.callback
+worker_at cs first place [] row s e = absurd cc
+worker_at cs first zero (w ∷ ws) row s e =
+    let same : w ≡ row = cc in
+    subst (λ n. IsWorkerSound cs n row.pool row.callback) (omega arith) (subst (λ (x : WorkerRow). IsWorkerSound cs first x.pool x.callback) same s.0)
+worker_at cs first (suc place) (w ∷ ws) row s e =
+    subst (λ n. IsWorkerSound cs n row.pool row.callback) (omega arith) (worker_at cs (first + 1) place ws row s.1 e)
+
+-- ---- changes of a world
+
+pub sound_object : (fresh : ℕ) (w : World) (o : ObjectRow) → o.env.pool.0 < length w.pools → IsSound fresh w → IsSound fresh (with_object w o)
+sound_object fresh w o home s =
+    record { numbers = s.numbers; workers = s.workers; object_pools = all_append (λ (x : ObjectRow). x.env.pool.0 < length w.pools) w.objects o s.object_pools home; callback_pools = s.callback_pools }
+
+pub sound_new_callback : (fresh : ℕ) (w : World) (c : CallbackRow) → c.number ≡ fresh → c.pool.0 < length w.pools → IsSound fresh w → IsSound (fresh + 1) (with_new_callback w c)
+sound_new_callback fresh w c number home s =
+    record {
+      numbers = rising_append 1 fresh w.callbacks c number s.numbers;
+      workers = workers_appended c w.callbacks 1 w.workers s.workers;
+      object_pools = s.object_pools;
+      callback_pools = all_append (λ (x : CallbackRow). x.pool.0 < length w.pools) w.callbacks c s.callback_pools home;
+    }
+
+pub sound_free_worker : (fresh : ℕ) (w : World) (worker : ℕ) (row : WorkerRow) → row.callback ≡ None → IsSound fresh w → IsSound fresh (with_worker w worker row)
+sound_free_worker fresh w worker row free s =
+    record { numbers = s.numbers; workers = workers_freed w.callbacks row 1 (worker - 1) w.workers free s.workers; object_pools = s.object_pools; callback_pools = s.callback_pools }
+
+pub sound_client : (fresh : ℕ) (w : World) (client : ℕ) (row : _) → IsSound fresh w → IsSound fresh (with_client w client row)
+sound_client fresh w client row s = record { numbers = s.numbers; workers = s.workers; object_pools = s.object_pools; callback_pools = s.callback_pools }
+
+-- a further pool, and another row of a pool
+pub sound_new_pool : (fresh : ℕ) (w : World) → IsSound fresh w → IsSound fresh (with_new_pool w)
+sound_new_pool fresh w s =
+    let more : length w.pools ≤ length (w.pools ++ new_pool w.limits ∷ []) = omega (arith, length-append w.pools (new_pool w.limits ∷ [])) in
+    record {
+      numbers = s.numbers;
+      workers = s.workers;
+      object_pools = all_below (λ (o : ObjectRow). o.env.pool.0) (length w.pools) (length (w.pools ++ new_pool w.limits ∷ [])) more w.objects s.object_pools;
+      callback_pools = all_below (λ (c : CallbackRow). c.pool.0) (length w.pools) (length (w.pools ++ new_pool w.limits ∷ [])) more w.callbacks s.callback_pools;
+    }
+
+pub sound_pool : (fresh : ℕ) (w : World) (number : ℕ) (row : PoolRow) → IsSound fresh w → IsSound fresh (with_pool w number row)
+sound_pool fresh w number row s =
+    let as_many : length w.pools ≡ length (slice_set w.pools number row) = sym (length-set w.pools number row) in
+    record {
+      numbers = s.numbers;
+      workers = s.workers;
+      object_pools = subst (λ n. AllByRecursion (λ (o : ObjectRow). o.env.pool.0 < n) w.objects) as_many s.object_pools;
+      callback_pools = subst (λ n. AllByRecursion (λ (c : CallbackRow). c.pool.0 < n) w.callbacks) as_many s.callback_pools;
+    }
+
+-- pools of callbacks stay where a row of the same pool is put in the place of another
+pools_replaced : (pools : ℕ) (r : CallbackRow) (cs : List CallbackRow) → r.pool.0 < pools → AllByRecursion (λ (c : CallbackRow). c.pool.0 < pools) cs → AllByRecursion (λ (c : CallbackRow). c.pool.0 < pools) (replaced r cs)
+pools_replaced pools r cs home all =
+    all_map (λ (c : CallbackRow). c.pool.0 < pools) (λ c. cond (has_number r.number c) r c)
+    (λ c h. elim (has_number r.number c) as (λ b. (cond b r c).pool.0 < pools) [ true ↦ home | false ↦ h ]) cs all
+
+-- a worker begins a pending callback of its pool
+pub sound_taken : (fresh : ℕ) (w : World) (worker : ℕ) (pool : PoolId) (c : CallbackRow) → 1 ≤ worker → find (has_number c.number) w.callbacks ≡ Some c → is_pending c.status ≡ true → c.pool ≡ pool → IsSound fresh w
+    → IsSound fresh (with_worker (with_callback w (taken c worker)) worker (record { pool = Some pool; callback = Some c.number }))
+sound_taken fresh w worker pool c from_one found waits home s =
+    let r : CallbackRow = taken c worker in
+    record {
+      numbers = rising_replaced r 1 fresh w.callbacks s.numbers;
+      workers = workers_changed r w.callbacks (record { pool = Some pool; callback = Some c.number }) 1 (worker - 1) w.workers
+          (λ other _ p number runs. ne_eqb c.number number (λ e. not_pending runs.callback.status other runs.associated runs.slots runs.runs
+          (let same : runs.callback ≡ c = same_found number c.number runs.callback c w.callbacks e runs.found found in ap (λ (x : CallbackRow). is_pending x.status) same ∙ waits)))
+          (record { callback = r; associated = true; slots = no_actions; found = find_replaced r c w.callbacks found; runs = ap (λ n. Running n true no_actions) (omega (arith, from_one)); at_home = home })
+          s.workers;
+      object_pools = s.object_pools;
+      callback_pools = pools_replaced (length w.pools) r w.callbacks (find_all (λ (x : CallbackRow). x.pool.0 < length w.pools) (has_number c.number) c w.callbacks s.callback_pools found) s.callback_pools;
+    }
+  where
+    not_pending : (status : Status) (other : ℕ) (associated : Bool) (slots : Slots) → status ≡ Running other associated slots → is_pending status ≡ true → ⊥
+    not_pending status other associated slots e p = false_true (sym (ap is_pending e) ∙ p)
+
+    same_found : (m n : ℕ) (x y : CallbackRow) (cs : List CallbackRow) → n ≡ m → find (has_number m) cs ≡ Some x → find (has_number n) cs ≡ Some y → x ≡ y
+    same_found m n x y cs e fx fy =
+        let both_found : Some x ≡ Some y = sym fx ∙ ap (λ k. find (has_number k) cs) (sym e) ∙ fy in cc
+
+-- a worker's callback returns
+pub sound_returned : (fresh : ℕ) (w : World) (worker : ℕ) (row : WorkerRow) (pool : PoolId) (c : CallbackRow) → 1 ≤ worker → row.callback ≡ None → RunsOn w.callbacks worker pool c.number → find (has_number c.number) w.callbacks ≡ Some c → IsSound fresh w
+    → IsSound fresh (with_worker (with_callback w (returned c)) worker row)
+sound_returned fresh w worker row pool c from_one free runs found s =
+    let r : CallbackRow = returned c in
+    record {
+      numbers = rising_replaced r 1 fresh w.callbacks s.numbers;
+      workers = workers_changed r w.callbacks row 1 (worker - 1) w.workers
+          (λ other apart p number others. ne_eqb c.number number (λ e. apart
+          (same_worker other worker others.associated runs.associated others.slots runs.slots others.callback.status runs.callback.status others.runs runs.runs
+          (ap (λ (x : CallbackRow). x.status) (same_found number c.number others.callback runs.callback w.callbacks e others.found runs.found)) ∙ omega (arith, from_one))))
+          (subst (λ x. IsWorkerSound (replaced r w.callbacks) (1 + (worker - 1)) row.pool x) (sym free) tt) s.workers;
+      object_pools = s.object_pools;
+      callback_pools = pools_replaced (length w.pools) r w.callbacks (find_all (λ (x : CallbackRow). x.pool.0 < length w.pools) (has_number c.number) c w.callbacks s.callback_pools found) s.callback_pools;
+    }
+  where
+    same_worker : (m n : ℕ) (a b : Bool) (s t : Slots) (x y : Status) → x ≡ Running m a s → y ≡ Running n b t → x ≡ y → m ≡ n
+    same_worker m n a b s t x y ex ey e = let runs : Running m a s ≡ Running n b t = sym ex ∙ e ∙ ey in cc
+
+    same_found : (m n : ℕ) (x y : CallbackRow) (cs : List CallbackRow) → n ≡ m → find (has_number m) cs ≡ Some x → find (has_number n) cs ≡ Some y → x ≡ y
+    same_found m n x y cs e fx fy =
+        let both_found : Some x ≡ Some y = sym fx ∙ ap (λ k. find (has_number k) cs) (sym e) ∙ fy in cc
+
+-- a row that runs where the one before it ran
+worker_same : (r c : CallbackRow) (cs : List CallbackRow) (worker : ℕ) (pool : Option PoolId) (callback : Option ℕ) → find (has_number r.number) cs ≡ Some c → r.status ≡ c.status → r.pool ≡ c.pool
+    → IsWorkerSound cs worker pool callback → IsWorkerSound (replaced r cs) worker pool callback
+worker_same r c cs worker pool None found status at s = tt
+worker_same r c cs worker None (Some number) found status at s = s
+worker_same r c cs worker (Some pool) (Some number) found status at s =
+    elim (has_number number r) as (λ b. has_number number r ≡ b → RunsOn (replaced r cs) worker pool number) [
+      | true ↦ λ e.
+          let is : r.number ≡ number = eqb-true r.number number e in
+          let same : s.callback ≡ c = same_row number r.number s.callback c is s.found found in
+          record {
+            callback = r;
+            associated = s.associated;
+            slots = s.slots;
+            found = ap (λ n. find (has_number n) (replaced r cs)) (sym is) ∙ find_replaced r c cs found;
+            runs = status ∙ ap (λ (x : CallbackRow). x.status) (sym same) ∙ s.runs;
+            at_home = at ∙ ap (λ (x : CallbackRow). x.pool) (sym same) ∙ s.at_home;
+          }
+      | false ↦ λ e. record { callback = s.callback; associated = s.associated; slots = s.slots; found = find_replaced_other r number cs e ∙ s.found; runs = s.runs; at_home = s.at_home }
+    ] refl
+  where
+    same_row : (m n : ℕ) (x y : CallbackRow) → n ≡ m → find (has_number m) cs ≡ Some x → find (has_number n) cs ≡ Some y → x ≡ y
+    same_row m n x y e fx fy = let both_found : Some x ≡ Some y = sym fx ∙ ap (λ k. find (has_number k) cs) (sym e) ∙ fy in cc
+
+workers_same : (r c : CallbackRow) (cs : List CallbackRow) (worker : ℕ) (ws : List WorkerRow) → find (has_number r.number) cs ≡ Some c → r.status ≡ c.status → r.pool ≡ c.pool → AreWorkersSound cs worker ws → AreWorkersSound (replaced r cs) worker ws
+workers_same r c cs worker [] found status at s = tt
+workers_same r c cs worker (w ∷ ws) found status at s = (worker_same r c cs worker w.pool w.callback found status at s.0, workers_same r c cs (worker + 1) ws found status at s.1)
+
+-- what a callback says of itself leaves it running where it ran
+pub sound_marked : (fresh : ℕ) (w : World) (mark : Mark) (c : CallbackRow) → find (has_number c.number) w.callbacks ≡ Some c → IsSound fresh w → IsSound fresh (with_callback w (marked mark c))
+sound_marked fresh w Long c found s =
+    let r : CallbackRow = marked Long c in
+    record {
+      numbers = rising_replaced r 1 fresh w.callbacks s.numbers;
+      workers = workers_same r c w.callbacks 1 w.workers found refl refl s.workers;
+      object_pools = s.object_pools;
+      callback_pools = pools_replaced (length w.pools) r w.callbacks (find_all (λ (x : CallbackRow). x.pool.0 < length w.pools) (has_number c.number) c w.callbacks s.callback_pools found) s.callback_pools;
+    }
+
+-- ---- each change
+
+none_made : (fresh : ℕ) (w : World) → IsSound fresh w → IsSound (fresh + 0) w
+none_made fresh w s = subst (λ n. IsSound n w) (omega arith) s
+
+sound_change_pool : (fresh : ℕ) (w : World) (pool : ℕ) (how : PoolChange) (row : Option PoolRow) → IsSound fresh w → IsSound fresh (change_pool w pool how row)
+sound_change_pool fresh w pool how None s = s
+sound_change_pool fresh w pool how (Some row) s = sound_pool fresh w pool (pool_after how row) s
+
+pub changed_sound : (fresh : ℕ) (w : World) (ch : Change) → IsSound fresh w → IsAllowed fresh w ch → IsSound (fresh + news ch) (changed w ch)
+changed_sound fresh w change.CreatePool s a = none_made fresh (with_new_pool w) (sound_new_pool fresh w s)
+changed_sound fresh w (change.ChangePool pool how) s a = none_made fresh (changed w (change.ChangePool pool how)) (sound_change_pool fresh w pool.0 how (slice_get w.pools pool.0) s)
+changed_sound fresh w (change.CreateObject row) s a = none_made fresh (with_object w row) (sound_object fresh w row a.home s)
+changed_sound fresh w (change.QueueCallback c) s a = sound_new_callback fresh w c a.number a.home s
+changed_sound fresh w (change.Attach worker pool) s a = none_made fresh (changed w (change.Attach worker pool)) (sound_free_worker fresh w worker (record { pool = Some pool; callback = None }) refl s)
+changed_sound fresh w (change.Detach by) s a = none_made fresh (changed w (change.Detach by)) (sound_free_worker fresh w by.worker unattached refl s)
+changed_sound fresh w (change.Take by c) s a =
+    none_made fresh (changed w (change.Take by c)) (sound_taken fresh w by.worker by.pool c (numbered_some w.workers by.worker (record { pool = Some by.pool; callback = None }) a.idles).1 a.found a.pending a.home s)
+changed_sound fresh w (change.Mark by mark) s a = none_made fresh (changed w (change.Mark by mark)) (sound_marked fresh w mark by.callback a.found s)
+changed_sound fresh w (change.Return by) s a =
+    none_made fresh (changed w (change.Return by))
+    (sound_returned fresh w by.worker (record { pool = Some by.pool; callback = None }) by.pool by.callback
+    (numbered_some w.workers by.worker (record { pool = Some by.pool; callback = Some by.callback.number }) a.stands).1 refl
+    (record { callback = by.callback; associated = a.associated; slots = a.slots; found = a.found; runs = a.running; at_home = a.home }) a.found s)
+changed_sound fresh w (change.Finish client) s a = none_made fresh (changed w (change.Finish client)) (sound_client fresh w client finished s)
+
+-- and it is true of the opening world
+idle_workers : (cs : List CallbackRow) (first count : ℕ) → AreWorkersSound cs first (replicate count unattached)
+idle_workers cs first zero = tt
+idle_workers cs first (suc count) = (tt, idle_workers cs (first + 1) count)
+
+pub opening_sound : (limits : Limits) → IsSound 1 (opening limits)
+opening_sound limits = record { numbers = omega arith; workers = idle_workers [] 1 limits.workers; object_pools = tt; callback_pools = tt }

@@ -1,0 +1,92 @@
+-- Which changes a world allows, what each costs, and how many callbacks it makes.
+use Rattle.std.specs.Prelude.{◌≡◌, ℕ, ◌<◌, Bool, true, false, length, None, Some}
+use Rattle.tp_base.specs.declared.ids.Who.{Who}
+use Rattle.tp_base.specs.declared.ids.Who.TheVariants.{Client, Worker}
+use Rattle.tp_base.specs.declared.ids.PoolId.{PoolId}
+use Rattle.tp_base.specs.declared.plans.Idle.{Idle}
+use Rattle.tp_base.specs.declared.plans.Busy.{Busy}
+use Rattle.tp_base.specs.declared.plans.Change.{Change}
+use Rattle.tp_base.specs.declared.plans.Change.TheVariants as change
+use Rattle.tp_base.specs.declared.rows.Slots.{Slots}
+use Rattle.tp_base.specs.declared.rows.Status.TheVariants.{Running}
+use Rattle.tp_base.specs.declared.rows.ObjectRow.{ObjectRow}
+use Rattle.tp_base.specs.declared.rows.CallbackRow.{CallbackRow}
+use Rattle.tp_model.specs.World.{World, unattached, unfinished}
+use Rattle.tp_model.specs.Counts.{numbered, callback_of, is_pending, maximum, running}
+use Rattle.tp_model.specs.Conditions.{lacks_slots_for}
+
+-- an object that has its place, in a pool that was made
+pub record IsNewObject (w : World) (row : ObjectRow) : Type 0 where
+  pub unreleased : row.released ≡ false
+  pub home : row.env.pool.0 < length w.pools
+  pub room : length w.objects < w.limits.objects
+
+-- a pending callback of the next number that has its place, in a pool that was made
+pub record IsNewCallback (fresh : ℕ) (w : World) (callback : CallbackRow) : Type 0 where
+  pub number : callback.number ≡ fresh
+  pub pending : is_pending callback.status ≡ true
+  pub home : callback.pool.0 < length w.pools
+  pub room : lacks_slots_for w 1 ≡ false
+
+-- an unattached worker, and a pool that was made
+pub record MayAttach (w : World) (worker : ℕ) (pool : PoolId) : Type 0 where
+  pub stands : numbered w.workers worker ≡ Some unattached
+  pub home : pool.0 < length w.pools
+
+-- a worker that is attached to this pool and runs nothing
+abbrev pub Idles : World → Idle → Type 0
+Idles w by = numbered w.workers by.worker ≡ Some (record { pool = Some by.pool; callback = None })
+
+-- a pending callback of the worker's pool, in which fewer run than its maximum
+pub record MayTake (w : World) (by : Idle) (callback : CallbackRow) : Type 0 where
+  pub idles : Idles w by
+  pub found : callback_of w callback.number ≡ Some callback
+  pub pending : is_pending callback.status ≡ true
+  pub home : callback.pool ≡ by.pool
+  pub below : running w by.pool.0 < maximum w by.pool.0
+
+-- a worker that is attached to this pool and runs this callback
+pub record Runs (w : World) (by : Busy) : Type 0 where
+  pub stands : numbered w.workers by.worker ≡ Some (record { pool = Some by.pool; callback = Some by.callback.number })
+  pub found : callback_of w by.callback.number ≡ Some by.callback
+  pub associated : Bool
+  pub slots : Slots
+  pub running : by.callback.status ≡ Running by.worker associated slots
+  pub home : by.callback.pool ≡ by.pool
+
+-- with the number that the next callback gets
+abbrev pub IsAllowed : ℕ → World → Change → Type 0
+IsAllowed fresh w change.CreatePool = length w.pools < w.limits.pools
+IsAllowed fresh w (change.ChangePool pool how) = pool.0 < length w.pools
+IsAllowed fresh w (change.CreateObject row) = IsNewObject w row
+IsAllowed fresh w (change.QueueCallback callback) = IsNewCallback fresh w callback
+IsAllowed fresh w (change.Attach worker pool) = MayAttach w worker pool
+IsAllowed fresh w (change.Detach by) = Idles w by
+IsAllowed fresh w (change.Take by callback) = MayTake w by callback
+IsAllowed fresh w (change.Mark by mark) = Runs w by
+IsAllowed fresh w (change.Return by) = Runs w by
+IsAllowed fresh w (change.Finish client) = numbered w.clients client ≡ Some unfinished
+
+-- the entries that a change costs: its own, and those that are owed more than before
+abbrev pub price : Change → ℕ
+price (change.Attach worker pool) = 2
+price (change.Take by callback) = 2
+price (change.Detach by) = 0
+price (change.Return by) = 0
+price (change.Finish client) = 0
+price _ = 1
+
+-- how many callbacks it makes
+abbrev pub news : Change → ℕ
+news (change.QueueCallback callback) = 1
+news _ = 0
+
+-- by whom a change can be made
+abbrev pub IsMadeBy : Who → Change → Type 0
+IsMadeBy who (change.Attach worker pool) = who ≡ Worker worker
+IsMadeBy who (change.Detach by) = who ≡ Worker by.worker
+IsMadeBy who (change.Take by callback) = who ≡ Worker by.worker
+IsMadeBy who (change.Mark by mark) = who ≡ Worker by.worker
+IsMadeBy who (change.Return by) = who ≡ Worker by.worker
+IsMadeBy who (change.Finish client) = who ≡ Client client
+IsMadeBy who _ = Unit {0}

@@ -1,0 +1,55 @@
+-- Calls that make callbacks at once: SubmitThreadpoolWork.
+use Rattle.std.specs.Prelude.{ℕ, Bool, not, ◌||◌, List, [], ◌∷◌, Option, None, Some}
+use Rattle.tp_base.specs.declared.ids.Who.{Who}
+use Rattle.tp_base.specs.declared.ids.ObjectId.{ObjectId}
+use Rattle.tp_base.specs.declared.answers.Refusal.{Refusal}
+use Rattle.tp_base.specs.declared.answers.Refusal.TheVariants.{NoSuch, WrongKind, Released, NotRunning, InWait, CallbackLimit}
+use Rattle.tp_base.specs.declared.answers.TakeResult.{TakeResult}
+use Rattle.tp_base.specs.declared.answers.TakeResult.TheVariants.{Plain}
+use Rattle.tp_base.specs.declared.answers.Answer.TheVariants as answer
+use Rattle.tp_base.specs.declared.plans.Plan.{Plan}
+use Rattle.tp_base.specs.declared.plans.Plan.TheVariants.{Refused, Does}
+use Rattle.tp_base.specs.declared.plans.Change.TheVariants as change
+use Rattle.tp_base.specs.declared.rows.Status.TheVariants.{Pending}
+use Rattle.tp_base.specs.declared.rows.ObjectRow.{ObjectRow}
+use Rattle.tp_base.specs.declared.rows.CallbackRow.{CallbackRow}
+use Rattle.tp_model.specs.World.{World}
+use Rattle.tp_model.specs.Counts.{numbered}
+use Rattle.tp_model.specs.Conditions.{is_actor, is_finished, is_without_callback, is_in_wait, is_object, is_work_object, is_released, lacks_slots_for}
+use Rattle.tp_model.specs.Refusing.{first_refusal, unless_refused}
+
+-- a callback of an object, as the object's environment was when the object was made
+abbrev pub new_callback : ℕ → ObjectId → ObjectRow → TakeResult → CallbackRow
+new_callback number object row result = record {
+  number = number;
+  object = object;
+  routine = row.routine;
+  context = row.context;
+  pool = row.env.pool;
+  group = row.env.group;
+  priority = row.env.priority;
+  long = row.env.long;
+  result = result;
+  status = Pending;
+}
+
+-- ---- SubmitWork: SubmitThreadpoolWork
+
+abbrev pub submit_work_refusals : World → Who → ℕ → List (Bool × Refusal)
+submit_work_refusals w who object =
+    (not (is_actor w who) || not (is_object w object), NoSuch)
+    ∷ (not (is_work_object w object), WrongKind)
+    ∷ (is_finished w who || is_released w object, Released)
+    ∷ (is_without_callback w who, NotRunning)
+    ∷ (is_in_wait w who, InWait)
+    ∷ (lacks_slots_for w 1, CallbackLimit)
+    ∷ []
+
+-- with the number that the callback gets
+abbrev pub submit : ℕ → ObjectId → Option ObjectRow → Plan
+submit fresh object None = Refused NoSuch
+submit fresh object (Some row) = Does (answer.Queued fresh 1) (change.QueueCallback (new_callback fresh object row Plain))
+
+unfoldable pub submit_work_plan : World → ℕ → Who → ObjectId → Plan
+submit_work_plan w fresh who object =
+    unless_refused (first_refusal (submit_work_refusals w who object.0)) (submit fresh object (numbered w.objects object.0))

@@ -1,0 +1,108 @@
+-- Calls of workers: they join a pool that needs one, take its callbacks, return from them, and leave. The functions of
+-- the thread pool do this behind the program's back.
+use Rattle.std.specs.Prelude.{ℕ, Bool, not, ◌||◌, ◌&&◌, ◌==◌, nat_lt, nat_le, is_some, List, [], ◌∷◌, if◌then◌else◌, Option, None, Some}
+use Rattle.std.specs.Option.{option_or}
+use Rattle.tp_base.specs.declared.ids.Who.{Who}
+use Rattle.tp_base.specs.declared.ids.Who.TheVariants.{Worker}
+use Rattle.tp_base.specs.declared.answers.Refusal.{Refusal}
+use Rattle.tp_base.specs.declared.answers.Refusal.TheVariants.{NoSuch, Released, NotWorker, NotRunning, StillRunning, InWait, NotAttached, AlreadyAttached}
+use Rattle.tp_base.specs.declared.answers.SlotWord.TheVariants.{Unasked}
+use Rattle.tp_base.specs.declared.answers.Answer.TheVariants as answer
+use Rattle.tp_base.specs.declared.answers.Look.TheVariants as look
+use Rattle.tp_base.specs.declared.plans.Idle.{Idle}
+use Rattle.tp_base.specs.declared.plans.Busy.{Busy}
+use Rattle.tp_base.specs.declared.plans.Plan.{Plan}
+use Rattle.tp_base.specs.declared.plans.Plan.TheVariants.{Refused, Looked, Does}
+use Rattle.tp_base.specs.declared.plans.Change.TheVariants as change
+use Rattle.tp_base.specs.declared.rows.CallbackRow.{CallbackRow}
+use Rattle.tp_model.specs.World.{World}
+use Rattle.tp_model.specs.Counts.{attached, available, is_below_minimum, is_in_need, least_pool, maximum, minimum, next, pending, running}
+use Rattle.tp_model.specs.Conditions.{is_worker, is_actor, is_finished, is_attached, is_in_wait, runs_callback, idle_of, busy_of}
+use Rattle.tp_model.specs.Refusing.{first_refusal, unless_refused}
+
+-- ---- Attach: a worker joins a pool
+
+abbrev pub attach_refusals : World → Who → List (Bool × Refusal)
+attach_refusals w who =
+    (not (is_actor w who), NoSuch)
+    ∷ (is_finished w who, Released)
+    ∷ (not (is_worker who), NotWorker)
+    ∷ (runs_callback w who, StillRunning)
+    ∷ (is_attached w who, AlreadyAttached)
+    ∷ []
+
+-- the least pool in need, and else the least one below its minimum
+abbrev pub pool_to_join : World → Option ℕ
+pool_to_join w = option_or (least_pool w (is_in_need w)) (least_pool w (is_below_minimum w))
+
+abbrev pub attach_to : Who → Option ℕ → Plan
+attach_to (Worker number) (Some pool) = Does (answer.Attached (record { 0 = pool })) (change.Attach number (record { 0 = pool }))
+attach_to _ _ = Looked look.NoNeed
+
+unfoldable pub attach_plan : World → Who → Plan
+attach_plan w who = unless_refused (first_refusal (attach_refusals w who)) (attach_to who (pool_to_join w))
+
+-- ---- Detach: a worker leaves its pool
+
+-- of a worker that must be attached and run nothing
+abbrev pub idle_refusals : World → Who → List (Bool × Refusal)
+idle_refusals w who =
+    (not (is_actor w who), NoSuch)
+    ∷ (is_finished w who, Released)
+    ∷ (not (is_worker who), NotWorker)
+    ∷ (runs_callback w who, StillRunning)
+    ∷ (not (is_attached w who), NotAttached)
+    ∷ []
+
+-- some pool but this one is in need
+abbrev pub another_in_need : World → ℕ → Bool
+another_in_need w pool = is_some (least_pool w (λ other. not (other == pool) && is_in_need w other))
+
+-- the pool has more workers than its maximum, or it has nothing to do and more workers than its minimum, or
+-- another pool needs the worker
+abbrev pub may_leave : World → ℕ → Bool
+may_leave w pool =
+    nat_lt (maximum w pool) (attached w pool)
+    || ((pending w pool == 0) && (nat_lt (minimum w pool) (available w pool) || another_in_need w pool))
+
+abbrev pub detach : World → Option Idle → Plan
+detach w None = Refused NotAttached
+detach w (Some by) = if may_leave w by.pool.0 then Does answer.Done (change.Detach by) else Looked look.Stay
+
+unfoldable pub detach_plan : World → Who → Plan
+detach_plan w who = unless_refused (first_refusal (idle_refusals w who)) (detach w (idle_of w who))
+
+-- ---- Take: a worker begins the next callback of its pool
+
+abbrev pub take_callback : World → Idle → Option CallbackRow → Plan
+take_callback w by None = Looked look.Empty
+take_callback w by (Some c) =
+    if nat_le (maximum w by.pool.0) (running w by.pool.0)
+    then Looked (look.AtMaximum (running w by.pool.0))
+    else Does (answer.Taken c.number c.object c.routine c.context c.result) (change.Take by c)
+
+abbrev pub take : World → Option Idle → Plan
+take w None = Refused NotAttached
+take w (Some by) = take_callback w by (next w by.pool.0)
+
+unfoldable pub take_plan : World → Who → Plan
+take_plan w who = unless_refused (first_refusal (idle_refusals w who)) (take w (idle_of w who))
+
+-- ---- Return: a worker's callback returns
+
+abbrev pub return_refusals : World → Who → List (Bool × Refusal)
+return_refusals w who =
+    (not (is_actor w who), NoSuch)
+    ∷ (is_finished w who, Released)
+    ∷ (not (is_worker who), NotWorker)
+    ∷ (not (runs_callback w who), NotRunning)
+    ∷ (is_in_wait w who, InWait)
+    ∷ []
+
+-- no call asks for an action on return yet
+abbrev pub return : Option Busy → Plan
+return None = Refused NotRunning
+return (Some by) = Does (answer.Returned Unasked Unasked Unasked Unasked 0 0) (change.Return by)
+
+unfoldable pub return_plan : World → Who → Plan
+return_plan w who = unless_refused (first_refusal (return_refusals w who)) (return (busy_of w who))

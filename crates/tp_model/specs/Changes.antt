@@ -1,0 +1,91 @@
+-- The world after a change.
+use Rattle.std.specs.Prelude.{ℕ, ◌-◌, true, min, max, List, [], ◌∷◌, ◌++◌, map, slice_get, slice_set, if◌then◌else◌, Option, None, Some}
+use Rattle.tp_base.specs.declared.plans.Change.{Change}
+use Rattle.tp_base.specs.declared.plans.Change.TheVariants as change
+use Rattle.tp_base.specs.declared.plans.Mark.{Mark}
+use Rattle.tp_base.specs.declared.plans.Mark.TheVariants.{Long}
+use Rattle.tp_base.specs.declared.plans.PoolChange.{PoolChange}
+use Rattle.tp_base.specs.declared.plans.PoolChange.TheVariants.{Close, Maximum, Minimum}
+use Rattle.tp_base.specs.declared.rows.Slots.{Slots}
+use Rattle.tp_base.specs.declared.rows.Status.TheVariants.{Running, Returned}
+use Rattle.tp_base.specs.declared.rows.PoolRow.{PoolRow}
+use Rattle.tp_base.specs.declared.rows.ObjectRow.{ObjectRow}
+use Rattle.tp_base.specs.declared.rows.CallbackRow.{CallbackRow}
+use Rattle.tp_base.specs.declared.rows.WorkerRow.{WorkerRow}
+use Rattle.tp_base.specs.declared.rows.ClientRow.{ClientRow}
+use Rattle.tp_model.specs.World.{World, new_pool, unattached}
+use Rattle.tp_model.specs.Counts.{has_number}
+
+-- ---- one list of a world
+
+abbrev pub with_object : World → ObjectRow → World
+with_object w object = record w { objects = w.objects ++ object ∷ [] }
+
+abbrev pub with_new_callback : World → CallbackRow → World
+with_new_callback w callback = record w { callbacks = w.callbacks ++ callback ∷ [] }
+
+-- a row in place of the one of its number
+abbrev pub replaced : CallbackRow → List CallbackRow → List CallbackRow
+replaced callback callbacks = map (λ c. if has_number callback.number c then callback else c) callbacks
+
+abbrev pub with_callback : World → CallbackRow → World
+with_callback w callback = record w { callbacks = replaced callback w.callbacks }
+
+-- workers and clients are numbered from 1
+abbrev pub with_worker : World → ℕ → WorkerRow → World
+with_worker w number worker = record w { workers = slice_set w.workers (number - 1) worker }
+
+abbrev pub with_client : World → ℕ → ClientRow → World
+with_client w number client = record w { clients = slice_set w.clients (number - 1) client }
+
+abbrev pub with_new_pool : World → World
+with_new_pool w = record w { pools = w.pools ++ new_pool w.limits ∷ [] }
+
+-- pools are numbered from 0
+abbrev pub with_pool : World → ℕ → PoolRow → World
+with_pool w number pool = record w { pools = slice_set w.pools number pool }
+
+-- ---- one row
+
+-- a maximum of 0 counts as 1, and a minimum above a new maximum is lowered to it; a maximum below a new minimum is
+-- raised to it
+abbrev pub pool_after : PoolChange → PoolRow → PoolRow
+pool_after Close row = record row { closed = true }
+pool_after (Maximum value) row = record row { minimum = min row.minimum (max value 1); maximum = max value 1 }
+pool_after (Minimum value) row = record row { minimum = value; maximum = max row.maximum value }
+
+abbrev pub change_pool : World → ℕ → PoolChange → Option PoolRow → World
+change_pool w pool how None = w
+change_pool w pool how (Some row) = with_pool w pool (pool_after how row)
+
+-- no action on return is asked for
+abbrev pub no_actions : Slots
+no_actions = record { section = None; mutex = None; semaphore = None; event = None }
+
+abbrev pub taken : CallbackRow → ℕ → CallbackRow
+taken c worker = record c { status = Running worker true no_actions }
+
+abbrev pub marked : Mark → CallbackRow → CallbackRow
+marked Long c = record c { long = true }
+
+abbrev pub returned : CallbackRow → CallbackRow
+returned c = record c { status = Returned }
+
+abbrev pub finished : ClientRow
+finished = record { finished = true }
+
+-- ---- each change
+
+abbrev pub changed : World → Change → World
+changed w change.CreatePool = with_new_pool w
+changed w (change.ChangePool pool how) = change_pool w pool.0 how (slice_get w.pools pool.0)
+changed w (change.CreateObject row) = with_object w row
+changed w (change.QueueCallback callback) = with_new_callback w callback
+changed w (change.Attach worker pool) = with_worker w worker (record { pool = Some pool; callback = None })
+changed w (change.Detach by) = with_worker w by.worker unattached
+changed w (change.Take by callback) =
+    with_worker (with_callback w (taken callback by.worker)) by.worker (record { pool = Some by.pool; callback = Some callback.number })
+changed w (change.Mark by mark) = with_callback w (marked mark by.callback)
+changed w (change.Return by) =
+    with_worker (with_callback w (returned by.callback)) by.worker (record { pool = Some by.pool; callback = None })
+changed w (change.Finish client) = with_client w client finished

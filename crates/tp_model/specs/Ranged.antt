@@ -1,0 +1,53 @@
+-- The numbers of a world are in the ranges of lines, and so are those of every answer and look.
+use Rattle.std.specs.Prelude.{ℕ, ◌<◌, ◌≤◌, ◌^◌, length}
+use Rattle.std.specs.List.{AllByRecursion}
+use Rattle.tp_base.specs.Ranges.{AreLimitsInRange, IsRoutineInRange, IsResultInRange, IsRefusalInRange, IsAnswerInRange, IsLookInRange}
+use Rattle.tp_base.specs.declared.calls.Call.{Call}
+use Rattle.tp_base.specs.declared.calls.Call.TheVariants.{Create}
+use Rattle.tp_base.specs.declared.plans.Change.{Change}
+use Rattle.tp_base.specs.declared.plans.Change.TheVariants as change
+use Rattle.tp_base.specs.declared.plans.Plan.{Plan}
+use Rattle.tp_base.specs.declared.plans.Plan.TheVariants.{Refused, Looked, Does}
+use Rattle.tp_base.specs.declared.rows.ObjectRow.{ObjectRow}
+use Rattle.tp_base.specs.declared.rows.CallbackRow.{CallbackRow}
+use Rattle.tp_model.specs.World.{World}
+use Rattle.tp_model.specs.Counts.{running}
+
+pub record IsObjectInRange (o : ObjectRow) : Type 0 where
+  pub routine : IsRoutineInRange o.routine.0
+  pub context : o.context < 2 ^ 64
+
+pub record IsCallbackInRange (c : CallbackRow) : Type 0 where
+  pub number : c.number < 2 ^ 64
+  pub object : c.object.0 ≤ 65535
+  pub routine : IsRoutineInRange c.routine.0
+  pub context : c.context < 2 ^ 64
+  pub result : IsResultInRange c.result
+
+-- the rows of a world, which each change keeps in range that brings none that isn't
+pub record AreRowsInRange (w : World) : Type 0 where
+  pub objects : AllByRecursion IsObjectInRange w.objects
+  pub callbacks : AllByRecursion IsCallbackInRange w.callbacks
+
+abbrev pub IsChangeInRange : Change → Type 0
+IsChangeInRange (change.CreateObject row) = IsObjectInRange row
+IsChangeInRange (change.QueueCallback callback) = IsCallbackInRange callback
+IsChangeInRange _ = Unit {0}
+
+-- what a call brings besides the numbers of a line that have a range of their own
+abbrev pub IsWide : Call → Type 0
+IsWide (Create kind routine context env) = context < 2 ^ 64
+IsWide _ = Unit {0}
+
+-- all of a world that the numbers of answers and looks come from
+pub record IsRanged (w : World) : Type 0 where
+  pub limits : AreLimitsInRange w.limits
+  pub pools_least : 1 ≤ length w.pools
+  pub pools_most : length w.pools ≤ w.limits.pools
+  pub running_most : (pool : ℕ) → running w pool ≤ 65535
+  pub rows : AreRowsInRange w
+
+abbrev pub IsPlanInRange : Plan → Type 0
+IsPlanInRange (Refused refusal) = IsRefusalInRange refusal
+IsPlanInRange (Looked look) = IsLookInRange look
+IsPlanInRange (Does answer ch) = IsAnswerInRange answer × IsChangeInRange ch
