@@ -1,30 +1,32 @@
 -- Histories, one entry longer.
 use Rattle.std.proofs.Common.{◌≡◌, ℕ, suc, ◌+◌, ◌≤◌, List, [], ◌∷◌, ◌++◌, length, refl, sym, ap, ◌∙◌, arith, Bool, true, false, add-zero}
-use Rattle.std.specs.Prelude.{nat_lt, if◌then◌else◌}
+use Rattle.std.specs.Prelude.{nat_lt, if◌then◌else◌, Option, Some}
 use Rattle.std.proofs.lemmas.Bool.{ltb-false}
 use Rattle.tp_base.specs.declared.answers.Answer.{Answer}
 use Rattle.tp_base.specs.declared.answers.Answer.TheVariants as answer
 use Rattle.tp_base.specs.declared.answers.Entry.{Entry}
 use Rattle.tp_base.specs.declared.answers.Outcome.{Outcome}
 use Rattle.tp_base.specs.declared.answers.Outcome.TheVariants as outcome
-use Rattle.tp_base.specs.declared.calls.Call.{Call}
-use Rattle.tp_base.specs.declared.ids.Who.{Who}
+use Rattle.tp_base.specs.declared.plans.Change.{Change}
+use Rattle.tp_base.specs.declared.plans.Plan.{Plan}
+use Rattle.tp_base.specs.declared.plans.Plan.TheVariants as plans
 use Rattle.tp_model.specs.Counts.{owed}
-use Rattle.tp_model.specs.History.{IsLegalFrom, after_from, is_refusal, led_to, room}
-use Rattle.tp_model.specs.Moves.{Moved}
+use Rattle.tp_model.specs.Changes.{changed}
+use Rattle.tp_model.specs.History.{IsLegalFrom, after_from, change_told, is_refusal, led_by, led_to, room}
 use Rattle.tp_model.specs.Sound.{IsSound}
-use Rattle.tp_model.specs.Step.{Step, Accepted, Refused, Looked, Full, cost, entries_of, is_accepted, outcome_of, within, world_after}
-use Rattle.tp_model.specs.Table.{row, step}
+use Rattle.tp_model.specs.Step.{Step, Accepted, Refused, Looked, Full, cost, entries_of, is_accepted, outcome_of, stepped, within, world_after}
+use Rattle.tp_model.specs.Table.{plan, step}
 use Rattle.tp_model.specs.World.{World}
-use Rattle.tp_model.proofs.Moving.{row_moves}
+use Rattle.tp_model.proofs.Entries.{told_change}
+use Rattle.tp_model.proofs.Steps.{plan_allowed}
 
 -- ---- what an entry of the machine leads to
 
 -- the step is the entry's, leads where the entry does, and is paid for
-pub record Enters (w : World) (left : ℕ) (s : Step) (told : Answer) : Type 0 where
-  pub leads : world_after w (within w left s) ≡ (if is_refusal told then w else world_after w s)
-  pub paid : 1 + owed (world_after w (within w left s)) ≤ owed w + left
-  pub one : entries_of (within w left s) ≡ 1
+pub record Enters (w : World) (left : ℕ) (entry : Entry) (s : Step) : Type 0 where
+  pub leads : world_after w s ≡ led_to w entry
+  pub paid : 1 + owed (world_after w s) ≤ owed w + left
+  pub one : entries_of s ≡ 1
 
 full_is_none : (left price : ℕ) (told : Answer) → outcome.Full left price ≡ outcome.Done told → ⊥
 full_is_none left price told e = let none : ⊥ = cc in none
@@ -35,41 +37,40 @@ look_is_none look told e = let none : ⊥ = cc in none
 done_same : (a b : Answer) → outcome.Done a ≡ outcome.Done b → a ≡ b
 done_same a b e = cc
 
-accepted_leads : (w next : World) (a b : Answer) → is_refusal a ≡ false → a ≡ b → next ≡ (if is_refusal b then w else next)
-accepted_leads w next a b honest e = ap (λ t. if t then w else next) (sym (sym (ap is_refusal e) ∙ honest))
+-- the world that an entry leads to, from its answer and its change
+abbrev led_as : World → Answer → Option Change → World
+led_as w told makes = if is_refusal told then w else led_by w makes
 
-refused_leads : (w next : World) (b : Answer) → is_refusal b ≡ true → w ≡ (if is_refusal b then w else next)
-refused_leads w next b is = ap (λ t. if t then w else next) (sym is)
+accepted_enters : (w : World) (left : ℕ) (entry : Entry) (a : Answer) (next : World) → (a ≡ entry.answer → next ≡ led_to w entry) → (full : Bool) → nat_lt left (cost w next) ≡ full
+    → outcome_of (if full then Full left (cost w next) else Accepted a next) ≡ outcome.Done entry.answer
+    → Enters w left entry (if full then Full left (cost w next) else Accepted a next)
+accepted_enters w left entry a next leads true over e = absurd (full_is_none left (cost w next) entry.answer e)
+accepted_enters w left entry a next leads false over e =
+    record { leads = leads (done_same a entry.answer e); paid = omega (arith, ltb-false left (cost w next) over); one = refl }
 
-accepted_enters : (w : World) (left : ℕ) (a b : Answer) (next : World) → is_refusal a ≡ false → (full : Bool) → nat_lt left (cost w next) ≡ full
-    → outcome_of (if full then Full left (cost w next) else Accepted a next) ≡ outcome.Done b
-    → (world_after w (if full then Full left (cost w next) else Accepted a next) ≡ (if is_refusal b then w else next))
-    × (1 + owed (world_after w (if full then Full left (cost w next) else Accepted a next)) ≤ owed w + left)
-    × (entries_of (if full then Full left (cost w next) else Accepted a next) ≡ 1)
-accepted_enters w left a b next honest true over e = absurd (full_is_none left (cost w next) b e)
-accepted_enters w left a b next honest false over e = (accepted_leads w next a b honest (done_same a b e), omega (arith, ltb-false left (cost w next) over), refl)
+refused_enters : (w : World) (left : ℕ) (entry : Entry) (refusal : _) → (full : Bool) → nat_lt left 1 ≡ full
+    → outcome_of (if full then Full left 1 else Refused refusal) ≡ outcome.Done entry.answer → Enters w left entry (if full then Full left 1 else Refused refusal)
+refused_enters w left entry refusal true over e = absurd (full_is_none left 1 entry.answer e)
+refused_enters w left entry refusal false over e =
+    let same : answer.Refused refusal ≡ entry.answer = done_same (answer.Refused refusal) entry.answer e in
+    record { leads = ap (λ a. led_as w a (change_told w entry.who entry.call entry.answer)) same; paid = omega (arith, ltb-false left 1 over); one = refl }
 
-refused_enters : (w : World) (left : ℕ) (refusal : _) (b : Answer) → (full : Bool) → nat_lt left 1 ≡ full
-    → outcome_of (if full then Full left 1 else Refused refusal) ≡ outcome.Done b
-    → (world_after w (if full then Full left 1 else Refused refusal) ≡ (if is_refusal b then w else w))
-    × (1 + owed (world_after w (if full then Full left 1 else Refused refusal)) ≤ owed w + left)
-    × (entries_of (if full then Full left 1 else Refused refusal) ≡ 1)
-refused_enters w left refusal b true over e = absurd (full_is_none left 1 b e)
-refused_enters w left refusal b false over e =
-    (refused_leads w w b (sym (ap is_refusal (done_same (answer.Refused refusal) b e))), omega (arith, ltb-false left 1 over), refl)
+-- an accepted entry leads where its plan's change does
+change_led : (w : World) (left : ℕ) (entry : Entry) (a : Answer) (ch : Change) → IsSound (length w.callbacks + 1) w → plan w left entry.who entry.call ≡ plans.Does a ch → a ≡ entry.answer → changed w ch ≡ led_to w entry
+change_led w left entry a ch sound is same =
+    let safe = plan_allowed (length w.callbacks + 1) left w entry.who entry.call a ch sound is in
+    let makes : change_told w entry.who entry.call entry.answer ≡ Some ch = ap (change_told w entry.who entry.call) (sym same) ∙ told_change w left entry.who entry.call a ch is in
+    let taken : is_refusal entry.answer ≡ false = ap is_refusal (sym same) ∙ safe.accepted in
+    sym (ap (λ b. if b then w else led_by w (change_told w entry.who entry.call entry.answer)) taken ∙ ap (led_by w) makes)
 
-enters : (w : World) (left : ℕ) (who : Who) (call : Call) (s : Step) (told : Answer) → Moved (length w.callbacks + 1) w who call s → outcome_of (within w left s) ≡ outcome.Done told
-    → Enters w left s told
-enters w left who call (Accepted a next) told moved e =
-    let came = accepted_enters w left a told next moved.0 (nat_lt left (cost w next)) refl e in record { leads = came.0; paid = came.1; one = came.2 }
-enters w left who call (Refused refusal) told moved e =
-    let came = refused_enters w left refusal told (nat_lt left 1) refl e in record { leads = came.0; paid = came.1; one = came.2 }
-enters w left who call (Looked look) told moved e = absurd (look_is_none look told e)
-enters w left who call (Full some price) told moved e = absurd (full_is_none some price told e)
+plan_enters : (w : World) (left : ℕ) (entry : Entry) (p : Plan) → IsSound (length w.callbacks + 1) w → plan w left entry.who entry.call ≡ p → outcome_of (within w left (stepped w p)) ≡ outcome.Done entry.answer
+    → Enters w left entry (within w left (stepped w p))
+plan_enters w left entry (plans.Does a ch) sound is e = accepted_enters w left entry a (changed w ch) (change_led w left entry a ch sound is) (nat_lt left (cost w (changed w ch))) refl e
+plan_enters w left entry (plans.Refused refusal) sound is e = refused_enters w left entry refusal (nat_lt left 1) refl e
+plan_enters w left entry (plans.Looked look) sound is e = absurd (look_is_none look entry.answer e)
 
-pub step_enters : (w : World) (left : ℕ) (who : Who) (call : Call) (told : Answer) → IsSound (length w.callbacks + 1) w → outcome_of (step w left who call) ≡ outcome.Done told
-    → Enters w left (row w who call) told
-step_enters w left who call told sound e = enters w left who call (row w who call) told (row_moves (length w.callbacks + 1) w who call sound) e
+pub step_enters : (w : World) (left : ℕ) (entry : Entry) → IsSound (length w.callbacks + 1) w → outcome_of (step w left entry.who entry.call) ≡ outcome.Done entry.answer → Enters w left entry (step w left entry.who entry.call)
+step_enters w left entry sound e = plan_enters w left entry (plan w left entry.who entry.call) sound refl e
 
 -- ---- what is no entry
 

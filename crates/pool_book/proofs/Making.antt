@@ -102,7 +102,7 @@ module _ (engine new : Remembered) (limits : Limits) (capacity len left : ℕ) (
   entered answer longer done grown =
       let entry : Entry = record { who = who; call = call; answer = answer } in
       let right : outcome_of came ≡ Done answer = sym meets.answer ∙ done in
-      let e = step_enters now (room capacity now (length history)) who call answer sound right in
+      let e = step_enters now (room capacity now (length history)) entry sound right in
       let size : length longer ≡ length history + 1 = ap length grown ∙ length-append history (entry ∷ []) in
       let next : world_after now came ≡ after limits longer = e.leads ∙ sym (after_push (opening limits) history entry) ∙ ap (λ h. after limits h) (sym grown) in
       let none : 0 + length history ≡ length history = omega arith in

@@ -18,7 +18,7 @@
 #![tactic(auto)]
 
 ghost use Rattle.std.specs.Prelude.{◌≡◌, ◌≤◌, [], length, IfOk};
-ghost use Rattle.tp_base.specs.Ranges.{AreLimitsInRange, IsCallInRange};
+ghost use Rattle.tp_base.specs.Ranges.{AreLimitsInRange, IsCallInRange, IsOutcomeInRange};
 ghost use Rattle.tp_model.specs.History.{IsLegal};
 ghost use Rattle.tp_model.specs.Laws.{KeepsLaws};
 ghost use Rattle.pool_book.specs.Recordings.{outcome_behind, recorded, room_of, IsFirstOf};
@@ -111,6 +111,8 @@ impl Book {
         ensures history { self.new ≡ recorded self.old who call result }
         // What is played on goes on from there.
         ensures first { IsFirstOf self.old self.new who call result }
+        // Each number of it can stand in a line.
+        ensures in_range { IsOutcomeInRange result }
         ensures legal { IsLegal self.new.limits self.new.capacity self.new.history }
         ensures laws { KeepsLaws self.new.limits self.new.history }
     {
