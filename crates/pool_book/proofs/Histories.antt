@@ -1,21 +1,18 @@
 -- Histories, one entry longer.
-use Rattle.std.proofs.Common.{◌≡◌, ℕ, suc, ◌+◌, ◌≤◌, List, [], ◌∷◌, ◌++◌, length, refl, sym, ap, ◌∙◌, subst, arith, Bool, true, false, add-zero}
-use Rattle.std.specs.Prelude.{nat_lt, if◌then◌else◌}
+use Rattle.std.proofs.Common.{◌≡◌, ℕ, suc, ◌+◌, ◌≤◌, List, [], ◌∷◌, ◌++◌, length, refl, sym, ap, ◌∙◌, arith, Bool, true, false, add-zero}
+use Rattle.std.specs.Prelude.{nat_lt, if◌then◌else◌, Option, Some}
 use Rattle.std.proofs.lemmas.Bool.{ltb-false}
 use Rattle.tp_base.specs.declared.answers.Answer.{Answer}
 use Rattle.tp_base.specs.declared.answers.Answer.TheVariants as answer
 use Rattle.tp_base.specs.declared.answers.Entry.{Entry}
 use Rattle.tp_base.specs.declared.answers.Outcome.{Outcome}
 use Rattle.tp_base.specs.declared.answers.Outcome.TheVariants as outcome
-use Rattle.tp_base.specs.declared.calls.Call.{Call}
-use Rattle.tp_base.specs.declared.ids.Who.{Who}
-use Rattle.tp_base.specs.declared.answers.Refusal.{Refusal}
 use Rattle.tp_base.specs.declared.plans.Change.{Change}
 use Rattle.tp_base.specs.declared.plans.Plan.{Plan}
 use Rattle.tp_base.specs.declared.plans.Plan.TheVariants as plans
 use Rattle.tp_model.specs.Counts.{owed}
-use Rattle.tp_model.specs.History.{IsLegalFrom, after_from, change_told, is_refusal, led_by, led_to, room}
 use Rattle.tp_model.specs.Changes.{changed}
+use Rattle.tp_model.specs.History.{IsLegalFrom, after_from, change_told, is_refusal, led_by, led_to, room}
 use Rattle.tp_model.specs.Sound.{IsSound}
 use Rattle.tp_model.specs.Step.{Step, Accepted, Refused, Looked, Full, cost, entries_of, is_accepted, outcome_of, stepped, within, world_after}
 use Rattle.tp_model.specs.Table.{plan, step}
@@ -25,11 +22,11 @@ use Rattle.tp_model.proofs.Steps.{plan_allowed}
 
 -- ---- what an entry of the machine leads to
 
--- the step of the entry's call leads where the entry does, and is paid for
-pub record Enters (w : World) (left : ℕ) (entry : Entry) : Type 0 where
-  pub leads : world_after w (step w left entry.who entry.call) ≡ led_to w entry
-  pub paid : 1 + owed (world_after w (step w left entry.who entry.call)) ≤ owed w + left
-  pub one : entries_of (step w left entry.who entry.call) ≡ 1
+-- the step is the entry's, leads where the entry does, and is paid for
+pub record Enters (w : World) (left : ℕ) (entry : Entry) (s : Step) : Type 0 where
+  pub leads : world_after w s ≡ led_to w entry
+  pub paid : 1 + owed (world_after w s) ≤ owed w + left
+  pub one : entries_of s ≡ 1
 
 full_is_none : (left price : ℕ) (told : Answer) → outcome.Full left price ≡ outcome.Done told → ⊥
 full_is_none left price told e = let none : ⊥ = cc in none
@@ -40,36 +37,40 @@ look_is_none look told e = let none : ⊥ = cc in none
 done_same : (a b : Answer) → outcome.Done a ≡ outcome.Done b → a ≡ b
 done_same a b e = cc
 
-pub step_enters : (w : World) (left : ℕ) (entry : Entry) → IsSound (length w.callbacks + 1) w → outcome_of (step w left entry.who entry.call) ≡ outcome.Done entry.answer → Enters w left entry
-step_enters w left entry sound e = of_plan (plan w left entry.who entry.call) refl e
-  where
-    at_step : Step → Type 0
-    at_step s = (world_after w s ≡ led_to w entry) × (1 + owed (world_after w s) ≤ owed w + left) × (entries_of s ≡ 1)
+-- the world that an entry leads to, from its answer and its change
+abbrev led_as : World → Answer → Option Change → World
+led_as w told makes = if is_refusal told then w else led_by w makes
 
-    enters : (s : Step) → step w left entry.who entry.call ≡ s → at_step s → Enters w left entry
-    enters s is h = let there : at_step (step w left entry.who entry.call) = subst at_step (sym is) h in record { leads = there.0; paid = there.1; one = there.2 }
+accepted_enters : (w : World) (left : ℕ) (entry : Entry) (a : Answer) (next : World) → (a ≡ entry.answer → next ≡ led_to w entry) → (full : Bool) → nat_lt left (cost w next) ≡ full
+    → outcome_of (if full then Full left (cost w next) else Accepted a next) ≡ outcome.Done entry.answer
+    → Enters w left entry (if full then Full left (cost w next) else Accepted a next)
+accepted_enters w left entry a next leads true over e = absurd (full_is_none left (cost w next) entry.answer e)
+accepted_enters w left entry a next leads false over e =
+    record { leads = leads (done_same a entry.answer e); paid = omega (arith, ltb-false left (cost w next) over); one = refl }
 
-    of_change : (a : Answer) (ch : Change) → plan w left entry.who entry.call ≡ plans.Does a ch → (full : Bool) → nat_lt left (cost w (changed w ch)) ≡ full
-        → outcome_of (if full then Full left (cost w (changed w ch)) else Accepted a (changed w ch)) ≡ outcome.Done entry.answer → at_step (if full then Full left (cost w (changed w ch)) else Accepted a (changed w ch))
-    of_change a ch is true over told = absurd (full_is_none left (cost w (changed w ch)) entry.answer told)
-    of_change a ch is false over told =
-        let same : a ≡ entry.answer = done_same a entry.answer told in
-        let honest = (plan_allowed (length w.callbacks + 1) left w entry.who entry.call a ch sound is).accepted in
-        let makes = told_change w left entry.who entry.call a ch is in
-        let leads : changed w ch ≡ led_to w entry =
-        sym (ap (λ b. if is_refusal b then w else led_by w (change_told w entry.who entry.call b)) (sym same) ∙ ap (λ t. if t then w else led_by w (change_told w entry.who entry.call a)) honest ∙ ap (led_by w) makes) in
-        (leads, omega (arith, ltb-false left (cost w (changed w ch)) over), refl)
+refused_enters : (w : World) (left : ℕ) (entry : Entry) (refusal : _) → (full : Bool) → nat_lt left 1 ≡ full
+    → outcome_of (if full then Full left 1 else Refused refusal) ≡ outcome.Done entry.answer → Enters w left entry (if full then Full left 1 else Refused refusal)
+refused_enters w left entry refusal true over e = absurd (full_is_none left 1 entry.answer e)
+refused_enters w left entry refusal false over e =
+    let same : answer.Refused refusal ≡ entry.answer = done_same (answer.Refused refusal) entry.answer e in
+    record { leads = ap (λ a. led_as w a (change_told w entry.who entry.call entry.answer)) same; paid = omega (arith, ltb-false left 1 over); one = refl }
 
-    of_refusal : (refusal : Refusal) → (full : Bool) → nat_lt left 1 ≡ full → outcome_of (if full then Full left 1 else Refused refusal) ≡ outcome.Done entry.answer → at_step (if full then Full left 1 else Refused refusal)
-    of_refusal refusal true over told = absurd (full_is_none left 1 entry.answer told)
-    of_refusal refusal false over told =
-        let same : answer.Refused refusal ≡ entry.answer = done_same (answer.Refused refusal) entry.answer told in
-        (sym (ap (λ b. if is_refusal b then w else led_by w (change_told w entry.who entry.call b)) (sym same)), omega (arith, ltb-false left 1 over), refl)
+-- an accepted entry leads where its plan's change does
+change_led : (w : World) (left : ℕ) (entry : Entry) (a : Answer) (ch : Change) → IsSound (length w.callbacks + 1) w → plan w left entry.who entry.call ≡ plans.Does a ch → a ≡ entry.answer → changed w ch ≡ led_to w entry
+change_led w left entry a ch sound is same =
+    let safe = plan_allowed (length w.callbacks + 1) left w entry.who entry.call a ch sound is in
+    let makes : change_told w entry.who entry.call entry.answer ≡ Some ch = ap (change_told w entry.who entry.call) (sym same) ∙ told_change w left entry.who entry.call a ch is in
+    let taken : is_refusal entry.answer ≡ false = ap is_refusal (sym same) ∙ safe.accepted in
+    sym (ap (λ b. if b then w else led_by w (change_told w entry.who entry.call entry.answer)) taken ∙ ap (led_by w) makes)
 
-    of_plan : (p : Plan) → plan w left entry.who entry.call ≡ p → outcome_of (within w left (stepped w p)) ≡ outcome.Done entry.answer → Enters w left entry
-    of_plan (plans.Does a ch) is told = enters (within w left (stepped w (plans.Does a ch))) (ap (λ p. within w left (stepped w p)) is) (of_change a ch is (nat_lt left (cost w (changed w ch))) refl told)
-    of_plan (plans.Refused refusal) is told = enters (within w left (stepped w (plans.Refused refusal))) (ap (λ p. within w left (stepped w p)) is) (of_refusal refusal (nat_lt left 1) refl told)
-    of_plan (plans.Looked look) is told = absurd (look_is_none look entry.answer told)
+plan_enters : (w : World) (left : ℕ) (entry : Entry) (p : Plan) → IsSound (length w.callbacks + 1) w → plan w left entry.who entry.call ≡ p → outcome_of (within w left (stepped w p)) ≡ outcome.Done entry.answer
+    → Enters w left entry (within w left (stepped w p))
+plan_enters w left entry (plans.Does a ch) sound is e = accepted_enters w left entry a (changed w ch) (change_led w left entry a ch sound is) (nat_lt left (cost w (changed w ch))) refl e
+plan_enters w left entry (plans.Refused refusal) sound is e = refused_enters w left entry refusal (nat_lt left 1) refl e
+plan_enters w left entry (plans.Looked look) sound is e = absurd (look_is_none look entry.answer e)
+
+pub step_enters : (w : World) (left : ℕ) (entry : Entry) → IsSound (length w.callbacks + 1) w → outcome_of (step w left entry.who entry.call) ≡ outcome.Done entry.answer → Enters w left entry (step w left entry.who entry.call)
+step_enters w left entry sound e = plan_enters w left entry (plan w left entry.who entry.call) sound refl e
 
 -- ---- what is no entry
 

@@ -111,6 +111,8 @@ impl Book {
         ensures history { self.new ≡ recorded self.old who call result }
         // What is played on goes on from there.
         ensures first { IsFirstOf self.old self.new who call result }
+        // Each number of it can stand in a line.
+        ensures in_range { IsOutcomeInRange result }
         ensures legal { IsLegal self.new.limits self.new.capacity self.new.history }
         ensures laws { KeepsLaws self.new.limits self.new.history }
         // The numbers of the outcome are those that a line can have.

@@ -4,6 +4,7 @@ use Rattle.pool_book.specs.Recordings.{Recording, recorded, outcome_behind as to
 use Rattle.tp_base.specs.declared.answers.Entry.{Entry}
 use Rattle.tp_base.specs.declared.answers.Outcome.{Outcome}
 use Rattle.tp_base.specs.declared.answers.Outcome.TheVariants.{Done}
+use Rattle.tp_base.specs.Ranges.{IsOutcomeInRange}
 use Rattle.tp_base.specs.declared.limits.Limits.{Limits}
 use Rattle.tp_model.specs.History.{IsLegal, IsLegalFrom, after, after_from, led_to, room}
 use Rattle.tp_model.specs.Step.{outcome_of}
@@ -55,8 +56,8 @@ module _ (old : Recording) (entries : List Entry) (entry : Entry) where
         record { written = written; is_verdict = (subst (λ h. IsLegal new.limits new.capacity h) written legal, omega (arith, j.is_verdict.1, size)) }
 
     -- another than the machine's
-    pub wrong : told ≡ told_behind old entry.who entry.call → (told ≡ Done entry.answer → ⊥) → IsJudgedTo new longer (NotLegal (len + 1) told)
-    wrong is apart =
+    pub wrong : told ≡ told_behind old entry.who entry.call → IsOutcomeInRange told → (told ≡ Done entry.answer → ⊥) → IsJudgedTo new longer (NotLegal (len + 1) told)
+    wrong is in_range apart =
         let behind : Recording = record { limits = old.limits; capacity = old.capacity; history = entries } in
         let at : IsWrongAt old.limits old.capacity longer (len + 1) told = record {
           before = entries;
@@ -66,6 +67,7 @@ module _ (old : Recording) (entries : List Entry) (entry : Entry) where
           place = omega (arith, j.is_verdict.1);
           legal = j.is_verdict.0;
           told = is ∙ ap (λ h. told_behind (record { limits = old.limits; capacity = old.capacity; history = h }) entry.who entry.call) j.written;
+          in_range = in_range;
           wrong = apart;
         } in
         let here : IsWrongAt new.limits new.capacity longer (len + 1) told = subst (λ (r : Recording). IsWrongAt r.limits r.capacity longer (len + 1) told) (sym made) at in
@@ -84,6 +86,7 @@ module _ (old : Recording) (entries : List Entry) (entry : Entry) where
         place = w.place;
         legal = w.legal;
         told = w.told;
+        in_range = w.in_range;
         wrong = w.wrong;
       } in
       record { written = tt; is_verdict = (at, wrong_no_legal old.limits old.capacity longer position outcome at) }

@@ -5,6 +5,7 @@ use Rattle.tp_base.specs.declared.answers.Entry.{Entry}
 use Rattle.tp_base.specs.declared.answers.Outcome.{Outcome}
 use Rattle.tp_base.specs.declared.answers.Outcome.TheVariants.{Done}
 use Rattle.tp_base.specs.declared.limits.Limits.{Limits}
+use Rattle.tp_base.specs.Ranges.{IsOutcomeInRange}
 use Rattle.tp_lines.specs.Answers.{text_of_outcome}
 use Rattle.tp_model.specs.History.{IsLegal, after, room}
 use Rattle.tp_model.specs.Step.{outcome_of}
@@ -24,7 +25,8 @@ abbrev pub outcome_behind : Limits → ℕ → List Entry → Entry → Outcome
 outcome_behind limits capacity before entry =
     outcome_of (step (after limits before) (room capacity (after limits before) (length before)) entry.who entry.call)
 
--- the entry at this position, counted from 1, is the first whose answer isn't the machine's, which has this outcome
+-- the entry at this position, counted from 1, is the first whose answer isn't the machine's, which has this outcome,
+-- whose numbers can stand in a line
 pub record IsWrongAt (limits : Limits) (capacity : ℕ) (history : List Entry) (position : ℕ) (outcome : Outcome) : Type 0 where
   pub before : List Entry
   pub entry : Entry
@@ -33,6 +35,7 @@ pub record IsWrongAt (limits : Limits) (capacity : ℕ) (history : List Entry) (
   pub place : position ≡ length before + 1
   pub legal : IsLegal limits capacity before
   pub told : outcome ≡ outcome_behind limits capacity before entry
+  pub in_range : IsOutcomeInRange outcome
   pub wrong : outcome ≢ Done entry.answer
 
 abbrev pub IsVerdict : Limits → ℕ → List Entry → Verdict → Type 0

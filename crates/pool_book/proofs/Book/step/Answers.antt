@@ -34,4 +34,4 @@ returns-in_default c =
     let a = c.self.inside in
     let made = looked a.engine c.step-outcome.new.self a.limits a.capacity a.len c.room-room.result a.past.entries c.args.self.now c.args.who c.args.call c.step-outcome.result
     c.self.invariant c.self.view_is c.room-room.ensures c.step-outcome.ensures.meets c.in_default.not-Done in
-    record { outcome = made.outcome; history = made.written; first = made.first; legal = made.book.legal; laws = made.laws; in_range = c.step-outcome.ensures.in_range }
+    record { outcome = made.outcome; history = made.written; first = made.first; in_range = c.step-outcome.ensures.in_range; legal = made.book.legal; laws = made.laws }

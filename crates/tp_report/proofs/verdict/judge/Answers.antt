@@ -10,5 +10,5 @@ returns-in_default-clause-judged c = λ entries j. stays c.args.book.now entries
 pub returns-else-is_answer-clause-judged : goal.returns-else-is_answer-clause-judged
 returns-else-is_answer-clause-judged c = λ entries j.
     wrong c.args.book.now entries c.args.entry.now c.step-outcome.new.self c.in-Legal.len c.step-outcome.result
-    (subst (λ v. IsJudgedTo c.args.book.now entries v) c.in-Legal.is j) c.step-outcome.ensures.history c.step-outcome.ensures.outcome
+    (subst (λ v. IsJudgedTo c.args.book.now entries v) c.in-Legal.is j) c.step-outcome.ensures.history c.step-outcome.ensures.outcome c.step-outcome.ensures.in_range
     (λ e. false_true (c.if-is_answer.ensures.1 e))
