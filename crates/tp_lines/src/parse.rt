@@ -3,9 +3,10 @@
 ghost use Rattle.std.specs.Prelude.{◌≡◌, ◌<◌, ◌+◌, ◌^◌, ℕ, List, IfErr, IfOk, IsTrue};
 ghost use Rattle.line_grammar.specs.Words.{lacks};
 ghost use Rattle.tp_base.specs.declared.answers.Entry.{Entry};
+ghost use Rattle.tp_base.specs.declared.answers.Outcome.{Outcome};
 ghost use Rattle.tp_base.specs.declared.calls.Call.{Call};
 ghost use Rattle.tp_base.specs.declared.ids.Who.{Who};
-ghost use Rattle.tp_lines.specs.Answers.{EntryLines, IsEntryLine};
+ghost use Rattle.tp_lines.specs.Answers.{EntryLines, FitsOutcome, IsEntryLine, text_of_outcome};
 ghost use Rattle.tp_lines.specs.Calls.{CallLines, IsCallLine};
 ghost use Rattle.tp_lines.specs.Faults.{IsAt, IsEntry, IsLine, IsLineFault};
 
@@ -85,6 +86,11 @@ pub fn one_call_a_line()
 /// A text is the line of at most one entry.
 pub fn one_entry_a_line()
     ensures { (one other : Entry) (text : List ℕ) → EntryLines one text → EntryLines other text → one ≡ other }
+{}
+
+/// Two outcomes with one text are one outcome, where their numbers are in the ranges of the grammar.
+pub fn one_outcome_a_text()
+    ensures { (one other : Outcome) → FitsOutcome one → FitsOutcome other → text_of_outcome one ≡ text_of_outcome other → one ≡ other }
 {}
 
 // The fault of a text that goes along with a line up to the place.
