@@ -1,3 +1,4 @@
+mod Agree
 mod AnswerFacts
 pub mod Bounds
 mod CallFacts

@@ -1,8 +1,9 @@
 -- The rows of calls, and the lines of calls.
-use Rattle.std.specs.Prelude.{◌≡◌, ℕ, ◌+◌, ◌≤◌, List, [], ◌∷◌, ◌++◌, Option, Some, None}
+use Rattle.std.specs.Prelude.{◌≡◌, ℕ, ◌+◌, ◌<◌, ◌≤◌, ◌^◌, List, [], ◌∷◌, ◌++◌, Option, Some, None}
 use Rattle.tp_base.specs.declared.calls.Call.{Call}
 use Rattle.tp_base.specs.declared.calls.Call.TheVariants as call
 use Rattle.tp_base.specs.declared.calls.Environ.{Environ}
+use Rattle.tp_base.specs.declared.calls.Kind.TheVariants.{Work}
 use Rattle.tp_base.specs.declared.ids.Who.{Who}
 use Rattle.tp_base.specs.declared.ids.Who.TheVariants.{Client, Worker}
 use Rattle.tp_lines.specs.declared.parts.Part.{Part}
@@ -44,6 +45,14 @@ IsWhoInRange (Worker number) = (1 ≤ number) × (number ≤ 64)
 -- a line can have the numbers and words of the call
 abbrev pub FitsCall : Call → Type 0
 FitsCall made = AreFit (field.Call ∷ []) (parts_of (row_of made))
+
+-- what besides the ranges of its identities a call needs so that a line can have it: its other numbers are of 32
+-- and 64 bits, and of the kinds of objects those that are built are read
+abbrev pub IsReadable : Call → Type 0
+IsReadable (call.SetMaximum pool value) = value < 2 ^ 32
+IsReadable (call.SetMinimum pool value) = value < 2 ^ 32
+IsReadable (call.Create kind routine context env) = (kind ≡ Work) × (context < 2 ^ 64)
+IsReadable _ = Unit {0}
 
 -- the text is the line of this call by this actor, and a line can have their numbers
 pub record IsCallLine (who : Who) (made : Call) (text : List ℕ) : Type 0 where

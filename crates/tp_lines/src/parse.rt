@@ -6,8 +6,9 @@ ghost use Rattle.tp_base.specs.declared.answers.Entry.{Entry};
 ghost use Rattle.tp_base.specs.declared.answers.Outcome.{Outcome};
 ghost use Rattle.tp_base.specs.declared.calls.Call.{Call};
 ghost use Rattle.tp_base.specs.declared.ids.Who.{Who};
+ghost use Rattle.tp_base.specs.Ranges.{IsCallInRange};
 ghost use Rattle.tp_lines.specs.Answers.{EntryLines, FitsOutcome, IsEntryLine, text_of_outcome};
-ghost use Rattle.tp_lines.specs.Calls.{CallLines, IsCallLine};
+ghost use Rattle.tp_lines.specs.Calls.{CallLines, FitsCall, IsCallLine, IsReadable};
 ghost use Rattle.tp_lines.specs.Faults.{IsAt, IsEntry, IsLine, IsLineFault};
 
 use crate::calls::read_call_line;
@@ -76,6 +77,13 @@ pub fn parse_entry(text: &[u8]) -> Result<Entry, LineFault>
 pub fn lines_hold_no_feed()
     ensures calls { (text : List ℕ) → IsLine text → IsTrue (lacks 10 text) }
     ensures entries { (text : List ℕ) → IsEntry text → IsTrue (lacks 10 text) }
+{}
+
+/// The ranges of the parts of a call are those of the call: a line can have a call that is in range, if its
+/// other numbers have their 32 or 64 bits and its kind is read, and no other.
+pub fn ranges_agree()
+    ensures fits { (call : Call) → FitsCall call → IsCallInRange call }
+    ensures in_range { (call : Call) → IsCallInRange call → IsReadable call → FitsCall call }
 {}
 
 /// A text is the line of at most one call by one actor.
