@@ -115,8 +115,6 @@ impl Book {
         ensures in_range { IsOutcomeInRange result }
         ensures legal { IsLegal self.new.limits self.new.capacity self.new.history }
         ensures laws { KeepsLaws self.new.limits self.new.history }
-        // The numbers of the outcome are those that a line can have.
-        ensures in_range { IsOutcomeInRange result }
     {
         let room = self.room();
         let outcome = self.engine.step(who, call, room);
