@@ -53,7 +53,7 @@ pub entry_apart : (entry : Entry) (line more rest : List ℕ) → IsEntryLine en
 entry_apart entry line more rest h e =
     let arrow = codes " -> " in
     let answer = text_of_answer entry.answer in
-    let call = line_back entry.who entry.call (line_of_call entry.who entry.call) (record { who_in_range = h.who_in_range; call_in_range = h.call_in_range; readable = h.readable; split = refl }) in
+    let call = line_back entry.who entry.call (line_of_call entry.who entry.call) (record { who_in_range = h.who_in_range; call_in_range = h.call_in_range; split = refl }) in
     let start : line_of_call entry.who entry.call ≡ text_of_who entry.who ++ call.back = call.split ∙ ap (λ l. l ++ call.back) call.first.split in
     let behind = (arrow ++ answer) ++ more in
     letter_apart entry.who call.back behind rest
