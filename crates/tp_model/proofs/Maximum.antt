@@ -25,12 +25,8 @@ use Rattle.tp_model.specs.Told.{Deed, deed_by, nothing}
 use Rattle.tp_model.specs.Moves.{Move, Stay, Mark, Attach, Detach, Take, Return, Moves, AreNew, is_new, Leads, IsFree, maximum_at, put}
 use Rattle.tp_model.proofs.Lists.{length_filter_set}
 use Rattle.tp_model.proofs.Callbacks.{length_filter_replaced, pending_not_running}
-use Rattle.tp_model.proofs.Refusals.{numbered_some, false_true}
+use Rattle.tp_model.proofs.Refusals.{numbered_some, false_true, and_false}
 use Rattle.tp_model.proofs.Once.{one_if}
-
-and_false : (b : Bool) → (b && false) ≡ false
-and_false true = refl
-and_false false = refl
 
 and_true : (b : Bool) → (b && true) ≡ b
 and_true true = refl

@@ -3,7 +3,7 @@ use Rattle.std.specs.Prelude.{ℕ, ◌<◌, ◌≤◌, ◌^◌, length}
 use Rattle.std.specs.List.{AllByRecursion}
 use Rattle.tp_base.specs.Ranges.{AreLimitsInRange, IsRoutineInRange, IsResultInRange, IsRefusalInRange, IsAnswerInRange, IsLookInRange}
 use Rattle.tp_base.specs.declared.calls.Call.{Call}
-use Rattle.tp_base.specs.declared.calls.Call.TheVariants.{Create}
+use Rattle.tp_base.specs.declared.calls.Call.TheVariants.{Create, SubmitSimple}
 use Rattle.tp_base.specs.declared.plans.Change.{Change}
 use Rattle.tp_base.specs.declared.plans.Change.TheVariants as change
 use Rattle.tp_base.specs.declared.plans.Plan.{Plan}
@@ -37,6 +37,7 @@ IsChangeInRange _ = Unit {0}
 -- what a call brings besides the numbers of a line that have a range of their own
 abbrev pub IsWide : Call → Type 0
 IsWide (Create kind routine context env) = context < 2 ^ 64
+IsWide (SubmitSimple routine context env) = context < 2 ^ 64
 IsWide _ = Unit {0}
 
 -- all of a world that the numbers of answers and looks come from
