@@ -1,5 +1,5 @@
 -- A world without the callbacks that are over has the same plan for every call, and each change leaves of it what it leaves of the whole one.
-use Rattle.std.proofs.Common.{◌≡◌, ℕ, ◌+◌, ◌-◌, ◌<◌, Bool, true, false, cond, not, ◌&&◌, ◌||◌, ◌==◌, List, [], ◌∷◌, ◌++◌, length, map, slice_get, Option, Some, None, is_some, option_map, nat_lt, nat_le, refl, sym, ap, ap₂, ◌∙◌, filter, find, eqb-true}
+use Rattle.std.proofs.Common.{◌≡◌, ℕ, ◌+◌, ◌-◌, ◌<◌, Bool, true, false, cond, not, ◌&&◌, ◌||◌, ◌==◌, List, [], ◌∷◌, ◌++◌, length, map, slice_get, Option, Some, None, is_some, option_map, nat_lt, nat_le, refl, sym, ap, ap₂, ◌∙◌, filter, find, eqb-true, arith}
 use Rattle.std.specs.List.{range_with_len, list_any}
 use Rattle.std.specs.Option.{option_or, option_map_or}
 use Rattle.std.proofs.lemmas.List.Elements.{filter-append}
@@ -249,14 +249,14 @@ cancel_forget q test only over (c ∷ cs) =
         known false e = e
         known true e = absurd (false_true (sym (over_not_pending c.status dead) ∙ only c e))
 
-over_not_covered : (target : WaitTarget) (cancel : Bool) (c : CallbackRow) → lives c ≡ false → is_covered_by target cancel c ≡ false
+pub over_not_covered : (target : WaitTarget) (cancel : Bool) (c : CallbackRow) → lives c ≡ false → is_covered_by target cancel c ≡ false
 over_not_covered target cancel c e = ap (λ b. b && (is_running c.status || not (cancel && is_object_target target))) (over_not_outstanding target c e)
 
 covered_forget : (w : World) (target : WaitTarget) (cancel : Bool) → covered_of target cancel (cancel_where (is_cancelled_by target cancel) (filter lives w.callbacks)) ≡ covered_of target cancel (cancel_where (is_cancelled_by target cancel) w.callbacks)
 covered_forget w target cancel =
     ap (map (λ (c : CallbackRow). c.number)) (cancel_forget (is_covered_by target cancel) (is_cancelled_by target cancel) (cancelled_pending target cancel) (over_not_covered target cancel) w.callbacks)
 
-over_not_cancelled : (target : WaitTarget) (cancel : Bool) (c : CallbackRow) → lives c ≡ false → is_cancelled_by target cancel c ≡ false
+pub over_not_cancelled : (target : WaitTarget) (cancel : Bool) (c : CallbackRow) → lives c ≡ false → is_cancelled_by target cancel c ≡ false
 over_not_cancelled target cancel c e = ap (λ b. cancel && (b && is_of target c)) (over_not_pending c.status e) ∙ and_false cancel
 
 begun_forget : (w : World) (target : WaitTarget) (cancel : Bool) → answer.Begun (count_covered (forget w) target cancel) (count_cancelled_by (forget w) target cancel) ≡ answer.Begun (count_covered w target cancel) (count_cancelled_by w target cancel)

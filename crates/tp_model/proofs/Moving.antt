@@ -1,5 +1,7 @@
 -- Each change moves callbacks, workers and pools as its entry tells.
-use Rattle.std.proofs.Common.{◌≡◌, ◌≢◌, ℕ, suc, zero, ◌<◌, Bool, true, false, cond, ◌==◌, max, List, [], ◌∷◌, ◌++◌, length, slice_get, slice_set, get_or, Option, Some, None, refl, sym, ap, ◌∙◌, subst, eqb-true, eq-eqb}
+use Rattle.std.proofs.Common.{◌≡◌, ◌≢◌, ℕ, suc, zero, ◌<◌, Bool, true, false, cond, ◌==◌, max, List, [], ◌∷◌, ◌++◌, length, slice_get, slice_set, get_or, Option, Some, None, refl, sym, ap, ◌∙◌, subst, eqb-true, eq-eqb, filter, find, not, ap₂, ◌&&◌}
+use Rattle.tp_base.specs.declared.rows.CallbackRow.{CallbackRow}
+use Rattle.tp_base.specs.declared.ids.Who.TheVariants.{Worker}
 use Rattle.std.specs.Option.{option_map_or}
 use Rattle.std.proofs.lemmas.Option.{slice_get-get_or}
 use Rattle.std.proofs.lemmas.List.{append-nil}
@@ -21,7 +23,7 @@ use Rattle.tp_base.specs.declared.rows.PoolRow.{PoolRow}
 use Rattle.tp_base.specs.declared.rows.Status.{Status}
 use Rattle.tp_base.specs.declared.rows.Status.TheVariants.{Pending}
 use Rattle.tp_model.specs.World.{World, new_pool, unattached, BegunWait}
-use Rattle.tp_model.specs.Counts.{is_pending, is_running}
+use Rattle.tp_model.specs.Counts.{is_pending, is_running, numbered, has_number}
 use Rattle.tp_model.specs.Changes.{change_pool, pool_after, with_pool, marked, changed, replaced, loosened, release_object, new_wait, without_wait}
 use Rattle.tp_model.specs.Conditions.{is_in_wait, is_same_actor}
 use Rattle.tp_model.specs.Waits.{is_of, is_cancelled_by, cancel_where, is_covered_by, wait_of}
@@ -282,13 +284,13 @@ module _ (fresh : ℕ) (w : World) (entry : Entry) where
   change_waits (change.ChangePool pool how) s a by tells = of_row (slice_get w.pools pool.0) (ap (λ (t : Told). t.begun) tells) (ap (λ (t : Told). t.ending) tells)
     where
       of_row : (row : Option PoolRow) → begins_by entry ≡ None → is_ending entry ≡ false → WaitsMove w entry (change_pool w pool.0 how row)
-      of_row None none still = Keep (record { begins = none; ends = still; waits = refl })
-      of_row (Some row) none still = Keep (record { begins = none; ends = still; waits = refl })
+      of_row None none unending = Keep (record { begins = none; ends = unending; waits = refl })
+      of_row (Some row) none unending = Keep (record { begins = none; ends = unending; waits = refl })
   change_waits (change.ReleaseObject object) s a by tells = of_row (numbered w.objects object.0) (ap (λ (t : Told). t.begun) tells) (ap (λ (t : Told). t.ending) tells)
     where
       of_row : (row : Option ObjectRow) → begins_by entry ≡ None → is_ending entry ≡ false → WaitsMove w entry (release_object w object.0 row)
-      of_row None none still = Keep (record { begins = none; ends = still; waits = refl })
-      of_row (Some row) none still = Keep (record { begins = none; ends = still; waits = refl })
+      of_row None none unending = Keep (record { begins = none; ends = unending; waits = refl })
+      of_row (Some row) none unending = Keep (record { begins = none; ends = unending; waits = refl })
   change_waits (change.Mark at Long) s a by tells = waits_same (change.Mark at Long) refl refl tells refl
   change_waits (change.Mark at Loose) s a by tells = waits_same (change.Mark at Loose) refl refl tells refl
   change_waits change.CreatePool s a by tells = waits_same change.CreatePool refl refl tells refl
