@@ -4,6 +4,7 @@ pub mod Cancelling
 pub mod Costs
 pub mod Entries
 mod Examples
+pub mod Fates
 pub mod Forgetting
 pub mod Growing
 mod LawExamples
@@ -13,8 +14,10 @@ pub mod Maximum
 pub mod Meeting
 pub mod Moving
 pub mod Once
+pub mod Places
 pub mod Planning
 pub mod Preserving
 pub mod Ranging
 pub mod Refusals
+pub mod Running
 pub mod Steps
