@@ -17,6 +17,7 @@ pub mod Once
 pub mod Places
 pub mod Planning
 pub mod Preserving
+pub mod Promising
 pub mod Ranging
 pub mod Refusals
 pub mod Running

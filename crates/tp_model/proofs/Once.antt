@@ -26,7 +26,7 @@ use Rattle.tp_model.specs.Moves.{Move, Stay, Mark, Attach, Detach, Take, Return,
 use Rattle.tp_model.specs.Waits.{cancelled as cancelled_row, cancel_where}
 use Rattle.tp_model.proofs.Cancelling.{IsPendingTest, cancelled_if, cancelled_found, length_cancelled, find_cancelled, count_uncancelled, count_cancelled as count_dropped}
 use Rattle.tp_model.proofs.Callbacks.{find_appended, find_replaced, find_replaced_other, length_replaced, length_filter_replaced, kept_found}
-use Rattle.tp_model.proofs.Refusals.{false_true}
+use Rattle.tp_model.proofs.Refusals.{false_true, or_true}
 
 -- ---- what a status says
 
@@ -157,10 +157,6 @@ among_front n xs ys e = list_any-append (λ m. m == n) xs ys ∙ ap (λ b. b || 
 
 among_back : (n : ℕ) (xs : List ℕ) (m : ℕ) → (m == n) ≡ true → is_among n (xs ++ m ∷ []) ≡ true
 among_back n xs m e = list_any-append (λ k. k == n) xs (m ∷ []) ∙ ap (λ b. is_among n xs || (b || false)) e ∙ or_true (is_among n xs)
-  where
-    or_true : (b : Bool) → (b || true) ≡ true
-    or_true true = refl
-    or_true false = refl
 
 -- the rows found for one number are one
 same_row : (n m : ℕ) (x y : CallbackRow) (cs : List CallbackRow) → n ≡ m → find (has_number n) cs ≡ Some x → find (has_number m) cs ≡ Some y → x ≡ y

@@ -77,3 +77,7 @@ is_own_actor (Worker m) = eq-eqb m m refl
 pub and_false : (b : Bool) → (b && false) ≡ false
 and_false true = refl
 and_false false = refl
+
+pub or_true : (b : Bool) → (b || true) ≡ true
+or_true true = refl
+or_true false = refl

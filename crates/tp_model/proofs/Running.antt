@@ -23,12 +23,12 @@ use Rattle.tp_model.proofs.Callbacks.{find_replaced, find_replaced_other, pendin
 use Rattle.tp_model.proofs.Places.{LastPlace, Here, Earlier, last_place, any_last, find_front}
 use Rattle.tp_model.proofs.Refusals.{false_true, is_own_actor}
 
--- the actor is a worker that runs the callback, associated unless it was loosened
-pub record IsRunning (w : World) (who : Who) (run : Run) (loose : Bool) : Type 0 where
+-- among these callbacks the actor is a worker that runs one, associated unless it was loosened
+pub record IsRunning (cs : List CallbackRow) (who : Who) (run : Run) (loose : Bool) : Type 0 where
   pub worker : ℕ
   pub by : who ≡ Worker worker
   pub row : CallbackRow
-  pub found : find (has_number run.number) w.callbacks ≡ Some row
+  pub found : find (has_number run.number) cs ≡ Some row
   pub object : row.object ≡ run.object
   pub associated : Bool
   pub slots : Slots
@@ -38,24 +38,12 @@ pub record IsRunning (w : World) (who : Who) (run : Run) (loose : Bool) : Type 0
 abbrev pub RunsOn : List Entry → World → Type 0
 RunsOn history w =
     (earlier later : List Entry) (entry : Entry) (run : Run) → earlier ++ entry ∷ later ≡ history → run_by entry.answer ≡ Some run → list_any (returns entry.who) later ≡ false
-    → IsRunning w entry.who run (list_any (loosens entry.who) later)
+    → IsRunning w.callbacks entry.who run (list_any (loosens entry.who) later)
 
 -- ---- one entry more
 
--- among these callbacks
-record Found (cs : List CallbackRow) (who : Who) (run : Run) (loose : Bool) : Type 0 where
-  worker : ℕ
-  by : who ≡ Worker worker
-  row : CallbackRow
-  found : find (has_number run.number) cs ≡ Some row
-  object : row.object ≡ run.object
-  associated : Bool
-  slots : Slots
-  status : row.status ≡ Running worker associated slots
-  tied : loose ≡ false → associated ≡ true
-
 -- the row stays as it is
-goes_on : (cs ds : List CallbackRow) (who : Who) (run : Run) (loose after : Bool) (f : Found cs who run loose) → (after ≡ false → loose ≡ false) → find (has_number run.number) ds ≡ Some f.row → Found ds who run after
+goes_on : (cs ds : List CallbackRow) (who : Who) (run : Run) (loose after : Bool) (f : IsRunning cs who run loose) → (after ≡ false → loose ≡ false) → find (has_number run.number) ds ≡ Some f.row → IsRunning ds who run after
 goes_on cs ds who run loose after f quiet found =
     record { worker = f.worker; by = f.by; row = f.row; found = found; object = f.object; associated = f.associated; slots = f.slots; status = f.status; tied = λ e. f.tied (quiet e) }
 
@@ -65,10 +53,7 @@ same_row n m x y cs e fx fy = let both_found : Some y ≡ Some x = sym fy ∙ ap
 same_worker : (m n : ℕ) (a b : Bool) (s t : Slots) → Running m a s ≡ Running n b t → m ≡ n
 same_worker m n a b s t e = cc
 
-module _ (w : World) (entry : Entry) (kept : List CallbackRow) (staff : List WorkerRow) (who : Who) (run : Run) (loose : Bool) (f : Found w.callbacks who run loose) (quiet : returns who entry ≡ false) where
-  after : Bool
-  after = loose || (loosens who entry || false)
-
+module _ (w : World) (entry : Entry) (kept : List CallbackRow) (staff : List WorkerRow) (who : Who) (run : Run) (loose : Bool) (f : IsRunning w.callbacks who run loose) (quiet : returns who entry ≡ false) where
   was_tied : (loose || (loosens who entry || false)) ≡ false → loose ≡ false
   was_tied e = front loose e
     where
@@ -76,25 +61,25 @@ module _ (w : World) (entry : Entry) (kept : List CallbackRow) (staff : List Wor
       front true h = absurd (false_true (sym h))
       front false h = refl
 
-  stays : (ds : List CallbackRow) → find (has_number run.number) ds ≡ Some f.row → Found ds who run (loose || (loosens who entry || false))
+  stays : (ds : List CallbackRow) → find (has_number run.number) ds ≡ Some f.row → IsRunning ds who run (loose || (loosens who entry || false))
   stays ds found = goes_on w.callbacks ds who run loose (loose || (loosens who entry || false)) f was_tied found
 
   -- a row that is put in another's place and is not the row that runs
-  apart : (r : CallbackRow) → (has_number run.number r ≡ true → Found (replaced r w.callbacks) who run (loose || (loosens who entry || false))) → Found (replaced r w.callbacks) who run (loose || (loosens who entry || false))
+  apart : (r : CallbackRow) → (has_number run.number r ≡ true → IsRunning (replaced r w.callbacks) who run (loose || (loosens who entry || false))) → IsRunning (replaced r w.callbacks) who run (loose || (loosens who entry || false))
   apart r here =
-      elim (has_number run.number r) as (λ b. has_number run.number r ≡ b → Found (replaced r w.callbacks) who run (loose || (loosens who entry || false))) [
+      elim (has_number run.number r) as (λ b. has_number run.number r ≡ b → IsRunning (replaced r w.callbacks) who run (loose || (loosens who entry || false))) [
         | true ↦ λ e. here e
         | false ↦ λ e. stays (replaced r w.callbacks) (find_replaced_other r run.number w.callbacks e ∙ f.found)
       ] refl
 
-  kept_running : Move w entry kept staff → Found kept who run (loose || (loosens who entry || false))
+  kept_running : Move w entry kept staff → IsRunning kept who run (loose || (loosens who entry || false))
   kept_running (Stay m) = stays kept (ap (find (has_number run.number)) m.callbacks ∙ f.found)
   kept_running (Attach m) = stays kept (ap (find (has_number run.number)) m.callbacks ∙ f.found)
   kept_running (Detach m) = stays kept (ap (find (has_number run.number)) m.callbacks ∙ f.found)
   kept_running (Cancel m) =
       stays kept (ap (find (has_number run.number)) m.callbacks ∙ find_uncancelled m.test w.callbacks run.number f.row f.found (running_passed m.test m.waits f.row (ap is_running f.status)))
   kept_running (Mark m) =
-      subst (λ cs. Found cs who run (loose || (loosens who entry || false))) (sym m.callbacks)
+      subst (λ cs. IsRunning cs who run (loose || (loosens who entry || false))) (sym m.callbacks)
       (apart m.new (λ e.
       let is : m.new.number ≡ run.number = eqb-true m.new.number run.number e in
       let same : m.old ≡ f.row = same_row run.number m.new.number f.row m.old w.callbacks is f.found m.found in
@@ -110,13 +95,13 @@ module _ (w : World) (entry : Entry) (kept : List CallbackRow) (staff : List Wor
         tied = λ h. f.tied (was_tied h);
       }))
   kept_running (Take m) =
-      subst (λ cs. Found cs who run (loose || (loosens who entry || false))) (sym m.callbacks)
+      subst (λ cs. IsRunning cs who run (loose || (loosens who entry || false))) (sym m.callbacks)
       (apart (taken_row m.callback m.worker) (λ e.
       let is : m.callback.number ≡ run.number = eqb-true m.callback.number run.number e in
       let same : m.callback ≡ f.row = same_row run.number m.callback.number f.row m.callback w.callbacks is f.found m.found in
       absurd (false_true (sym (pending_not_running m.callback.status m.waits) ∙ ap (λ (x : CallbackRow). is_running x.status) same ∙ ap is_running f.status))))
   kept_running (Return m) =
-      subst (λ cs. Found cs who run (loose || (loosens who entry || false))) (sym m.callbacks)
+      subst (λ cs. IsRunning cs who run (loose || (loosens who entry || false))) (sym m.callbacks)
       (apart (returned m.callback) (λ e.
       let is : m.callback.number ≡ run.number = eqb-true m.callback.number run.number e in
       let same : m.callback ≡ f.row = same_row run.number m.callback.number f.row m.callback w.callbacks is f.found m.found in
@@ -124,7 +109,7 @@ module _ (w : World) (entry : Entry) (kept : List CallbackRow) (staff : List Wor
       let own : entry.who ≡ who = m.by ∙ ap (λ k. Worker k) worker ∙ sym f.by in
       absurd (false_true (sym quiet ∙ ap₂ (λ a b. a && b) (ap (λ x. is_same_actor x who) own ∙ is_own_actor who) (ap (λ (d : Deed). d.returned) m.tells)))))
   kept_running (Loosen m) =
-      subst (λ cs. Found cs who run (loose || (loosens who entry || false))) (sym m.callbacks)
+      subst (λ cs. IsRunning cs who run (loose || (loosens who entry || false))) (sym m.callbacks)
       (apart (record m.callback { status = Running m.worker false m.slots }) (λ e.
       let is : m.callback.number ≡ run.number = eqb-true m.callback.number run.number e in
       let same : m.callback ≡ f.row = same_row run.number m.callback.number f.row m.callback w.callbacks is f.found m.found in
@@ -151,11 +136,11 @@ module _ (w : World) (entry : Entry) (kept : List CallbackRow) (staff : List Wor
           always false e = false_true (sym e)
 
 -- a callback that is taken runs
-taken_runs : (w : World) (entry : Entry) (kept : List CallbackRow) (staff : List WorkerRow) (run : Run) → Move w entry kept staff → run_by entry.answer ≡ Some run → Found kept entry.who run false
+taken_runs : (w : World) (entry : Entry) (kept : List CallbackRow) (staff : List WorkerRow) (run : Run) → Move w entry kept staff → run_by entry.answer ≡ Some run → IsRunning kept entry.who run false
 taken_runs w entry kept staff run (Take m) e =
     let told : Some run ≡ Some (run_of m.callback) = sym e ∙ ap (λ (d : Deed). d.run) m.tells in
     let is : run_of m.callback ≡ run = cc in
-    subst (λ r. Found kept entry.who r false) is
+    subst (λ r. IsRunning kept entry.who r false) is
     (record {
       worker = m.worker;
       by = m.actor.by;
@@ -178,37 +163,16 @@ taken_runs w entry kept staff run (Cancel m) e = absurd (let h = sym (ap (λ (d 
 pub runs_on_more : (fresh : ℕ) (before : List Entry) (w : World) (x : Entry) (after : World) → RunsOn before w → Moves fresh w x after → RunsOn (before ++ x ∷ []) after
 runs_on_more fresh before w x after on moves earlier later entry run split takes quiet = of_place (last_place before x earlier entry later split)
   where
-    in_after : (who : Who) (loose : Bool) → Found moves.kept who run loose → IsRunning after who run loose
+    in_after : (who : Who) (loose : Bool) → IsRunning moves.kept who run loose → IsRunning after.callbacks who run loose
     in_after who loose f =
-        record {
-          worker = f.worker;
-          by = f.by;
-          row = f.row;
-          found = ap (find (has_number run.number)) moves.callbacks ∙ find_front run.number moves.kept moves.new f.row f.found;
-          object = f.object;
-          associated = f.associated;
-          slots = f.slots;
-          status = f.status;
-          tied = f.tied;
-        }
+        goes_on moves.kept after.callbacks who run loose loose f (λ e. e) (ap (find (has_number run.number)) moves.callbacks ∙ find_front run.number moves.kept moves.new f.row f.found)
 
-    of_place : LastPlace before x earlier entry later → IsRunning after entry.who run (list_any (loosens entry.who) later)
+    of_place : LastPlace before x earlier entry later → IsRunning after.callbacks entry.who run (list_any (loosens entry.who) later)
     of_place (Here front same none) =
-        subst (λ l. IsRunning after entry.who run (list_any (loosens entry.who) l)) (sym none)
-        (subst (λ (e : Entry). IsRunning after e.who run false) (sym same) (in_after x.who false (taken_runs w x moves.kept after.workers run moves.move (ap (λ (e : Entry). run_by e.answer) (sym same) ∙ takes))))
+        subst (λ l. IsRunning after.callbacks entry.who run (list_any (loosens entry.who) l)) (sym none)
+        (subst (λ (e : Entry). IsRunning after.callbacks e.who run false) (sym same) (in_after x.who false (taken_runs w x moves.kept after.workers run moves.move (ap (λ (e : Entry). run_by e.answer) (sym same) ∙ takes))))
     of_place (Earlier rest back front) =
         let still = any_last (returns entry.who) rest x (ap (list_any (returns entry.who)) (sym back) ∙ quiet) in
-        let old : IsRunning w entry.who run (list_any (loosens entry.who) rest) = on earlier rest entry run front takes still.0 in
-        let f : Found w.callbacks entry.who run (list_any (loosens entry.who) rest) = record {
-          worker = old.worker;
-          by = old.by;
-          row = old.row;
-          found = old.found;
-          object = old.object;
-          associated = old.associated;
-          slots = old.slots;
-          status = old.status;
-          tied = old.tied;
-        } in
-        subst (IsRunning after entry.who run) (sym (list_any-append (loosens entry.who) rest (x ∷ [])) ∙ ap (list_any (loosens entry.who)) (sym back))
-        (in_after entry.who (list_any (loosens entry.who) rest || (loosens entry.who x || false)) (kept_running w x moves.kept after.workers entry.who run (list_any (loosens entry.who) rest) f still.1 moves.move))
+        subst (IsRunning after.callbacks entry.who run) (sym (list_any-append (loosens entry.who) rest (x ∷ [])) ∙ ap (list_any (loosens entry.who)) (sym back))
+        (in_after entry.who (list_any (loosens entry.who) rest || (loosens entry.who x || false))
+        (kept_running w x moves.kept after.workers entry.who run (list_any (loosens entry.who) rest) (on earlier rest entry run front takes still.0) still.1 moves.move))
