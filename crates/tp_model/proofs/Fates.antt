@@ -1,6 +1,7 @@
 -- What becomes of one callback, whatever the move.
-use Rattle.std.proofs.Common.{◌≡◌, ℕ, ◌+◌, ◌≤◌, Bool, true, false, cond, List, Option, Some, None, refl, sym, ap, ◌∙◌, find, ◌⊎◌, inl, inr, eqb-true, subst}
-use Rattle.tp_base.specs.declared.ids.ObjectId.{ObjectId}
+use Rattle.std.proofs.Common.{◌≡◌, ℕ, Bool, true, false, cond, List, Option, Some, None, refl, sym, ap, ◌∙◌, find, ◌⊎◌, inl, inr, eqb-true, subst}
+use Rattle.tp_model.specs.Told.{Deed}
+use Rattle.tp_model.specs.Laws.Entries.{Run, run_by}
 use Rattle.tp_base.specs.declared.answers.Entry.{Entry}
 use Rattle.tp_base.specs.declared.rows.Status.{Status}
 use Rattle.tp_base.specs.declared.rows.Status.TheVariants.{Expected, Issued, Pending, Running, Returned, Cancelled}
@@ -13,10 +14,10 @@ use Rattle.tp_model.specs.Counts.{has_number, is_pending}
 use Rattle.tp_model.specs.Changes.{replaced, taken, returned}
 use Rattle.tp_model.specs.Waits.{is_held_for, cancelled, cancel_where}
 use Rattle.tp_model.specs.Laws.Once.{is_left}
-use Rattle.tp_model.specs.Moves.{Move, Stay, Mark, Attach, Detach, Take, Return, Loosen, Cancel, Moves}
-use Rattle.tp_model.proofs.Cancelling.{cancelled_if, cancelled_found, find_cancelled}
+use Rattle.tp_model.specs.Moves.{Move, Stay, Mark, Attach, Detach, Take, Return, Loosen, Cancel, Moves, run_of}
+use Rattle.tp_model.proofs.Cancelling.{cancelled_found, find_cancelled}
 use Rattle.tp_model.proofs.Callbacks.{find_replaced, find_replaced_other}
-use Rattle.tp_model.proofs.Places.{find_either, new_above}
+use Rattle.tp_model.proofs.Places.{find_either}
 use Rattle.tp_model.proofs.Refusals.{false_true}
 
 -- its operation is announced or under way
@@ -39,7 +40,7 @@ follows_same old new same =
       operating = λ h. ap is_operating (sym same) ∙ h;
     }
 
-pending_held : (target : WaitTarget) (s : Status) → is_pending s ≡ true → is_held_for target s ≡ true
+pub pending_held : (target : WaitTarget) (s : Status) → is_pending s ≡ true → is_held_for target s ≡ true
 pending_held target Pending e = refl
 pending_held target Expected e = refl
 pending_held target Issued e = refl
@@ -133,3 +134,23 @@ row_was fresh w entry after n c moves found = of_either (find_either n moves.kep
     of_either : (find (has_number n) moves.kept ≡ Some c) ⊎ (find (has_number n) moves.new ≡ Some c) → WasRow w n c ⊎ (find (has_number n) moves.new ≡ Some c)
     of_either (inl old) = inl (move_was w entry moves.kept after.workers n c moves.move old)
     of_either (inr new) = inr new
+
+-- the row that is taken
+pub record TakenFrom (w : World) (run : Run) : Type 0 where
+  pub row : CallbackRow
+  pub found : find (has_number run.number) w.callbacks ≡ Some row
+  pub object : row.object ≡ run.object
+  pub waits : is_pending row.status ≡ true
+
+pub taken_from : (w : World) (entry : Entry) (kept : List CallbackRow) (staff : List WorkerRow) (run : Run) → Move w entry kept staff → run_by entry.answer ≡ Some run → TakenFrom w run
+taken_from w entry kept staff run (Take m) e =
+    let told : Some run ≡ Some (run_of m.callback) = sym e ∙ ap (λ (d : Deed). d.run) m.tells in
+    let is : run_of m.callback ≡ run = cc in
+    subst (TakenFrom w) is (record { row = m.callback; found = m.found; object = refl; waits = m.waits })
+taken_from w entry kept staff run (Stay m) e = absurd (let h = sym (ap (λ (d : Deed). d.run) m.tells) ∙ e in cc)
+taken_from w entry kept staff run (Mark m) e = absurd (let h = sym (ap (λ (d : Deed). d.run) m.tells) ∙ e in cc)
+taken_from w entry kept staff run (Attach m) e = absurd (let h = sym (ap (λ (d : Deed). d.run) m.tells) ∙ e in cc)
+taken_from w entry kept staff run (Detach m) e = absurd (let h = sym (ap (λ (d : Deed). d.run) m.tells) ∙ e in cc)
+taken_from w entry kept staff run (Return m) e = absurd (let h = sym (ap (λ (d : Deed). d.run) m.tells) ∙ e in cc)
+taken_from w entry kept staff run (Loosen m) e = absurd (let h = sym (ap (λ (d : Deed). d.run) m.tells) ∙ e in cc)
+taken_from w entry kept staff run (Cancel m) e = absurd (let h = sym (ap (λ (d : Deed). d.run) m.tells) ∙ e in cc)

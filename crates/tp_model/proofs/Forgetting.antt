@@ -199,15 +199,15 @@ over_forget p over low fresh number [] r = refl
 over_forget p over low fresh number (c ∷ cs) r =
     elim (lives c) as (λ t. lives c ≡ t → option_map_or p (find (has_number number) (cond t (c ∷ filter lives cs) (filter lives cs))) false ≡ option_map_or p (cond (has_number number c) (Some c) (find (has_number number) cs)) false) [
       | true ↦ λ _. elim (has_number number c) as (λ b. option_map_or p (cond b (Some c) (find (has_number number) (filter lives cs))) false ≡ option_map_or p (cond b (Some c) (find (has_number number) cs)) false) [
-          | true ↦ refl
-          | false ↦ over_forget p over (c.number + 1) fresh number cs r.1
-        ]
+        | true ↦ refl
+        | false ↦ over_forget p over (c.number + 1) fresh number cs r.1
+      ]
       | false ↦ λ dead. over_forget p over (c.number + 1) fresh number cs r.1 ∙ elim (has_number number c) as (λ b. has_number number c ≡ b → option_map_or p (find (has_number number) cs) false ≡ option_map_or p (cond b (Some c) (find (has_number number) cs)) false) [
-          | true ↦ λ e.
-              let same : c.number ≡ number = eqb-true c.number number e in
-              ap (λ (o : Option CallbackRow). option_map_or p o false) (find_above number (c.number + 1) fresh cs (omega (arith, same)) r.1) ∙ sym (over c dead)
-          | false ↦ λ _. refl
-        ] refl
+        | true ↦ λ e.
+            let same : c.number ≡ number = eqb-true c.number number e in
+            ap (λ (o : Option CallbackRow). option_map_or p o false) (find_above number (c.number + 1) fresh cs (omega (arith, same)) r.1) ∙ sym (over c dead)
+        | false ↦ λ _. refl
+      ] refl
     ] refl
 
 held_forget : (fresh : ℕ) (w : World) (target : WaitTarget) (number : ℕ) → IsSound fresh w → is_held (forget w) target number ≡ is_held w target number

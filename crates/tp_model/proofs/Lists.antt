@@ -136,7 +136,7 @@ any_filter_none {X} test p (x ∷ xs) none =
     elim (test x) as (λ t. (t || list_any test xs) ≡ false → test x ≡ t → list_any test (cond (p x) (x ∷ filter p xs) (filter p xs)) ≡ false) [
       | true ↦ λ h _. absurd cc
       | false ↦ λ h is. elim (p x) as (λ b. list_any test (cond b (x ∷ filter p xs) (filter p xs)) ≡ false) [
-          | true ↦ ap (λ b. b || list_any test (filter p xs)) is ∙ any_filter_none test p xs h
-          | false ↦ any_filter_none test p xs h
-        ]
+        | true ↦ ap (λ b. b || list_any test (filter p xs)) is ∙ any_filter_none test p xs h
+        | false ↦ any_filter_none test p xs h
+      ]
     ] none refl

@@ -1,5 +1,5 @@
 -- Places in a history that is one entry longer, and what is found in longer lists.
-use Rattle.std.proofs.Common.{◌≡◌, ℕ, suc, ◌+◌, ◌<◌, ◌≤◌, Bool, true, false, cond, ◌||◌, ◌==◌, List, [], ◌∷◌, ◌++◌, length, Option, Some, None, refl, sym, ap, ◌∙◌, find, ◌⊎◌, inl, inr, arith, eqb-true, filter}
+use Rattle.std.proofs.Common.{◌≡◌, ℕ, ◌+◌, ◌≤◌, Bool, true, false, cond, ◌||◌, ◌==◌, List, [], ◌∷◌, ◌++◌, Option, Some, None, refl, sym, ap, ◌∙◌, find, ◌⊎◌, inl, inr, arith, eqb-true, filter, ap₂}
 use Rattle.std.specs.List.{list_any}
 use Rattle.std.proofs.lemmas.List.Folds.{list_any-append}
 use Rattle.tp_base.specs.declared.rows.CallbackRow.{CallbackRow}
@@ -137,3 +137,25 @@ waiting_pends fresh n (d ∷ cs) c rows e among =
     behind : has_number n d ≡ false → (b : Bool) → is_pending d.status ≡ b → is_among n (waiting_of cs) ≡ true
     behind other true is = sym (ap (λ b. b || is_among n (waiting_of cs)) other) ∙ among_by true is
     behind other false is = among_by false is
+
+-- ---- places of a whole list
+
+pub find_behind : {X : Type 0} (p : X → Bool) (xs : List X) (x : X) (ys : List X) → find p xs ≡ None → p x ≡ true → find p (xs ++ x ∷ ys) ≡ Some x
+find_behind p [] x ys none passes = ap (λ b. cond b (Some x) (find p ys)) passes
+find_behind {X} p (y ∷ xs) x ys none passes =
+    elim (p y) as (λ b. cond b (Some y) (find p xs) ≡ None → cond b (Some y) (find p (xs ++ x ∷ ys)) ≡ Some x) [
+      | true ↦ λ h. absurd cc
+      | false ↦ λ h. find_behind p xs x ys h passes
+    ] none
+
+pub any_either : {X : Type 0} (p q : X → Bool) (xs : List X) → list_any (λ x. p x || q x) xs ≡ false → (list_any p xs ≡ false) × (list_any q xs ≡ false)
+any_either p q [] e = (refl, refl)
+any_either p q (x ∷ xs) e =
+    let front = neither (p x || q x) (list_any (λ y. p y || q y) xs) e in
+    let here = neither (p x) (q x) front.0 in
+    let rest = any_either p q xs front.1 in
+    (ap₂ (λ a b. a || b) here.0 rest.0, ap₂ (λ a b. a || b) here.1 rest.1)
+
+pub no_place : {X : Type 0} (xs : List X) (x : X) (ys : List X) → xs ++ x ∷ ys ≡ [] → ⊥
+no_place [] x ys e = cc
+no_place (y ∷ xs) x ys e = cc

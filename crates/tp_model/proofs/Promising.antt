@@ -1,5 +1,5 @@
 -- What a wait promises from where it begins: of the callbacks that it speaks of, which may still be run.
-use Rattle.std.proofs.Common.{◌≡◌, ℕ, suc, zero, ◌+◌, ◌<◌, ◌≤◌, Bool, true, false, cond, not, ◌&&◌, ◌||◌, ◌==◌, List, [], ◌∷◌, ◌++◌, length, Option, Some, None, refl, sym, ap, ap₂, ◌∙◌, subst, find, filter, ◌⊎◌, inl, inr, arith, eqb-true, length-append, append-nil}
+use Rattle.std.proofs.Common.{◌≡◌, ℕ, suc, zero, ◌+◌, ◌<◌, ◌≤◌, Bool, true, false, cond, not, ◌&&◌, ◌||◌, ◌==◌, List, [], ◌∷◌, ◌++◌, length, Some, None, refl, sym, ap, ap₂, ◌∙◌, subst, find, filter, ◌⊎◌, inl, inr, arith, eqb-true, length-append, append-nil}
 use Rattle.std.specs.Option.{option_map_or}
 use Rattle.std.proofs.lemmas.Grind.{flat_map-append}
 use Rattle.tp_model.specs.Sound.{IsRising}
@@ -7,7 +7,6 @@ use Rattle.std.proofs.lemmas.List.Folds.{list_any-append}
 use Rattle.std.specs.List.{list_any, range_with_len}
 use Rattle.tp_base.specs.declared.ids.Who.{Who}
 use Rattle.tp_base.specs.declared.ids.ObjectId.{ObjectId}
-use Rattle.tp_base.specs.declared.answers.Answer.{Answer}
 use Rattle.tp_base.specs.declared.answers.Answer.TheVariants.{Ended}
 use Rattle.tp_base.specs.declared.answers.Entry.{Entry}
 use Rattle.tp_base.specs.declared.rows.Status.{Status}
@@ -15,15 +14,15 @@ use Rattle.tp_base.specs.declared.rows.Status.TheVariants.{Expected, Issued, Pen
 use Rattle.tp_base.specs.declared.rows.CallbackRow.{CallbackRow}
 use Rattle.tp_base.specs.declared.rows.WaitTarget.TheVariants.{Object}
 use Rattle.tp_model.specs.World.{World, BegunWait}
-use Rattle.tp_model.specs.Counts.{callback_of, has_number, is_pending, is_running}
-use Rattle.tp_model.specs.Conditions.{is_in_wait, is_same_actor}
+use Rattle.tp_model.specs.Counts.{has_number, is_pending, is_running}
+use Rattle.tp_model.specs.Conditions.{is_same_actor}
 use Rattle.tp_model.specs.Waits.{is_of, is_held_for, is_outstanding_for, is_covered_by, is_held, held, wait_of}
 use Rattle.tp_model.specs.Laws.Once.{is_left}
-use Rattle.tp_model.specs.Laws.Entries.{Run, Begins, begins_by, is_among, is_ending, is_freeing, is_end_call, is_last_answer, is_ended_answer, numbers_made, numbers_queued, queued_by, made_by, started_by}
+use Rattle.tp_model.specs.Laws.Entries.{Run, Begins, begins_by, is_among, is_ending, is_end_call, is_last_answer, is_ended_answer, numbers_made, numbers_queued, queued_by, made_by, started_by}
 use Rattle.tp_model.specs.Laws.Covered.{ends, end_in, is_spoken_of}
-use Rattle.tp_model.specs.Moves.{Moves, Leads, WaitsMove, Keep, Begin, End, BeginsWait, waiting_of}
+use Rattle.tp_model.specs.Moves.{Leads, WaitsMove, Keep, Begin, End}
 use Rattle.tp_model.proofs.Callbacks.{found_bounds}
-use Rattle.tp_model.proofs.Fates.{Follows, WasRow, row_was, is_operating}
+use Rattle.tp_model.proofs.Fates.{WasRow, row_was, is_operating}
 use Rattle.tp_model.proofs.Places.{LastPlace, Here, Earlier, last_place, FoundLast, Before, Now, found_last, none_last, new_above, waiting_above, waiting_pends}
 use Rattle.tp_model.proofs.Once.{AgreesAfter, move_as_many}
 use Rattle.tp_model.proofs.Refusals.{or_true, both, false_true, same_actor_is, is_own_actor, neither}
@@ -191,9 +190,9 @@ module _ (before : List Entry) (w : World) (x : Entry) (after : World) (rising :
                 let other : own d ≡ false = ap (λ a. is_same_actor a who) (same_actor_is d.actor x.who is) ∙ apart in
                 find_others bs apart (sym (ap (λ b. cond b (Some d) (find own bs)) other) ∙ e)
             | false ↦ λ _. elim (own d) as (λ b. cond b (Some d) (find own bs) ≡ Some wait → cond b (Some d) (find own (filter (λ (c : BegunWait). not (is_same_actor c.actor x.who)) bs)) ≡ Some wait) [
-                | true ↦ λ h. h
-                | false ↦ λ h. find_others bs apart h
-              ] e
+              | true ↦ λ h. h
+              | false ↦ λ h. find_others bs apart h
+            ] e
           ] refl
 
       of_move : WaitsMove w x after → wait_of after who ≡ Some wait
@@ -206,7 +205,7 @@ module _ (before : List Entry) (w : World) (x : Entry) (after : World) (rising :
           other true is = absurd (false_true (sym quiet ∙ ap₂ (λ p q. p && q) is m.ends))
 
   -- a wait that ends freely holds none of those that it speaks of
-  freed : (those : Run → Bool) (object : ObjectId) (who : Who) → ((run : Run) → those run ≡ true → (run.object.0 == object.0) ≡ true) → GoesOn those object who w → ends who x ≡ true → x.answer ≡ Ended → NoneHeld those object w
+  pub freed : (those : Run → Bool) (object : ObjectId) (who : Who) → ((run : Run) → those run ≡ true → (run.object.0 == object.0) ≡ true) → GoesOn those object who w → ends who x ≡ true → x.answer ≡ Ended → NoneHeld those object w
   freed those object who about going is_end answer n c found spoken = known (is_held_for (Object object) c.status) refl
     where
       ending : (is_same_actor x.who who ≡ true) × (is_ending x ≡ true)
@@ -232,9 +231,9 @@ module _ (before : List Entry) (w : World) (x : Entry) (after : World) (rising :
           elim (p m) as (λ t. p m ≡ t → cond t (m ∷ filter p xs) (filter p xs) ≡ [] → p n ≡ false) [
             | true ↦ λ _ q. absurd cc
             | false ↦ λ out q. elim (m == n) as (λ b. (m == n) ≡ b → (b || is_among n xs) ≡ true → p n ≡ false) [
-                | true ↦ λ is _. ap p (sym (eqb-true m n is)) ∙ out
-                | false ↦ λ _ r. in_filter p xs q r
-              ] refl h
+              | true ↦ λ is _. ap p (sym (eqb-true m n is)) ∙ out
+              | false ↦ λ _ r. in_filter p xs q r
+            ] refl h
           ] refl e
 
       known : (b : Bool) → is_held_for (Object object) c.status ≡ b → is_held_for (Object object) c.status ≡ false

@@ -1,5 +1,5 @@
 -- The numbers of every answer and look are in range, and each change keeps those of the rows.
-use Rattle.std.proofs.Common.{◌≡◌, ℕ, ◌+◌, ◌-◌, ◌<◌, ◌≤◌, ◌^◌, Bool, true, false, cond, ◌==◌, List, [], ◌∷◌, length, nat_le, slice_get, Option, Some, None, refl, sym, ap, ◌∙◌, subst, arith, find, filter, eqb-true}
+use Rattle.std.proofs.Common.{◌≡◌, ℕ, ◌+◌, ◌-◌, ◌<◌, ◌≤◌, ◌^◌, Bool, true, false, cond, List, [], ◌∷◌, length, nat_le, slice_get, Option, Some, None, refl, sym, ap, ◌∙◌, subst, arith, find, filter, eqb-true}
 use Rattle.tp_base.specs.declared.rows.WaitTarget.TheVariants.{Object}
 use Rattle.std.proofs.lemmas.List.{length-map}
 use Rattle.std.specs.Option.{option_map_or}
@@ -10,7 +10,7 @@ use Rattle.tp_base.specs.declared.rows.WaitTarget.{WaitTarget}
 use Rattle.tp_model.specs.Waits.{cancel_where, is_cancelled_by, cancelled, is_covered_by, held, covered_of, is_outstanding_for, is_held, wait_of}
 use Rattle.std.specs.List.{AllByRecursion}
 use Rattle.std.proofs.lemmas.Bool.{leb-false}
-use Rattle.tp_base.specs.Ranges.{AreLimitsInRange, IsCallInRange, IsRoutineInRange, IsRefusalInRange, IsResultInRange, IsAnswerInRange}
+use Rattle.tp_base.specs.Ranges.{IsCallInRange, IsRoutineInRange, IsRefusalInRange, IsResultInRange, IsAnswerInRange}
 use Rattle.tp_base.specs.declared.ids.Who.{Who}
 use Rattle.tp_base.specs.declared.ids.Who.TheVariants.{Client, Worker}
 use Rattle.tp_base.specs.declared.ids.ObjectId.{ObjectId}
@@ -20,14 +20,12 @@ use Rattle.tp_base.specs.declared.calls.Call.TheVariants.{CreatePool, ClosePool,
 use Rattle.tp_base.specs.declared.answers.Refusal.{Refusal}
 use Rattle.tp_base.specs.declared.answers.Answer.TheVariants as answer
 use Rattle.tp_base.specs.declared.answers.Look.TheVariants as look
-use Rattle.tp_base.specs.declared.answers.TakeResult.TheVariants.{Plain}
 use Rattle.tp_base.specs.declared.plans.WaitEnd.TheVariants as how
 use Rattle.tp_base.specs.declared.plans.Idle.{Idle}
 use Rattle.tp_base.specs.declared.plans.Busy.{Busy}
 use Rattle.tp_base.specs.declared.plans.Mark.{Mark}
 use Rattle.tp_base.specs.declared.plans.Mark.TheVariants.{Long, Loose}
 use Rattle.tp_base.specs.declared.plans.PoolChange.{PoolChange}
-use Rattle.tp_base.specs.declared.plans.PoolChange.TheVariants.{Close, Maximum, Minimum}
 use Rattle.tp_base.specs.declared.plans.Change.{Change}
 use Rattle.tp_base.specs.declared.plans.Change.TheVariants as change
 use Rattle.tp_base.specs.declared.plans.Plan.{Plan}
@@ -40,7 +38,7 @@ use Rattle.tp_model.specs.Counts.{numbered, has_number, maximum, running, next, 
 use Rattle.tp_model.specs.Conditions.{idle_of, busy_of}
 use Rattle.tp_model.specs.Changes.{change_pool, replaced, taken, marked, returned, changed, release_object}
 use Rattle.tp_model.specs.Refusing.{first_refusal, unless_refused}
-use Rattle.tp_model.specs.Calls.Pools.{create_pool_refusals, create_pool_plan, pool_refusals, is_used, close_pool_plan, set_maximum_plan, set_minimum_plan}
+use Rattle.tp_model.specs.Calls.Pools.{create_pool_refusals, create_pool_plan, pool_refusals, close_pool_plan, set_maximum_plan, set_minimum_plan}
 use Rattle.tp_model.specs.Calls.Objects.{create_refusals, new_object, create_plan, close_object_plan, close_object_refusals}
 use Rattle.tp_model.specs.Calls.Work.{submit_work_refusals, submit, submit_work_plan, submit_simple_plan, submit_simple_refusals}
 use Rattle.tp_model.specs.Calls.Workers.{attach_refusals, attach_to, attach_plan, pool_to_join, idle_refusals, may_leave, detach, detach_plan, take_callback, take, take_plan, return_refusals, return, return_plan}
@@ -49,13 +47,11 @@ use Rattle.tp_model.specs.Calls.Clients.{finish_refusals, finish, finish_plan}
 use Rattle.tp_model.specs.Table.{plan_at}
 use Rattle.tp_model.specs.Sound.{IsSound}
 use Rattle.tp_model.specs.Allowed.{IsAllowed}
-use Rattle.tp_model.specs.Safe.{IsSafeChange}
 use Rattle.tp_model.specs.Ranged.{IsObjectInRange, IsCallbackInRange, AreRowsInRange, IsChangeInRange, IsRanged, IsPlanInRange, IsWide}
 use Rattle.tp_model.specs.Remembered.{lives, forget}
 use Rattle.tp_model.proofs.Lists.{all_append, all_filter, all_get, all_map, find_all, all_set, length_filter_le, find_passes}
 use Rattle.tp_model.proofs.Refusals.{NoneHolds, none_holds, numbered_some, false_true}
 use Rattle.tp_model.proofs.Actors.{next_pending, pool_found}
-use Rattle.tp_model.proofs.Steps.{plan_allowed}
 
 -- ---- rows
 
@@ -82,7 +78,6 @@ pool_rows w pool how (Some row) rows = record { objects = rows.objects; callback
 
 mark_rows : (w : World) (mark : Mark) (c : CallbackRow) → find (has_number c.number) w.callbacks ≡ Some c → AreRowsInRange w → AllByRecursion IsCallbackInRange (replaced (marked mark c) w.callbacks)
 mark_rows w Long c found rows = put_row (marked Long c) w.callbacks (same_numbers (marked Long c) c refl refl refl refl refl (found_row c w.callbacks found rows.callbacks)) rows.callbacks
-
 mark_rows w Loose c found rows = put_row (marked Loose c) w.callbacks (same_numbers (marked Loose c) c refl refl refl refl refl (found_row c w.callbacks found rows.callbacks)) rows.callbacks
 
 release_rows : (w : World) (object : ℕ) (row : Option ObjectRow) → numbered w.objects object ≡ row → AreRowsInRange w → AreRowsInRange (release_object w object row)
@@ -128,7 +123,6 @@ covers_within q test (c ∷ cs) =
 
 over_covered : (target : WaitTarget) (cancel : Bool) (c : CallbackRow) → lives c ≡ false → is_covered_by target cancel (cancelled_if (is_cancelled_by target cancel) c) ≡ false
 over_covered target cancel c dead = ap (λ b. is_covered_by target cancel (cond b (cancelled c) c)) (over_not_cancelled target cancel c dead) ∙ over_not_covered target cancel c dead
-
 
 -- no refusal of these lists has a number
 abbrev AreBare : List (Bool × Refusal) → Type 0

@@ -1,5 +1,5 @@
 -- Each callback that was taken and has not returned is run by its worker.
-use Rattle.std.proofs.Common.{◌≡◌, ℕ, ◌+◌, Bool, true, false, ◌&&◌, ◌||◌, List, [], ◌∷◌, ◌++◌, length, Option, Some, None, refl, sym, ap, ◌∙◌, subst, find, eqb-true, ap₂}
+use Rattle.std.proofs.Common.{◌≡◌, ℕ, Bool, true, false, ◌&&◌, ◌||◌, List, [], ◌∷◌, ◌++◌, Some, refl, sym, ap, ◌∙◌, subst, find, eqb-true, ap₂}
 use Rattle.tp_model.specs.Conditions.{is_same_actor}
 use Rattle.std.proofs.lemmas.List.Folds.{list_any-append}
 use Rattle.std.specs.List.{list_any}
@@ -7,14 +7,13 @@ use Rattle.tp_base.specs.declared.ids.Who.{Who}
 use Rattle.tp_base.specs.declared.ids.Who.TheVariants.{Worker}
 use Rattle.tp_base.specs.declared.answers.Entry.{Entry}
 use Rattle.tp_base.specs.declared.rows.Slots.{Slots}
-use Rattle.tp_base.specs.declared.rows.Status.{Status}
 use Rattle.tp_base.specs.declared.rows.Status.TheVariants.{Running}
 use Rattle.tp_base.specs.declared.rows.CallbackRow.{CallbackRow}
 use Rattle.tp_base.specs.declared.rows.WorkerRow.{WorkerRow}
 use Rattle.tp_model.specs.World.{World}
-use Rattle.tp_model.specs.Counts.{has_number, is_pending, is_running}
+use Rattle.tp_model.specs.Counts.{has_number, is_running}
 use Rattle.tp_model.specs.Changes.{replaced, taken as taken_row, returned, no_actions}
-use Rattle.tp_model.specs.Laws.Entries.{Run, run_by, is_returned, is_loosened}
+use Rattle.tp_model.specs.Laws.Entries.{Run, run_by}
 use Rattle.tp_model.specs.Laws.Covered.{returns, loosens}
 use Rattle.tp_model.specs.Told.{Deed}
 use Rattle.tp_model.specs.Moves.{Move, Stay, Mark, Attach, Detach, Take, Return, Loosen, Cancel, Moves, run_of}
@@ -35,8 +34,8 @@ pub record IsRunning (cs : List CallbackRow) (who : Who) (run : Run) (loose : Bo
   pub status : row.status ≡ Running worker associated slots
   pub tied : loose ≡ false → associated ≡ true
 
-abbrev pub RunsOn : List Entry → World → Type 0
-RunsOn history w =
+abbrev pub AreRunning : List Entry → World → Type 0
+AreRunning history w =
     (earlier later : List Entry) (entry : Entry) (run : Run) → earlier ++ entry ∷ later ≡ history → run_by entry.answer ≡ Some run → list_any (returns entry.who) later ≡ false
     → IsRunning w.callbacks entry.who run (list_any (loosens entry.who) later)
 
@@ -160,7 +159,7 @@ taken_runs w entry kept staff run (Return m) e = absurd (let h = sym (ap (λ (d 
 taken_runs w entry kept staff run (Loosen m) e = absurd (let h = sym (ap (λ (d : Deed). d.run) m.tells) ∙ e in cc)
 taken_runs w entry kept staff run (Cancel m) e = absurd (let h = sym (ap (λ (d : Deed). d.run) m.tells) ∙ e in cc)
 
-pub runs_on_more : (fresh : ℕ) (before : List Entry) (w : World) (x : Entry) (after : World) → RunsOn before w → Moves fresh w x after → RunsOn (before ++ x ∷ []) after
+pub runs_on_more : (fresh : ℕ) (before : List Entry) (w : World) (x : Entry) (after : World) → AreRunning before w → Moves fresh w x after → AreRunning (before ++ x ∷ []) after
 runs_on_more fresh before w x after on moves earlier later entry run split takes quiet = of_place (last_place before x earlier entry later split)
   where
     in_after : (who : Who) (loose : Bool) → IsRunning moves.kept who run loose → IsRunning after.callbacks who run loose

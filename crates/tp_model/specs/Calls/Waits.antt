@@ -1,6 +1,6 @@
 -- Waits for callbacks: WaitForThreadpoolWorkCallbacks and its like for the other kinds. BeginWait is the entry of the
 -- function, and End its return.
-use Rattle.std.specs.Prelude.{ℕ, Bool, true, false, not, ◌||◌, ◌&&◌, ◌==◌, nat_lt, List, [], ◌∷◌, length, if◌then◌else◌, is_none, Option, None, Some}
+use Rattle.std.specs.Prelude.{ℕ, Bool, false, not, ◌||◌, ◌&&◌, ◌==◌, nat_lt, List, [], ◌∷◌, length, if◌then◌else◌, is_none, Option, None, Some}
 use Rattle.std.specs.List.{filter, list_any}
 use Rattle.std.specs.Option.{option_map_or}
 use Rattle.tp_base.specs.declared.ids.Who.{Who}
@@ -20,7 +20,7 @@ use Rattle.tp_base.specs.declared.rows.CallbackRow.{CallbackRow}
 use Rattle.tp_model.specs.World.{World, BegunWait}
 use Rattle.tp_model.specs.Counts.{attached, callback_of, is_pending}
 use Rattle.tp_model.specs.Conditions.{is_actor, is_finished, is_without_callback, is_in_wait, is_object, is_object_of, is_released, runs_own}
-use Rattle.tp_model.specs.Waits.{is_of, is_held, is_cancelled_by, cancel_where, covered_of, wait_of, held}
+use Rattle.tp_model.specs.Waits.{is_cancelled_by, cancel_where, covered_of, wait_of, held}
 use Rattle.tp_model.specs.Refusing.{first_refusal, unless_refused}
 
 -- ---- BeginWait
