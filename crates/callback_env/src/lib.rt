@@ -4,6 +4,13 @@
 //! `initialize` and changed by four setters, each of which sets its own fields alone; `plain` hands
 //! it out. After `initialize`, `set_pool(PoolId(2))` and `set_runs_long` it has pool 2, no cleanup
 //! group, the priority Normal and the long mark. None of the calls takes memory.
+//!
+//! ```text
+//! let mut env = CallbackEnviron::initialize();    // p0 normal short g0 q0
+//! env.set_pool(PoolId(2));
+//! env.set_runs_long();
+//! env.plain()                                     // p2 normal long g0 q0
+//! ```
 
 #![tactic(auto)]
 

@@ -1,6 +1,6 @@
 -- What a look or an edit by number comes to, where the place of the number is known.
-use Rattle.std.proofs.Common.{◌≡◌, ◌≢◌, ℕ, ◌<◌, ◌≤◌, List, [], ◌∷◌, length, get_or, set, Some, None, map, if◌then◌else◌, arith, refl, suc, zero}
-use Rattle.std.specs.Prelude.{◌==◌, find, filter, not, nat_lt}
+use Rattle.std.proofs.Common.{◌≡◌, ◌≢◌, ℕ, ◌<◌, ◌≤◌, List, [], ◌∷◌, length, get_or, set, Option, Some, None, OnSome, IsSome, map, if◌then◌else◌, true, arith, refl, sym, ap, ◌∙◌, suc, zero}
+use Rattle.std.specs.Prelude.{◌==◌, find, filter, is_some, not, nat_lt}
 use Rattle.std.specs.List.{All, remove, slice_get}
 use Rattle.std.specs.List.Sorted.{IsPartitionPoint}
 use Rattle.std.proofs.lemmas.Bool.Decides.{nat_tests}
@@ -49,6 +49,10 @@ module _ (n : ℕ) where
   find_present (c ∷ rows) (suc i) d place =
       grind (arith, nat_tests, place.others 0 d (omega arith) (omega arith), find_present rows i d (place_in_rest c rows i place))
 
+  pub is_present : (rows : List CallbackRow) (i : ℕ) → IsPlaceOf rows n i → is_some (find (λ c. c.number == n) rows) ≡ true
+  is_present [] i place = absurd (omega (arith, place.within))
+  is_present (c ∷ rows) i place = ap is_some (find_present (c ∷ rows) i c place)
+
   pub map_present : (y : CallbackRow) (rows : List CallbackRow) (i : ℕ) → IsPlaceOf rows n i → map (λ c. if c.number == n then y else c) rows ≡ set rows i y
   map_present y [] i place = absurd (omega (arith, place.within))
   map_present y (c ∷ rows) zero place = grind (arith, nat_tests, place.here y, map_absent y rows (absent_after_first c rows place))
@@ -60,6 +64,11 @@ module _ (n : ℕ) where
   filter_present (c ∷ rows) zero place = grind (arith, nat_tests, place.here c, filter_absent rows (absent_after_first c rows place))
   filter_present (c ∷ rows) (suc i) place =
       grind (arith, nat_tests, place.others 0 c (omega arith) (omega arith), filter_present rows i (place_in_rest c rows i place))
+
+  -- a removal at the place takes the row out
+  pub removed : (rows now : List CallbackRow) (i : ℕ) (row : Option CallbackRow) → IsPlaceOf rows n i → OnSome row (now ≡ remove rows i) → (i < length rows → IsSome row) → now ≡ filter (λ c. not (c.number == n)) rows
+  removed rows now i (Some _) place left there = left ∙ sym (filter_present rows i place)
+  removed rows now i None place left there = let none = there place.within in cc
 
   -- the first number above n stands where those up to n end
   pub find_above : (rows : List CallbackRow) (i : ℕ) → i ≤ length rows → IsPartitionPoint (λ (c : CallbackRow). c.number ≤ n) (λ (c : CallbackRow). n < c.number) rows i

@@ -1,6 +1,6 @@
 -- What a list of rows keeps between calls.
 use Rattle.std.specs.Prelude.{◌<◌, ◌≤◌, ◌^◌}
-use Rattle.std.specs.Vec.{vec_capacity, vec_len}
+use Rattle.std.specs.VecDeque.{deque_capacity, deque_len}
 use Rattle.callback_rows.specs.LiveCallbacks.{IsRising}
 use Rattle.callback_rows.specs.declared.CallbackRows.TheInside.{Inside}
 
@@ -8,5 +8,5 @@ use Rattle.callback_rows.specs.declared.CallbackRows.TheInside.{Inside}
 pub record IsReserved (a : Inside) : Type 0 where
   pub rising : IsRising a.rows.items
   pub fits : a.slots < 2 ^ 32
-  pub limited : vec_len a.rows ≤ a.slots
-  pub reserved : a.slots ≤ vec_capacity a.rows
+  pub limited : deque_len a.rows ≤ a.slots
+  pub reserved : a.slots ≤ deque_capacity a.rows

@@ -4,8 +4,9 @@
 //! is made last in its series, so `push` appends its row; `replace` writes the row of a callback
 //! that moved on, and `remove` takes out one that has ended. `find` gives the row of a number, and
 //! `after` the row that follows a number, so that a caller goes along the list by its numbers.
-//! The rows rise by number, so a number is found by halving. After `push` of the rows 2, 5 and 9 and
-//! `remove(2)`, `find(2)` is None, and `after(2)` is the row 5.
+//! The rows rise by number, so a number is found by halving. `remove` then moves the rows behind the
+//! one that leaves or those before it, whichever are fewer; no other call moves a row. After `push`
+//! of the rows 2, 5 and 9 and `remove(2)`, `find(2)` is None, and `after(2)` is the row 5.
 
 #![tactic(auto)]
 
@@ -13,6 +14,7 @@ ghost use Rattle.std.specs.Prelude.{◌≡◌, ◌<◌, ◌≤◌, ◌==◌, ◌
 ghost use Rattle.callback_rows.specs.LiveCallbacks.{IsRising};
 
 use std::alloc::{AllocError, Global};
+use std::collections::VecDeque;
 use std::marker::Model;
 use tp_base::rows::CallbackRow;
 
@@ -24,7 +26,7 @@ use places::{first_above, place_of};
 #[derive(Drop)]
 pub struct CallbackRows {
     slots: u32,
-    rows: Vec<CallbackRow>,
+    rows: VecDeque<CallbackRow>,
 }
 
 impl Model for CallbackRows {
@@ -46,7 +48,7 @@ impl CallbackRows {
     pub fn open(alloc: Global, slots: u32) -> Result<CallbackRows, AllocError>
         ensures { IfOk result (λ live. live ≡ record { slots = slots; rows = [] }) }
     {
-        let rows = Vec::with_capacity(alloc, slots as usize)?;
+        let rows = VecDeque::with_capacity(alloc, slots as usize)?;
         Ok(CallbackRows { slots, rows })
     }
 
@@ -83,7 +85,7 @@ impl CallbackRows {
         requires last { All (λ c. c.number < row.number) self.old.rows }
         ensures { self.new ≡ record self.old { rows = self.old.rows ++ row ∷ [] } }
     {
-        self.rows.push_reserved(row);
+        self.rows.push_back_reserved(row);
     }
 
     /// Writes this row in the place of the one of its number.

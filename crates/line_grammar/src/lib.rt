@@ -12,6 +12,13 @@
 //!
 //! The fault of a text is the longest front that it shares with a text of the language (`IsFault`); that of
 //! many lines is the first fault of one (`IsTraceFault`). `proofs` has the laws by which readers join.
+//!
+//! ```text
+//! read_number(b"12 3", 0, 65_535)              // Ok((12, 2)): the value, and the size of its text
+//! read_number(b"65536", 0, 65_535)             // Ok((6553, 4)): no number goes on by that 6
+//! read_number(b"5", 16, 131_072)               // Err(1): it may go on, and is none yet
+//! read_word(2, "set-timer-ex", b"set-timer-e") // Err(11)
+//! ```
 
 #![tactic(auto)]
 

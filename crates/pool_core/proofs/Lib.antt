@@ -1,6 +1,2 @@
 pub mod Counting
-pub mod Keeping
-pub mod Queued
-pub mod Refusing
-pub mod Showing
-pub mod Using
+pub mod Stepping

@@ -1,5 +1,2 @@
-pub mod Actors
-pub mod Kept
-pub mod Parts
-pub mod Uses
+pub mod Entered
 pub mod View

@@ -1,15 +1,16 @@
--- What an engine remembers, of the parts inside it.
+-- What an engine remembers, and what it counts.
+use Rattle.std.specs.Prelude.{◌≡◌, ◌+◌, ◌*◌, ◌≤◌}
+use Rattle.tp_model.specs.Counts.{owed}
+use Rattle.tp_model.specs.Ranged.{AreRowsInRange}
 use Rattle.tp_model.specs.Remembered.{Remembered}
-use Rattle.pool_core.specs.Kept.{AreKept}
-use Rattle.pool_core.specs.Parts.{world_of}
 use Rattle.pool_core.specs.declared.Engine.TheInside.{Inside}
 
 abbrev pub remembered : Inside → Remembered
-remembered a = record {
-  world = world_of a.limits a.pools a.objects a.callbacks.rows a.clients.items;
-  made = a.made;
-  age = a.age;
-}
+remembered a = record { world = a.live.world; made = a.live.made; age = a.age }
 
-abbrev pub IsEngine : Inside → Type 0
-IsEngine a = AreKept a.limits a.pools a.objects a.callbacks a.queues a.clients.items a.made a.owed a.age
+-- what is owed is counted, with no more steps than can be counted the numbers fit, and the rows are in range
+pub record IsEngine (a : Inside) : Type 0 where
+  pub owes : a.owed ≡ owed a.live.world
+  pub few_made : a.live.made ≤ a.age * 65536
+  pub few_owed : a.owed ≤ 65536 + a.age * 65536
+  pub rows : AreRowsInRange a.live.world

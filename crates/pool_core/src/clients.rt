@@ -1,62 +1,34 @@
-//! Clients: when one has made its last call.
+//! Calls of clients: a client makes no further call.
 
-ghost use Rattle.std.specs.Prelude.{◌≡◌, ◌^◌, ◌<◌, IfOk, false, replicate};
-ghost use Rattle.tp_base.specs.declared.ids.Who.TheVariants.{Client};
-ghost use Rattle.tp_model.specs.World.{unfinished};
-ghost use Rattle.tp_model.specs.Conditions.{is_worker};
-ghost use Rattle.tp_model.specs.Step.{first_refusal};
-ghost use Rattle.tp_model.specs.Rows.{finish_refusals};
-ghost use Rattle.tp_model.specs.Remembered.{step_of, Goes};
+ghost use Rattle.std.specs.Prelude.{◌≡◌};
+ghost use Rattle.tp_model.specs.Calls.Clients.{finish_plan};
 
-use crate::Engine;
-use crate::refusals::{first_of, refused};
-use std::alloc::{AllocError, Global};
-use tp_base::answers::{Answer, Outcome, Refusal};
-use tp_base::calls::Call;
+use crate::refusals::first_of;
+use live_world::LiveWorld;
+use tp_base::answers::{Answer, Refusal};
 use tp_base::ids::Who;
-use tp_base::rows::ClientRow;
+use tp_base::plans::{Change, Plan};
 
-/// The number of a client.
-fn client_number(who: Who) -> u32
-    requires { is_worker who ≡ false }
-    ensures { who ≡ Client result }
+/// A client makes no further call.
+#[tactic(auto, unfolding(tp_model::specs::Calls::Clients::finish_plan))]
+pub(crate) fn finish(world: &LiveWorld, who: Who) -> Plan
+    ensures { result ≡ finish_plan world.now.world who }
 {
+    let actor = world.actor(who);
+    let refusal = first_of(&[
+        (!actor.exists, Refusal::NoSuch),
+        (actor.is_worker, Refusal::WrongKind),
+        (actor.finished, Refusal::Released),
+        (actor.in_wait, Refusal::InWait),
+    ]);
+    if let Some(refusal) = refusal {
+        return Plan::Refused(refusal);
+    }
     match who {
-        Who::Client(number) => number,
-        Who::Worker(_) => unreachable!(),
-    }
-}
-
-/// The rows of so many clients, none of which has finished.
-pub(crate) fn open_clients(alloc: Global, clients: u32) -> Result<Vec<ClientRow>, AllocError>
-    ensures { IfOk result (λ rows. rows.items ≡ replicate clients unfinished) }
-{
-    vec![in alloc; ClientRow { finished: false }; clients as usize]
-}
-
-impl Engine {
-    fn finish_refusal(&self, who: Who) -> Option<Refusal>
-        ensures { result ≡ first_refusal (finish_refusals self.now.world who) }
-    {
-        let actor = self.actor(who);
-        first_of(&[
-            (!actor.exists, Refusal::NoSuch),
-            (actor.is_worker, Refusal::WrongKind),
-            (actor.finished, Refusal::Released),
-            (actor.in_wait, Refusal::InWait),
-        ])
-    }
-
-    /// Ends the calls of a client.
-    pub(crate) fn finish(&mut self, who: Who, room: u64) -> Outcome
-        requires { self.old.age < 2 ^ 47 }
-        ensures { Goes self.old self.new (step_of self.old room who Call.Finish) result }
-    {
-        match self.finish_refusal(who) {
-            Some(refusal) => return refused(refusal, room),
-            None => {}
-        }
-        self.finish_client(client_number(who));
-        Outcome::Done(Answer::Done)
+        Who::Client(client) => Plan::Does {
+            answer: Answer::Done,
+            change: Change::Finish { client },
+        },
+        Who::Worker(_) => Plan::Refused(Refusal::WrongKind),
     }
 }

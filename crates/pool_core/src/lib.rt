@@ -1,43 +1,51 @@
 //! The engine of the thread pool machine: it remembers of the world what can still matter, and
 //! answers each call as the machine does.
 //!
+//! ```text
+//! let mut engine = Engine::open(alloc, limits)?;         // of one client
+//! engine.owed()                                          // 1: the client has to finish
+//! engine.step(Who::Client(1), Call::CreatePool, 100)     // Done(Made { number: 1 })
+//! engine.step(Who::Worker(1), Call::Take, 100)           // Done(Refused(NotAttached))
+//! engine.step(Who::Worker(1), Call::Attach, 100)         // Look(NoNeed)
+//! engine.age()                                           // 1: one call was accepted
+//! ```
+//!
 //! `open` takes all memory; `step` makes a call of an actor; `owed` is the number of entries for
 //! which the history must keep room; `age` is the number of steps that were accepted. What an
 //! engine remembers is a world without the callbacks that are over (`Remembered` of `tp_model`):
 //! where it stands for a world, its outcome is that of the machine's step there, and then it stands
 //! for the world after the step.
 //!
-//! Each call is two functions: one that only reads and finds the first refusal that applies, and one
-//! that does what the call does. The indexes and counters (queues, tallies, entries owed) change in
-//! `moves` alone.
+//! Each call is one function that only reads: it gives the call's plan, which is a refusal, a look,
+//! or an answer with the change that goes with it. `step` alone asks whether the history has room
+//! for what that costs, and applies the change.
 
 #![tactic(auto)]
 
-ghost use Rattle.std.specs.Prelude.{◌≡◌, ◌^◌, ◌<◌, IfOk};
-ghost use Rattle.tp_base.specs.Ranges.{AreLimitsInRange, IsCallInRange};
+ghost use Rattle.std.specs.Prelude.{◌≡◌, ◌+◌, ◌^◌, ◌<◌, ◌≤◌, IfOk, IfSome};
+ghost use Rattle.tp_base.specs.Ranges.{AreLimitsInRange, IsCallInRange, IsAnswerInRange, IsOutcomeInRange};
 ghost use Rattle.tp_model.specs.World.{World, opening};
 ghost use Rattle.tp_model.specs.Counts.{owed};
+ghost use Rattle.tp_model.specs.Changes.{changed};
+ghost use Rattle.tp_model.specs.Allowed.{IsAllowed};
+ghost use Rattle.tp_model.specs.Ranged.{IsChangeInRange};
 ghost use Rattle.tp_model.specs.Table.{step};
-ghost use Rattle.tp_model.specs.Remembered.{StandsFor, Meets};
+ghost use Rattle.tp_model.specs.Remembered.{StandsFor, Meets, remembered_in};
 
-use callback_rows::CallbackRows;
-use handle_table::Rows;
-use objects::Object;
-use pool_rows::PoolRows;
-use prio_queue::Queues;
+use live_world::LiveWorld;
+use plans::{plan, price};
 use std::alloc::{AllocError, Global};
 use std::marker::Model;
-use tp_base::answers::Outcome;
+use tp_base::answers::{Answer, Outcome};
 use tp_base::calls::Call;
 use tp_base::ids::Who;
 use tp_base::limits::Limits;
-use tp_base::rows::ClientRow;
+use tp_base::plans::{Change, Plan};
 
-mod actors;
 mod clients;
 mod in_callback;
-mod moves;
 mod objects;
+mod plans;
 mod pools;
 mod refusals;
 mod work;
@@ -46,13 +54,7 @@ mod workers;
 /// A machine that is being played.
 #[derive(Drop)]
 pub struct Engine {
-    limits: Limits,
-    pools: PoolRows,
-    objects: Rows<Object>,
-    callbacks: CallbackRows,
-    queues: Queues,
-    clients: Vec<ClientRow>,
-    made: u64,
+    live: LiveWorld,
     owed: u64,
     age: u64,
 }
@@ -70,6 +72,8 @@ impl Model for Engine {
 }
 
 impl Engine {
+    ghost use Rattle.pool_core.specs.Entered.{cost_of, entered};
+
     /// Opens the engine of a machine with these limits, before its first call.
     ///
     /// It takes all the memory that the engine will ever need; an `AllocError` comes where that
@@ -79,19 +83,8 @@ impl Engine {
         ensures stands { IfOk result (λ engine. StandsFor engine (opening limits)) }
         ensures age { IfOk result (λ engine. engine.age ≡ 0) }
     {
-        let pools = PoolRows::open(alloc, limits.pools, limits.workers)?;
-        let objects = Rows::open(alloc, limits.objects)?;
-        let callbacks = CallbackRows::open(alloc, limits.slots)?;
-        let queues = Queues::open(alloc, limits.pools, limits.slots)?;
-        let clients = clients::open_clients(alloc, limits.clients)?;
         Ok(Engine {
-            limits,
-            pools,
-            objects,
-            callbacks,
-            queues,
-            clients,
-            made: 0,
+            live: LiveWorld::open(alloc, limits)?,
             owed: u64::from(limits.clients),
             age: 0,
         })
@@ -105,27 +98,50 @@ impl Engine {
     pub fn step(&mut self, who: Who, call: Call, room: u64) -> Outcome
         requires in_range { IsCallInRange call }
         requires young { self.old.age < 2 ^ 47 }
-        ensures { (w : World) → StandsFor self.old w → Meets self.old self.new w (step w room who call) result }
+        ensures meets { (w : World) → StandsFor self.old w → Meets self.old self.new w (step w room who call) result }
+        ensures in_range { IsOutcomeInRange result }
     {
-        match call {
-            Call::CreatePool => self.create_pool(who, room),
-            Call::ClosePool { pool } => self.close_pool(who, pool, room),
-            Call::SetMaximum { pool, value } => self.set_maximum(who, pool, value, room),
-            Call::SetMinimum { pool, value } => self.set_minimum(who, pool, value, room),
-            Call::Create {
-                kind,
-                routine,
-                context,
-                env,
-            } => self.create(who, kind, routine, context, env, room),
-            Call::SubmitWork { object } => self.submit_work(who, object, room),
-            Call::Attach => self.attach(who, room),
-            Call::Detach => self.detach(who, room),
-            Call::Take => self.take(who, room),
-            Call::Return => self.return_callback(who, room),
-            Call::MayRunLong => self.may_run_long(who, room),
-            Call::Finish => self.finish(who, room),
+        self.live.is_reachable();
+        match plan(&self.live, who, call, room) {
+            Plan::Looked(look) => Outcome::Look(look),
+            Plan::Refused(refusal) => self.enter(Answer::Refused(refusal), None, room),
+            Plan::Does { answer, change } => self.enter(answer, Some(change), room),
         }
+    }
+
+    // Makes a change for an answer, where the history has room for what they cost.
+    fn enter(&mut self, answer: Answer, change: Option<Change>, room: u64) -> Outcome
+        requires allowed { IfSome change (IsAllowed (self.old.made + 1) self.old.world) }
+        requires answer_in_range { IsAnswerInRange answer }
+        requires change_in_range { IfSome change IsChangeInRange }
+        requires young { self.old.age < 2 ^ 47 }
+        ensures full { room < cost_of change → result ≡ Outcome.Full room (cost_of change) }
+        ensures unchanged { room < cost_of change → self.new ≡ self.old }
+        ensures done { cost_of change ≤ room → result ≡ Outcome.Done answer }
+        ensures entered { cost_of change ≤ room → self.new ≡ entered self.old change }
+        ensures in_range { IsOutcomeInRange result }
+    {
+        let cost = change.map_or(1, price);
+        if room < cost {
+            return Outcome::Full { room, cost };
+        }
+        if let Some(change) = change {
+            self.apply(change);
+        }
+        Outcome::Done(answer)
+    }
+
+    // Makes a change that the world allows, and counts what the history owes and the age.
+    fn apply(&mut self, change: Change)
+        requires allowed { IsAllowed (self.old.made + 1) self.old.world change }
+        requires in_range { IsChangeInRange change }
+        requires young { self.old.age < 2 ^ 47 }
+        ensures { self.new ≡ remembered_in self.old (changed self.old.world change) }
+    {
+        self.live.is_reachable();
+        self.owed = self.owed + price(change) - 1;
+        self.age += 1;
+        self.live.apply(change);
     }
 
     /// The number of entries for which the history must keep room: each running callback returns,

@@ -1,165 +1,104 @@
-//! Pools: `CreateThreadpool`, `CloseThreadpool`, `SetThreadpoolThreadMaximum` and
+//! Calls on pools: `CreateThreadpool`, `CloseThreadpool`, `SetThreadpoolThreadMaximum` and
 //! `SetThreadpoolThreadMinimum`.
 
-ghost use Rattle.std.specs.Prelude.{◌≡◌, ◌^◌, ◌<◌, not, ◌&&◌, ◌==◌, length};
-ghost use Rattle.std.specs.List.{list_any};
-ghost use Rattle.pool_core.specs.Uses.{is_bound, is_at_work};
-ghost use Rattle.tp_model.specs.Counts.{is_live};
-ghost use Rattle.tp_model.specs.Step.{first_refusal};
-ghost use Rattle.tp_model.specs.Rows.{create_pool_refusals, pool_refusals, is_used};
-ghost use Rattle.tp_model.specs.Remembered.{step_of, Goes};
+ghost use Rattle.std.specs.Prelude.{◌≡◌};
+ghost use Rattle.tp_model.specs.Refusing.{first_refusal};
+ghost use Rattle.tp_model.specs.Calls.Pools.{pool_refusals, create_pool_plan, close_pool_plan, set_maximum_plan, set_minimum_plan};
 
-use crate::Engine;
-use crate::objects::Object;
-use crate::refusals::{either, first_of, refused};
-use handle_table::Found;
-use pool_rows::Counts;
-use tp_base::answers::{Answer, Outcome, Refusal};
-use tp_base::calls::Call;
+use crate::refusals::{either, first_of};
+use live_world::LiveWorld;
+use tp_base::answers::{Answer, Refusal};
 use tp_base::ids::{PoolId, Who};
+use tp_base::plans::{Change, Plan, PoolChange};
 
-// An object that isn't released is bound to the pool.
-fn is_bound_to(pool: PoolId, found: Found<'_, Object>) -> bool
-    ensures { result ≡ is_bound pool.0 found.entry }
+/// Makes a pool.
+#[tactic(auto, unfolding(tp_model::specs::Calls::Pools::create_pool_plan))]
+pub(crate) fn create_pool(world: &LiveWorld, who: Who) -> Plan
+    ensures { result ≡ create_pool_plan world.now.world who }
 {
-    match found {
-        Found::Live(object) => object.env.pool.0 == pool.0,
-        Found::Absent | Found::Released(_) => false,
+    let actor = world.actor(who);
+    let refusal = first_of(&[
+        (!actor.exists, Refusal::NoSuch),
+        (actor.finished, Refusal::Released),
+        (actor.is_idle, Refusal::NotRunning),
+        (actor.in_wait, Refusal::InWait),
+        (world.lacks_pool(), Refusal::ObjectLimit),
+    ]);
+    if let Some(refusal) = refusal {
+        return Plan::Refused(refusal);
+    }
+    Plan::Does {
+        answer: Answer::Made {
+            number: world.next_pool(),
+        },
+        change: Change::CreatePool,
     }
 }
 
-// So many callbacks of a pool wait, or some of them run.
-fn is_busy(waiting: u32, counts: Option<Counts>) -> bool
-    ensures { result ≡ is_at_work waiting counts }
+// A pool that is closed or the default pool can't be closed or changed.
+fn pool_refusal(world: &LiveWorld, who: Who, pool: PoolId) -> Option<Refusal>
+    ensures { result ≡ first_refusal (pool_refusals world.now.world who pool.0) }
 {
-    match counts {
-        Some(counts) => 0 < waiting || 0 < counts.running,
-        None => false,
+    let actor = world.actor(who);
+    first_of(&[
+        (either(!actor.exists, !world.is_pool(pool)), Refusal::NoSuch),
+        (actor.finished, Refusal::Released),
+        (world.is_closed_pool(pool), Refusal::PoolClosed),
+        (pool.0 == 0, Refusal::DefaultPool),
+        (actor.is_idle, Refusal::NotRunning),
+        (actor.in_wait, Refusal::InWait),
+    ])
+}
+
+/// Closes a pool.
+#[tactic(auto, unfolding(tp_model::specs::Calls::Pools::close_pool_plan))]
+pub(crate) fn close_pool(world: &LiveWorld, who: Who, pool: PoolId) -> Plan
+    ensures { result ≡ close_pool_plan world.now.world who pool }
+{
+    match pool_refusal(world, who, pool) {
+        Some(refusal) => Plan::Refused(refusal),
+        None => Plan::Does {
+            answer: Answer::Closed {
+                later: world.is_used(pool),
+            },
+            change: Change::ChangePool {
+                pool,
+                how: PoolChange::Close,
+            },
+        },
     }
 }
 
-impl Engine {
-    fn create_pool_refusal(&self, who: Who) -> Option<Refusal>
-        ensures { result ≡ first_refusal (create_pool_refusals self.now.world who) }
-    {
-        let actor = self.actor(who);
-        let is_full = self.limits.pools <= self.pools.pools();
-        first_of(&[
-            (!actor.exists, Refusal::NoSuch),
-            (actor.finished, Refusal::Released),
-            (actor.is_idle, Refusal::NotRunning),
-            (actor.in_wait, Refusal::InWait),
-            (is_full, Refusal::ObjectLimit),
-        ])
+/// Sets how many callbacks of a pool may run at once.
+#[tactic(auto, unfolding(tp_model::specs::Calls::Pools::set_maximum_plan))]
+pub(crate) fn set_maximum(world: &LiveWorld, who: Who, pool: PoolId, value: u32) -> Plan
+    ensures { result ≡ set_maximum_plan world.now.world who pool value }
+{
+    match pool_refusal(world, who, pool) {
+        Some(refusal) => Plan::Refused(refusal),
+        None => Plan::Does {
+            answer: Answer::Done,
+            change: Change::ChangePool {
+                pool,
+                how: PoolChange::Maximum(value),
+            },
+        },
     }
+}
 
-    /// Makes a pool.
-    pub(crate) fn create_pool(&mut self, who: Who, room: u64) -> Outcome
-        requires { self.old.age < 2 ^ 47 }
-        ensures { Goes self.old self.new (step_of self.old room who Call.CreatePool) result }
-    {
-        match self.create_pool_refusal(who) {
-            Some(refusal) => return refused(refusal, room),
-            None => {}
-        }
-        if room < 1 {
-            return Outcome::Full { room, cost: 1 };
-        }
-        let pool = self.add_pool();
-        Outcome::Done(Answer::Made { number: pool.0 })
-    }
-
-    fn pool_refusal(&self, who: Who, pool: PoolId) -> Option<Refusal>
-        ensures { result ≡ first_refusal (pool_refusals self.now.world who pool.0) }
-    {
-        let actor = self.actor(who);
-        let lacks_pool = !self.is_pool(pool);
-        let is_closed = self.is_closed_pool(pool);
-        first_of(&[
-            (either(!actor.exists, lacks_pool), Refusal::NoSuch),
-            (actor.finished, Refusal::Released),
-            (is_closed, Refusal::PoolClosed),
-            (pool.0 == 0, Refusal::DefaultPool),
-            (actor.is_idle, Refusal::NotRunning),
-            (actor.in_wait, Refusal::InWait),
-        ])
-    }
-
-    // An object that isn't released is bound to the pool. Walks the objects.
-    fn has_object(&self, pool: PoolId) -> bool
-        ensures { result ≡ list_any (λ o. not o.released && (o.env.pool.0 == pool.0)) self.now.world.objects }
-    {
-        let objects = self.objects.len();
-        for place in 0..objects {
-            if is_bound_to(pool, self.objects.get(place + 1)) {
-                return true;
-            }
-        }
-        false
-    }
-
-    // A callback of the pool is pending or runs.
-    fn has_callback(&self, pool: PoolId) -> bool
-        requires { pool.0 < length self.now.world.pools }
-        ensures { result ≡ list_any (λ c. is_live c.status && (c.pool.0 == pool.0)) self.now.world.callbacks }
-    {
-        is_busy(self.queues.len(pool.0), self.pools.counts(pool))
-    }
-
-    // Something of the pool is outstanding.
-    fn is_used(&self, pool: PoolId) -> bool
-        requires { pool.0 < length self.now.world.pools }
-        ensures { result ≡ is_used self.now.world pool.0 }
-    {
-        self.has_object(pool) || self.has_callback(pool)
-    }
-
-    /// Closes a pool.
-    pub(crate) fn close_pool(&mut self, who: Who, pool: PoolId, room: u64) -> Outcome
-        requires { self.old.age < 2 ^ 47 }
-        ensures { Goes self.old self.new (step_of self.old room who (Call.ClosePool pool)) result }
-    {
-        match self.pool_refusal(who, pool) {
-            Some(refusal) => return refused(refusal, room),
-            None => {}
-        }
-        if room < 1 {
-            return Outcome::Full { room, cost: 1 };
-        }
-        let later = self.is_used(pool);
-        self.mark_closed(pool);
-        Outcome::Done(Answer::Closed { later })
-    }
-
-    /// Sets how many callbacks of a pool may run at once.
-    pub(crate) fn set_maximum(&mut self, who: Who, pool: PoolId, value: u32, room: u64) -> Outcome
-        requires { self.old.age < 2 ^ 47 }
-        ensures { Goes self.old self.new (step_of self.old room who (Call.SetMaximum pool value)) result }
-    {
-        match self.pool_refusal(who, pool) {
-            Some(refusal) => return refused(refusal, room),
-            None => {}
-        }
-        if room < 1 {
-            return Outcome::Full { room, cost: 1 };
-        }
-        self.change_maximum(pool, value);
-        Outcome::Done(Answer::Done)
-    }
-
-    /// Sets how many workers a pool keeps.
-    pub(crate) fn set_minimum(&mut self, who: Who, pool: PoolId, value: u32, room: u64) -> Outcome
-        requires { self.old.age < 2 ^ 47 }
-        ensures { Goes self.old self.new (step_of self.old room who (Call.SetMinimum pool value)) result }
-    {
-        match self.pool_refusal(who, pool) {
-            Some(refusal) => return refused(refusal, room),
-            None => {}
-        }
-        if room < 1 {
-            return Outcome::Full { room, cost: 1 };
-        }
-        self.change_minimum(pool, value);
-        Outcome::Done(Answer::Done)
+/// Sets how many workers a pool keeps.
+#[tactic(auto, unfolding(tp_model::specs::Calls::Pools::set_minimum_plan))]
+pub(crate) fn set_minimum(world: &LiveWorld, who: Who, pool: PoolId, value: u32) -> Plan
+    ensures { result ≡ set_minimum_plan world.now.world who pool value }
+{
+    match pool_refusal(world, who, pool) {
+        Some(refusal) => Plan::Refused(refusal),
+        None => Plan::Does {
+            answer: Answer::Done,
+            change: Change::ChangePool {
+                pool,
+                how: PoolChange::Minimum(value),
+            },
+        },
     }
 }

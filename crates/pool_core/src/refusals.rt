@@ -1,12 +1,12 @@
 //! Which refusal is answered.
 
 ghost use Rattle.std.specs.Prelude.{◌≡◌, ◌||◌};
-ghost use Rattle.tp_model.specs.Step.{first_refusal, unless_full, outcome_of, Refused};
+ghost use Rattle.tp_model.specs.Refusing.{first_refusal};
 
-use tp_base::answers::{Answer, Outcome, Refusal};
+use tp_base::answers::Refusal;
 
 /// The refusal of the first condition that holds.
-pub fn first_of(conditions: &[(bool, Refusal)]) -> Option<Refusal>
+pub(crate) fn first_of(conditions: &[(bool, Refusal)]) -> Option<Refusal>
     ensures { result ≡ first_refusal conditions.now }
 {
     for &(holds, refusal) in conditions {
@@ -17,19 +17,8 @@ pub fn first_of(conditions: &[(bool, Refusal)]) -> Option<Refusal>
     None
 }
 
-/// The outcome of a refused call, which costs one entry.
-pub fn refused(refusal: Refusal, room: u64) -> Outcome
-    ensures { result ≡ outcome_of (unless_full room 1 (Refused refusal)) }
-{
-    if room < 1 {
-        Outcome::Full { room, cost: 1 }
-    } else {
-        Outcome::Done(Answer::Refused(refusal))
-    }
-}
-
 /// Whether one of two conditions holds.
-pub fn either(first: bool, second: bool) -> bool
+pub(crate) fn either(first: bool, second: bool) -> bool
     ensures { result ≡ (first || second) }
 {
     first || second

@@ -10,6 +10,14 @@
 //!
 //! `open` takes all the memory. The counts are kept as the workers change, so that no call goes over
 //! the workers.
+//!
+//! ```text
+//! let mut rows = PoolRows::open(alloc, 4, 2)?;    // at most four pools, and two workers
+//! rows.create()                                   // Ok(PoolId(1))
+//! rows.attach(2, PoolId(1));
+//! rows.take(2, 9, true);                          // worker 2 runs callback 9, which is long
+//! rows.counts(PoolId(1))                          // Some: attached 1, running 1, long 1
+//! ```
 
 #![tactic(auto)]
 

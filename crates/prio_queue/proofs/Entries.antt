@@ -1,12 +1,22 @@
 -- An entry goes into, and a number comes out of, the row of its priority.
-use Rattle.std.proofs.Common.{◌≡◌, ℕ, ◌+◌, false, ◌||◌, List, length, sym, ap, ◌∙◌}
+use Rattle.std.proofs.Common.{◌≡◌, ℕ, ◌+◌, false, ◌||◌, List, [], ◌∷◌, length, refl, sym, ap, ◌∙◌}
+use Rattle.std.specs.List.{slice_get}
+use Rattle.std.specs.Option.{option_or}
 use Rattle.std.proofs.lemmas.List.{append_assoc, append-nil, map-append, length-append, length-map}
 use Rattle.std.proofs.lemmas.List.Elements.{filter-append}
 use Rattle.std.proofs.lemmas.List.Folds.{list_any-append}
 use Rattle.std.proofs.lemmas.Bool.{or_parts}
-use Rattle.prio_queue.specs.Pending.{Entry, entry, with_entry, without_number, has_number}
-use Rattle.prio_queue.specs.Line.{entries_of, with_number, contains_number, all_but}
+use Rattle.prio_queue.specs.Pending.{Entry, entry, with_entry, without_number, has_number, first_number}
+use Rattle.rising_numbers.specs.Rising.{with_number, contains_number, all_but}
+use Rattle.prio_queue.specs.Line.{entries_of}
 use Rattle.prio_queue.proofs.Filters.{filter-map, list_any-map, filter_all, filter_nothing}
+
+-- the first entry is the first of the highest priority
+pub first_of_three : (high normal low : List ℕ) → option_or (option_or (slice_get high 0) (slice_get normal 0)) (slice_get low 0) ≡ first_number (entries_of high normal low)
+first_of_three [] [] [] = refl
+first_of_three [] [] (n ∷ _) = refl
+first_of_three [] (n ∷ _) _ = refl
+first_of_three (n ∷ _) _ _ = refl
 
 module _ (number : ℕ) (high normal low : List ℕ) where
   pub with_high : with_entry (entry 0 number) (entries_of high normal low) ≡ entries_of (with_number number high) normal low

@@ -20,7 +20,6 @@
 ghost use Rattle.std.specs.Prelude.{◌≡◌, ◌<◌, [], length, replicate, IfOk};
 ghost use Rattle.prio_queue.specs.Pending.{entry, queue_of, with_queue, held, has_number, IsFree, with_entry, without_number, first_number, IsInOrder};
 
-mod numbers;
 mod pool_queue;
 
 use pool_queue::PoolQueue;
@@ -65,8 +64,9 @@ impl Queues {
 
     /// Puts the callback `number` in its place among those of `pool`.
     ///
-    /// `priority` is 0 (high), 1 (normal) or 2 (low). Nothing is walked where the number is above
-    /// all others of its priority.
+    /// `priority` is 0 (high), 1 (normal) or 2 (low). The place is found by halving; then the
+    /// entries of that priority before it move or those behind it, whichever are fewer: none where
+    /// the number is above all others.
     pub fn push(&mut self, pool: u32, priority: u8, number: u64)
         requires room { held self.old < self.old.slots }
         requires pool { pool < length self.old.queues }
@@ -89,7 +89,8 @@ impl Queues {
     }
 
     /// Takes the callback `number` out of those of `pool`, and says whether it was there. Where it
-    /// wasn't, nothing changes.
+    /// wasn't, nothing changes. It is found by halving, and then the entries of its priority before
+    /// it move or those behind it, whichever are fewer.
     pub fn remove(&mut self, pool: u32, number: u64) -> bool
         requires { pool < length self.old.queues }
         ensures found { result ≡ has_number number (queue_of self.old pool) }

@@ -2,32 +2,30 @@
 ghost use Rattle.std.specs.Prelude.{◌≡◌, ◌+◌, ◌<◌, ◌≤◌, false, [], length, IfOk};
 ghost use Rattle.prio_queue.specs.Pending.{entry, has_number, with_entry, without_number, first_number, IsInOrder};
 
-use crate::numbers;
+use rising_numbers::RisingNumbers;
 use std::alloc::{AllocError, Global};
-use std::collections::VecDeque;
 use std::marker::Model;
 
 /// The pending callbacks of one pool: the numbers of each priority, rising.
 #[derive(Drop)]
 pub(crate) struct PoolQueue {
     room: u32,
-    high: VecDeque<u64>,
-    normal: VecDeque<u64>,
-    low: VecDeque<u64>,
+    high: RisingNumbers,
+    normal: RisingNumbers,
+    low: RisingNumbers,
 }
 
 impl Model for PoolQueue {
-    ghost use Rattle.std.specs.VecDeque.{deque_capacity};
     ghost use Rattle.prio_queue.specs.Line.{Line, IsLine, entries_of};
 
     ghost Value = { Line };
 
     ghost view = { λ q. record {
       room = q.room;
-      entries = entries_of q.high.items q.normal.items q.low.items;
+      entries = entries_of q.high.numbers q.normal.numbers q.low.numbers;
     } };
 
-    ghost invariant = { λ q. IsLine q.room q.high.items q.normal.items q.low.items (deque_capacity q.high) (deque_capacity q.normal) (deque_capacity q.low) };
+    ghost invariant = { λ q. IsLine q.room q.high q.normal q.low };
 }
 
 impl PoolQueue {
@@ -38,9 +36,9 @@ impl PoolQueue {
     {
         Ok(PoolQueue {
             room,
-            high: VecDeque::with_capacity(alloc, room as usize)?,
-            normal: VecDeque::with_capacity(alloc, room as usize)?,
-            low: VecDeque::with_capacity(alloc, room as usize)?,
+            high: RisingNumbers::open(alloc, room)?,
+            normal: RisingNumbers::open(alloc, room)?,
+            low: RisingNumbers::open(alloc, room)?,
         })
     }
 
@@ -54,9 +52,9 @@ impl PoolQueue {
         ensures len { length self.new.entries ≡ length self.old.entries + 1 }
     {
         match priority {
-            0 => numbers::put(&mut self.high, number),
-            1 => numbers::put(&mut self.normal, number),
-            _ => numbers::put(&mut self.low, number),
+            0 => self.high.put(number),
+            1 => self.normal.put(number),
+            _ => self.low.put(number),
         }
     }
 
@@ -65,8 +63,8 @@ impl PoolQueue {
         ensures value { result ≡ first_number self.now.entries }
         ensures in_order { IsInOrder self.now.entries }
     {
-        let first = self.high.front().or(self.normal.front());
-        first.or(self.low.front()).copied()
+        let first = self.high.first().or(self.normal.first());
+        first.or(self.low.first())
     }
 
     /// Takes out the entry of this number, and says whether it was there.
@@ -76,9 +74,9 @@ impl PoolQueue {
         ensures entries { self.new.entries ≡ without_number number self.old.entries }
         ensures len { length self.new.entries ≤ length self.old.entries }
     {
-        let high = numbers::take_out(&mut self.high, number);
-        let normal = numbers::take_out(&mut self.normal, number);
-        let low = numbers::take_out(&mut self.low, number);
+        let high = self.high.take_out(number);
+        let normal = self.normal.take_out(number);
+        let low = self.low.take_out(number);
         high | normal | low
     }
 
@@ -86,6 +84,6 @@ impl PoolQueue {
     pub(crate) fn len(&self) -> u32
         ensures { result ≡ length self.now.entries }
     {
-        (self.high.len() + self.normal.len() + self.low.len()) as u32
+        self.high.len() + self.normal.len() + self.low.len()
     }
 }

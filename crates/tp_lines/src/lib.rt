@@ -10,13 +10,20 @@
 //! word, and up to eight fields. A table's lines are read by `read_row`, whatever the table; what a row
 //! stands for is said by one function a table (`call_of`, `answer_of`). A new call is a shape, an arm of
 //! `call_of`, an arm of `words_of_call`, and two cases of a proof: the row's call, and the call's row.
+//!
+//! ```text
+//! parse_call(b"c1 submit 1")        // Ok((Who::Client(1), Call::SubmitWork { object: ObjectId(1) }))
+//! parse_call(b"c1 submit 01")       // Err: column 12, unexpected
+//! parse_call(b"c1 submit")          // Err: column 10, unfinished
+//! ```
 
 #![tactic(auto)]
 
 mod answers;
-mod calls;
+pub mod calls;
 pub mod entries;
 mod fields;
+pub mod good;
 pub mod parse;
 pub mod print;
 mod rows;

@@ -1,5 +1,9 @@
 //! The machine as definitions: worlds, steps, histories, and the laws that every legal history
-//! keeps.
+//! keeps. The README beside this folder tells how they hang together.
+//!
+//! Nothing here is run, but a caller can know something by it. In the body of a function that has a
+//! legal history, the line `legal_keeps_laws();` gives the proof that the history keeps the laws:
+//! no callback of it was taken twice, and none above its pool's maximum.
 
 #![tactic(auto)]
 

@@ -7,5 +7,5 @@ use Rattle.callback_rows.proofs.CallbackRows.after.Goals as goal
 pub returns : goal.returns
 returns c =
     let found = find_above c.args.number _ _ c.first_above-place.ensures.bound c.first_above-place.ensures.parted in
-    let copied = c.copied.ensures ∙ copied_at _ _ _ c.get.ensures.lookup in
-    rw (← c.self.view_is, ← c.deref.ensures.value, found) (rw (c.deref.ensures.value, ← c.deref-2.ensures.value) copied)
+    let copied = c.copied.ensures ∙ copied_at _ _ _ c.get.ensures.item in
+    rw (← c.self.view_is, found) copied

@@ -1,67 +1,80 @@
-use Rattle.std.proofs.Common.{sym, subst}
+use Rattle.std.proofs.Common.{◌≡◌, ℕ, ◌+◌, ◌<◌, ◌^◌, sym, ap, ◌∙◌, subst, arith}
+use Rattle.tp_base.specs.declared.ids.Who.{Who}
 use Rattle.tp_base.specs.declared.calls.Call.{Call}
-use Rattle.tp_base.specs.declared.calls.Call.TheVariants.{CreatePool, ClosePool, SetMaximum, SetMinimum, Create, SubmitWork, Attach, Detach, Take, Return, MayRunLong, Finish}
-use Rattle.tp_model.specs.Table.{step}
-use Rattle.tp_model.specs.Remembered.{Meets}
-use Rattle.tp_model.proofs.Forgetting.{meets}
+use Rattle.tp_base.specs.declared.plans.Plan.{Plan}
+use Rattle.tp_base.specs.Ranges.{IsCallInRange}
+use Rattle.tp_model.specs.Table.{plan_at}
+use Rattle.tp_model.specs.Ranged.{IsWide, IsPlanInRange}
+use Rattle.tp_model.specs.Sound.{IsSound}
+use Rattle.tp_model.specs.Remembered.{Remembered}
+use Rattle.tp_model.proofs.Steps.{plan_allowed}
+use Rattle.tp_model.proofs.Ranging.{plan_ranged}
+use Rattle.live_world.specs.Bounds.{IsBounded}
+use Rattle.pool_core.specs.View.{remembered, IsEngine}
+use Rattle.pool_core.specs.declared.Engine.TheInside.{Inside}
+use Rattle.pool_core.proofs.Stepping.{meets_looked, meets_refused, meets_done}
 use Rattle.pool_core.proofs.Engine.step.Goals as goal
 
-pub returns-in-Create : goal.returns-in-Create
-returns-in-Create c w stands =
-    subst (λ (x : Call). Meets c.args.self.now c.create.new.self w (step w c.args.room c.args.who x) c.create.result) (sym c.in-Create.is)
-    (meets c.args.self.now c.create.new.self w c.args.room c.args.who (Create c.in-Create.kind c.in-Create.routine c.in-Create.context c.in-Create.env) c.create.result c.create.ensures stands)
+-- the plan is that of what the engine remembers
+planned : (i : Inside) (e : Remembered) (room : ℕ) (who : Who) (call : Call) (plan is : Plan) → remembered i ≡ e → plan ≡ plan_at i.live.world (i.live.made + 1) room who call → plan ≡ is → plan_at e.world (e.made + 1) room who call ≡ is
+planned i e room who call plan is same made found = ap (λ (r : Remembered). plan_at r.world (r.made + 1) room who call) (sym same) ∙ sym made ∙ found
 
-pub returns-in-SubmitWork : goal.returns-in-SubmitWork
-returns-in-SubmitWork c w stands =
-    subst (λ (x : Call). Meets c.args.self.now c.submit_work.new.self w (step w c.args.room c.args.who x) c.submit_work.result) (sym c.in-SubmitWork.is)
-    (meets c.args.self.now c.submit_work.new.self w c.args.room c.args.who (SubmitWork c.in-SubmitWork.object) c.submit_work.result c.submit_work.ensures stands)
+-- which can be reached
+sound : (i : Inside) (e : Remembered) → remembered i ≡ e → IsSound (i.live.made + 1) i.live.world → IsSound (e.made + 1) e.world
+sound i e same s = subst (λ (r : Remembered). IsSound (r.made + 1) r.world) same s
 
-pub returns-in-Attach : goal.returns-in-Attach
-returns-in-Attach c w stands =
-    subst (λ (x : Call). Meets c.args.self.now c.attach.new.self w (step w c.args.room c.args.who x) c.attach.result) (sym c.in-Attach.is)
-    (meets c.args.self.now c.attach.new.self w c.args.room c.args.who Attach c.attach.result c.attach.ensures stands)
+pub enter-requires-in-Does-clause-allowed : goal.enter-requires-in-Does-clause-allowed
+enter-requires-in-Does-clause-allowed c =
+    let e = c.args.self.now in
+    (plan_allowed (e.made + 1) c.args.room e.world c.args.who c.args.call c.in-Does.answer c.in-Does.change (sound c.self.inside e c.self.view_is c.is_reachable.ensures.sound)
+    (planned c.self.inside e c.args.room c.args.who c.args.call c.plan.result _ c.self.view_is c.plan.ensures.plan c.in-Does.is)).allowed
 
-pub returns-in-Take : goal.returns-in-Take
-returns-in-Take c w stands =
-    subst (λ (x : Call). Meets c.args.self.now c.take.new.self w (step w c.args.room c.args.who x) c.take.result) (sym c.in-Take.is)
-    (meets c.args.self.now c.take.new.self w c.args.room c.args.who Take c.take.result c.take.ensures stands)
+pub returns-in-Looked-clause-meets : goal.returns-in-Looked-clause-meets
+returns-in-Looked-clause-meets c w stands =
+    meets_looked c.args.self.now w c.args.room c.args.who c.args.call c.in-Looked.look
+    (planned c.self.inside c.args.self.now c.args.room c.args.who c.args.call c.plan.result _ c.self.view_is c.plan.ensures.plan c.in-Looked.is) stands
 
-pub returns-in-Return : goal.returns-in-Return
-returns-in-Return c w stands =
-    subst (λ (x : Call). Meets c.args.self.now c.return_callback.new.self w (step w c.args.room c.args.who x) c.return_callback.result) (sym c.in-Return.is)
-    (meets c.args.self.now c.return_callback.new.self w c.args.room c.args.who Return c.return_callback.result c.return_callback.ensures stands)
+pub returns-in-Refused-clause-meets : goal.returns-in-Refused-clause-meets
+returns-in-Refused-clause-meets c w stands =
+    let h = c.enter.ensures in
+    meets_refused c.args.self.now w c.args.room c.args.who c.args.call c.enter.new.self c.in-Refused.refusal c.enter.result
+    (planned c.self.inside c.args.self.now c.args.room c.args.who c.args.call c.plan.result _ c.self.view_is c.plan.ensures.plan c.in-Refused.is)
+    (record { full = h.full; unchanged = h.unchanged; done = h.done; entered = h.entered }) stands
 
-pub returns-in-Finish : goal.returns-in-Finish
-returns-in-Finish c w stands =
-    subst (λ (x : Call). Meets c.args.self.now c.finish.new.self w (step w c.args.room c.args.who x) c.finish.result) (sym c.in-Finish.is)
-    (meets c.args.self.now c.finish.new.self w c.args.room c.args.who Finish c.finish.result c.finish.ensures stands)
+pub returns-in-Does-clause-meets : goal.returns-in-Does-clause-meets
+returns-in-Does-clause-meets c w stands =
+    let h = c.enter-in-Does.ensures in
+    meets_done c.args.self.now w c.args.room c.args.who c.args.call c.enter-in-Does.new.self c.in-Does.answer c.in-Does.change c.enter-in-Does.result
+    (sound c.self.inside c.args.self.now c.self.view_is c.is_reachable.ensures.sound)
+    (planned c.self.inside c.args.self.now c.args.room c.args.who c.args.call c.plan.result _ c.self.view_is c.plan.ensures.plan c.in-Does.is)
+    (record { full = h.full; unchanged = h.unchanged; done = h.done; entered = h.entered }) stands
 
-pub returns-in-CreatePool : goal.returns-in-CreatePool
-returns-in-CreatePool c w stands =
-    subst (λ (x : Call). Meets c.args.self.now c.create_pool.new.self w (step w c.args.room c.args.who x) c.create_pool.result) (sym c.in-CreatePool.is)
-    (meets c.args.self.now c.create_pool.new.self w c.args.room c.args.who CreatePool c.create_pool.result c.create_pool.ensures stands)
+-- ---- ranges
 
-pub returns-in-ClosePool : goal.returns-in-ClosePool
-returns-in-ClosePool c w stands =
-    subst (λ (x : Call). Meets c.args.self.now c.close_pool.new.self w (step w c.args.room c.args.who x) c.close_pool.result) (sym c.in-ClosePool.is)
-    (meets c.args.self.now c.close_pool.new.self w c.args.room c.args.who (ClosePool c.in-ClosePool.pool) c.close_pool.result c.close_pool.ensures stands)
+-- the plan's numbers are in range
+ranged : (i : Inside) (e : Remembered) (room : ℕ) (who : Who) (call : Call) (plan is : Plan) → remembered i ≡ e → IsEngine i → e.age < 2 ^ 47 → IsSound (i.live.made + 1) i.live.world → IsBounded i.live.world → IsCallInRange call → IsWide call
+    → plan ≡ plan_at i.live.world (i.live.made + 1) room who call → plan ≡ is → IsPlanInRange is
+ranged i e room who call plan is same k young s b in_range wide made found =
+    let few : i.live.made + 1 < 2 ^ 64 = omega (arith, k.few_made, young, ap (λ (r : Remembered). r.age) same) in
+    subst IsPlanInRange (sym made ∙ found)
+    (plan_ranged (i.live.made + 1) i.live.world few s (record { limits = b.limits; pools_least = b.pools_least; pools_most = b.pools_most; running_most = b.running_most; rows = k.rows }) room who call in_range wide)
 
-pub returns-in-SetMaximum : goal.returns-in-SetMaximum
-returns-in-SetMaximum c w stands =
-    subst (λ (x : Call). Meets c.args.self.now c.set_maximum.new.self w (step w c.args.room c.args.who x) c.set_maximum.result) (sym c.in-SetMaximum.is)
-    (meets c.args.self.now c.set_maximum.new.self w c.args.room c.args.who (SetMaximum c.in-SetMaximum.pool c.in-SetMaximum.value) c.set_maximum.result c.set_maximum.ensures stands)
+pub returns-in-Looked-clause-in_range : goal.returns-in-Looked-clause-in_range
+returns-in-Looked-clause-in_range c =
+    ranged c.self.inside c.args.self.now c.args.room c.args.who c.args.call c.plan.result _ c.self.view_is c.self.invariant c.requires.young c.is_reachable.ensures.sound c.is_reachable.ensures.bounded c.requires.in_range c.plan.ensures.wide
+    c.plan.ensures.plan c.in-Looked.is
 
-pub returns-in-SetMinimum : goal.returns-in-SetMinimum
-returns-in-SetMinimum c w stands =
-    subst (λ (x : Call). Meets c.args.self.now c.set_minimum.new.self w (step w c.args.room c.args.who x) c.set_minimum.result) (sym c.in-SetMinimum.is)
-    (meets c.args.self.now c.set_minimum.new.self w c.args.room c.args.who (SetMinimum c.in-SetMinimum.pool c.in-SetMinimum.value) c.set_minimum.result c.set_minimum.ensures stands)
+pub enter-requires-clause-answer_in_range : goal.enter-requires-clause-answer_in_range
+enter-requires-clause-answer_in_range c =
+    ranged c.self.inside c.args.self.now c.args.room c.args.who c.args.call c.plan.result _ c.self.view_is c.self.invariant c.requires.young c.is_reachable.ensures.sound c.is_reachable.ensures.bounded c.requires.in_range c.plan.ensures.wide
+    c.plan.ensures.plan c.in-Refused.is
 
-pub returns-in-Detach : goal.returns-in-Detach
-returns-in-Detach c w stands =
-    subst (λ (x : Call). Meets c.args.self.now c.detach.new.self w (step w c.args.room c.args.who x) c.detach.result) (sym c.in-Detach.is)
-    (meets c.args.self.now c.detach.new.self w c.args.room c.args.who Detach c.detach.result c.detach.ensures stands)
+pub enter-requires-in-Does-clause-answer_in_range : goal.enter-requires-in-Does-clause-answer_in_range
+enter-requires-in-Does-clause-answer_in_range c =
+    (ranged c.self.inside c.args.self.now c.args.room c.args.who c.args.call c.plan.result _ c.self.view_is c.self.invariant c.requires.young c.is_reachable.ensures.sound c.is_reachable.ensures.bounded c.requires.in_range c.plan.ensures.wide
+    c.plan.ensures.plan c.in-Does.is).0
 
-pub returns-in-MayRunLong : goal.returns-in-MayRunLong
-returns-in-MayRunLong c w stands =
-    subst (λ (x : Call). Meets c.args.self.now c.may_run_long.new.self w (step w c.args.room c.args.who x) c.may_run_long.result) (sym c.in-MayRunLong.is)
-    (meets c.args.self.now c.may_run_long.new.self w c.args.room c.args.who MayRunLong c.may_run_long.result c.may_run_long.ensures stands)
+pub enter-requires-in-Does-clause-change_in_range : goal.enter-requires-in-Does-clause-change_in_range
+enter-requires-in-Does-clause-change_in_range c =
+    (ranged c.self.inside c.args.self.now c.args.room c.args.who c.args.call c.plan.result _ c.self.view_is c.self.invariant c.requires.young c.is_reachable.ensures.sound c.is_reachable.ensures.bounded c.requires.in_range c.plan.ensures.wide
+    c.plan.ensures.plan c.in-Does.is).1

@@ -1,5 +1,5 @@
 use Rattle.std.proofs.Common.{◌≡◌, drop}
-use Rattle.tp_model.specs.Step.{first_refusal}
+use Rattle.tp_model.specs.Refusing.{first_refusal}
 use Rattle.pool_core.proofs.refusals.first_of.Given as goal
 
 -- those so far don't hold

@@ -1,0 +1,33 @@
+//! Two waits that cover a number in common.
+
+use crate::Barriers;
+use std::test::Fail;
+
+#[test]
+fn waits_cover_what_has_not_left(rt: HostRuntime) -> Result<(), Fail> {
+    let mut barriers = Barriers::open(rt.alloc(), 3, 4)?;
+    assert_eq!(rt; (barriers.is_begun(2), barriers.least(2)), (false, None));
+    barriers.begin(2);
+    barriers.begin(0);
+    barriers.cover(2, 3);
+    barriers.cover(2, 5);
+    barriers.cover(2, 8);
+    barriers.cover(0, 5);
+    barriers.left(5);
+    assert_eq!(rt; (barriers.is_begun(0), barriers.least(0)), (true, None));
+    assert_eq!(rt;
+        (
+            barriers.least(2),
+            barriers.after(2, 3),
+            barriers.after(2, 8)
+        ),
+        (Some(3), Some(8), None)
+    );
+    barriers.left_one(2, 3);
+    assert_eq!(rt; barriers.least(2), Some(8));
+    barriers.finish(2);
+    assert_eq!(rt; (barriers.is_begun(2), barriers.least(2)), (false, None));
+    barriers.begin(2);
+    assert_eq!(rt; (barriers.is_begun(2), barriers.least(2)), (true, None));
+    Ok(())
+}

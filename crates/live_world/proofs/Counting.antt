@@ -1,0 +1,154 @@
+-- What is counted of a pool is what the world counts.
+use Rattle.std.proofs.Common.{◌≡◌, ℕ, suc, zero, ◌+◌, ◌-◌, ◌<◌, ◌≤◌, Bool, true, false, cond, ◌&&◌, ◌||◌, ◌==◌, List, [], ◌∷◌, length, nat_lt, slice_get, Option, Some, None, refl, sym, ap, ap₂, ◌∙◌, subst, arith, filter, option_map, is_none, IfSome, ne_eqb, lt-ltb}
+use Rattle.std.specs.List.{AllByRecursion, list_any}
+use Rattle.std.specs.Option.{option_map_or}
+use Rattle.std.proofs.lemmas.List.{length-map}
+use Rattle.tp_base.specs.declared.ids.PoolId.{PoolId}
+use Rattle.tp_base.specs.declared.rows.PoolRow.{PoolRow}
+use Rattle.tp_base.specs.declared.rows.Status.{Status}
+use Rattle.tp_base.specs.declared.rows.Status.TheVariants.{Expected, Issued, Pending, Running, Returned, Cancelled}
+use Rattle.tp_base.specs.declared.rows.CallbackRow.{CallbackRow}
+use Rattle.prio_queue.specs.Pending.{queue_of}
+use Rattle.pool_rows.specs.Pools.{counts_of}
+use Rattle.pool_rows.specs.Workers.{is_attached_to as is_attached_kept, runs_in, runs_long_in}
+use Rattle.pool_rows.specs.declared.Counts.{Counts}
+use Rattle.pool_rows.specs.declared.WorkerRow as kept
+use Rattle.tp_model.specs.World.{World}
+use Rattle.tp_model.specs.Counts.{is_pending, is_running, is_live, is_pending_in, is_running_in, is_attached_to, is_idle_in, running, running_long, attached, idle}
+use Rattle.live_world.specs.declared.LiveWorld.TheInside.{Inside}
+use Rattle.live_world.specs.declared.pools.Tally.{Tally}
+use Rattle.live_world.specs.Tally.{tally_of, tally_shown}
+use Rattle.live_world.specs.Parts.{shown_worker}
+use Rattle.live_world.specs.View.{shown, IsLiveWorld}
+use Rattle.live_world.specs.Invariant.{IsHome, waits_or_runs}
+use Rattle.live_world.proofs.Lists.{filter_map, filter_none, all_along, past_end, some_pass}
+use Rattle.live_world.proofs.Queued.{queue_shown, queue_nowhere}
+
+-- ---- workers
+
+-- an attached worker is idle or at work
+idle_or_at_work : (pool : ℕ) (ws : List kept.WorkerRow) → length (filter (λ r. is_idle_in pool (shown_worker r)) ws) + length (filter (runs_in pool) ws) ≡ length (filter (is_attached_kept pool) ws)
+idle_or_at_work pool [] = omega arith
+idle_or_at_work pool (r ∷ rs) = one (is_attached_kept pool r) r.callback r _ _ _ (idle_or_at_work pool rs)
+  where
+    at_work : (n : ℕ) (x : kept.WorkerRow) (i w a : List kept.WorkerRow) → length i + length w ≡ length a → length (cond (is_none {T = ℕ} (cond (n == 0) None (Some n))) (x ∷ i) i) + length (cond (nat_lt 0 n) (x ∷ w) w) ≡ length (x ∷ a)
+    at_work zero x i w a e = omega (arith, e)
+    at_work (suc n) x i w a e =
+        subst (λ b. length (cond (is_none {T = ℕ} (cond b None (Some (suc n)))) (x ∷ i) i) + length (cond (nat_lt 0 (suc n)) (x ∷ w) w) ≡ length (x ∷ a)) (sym (ne_eqb (suc n) 0 (λ z. omega (arith, z))))
+        (subst (λ b. length i + length (cond b (x ∷ w) w) ≡ length (x ∷ a)) (sym (lt-ltb 0 (suc n) (omega arith))) (omega (arith, e)))
+
+    one : (b : Bool) (n : ℕ) (x : kept.WorkerRow) (i w a : List kept.WorkerRow) → length i + length w ≡ length a → length (cond (b && is_none {T = ℕ} (cond (n == 0) None (Some n))) (x ∷ i) i) + length (cond (b && nat_lt 0 n) (x ∷ w) w) ≡ length (cond b (x ∷ a) a)
+    one true n x i w a e = at_work n x i w a e
+    one false n x i w a e = e
+
+attached_shown : (i : Inside) (pool : ℕ) → attached (shown i).world pool ≡ length (filter (is_attached_kept pool) i.pools.workers)
+attached_shown i pool = ap length (filter_map (is_attached_to pool) shown_worker i.pools.workers) ∙ length-map (filter (is_attached_kept pool) i.pools.workers) shown_worker
+
+idle_shown : (i : Inside) (pool : ℕ) → idle (shown i).world pool + length (filter (runs_in pool) i.pools.workers) ≡ length (filter (is_attached_kept pool) i.pools.workers)
+idle_shown i pool =
+    ap (λ n. n + length (filter (runs_in pool) i.pools.workers)) (ap length (filter_map (is_idle_in pool) shown_worker i.pools.workers) ∙ length-map (filter (λ r. is_idle_in pool (shown_worker r)) i.pools.workers) shown_worker)
+    ∙ idle_or_at_work pool i.pools.workers
+
+-- no worker is attached to a pool that was not made
+attached_nowhere : (pools pool : ℕ) (ws : List kept.WorkerRow) → pools ≤ pool → AllByRecursion (IsHome pools) ws → filter (is_attached_kept pool) ws ≡ []
+attached_nowhere pools pool ws past homes = filter_none (is_attached_kept pool) ws (all_along (IsHome pools) (λ w. is_attached_kept pool w ≡ false) (λ w home. elsewhere w.pool home) ws homes)
+  where
+    elsewhere : (o : Option PoolId) → IfSome o (λ (p : PoolId). p.0 < pools) → option_map_or (λ (p : PoolId). p.0 == pool) o false ≡ false
+    elsewhere None home = refl
+    elsewhere (Some p) home = ne_eqb p.0 pool (λ e. omega (arith, e, home, past))
+
+-- ---- the tally
+
+abbrev counts_at : Inside → ℕ → PoolRow → Counts
+counts_at i pool row = record {
+  minimum = row.minimum;
+  maximum = row.maximum;
+  closed = row.closed;
+  running = length (filter (runs_in pool) i.pools.workers);
+  attached = length (filter (is_attached_kept pool) i.pools.workers);
+  long = length (filter (runs_long_in pool) i.pools.workers);
+}
+
+abbrev pub no_tally : Tally
+no_tally = record { minimum = 0; maximum = 0; pending = 0; running = 0; attached = 0; idle = 0; available = 0 }
+
+same_tally : (m m' x x' p p' r r' a a' i i' v v' : ℕ) → m ≡ m' → x ≡ x' → p ≡ p' → r ≡ r' → a ≡ a' → i ≡ i' → v ≡ v'
+    → ◌≡◌ {A = Tally} (record { minimum = m; maximum = x; pending = p; running = r; attached = a; idle = i; available = v }) (record { minimum = m'; maximum = x'; pending = p'; running = r'; attached = a'; idle = i'; available = v' })
+same_tally m m' x x' p p' r r' a a' i i' v v' em ex ep er ea ei ev = cc
+
+pub is_tally : (i : Inside) (pool : ℕ) (counts : Counts) → IsLiveWorld i → counts_of pool i.pools ≡ Some counts → tally_shown (length (queue_of i.queues pool)) counts ≡ tally_of (shown i).world pool
+is_tally i pool counts k is = known (slice_get i.pools.pools pool) refl is
+  where
+    some_same : (x y : Counts) → Some x ≡ Some y → x ≡ y
+    some_same x y e = cc
+
+    known : (o : Option PoolRow) → slice_get i.pools.pools pool ≡ o → counts_of pool i.pools ≡ Some counts → tally_shown (length (queue_of i.queues pool)) counts ≡ tally_of (shown i).world pool
+    known None e h = let none : None ≡ Some counts = sym (ap (option_map (counts_at i pool)) e) ∙ h in absurd cc
+    known (Some row) e h =
+        let same : counts_at i pool row ≡ counts = some_same (counts_at i pool row) counts (sym (ap (option_map (counts_at i pool)) e) ∙ h) in
+        let w : World = (shown i).world in
+        let ran : counts.running ≡ running w pool = ap (λ (x : Counts). x.running) (sym same) ∙ sym (k.tallied.run pool) in
+        let long : counts.long ≡ running_long w pool = ap (λ (x : Counts). x.long) (sym same) ∙ sym (k.tallied.run_long pool) in
+        let joined : counts.attached ≡ attached w pool = ap (λ (x : Counts). x.attached) (sym same) ∙ sym (attached_shown i pool) in
+        same_tally _ _ _ _ _ _ _ _ _ _ _ _ _ _
+        (ap (λ (x : Counts). cond x.closed 0 x.minimum) (sym same) ∙ sym (ap (λ o. option_map_or (λ (p : PoolRow). cond p.closed 0 p.minimum) o 0) e))
+        (ap (λ (x : Counts). x.maximum) (sym same) ∙ sym (ap (λ o. option_map_or (λ (p : PoolRow). p.maximum) o 0) e))
+        (queue_shown pool k.queued)
+        ran joined
+        (ap₂ (λ m n. m - n) (ap (λ (x : Counts). x.attached) (sym same)) (ap (λ (x : Counts). x.running) (sym same)) ∙ sym (less _ _ _ (idle_shown i pool)))
+        (ap₂ (λ m n. m - n) joined long)
+      where
+        less : (m n k : ℕ) → m + n ≡ k → m ≡ k - n
+        less m n k e = omega (arith, e)
+
+-- of a pool that was not made
+pub is_no_tally : (i : Inside) (pool : ℕ) → IsLiveWorld i → counts_of pool i.pools ≡ None → no_tally ≡ tally_of (shown i).world pool
+is_no_tally i pool k is = known (slice_get i.pools.pools pool) refl is
+  where
+    known : (o : Option PoolRow) → slice_get i.pools.pools pool ≡ o → counts_of pool i.pools ≡ None → no_tally ≡ tally_of (shown i).world pool
+    known (Some row) e h = let some : Some (counts_at i pool row) ≡ None = sym (ap (option_map (counts_at i pool)) e) ∙ h in absurd cc
+    known None e h =
+        let w : World = (shown i).world in
+        let past : length i.pools.pools ≤ pool = past_end i.pools.pools pool e in
+        let none_joined : attached w pool ≡ 0 = attached_shown i pool ∙ ap length (attached_nowhere (length i.pools.pools) pool i.pools.workers past k.sized.homes) in
+        let none_run : length (filter (runs_in pool) i.pools.workers) ≡ 0 = omega (arith, idle_shown i pool, attached_shown i pool, none_joined) in
+        same_tally _ _ _ _ _ _ _ _ _ _ _ _ _ _
+        (sym (ap (λ o. option_map_or (λ (p : PoolRow). cond p.closed 0 p.minimum) o 0) e))
+        (sym (ap (λ o. option_map_or (λ (p : PoolRow). p.maximum) o 0) e))
+        (sym (ap length (queue_nowhere (length i.pools.pools) pool i.callbacks.rows past k.sound.callback_pools)))
+        (sym (k.tallied.run pool ∙ none_run))
+        (sym none_joined)
+        (omega (arith, idle_shown i pool, attached_shown i pool, none_joined))
+        (omega (arith, none_joined))
+
+-- ---- what is outstanding
+
+shuffled : (a b c d : Bool) → ((a || b) || (c || d)) ≡ ((a || c) || (b || d))
+shuffled true b c d = refl
+shuffled false true true d = refl
+shuffled false true false d = refl
+shuffled false false c d = refl
+
+any_or : {X : Type 0} (p q r : X → Bool) (xs : List X) → AllByRecursion (λ x. r x ≡ (p x || q x)) xs → (list_any p xs || list_any q xs) ≡ list_any r xs
+any_or p q r [] all = refl
+any_or p q r (x ∷ xs) all = shuffled (p x) (list_any p xs) (q x) (list_any q xs) ∙ ap₂ (λ a b. a || b) (sym all.0) (any_or p q r xs all.1)
+
+lives_so : (s : Status) (b : Bool) → (is_pending s || is_running s) ≡ true → (is_live s && b) ≡ ((is_pending s && b) || (is_running s && b))
+lives_so Expected b e = absurd cc
+lives_so Issued b e = absurd cc
+lives_so Pending b e = sym (or_false b)
+  where
+    or_false : (x : Bool) → (x || false) ≡ x
+    or_false true = refl
+    or_false false = refl
+lives_so (Running worker associated slots) b e = refl
+lives_so Returned b e = absurd cc
+lives_so Cancelled b e = absurd cc
+
+-- a callback of the pool is under way where one waits or runs
+pub outstanding : (pool : ℕ) (cs : List CallbackRow) → AllByRecursion (λ c. waits_or_runs c ≡ true) cs
+    → (nat_lt 0 (length (filter (is_pending_in pool) cs)) || nat_lt 0 (length (filter (is_running_in pool) cs))) ≡ list_any (λ (c : CallbackRow). is_live c.status && (c.pool.0 == pool)) cs
+outstanding pool cs all =
+    ap₂ (λ a b. a || b) (some_pass (is_pending_in pool) cs) (some_pass (is_running_in pool) cs)
+    ∙ any_or (is_pending_in pool) (is_running_in pool) (λ (c : CallbackRow). is_live c.status && (c.pool.0 == pool)) cs
+    (all_along (λ c. waits_or_runs c ≡ true) (λ (c : CallbackRow). (is_live c.status && (c.pool.0 == pool)) ≡ (is_pending_in pool c || is_running_in pool c)) (λ c h. lives_so c.status (c.pool.0 == pool) h) cs all)

@@ -1,0 +1,9 @@
+pub mod Lists
+pub mod Entries
+pub mod Queued
+pub mod Tallied
+pub mod Alive
+pub mod Moving
+pub mod Counting
+pub mod Using
+pub mod Opening

@@ -1,0 +1,115 @@
+-- Lists: what passes a test, and what stays so when a row is set.
+use Rattle.std.proofs.Common.{◌≡◌, ℕ, suc, zero, ◌+◌, ◌<◌, ◌≤◌, Bool, true, false, cond, ◌||◌, nat_lt, List, [], ◌∷◌, ◌++◌, length, map, slice_get, slice_set, replicate, Some, None, refl, ap, ap₂, ◌∙◌, arith, filter, length-append, lt-ltb}
+use Rattle.std.specs.List.{AllByRecursion, list_any}
+use Rattle.std.specs.Option.{option_map_or}
+use Rattle.std.proofs.lemmas.List.Elements.{filter-append}
+use Rattle.tp_model.proofs.Lists.{length_filter_set}
+
+-- ---- filters
+
+pub filter_all : {X : Type 0} (p : X → Bool) (xs : List X) → AllByRecursion (λ x. p x ≡ true) xs → filter p xs ≡ xs
+filter_all p [] all = refl
+filter_all p (x ∷ xs) all = ap (λ b. cond b (x ∷ filter p xs) (filter p xs)) all.0 ∙ ap (λ t. x ∷ t) (filter_all p xs all.1)
+
+pub filter_none : {X : Type 0} (p : X → Bool) (xs : List X) → AllByRecursion (λ x. p x ≡ false) xs → filter p xs ≡ []
+filter_none p [] all = refl
+filter_none p (x ∷ xs) all = ap (λ b. cond b (x ∷ filter p xs) (filter p xs)) all.0 ∙ filter_none p xs all.1
+
+pub filter_map : {X Y : Type 0} (p : Y → Bool) (f : X → Y) (xs : List X) → filter p (map f xs) ≡ map f (filter (λ x. p (f x)) xs)
+filter_map p f [] = refl
+filter_map {X} p f (x ∷ xs) =
+    elim (p (f x)) as (λ b. cond b (f x ∷ filter p (map f xs)) (filter p (map f xs)) ≡ map f (cond b (x ∷ filter (λ y. p (f y)) xs) (filter (λ y. p (f y)) xs))) [
+      | true ↦ ap (λ t. f x ∷ t) (filter_map p f xs)
+      | false ↦ filter_map p f xs
+    ]
+
+pub all_pass : {X : Type 0} (p : X → Bool) (xs : List X) → AllByRecursion (λ x. p x ≡ true) (filter p xs)
+all_pass p [] = tt
+all_pass p (x ∷ xs) =
+    elim (p x) as (λ b. p x ≡ b → AllByRecursion (λ y. p y ≡ true) (cond b (x ∷ filter p xs) (filter p xs))) [
+      | true ↦ λ e. (e, all_pass p xs)
+      | false ↦ λ _. all_pass p xs
+    ] refl
+
+pub one_more : {X : Type 0} (p : X → Bool) (xs : List X) (x : X) → p x ≡ true → length (filter p (xs ++ x ∷ [])) ≡ length (filter p xs) + 1
+one_more p xs x e =
+    ap length (filter-append p xs (x ∷ [])) ∙ length-append (filter p xs) (filter p (x ∷ [])) ∙ ap (λ b. length (filter p xs) + length (cond b (x ∷ []) [])) e
+
+pub none_more : {X : Type 0} (p : X → Bool) (xs : List X) (x : X) → p x ≡ false → length (filter p (xs ++ x ∷ [])) ≡ length (filter p xs)
+none_more p xs x e =
+    ap length (filter-append p xs (x ∷ [])) ∙ length-append (filter p xs) (filter p (x ∷ [])) ∙ ap (λ b. length (filter p xs) + length (cond b (x ∷ []) [])) e ∙ omega arith
+
+abbrev pub one_if : Bool → ℕ
+one_if b = cond b 1 0
+
+pub length_same : {X : Type 0} (p : X → Bool) (xs : List X) (i : ℕ) (old new : X) → slice_get xs i ≡ Some old → p old ≡ p new → length (filter p (slice_set xs i new)) ≡ length (filter p xs)
+length_same p xs i old new is same = omega (arith, length_filter_set p xs i old new is, ap (λ b. one_if b) same)
+
+pub some_pass : {X : Type 0} (p : X → Bool) (xs : List X) → nat_lt 0 (length (filter p xs)) ≡ list_any p xs
+some_pass p [] = refl
+some_pass p (x ∷ xs) =
+    elim (p x) as (λ b. nat_lt 0 (length (cond b (x ∷ filter p xs) (filter p xs))) ≡ (b || list_any p xs)) [
+      | true ↦ lt-ltb 0 (suc (length (filter p xs))) (omega arith)
+      | false ↦ some_pass p xs
+    ]
+
+-- ---- all of a list
+
+pub all_along : {X : Type 0} (P Q : X → Type 0) → ((x : X) → P x → Q x) → (xs : List X) → AllByRecursion P xs → AllByRecursion Q xs
+all_along P Q f [] all = tt
+all_along P Q f (x ∷ xs) all = (f x all.0, all_along P Q f xs all.1)
+
+pub all_set : {X : Type 0} (P : X → Type 0) (xs : List X) (i : ℕ) (new : X) → P new → AllByRecursion P xs → AllByRecursion P (slice_set xs i new)
+all_set P [] i new here all = tt
+all_set P (x ∷ xs) zero new here all = (here, all.1)
+all_set P (x ∷ xs) (suc i) new here all = (all.0, all_set P xs i new here all.1)
+
+pub both_parts : {X : Type 0} (P : X → Type 0) (xs ys : List X) → AllByRecursion P xs → AllByRecursion P ys → AllByRecursion P (xs ++ ys)
+both_parts P [] ys a b = b
+both_parts P (x ∷ xs) ys a b = (a.0, both_parts P xs ys a.1 b)
+
+-- ---- a row is set
+
+pub set_twice : {X : Type 0} (xs : List X) (i : ℕ) (x y : X) → slice_set (slice_set xs i x) i y ≡ slice_set xs i y
+set_twice [] i x y = refl
+set_twice (z ∷ zs) zero x y = refl
+set_twice (z ∷ zs) (suc i) x y = ap (λ t. z ∷ t) (set_twice zs i x y)
+
+pub set_there : {X : Type 0} (xs : List X) (i : ℕ) (x : X) → slice_get xs i ≡ Some x → slice_set xs i x ≡ xs
+set_there [] i x e = refl
+set_there (y ∷ ys) zero x e = cc
+set_there (y ∷ ys) (suc i) x e = ap (λ t. y ∷ t) (set_there ys i x e)
+
+pub past_end : {X : Type 0} (xs : List X) (i : ℕ) → slice_get xs i ≡ None → length xs ≤ i
+past_end [] i e = omega arith
+past_end (x ∷ xs) zero e = absurd cc
+past_end (x ∷ xs) (suc i) e = omega (arith, past_end xs i e)
+
+-- ---- some of a list
+
+pub any_at : {X : Type 0} (p : X → Bool) (xs : List X) (i : ℕ) → option_map_or p (slice_get xs i) false ≡ true → list_any p xs ≡ true
+any_at p [] i e = absurd cc
+any_at p (x ∷ xs) zero e = ap (λ b. b || list_any p xs) e
+any_at p (x ∷ xs) (suc i) e = ap (λ b. p x || b) (any_at p xs i e) ∙ or_true (p x)
+  where
+    or_true : (b : Bool) → (b || true) ≡ true
+    or_true true = refl
+    or_true false = refl
+
+pub any_nowhere : {X : Type 0} (p : X → Bool) (xs : List X) → ((k : ℕ) → k < length xs → option_map_or p (slice_get xs k) false ≡ false) → list_any p xs ≡ false
+any_nowhere p [] nowhere = refl
+any_nowhere p (x ∷ xs) nowhere = ap₂ (λ a b. a || b) (nowhere 0 (omega arith)) (any_nowhere p xs (λ k lt. nowhere (suc k) (omega (arith, lt))))
+
+-- ---- so many equal rows
+
+pub map_replicate : {X Y : Type 0} (f : X → Y) (x : X) (n : ℕ) → map f (replicate n x) ≡ replicate n (f x)
+map_replicate f x zero = refl
+map_replicate f x (suc n) = ap (λ t. f x ∷ t) (map_replicate f x n)
+
+pub length_replicate : {X : Type 0} (x : X) (n : ℕ) → length (replicate n x) ≡ n
+length_replicate x zero = refl
+length_replicate x (suc n) = ap suc (length_replicate x n)
+
+pub all_replicate : {X : Type 0} (P : X → Type 0) (x : X) → P x → (n : ℕ) → AllByRecursion P (replicate n x)
+all_replicate P x here zero = tt
+all_replicate P x here (suc n) = (here, all_replicate P x here n)

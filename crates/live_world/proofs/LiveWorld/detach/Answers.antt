@@ -1,0 +1,8 @@
+use Rattle.live_world.proofs.Moving.{detached}
+use Rattle.live_world.proofs.LiveWorld.detach.Goals as goal
+
+pub invariant_of-self : goal.invariant_of-self
+invariant_of-self c = (detached c.self.inside c.args.self.now c.args.by c.detach.new.self c.self.view_is c.self.invariant c.requires c.detach.ensures).keeps
+
+pub returns : goal.returns
+returns c = (detached c.self.inside c.args.self.now c.args.by c.detach.new.self c.self.view_is c.self.invariant c.requires c.detach.ensures).becomes

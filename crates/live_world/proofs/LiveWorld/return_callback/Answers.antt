@@ -1,0 +1,8 @@
+use Rattle.live_world.proofs.Moving.{returned_by}
+use Rattle.live_world.proofs.LiveWorld.return_callback.Goals as goal
+
+pub invariant_of-self : goal.invariant_of-self
+invariant_of-self c = (returned_by c.self.inside c.args.self.now c.args.by c.give_back.new.self c.remove-was_there.new.self c.self.view_is c.self.invariant c.requires c.give_back.ensures c.remove-was_there.ensures.after).keeps
+
+pub returns : goal.returns
+returns c = (returned_by c.self.inside c.args.self.now c.args.by c.give_back.new.self c.remove-was_there.new.self c.self.view_is c.self.invariant c.requires c.give_back.ensures c.remove-was_there.ensures.after).becomes

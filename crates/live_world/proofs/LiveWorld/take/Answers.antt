@@ -1,0 +1,17 @@
+use Rattle.std.proofs.Common.{◌+◌, ap, ◌∙◌, arith, find}
+use Rattle.tp_model.specs.Counts.{has_number}
+use Rattle.tp_model.proofs.Callbacks.{found_bounds}
+use Rattle.live_world.specs.Live.{Live}
+use Rattle.live_world.proofs.Moving.{taken_by}
+use Rattle.live_world.proofs.LiveWorld.take.Goals as goal
+
+pub take-requires-clause-a_callback : goal.take-requires-clause-a_callback
+take-requires-clause-a_callback c =
+    let found = ap (λ (l : Live). find (has_number c.args.callback.number) l.world.callbacks) c.self.view_is ∙ c.requires.found in
+    omega (arith, (found_bounds c.args.callback.number 1 (c.self.inside.made + 1) c.args.callback c.self.inside.callbacks.rows c.self.invariant.sound.numbers found).0)
+
+pub invariant_of-self : goal.invariant_of-self
+invariant_of-self c = (taken_by c.self.inside c.args.self.now c.args.by c.args.callback c.take.new.self c.replace-was_there.new.self c.remove-was_pending.new.self c.self.view_is c.self.invariant c.requires c.take.ensures c.replace-was_there.ensures.after c.remove-was_pending.ensures.after).keeps
+
+pub returns : goal.returns
+returns c = (taken_by c.self.inside c.args.self.now c.args.by c.args.callback c.take.new.self c.replace-was_there.new.self c.remove-was_pending.new.self c.self.view_is c.self.invariant c.requires c.take.ensures c.replace-was_there.ensures.after c.remove-was_pending.ensures.after).becomes

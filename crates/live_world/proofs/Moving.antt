@@ -1,0 +1,304 @@
+-- What the parts show after each change, and that they keep their invariant.
+use Rattle.std.proofs.Common.{◌≡◌, ◌≢◌, ℕ, ◌+◌, ◌-◌, ◌<◌, ◌≤◌, Bool, true, false, cond, not, ◌||◌, ◌==◌, List, [], ◌∷◌, ◌++◌, length, map, slice_get, slice_set, Option, Some, None, refl, sym, ap, ap₂, ◌∙◌, subst, arith, filter, find, option_map, ne_eqb, length-set}
+use Rattle.std.proofs.lemmas.List.{map-set}
+use Rattle.std.proofs.lemmas.Option.{slice_get-map}
+use Rattle.tp_base.specs.declared.ids.PoolId.{PoolId}
+use Rattle.tp_base.specs.declared.limits.Limits.{Limits}
+use Rattle.tp_base.specs.declared.plans.Idle.{Idle}
+use Rattle.tp_base.specs.declared.plans.Busy.{Busy}
+use Rattle.tp_base.specs.declared.plans.Mark.TheVariants.{Long}
+use Rattle.tp_base.specs.declared.plans.Change.{Change}
+use Rattle.tp_base.specs.declared.plans.Change.TheVariants as change
+use Rattle.tp_base.specs.declared.rows.CallbackRow.{CallbackRow}
+use Rattle.tp_base.specs.declared.rows.WorkerRow.{WorkerRow}
+use Rattle.tp_base.specs.declared.rows.ClientRow.{ClientRow}
+use Rattle.callback_rows.specs.LiveCallbacks.{LiveCallbacks}
+use Rattle.handle_table.specs.Table.{Table}
+use Rattle.prio_queue.specs.Pending.{Pending, queue_of, with_queue, without_number}
+use Rattle.pool_rows.specs.Pools.{Pools, with_worker as with_kept_worker}
+use Rattle.pool_rows.specs.Workers.{idle_in, unattached as unattached_row}
+use Rattle.pool_rows.specs.declared.WorkerRow as kept
+use Rattle.tp_model.specs.World.{World}
+use Rattle.tp_model.specs.Counts.{has_number, is_pending, is_running, is_live}
+use Rattle.tp_model.specs.Changes.{changed, replaced, taken, marked, returned}
+use Rattle.tp_model.specs.Allowed.{IsAllowed, Runs, news}
+use Rattle.tp_model.specs.Sound.{IsSound, IsRising}
+use Rattle.tp_model.specs.Remembered.{lives, forget}
+use Rattle.tp_model.proofs.Lists.{all_get, find_all}
+use Rattle.tp_model.proofs.Callbacks.{found_bounds, find_replaced as find_here, pending_not_running}
+use Rattle.tp_model.proofs.Preserving.{changed_sound}
+use Rattle.tp_model.proofs.Forgetting.{forget_sound}
+use Rattle.live_world.specs.declared.objects.Object.{Object}
+use Rattle.live_world.specs.declared.LiveWorld.TheInside.{Inside}
+use Rattle.live_world.specs.Live.{Live, moved}
+use Rattle.live_world.specs.Parts.{world_of, shown_worker}
+use Rattle.live_world.specs.View.{shown, IsLiveWorld}
+use Rattle.live_world.specs.Invariant.{AreKept, AreSized, AreLive, AreQueued, AreTallied, IsHome, IsMarked, AreMarked}
+use Rattle.live_world.proofs.Lists.{all_set, set_twice, set_there}
+use Rattle.live_world.proofs.Alive.{alive_more, alive_replaced, alive_less, removed_rows}
+use Rattle.live_world.proofs.Queued.{queued_entry, queued_more, queued_less, queued_same, queued_lives}
+use Rattle.live_world.proofs.Tallied.{AreApart, is_behind, runs_nothing, runs_this, worker_changed, idle_alike, busy_alike, tallied_more, tallied_free, tallied_both, tallied_lives, marked_set, marked_apart, marked_replaced, marked_others, others_apart, same_found}
+
+-- ---- what every change shows
+
+-- the parts after a change that leads to this world; that it can be reached comes from the model
+pub record After (limits : Limits) (pools : Pools) (objects : Table Object) (callbacks : LiveCallbacks) (queues : Pending) (clients : List ClientRow) (v : World) : Type 0 where
+  pub shows : world_of limits pools objects callbacks.rows clients ≡ forget v
+  pub sized : AreSized limits pools objects clients
+  pub alive : AreLive limits callbacks
+  pub queued : AreQueued limits callbacks.rows queues
+  pub tallied : AreTallied callbacks.rows pools.workers
+
+pub record Moved (limits : Limits) (pools : Pools) (objects : Table Object) (callbacks : LiveCallbacks) (queues : Pending) (clients : List ClientRow) (made : ℕ) (l : Live) (ch : Change) : Type 0 where
+  pub keeps : AreKept limits pools objects callbacks queues clients made
+  pub becomes : record { world = world_of limits pools objects callbacks.rows clients; made = made } ≡ moved l ch
+
+pub moved_by : (i : Inside) (l : Live) (ch : Change) (pools : Pools) (objects : Table Object) (callbacks : LiveCallbacks) (queues : Pending) (clients : List ClientRow) (made : ℕ)
+    → shown i ≡ l → IsLiveWorld i → IsAllowed (l.made + 1) l.world ch → made ≡ i.made + news ch
+    → (IsAllowed (i.made + 1) (shown i).world ch → After i.limits pools objects callbacks queues clients (changed (shown i).world ch))
+    → Moved i.limits pools objects callbacks queues clients made l ch
+moved_by i l ch pools objects callbacks queues clients made is k allowed counts after =
+    let w : World = (shown i).world in
+    let allowed_here : IsAllowed (i.made + 1) w ch = subst (λ (x : Live). IsAllowed (x.made + 1) x.world ch) (sym is) allowed in
+    let a = after allowed_here in
+    let fresh : (i.made + 1) + news ch ≡ made + 1 = omega (arith, counts) in
+    record {
+      keeps = record {
+        sized = a.sized;
+        alive = a.alive;
+        queued = a.queued;
+        tallied = a.tallied;
+        sound = subst (λ v. IsSound (made + 1) v) (sym a.shows)
+            (subst (λ n. IsSound n (forget (changed w ch))) fresh (forget_sound ((i.made + 1) + news ch) (changed w ch) (changed_sound (i.made + 1) w ch k.sound allowed_here)));
+      };
+      becomes = ap₂ (λ (v : World) (n : ℕ). record { world = v; made = n }) a.shows counts ∙ ap (λ (x : Live). moved x ch) is;
+    }
+
+-- callbacks and workers alone change
+shows_along : (limits : Limits) (pools : Pools) (objects : Table Object) (rows : List CallbackRow) (clients : List ClientRow) (workers : List kept.WorkerRow) (now after : List CallbackRow) (workers_after : List WorkerRow)
+    → now ≡ filter lives after → map shown_worker workers ≡ workers_after
+    → world_of limits (record pools { workers = workers }) objects now clients ≡ forget (record (world_of limits pools objects rows clients) { callbacks = after; workers = workers_after })
+shows_along limits pools objects rows clients workers now after workers_after ec ew =
+    ap₂ (λ cs ws. record (world_of limits pools objects rows clients) { callbacks = cs; workers = ws }) ec ew
+
+set_shown : (workers : List kept.WorkerRow) (number : ℕ) (new : kept.WorkerRow) (target : WorkerRow) → shown_worker new ≡ target → map shown_worker (slice_set workers (number - 1) new) ≡ slice_set (map shown_worker workers) (number - 1) target
+set_shown workers number new target shows = map-set shown_worker workers (number - 1) new ∙ ap (λ t. slice_set (map shown_worker workers) (number - 1) t) shows
+
+-- another row of a worker
+sized_worker : {limits : Limits} {objects : Table Object} {clients : List ClientRow} (pools : Pools) (place : ℕ) (new : kept.WorkerRow) → IsHome (length pools.pools) new → AreSized limits pools objects clients → AreSized limits (record pools { workers = slice_set pools.workers place new }) objects clients
+sized_worker pools place new home k =
+    record {
+      in_range = k.in_range;
+      pool_limit = k.pool_limit;
+      pools_least = k.pools_least;
+      pools_within = k.pools_within;
+      worker_count = length-set pools.workers place new ∙ k.worker_count;
+      homes = all_set (IsHome (length pools.pools)) pools.workers place new home k.homes;
+      object_limit = k.object_limit;
+      client_count = k.client_count;
+    }
+
+-- of the same pool as the row before
+same_home : {limits : Limits} {objects : Table Object} {clients : List ClientRow} (pools : Pools) (place : ℕ) (row new : kept.WorkerRow) → slice_get pools.workers place ≡ Some row → new.pool ≡ row.pool → AreSized limits pools objects clients → IsHome (length pools.pools) new
+same_home pools place row new is same k = subst (λ p. IsHome (length pools.pools) (record new { pool = p })) (sym same) (all_get (IsHome (length pools.pools)) pools.workers place row k.homes is)
+
+-- ---- a worker that runs nothing
+
+free_after : (i : Inside) (number : ℕ) (row new : kept.WorkerRow) (target : WorkerRow) → IsLiveWorld i → slice_get i.pools.workers (number - 1) ≡ Some row → row.callback ≡ 0 → new.callback ≡ 0 → IsHome (length i.pools.pools) new → shown_worker new ≡ target
+    → After i.limits (record i.pools { workers = slice_set i.pools.workers (number - 1) new }) i.objects i.callbacks i.queues i.clients.items (record (shown i).world { workers = slice_set (shown i).world.workers (number - 1) target })
+free_after i number row new target k is idle none home shows =
+    record {
+      shows = shows_along i.limits i.pools i.objects i.callbacks.rows i.clients.items (slice_set i.pools.workers (number - 1) new) i.callbacks.rows i.callbacks.rows (slice_set (shown i).world.workers (number - 1) target)
+          (sym k.alive.live) (set_shown i.pools.workers number new target shows);
+      sized = sized_worker i.pools (number - 1) new home k.sized;
+      alive = k.alive;
+      queued = k.queued;
+      tallied = tallied_free i.callbacks.rows i.pools.workers (number - 1) row new is idle none k.tallied;
+    }
+
+pub attached : (i : Inside) (l : Live) (worker : ℕ) (pool : PoolId) (pools : Pools) → shown i ≡ l → IsLiveWorld i → IsAllowed (l.made + 1) l.world (change.Attach worker pool)
+    → pools ≡ with_kept_worker worker (λ _. idle_in pool) i.pools → Moved i.limits pools i.objects i.callbacks i.queues i.clients.items i.made l (change.Attach worker pool)
+attached i l worker pool pools is k allowed now =
+    moved_by i l (change.Attach worker pool) pools i.objects i.callbacks i.queues i.clients.items i.made is k allowed (omega arith) (λ a.
+    let b = is_behind i.pools.workers worker None None a.stands in
+    subst (λ (p : Pools). After i.limits p i.objects i.callbacks i.queues i.clients.items (changed (shown i).world (change.Attach worker pool)))
+    (sym (now ∙ worker_changed i.pools worker b.row (λ _. idle_in pool) b.at_place b.from_one))
+    (free_after i worker b.row (idle_in pool) (record { pool = Some pool; callback = None }) k b.at_place (runs_nothing b.row.callback b.same_callback) refl a.home refl))
+
+pub detached : (i : Inside) (l : Live) (by : Idle) (pools : Pools) → shown i ≡ l → IsLiveWorld i → IsAllowed (l.made + 1) l.world (change.Detach by)
+    → pools ≡ with_kept_worker by.worker (λ _. unattached_row) i.pools → Moved i.limits pools i.objects i.callbacks i.queues i.clients.items i.made l (change.Detach by)
+detached i l by pools is k allowed now =
+    moved_by i l (change.Detach by) pools i.objects i.callbacks i.queues i.clients.items i.made is k allowed (omega arith) (λ a.
+    let b = is_behind i.pools.workers by.worker (Some by.pool) None a in
+    subst (λ (p : Pools). After i.limits p i.objects i.callbacks i.queues i.clients.items (changed (shown i).world (change.Detach by)))
+    (sym (now ∙ worker_changed i.pools by.worker b.row (λ _. unattached_row) b.at_place b.from_one))
+    (free_after i by.worker b.row unattached_row (record { pool = None; callback = None }) k b.at_place (runs_nothing b.row.callback b.same_callback) refl tt refl))
+
+-- ---- a callback begins
+
+-- the parts that change, by what each became
+pub with_parts : (i : Inside) (v : World) (pools p : Pools) (callbacks c : LiveCallbacks) (queues q : Pending) → pools ≡ p → callbacks ≡ c → queues ≡ q
+    → After i.limits p i.objects c q i.clients.items v → After i.limits pools i.objects callbacks queues i.clients.items v
+with_parts i v pools p callbacks c queues q ep ec eq a =
+    subst (λ x. After i.limits x i.objects callbacks queues i.clients.items v) (sym ep)
+    (subst (λ x. After i.limits p i.objects x queues i.clients.items v) (sym ec)
+    (subst (λ x. After i.limits p i.objects c x i.clients.items v) (sym eq) a))
+
+pub taken_by : (i : Inside) (l : Live) (by : Idle) (c : CallbackRow) (pools : Pools) (callbacks : LiveCallbacks) (queues : Pending) → shown i ≡ l → IsLiveWorld i → IsAllowed (l.made + 1) l.world (change.Take by c)
+    → pools ≡ with_kept_worker by.worker (λ w. record w { callback = c.number; long = c.long }) i.pools
+    → callbacks ≡ record i.callbacks { rows = replaced (taken c by.worker) i.callbacks.rows }
+    → queues ≡ with_queue i.queues by.pool.0 (without_number c.number (queue_of i.queues by.pool.0))
+    → Moved i.limits pools i.objects callbacks queues i.clients.items i.made l (change.Take by c)
+taken_by i l by c pools callbacks queues is k allowed pools_now rows_now queues_now =
+    moved_by i l (change.Take by c) pools i.objects callbacks queues i.clients.items i.made is k allowed (omega arith) (λ a.
+    let b = is_behind i.pools.workers by.worker (Some by.pool) None a.idles in
+    let r : CallbackRow = taken c by.worker in
+    let new : kept.WorkerRow = record b.row { callback = c.number; long = c.long } in
+    let target : WorkerRow = record { pool = Some by.pool; callback = Some c.number } in
+    let above : 1 ≤ c.number = (found_bounds c.number 1 (i.made + 1) c i.callbacks.rows k.sound.numbers a.found).0 in
+    let busy : c.number ≢ 0 = λ z. omega (arith, z, above) in
+    let idle : b.row.callback ≡ 0 = runs_nothing b.row.callback b.same_callback in
+    let shows : shown_worker new ≡ target = ap₂ (λ (p : Option PoolId) (z : Bool). record { pool = p; callback = cond z None (Some c.number) }) b.same_pool (ne_eqb c.number 0 busy) in
+    let home : c.pool.0 < length i.pools.pools = find_all (λ (x : CallbackRow). x.pool.0 < length i.pools.pools) (has_number c.number) c i.callbacks.rows k.sound.callback_pools a.found in
+    let alive_now = alive_replaced i.callbacks r refl refl k.alive in
+    with_parts i (changed (shown i).world (change.Take by c)) pools (record i.pools { workers = slice_set i.pools.workers (by.worker - 1) new }) callbacks (record i.callbacks { rows = replaced r i.callbacks.rows })
+    queues (with_queue i.queues c.pool.0 (without_number c.number (queue_of i.queues c.pool.0)))
+    (pools_now ∙ worker_changed i.pools by.worker b.row (λ w. record w { callback = c.number; long = c.long }) b.at_place b.from_one)
+    rows_now
+    (queues_now ∙ ap (λ (p : PoolId). with_queue i.queues p.0 (without_number c.number (queue_of i.queues p.0))) (sym a.home))
+    (record {
+      shows = shows_along i.limits i.pools i.objects i.callbacks.rows i.clients.items (slice_set i.pools.workers (by.worker - 1) new) (replaced r i.callbacks.rows) (replaced r i.callbacks.rows) (slice_set (shown i).world.workers (by.worker - 1) target)
+          (sym alive_now.live) (set_shown i.pools.workers by.worker new target shows);
+      sized = sized_worker i.pools (by.worker - 1) new (same_home i.pools (by.worker - 1) b.row new b.at_place refl k.sized) k.sized;
+      alive = alive_now;
+      queued = queued_less (i.made + 1) r c (omega (arith, home, k.sized.pools_within)) a.pending refl refl k.sound.numbers a.found k.queued;
+      tallied = tallied_both (i.made + 1) r c i.callbacks.rows i.pools.workers (by.worker - 1) b.row new k.sound.numbers a.found b.at_place
+          (idle_alike c b.row (pending_not_running c.status a.pending) idle)
+          (busy_alike r new by.pool b.same_pool busy a.home refl refl)
+          (marked_set (replaced r i.callbacks.rows) i.pools.workers (by.worker - 1) new (λ _. (r, find_here r c i.callbacks.rows a.found, refl))
+          (marked_replaced r c i.callbacks.rows i.pools.workers a.found refl k.tallied.marked)) k.tallied;
+    }))
+
+-- ---- a callback that runs
+
+-- what is known of it in terms of the parts
+record IsRun (i : Inside) (by : Busy) : Type 0 where
+  row : kept.WorkerRow
+  at_place : slice_get i.pools.workers (by.worker - 1) ≡ Some row
+  from_one : 1 ≤ by.worker
+  joined : row.pool ≡ Some by.pool
+  runs : row.callback ≡ by.callback.number
+  busy : row.callback ≢ 0
+  ran : is_running by.callback.status ≡ true
+  waits_not : is_pending by.callback.status ≡ false
+  mark : by.callback.long ≡ row.long
+  -- no other worker runs it
+  alone : (new : kept.WorkerRow) → new.callback ≡ 0 → AreApart by.callback.number (slice_set i.pools.workers (by.worker - 1) new)
+
+is_run : (i : Inside) (by : Busy) → IsLiveWorld i → Runs (shown i).world by → IsRun i by
+is_run i by k a =
+    let b = is_behind i.pools.workers by.worker (Some by.pool) (Some by.callback.number) a.stands in
+    let this = runs_this b.row.callback by.callback.number b.same_callback in
+    let mark = all_get (IsMarked i.callbacks.rows) i.pools.workers (by.worker - 1) b.row k.tallied.marked b.at_place this.1 in
+    record {
+      row = b.row;
+      at_place = b.at_place;
+      from_one = b.from_one;
+      joined = b.same_pool;
+      runs = this.0;
+      busy = this.1;
+      ran = ap is_running a.running;
+      waits_not = ap is_pending a.running;
+      mark = ap (λ (x : CallbackRow). x.long) (same_found by.callback.number b.row.callback by.callback mark.0 i.callbacks.rows this.0 a.found mark.1) ∙ sym mark.2;
+      alone = λ new none. others_apart by.callback by.worker a.associated a.slots i.callbacks.rows 1 (by.worker - 1) i.pools.workers new a.found a.running (omega (arith, b.from_one)) none k.sound.workers;
+    }
+
+shows_same : (workers : List kept.WorkerRow) (place : ℕ) (row new : kept.WorkerRow) → slice_get workers place ≡ Some row → shown_worker new ≡ shown_worker row → map shown_worker (slice_set workers place new) ≡ map shown_worker workers
+shows_same workers place row new is same =
+    map-set shown_worker workers place new ∙ ap (λ t. slice_set (map shown_worker workers) place t) same
+    ∙ set_there (map shown_worker workers) place (shown_worker row) (slice_get-map shown_worker workers place ∙ ap (option_map shown_worker) is)
+
+-- it may run long
+pub marked_long : (i : Inside) (l : Live) (by : Busy) (pools : Pools) (callbacks : LiveCallbacks) → shown i ≡ l → IsLiveWorld i → IsAllowed (l.made + 1) l.world (change.Mark by Long)
+    → pools ≡ with_kept_worker by.worker (λ w. record w { long = true }) i.pools
+    → callbacks ≡ record i.callbacks { rows = replaced (marked Long by.callback) i.callbacks.rows }
+    → Moved i.limits pools i.objects callbacks i.queues i.clients.items i.made l (change.Mark by Long)
+marked_long i l by pools callbacks is k allowed pools_now rows_now =
+    moved_by i l (change.Mark by Long) pools i.objects callbacks i.queues i.clients.items i.made is k allowed (omega arith) (λ a.
+    let on = is_run i by k a in
+    let c : CallbackRow = by.callback in
+    let r : CallbackRow = marked Long c in
+    let new : kept.WorkerRow = record on.row { long = true } in
+    let rest : kept.WorkerRow = record on.row { callback = 0; long = false } in
+    let alive_now = alive_replaced i.callbacks r (ap is_live a.running) (ap (λ s. is_pending s || is_running s) a.running) k.alive in
+    with_parts i (changed (shown i).world (change.Mark by Long)) pools (record i.pools { workers = slice_set i.pools.workers (by.worker - 1) new }) callbacks (record i.callbacks { rows = replaced r i.callbacks.rows })
+    i.queues i.queues
+    (pools_now ∙ worker_changed i.pools by.worker on.row (λ w. record w { long = true }) on.at_place on.from_one)
+    rows_now refl
+    (record {
+      shows = shows_along i.limits i.pools i.objects i.callbacks.rows i.clients.items (slice_set i.pools.workers (by.worker - 1) new) (replaced r i.callbacks.rows) (replaced r i.callbacks.rows) (shown i).world.workers
+          (sym alive_now.live) (shows_same i.pools.workers (by.worker - 1) on.row new on.at_place refl);
+      sized = sized_worker i.pools (by.worker - 1) new (same_home i.pools (by.worker - 1) on.row new on.at_place refl k.sized) k.sized;
+      alive = alive_now;
+      queued = queued_same (i.made + 1) r c on.waits_not on.waits_not k.sound.numbers a.found k.queued;
+      tallied = tallied_both (i.made + 1) r c i.callbacks.rows i.pools.workers (by.worker - 1) on.row new k.sound.numbers a.found on.at_place
+          (busy_alike c on.row by.pool on.joined on.busy a.home on.ran on.mark)
+          (busy_alike r new by.pool on.joined on.busy a.home on.ran refl)
+          (subst (λ ws. AreMarked (replaced r i.callbacks.rows) ws) (set_twice i.pools.workers (by.worker - 1) rest new)
+          (marked_set (replaced r i.callbacks.rows) (slice_set i.pools.workers (by.worker - 1) rest) (by.worker - 1) new
+          (λ _. (r, ap (λ n. find (has_number n) (replaced r i.callbacks.rows)) on.runs ∙ find_here r c i.callbacks.rows a.found, refl))
+          (marked_apart r i.callbacks.rows (slice_set i.pools.workers (by.worker - 1) rest) (on.alone rest refl)
+          (marked_set i.callbacks.rows i.pools.workers (by.worker - 1) rest (λ runs_now. absurd (runs_now refl)) k.tallied.marked)))) k.tallied;
+    }))
+
+-- it returns
+pub returned_by : (i : Inside) (l : Live) (by : Busy) (pools : Pools) (callbacks : LiveCallbacks) → shown i ≡ l → IsLiveWorld i → IsAllowed (l.made + 1) l.world (change.Return by)
+    → pools ≡ with_kept_worker by.worker (λ w. record w { callback = 0; long = false }) i.pools
+    → callbacks ≡ record i.callbacks { rows = filter (λ (x : CallbackRow). not (x.number == by.callback.number)) i.callbacks.rows }
+    → Moved i.limits pools i.objects callbacks i.queues i.clients.items i.made l (change.Return by)
+returned_by i l by pools callbacks is k allowed pools_now rows_now =
+    moved_by i l (change.Return by) pools i.objects callbacks i.queues i.clients.items i.made is k allowed (omega arith) (λ a.
+    let on = is_run i by k a in
+    let c : CallbackRow = by.callback in
+    let r : CallbackRow = returned c in
+    let new : kept.WorkerRow = record on.row { callback = 0; long = false } in
+    let target : WorkerRow = record { pool = Some by.pool; callback = None } in
+    let shows : shown_worker new ≡ target = ap (λ (p : Option PoolId). record { pool = p; callback = None }) on.joined in
+    let left : List CallbackRow = filter (λ (x : CallbackRow). not (x.number == c.number)) i.callbacks.rows in
+    let removed : left ≡ filter lives (replaced r i.callbacks.rows) = removed_rows i.callbacks r refl k.alive in
+    let before : AreMarked i.callbacks.rows (slice_set i.pools.workers (by.worker - 1) new) = marked_set i.callbacks.rows i.pools.workers (by.worker - 1) new (λ busy. absurd (busy refl)) k.tallied.marked in
+    let marks : AreMarked left (slice_set i.pools.workers (by.worker - 1) new) = marked_others c.number i.callbacks.rows (slice_set i.pools.workers (by.worker - 1) new) (on.alone new refl) before in
+    with_parts i (changed (shown i).world (change.Return by)) pools (record i.pools { workers = slice_set i.pools.workers (by.worker - 1) new }) callbacks (record i.callbacks { rows = left })
+    i.queues i.queues
+    (pools_now ∙ worker_changed i.pools by.worker on.row (λ w. record w { callback = 0; long = false }) on.at_place on.from_one)
+    rows_now refl
+    (record {
+      shows = shows_along i.limits i.pools i.objects i.callbacks.rows i.clients.items (slice_set i.pools.workers (by.worker - 1) new) left (replaced r i.callbacks.rows) (slice_set (shown i).world.workers (by.worker - 1) target)
+          removed (set_shown i.pools.workers by.worker new target shows);
+      sized = sized_worker i.pools (by.worker - 1) new (same_home i.pools (by.worker - 1) on.row new on.at_place refl k.sized) k.sized;
+      alive = alive_less i.callbacks r refl k.alive;
+      queued = subst (λ cs. AreQueued i.limits cs i.queues) (sym removed) (queued_lives (queued_same (i.made + 1) r c on.waits_not refl k.sound.numbers a.found k.queued));
+      tallied = subst (λ cs. AreTallied cs (slice_set i.pools.workers (by.worker - 1) new)) (sym removed)
+          (tallied_lives (replaced r i.callbacks.rows) (slice_set i.pools.workers (by.worker - 1) new) (subst (λ cs. AreMarked cs (slice_set i.pools.workers (by.worker - 1) new)) removed marks)
+          (tallied_both (i.made + 1) r c i.callbacks.rows i.pools.workers (by.worker - 1) on.row new k.sound.numbers a.found on.at_place
+          (busy_alike c on.row by.pool on.joined on.busy a.home on.ran on.mark)
+          (idle_alike r new refl refl)
+          (marked_apart r i.callbacks.rows (slice_set i.pools.workers (by.worker - 1) new) (on.alone new refl) before) k.tallied));
+    }))
+
+-- ---- a callback is made
+
+pub queued_by : (i : Inside) (l : Live) (c : CallbackRow) (callbacks : LiveCallbacks) (queues : Pending) → shown i ≡ l → IsLiveWorld i → IsAllowed (l.made + 1) l.world (change.QueueCallback c)
+    → callbacks ≡ record i.callbacks { rows = i.callbacks.rows ++ c ∷ [] } → queues ≡ queued_entry i.queues c
+    → Moved i.limits i.pools i.objects callbacks queues i.clients.items (i.made + 1) l (change.QueueCallback c)
+queued_by i l c callbacks queues is k allowed rows_now queues_now =
+    moved_by i l (change.QueueCallback c) i.pools i.objects callbacks queues i.clients.items (i.made + 1) is k allowed refl (λ a.
+    let alive_now = alive_more i.callbacks c a.pending k.alive in
+    with_parts i (changed (shown i).world (change.QueueCallback c)) i.pools i.pools callbacks (record i.callbacks { rows = i.callbacks.rows ++ c ∷ [] }) queues (queued_entry i.queues c) refl rows_now queues_now
+    (record {
+      shows = ap (λ cs. record (shown i).world { callbacks = cs }) (sym alive_now.live);
+      sized = k.sized;
+      alive = alive_now;
+      queued = queued_more c (omega (arith, a.home, k.sized.pools_within)) a.pending (subst (λ n. IsRising 1 n i.callbacks.rows) (sym a.number) k.sound.numbers) k.queued;
+      tallied = tallied_more c i.callbacks.rows i.pools.workers (pending_not_running c.status a.pending) k.tallied;
+    }))

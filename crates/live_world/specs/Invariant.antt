@@ -1,0 +1,74 @@
+-- What the parts of a live world keep between calls: each index and each counter says of the rows what it is for. Each
+-- record speaks of the parts that it ties and of no others.
+use Rattle.std.specs.Prelude.{◌≡◌, ◌≢◌, ℕ, ◌+◌, ◌<◌, ◌≤◌, Bool, true, ◌||◌, List, length, map, Some, IfSome}
+use Rattle.std.specs.List.{filter, find, AllByRecursion}
+use Rattle.tp_base.specs.declared.ids.PoolId.{PoolId}
+use Rattle.tp_base.specs.declared.limits.Limits.{Limits}
+use Rattle.tp_base.specs.declared.rows.ClientRow.{ClientRow}
+use Rattle.tp_base.specs.declared.rows.CallbackRow.{CallbackRow}
+use Rattle.tp_base.specs.Ranges.{AreLimitsInRange}
+use Rattle.callback_rows.specs.LiveCallbacks.{LiveCallbacks}
+use Rattle.handle_table.specs.Table.{Table}
+use Rattle.prio_queue.specs.Pending.{Pending, queue_of, held}
+use Rattle.pool_rows.specs.Pools.{Pools}
+use Rattle.pool_rows.specs.Workers.{runs_in, runs_long_in}
+use Rattle.pool_rows.specs.declared.WorkerRow.{WorkerRow}
+use Rattle.tp_model.specs.Counts.{has_number, is_pending, is_running, is_running_in, is_running_long_in}
+use Rattle.tp_model.specs.Sound.{IsSound}
+use Rattle.tp_model.specs.Remembered.{lives}
+use Rattle.live_world.specs.Parts.{world_of, entry_of, queue_among}
+use Rattle.live_world.specs.declared.objects.Object.{Object}
+
+abbrev pub waits : CallbackRow → Bool
+waits c = is_pending c.status
+
+abbrev pub waits_or_runs : CallbackRow → Bool
+waits_or_runs c = is_pending c.status || is_running c.status
+
+-- a worker's pool was made
+abbrev pub IsHome : ℕ → WorkerRow → Type 0
+IsHome pools worker = IfSome worker.pool (λ (pool : PoolId). pool.0 < pools)
+
+-- there are as many of each thing as the limits say, or no more
+pub record AreSized (limits : Limits) (pools : Pools) (objects : Table Object) (clients : List ClientRow) : Type 0 where
+  pub in_range : AreLimitsInRange limits
+  pub pool_limit : pools.limit ≡ limits.pools
+  pub pools_least : 1 ≤ length pools.pools
+  pub pools_within : length pools.pools ≤ limits.pools
+  pub worker_count : length pools.workers ≡ limits.workers
+  pub homes : AllByRecursion (IsHome (length pools.pools)) pools.workers
+  pub object_limit : objects.limit ≡ limits.objects
+  pub client_count : length clients ≡ limits.clients
+
+-- no callback that is over is kept, and each that is kept waits for a worker or runs
+pub record AreLive (limits : Limits) (callbacks : LiveCallbacks) : Type 0 where
+  pub slot_limit : callbacks.slots ≡ limits.slots
+  pub live : filter lives callbacks.rows ≡ callbacks.rows
+  pub at_work : AllByRecursion (λ c. waits_or_runs c ≡ true) callbacks.rows
+
+-- the queues hold exactly the pending callbacks, in the order in which they are taken
+pub record AreQueued (limits : Limits) (callbacks : List CallbackRow) (queues : Pending) : Type 0 where
+  pub queue_slots : queues.slots ≡ limits.slots
+  pub queue_count : length queues.queues ≡ limits.pools
+  pub queued : (pool : ℕ) → queue_of queues pool ≡ map entry_of (queue_among callbacks pool)
+  pub held_all : held queues ≡ length (filter waits callbacks)
+
+-- what a worker runs is kept, and the worker has its long mark
+abbrev pub IsMarked : List CallbackRow → WorkerRow → Type 0
+IsMarked callbacks worker = worker.callback ≢ 0 → (c : CallbackRow) × (find (has_number worker.callback) callbacks ≡ Some c) × (worker.long ≡ c.long)
+
+abbrev pub AreMarked : List CallbackRow → List WorkerRow → Type 0
+AreMarked callbacks workers = AllByRecursion (IsMarked callbacks) workers
+
+-- as many workers are at work in a pool as callbacks run in it
+pub record AreTallied (callbacks : List CallbackRow) (workers : List WorkerRow) : Type 0 where
+  pub marked : AreMarked callbacks workers
+  pub run : (pool : ℕ) → length (filter (is_running_in pool) callbacks) ≡ length (filter (runs_in pool) workers)
+  pub run_long : (pool : ℕ) → length (filter (is_running_long_in pool) callbacks) ≡ length (filter (runs_long_in pool) workers)
+
+pub record AreKept (limits : Limits) (pools : Pools) (objects : Table Object) (callbacks : LiveCallbacks) (queues : Pending) (clients : List ClientRow) (made : ℕ) : Type 0 where
+  pub sized : AreSized limits pools objects clients
+  pub alive : AreLive limits callbacks
+  pub queued : AreQueued limits callbacks.rows queues
+  pub tallied : AreTallied callbacks.rows pools.workers
+  pub sound : IsSound (made + 1) (world_of limits pools objects callbacks.rows clients)

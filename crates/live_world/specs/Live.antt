@@ -1,0 +1,15 @@
+-- What a live world is seen as, and what it is after a change.
+use Rattle.std.specs.Prelude.{ℕ, ◌+◌}
+use Rattle.tp_base.specs.declared.plans.Change.{Change}
+use Rattle.tp_model.specs.World.{World}
+use Rattle.tp_model.specs.Changes.{changed}
+use Rattle.tp_model.specs.Allowed.{news}
+use Rattle.tp_model.specs.Remembered.{forget}
+
+-- a world without the callbacks that are over, and how many were ever made
+pub record Live : Type 0 where
+  pub world : World
+  pub made : ℕ
+
+abbrev pub moved : Live → Change → Live
+moved l change = record { world = forget (changed l.world change); made = l.made + news change }

@@ -1,0 +1,90 @@
+//! A live world: what an engine keeps of the thread pool machine's world, seen as the world without
+//! the callbacks that are over and the number of callbacks that were ever made.
+//!
+//! `open` takes all memory. The queries (`actor`, `idle`, `busy`, `object`, `next`, ..) answer the
+//! conditions and counts of the model, each by its name there, and ask nothing of the caller.
+//! `apply` makes a change that the world allows, and is the only call that changes anything. The
+//! indexes and counters (queues, tallies) change in `changes` alone.
+
+#![tactic(auto)]
+
+ghost use Rattle.std.specs.Prelude.{◌≡◌, ◌+◌, ◌^◌, ◌<◌, IfOk};
+ghost use Rattle.tp_base.specs.Ranges.{AreLimitsInRange};
+ghost use Rattle.tp_model.specs.World.{opening};
+ghost use Rattle.tp_model.specs.Remembered.{forget};
+ghost use Rattle.tp_model.specs.Sound.{IsSound};
+ghost use Rattle.live_world.specs.Bounds.{IsBounded};
+
+use callback_rows::CallbackRows;
+use handle_table::Rows;
+use objects::Object;
+use pool_rows::PoolRows;
+use prio_queue::Queues;
+use std::alloc::{AllocError, Global};
+use std::marker::Model;
+use tp_base::limits::Limits;
+use tp_base::rows::ClientRow;
+
+pub mod actors;
+mod callbacks;
+mod changes;
+mod objects;
+mod pools;
+
+/// What is kept of a world.
+#[derive(Drop)]
+pub struct LiveWorld {
+    limits: Limits,
+    pools: PoolRows,
+    objects: Rows<Object>,
+    callbacks: CallbackRows,
+    queues: Queues,
+    clients: Vec<ClientRow>,
+    made: u64,
+}
+
+impl Model for LiveWorld {
+    ghost use Rattle.live_world.specs.Live.{Live};
+
+    ghost Value = { Live };
+
+    ghost use Rattle.live_world.specs.View.{shown, IsLiveWorld};
+
+    ghost view = { shown };
+
+    ghost invariant = { IsLiveWorld };
+}
+
+impl LiveWorld {
+    /// Opens the world of a machine with these limits, before its first call.
+    ///
+    /// It takes all the memory that the world will ever need; an `AllocError` comes where that
+    /// isn't there.
+    pub fn open(alloc: Global, limits: Limits) -> Result<LiveWorld, AllocError>
+        requires { AreLimitsInRange limits }
+        ensures { IfOk result (λ live. live ≡ record { world = forget (opening limits); made = 0 }) }
+    {
+        let pools = PoolRows::open(alloc, limits.pools, limits.workers)?;
+        let objects = Rows::open(alloc, limits.objects)?;
+        let callbacks = CallbackRows::open(alloc, limits.slots)?;
+        let queues = Queues::open(alloc, limits.pools, limits.slots)?;
+        let clients = actors::open_clients(alloc, limits.clients)?;
+        Ok(LiveWorld {
+            limits,
+            pools,
+            objects,
+            callbacks,
+            queues,
+            clients,
+            made: 0,
+        })
+    }
+
+    /// What is true of every live world. It does nothing: who calls it knows this.
+    pub fn is_reachable(&self)
+        ensures sound { IsSound (self.now.made + 1) self.now.world }
+        ensures bounded { IsBounded self.now.world }
+    {
+        let _ = &self.limits;
+    }
+}

@@ -1,0 +1,116 @@
+//! Objects: `CreateThreadpoolWork` and its like for timers, waits and I/O.
+
+ghost use Rattle.std.specs.Prelude.{◌≡◌, ◌+◌, ◌==◌, nat_le, length, option_map};
+ghost use Rattle.handle_table.specs.Found.{found_row as found_row_of};
+ghost use Rattle.live_world.specs.Parts.{shown_object};
+ghost use Rattle.tp_model.specs.Counts.{numbered};
+ghost use Rattle.tp_model.specs.Conditions.{is_object, is_released, is_work, is_work_object, is_no_group_or_group, is_closed_group};
+
+use crate::LiveWorld;
+use handle_table::Found;
+use tp_base::calls::{Environ, Kind};
+use tp_base::ids::{GroupId, ObjectId, RoutineId};
+use tp_base::rows::ObjectRow;
+
+/// An object as it was made.
+#[derive(Clone, Copy)]
+pub struct Object {
+    pub kind: Kind,
+    pub routine: RoutineId,
+    pub context: u64,
+    pub env: Environ,
+}
+
+fn object_row(object: Object, released: bool) -> ObjectRow
+    ensures { result ≡ record { kind = object.kind; routine = object.routine; context = object.context; env = object.env; released = released } }
+{
+    ObjectRow {
+        kind: object.kind,
+        routine: object.routine,
+        context: object.context,
+        env: object.env,
+        released,
+    }
+}
+
+fn found_row(found: Found<'_, Object>) -> Option<ObjectRow>
+    ensures { result ≡ option_map shown_object (found_row_of found.entry) }
+{
+    match found {
+        Found::Absent => None,
+        Found::Live(object) => Some(object_row(*object, false)),
+        Found::Released(object) => Some(object_row(*object, true)),
+    }
+}
+
+fn is_work_kind(kind: Kind) -> bool
+    ensures { result ≡ is_work kind }
+{
+    matches!(kind, Kind::Work)
+}
+
+impl LiveWorld {
+    /// The row of an object, if one of this number was made.
+    pub fn object(&self, object: ObjectId) -> Option<ObjectRow>
+        ensures { result ≡ numbered self.now.world.objects object.0 }
+    {
+        found_row(self.objects.get(object.0))
+    }
+
+    /// Whether an object of this number was made.
+    pub fn is_object(&self, object: ObjectId) -> bool
+        ensures { result ≡ is_object self.now.world object.0 }
+    {
+        self.object(object).is_some()
+    }
+
+    /// Whether it is a work object.
+    pub fn is_work_object(&self, object: ObjectId) -> bool
+        ensures { result ≡ is_work_object self.now.world object.0 }
+    {
+        match self.object(object) {
+            None => false,
+            Some(row) => is_work_kind(row.kind),
+        }
+    }
+
+    /// Whether the object was made and released.
+    pub fn is_released(&self, object: ObjectId) -> bool
+        ensures { result ≡ is_released self.now.world object.0 }
+    {
+        match self.object(object) {
+            None => false,
+            Some(row) => row.released,
+        }
+    }
+
+    /// The number that the next object gets.
+    pub fn next_object(&self) -> u32
+        ensures { result ≡ length self.now.world.objects + 1 }
+    {
+        self.objects.len() + 1
+    }
+
+    /// Whether there is no place for one more object.
+    pub fn lacks_object(&self) -> bool
+        ensures { result ≡ nat_le self.now.world.limits.objects (length self.now.world.objects) }
+    {
+        self.limits.objects <= self.objects.len()
+    }
+
+    /// Whether this names no group, or a group that was made. No call makes one yet.
+    pub fn is_no_group_or_group(&self, group: GroupId) -> bool
+        ensures { result ≡ is_no_group_or_group self.now.world group.0 }
+    {
+        let _ = &self.limits;
+        group.0 == 0
+    }
+
+    /// Whether the group was made and closed. No call makes one yet.
+    pub fn is_closed_group(&self, _group: GroupId) -> bool
+        ensures { result ≡ is_closed_group self.now.world _group.0 }
+    {
+        let _ = &self.limits;
+        false
+    }
+}

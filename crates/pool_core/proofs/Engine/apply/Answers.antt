@@ -1,0 +1,43 @@
+use Rattle.std.proofs.Common.{◌≡◌, ◌+◌, sym, ap, ◌∙◌, subst, arith}
+use Rattle.tp_base.specs.declared.plans.Change.{Change}
+use Rattle.tp_model.specs.Counts.{owed}
+use Rattle.tp_model.specs.Changes.{changed}
+use Rattle.tp_model.specs.Allowed.{IsAllowed, price}
+use Rattle.tp_model.specs.Ranged.{AreRowsInRange}
+use Rattle.tp_model.specs.Sound.{IsSound}
+use Rattle.tp_model.specs.Remembered.{Remembered, forget}
+use Rattle.tp_model.proofs.Costs.{paid}
+use Rattle.tp_model.proofs.Forgetting.{owed_forget}
+use Rattle.tp_model.proofs.Ranging.{changed_rows, forget_rows}
+use Rattle.live_world.specs.Live.{Live}
+use Rattle.pool_core.specs.View.{remembered, IsEngine}
+use Rattle.pool_core.specs.declared.Engine.TheInside.{Inside}
+use Rattle.pool_core.proofs.Counting.{news_most, price_most}
+use Rattle.pool_core.proofs.Engine.apply.Goals as goal
+
+allowed_here : (i : Inside) (e : Remembered) (ch : Change) → remembered i ≡ e → IsAllowed (e.made + 1) e.world ch → IsAllowed (i.live.made + 1) i.live.world ch
+allowed_here i e ch same allowed = subst (λ (r : Remembered). IsAllowed (r.made + 1) r.world ch) (sym same) allowed
+
+-- what is owed after the change, and its own entry, is what was owed before and its price
+pays : (i : Inside) (e : Remembered) (ch : Change) → remembered i ≡ e → IsSound (i.live.made + 1) i.live.world → IsAllowed (e.made + 1) e.world ch → IsEngine i → 1 + owed (changed i.live.world ch) ≡ i.owed + price ch
+pays i e ch same sound allowed k =
+    paid (i.live.made + 1) i.live.world ch sound (allowed_here i e ch same allowed) ∙ ap (λ n. n + price ch) (sym k.owes)
+
+pub overflow_sub-self : goal.overflow_sub-self
+overflow_sub-self c =
+    omega (arith, pays c.self.inside c.args.self.now c.args.change c.self.view_is c.is_reachable.ensures.sound c.requires.allowed c.self.invariant, c.price.ensures)
+
+pub invariant_of-self : goal.invariant_of-self
+invariant_of-self c =
+    let i = c.self.inside in
+    let ch = c.args.change in
+    let paid_for = pays i c.args.self.now ch c.self.view_is c.is_reachable.ensures.sound c.requires.allowed c.self.invariant in
+    let world_now : c.apply.new.self.world ≡ forget (changed i.live.world ch) = ap (λ (l : Live). l.world) c.apply.ensures in
+    let owed_now : owed c.apply.new.self.world ≡ owed (changed i.live.world ch) = ap owed world_now ∙ owed_forget (changed i.live.world ch) in
+    record {
+      owes = omega (arith, paid_for, c.price.ensures, owed_now);
+      few_made = omega (arith, ap (λ (l : Live). l.made) c.apply.ensures, news_most ch, c.self.invariant.few_made);
+      few_owed = omega (arith, c.price.ensures, price_most ch, c.self.invariant.few_owed);
+      rows = subst AreRowsInRange (sym world_now) (forget_rows (changed i.live.world ch)
+          (changed_rows (i.live.made + 1) i.live.world ch (allowed_here i c.args.self.now ch c.self.view_is c.requires.allowed) c.requires.in_range c.self.invariant.rows));
+    }

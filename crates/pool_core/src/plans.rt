@@ -1,0 +1,54 @@
+//! What each call comes to, and what a change costs.
+
+ghost use Rattle.std.specs.Prelude.{◌≡◌, ◌+◌, ◌^◌, ◌<◌};
+ghost use Rattle.tp_model.specs.Allowed.{price as price_of};
+ghost use Rattle.tp_model.specs.Ranged.{IsWide};
+ghost use Rattle.tp_model.specs.Table.{plan_at};
+
+use crate::{clients, in_callback, objects, pools, work, workers};
+use live_world::LiveWorld;
+use tp_base::calls::Call;
+use tp_base::ids::Who;
+use tp_base::plans::{Change, Plan};
+
+/// What a call comes to, where the history has room for so many entries. It changes nothing.
+pub(crate) fn plan(world: &LiveWorld, who: Who, call: Call, room: u64) -> Plan
+    requires { world.now.made < 2 ^ 63 }
+    ensures plan { result ≡ plan_at world.now.world (world.now.made + 1) room who call }
+    ensures wide { IsWide call }
+{
+    match call {
+        Call::CreatePool => pools::create_pool(world, who),
+        Call::ClosePool { pool } => pools::close_pool(world, who, pool),
+        Call::SetMaximum { pool, value } => pools::set_maximum(world, who, pool, value),
+        Call::SetMinimum { pool, value } => pools::set_minimum(world, who, pool, value),
+        Call::Create {
+            kind,
+            routine,
+            context,
+            env,
+        } => objects::create(world, who, kind, routine, context, env),
+        Call::SubmitWork { object } => work::submit_work(world, who, object),
+        Call::Attach => workers::attach(world, who),
+        Call::Detach => workers::detach(world, who),
+        Call::Take => workers::take(world, who),
+        Call::Return => workers::return_callback(world, who),
+        Call::MayRunLong => in_callback::may_run_long(world, who),
+        Call::Finish => clients::finish(world, who),
+    }
+}
+
+/// The entries that a change costs: its own, and those that are owed more than before.
+pub(crate) fn price(change: Change) -> u64
+    ensures { result ≡ price_of change }
+{
+    match change {
+        Change::Attach { .. } | Change::Take { .. } => 2,
+        Change::Detach(_) | Change::Return(_) | Change::Finish { .. } => 0,
+        Change::CreatePool
+        | Change::ChangePool { .. }
+        | Change::CreateObject(_)
+        | Change::QueueCallback(_)
+        | Change::Mark { .. } => 1,
+    }
+}

@@ -1,0 +1,137 @@
+# The examples of the documents, run by the program. What an example looks like:
+#
+# - a table that begins with `| Call | Prints |`: its rows are one trace, with the answers;
+# - a table that begins with `| Line | Column |`: each row is a bad line of a trace by itself;
+# - a line that begins with `**Example.**`, as **Example.** `CALL` → `ANSWER`: those of a page, from
+#   its top to its end, are one trace;
+# - a block marked `console`: commands behind `$ `, each with what it prints;
+# - a block marked `history`: a legal history;
+# - a block marked `text` is no example. No block stands without a mark.
+# shellcheck shell=bash
+
+# Compares the program's answers to calls with those that stand beside them, from lines CALL TAB ANSWER.
+plays() {
+    local rows=$2
+    input=$(cut -f 1 <<<"$rows")$'\n'
+    try "$1" 0 "$(cut -f 2 <<<"$rows")"$'\n' '' "$program" trace
+}
+
+# The rows of each table of a page whose header begins so, cells 1 and 2 without their quotes, with a
+# line `--` behind each table.
+tables_of() {
+    awk -v header="$2" '
+        index($0, header) == 1 { inside = 1; getline; next }
+        inside && /^\|/ {
+            split($0, cells, "|")
+            for (at = 2; at <= 3; at++) { gsub(/^ *`?|`? *$/, "", cells[at]) }
+            print cells[2] "\t" cells[3]
+            next
+        }
+        inside { print "--"; inside = 0 }
+        END { if (inside) print "--" }' "$1"
+}
+
+# The text of each block of a page that is marked so, with a line `--` behind each.
+blocks_of() {
+    awk -v mark="\`\`\`$2" '
+        $0 == mark { inside = 1; next }
+        inside && /^```/ { print "--"; inside = 0 }
+        inside { print }' "$1"
+}
+
+# Calls a function with a name and each part of a text that ends with a line `--`.
+each_part() {
+    local line part='' number=0
+    while IFS= read -r line; do
+        if [[ $line == -- ]]; then
+            number=$((number + 1))
+            "$1" "$2 $number" "${part%$'\n'}"
+            part=
+        else
+            part+=$line$'\n'
+        fi
+    done
+}
+
+# Runs each command of a console block, and compares what it prints.
+session() {
+    local line command='' printed=''
+    while IFS= read -r line; do
+        if [[ $line == '$ '* ]]; then
+            [[ -z $command ]] || typed "$1" "$command" "$printed"
+            command=${line#\$ }
+            printed=
+        else
+            printed+=$line$'\n'
+        fi
+    done <<<"$2"
+    typed "$1" "$command" "$printed"
+}
+
+typed() {
+    input=
+    try "$1: $2" '~[07]' "$3" '' inside "$here" bash -c "$2"
+}
+
+is_legal() {
+    input=$2$'\n'
+    try "$1" 0 '~legal *' '' "$program" check
+}
+
+# Each row of a table of bad lines: the line, its beginning and ` ..`, or words for it.
+bad_lines() {
+    local line column
+    while IFS=$'\t' read -r line column; do
+        case $line in
+        *' ..') input=${line% ..}$'\n' ;;
+        'an empty line') input=$'\n' ;;
+        *'` and no LF') input=${line%%\`*} ;;
+        *) input=$line$'\n' ;;
+        esac
+        try "$1: $line" 2 '' "tpool: bad line 1 column $column"$'\n' "$program" trace
+    done <<<"$2"
+}
+
+# The headings of a page, as links name them.
+headings_of() {
+    sed -n 's/^#\{1,\} //p' "$1" | tr '[:upper:]' '[:lower:]' | tr -cd 'a-z0-9_ \n-' | tr ' ' '-'
+}
+
+# Whether a link of a page leads somewhere.
+leads_somewhere() {
+    local to=$1/${2%%#*}
+    [[ $2 != '#'* ]] || to=$3
+    [[ -e $to ]] && { [[ $2 != *'#'* ]] || headings_of "$to" | awk -v wanted="${2#*#}" '$0 == wanted { found = 1 } END { exit !found }'; }
+}
+
+# The table of the README is the example that it names.
+table_is_example() { diff <(tables_of "$here/README.md" '| Call | Prints |' | sed -n '/^--$/q;s/\t.*//p') "$here/examples/pools.trace"; }
+try 'the table of the README is examples/pools.trace' 0 '' '' table_is_example
+
+names_kit() { awk -v kit="$(sed -n "s/^kit='\(.*\)'/\1/p" "$tpool")" 'index($0, kit) { found = 1 } END { exit !found }' "$here/README.md"; }
+try 'the README names the kit of the script' 0 '' '' names_kit
+
+# Whether each file that a path with braces stands for is there. It has letters and the like alone.
+stands_there() {
+    local paths
+    [[ $1 =~ ^[a-zA-Z0-9_./{},-]+$ ]] && eval "paths=($1)" && inside "$here" ls -d "${paths[@]}"
+}
+
+for file in "$here"/README.md "$here/docs"/*.md; do
+    page=${file#"$here"/}
+    each_part plays "$page, table" < <(tables_of "$file" '| Call | Prints |')
+    each_part bad_lines "$page, bad lines" < <(tables_of "$file" '| Line | Column |')
+    each_part session "$page, console" < <(blocks_of "$file" console)
+    each_part is_legal "$page, history" < <(blocks_of "$file" history)
+    # shellcheck disable=SC2016
+    examples=$(sed -n 's/^\*\*Example\.\*\* `\([^`]*\)` → `\([^`]*\)`.*/\1\t\2/p' "$file")
+    [[ -z $examples ]] || plays "$page, examples" "$examples"
+    unmarked=$(awk '/^```/ { inside = !inside; if (inside && $0 !~ /^```(console|history|text|sh)$/) print NR }' "$file")
+    try "$page: each block is marked" 0 '' '' test -z "$unmarked"
+    while IFS= read -r link; do
+        try "$page: the link $link" 0 '' '' leads_somewhere "$(dirname "$file")" "$link" "$file"
+    done < <(awk '{ while (match($0, /\]\([^)]*\)/)) { print substr($0, RSTART + 2, RLENGTH - 3); $0 = substr($0, RSTART + RLENGTH) } }' "$file" | awk '!/^https?:/ && !seen[$0]++')
+    while IFS= read -r path; do
+        try "$page: the path $path" 0 '~*' '' stands_there "$path"
+    done < <(awk '{ while (match($0, /`(crates|docs|examples|tests)\/[^` ]*`/)) { print substr($0, RSTART + 1, RLENGTH - 2); $0 = substr($0, RSTART + RLENGTH) } }' "$file" | awk '!seen[$0]++')
+done
