@@ -1,11 +1,13 @@
 -- Every legal history keeps the laws.
 use Rattle.std.proofs.Common.{◌≡◌, ℕ, List, [], ◌∷◌, ◌++◌, refl, sym, subst, find, Some, true, ◌==◌, cond, Bool, false, None, ap₂, ◌∙◌, ◌||◌, ap, append_assoc}
+use Rattle.tp_model.proofs.First.{next_first}
+use Rattle.tp_model.specs.Next.{IsNextOrNone}
 use Rattle.tp_model.specs.Waits.{is_held_for}
 use Rattle.std.specs.List.{list_any}
 use Rattle.tp_base.specs.declared.ids.ObjectId.{ObjectId}
 use Rattle.tp_model.proofs.Refusals.{both, false_true}
 use Rattle.tp_model.proofs.Fates.{taken_from, pending_held, pending_left}
-use Rattle.tp_model.specs.Counts.{has_number, is_pending}
+use Rattle.tp_model.specs.Counts.{has_number, is_pending, next}
 use Rattle.tp_base.specs.declared.rows.CallbackRow.{CallbackRow}
 use Rattle.tp_model.proofs.Promising.{AreReady, are_ready_more, Promises, promises_more, run_at, NoneHeld, freed, Promised}
 use Rattle.tp_model.specs.Laws.Covered.{AreCovered, is_spoken_of, end_in, ends, IsCovered, AllLetGo, returns, loosens, NoneTakes}
@@ -178,3 +180,7 @@ module _ (limits : Limits) (capacity : ℕ) (history : List Entry) (legal : IsLe
 
   pub keeps_laws : KeepsLaws limits history
   keeps_laws = record { once = are_once; maximum = is_within_maximum; covered = are_covered }
+
+  -- what a pool's worker takes next comes first of what is pending there
+  pub next_is_first : (pool : ℕ) → IsNextOrNone (after limits history) pool (next (after limits history) pool)
+  next_is_first pool = next_first (fresh_in (after limits history)) (after limits history) pool at_end.sound

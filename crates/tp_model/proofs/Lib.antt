@@ -5,6 +5,7 @@ pub mod Costs
 pub mod Entries
 mod Examples
 pub mod Fates
+pub mod First
 pub mod Forgetting
 pub mod Growing
 mod LawExamples

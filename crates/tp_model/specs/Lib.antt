@@ -6,6 +6,7 @@ pub mod Counts
 pub mod History
 pub mod Laws
 pub mod Moves
+pub mod Next
 pub mod Ranged
 pub mod Refusing
 pub mod Remembered
