@@ -1,5 +1,5 @@
 -- What is taken next comes first of what is pending.
-use Rattle.std.proofs.Common.{◌≡◌, ℕ, zero, suc, ◌+◌, ◌≤◌, Bool, true, false, cond, ◌&&◌, ◌||◌, ◌==◌, nat_lt, nat_le, List, [], ◌∷◌, ◌++◌, slice_get, Option, Some, None, refl, sym, ap, ap₂, ◌∙◌, subst, find, filter, arith, append_assoc, is_some}
+use Rattle.std.proofs.Common.{◌≡◌, ℕ, ◌+◌, ◌≤◌, Bool, true, false, cond, ◌&&◌, ◌||◌, ◌==◌, nat_lt, nat_le, List, [], ◌∷◌, ◌++◌, slice_get, Option, Some, None, refl, sym, ap, ap₂, ◌∙◌, subst, find, filter, arith, is_some}
 use Rattle.std.proofs.lemmas.Bool.{le-leb}
 use Rattle.tp_base.specs.declared.calls.Priority.{Priority}
 use Rattle.tp_base.specs.declared.calls.Priority.TheVariants.{High, Normal, Low}
@@ -9,7 +9,6 @@ use Rattle.tp_model.specs.Counts.{callback_of, has_number, is_pending_in, is_hig
 use Rattle.tp_model.specs.Next.{rank, comes_first, IsNext, IsNextOrNone}
 use Rattle.tp_model.specs.Sound.{IsSound, IsRising}
 use Rattle.tp_model.proofs.Callbacks.{found_bounds, kept_found}
-use Rattle.tp_model.proofs.Lists.{find_passes}
 use Rattle.tp_model.proofs.Refusals.{both, false_true}
 
 -- the first that is kept has the least number of those that pass
@@ -38,9 +37,9 @@ none_kept p (x ∷ cs) k d e found =
     elim (p x) as (λ b. p x ≡ b → slice_get (cond b (x ∷ filter p cs) (filter p cs)) 0 ≡ None → p d ≡ false) [
       | true ↦ λ _ h. absurd cc
       | false ↦ λ out h. elim (has_number k x) as (λ b. cond b (Some x) (find (has_number k) cs) ≡ Some d → p d ≡ false) [
-          | true ↦ λ f. let same : x ≡ d = cc in ap p (sym same) ∙ out
-          | false ↦ λ f. none_kept p cs k d h f
-        ] found
+        | true ↦ λ f. let same : x ≡ d = cc in ap p (sym same) ∙ out
+        | false ↦ λ f. none_kept p cs k d h f
+      ] found
     ] refl e
 
 -- the order of two priorities and two numbers

@@ -23,3 +23,4 @@ pub mod Ranging
 pub mod Refusals
 pub mod Running
 pub mod Steps
+mod WaitExamples
