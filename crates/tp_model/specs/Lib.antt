@@ -6,6 +6,7 @@ pub mod Counts
 pub mod History
 pub mod Laws
 pub mod Moves
+pub mod Next
 pub mod Ranged
 pub mod Refusing
 pub mod Remembered
@@ -14,4 +15,5 @@ pub mod Sound
 pub mod Step
 pub mod Table
 pub mod Told
+pub mod Waits
 pub mod World

@@ -10,12 +10,21 @@
 ghost use Rattle.std.specs.Prelude.{ℕ, List};
 ghost use Rattle.tp_base.specs.declared.answers.Entry.{Entry};
 ghost use Rattle.tp_base.specs.declared.limits.Limits.{Limits};
-ghost use Rattle.tp_model.specs.History.{IsLegal};
+ghost use Rattle.tp_model.specs.Counts.{next};
+ghost use Rattle.tp_model.specs.History.{after, IsLegal};
 ghost use Rattle.tp_model.specs.Laws.{KeepsLaws};
+ghost use Rattle.tp_model.specs.Next.{IsNextOrNone};
 
 /// Every legal history keeps the laws, with any limits and any capacity. It does nothing: who calls
 /// it knows this.
 #[tactic(auto, using(crate::proofs::Laws::keeps_laws))]
 pub fn legal_keeps_laws()
     ensures laws { (limits : Limits) (capacity : ℕ) (history : List Entry) → IsLegal limits capacity history → KeepsLaws limits history }
+{}
+
+/// The callback that a pool's worker takes next is pending there, and of those that are it is of the
+/// highest priority, and of these of the least number. It does nothing: who calls it knows this.
+#[tactic(auto, using(crate::proofs::Laws::next_is_first))]
+pub fn next_comes_first()
+    ensures { (limits : Limits) (capacity : ℕ) (history : List Entry) → IsLegal limits capacity history → (pool : ℕ) → IsNextOrNone (after limits history) pool (next (after limits history) pool) }
 {}
