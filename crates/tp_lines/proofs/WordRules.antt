@@ -45,6 +45,7 @@ rank field.Length = 11
 rank field.Flag = 12
 rank field.Slot = 13
 rank field.Action = 14
+rank field.How = 15
 rank _ = 0
 
 abbrev pub first_of_two : Bool → Word → Option Word → Option Word
@@ -67,6 +68,8 @@ rules_kept (word.Priority priority.High) = refl
 rules_kept (word.Priority _) = refl
 rules_kept (word.Length true) = refl
 rules_kept (word.Length false) = refl
+rules_kept (word.How true) = refl
+rules_kept (word.How false) = refl
 rules_kept (word.YesNo true) = refl
 rules_kept (word.YesNo false) = refl
 rules_kept (word.Slot slot.Unasked) = refl
@@ -83,6 +86,8 @@ found (word.Priority priority.High) = refl
 found (word.Priority _) = refl
 found (word.Length true) = refl
 found (word.Length false) = refl
+found (word.How true) = refl
+found (word.How false) = refl
 found (word.YesNo true) = refl
 found (word.YesNo false) = refl
 found (word.Slot slot.Unasked) = refl

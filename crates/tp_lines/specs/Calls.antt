@@ -13,7 +13,7 @@ use Rattle.tp_lines.specs.declared.words.Word.{Word}
 use Rattle.tp_lines.specs.declared.words.Word.TheVariants as word
 use Rattle.tp_lines.specs.Parts.{AreFit, parts_of, row_text}
 use Rattle.tp_lines.specs.Rows.{RowTexts}
-use Rattle.tp_lines.specs.Values.{part_at, small_of, large_of, kind_of, priority_of, length_of}
+use Rattle.tp_lines.specs.Values.{part_at, small_of, large_of, kind_of, priority_of, length_of, how_of}
 use Rattle.tp_lines.specs.Words.{text_of_who}
 
 abbrev pub environ_parts : Environ → List Part
@@ -26,12 +26,17 @@ row_of (call.ClosePool pool) = (word.ClosePool, part.Short pool.0 ∷ [])
 row_of (call.SetMaximum pool value) = (word.SetMaximum, part.Short pool.0 ∷ part.Small value ∷ [])
 row_of (call.SetMinimum pool value) = (word.SetMinimum, part.Short pool.0 ∷ part.Small value ∷ [])
 row_of (call.Create kind routine context env) = (word.Create, part.Word (word.Kind kind) ∷ part.Routine routine.0 ∷ part.Context context ∷ environ_parts env)
+row_of (call.CloseObject kind object) = (word.CloseObject, part.Word (word.Kind kind) ∷ part.Short object.0 ∷ [])
+row_of (call.SubmitSimple routine context env) = (word.SubmitSimple, part.Routine routine.0 ∷ part.Context context ∷ environ_parts env)
 row_of (call.SubmitWork object) = (word.Submit, part.Short object.0 ∷ [])
+row_of (call.BeginWait kind object cancel) = (word.BeginWait, part.Word (word.Kind kind) ∷ part.Short object.0 ∷ part.Word (word.How cancel) ∷ [])
+row_of call.End = (word.End, [])
 row_of call.Attach = (word.Attach, [])
 row_of call.Detach = (word.Detach, [])
 row_of call.Take = (word.Take, [])
 row_of call.Return = (word.Return, [])
 row_of call.MayRunLong = (word.MayRunLong, [])
+row_of call.Disassociate = (word.Disassociate, [])
 row_of call.Finish = (word.Finish, [])
 
 -- the line of a call, without its line feed
@@ -52,6 +57,9 @@ abbrev pub IsReadable : Call → Type 0
 IsReadable (call.SetMaximum pool value) = value < 2 ^ 32
 IsReadable (call.SetMinimum pool value) = value < 2 ^ 32
 IsReadable (call.Create kind routine context env) = (kind ≡ Work) × (context < 2 ^ 64)
+IsReadable (call.CloseObject kind object) = kind ≡ Work
+IsReadable (call.SubmitSimple routine context env) = context < 2 ^ 64
+IsReadable (call.BeginWait kind object cancel) = kind ≡ Work
 IsReadable _ = Unit {0}
 
 -- the text is the line of this call by this actor, and a line can have their numbers
@@ -91,11 +99,16 @@ call_at word.ClosePool parts = Some (call.ClosePool (record { 0 = small_of (part
 call_at word.SetMaximum parts = Some (call.SetMaximum (record { 0 = small_of (part_at parts 1) }) (small_of (part_at parts 2)))
 call_at word.SetMinimum parts = Some (call.SetMinimum (record { 0 = small_of (part_at parts 1) }) (small_of (part_at parts 2)))
 call_at word.Create parts = Some (call.Create (kind_of (part_at parts 1)) (record { 0 = small_of (part_at parts 2) }) (large_of (part_at parts 3)) (environ_at parts 4))
+call_at word.CloseObject parts = Some (call.CloseObject (kind_of (part_at parts 1)) (record { 0 = small_of (part_at parts 2) }))
+call_at word.SubmitSimple parts = Some (call.SubmitSimple (record { 0 = small_of (part_at parts 1) }) (large_of (part_at parts 2)) (environ_at parts 3))
 call_at word.Submit parts = Some (call.SubmitWork (record { 0 = small_of (part_at parts 1) }))
+call_at word.BeginWait parts = Some (call.BeginWait (kind_of (part_at parts 1)) (record { 0 = small_of (part_at parts 2) }) (how_of (part_at parts 3)))
+call_at word.End parts = Some call.End
 call_at word.Attach parts = Some call.Attach
 call_at word.Detach parts = Some call.Detach
 call_at word.Take parts = Some call.Take
 call_at word.Return parts = Some call.Return
 call_at word.MayRunLong parts = Some call.MayRunLong
+call_at word.Disassociate parts = Some call.Disassociate
 call_at word.Finish parts = Some call.Finish
 call_at _ parts = None

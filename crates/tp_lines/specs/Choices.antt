@@ -45,6 +45,7 @@ default_word field.Kind = word.Kind kind.Work
 default_word field.Unbuilt = word.Kind kind.Timer
 default_word field.Priority = word.Priority priority.Normal
 default_word field.Length = word.Length false
+default_word field.How = word.How false
 default_word field.Flag = word.YesNo false
 default_word field.Slot = word.Slot slot.Unasked
 default_word field.Action = word.Action action.Event

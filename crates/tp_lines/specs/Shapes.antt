@@ -6,7 +6,7 @@ use Rattle.tp_lines.specs.declared.words.Field.{Field}
 use Rattle.tp_lines.specs.declared.words.Field.TheVariants as field
 use Rattle.tp_lines.specs.declared.words.Word.{Word}
 use Rattle.tp_lines.specs.declared.words.Word.TheVariants as word
-use Rattle.tp_lines.specs.Words.{text_of_kind, text_of_priority, text_of_long, text_of_flag, text_of_slot, text_of_action}
+use Rattle.tp_lines.specs.Words.{text_of_kind, text_of_priority, text_of_long, text_of_how, text_of_flag, text_of_slot, text_of_action}
 
 pub record Shape : Type 0 where
   pub table : Field
@@ -24,12 +24,17 @@ shape_of word.ClosePool = record { table = field.Call; text = codes "close-pool"
 shape_of word.SetMaximum = record { table = field.Call; text = codes "set-maximum"; fields = field.Short ∷ field.Small ∷ [] }
 shape_of word.SetMinimum = record { table = field.Call; text = codes "set-minimum"; fields = field.Short ∷ field.Small ∷ [] }
 shape_of word.Create = record { table = field.Call; text = codes "create"; fields = field.Kind ∷ field.Routine ∷ field.Context ∷ field.Pool ∷ field.Priority ∷ field.Length ∷ field.Group ∷ field.Cancel ∷ [] }
+shape_of word.CloseObject = record { table = field.Call; text = codes "close"; fields = field.Kind ∷ field.Short ∷ [] }
+shape_of word.SubmitSimple = record { table = field.Call; text = codes "submit-simple"; fields = field.Routine ∷ field.Context ∷ field.Pool ∷ field.Priority ∷ field.Length ∷ field.Group ∷ field.Cancel ∷ [] }
 shape_of word.Submit = record { table = field.Call; text = codes "submit"; fields = field.Short ∷ [] }
+shape_of word.BeginWait = record { table = field.Call; text = codes "wait"; fields = field.Kind ∷ field.Short ∷ field.How ∷ [] }
+shape_of word.End = record { table = field.Call; text = codes "end"; fields = [] }
 shape_of word.Attach = record { table = field.Call; text = codes "attach"; fields = [] }
 shape_of word.Detach = record { table = field.Call; text = codes "detach"; fields = [] }
 shape_of word.Take = record { table = field.Call; text = codes "take"; fields = [] }
 shape_of word.Return = record { table = field.Call; text = codes "return"; fields = [] }
 shape_of word.MayRunLong = record { table = field.Call; text = codes "may-run-long"; fields = [] }
+shape_of word.Disassociate = record { table = field.Call; text = codes "disassociate"; fields = [] }
 shape_of word.Finish = record { table = field.Call; text = codes "finish"; fields = [] }
 shape_of word.Done = record { table = field.Answer; text = codes "ok"; fields = [] }
 shape_of word.Made = record { table = field.Answer; text = codes "made"; fields = field.Made ∷ [] }
@@ -94,6 +99,7 @@ shape_of word.Kernel = record { table = field.Target; text = codes "kernel"; fie
 shape_of (word.Kind kind) = record { table = table_of_kind kind; text = text_of_kind kind; fields = [] }
 shape_of (word.Priority priority) = record { table = field.Priority; text = text_of_priority priority; fields = [] }
 shape_of (word.Length long) = record { table = field.Length; text = text_of_long long; fields = [] }
+shape_of (word.How cancel) = record { table = field.How; text = text_of_how cancel; fields = [] }
 shape_of (word.YesNo flag) = record { table = field.Flag; text = text_of_flag flag; fields = [] }
 shape_of (word.Slot slot) = record { table = field.Slot; text = text_of_slot slot; fields = [] }
 shape_of (word.Action action) = record { table = field.Action; text = text_of_action action; fields = [] }

@@ -53,6 +53,11 @@ abbrev pub length_of : Part → Bool
 length_of (part.Word (word.Length long)) = long
 length_of _ = false
 
+-- whether a wait cancels what is pending
+abbrev pub how_of : Part → Bool
+how_of (part.Word (word.How cancel)) = cancel
+how_of _ = false
+
 abbrev pub flag_of : Part → Bool
 flag_of (part.Word (word.YesNo flag)) = flag
 flag_of _ = false

@@ -27,6 +27,11 @@ abbrev pub text_of_long : Bool → List ℕ
 text_of_long true = codes "long"
 text_of_long false = codes "short"
 
+-- whether a wait cancels what is pending
+abbrev pub text_of_how : Bool → List ℕ
+text_of_how true = codes "cancel"
+text_of_how false = codes "keep"
+
 abbrev pub text_of_flag : Bool → List ℕ
 text_of_flag true = codes "yes"
 text_of_flag false = codes "no"

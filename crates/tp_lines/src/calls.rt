@@ -36,14 +36,30 @@ fn call_at(word: Word, parts: &Parts) -> Option<Call>
             context: parts.at(3).large(),
             env: environ_at(parts, 4),
         },
+        Word::CloseObject => Call::CloseObject {
+            kind: parts.at(1).kind(),
+            object: ObjectId(parts.at(2).small()),
+        },
+        Word::SubmitSimple => Call::SubmitSimple {
+            routine: RoutineId(parts.at(1).small()),
+            context: parts.at(2).large(),
+            env: environ_at(parts, 3),
+        },
         Word::Submit => Call::SubmitWork {
             object: ObjectId(parts.at(1).small()),
         },
+        Word::BeginWait => Call::BeginWait {
+            kind: parts.at(1).kind(),
+            object: ObjectId(parts.at(2).small()),
+            cancel: parts.at(3).cancels(),
+        },
+        Word::End => Call::End,
         Word::Attach => Call::Attach,
         Word::Detach => Call::Detach,
         Word::Take => Call::Take,
         Word::Return => Call::Return,
         Word::MayRunLong => Call::MayRunLong,
+        Word::Disassociate => Call::Disassociate,
         Word::Finish => Call::Finish,
         _ => return None,
     };

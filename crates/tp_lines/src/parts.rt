@@ -7,7 +7,7 @@ ghost use Rattle.tp_lines.specs.declared.words.Word.{Word};
 ghost use Rattle.tp_lines.specs.Choices.{BodyTexts, ChoiceTexts, Met, PartTexts, default_word};
 ghost use Rattle.tp_lines.specs.Parts.{after, form_of, instead_of, most_of, number_part};
 ghost use Rattle.tp_lines.specs.Shapes.{table_of};
-ghost use Rattle.tp_lines.specs.Values.{action_of, flag_of, kind_of, large_of, length_of, part_at, priority_of, slot_of, small_of, word_of};
+ghost use Rattle.tp_lines.specs.Values.{action_of, flag_of, how_of, kind_of, large_of, length_of, part_at, priority_of, slot_of, small_of, word_of};
 
 use crate::words::{Field, WORDS, Word, fields_of, find_word, table_of, word_text};
 use line_grammar::numbers::{read_number, read_prefixed};
@@ -116,6 +116,16 @@ impl Part {
     {
         match self {
             Part::Word(Word::Length(long)) => long,
+            _ => false,
+        }
+    }
+
+    /// Whether a wait cancels what is pending, or false where this doesn't say.
+    pub fn cancels(self) -> bool
+        ensures { result ≡ how_of self }
+    {
+        match self {
+            Part::Word(Word::How(cancel)) => cancel,
             _ => false,
         }
     }
@@ -336,6 +346,7 @@ fn default_word(field: Field) -> Word
         Field::Unbuilt => Word::Kind(Kind::Timer),
         Field::Priority => Word::Priority(Priority::Normal),
         Field::Length => Word::Length(false),
+        Field::How => Word::How(false),
         Field::Flag => Word::YesNo(false),
         Field::Slot => Word::Slot(SlotWord::Unasked),
         Field::Action => Word::Action(ActionKind::Event),

@@ -283,14 +283,34 @@ fn put_call(call: &Call, line: &mut Line)
             put_environ(*env, line);
             parts!(line; first(Word::Create) word(Word::Kind(*kind)) lettered(b'r', u64::from(routine.0)) lettered(b'x', *context));
         }
+        Call::CloseObject { kind, object } => {
+            parts!(line; first(Word::CloseObject) word(Word::Kind(*kind)) number(u64::from(object.0)));
+        }
+        Call::SubmitSimple {
+            routine,
+            context,
+            env,
+        } => {
+            put_environ(*env, line);
+            parts!(line; first(Word::SubmitSimple) lettered(b'r', u64::from(routine.0)) lettered(b'x', *context));
+        }
         Call::SubmitWork { object } => {
             parts!(line; first(Word::Submit) number(u64::from(object.0)));
         }
+        Call::BeginWait {
+            kind,
+            object,
+            cancel,
+        } => {
+            parts!(line; first(Word::BeginWait) word(Word::Kind(*kind)) number(u64::from(object.0)) word(Word::How(*cancel)));
+        }
+        Call::End => line.first(Word::End),
         Call::Attach => line.first(Word::Attach),
         Call::Detach => line.first(Word::Detach),
         Call::Take => line.first(Word::Take),
         Call::Return => line.first(Word::Return),
         Call::MayRunLong => line.first(Word::MayRunLong),
+        Call::Disassociate => line.first(Word::Disassociate),
         Call::Finish => line.first(Word::Finish),
     }
 }

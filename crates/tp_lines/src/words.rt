@@ -56,6 +56,8 @@ pub enum Field {
     Priority,
     /// Whether callbacks may run long.
     Length,
+    /// Whether a wait cancels what is pending: `cancel` or `keep`.
+    How,
     /// `yes` or `no`.
     Flag,
     /// What became of an action on return.
@@ -72,12 +74,17 @@ pub enum Word {
     SetMaximum,
     SetMinimum,
     Create,
+    CloseObject,
+    SubmitSimple,
     Submit,
+    BeginWait,
+    End,
     Attach,
     Detach,
     Take,
     Return,
     MayRunLong,
+    Disassociate,
     Finish,
     Done,
     Made,
@@ -142,6 +149,7 @@ pub enum Word {
     Kind(Kind),
     Priority(Priority),
     Length(bool),
+    How(bool),
     YesNo(bool),
     Slot(SlotWord),
     Action(ActionKind),
@@ -158,12 +166,17 @@ macro_rules! words {
                 (Word::SetMaximum) b"set-maximum" [Short Small];
                 (Word::SetMinimum) b"set-minimum" [Short Small];
                 (Word::Create) b"create" [Kind Routine Context Pool Priority Length Group Cancel];
+                (Word::CloseObject) b"close" [Kind Short];
+                (Word::SubmitSimple) b"submit-simple" [Routine Context Pool Priority Length Group Cancel];
                 (Word::Submit) b"submit" [Short];
+                (Word::BeginWait) b"wait" [Kind Short How];
+                (Word::End) b"end" [];
                 (Word::Attach) b"attach" [];
                 (Word::Detach) b"detach" [];
                 (Word::Take) b"take" [];
                 (Word::Return) b"return" [];
                 (Word::MayRunLong) b"may-run-long" [];
+                (Word::Disassociate) b"disassociate" [];
                 (Word::Finish) b"finish" [];
             }
             Answer {
@@ -255,6 +268,10 @@ macro_rules! words {
                 (Word::Length(true)) b"long" [];
                 (Word::Length(false)) b"short" [];
             }
+            How {
+                (Word::How(true)) b"cancel" [];
+                (Word::How(false)) b"keep" [];
+            }
             Flag {
                 (Word::YesNo(true)) b"yes" [];
                 (Word::YesNo(false)) b"no" [];
@@ -304,6 +321,7 @@ macro_rules! word_by_text {
     (Kind $given:expr; Kind { $($words:tt)+ } $($others:tt)*) => { among!($given; $($words)+) };
     (Priority $given:expr; Priority { $($words:tt)+ } $($others:tt)*) => { among!($given; $($words)+) };
     (Length $given:expr; Length { $($words:tt)+ } $($others:tt)*) => { among!($given; $($words)+) };
+    (How $given:expr; How { $($words:tt)+ } $($others:tt)*) => { among!($given; $($words)+) };
     (Flag $given:expr; Flag { $($words:tt)+ } $($others:tt)*) => { among!($given; $($words)+) };
     (Slot $given:expr; Slot { $($words:tt)+ } $($others:tt)*) => { among!($given; $($words)+) };
     (Action $given:expr; Action { $($words:tt)+ } $($others:tt)*) => { among!($given; $($words)+) };
@@ -327,7 +345,7 @@ macro_rules! all_words {
 /// All words.
 #[derive(Clone, Copy)]
 pub struct WordList {
-    pub words: [Word; 91],
+    pub words: [Word; 98],
 }
 
 pub const WORDS: WordList = WordList {
@@ -393,6 +411,7 @@ fn guess_choice(table: Field, text: &[u8]) -> Option<Word> {
         Field::Kind => words!(word_by_text, Kind text),
         Field::Priority => words!(word_by_text, Priority text),
         Field::Length => words!(word_by_text, Length text),
+        Field::How => words!(word_by_text, How text),
         Field::Flag => words!(word_by_text, Flag text),
         Field::Slot => words!(word_by_text, Slot text),
         Field::Action => words!(word_by_text, Action text),
