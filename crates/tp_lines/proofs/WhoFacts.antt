@@ -15,7 +15,7 @@ use Rattle.tp_base.specs.declared.calls.Call.{Call}
 use Rattle.tp_base.specs.declared.ids.Who.{Who}
 use Rattle.tp_base.specs.declared.ids.Who.TheVariants.{Client, Worker}
 use Rattle.tp_lines.specs.Actors.{ClientTexts, WorkerTexts}
-use Rattle.tp_lines.specs.Calls.{IsCallLine, CallLines, CallTexts, IsWhoText, WhoTexts, line_of_call, row_of}
+use Rattle.tp_lines.specs.Calls.{IsCallLine, CallLines, CallTexts, IsWhoText, WhoTexts, row_of}
 use Rattle.tp_lines.specs.Parts.{row_text}
 use Rattle.tp_lines.specs.Words.{text_of_who}
 use Rattle.tp_lines.proofs.CallFacts.{calls_part, calls_tail}
