@@ -51,7 +51,7 @@ pub option_cases : (a : Option ℕ) (n : ℕ) → (a ≡ Some n) ⊎ (a ≢ Some
 option_cases None n = inr (λ same. cc)
 option_cases (Some m) n = ⊎_elim (λ same. inl (ap Some same)) (λ apart. inr (λ same. apart (let is : m ≡ n = cc in is))) (cases_eq m n)
 
-nodes_rise : (nodes : List Node) → IsRising (map entry_of nodes) → NodesRise nodes
+pub nodes_rise : (nodes : List Node) → IsRising (map entry_of nodes) → NodesRise nodes
 nodes_rise nodes rises i j d lt within =
     let shown = rises i j (entry_of d) lt (rw length-map within) in
     let first = get_or-map entry_of nodes i d (entry_of d) (omega arith) in
