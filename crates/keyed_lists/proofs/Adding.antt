@@ -1,5 +1,5 @@
 -- A number is added behind the last of its key.
-use Rattle.std.proofs.Common.{◌≡◌, ◌≢◌, ℕ, ◌+◌, ◌<◌, ◌≤◌, ◌^◌, ◌==◌, ◌&&◌, ◌||◌, Bool, true, false, List, [], ◌∷◌, ◌++◌, Option, None, Some, map, length, get_or, set, if◌then◌else◌, refl, sym, ap, ◌∙◌, arith, ⊎_elim, inl, inr, ◌⊎◌}
+use Rattle.std.proofs.Common.{◌≡◌, ◌≢◌, ℕ, ◌<◌, ◌≤◌, ◌==◌, ◌&&◌, ◌||◌, Bool, true, false, List, [], ◌∷◌, ◌++◌, Option, None, Some, map, length, get_or, set, if◌then◌else◌, refl, sym, ap, ◌∙◌, arith, ⊎_elim, inl, inr, ◌⊎◌}
 use Rattle.std.specs.List.{All}
 use Rattle.std.proofs.lemmas.Bool.{cases_eq, eq-eqb, eqb-true, ne_eqb}
 use Rattle.std.proofs.lemmas.List.{map-append, length-map, length-append, length-set, get_or-map, get_or-set_same, get_or-set_other}
@@ -115,10 +115,10 @@ module _ (slots capacity : ℕ) (nodes : List Node) (ends : List Ends) (key m : 
       rw written (more_behind (S key) (T key) m (t_keeps key) t_new t_only (s_above key) (Some x.number) end))
       (λ (apart : own.last ≢ Some x.number). rw (behind_other own.last (Some m) x apart, is) (inner next linked apart))
       (option_cases own.last x.number)
-      where
-        inner : (b : Option ℕ) → AreNext (S key) (Some x.number) b → own.last ≢ Some x.number → AreNext (T key) (Some x.number) b
-        inner None end apart = absurd (apart (one_last (S key) own.last (Some x.number) last_is end))
-        inner (Some b) next apart = more_inside (S key) (T key) m (t_keeps key) t_new t_only (s_above key) (Some x.number) b next
+    where
+      inner : (b : Option ℕ) → AreNext (S key) (Some x.number) b → own.last ≢ Some x.number → AreNext (T key) (Some x.number) b
+      inner None end apart = absurd (apart (one_last (S key) own.last (Some x.number) last_is end))
+      inner (Some b) next apart = more_inside (S key) (T key) m (t_keeps key) t_new t_only (s_above key) (Some x.number) b next
 
   node_added : (x : Node) → IsLinked nodes x → S x.key x.number ≡ true → IsLinked added (with_behind own.last (Some m) x)
   node_added x linked there =

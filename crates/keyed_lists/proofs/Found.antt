@@ -1,10 +1,9 @@
 -- The least number of a key is the first that is found.
-use Rattle.std.proofs.Common.{◌≡◌, ◌≢◌, ℕ, suc, zero, ◌<◌, ◌≤◌, ◌==◌, ◌&&◌, Bool, true, false, List, [], ◌∷◌, Option, None, Some, map, length, get_or, nat_lt, refl, sym, ap, ◌∙◌, arith, ⊎_elim, inl, inr}
+use Rattle.std.proofs.Common.{◌≡◌, ℕ, suc, zero, ◌<◌, ◌≤◌, ◌==◌, ◌&&◌, Bool, true, false, List, [], ◌∷◌, Option, None, Some, map, length, get_or, nat_lt, refl, sym, ap, ◌∙◌, arith, ⊎_elim}
 use Rattle.std.specs.Prelude.{find, option_map}
-use Rattle.std.specs.List.{All, list_any, AllPairs}
+use Rattle.std.specs.List.{All}
 use Rattle.std.proofs.lemmas.Bool.{eqb-true, lt-ltb, ltb-true, eq-eqb}
-use Rattle.std.proofs.lemmas.List.Elements.{All-tail}
-use Rattle.keyed_lists.specs.Keyed.{Entry, entry, has, IsRising, first_of, next_of}
+use Rattle.keyed_lists.specs.Keyed.{Entry, has, IsRising, first_of, next_of}
 use Rattle.keyed_lists.specs.declared.Node.{Node}
 use Rattle.keyed_lists.specs.Linked.{AreNext, IsLinked, NodesRise, entry_of}
 use Rattle.keyed_lists.specs.Places.{IsPlaceOf}

@@ -1,6 +1,5 @@
 -- Numbers that are next to each other, as one comes or one leaves.
-use Rattle.std.proofs.Common.{◌≡◌, ◌≢◌, ℕ, ◌<◌, ◌≤◌, Bool, true, false, Option, None, Some, refl, sym, ap, ◌∙◌, arith, ⊎_elim, inl, inr, ◌⊎◌}
-use Rattle.std.proofs.lemmas.Bool.{cases_eq}
+use Rattle.std.proofs.Common.{◌≡◌, ◌≢◌, ℕ, ◌<◌, ◌≤◌, Bool, true, Option, None, Some, refl, sym, ap, ◌∙◌, arith, ⊎_elim, inl, inr, ◌⊎◌}
 use Rattle.keyed_lists.specs.Linked.{AreNext, IsIn, IsUpTo, IsFrom, IsBefore}
 
 in_both : (S T : ℕ → Bool) (a : Option ℕ) → ((n : ℕ) → S n ≡ true → T n ≡ true) → IsIn S a → IsIn T a
@@ -57,7 +56,6 @@ one_behind S m (Some p) (Some q) first second =
 
 -- one number more, above all others
 module _ (S T : ℕ → Bool) (m : ℕ) (keeps : (n : ℕ) → S n ≡ true → T n ≡ true) (new : T m ≡ true) (only : (n : ℕ) → T n ≡ true → (S n ≡ true) ⊎ (n ≡ m)) (above : (n : ℕ) → S n ≡ true → n < m) where
-
   pub more_inside : (a : Option ℕ) (b : ℕ) → AreNext S a (Some b) → AreNext T a (Some b)
   more_inside a b next = record {
     first_in = in_both S T a keeps next.first_in;

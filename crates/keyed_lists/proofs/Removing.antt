@@ -1,16 +1,15 @@
 -- A number is removed from between its neighbours.
-use Rattle.std.proofs.Common.{◌≡◌, ◌≢◌, ℕ, suc, zero, ◌+◌, ◌<◌, ◌≤◌, ◌^◌, ◌==◌, ◌&&◌, ◌||◌, not, Bool, true, false, List, [], ◌∷◌, ◌++◌, Option, None, Some, IsSome, OnSome, IfSome, map, filter, length, get_or, set, cond, if◌then◌else◌, refl, sym, ap, subst, ◌∙◌, arith, ⊎_elim, inl, inr, ◌⊎◌}
+use Rattle.std.proofs.Common.{◌≡◌, ◌≢◌, ℕ, suc, zero, ◌<◌, ◌≤◌, ◌==◌, ◌&&◌, not, Bool, true, false, List, [], ◌∷◌, Option, None, Some, IsSome, OnSome, IfSome, map, filter, length, get_or, set, cond, if◌then◌else◌, refl, sym, ap, subst, ◌∙◌, arith, ⊎_elim}
 use Rattle.std.specs.Prelude.{find, is_some}
-use Rattle.std.specs.List.{All, remove, count_by}
-use Rattle.std.proofs.lemmas.Bool.{cases_eq, eq-eqb, eqb-true, ne_eqb}
-use Rattle.std.proofs.lemmas.Bool.Decides.{nat_tests}
-use Rattle.std.proofs.lemmas.List.{length-map, length-set, get_or-map, get_or-set_same, get_or-set_other}
+use Rattle.std.specs.List.{All, remove}
+use Rattle.std.proofs.lemmas.Bool.{cases_eq, eq-eqb, ne_eqb}
+use Rattle.std.proofs.lemmas.List.{length-map, length-set, get_or-set_same, get_or-set_other}
 use Rattle.std.proofs.lemmas.List.Elements.{All-cons, All-map}
 use Rattle.std.proofs.lemmas.List.Kept.{AllPairs-filter}
 use Rattle.std.proofs.lemmas.List.Sums.{length-filter, count_by-le-length}
 use Rattle.keyed_lists.specs.declared.Node.{Node}
 use Rattle.keyed_lists.specs.declared.Ends.{Ends}
-use Rattle.keyed_lists.specs.Keyed.{Entry, entry, has, IsRising}
+use Rattle.keyed_lists.specs.Keyed.{Entry, has}
 use Rattle.keyed_lists.specs.Linked.{AreNext, AreLinked, HasEnds, IsIn, IsLinked, NodesRise, entry_of}
 use Rattle.keyed_lists.specs.Places.{IsPlaceOf, with_behind, with_before, first_with, last_with}
 use Rattle.keyed_lists.proofs.Shown.{and_parts, true_or_false, has_at, has_fewer, one_key, placed, shown_behind, shown_before, shown_rise}

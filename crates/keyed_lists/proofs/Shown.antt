@@ -1,10 +1,9 @@
 -- Which entries nodes show.
-use Rattle.std.proofs.Common.{◌≡◌, ◌≢◌, ℕ, suc, zero, ◌<◌, ◌≤◌, ◌==◌, ◌&&◌, ◌||◌, not, Bool, true, false, List, [], ◌∷◌, ◌++◌, Option, None, Some, IfSome, map, length, get_or, set, filter, refl, sym, ap, ◌∙◌, arith, ⊎_elim, inl, inr, ◌⊎◌, if◌then◌else◌}
-use Rattle.std.specs.Prelude.{find}
-use Rattle.std.specs.List.{All, list_any}
-use Rattle.std.proofs.lemmas.Bool.{cases_eq, cases_lt, eq-eqb, eqb-true, ne_eqb}
+use Rattle.std.proofs.Common.{◌≡◌, ◌≢◌, ℕ, suc, zero, ◌<◌, ◌≤◌, ◌==◌, ◌&&◌, ◌||◌, not, Bool, true, false, List, [], ◌∷◌, ◌++◌, Option, None, Some, IfSome, map, length, get_or, filter, refl, sym, ap, ◌∙◌, arith, ⊎_elim, inl, inr, ◌⊎◌, if◌then◌else◌}
+use Rattle.std.specs.List.{All}
+use Rattle.std.proofs.lemmas.Bool.{cases_eq, cases_lt, eqb-true}
 use Rattle.std.proofs.lemmas.Bool.Decides.{nat_tests}
-use Rattle.std.proofs.lemmas.List.{get_or-map, length-map, get_or_default}
+use Rattle.std.proofs.lemmas.List.{get_or-map, length-map}
 use Rattle.std.proofs.lemmas.List.Folds.{list_any-append}
 use Rattle.std.proofs.lemmas.Map.Views.{any-filter_same}
 use Rattle.keyed_lists.specs.declared.Node.{Node}
@@ -91,12 +90,14 @@ one_key nodes rises d k l n first second =
 -- the place of a number that is shown
 pub its_place : (nodes : List Node) → NodesRise nodes → (k n : ℕ) → has (map entry_of nodes) k n ≡ true → (i : ℕ) × IsPlaceOf nodes n i
 its_place nodes rises k n there =
-    let a = place_at nodes k n there in
-    (a.0, record {
-      within = a.1.0;
-      here = λ d. (a.1.1 d).1;
-      others = λ j d within other same. other (one_place nodes rises j a.0 d within a.1.0 (same ∙ sym (a.1.1 d).1));
-    })
+    let a = place_at nodes k n there in (
+      a.0,
+      record {
+        within = a.1.0;
+        here = λ d. (a.1.1 d).1;
+        others = λ j d within other same. other (one_place nodes rises j a.0 d within a.1.0 (same ∙ sym (a.1.1 d).1));
+      },
+    )
 
 -- one entry more, and one fewer
 pub has_more : (entries : List Entry) (k n key number : ℕ) → has (entries ++ entry key number ∷ []) k n ≡ (has entries k n || ((key == k) && (number == n)))

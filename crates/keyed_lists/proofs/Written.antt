@@ -1,5 +1,5 @@
 -- A link is written at the place of its number.
-use Rattle.std.proofs.Common.{◌≡◌, ◌≢◌, ℕ, suc, zero, ◌<◌, ◌==◌, List, [], ◌∷◌, Option, None, Some, map, length, get_or, set, if◌then◌else◌, refl, sym, ap, ◌∙◌, arith}
+use Rattle.std.proofs.Common.{◌≡◌, ◌≢◌, ℕ, suc, zero, ◌<◌, List, [], ◌∷◌, Option, None, Some, map, length, get_or, set, refl, sym, ap, ◌∙◌, arith}
 use Rattle.std.proofs.lemmas.Bool.{eq-eqb, ne_eqb}
 use Rattle.std.proofs.lemmas.List.{get_or_default}
 use Rattle.keyed_lists.specs.declared.Node.{Node}
@@ -24,18 +24,18 @@ module _ (nodes : List Node) (number place : ℕ) (link : Option ℕ) (at : IsPl
       sym (map_one (with_behind (Some number) link) nodes place (record node { behind = link }) at.within
       (λ d. rw (eq-eqb _ _ (at.here d)) (ap (λ (n : Node). record n { behind = link }) (same_at d)))
       (λ k d lt apart. rw (ne_eqb _ _ (at.others k d lt apart)) refl))
-      where
-        same_at : (d : Node) → get_or nodes place d ≡ node
-        same_at d = get_or_default nodes place d node at.within ∙ sym here
+    where
+      same_at : (d : Node) → get_or nodes place d ≡ node
+      same_at d = get_or_default nodes place d node at.within ∙ sym here
 
   pub written_before : set nodes place (record node { before = link }) ≡ map (with_before (Some number) link) nodes
   written_before =
       sym (map_one (with_before (Some number) link) nodes place (record node { before = link }) at.within
       (λ d. rw (eq-eqb _ _ (at.here d)) (ap (λ (n : Node). record n { before = link }) (same_at d)))
       (λ k d lt apart. rw (ne_eqb _ _ (at.others k d lt apart)) refl))
-      where
-        same_at : (d : Node) → get_or nodes place d ≡ node
-        same_at d = get_or_default nodes place d node at.within ∙ sym here
+    where
+      same_at : (d : Node) → get_or nodes place d ≡ node
+      same_at d = get_or_default nodes place d node at.within ∙ sym here
 
 pub unwritten_behind : (nodes : List Node) (link : Option ℕ) → nodes ≡ map (with_behind None link) nodes
 unwritten_behind nodes link = sym (map_same (λ n. n) nodes (λ k d lt. refl))

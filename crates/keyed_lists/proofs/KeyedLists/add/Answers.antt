@@ -1,9 +1,8 @@
-use Rattle.std.proofs.Common.{◌≡◌, ◌<◌, ◌∙◌, ℕ, List, Option, None, Some, map, length, ◌++◌, ◌∷◌, [], ap, refl, arith}
+use Rattle.std.proofs.Common.{◌∙◌, List, None, Some, map, ◌++◌, ◌∷◌, [], ap, refl, arith}
 use Rattle.std.proofs.lemmas.List.{length-map, length-set}
 use Rattle.keyed_lists.specs.declared.Node.{Node}
 use Rattle.keyed_lists.specs.declared.Ends.{Ends}
-use Rattle.keyed_lists.specs.Keyed.{Keyed, Entry}
-use Rattle.keyed_lists.specs.Linked.{AreNext, HasEnds, entry_of}
+use Rattle.keyed_lists.specs.Linked.{AreNext, entry_of}
 use Rattle.keyed_lists.proofs.Shown.{placed, nodes_below}
 use Rattle.keyed_lists.proofs.Adding.{kept_added, shown_added}
 use Rattle.keyed_lists.proofs.KeyedLists.add.Goals as goal

@@ -1,6 +1,3 @@
-use Rattle.std.proofs.Common.{◌≡◌, ℕ, Option, Some, true, ap, sym, ◌∙◌}
-use Rattle.keyed_lists.specs.declared.Node.{Node}
-use Rattle.keyed_lists.specs.Linked.{IsLinked}
 use Rattle.keyed_lists.proofs.Shown.{shown_rise, its_place}
 use Rattle.keyed_lists.proofs.Found.{next_found, linked_behind}
 use Rattle.keyed_lists.proofs.KeyedLists.after.Goals as goal

@@ -1,4 +1,4 @@
-use Rattle.std.proofs.Common.{ap, sym, ◌∙◌, ◌≡◌}
+use Rattle.std.proofs.Common.{ap, ◌∙◌}
 use Rattle.keyed_lists.specs.declared.Ends.{Ends}
 use Rattle.keyed_lists.proofs.Shown.{shown_rise}
 use Rattle.keyed_lists.proofs.Found.{first_found}

@@ -1,6 +1,5 @@
-use Rattle.std.proofs.Common.{◌≡◌, ◌∙◌, ap, sym, map, List, Option, Some, arith}
+use Rattle.std.proofs.Common.{◌∙◌, ap, sym, map, arith}
 use Rattle.std.proofs.lemmas.List.{length-set}
-use Rattle.keyed_lists.specs.declared.Node.{Node}
 use Rattle.keyed_lists.specs.declared.Ends.{Ends}
 use Rattle.keyed_lists.specs.Linked.{entry_of}
 use Rattle.keyed_lists.specs.Places.{with_before, with_behind, last_with}

@@ -1,4 +1,3 @@
-use Rattle.std.proofs.Common.{◌≡◌}
 use Rattle.keyed_lists.proofs.Written.{written_before, unwritten_before}
 use Rattle.keyed_lists.proofs.places.set_before.Goals as goal
 

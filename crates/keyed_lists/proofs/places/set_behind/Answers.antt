@@ -1,4 +1,3 @@
-use Rattle.std.proofs.Common.{◌≡◌}
 use Rattle.keyed_lists.proofs.Written.{written_behind, unwritten_behind}
 use Rattle.keyed_lists.proofs.places.set_behind.Goals as goal
 
