@@ -165,6 +165,22 @@ module _ {V U A : Type 0} (separator : A) (P : V → List A → Type 0) (R : V �
   opens_behind [] more opened = refl
   opens_behind (x ∷ text) more opened = opened
 
+  opens_then : (text more : List A) → Opens separator text → Opens separator more → Opens separator (text ++ more)
+  opens_then [] more opened behind = behind
+  opens_then (x ∷ text) more opened behind = opened
+
+  -- of two pairs of which one has more behind it, the first parts are one
+  pub pair_same : (v : V) (u : U) (w : V) (x : U) (text more : List A) → Opens separator more → (a : IsPair P R v u text) → IsPair P R w x (text ++ more)
+      → (w ≡ v) × R v x (a.back ++ more)
+  pair_same v u w x text more behind a b =
+      let after = a.back ++ more in
+      let stops = stops_at_separator v a.front a.first after (opens_then a.back more ((tail v).opens u a.back a.second) behind) in
+      let whole : text ++ more ≡ a.front ++ after = ap (λ l. l ++ more) a.split ∙ append_assoc a.front a.back more in
+      let here : IsPair P R w x (a.front ++ after) = subst (λ l. IsPair P R w x l) whole b in
+      let ends = at_cut a.front after v a.first stops after (along_itself after) w x here.front here.back here.first here.second
+      (cut a.front after here.front here.back here.split) in
+      (part.unique w v a.front (subst (λ l. P w l) ends.0 here.first) a.first, pair_at a.front after v a.first stops after (along_itself after) w x here)
+
   -- a pair is a part again
   pub pairs_part : ((v : V) → IsPart separator (R v)) → IsPart separator (Pairs P R)
   pairs_part parts = record {

@@ -1,12 +1,12 @@
 -- Words and choices.
 use Rattle.std.proofs.Common.{◌≡◌, ℕ, ◌+◌, ◌-◌, ◌<◌, ◌≤◌, List, [], ◌∷◌, ◌++◌, length, take, drop, get_or, refl, sym, ap, ◌∙◌, subst, arith, length-drop, ◌⊎◌, inl, inr, Bool, true, false, nat_eq, IsTrue}
-use Rattle.std.proofs.lemmas.Bool.{ltb-true, ltb-false, cases_eq, eqb-false, eqb-true}
+use Rattle.std.proofs.lemmas.Bool.{ltb-true, ltb-false, cases_eq, eqb-false, eqb-true, leb-true}
 use Rattle.std.proofs.lemmas.List.{append-nil, append_assoc, length-take-le, take-append-drop, get_or-drop, get_or_at, drop-drop, take_more}
 use Rattle.std.proofs.Math.Seq.{take-add}
 use Rattle.std.proofs.lemmas.Slice.Eq.{bytes_eq-Decides}
-use Rattle.std.specs.Prelude.{bytes_eq, Result, Ok, Err, nat_lt, if◌then◌else◌}
+use Rattle.std.specs.Prelude.{bytes_eq, Result, Ok, Err, nat_le, nat_lt, if◌then◌else◌}
 use Rattle.line_grammar.specs.Language.{Begins, Stops, AnyOf, IsReadTo, IsStuck, IsRead}
-use Rattle.line_grammar.specs.Words.{Word, Either, further_of, lacks}
+use Rattle.line_grammar.specs.Words.{Word, Either, further_of, lacks, is_solid}
 use Rattle.line_grammar.specs.Parts.{IsPart}
 use Rattle.line_grammar.proofs.Pairs.{one_then}
 
@@ -169,3 +169,18 @@ lacks_next separator text i inside h apart = subst (λ t. IsTrue (lacks separato
 pub lacking_part : {V : Type 0} (separator : ℕ) (P : V → List ℕ → Type 0) → ((v w : V) (text : List ℕ) → P v text → P w text → v ≡ w)
     → ((v : V) (text : List ℕ) → P v text → IsTrue (lacks separator text)) → IsPart separator P
 lacking_part separator P unique lacking = record { unique = unique; apart = λ v w text more p q. lacks_apart separator text more (lacking w (text ++ separator ∷ more) q) }
+
+-- words of bytes from `-` on
+solid_cons : (x : ℕ) (text : List ℕ) (b : Bool) → nat_le 45 x ≡ b → (if b then is_solid text else false) ≡ true → (45 ≤ x) × IsTrue (is_solid text)
+solid_cons x text true e h = (leb-true 45 x e, h)
+solid_cons x text false e h = let no_such : ⊥ = cc in absurd no_such
+
+pub solid_lacks : (separator : ℕ) → separator < 45 → (text : List ℕ) → IsTrue (is_solid text) → IsTrue (lacks separator text)
+solid_lacks separator low [] h = refl
+solid_lacks separator low (x ∷ text) h =
+    let parts = solid_cons x text (nat_le 45 x) refl h in
+    lacks_all separator x text (nat_eq x separator) refl (λ e. omega (arith, parts.0)) (solid_lacks separator low text parts.1)
+
+pub solid_behind : (front : List ℕ) (x : ℕ) (more : List ℕ) → IsTrue (is_solid (front ++ x ∷ more)) → x < 45 → ⊥
+solid_behind [] x more h low = omega (arith, (solid_cons x more (nat_le 45 x) refl h).0)
+solid_behind (y ∷ front) x more h low = solid_behind front x more (solid_cons y (front ++ x ∷ more) (nat_le 45 y) refl h).1 low

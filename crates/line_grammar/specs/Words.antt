@@ -1,5 +1,5 @@
 -- Single words, and choices among languages.
-use Rattle.std.specs.Prelude.{◌≡◌, ℕ, List, [], ◌∷◌, Bool, true, false, nat_eq, ◌⊎◌, Result, Ok, Err, nat_lt, if◌then◌else◌}
+use Rattle.std.specs.Prelude.{◌≡◌, ℕ, List, [], ◌∷◌, Bool, true, false, nat_eq, nat_le, ◌<◌, ◌⊎◌, Result, Ok, Err, nat_lt, if◌then◌else◌}
 
 -- the one word, which stands for the value
 pub record IsWord {V A : Type 0} (meaning : V) (word : List A) (value : V) (text : List A) : Type 0 where
@@ -24,3 +24,13 @@ further_of (Err j) (Err k) = if nat_lt j k then Err k else Err j
 abbrev pub lacks : ℕ → List ℕ → Bool
 lacks separator [] = true
 lacks separator (x ∷ text) = if nat_eq x separator then false else lacks separator text
+
+-- whether each byte is `-` or greater, as letters and digits are, and a space and a line feed aren't
+abbrev pub is_solid : List ℕ → Bool
+is_solid [] = true
+is_solid (x ∷ text) = if nat_le 45 x then is_solid text else false
+
+-- nothing, or a text whose first byte is below `-`
+abbrev pub EndsWord : List ℕ → Type 0
+EndsWord [] = Unit {0}
+EndsWord (x ∷ rest) = x < 45

@@ -3,15 +3,21 @@
 ghost use Rattle.std.specs.Prelude.{◌≡◌, ◌≢◌, ◌<◌, ◌≤◌, ℕ, List, ◌∷◌, IsTrue, MatchOption, drop, length, take, slice_index};
 ghost use Rattle.line_grammar.specs.Language.{IsRead};
 ghost use Rattle.line_grammar.specs.Parts.{Opens};
-ghost use Rattle.line_grammar.specs.Words.{Word, further_of, lacks};
+ghost use Rattle.line_grammar.specs.Words.{Word, EndsWord, further_of, lacks};
 
 /// Reads the word at the front of the text, which then stands for `meaning`.
 pub fn read_word<V: Copy>(meaning: V, word: &str, text: &[u8]) -> Result<(V, usize), usize>
     ensures { IsRead (Word meaning word.now) text.now result }
 {
-    let bytes = word.as_bytes();
-    let size = shared_front(bytes, text);
-    if size == bytes.len() {
+    read_bytes(meaning, word.as_bytes(), text)
+}
+
+/// Reads the word with these bytes at the front of the text, which then stands for `meaning`.
+pub fn read_bytes<V: Copy>(meaning: V, word: &[u8], text: &[u8]) -> Result<(V, usize), usize>
+    ensures { IsRead (Word meaning word.now) text.now result }
+{
+    let size = shared_front(word, text);
+    if size == word.len() {
         Ok((meaning, size))
     } else {
         Err(size)
@@ -68,6 +74,20 @@ pub fn size_before(separator: u8, text: &[u8]) -> usize
 {
     for (index, byte) in text.iter().enumerate() {
         if *byte == separator {
+            return index;
+        }
+    }
+    text.len()
+}
+
+/// How many bytes the text has before its first byte below `-`, or in all. Letters, digits and dashes are
+/// no such bytes; a space and a line feed are.
+pub fn word_size(text: &[u8]) -> usize
+    ensures within { result ≤ length text.now }
+    ensures ended { EndsWord (drop result text.now) }
+{
+    for (index, byte) in text.iter().enumerate() {
+        if *byte < b'-' {
             return index;
         }
     }

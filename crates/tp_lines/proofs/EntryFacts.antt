@@ -8,22 +8,14 @@ use Rattle.line_grammar.proofs.Pairs.{pairs_read, pairs_stuck_first, pairs_stuck
 use Rattle.line_grammar.proofs.Readings.{part_renamed, read_renamed, stuck_renamed, led_none, led_part, led_tail, led_then, led_then_stuck}
 use Rattle.tp_base.specs.declared.answers.Answer.{Answer}
 use Rattle.tp_base.specs.declared.answers.Entry.{Entry}
-use Rattle.tp_base.specs.declared.answers.Refusal.{Refusal}
-use Rattle.tp_base.specs.declared.answers.TakeResult.{TakeResult}
 use Rattle.tp_base.specs.declared.calls.Call.{Call}
 use Rattle.tp_base.specs.declared.ids.Who.{Who}
-use Rattle.tp_lines.specs.declared.shapes.TheConstants.{ANSWERS, REFUSALS, RESULTS}
-use Rattle.tp_lines.specs.declared.answers.Ending.{Ending}
-use Rattle.tp_lines.specs.declared.shapes.Shape.{Shape}
-use Rattle.tp_lines.specs.declared.values.Value.{Value}
-use Rattle.tp_lines.specs.Rows.{Rows}
-use Rattle.tp_lines.specs.AnswerRows.{AnswerTexts, ArrowTexts, Endings, IsAnswerText, IsRefusalText, IsResultText}
-use Rattle.tp_lines.specs.Answers.{EntryLines, text_of_answer}
+use Rattle.tp_lines.specs.AnswerRows.{AnswerTexts, ArrowTexts}
+use Rattle.tp_lines.specs.declared.words.Field.TheVariants as field
+use Rattle.tp_lines.specs.Answers.{EntryLines, row_of_answer, text_of_answer}
 use Rattle.tp_lines.specs.Calls.{CallLines, line_of_call}
-use Rattle.tp_lines.proofs.AnswerFacts.{answer_part, answer_row, answer_tail, ending_holds}
+use Rattle.tp_lines.proofs.AnswerFacts.{answer_part, answer_tail}
 use Rattle.tp_lines.proofs.Bounds.{line_short, row_short}
-use Rattle.tp_lines.proofs.RefusalFacts.{refusal_row}
-use Rattle.tp_lines.proofs.ResultFacts.{result_row}
 use Rattle.tp_lines.proofs.WhoFacts.{lines_part}
 
 head_some : AnyOf (Led 62 AnswerTexts) (62 ∷ answer_tail.some.1)
@@ -71,7 +63,7 @@ arrow_tail = led_tail 32 (Led 45 (Led 62 AnswerTexts)) (45 ∷ 62 ∷ answer_tai
 abbrev entry_of : ((Who × Call) × Answer) → Entry
 entry_of ((who, call), answer) = record { who = who; call = call; answer = answer }
 
-pub arrow_text : (x : Answer) (t : List ℕ) → ArrowTexts x t → (rest : List ℕ) × (t ≡ 32 ∷ 45 ∷ 62 ∷ rest) × IsAnswerText x rest
+pub arrow_text : (x : Answer) (t : List ℕ) → ArrowTexts x t → (rest : List ℕ) × (t ≡ 32 ∷ 45 ∷ 62 ∷ rest) × AnswerTexts x rest
 arrow_text x t a =
     let b = a.behind in let c = b.behind in
     (c.rest, a.split ∙ ap (λ l. 32 ∷ l) b.split ∙ ap (λ l. 32 ∷ 45 ∷ l) c.split, c.behind)
@@ -85,7 +77,6 @@ entry_to who call answer t pair =
     record {
       who_in_range = pair.first.who_in_range;
       call_in_range = pair.first.call_in_range;
-      readable = pair.first.readable;
       answer_in_range = a.2.in_range;
       split = pair.split ∙ ap (λ l. l ++ pair.back) pair.first.split ∙ ap (λ l. line_of_call who call ++ l) (a.1 ∙ ap (λ l. 32 ∷ 45 ∷ 62 ∷ l) a.2.split)
           ∙ sym (append_assoc (line_of_call who call) (codes " -> ") (text_of_answer answer));
@@ -96,7 +87,7 @@ entry_pair entry t a = record {
   front = line_of_call entry.who entry.call;
   back = codes " -> " ++ text_of_answer entry.answer;
   split = a.split ∙ append_assoc (line_of_call entry.who entry.call) (codes " -> ") (text_of_answer entry.answer);
-  first = record { who_in_range = a.who_in_range; call_in_range = a.call_in_range; readable = a.readable; split = refl };
+  first = record { who_in_range = a.who_in_range; call_in_range = a.call_in_range; split = refl };
   second = record {
     rest = 45 ∷ 62 ∷ 32 ∷ text_of_answer entry.answer;
     split = refl;
@@ -141,26 +132,14 @@ entries_part = part_renamed 32 EntryRows EntryLines entry_of entry_row
     (pairs_part 32 CallLines (λ p. ArrowTexts) lines_part (λ p. arrow_tail) (λ p. arrow_part))
 
 -- no entry is long
-result_short : (x : TakeResult) (t : List ℕ) → IsResultText x t → length t ≤ 220
-result_short x t a = let r = result_row x t a in row_short RESULTS.shapes refl r.0 t r.1
-
-refusal_short : (x : Refusal) (t : List ℕ) → IsRefusalText x t → length t ≤ 220
-refusal_short x t a = let r = refusal_row x t a in row_short REFUSALS.shapes refl r.0 t r.1
-
-pub answer_short : (x : Answer) (t : List ℕ) → IsAnswerText x t → length t ≤ 440
-answer_short x t a = let r = answer_row x t a in by_row r.0 t r.1
-  where
-    by_row : (p : (Shape × List Value) × Ending) (t : List ℕ) → Pairs (Rows ANSWERS.shapes) (λ q. Endings q.0.word) p t → length t ≤ 440
-    by_row ((s, values), end) t pair =
-        omega (
-          arith,
-          ap length pair.split,
-          length-append pair.front pair.back,
-          row_short ANSWERS.shapes refl (s, values) pair.front pair.first,
-          ending_holds (λ l. length l ≤ 220) (omega arith) result_short refusal_short s.word end pair.back pair.second,
-        )
-
 pub entry_short : (entry : Entry) (t : List ℕ) → EntryLines entry t → length t ≤ 700
 entry_short entry t a =
     let pair = entry_pair entry t a in let b = arrow_text entry.answer pair.back pair.second in
-    omega (arith, ap length pair.split, length-append pair.front pair.back, line_short (entry.who, entry.call) pair.front pair.first, ap length b.1, answer_short entry.answer b.0 b.2)
+    omega (
+      arith,
+      ap length pair.split,
+      length-append pair.front pair.back,
+      line_short (entry.who, entry.call) pair.front pair.first,
+      ap length b.1,
+      row_short field.Answer row_of_answer entry.answer b.0 b.2,
+    )

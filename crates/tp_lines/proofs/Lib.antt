@@ -1,13 +1,14 @@
-pub mod AnswerFacts
+mod Agree
+mod AnswerFacts
 pub mod Bounds
-pub mod CallFacts
+mod CallFacts
+mod Choices
 pub mod EntryFacts
 pub mod Feeds
-pub mod FieldFacts
-pub mod FormFacts
-pub mod RefusalFacts
-pub mod ResultFacts
-pub mod RowFacts
-pub mod ShapeFacts
+mod Outcomes
+mod PartFacts
+mod Rebuilt
+mod RowFacts
+mod Tables
 pub mod WhoFacts
-pub mod WordRows
+pub mod WordRules

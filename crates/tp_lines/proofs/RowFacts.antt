@@ -1,237 +1,165 @@
--- Rows of a table.
-use Rattle.std.proofs.Common.{◌≡◌, ℕ, zero, suc, ◌+◌, ◌<◌, ◌≤◌, List, [], ◌∷◌, ◌++◌, length, take, drop, get_or, refl, sym, ap, ◌∙◌, subst, arith, ◌⊎◌, inl, inr, Bool, true, false, IsTrue}
-use Rattle.std.specs.Prelude.{Result, bytes_eq, if◌then◌else◌}
-use Rattle.std.proofs.lemmas.List.{take_more}
-use Rattle.std.proofs.lemmas.Slice.Eq.{bytes_eq-Decides}
-use Rattle.line_grammar.specs.Language.{Stops, AnyOf, IsRead, IsReadTo, IsStuck}
-use Rattle.line_grammar.specs.Parts.{Led, Opens, IsPart, IsTail}
-use Rattle.line_grammar.specs.Words.{Word, Either, lacks, further_of}
-use Rattle.line_grammar.proofs.Pairs.{pairs_read, pairs_stuck_first, pairs_stuck_second, pairs_part, one_then}
-use Rattle.line_grammar.proofs.Readings.{read_same, led_part}
-use Rattle.line_grammar.proofs.WordFacts.{differ, lacking_part, lacks_apart, further_read}
-use Rattle.tp_lines.specs.declared.shapes.Shape.{Shape}
-use Rattle.tp_lines.specs.declared.shapes.Word.{Word as Verb}
-use Rattle.tp_lines.specs.declared.shapes.Word.TheVariants as word
-use Rattle.tp_lines.specs.declared.values.Value.{Value}
-use Rattle.tp_lines.specs.declared.values.Value.TheVariants.{Nothing}
-use Rattle.tp_lines.specs.Fields.{Tails}
-use Rattle.tp_lines.specs.Rows.{IsListed, IsShapeText, ShapeTexts, Rows, has_word, are_apart}
-use Rattle.tp_lines.specs.Shapes.{AreDistinct, text_of_word}
-use Rattle.tp_lines.proofs.FieldFacts.{tails_tail, tails_part}
+-- The parts of a row, one after another.
+use Rattle.std.proofs.Common.{◌≡◌, ℕ, zero, suc, ◌+◌, ◌<◌, ◌≤◌, List, [], ◌∷◌, ◌++◌, length, take, drop, refl, sym, ap, ◌∙◌, subst, arith, Bool, true, false, nat_eq}
+use Rattle.std.specs.Prelude.{if◌then◌else◌}
+use Rattle.std.proofs.lemmas.List.{append-nil, append_assoc}
+use Rattle.line_grammar.specs.Language.{AnyOf, Stops, IsReadTo, IsStuck}
+use Rattle.line_grammar.specs.Parts.{IsPair, Opens, Pairs, IsPart, IsTail}
+use Rattle.line_grammar.proofs.Pairs.{pairs_read, pairs_stuck_first, pairs_stuck_second, pair_same}
+use Rattle.line_grammar.proofs.Readings.{read_renamed, stuck_renamed}
+use Rattle.tp_lines.specs.declared.parts.Form.{Form}
+use Rattle.tp_lines.specs.declared.parts.Form.TheVariants as form
+use Rattle.tp_lines.specs.declared.parts.Part.{Part}
+use Rattle.tp_lines.specs.declared.parts.Part.TheVariants as part
+use Rattle.tp_lines.specs.declared.words.Field.{Field}
+use Rattle.tp_lines.specs.declared.words.Field.TheVariants as field
+use Rattle.tp_lines.specs.declared.words.Word.{Word}
+use Rattle.tp_lines.specs.Choices.{PartTexts}
+use Rattle.tp_lines.specs.Parts.{AreFit, Fits, FitsForm, IsPartsText, PartsTexts, after, form_of, instead_of, number_of, number_part, parts_text, room, room_of, text_of_part}
+use Rattle.tp_lines.specs.Rows.{ArePartsRead}
+use Rattle.tp_lines.specs.Shapes.{fields_of, table_of}
+use Rattle.tp_lines.proofs.PartFacts.{part_part, some_part}
+use Rattle.tp_lines.proofs.WordRules.{roomy}
 
-pub listed_at : (shapes : List Shape) (i : ℕ) (d : Shape) → i < length shapes → IsListed shapes (get_or shapes i d)
-listed_at [] i d inside = let no_such : ⊥ = omega arith in no_such
-listed_at (s ∷ shapes) zero d inside = inl refl
-listed_at (s ∷ shapes) (suc i) d inside = inr (listed_at shapes i d (omega arith))
+-- the fields behind a part have less room
+group_room : (b : Bool) (fields : List Field) → room (if b then field.NoCancel ∷ [] else fields) + 1 ≤ 2 + room fields
+group_room true fields = omega arith
+group_room false fields = omega arith
 
-listed_front : (shapes : List Shape) (s x : Shape) → IsListed shapes x → IsListed (shapes ++ s ∷ []) x
-listed_front [] s x listed = absurd listed
-listed_front (t ∷ shapes) s x (inl e) = inl e
-listed_front (t ∷ shapes) s x (inr listed) = inr (listed_front shapes s x listed)
+number_room : (f : Field) (n : ℕ) (fields : List Field) → room (after (number_part f n) fields) + 1 ≤ room_of f + room fields
+number_room field.Group n fields = group_room (nat_eq n 0) fields
+number_room _ n fields = omega arith
 
-listed_last : (shapes : List Shape) (s x : Shape) → x ≡ s → IsListed (shapes ++ s ∷ []) x
-listed_last [] s x e = inl e
-listed_last (t ∷ shapes) s x e = inr (listed_last shapes s x e)
+instead_room : (own fields : List Field) (n : ℕ) → room own + 1 ≤ n → room (instead_of own fields) + 1 ≤ n + room fields
+instead_room [] fields n h = omega arith
+instead_room (g ∷ own) fields n h = omega arith
 
-listed_cases : (shapes : List Shape) (s x : Shape) → IsListed (shapes ++ s ∷ []) x → IsListed shapes x ⊎ (x ≡ s)
-listed_cases [] s x (inl e) = inr e
-listed_cases [] s x (inr listed) = absurd listed
-listed_cases (t ∷ shapes) s x (inl e) = inl (inl e)
-listed_cases (t ∷ shapes) s x (inr listed) = elim (listed_cases shapes s x listed) [ inl l ↦ inl (inr l) | inr e ↦ inr e ]
+room_by_form : (x : Form) (f : Field) (p : Part) (fields : List Field) → FitsForm x f p → room (after p fields) + 1 ≤ room_of f + room fields
+room_by_form (form.Number least most) f p fields h =
+    subst (λ q. room (after q fields) + 1 ≤ room_of f + room fields) (sym h.is) (number_room f (number_of p) fields)
+room_by_form (form.Lettered letter least most) f p fields h =
+    subst (λ q. room (after q fields) + 1 ≤ room_of f + room fields) (sym h.is) (number_room f (number_of p) fields)
+room_by_form form.Choice f p fields h =
+    subst (λ q. room (after q fields) + 1 ≤ room_of f + room fields) (sym h.is)
+    (subst (λ g. room (instead_of (fields_of h.word) fields) + 1 ≤ room_of g + room fields) h.table (instead_room (fields_of h.word) fields (room_of (table_of h.word)) (roomy h.word)))
 
--- one shape more
-module _ (shapes : List Shape) (s : Shape) where
-  more_to : (x : Shape) (t : List ℕ) → Either (ShapeTexts shapes) (Word s (text_of_word s.word)) x t → ShapeTexts (shapes ++ s ∷ []) x t
-  more_to x t (inl a) = record { listed = listed_front shapes s x a.listed; split = a.split }
-  more_to x t (inr w) = record { listed = listed_last shapes s x w.means; split = w.split ∙ ap (λ y. text_of_word y.word) (sym w.means) }
+pub room_after : (f : Field) (p : Part) (fields : List Field) → Fits f p → room (after p fields) + 1 ≤ room_of f + room fields
+room_after f p fields h = room_by_form (form_of f) f p fields h
 
-  more_back : (x : Shape) (t : List ℕ) → ShapeTexts (shapes ++ s ∷ []) x t → Either (ShapeTexts shapes) (Word s (text_of_word s.word)) x t
-  more_back x t a = elim (listed_cases shapes s x a.listed) [
-    | inl listed ↦ inl (record { listed = listed; split = a.split })
-    | inr e ↦ inr (record { means = e; split = a.split ∙ ap (λ y. text_of_word y.word) e })
-  ]
+-- something fits in all fields
+some_fit : (n : ℕ) (fields : List Field) → room fields ≤ n → (parts : List Part) × AreFit fields parts
+some_fit n [] h = ([], tt)
+some_fit zero (f ∷ fields) h = let p = some_part f in absurd (omega (arith, room_after f p.0 fields p.1))
+some_fit (suc n) (f ∷ fields) h =
+    let p = some_part f in let rest = some_fit n (after p.0 fields) (omega (arith, room_after f p.0 fields p.1)) in
+    (p.0 ∷ rest.0, (p.1, rest.1))
 
-  pub one_more : (text : List ℕ) (r q z : Result (Shape × ℕ) ℕ) → z ≡ further_of r q → IsRead (ShapeTexts shapes) text r
-      → IsRead (Word s (text_of_word s.word)) text q → IsRead (ShapeTexts (shapes ++ s ∷ [])) text z
-  one_more text r q z e a b =
-      read_same (Either (ShapeTexts shapes) (Word s (text_of_word s.word))) (ShapeTexts (shapes ++ s ∷ [])) more_to more_back text z
-      (further_read (ShapeTexts shapes) (Word s (text_of_word s.word)) text r q z e a b)
+parts_opens : (fields : List Field) (parts : List Part) (text : List ℕ) → PartsTexts fields parts text → Opens 32 text
+parts_opens fields [] text a = subst (λ l. Opens 32 l) (sym a.split) tt
+parts_opens fields (p ∷ parts) text a = subst (λ l. Opens 32 l) (sym a.split) refl
 
-  only_to : (x : Shape) (t : List ℕ) → Word s (text_of_word s.word) x t → ShapeTexts (s ∷ []) x t
-  only_to x t w = record { listed = inl w.means; split = w.split ∙ ap (λ y. text_of_word y.word) (sym w.means) }
-
-  only_back : (x : Shape) (t : List ℕ) → ShapeTexts (s ∷ []) x t → Word s (text_of_word s.word) x t
-  only_back x t a = elim a.listed [ inl e ↦ record { means = e; split = a.split ∙ ap (λ y. text_of_word y.word) e } | inr h ↦ absurd h ]
-
-  pub one_shape : (text : List ℕ) (r : Result (Shape × ℕ) ℕ) → IsRead (Word s (text_of_word s.word)) text r → IsRead (ShapeTexts (s ∷ [])) text r
-  one_shape text r a = read_same (Word s (text_of_word s.word)) (ShapeTexts (s ∷ [])) only_to only_back text r a
-
--- the words hold no space
-pub word_lacks : (w : Verb) → IsTrue (lacks 32 (text_of_word w))
-word_lacks word.CreatePool = refl
-word_lacks word.ClosePool = refl
-word_lacks word.SetMaximum = refl
-word_lacks word.SetMinimum = refl
-word_lacks word.Create = refl
-word_lacks word.Submit = refl
-word_lacks word.Attach = refl
-word_lacks word.Detach = refl
-word_lacks word.Take = refl
-word_lacks word.Return = refl
-word_lacks word.MayRunLong = refl
-word_lacks word.Finish = refl
-word_lacks word.Done = refl
-word_lacks word.Made = refl
-word_lacks word.Queued = refl
-word_lacks word.Was = refl
-word_lacks word.Flag = refl
-word_lacks word.Freed = refl
-word_lacks word.Later = refl
-word_lacks word.Closing = refl
-word_lacks word.Begun = refl
-word_lacks word.Ended = refl
-word_lacks word.Exhausted = refl
-word_lacks word.Stalled = refl
-word_lacks word.Notice = refl
-word_lacks word.Started = refl
-word_lacks word.Operation = refl
-word_lacks word.Cancelled = refl
-word_lacks word.Count = refl
-word_lacks word.Advanced = refl
-word_lacks word.Attached = refl
-word_lacks word.Taken = refl
-word_lacks word.Returned = refl
-word_lacks word.Refused = refl
-word_lacks word.Plain = refl
-word_lacks word.Object = refl
-word_lacks word.Timeout = refl
-word_lacks word.Io = refl
-word_lacks word.NoSuch = refl
-word_lacks word.WrongKind = refl
-word_lacks word.Released = refl
-word_lacks word.PoolClosed = refl
-word_lacks word.GroupClosed = refl
-word_lacks word.DefaultPool = refl
-word_lacks word.NotWorker = refl
-word_lacks word.NotRunning = refl
-word_lacks word.StillRunning = refl
-word_lacks word.InWait = refl
-word_lacks word.NoWaitBegun = refl
-word_lacks word.OwnCallback = refl
-word_lacks word.HasMembers = refl
-word_lacks word.NotStarted = refl
-word_lacks word.NoOperation = refl
-word_lacks word.OperationsOutstanding = refl
-word_lacks word.SlotTaken = refl
-word_lacks word.NotOwner = refl
-word_lacks word.OverMaximum = refl
-word_lacks word.NotWaitable = refl
-word_lacks word.ClockEnd = refl
-word_lacks word.ObjectLimit = refl
-word_lacks word.CallbackLimit = refl
-word_lacks word.NotAttached = refl
-word_lacks word.AlreadyAttached = refl
-
-has_word_cons : (word : List ℕ) (shape : Shape) (shapes : List Shape) (b : Bool) → bytes_eq word (text_of_word shape.word) ≡ b
-    → (if b then true else has_word word shapes) ≡ false → (bytes_eq word (text_of_word shape.word) ≡ false) × (has_word word shapes ≡ false)
-has_word_cons word shape shapes true e h = let no_such : ⊥ = cc in absurd no_such
-has_word_cons word shape shapes false e h = (e, h)
-
-no_word : (word : List ℕ) (shapes : List Shape) → has_word word shapes ≡ false → (x : Shape) → IsListed shapes x → word ≡ text_of_word x.word → ⊥
-no_word word [] h x listed e = listed
-no_word word (s ∷ shapes) h x (inl same) e =
-    differ word (text_of_word s.word) (has_word_cons word s shapes (bytes_eq word (text_of_word s.word)) refl h).0 (e ∙ ap (λ y. text_of_word y.word) same)
-no_word word (s ∷ shapes) h x (inr listed) e =
-    no_word word shapes (has_word_cons word s shapes (bytes_eq word (text_of_word s.word)) refl h).1 x listed e
-
-apart_cons : (s : Shape) (shapes : List Shape) (b : Bool) → has_word (text_of_word s.word) shapes ≡ b → (if b then false else are_apart shapes) ≡ true → (has_word (text_of_word s.word) shapes ≡ false) × IsTrue (are_apart shapes)
-apart_cons s shapes true e h = let no_such : ⊥ = cc in absurd no_such
-apart_cons s shapes false e h = (e, h)
-
-one_listed : (shapes : List Shape) → IsTrue (are_apart shapes) → (x y : Shape) → IsListed shapes x → IsListed shapes y → text_of_word x.word ≡ text_of_word y.word → x ≡ y
-one_listed [] apart x y a b e = absurd a
-one_listed (s ∷ shapes) apart x y (inl a) (inl b) e = a ∙ sym b
-one_listed (s ∷ shapes) apart x y (inl a) (inr b) e =
-    absurd (no_word (text_of_word s.word) shapes (apart_cons s shapes (has_word (text_of_word s.word) shapes) refl apart).0 y b (ap (λ z. text_of_word z.word) (sym a) ∙ e))
-one_listed (s ∷ shapes) apart x y (inr a) (inl b) e =
-    absurd (no_word (text_of_word s.word) shapes (apart_cons s shapes (has_word (text_of_word s.word) shapes) refl apart).0 x a (ap (λ z. text_of_word z.word) (sym b) ∙ sym e))
-one_listed (s ∷ shapes) apart x y (inr a) (inr b) e = one_listed shapes (apart_cons s shapes (has_word (text_of_word s.word) shapes) refl apart).1 x y a b e
-
-pub shapes_part : (shapes : List Shape) → IsTrue (are_apart shapes) → IsPart 32 (ShapeTexts shapes)
-shapes_part shapes apart = lacking_part 32 (ShapeTexts shapes)
-    (λ v w text a b. one_listed shapes apart v w a.listed b.listed (sym a.split ∙ b.split))
-    (λ v text a. subst (λ t. IsTrue (lacks 32 t)) (sym a.split) (word_lacks v.word))
-
--- a word that a space or nothing follows
-pub shape_read : (shapes : List Shape) (text : List ℕ) (shape : Shape) (size : ℕ) → size ≤ length text → IsShapeText shapes shape (take size text)
-    → Opens 32 (drop size text) → IsReadTo (ShapeTexts shapes) text shape size
-shape_read shapes text shape size within listed opened = record {
-  within = within;
-  text_of = listed;
-  stops = shape_stops (take size text) listed (drop size text) opened;
+pub parts_tail : (fields : List Field) → IsTail 32 (PartsTexts fields)
+parts_tail fields = record {
+  opens = parts_opens fields;
+  some = let s = some_fit (room fields) fields (omega arith) in (s.0, parts_text s.0, record { fit = s.1; split = refl });
 }
-  where
-    shape_stops : (front : List ℕ) → IsShapeText shapes shape front → (rest : List ℕ) → Opens 32 rest → Stops (AnyOf (ShapeTexts shapes)) front rest
-    shape_stops front a [] opened = tt
-    shape_stops front a (x ∷ rest) opened = λ (more, (other, b)).
-        let whole : text_of_word other.word ≡ front ++ x ∷ more = sym b.split ∙ one_then front x more in
-        lacks_apart 32 front more (subst (λ y. IsTrue (lacks 32 (front ++ y ∷ more))) opened (subst (λ t. IsTrue (lacks 32 t)) whole (word_lacks other.word)))
 
-pub some_shape : (shapes : List Shape) → 0 < length shapes → (t : List ℕ) × AnyOf (ShapeTexts shapes) t
-some_shape [] some = let no_such : ⊥ = omega arith in absurd no_such
-some_shape (s ∷ shapes) some = (text_of_word s.word, (s, record { listed = inl refl; split = refl }))
+-- no fields
+none_begin : (x : ℕ) (text : List ℕ) (parts : List Part) → PartsTexts [] parts (x ∷ text) → ⊥
+none_begin x text [] a = let no_such : ⊥ = cc in no_such
+none_begin x text (p ∷ parts) a = a.fit
 
--- a shape and its fields
-module _ (shapes : List Shape) (apart : IsTrue (are_apart shapes)) where
-  head_part : IsPart 32 (Led 32 (ShapeTexts shapes))
-  head_part = led_part 32 (ShapeTexts shapes) 32 (shapes_part shapes apart)
+nothing_stops : (text : List ℕ) → Stops (AnyOf (PartsTexts [])) [] text
+nothing_stops [] = tt
+nothing_stops (x ∷ rest) = λ (more, (parts, a)). none_begin x more parts a
 
-  tails_behind : (shape : Shape) → IsTail 32 (Tails Nothing shape.fields)
-  tails_behind shape = tails_tail Nothing shape.fields
+pub nothing_read : (text : List ℕ) (before : List Part) → ArePartsRead [] text before before 0
+nothing_read text before = record {
+  added = [];
+  split = sym (append-nil before);
+  read = record { within = omega arith; text_of = record { fit = tt; split = refl }; stops = nothing_stops text };
+}
 
-  pub row_read : (text : List ℕ) (shape : Shape) (n : ℕ) → IsReadTo (Led 32 (ShapeTexts shapes)) text shape n → (rest : List ℕ) → rest ≡ drop n text
-      → (values : List Value) (m : ℕ) → IsReadTo (Tails Nothing shape.fields) rest values m → IsReadTo (Rows shapes) text (shape, values) (n + m)
-  row_read text shape n head rest e values m tail =
-      pairs_read 32 (Led 32 (ShapeTexts shapes)) (λ s. Tails Nothing s.fields) head_part tails_behind text shape n head values m
-      (subst (λ l. IsReadTo (Tails Nothing shape.fields) l values m) e tail)
+-- a field, and those behind it
+module _ (f : Field) (fields : List Field) where
+  abbrev Both : (Part × List Part) → List ℕ → Type 0
+  Both = Pairs (PartTexts f) (λ p. PartsTexts (after p fields))
 
-  pub row_stuck_first : (text : List ℕ) (k : ℕ) → IsStuck (Led 32 (ShapeTexts shapes)) text k → IsStuck (Rows shapes) text k
-  row_stuck_first text k stuck = pairs_stuck_first 32 (Led 32 (ShapeTexts shapes)) (λ s. Tails Nothing s.fields) head_part tails_behind text k stuck
+  both_to : (p : Part) (parts : List Part) (t : List ℕ) → IsPair (PartTexts f) (λ q. PartsTexts (after q fields)) p parts t → PartsTexts (f ∷ fields) (p ∷ parts) t
+  both_to p parts t a = record {
+    fit = (a.first.behind.fits, a.second.fit);
+    split = a.split ∙ ap (λ l. l ++ a.back) (a.first.split ∙ ap (λ l. 32 ∷ l) a.first.behind.split) ∙ ap (λ l. 32 ∷ text_of_part p ++ l) a.second.split;
+  }
 
-  pub row_stuck_second : (text : List ℕ) (shape : Shape) (n : ℕ) → IsReadTo (Led 32 (ShapeTexts shapes)) text shape n → (rest : List ℕ) → rest ≡ drop n text
-      → (k : ℕ) → IsStuck (Tails Nothing shape.fields) rest k → IsStuck (Rows shapes) text (n + k)
-  row_stuck_second text shape n head rest e k stuck =
-      pairs_stuck_second 32 (Led 32 (ShapeTexts shapes)) (λ s. Tails Nothing s.fields) head_part tails_behind text shape n head k
-      (subst (λ l. IsStuck (Tails Nothing shape.fields) l k) e stuck)
+  both_from : (parts : List Part) (t : List ℕ) → PartsTexts (f ∷ fields) parts t
+      → (p : Part) × (rest : List Part) × IsPair (PartTexts f) (λ q. PartsTexts (after q fields)) p rest t × (parts ≡ p ∷ rest)
+  both_from [] t a = absurd a.fit
+  both_from (p ∷ parts) t a = (
+    p,
+    parts,
+    record {
+      front = 32 ∷ text_of_part p;
+      back = parts_text parts;
+      split = a.split;
+      first = record { rest = text_of_part p; split = refl; behind = record { fits = a.fit.0; split = refl } };
+      second = record { fit = a.fit.1; split = refl };
+    },
+    refl,
+  )
 
-  pub rows_part : IsPart 32 (Rows shapes)
-  rows_part = pairs_part 32 (Led 32 (ShapeTexts shapes)) (λ s. Tails Nothing s.fields) head_part tails_behind (λ s. tails_part Nothing s.fields)
+  both_back : (parts : List Part) (t : List ℕ) → PartsTexts (f ∷ fields) parts t → AnyOf Both t
+  both_back parts t a = let b = both_from parts t a in ((b.0, b.1), b.2)
 
--- a step of the walk over all shapes
-pub next_shape : (shapes : List Shape) (i : ℕ) (d : Shape) → i < length shapes → (word : List ℕ) → word ≡ text_of_word (get_or shapes i d).word
-    → (text : List ℕ) (r q z : Result (Shape × ℕ) ℕ) → z ≡ further_of r q → IsRead (ShapeTexts (take i shapes)) text r
-    → IsRead (Word (get_or shapes i d) word) text q → IsRead (ShapeTexts (take (i + 1) shapes)) text z
-next_shape shapes i d inside word e text r q z further a b =
-    subst (λ l. IsRead (ShapeTexts l) text z) (sym (take_more shapes i d inside))
-    (one_more (take i shapes) (get_or shapes i d) text r q z further a (subst (λ w. IsRead (Word (get_or shapes i d) w) text q) e b))
+  both_any : (v : Part × List Part) (t : List ℕ) → Both v t → AnyOf (PartsTexts (f ∷ fields)) t
+  both_any (p, parts) t a = (p ∷ parts, both_to p parts t a)
 
-pub found_shape : (shapes : List Shape) (i : ℕ) (d : Shape) → i < length shapes → (text word : List ℕ) → text ≡ text_of_word (get_or shapes i d).word
-    → true ≡ bytes_eq text word → IsShapeText shapes (get_or shapes i d) word
-found_shape shapes i d inside text word e same = record { listed = listed_at shapes i d inside; split = sym ((bytes_eq-Decides text word).0 (sym same)) ∙ e }
+  pub parts_read : (text : List ℕ) (p : Part) (n : ℕ) → IsReadTo (PartTexts f) text p n → (rest : List ℕ) → rest ≡ drop n text
+      → (left : List Field) → left ≡ after p fields → (before now : List Part) (m : ℕ) → ArePartsRead left rest (before ++ p ∷ []) now m
+      → ArePartsRead (f ∷ fields) text before now (n + m)
+  parts_read text p n first rest e left g before now m second = record {
+    added = p ∷ second.added;
+    split = second.split ∙ append_assoc before (p ∷ []) second.added;
+    read =
+        read_renamed Both (PartsTexts (f ∷ fields)) both_back text (p, second.added) (p ∷ second.added) (n + m) (λ t a. both_to p second.added t a)
+        (pairs_read 32 (PartTexts f) (λ q. PartsTexts (after q fields)) (part_part f) (λ q. parts_tail (after q fields)) text p n first second.added m
+        (subst (λ l. IsReadTo (PartsTexts l) (drop n text) second.added m) g (subst (λ l. IsReadTo (PartsTexts left) l second.added m) e second.read)));
+  }
 
-pub first_shape : (shapes : List Shape) (d : Shape) → 0 < length shapes → (word : List ℕ) → word ≡ text_of_word (get_or shapes 0 d).word
-    → (text : List ℕ) (r : Result (Shape × ℕ) ℕ) → IsRead (Word (get_or shapes 0 d) word) text r → IsRead (ShapeTexts (take 1 shapes)) text r
-first_shape shapes d some word e text r read =
-    let one : take 1 shapes ≡ get_or shapes 0 d ∷ [] = take_more shapes 0 d some in
-    subst (λ l. IsRead (ShapeTexts l) text r) (sym one)
-    (one_shape shapes (get_or shapes 0 d) text r (subst (λ w. IsRead (Word (get_or shapes 0 d) w) text r) e read))
+  pub parts_stuck_first : (text : List ℕ) (k : ℕ) → IsStuck (PartTexts f) text k → IsStuck (PartsTexts (f ∷ fields)) text k
+  parts_stuck_first text k stuck =
+      stuck_renamed Both (PartsTexts (f ∷ fields)) both_back text k both_any
+      (pairs_stuck_first 32 (PartTexts f) (λ q. PartsTexts (after q fields)) (part_part f) (λ q. parts_tail (after q fields)) text k stuck)
 
--- shapes whose words are apart are distinct
-pub distinct : (shapes : List Shape) → IsTrue (are_apart shapes) → AreDistinct shapes
-distinct [] apart i j d order inside = let no_such : ⊥ = omega arith in absurd no_such
-distinct (s ∷ shapes) apart zero zero d order inside = let no_such : ⊥ = omega arith in absurd no_such
-distinct (s ∷ shapes) apart zero (suc j) d order inside = λ words counts.
-    no_word (text_of_word s.word) shapes (apart_cons s shapes (has_word (text_of_word s.word) shapes) refl apart).0 (get_or shapes j d) (listed_at shapes j d (omega arith)) (ap text_of_word words)
-distinct (s ∷ shapes) apart (suc i) zero d order inside = let no_such : ⊥ = omega arith in absurd no_such
-distinct (s ∷ shapes) apart (suc i) (suc j) d order inside =
-    distinct shapes (apart_cons s shapes (has_word (text_of_word s.word) shapes) refl apart).1 i j d (omega arith) (omega arith)
+  pub parts_stuck_second : (text : List ℕ) (p : Part) (n : ℕ) → IsReadTo (PartTexts f) text p n → (rest : List ℕ) → rest ≡ drop n text
+      → (left : List Field) → left ≡ after p fields → (k : ℕ) → IsStuck (PartsTexts left) rest k → IsStuck (PartsTexts (f ∷ fields)) text (n + k)
+  parts_stuck_second text p n first rest e left g k stuck =
+      stuck_renamed Both (PartsTexts (f ∷ fields)) both_back text (n + k) both_any
+      (pairs_stuck_second 32 (PartTexts f) (λ q. PartsTexts (after q fields)) (part_part f) (λ q. parts_tail (after q fields)) text p n first k
+      (subst (λ l. IsStuck (PartsTexts l) (drop n text) k) g (subst (λ l. IsStuck (PartsTexts left) l k) e stuck)))
+
+-- a text, and one that has more behind it, have the same parts
+nothing_more : (text more : List ℕ) → text ≡ [] → [] ≡ text ++ more → more ≡ []
+nothing_more text more e f = sym (f ∙ ap (λ l. l ++ more) e)
+
+same_parts : (parts others : List Part) (fields : List Field) (text more : List ℕ) → Opens 32 more → PartsTexts fields parts text → PartsTexts fields others (text ++ more)
+    → (others ≡ parts) × (more ≡ [])
+unfolding both_from
+same_parts [] [] fields text more opened a b = (refl, nothing_more text more a.split (sym b.split))
+same_parts [] (q ∷ others) [] text more opened a b = absurd b.fit
+same_parts [] (q ∷ others) (f ∷ fields) text more opened a b = absurd a.fit
+same_parts (p ∷ parts) others [] text more opened a b = absurd a.fit
+same_parts (p ∷ parts) [] (f ∷ fields) text more opened a b = absurd b.fit
+same_parts (p ∷ parts) (q ∷ others) (f ∷ fields) text more opened a b =
+    let first = both_from f fields (p ∷ parts) text a in
+    let second = both_from f fields (q ∷ others) (text ++ more) b in
+    let same = pair_same 32 (PartTexts f) (λ r. PartsTexts (after r fields)) (part_part f) (λ r. parts_tail (after r fields)) p parts q others text more opened first.2 second.2 in
+    let rest = same_parts parts others (after p fields) first.2.back more opened first.2.second same.1 in
+    (ap (λ r. r ∷ others) same.0 ∙ ap (λ l. p ∷ l) rest.0, rest.1)
+
+no_separator : (more : List ℕ) → 32 ∷ more ≡ [] → ⊥
+no_separator more e = let no_such : ⊥ = cc in no_such
+
+pub parts_part : (fields : List Field) → IsPart 32 (PartsTexts fields)
+parts_part fields = record {
+  unique = λ v w text a b. sym (same_parts v w fields text [] tt a (subst (λ l. PartsTexts fields w l) (sym (append-nil text)) b)).0;
+  apart = λ v w text more a b. no_separator more (same_parts v w fields text (32 ∷ more) refl a b).1;
+}

@@ -11,12 +11,12 @@ use Rattle.line_grammar.proofs.Pairs.{pairs_read, pairs_stuck_first, pairs_stuck
 use Rattle.line_grammar.proofs.Readings.{read_same, part_renamed, stuck_renamed, led_part}
 use Rattle.line_grammar.proofs.WordFacts.{further_read}
 use Rattle.tp_base.specs.declared.calls.Call.{Call}
-use Rattle.tp_base.specs.declared.calls.Call.TheVariants as call
 use Rattle.tp_base.specs.declared.ids.Who.{Who}
 use Rattle.tp_base.specs.declared.ids.Who.TheVariants.{Client, Worker}
-use Rattle.tp_lines.specs.Calls.{IsCallLine, CallLines, line_of_call, words_of_call}
-use Rattle.tp_lines.specs.CallRows.{CallTexts, IsWhoText, WhoTexts, ClientTexts, WorkerTexts}
-use Rattle.tp_lines.specs.Words.{joined, text_of_who}
+use Rattle.tp_lines.specs.Actors.{ClientTexts, WorkerTexts}
+use Rattle.tp_lines.specs.Calls.{IsCallLine, CallLines, CallTexts, IsWhoText, WhoTexts, line_of_call, row_of}
+use Rattle.tp_lines.specs.Parts.{row_text}
+use Rattle.tp_lines.specs.Words.{text_of_who}
 use Rattle.tp_lines.proofs.CallFacts.{calls_part, calls_tail}
 
 client_back : (who : Who) (t : List ℕ) → ClientTexts who t → AnyOf (Led 99 (Numbers 1 16)) t
@@ -90,35 +90,21 @@ pub who_part : IsPart 32 WhoTexts
 who_part = record { unique = who_unique; apart = who_apart }
 
 -- lines of calls
-joined_words : (who : Who) (c : Call) → text_of_who who ++ 32 ∷ joined (words_of_call c) ≡ line_of_call who c
-joined_words who call.CreatePool = refl
-joined_words who (call.ClosePool pool) = refl
-joined_words who (call.SetMaximum pool value) = refl
-joined_words who (call.SetMinimum pool value) = refl
-joined_words who (call.Create kind routine context env) = refl
-joined_words who (call.SubmitWork object) = refl
-joined_words who call.Attach = refl
-joined_words who call.Detach = refl
-joined_words who call.Take = refl
-joined_words who call.Return = refl
-joined_words who call.MayRunLong = refl
-joined_words who call.Finish = refl
 
 line_to : (who : Who) (c : Call) (t : List ℕ) → IsPair WhoTexts (λ w. CallTexts) who c t → IsCallLine who c t
 line_to who c t p = record {
   who_in_range = p.first.in_range;
   call_in_range = p.second.in_range;
-  readable = p.second.readable;
-  split = p.split ∙ ap (λ l. l ++ p.back) p.first.split ∙ ap (λ l. text_of_who who ++ l) p.second.split ∙ joined_words who c;
+  split = p.split ∙ ap (λ l. l ++ p.back) p.first.split ∙ ap (λ l. text_of_who who ++ l) p.second.split;
 }
 
 pub line_back : (who : Who) (c : Call) (t : List ℕ) → IsCallLine who c t → IsPair WhoTexts (λ w. CallTexts) who c t
 line_back who c t a = record {
   front = text_of_who who;
-  back = 32 ∷ joined (words_of_call c);
-  split = a.split ∙ sym (joined_words who c);
+  back = 32 ∷ row_text (row_of c);
+  split = a.split;
   first = record { in_range = a.who_in_range; split = refl };
-  second = record { in_range = a.call_in_range; readable = a.readable; split = refl };
+  second = record { in_range = a.call_in_range; split = refl };
 }
 
 lines_to : (p : Who × Call) (t : List ℕ) → Pairs WhoTexts (λ w. CallTexts) p t → CallLines p t

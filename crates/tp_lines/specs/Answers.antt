@@ -1,5 +1,5 @@
--- The texts of answers, refusals, looks and full, and of entries.
-use Rattle.std.specs.Prelude.{◌≡◌, ℕ, ◌<◌, ◌≤◌, ◌^◌, true, false, List, [], ◌∷◌, ◌++◌, codes, decimal}
+-- The rows of answers, looks and full, and the lines of entries.
+use Rattle.std.specs.Prelude.{◌≡◌, ℕ, true, false, List, [], ◌∷◌, ◌++◌, codes}
 use Rattle.tp_base.specs.declared.answers.Answer.{Answer}
 use Rattle.tp_base.specs.declared.answers.Answer.TheVariants as answer
 use Rattle.tp_base.specs.declared.answers.Entry.{Entry}
@@ -10,129 +10,128 @@ use Rattle.tp_base.specs.declared.answers.Outcome.TheVariants as outcome
 use Rattle.tp_base.specs.declared.answers.Refusal.{Refusal}
 use Rattle.tp_base.specs.declared.answers.Refusal.TheVariants as refusal
 use Rattle.tp_base.specs.declared.answers.TakeResult.{TakeResult}
-use Rattle.tp_base.specs.declared.answers.TakeResult.TheVariants.{Plain, WaitObject0, WaitTimeout, Io}
-use Rattle.tp_lines.specs.Words.{joined, text_of_flag, text_of_action, text_of_slot}
-use Rattle.tp_base.specs.Ranges.{IsCallInRange, IsRoutineInRange}
-use Rattle.tp_lines.specs.Calls.{IsReadable, IsWhoInRange, line_of_call}
+use Rattle.tp_base.specs.declared.answers.TakeResult.TheVariants as taken
+use Rattle.tp_lines.specs.declared.parts.Part.{Part}
+use Rattle.tp_lines.specs.declared.parts.Part.TheVariants as part
+use Rattle.tp_lines.specs.declared.words.Field.TheVariants as field
+use Rattle.tp_lines.specs.declared.words.Word.{Word}
+use Rattle.tp_lines.specs.declared.words.Word.TheVariants as word
+use Rattle.tp_lines.specs.Calls.{FitsCall, IsWhoInRange, line_of_call}
+use Rattle.tp_lines.specs.Parts.{AreFit, parts_of, row_text}
 
-abbrev pub words_of_result : TakeResult → List (List ℕ)
-words_of_result Plain = codes "plain" ∷ []
-words_of_result WaitObject0 = codes "object" ∷ []
-words_of_result WaitTimeout = codes "timeout" ∷ []
-words_of_result (Io error bytes) = codes "io" ∷ decimal error ∷ decimal bytes ∷ []
+-- with what a callback is called
+abbrev pub row_of_result : TakeResult → Word × List Part
+row_of_result taken.Plain = (word.Plain, [])
+row_of_result taken.WaitObject0 = (word.Object, [])
+row_of_result taken.WaitTimeout = (word.Timeout, [])
+row_of_result (taken.Io error bytes) = (word.Io, part.Small error ∷ part.Large bytes ∷ [])
 
-abbrev pub words_of_refusal : Refusal → List (List ℕ)
-words_of_refusal refusal.NoSuch = codes "no-such" ∷ []
-words_of_refusal refusal.WrongKind = codes "wrong-kind" ∷ []
-words_of_refusal refusal.Released = codes "released" ∷ []
-words_of_refusal refusal.PoolClosed = codes "pool-closed" ∷ []
-words_of_refusal refusal.GroupClosed = codes "group-closed" ∷ []
-words_of_refusal refusal.DefaultPool = codes "default-pool" ∷ []
-words_of_refusal refusal.NotWorker = codes "not-worker" ∷ []
-words_of_refusal refusal.NotRunning = codes "not-running" ∷ []
-words_of_refusal refusal.StillRunning = codes "still-running" ∷ []
-words_of_refusal refusal.InWait = codes "in-wait" ∷ []
-words_of_refusal refusal.NoWaitBegun = codes "no-wait-begun" ∷ []
-words_of_refusal refusal.OwnCallback = codes "own-callback" ∷ []
-words_of_refusal (refusal.HasMembers object) = codes "has-members" ∷ decimal object.0 ∷ []
-words_of_refusal refusal.NotStarted = codes "not-started" ∷ []
-words_of_refusal refusal.NoOperation = codes "no-operation" ∷ []
-words_of_refusal (refusal.OperationsOutstanding io) = codes "operations-outstanding" ∷ decimal io.0 ∷ []
-words_of_refusal (refusal.SlotTaken kind) = codes "slot-taken" ∷ text_of_action kind ∷ []
-words_of_refusal refusal.NotOwner = codes "not-owner" ∷ []
-words_of_refusal (refusal.OverMaximum count) = codes "over-maximum" ∷ decimal count ∷ []
-words_of_refusal refusal.NotWaitable = codes "not-waitable" ∷ []
-words_of_refusal refusal.ClockEnd = codes "clock-end" ∷ []
-words_of_refusal refusal.ObjectLimit = codes "object-limit" ∷ []
-words_of_refusal refusal.CallbackLimit = codes "callback-limit" ∷ []
-words_of_refusal refusal.NotAttached = codes "not-attached" ∷ []
-words_of_refusal refusal.AlreadyAttached = codes "already-attached" ∷ []
+-- why a call was refused
+abbrev pub row_of_refusal : Refusal → Word × List Part
+row_of_refusal refusal.NoSuch = (word.NoSuch, [])
+row_of_refusal refusal.WrongKind = (word.WrongKind, [])
+row_of_refusal refusal.Released = (word.Released, [])
+row_of_refusal refusal.PoolClosed = (word.PoolClosed, [])
+row_of_refusal refusal.GroupClosed = (word.GroupClosed, [])
+row_of_refusal refusal.DefaultPool = (word.DefaultPool, [])
+row_of_refusal refusal.NotWorker = (word.NotWorker, [])
+row_of_refusal refusal.NotRunning = (word.NotRunning, [])
+row_of_refusal refusal.StillRunning = (word.StillRunning, [])
+row_of_refusal refusal.InWait = (word.InWait, [])
+row_of_refusal refusal.NoWaitBegun = (word.NoWaitBegun, [])
+row_of_refusal refusal.OwnCallback = (word.OwnCallback, [])
+row_of_refusal (refusal.HasMembers object) = (word.HasMembers, part.Short object.0 ∷ [])
+row_of_refusal refusal.NotStarted = (word.NotStarted, [])
+row_of_refusal refusal.NoOperation = (word.NoOperation, [])
+row_of_refusal (refusal.OperationsOutstanding io) = (word.OperationsOutstanding, part.Short io.0 ∷ [])
+row_of_refusal (refusal.SlotTaken kind) = (word.SlotTaken, part.Word (word.Action kind) ∷ [])
+row_of_refusal refusal.NotOwner = (word.NotOwner, [])
+row_of_refusal (refusal.OverMaximum count) = (word.OverMaximum, part.Level count ∷ [])
+row_of_refusal refusal.NotWaitable = (word.NotWaitable, [])
+row_of_refusal refusal.ClockEnd = (word.ClockEnd, [])
+row_of_refusal refusal.ObjectLimit = (word.ObjectLimit, [])
+row_of_refusal refusal.CallbackLimit = (word.CallbackLimit, [])
+row_of_refusal refusal.NotAttached = (word.NotAttached, [])
+row_of_refusal refusal.AlreadyAttached = (word.AlreadyAttached, [])
 
-abbrev pub words_of_answer : Answer → List (List ℕ)
-words_of_answer answer.Done = codes "ok" ∷ []
-words_of_answer (answer.Made number) = codes "made" ∷ decimal number ∷ []
-words_of_answer (answer.Queued first count) = codes "queued" ∷ decimal first ∷ decimal count ∷ []
-words_of_answer (answer.WasSet was first count) = codes "was" ∷ text_of_flag was ∷ decimal first ∷ decimal count ∷ []
-words_of_answer (answer.Flag value) = codes "flag" ∷ text_of_flag value ∷ []
-words_of_answer (answer.Closed true) = codes "later" ∷ []
-words_of_answer (answer.Closed false) = codes "freed" ∷ []
-words_of_answer (answer.Closing covered cancelled notices) = codes "closing" ∷ decimal covered ∷ decimal cancelled ∷ decimal notices ∷ []
-words_of_answer (answer.Begun covered cancelled) = codes "begun" ∷ decimal covered ∷ decimal cancelled ∷ []
-words_of_answer answer.Ended = codes "ended" ∷ []
-words_of_answer answer.Exhausted = codes "exhausted" ∷ []
-words_of_answer answer.Stalled = codes "stalled" ∷ []
-words_of_answer (answer.Notice object routine context cleanup) = codes "notice" ∷ (111 ∷ decimal object.0) ∷ (114 ∷ decimal routine.0) ∷ (120 ∷ decimal context) ∷ (121 ∷ decimal cleanup) ∷ []
-words_of_answer (answer.Started callback) = codes "started" ∷ decimal callback ∷ []
-words_of_answer (answer.Operation callback) = codes "operation" ∷ decimal callback ∷ []
-words_of_answer (answer.Cancelled callback) = codes "cancelled" ∷ decimal callback ∷ []
-words_of_answer (answer.Count previous first count) = codes "count" ∷ decimal previous ∷ decimal first ∷ decimal count ∷ []
-words_of_answer (answer.Advanced now first count) = codes "advanced" ∷ decimal now ∷ decimal first ∷ decimal count ∷ []
-words_of_answer (answer.Attached pool) = codes "attached" ∷ decimal pool.0 ∷ []
-words_of_answer (answer.Taken callback object routine context result) = codes "taken" ∷ decimal callback ∷ (111 ∷ decimal object.0) ∷ (114 ∷ decimal routine.0) ∷ (120 ∷ decimal context) ∷ words_of_result result
-words_of_answer (answer.Returned section mutex semaphore event first count) = codes "returned" ∷ text_of_slot section ∷ text_of_slot mutex ∷ text_of_slot semaphore ∷ text_of_slot event ∷ decimal first ∷ decimal count ∷ []
-words_of_answer (answer.Refused refusal) = codes "refused" ∷ words_of_refusal refusal
+-- the word and the parts of an answer
+abbrev pub row_of_answer : Answer → Word × List Part
+row_of_answer answer.Done = (word.Done, [])
+row_of_answer (answer.Made number) = (word.Made, part.Made number ∷ [])
+row_of_answer (answer.Queued first count) = (word.Queued, part.Large first ∷ part.Short count ∷ [])
+row_of_answer (answer.WasSet was first count) = (word.Was, part.Word (word.YesNo was) ∷ part.Large first ∷ part.Short count ∷ [])
+row_of_answer (answer.Flag value) = (word.Flag, part.Word (word.YesNo value) ∷ [])
+row_of_answer (answer.Closed true) = (word.Later, [])
+row_of_answer (answer.Closed false) = (word.Freed, [])
+row_of_answer (answer.Closing covered cancelled notices) = (word.Closing, part.Short covered ∷ part.Short cancelled ∷ part.Short notices ∷ [])
+row_of_answer (answer.Begun covered cancelled) = (word.Begun, part.Short covered ∷ part.Short cancelled ∷ [])
+row_of_answer answer.Ended = (word.Ended, [])
+row_of_answer answer.Exhausted = (word.Exhausted, [])
+row_of_answer answer.Stalled = (word.Stalled, [])
+row_of_answer (answer.Notice object routine context cleanup) = (word.Notice, part.Origin object.0 ∷ part.Routine routine.0 ∷ part.Context context ∷ part.Cleanup cleanup ∷ [])
+row_of_answer (answer.Started callback) = (word.Started, part.Large callback ∷ [])
+row_of_answer (answer.Operation callback) = (word.Operation, part.Large callback ∷ [])
+row_of_answer (answer.Cancelled callback) = (word.Cancelled, part.Large callback ∷ [])
+row_of_answer (answer.Count previous first count) = (word.Count, part.Level previous ∷ part.Large first ∷ part.Short count ∷ [])
+row_of_answer (answer.Advanced now first count) = (word.Advanced, part.Time now ∷ part.Large first ∷ part.Short count ∷ [])
+row_of_answer (answer.Attached pool) = (word.Attached, part.Short pool.0 ∷ [])
+row_of_answer (answer.Taken callback object routine context result) = (word.Taken, part.Large callback ∷ part.Origin object.0 ∷ part.Routine routine.0 ∷ part.Context context ∷ parts_of (row_of_result result))
+row_of_answer (answer.Returned section mutex semaphore event first count) = (word.Returned, part.Word (word.Slot section) ∷ part.Word (word.Slot mutex) ∷ part.Word (word.Slot semaphore) ∷ part.Word (word.Slot event) ∷ part.Large first ∷ part.Short count ∷ [])
+row_of_answer (answer.Refused refusal) = (word.Refused, parts_of (row_of_refusal refusal))
+
+abbrev pub row_of_state : Look → Word × List Part
+row_of_state (look.NotYet callback) = (word.NotYet, part.Word word.Callback ∷ part.Large callback ∷ [])
+row_of_state (look.NotYetKernel kernel) = (word.NotYet, part.Word word.Kernel ∷ part.Short kernel.0 ∷ [])
+row_of_state look.Empty = (word.Empty, [])
+row_of_state (look.AtMaximum running) = (word.AtMaximum, part.Short running ∷ [])
+row_of_state look.NoNeed = (word.NoNeed, [])
+row_of_state look.Stay = (word.Stay, [])
+
+abbrev pub row_of_look : Look → Word × List Part
+row_of_look seen = (word.Look, parts_of (row_of_state seen))
+
+abbrev pub row_of_full : ℕ → ℕ → Word × List Part
+row_of_full room cost = (word.Full, part.Large room ∷ part.Large cost ∷ [])
+
+-- the word and the parts of what a call came to
+abbrev pub row_of_outcome : Outcome → Word × List Part
+row_of_outcome (outcome.Done given) = row_of_answer given
+row_of_outcome (outcome.Look seen) = row_of_look seen
+row_of_outcome (outcome.Full room cost) = row_of_full room cost
 
 abbrev pub text_of_answer : Answer → List ℕ
-text_of_answer answer = joined (words_of_answer answer)
-
-abbrev pub words_of_look : Look → List (List ℕ)
-words_of_look (look.NotYet callback) = codes "not-yet" ∷ codes "callback" ∷ decimal callback ∷ []
-words_of_look (look.NotYetKernel kernel) = codes "not-yet" ∷ codes "kernel" ∷ decimal kernel.0 ∷ []
-words_of_look look.Empty = codes "empty" ∷ []
-words_of_look (look.AtMaximum running) = codes "at-maximum" ∷ decimal running ∷ []
-words_of_look look.NoNeed = codes "no-need" ∷ []
-words_of_look look.Stay = codes "stay" ∷ []
+text_of_answer given = row_text (row_of_answer given)
 
 abbrev pub text_of_look : Look → List ℕ
-text_of_look look = joined (codes "look" ∷ words_of_look look)
+text_of_look seen = row_text (row_of_look seen)
 
 abbrev pub text_of_full : ℕ → ℕ → List ℕ
-text_of_full room cost = joined (codes "full" ∷ decimal room ∷ decimal cost ∷ [])
+text_of_full room cost = row_text (row_of_full room cost)
 
 abbrev pub text_of_outcome : Outcome → List ℕ
-text_of_outcome (outcome.Done answer) = text_of_answer answer
-text_of_outcome (outcome.Look look) = text_of_look look
+text_of_outcome (outcome.Done given) = text_of_answer given
+text_of_outcome (outcome.Look seen) = text_of_look seen
 text_of_outcome (outcome.Full room cost) = text_of_full room cost
 
 -- the line of an entry, without its line feed
 abbrev pub line_of_entry : Entry → List ℕ
 line_of_entry entry = line_of_call entry.who entry.call ++ codes " -> " ++ text_of_answer entry.answer
 
-abbrev pub IsResultInRange : TakeResult → Type 0
-IsResultInRange (Io error bytes) = (error < 2 ^ 32) × (bytes < 2 ^ 64)
-IsResultInRange _ = Unit {0}
+-- a line can have the numbers and words of the answer
+abbrev pub FitsAnswer : Answer → Type 0
+FitsAnswer given = AreFit (field.Answer ∷ []) (parts_of (row_of_answer given))
 
-abbrev pub IsRefusalInRange : Refusal → Type 0
-IsRefusalInRange (refusal.HasMembers object) = object.0 ≤ 65535
-IsRefusalInRange (refusal.OperationsOutstanding io) = io.0 ≤ 65535
-IsRefusalInRange (refusal.OverMaximum count) = count ≤ 2147483647
-IsRefusalInRange _ = Unit {0}
+-- a text can have the numbers and words of the outcome
+abbrev pub FitsOutcome : Outcome → Type 0
+FitsOutcome (outcome.Done given) = FitsAnswer given
+FitsOutcome (outcome.Look seen) = AreFit (field.Look ∷ []) (parts_of (row_of_look seen))
+FitsOutcome (outcome.Full room cost) = AreFit (field.Look ∷ []) (parts_of (row_of_full room cost))
 
--- the numbers that the text of an answer may have
-abbrev pub IsAnswerInRange : Answer → Type 0
-IsAnswerInRange (answer.Made number) = (1 ≤ number) × (number ≤ 65535)
-IsAnswerInRange (answer.Queued first count) = (first < 2 ^ 64) × (count ≤ 65535)
-IsAnswerInRange (answer.WasSet was first count) = (first < 2 ^ 64) × (count ≤ 65535)
-IsAnswerInRange (answer.Closing covered cancelled notices) = (covered ≤ 65535) × (cancelled ≤ 65535) × (notices ≤ 65535)
-IsAnswerInRange (answer.Begun covered cancelled) = (covered ≤ 65535) × (cancelled ≤ 65535)
-IsAnswerInRange (answer.Notice object routine context cleanup) = (object.0 ≤ 65535) × IsRoutineInRange routine.0 × (context < 2 ^ 64) × (cleanup < 2 ^ 64)
-IsAnswerInRange (answer.Started callback) = callback < 2 ^ 64
-IsAnswerInRange (answer.Operation callback) = callback < 2 ^ 64
-IsAnswerInRange (answer.Cancelled callback) = callback < 2 ^ 64
-IsAnswerInRange (answer.Count previous first count) = (previous ≤ 2147483647) × (first < 2 ^ 64) × (count ≤ 65535)
-IsAnswerInRange (answer.Advanced now first count) = (now ≤ 9223372036854775807) × (first < 2 ^ 64) × (count ≤ 65535)
-IsAnswerInRange (answer.Attached pool) = pool.0 ≤ 65535
-IsAnswerInRange (answer.Taken callback object routine context result) = (callback < 2 ^ 64) × (object.0 ≤ 65535) × IsRoutineInRange routine.0 × (context < 2 ^ 64) × IsResultInRange result
-IsAnswerInRange (answer.Returned section mutex semaphore event first count) = (first < 2 ^ 64) × (count ≤ 65535)
-IsAnswerInRange (answer.Refused refusal) = IsRefusalInRange refusal
-IsAnswerInRange _ = Unit {0}
-
--- the text is the line of this entry, and lines can have its numbers
+-- the text is the line of this entry, and a line can have its numbers
 pub record IsEntryLine (entry : Entry) (text : List ℕ) : Type 0 where
   pub who_in_range : IsWhoInRange entry.who
-  pub call_in_range : IsCallInRange entry.call
-  pub readable : IsReadable entry.call
-  pub answer_in_range : IsAnswerInRange entry.answer
+  pub call_in_range : FitsCall entry.call
+  pub answer_in_range : FitsAnswer entry.answer
   pub split : text ≡ line_of_entry entry
 
 abbrev pub EntryLines : Entry → List ℕ → Type 0

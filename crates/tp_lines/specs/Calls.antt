@@ -1,53 +1,101 @@
--- The texts of calls, and which calls a line can have.
-use Rattle.std.specs.Prelude.{◌≡◌, ℕ, ◌<◌, ◌≤◌, ◌^◌, List, [], ◌∷◌, codes, decimal}
+-- The rows of calls, and the lines of calls.
+use Rattle.std.specs.Prelude.{◌≡◌, ℕ, ◌+◌, ◌<◌, ◌≤◌, ◌^◌, List, [], ◌∷◌, ◌++◌, Option, Some, None}
 use Rattle.tp_base.specs.declared.calls.Call.{Call}
-use Rattle.tp_base.specs.declared.calls.Call.TheVariants.{CreatePool, ClosePool, SetMaximum, SetMinimum, Create, SubmitWork, Attach, Detach, Take, Return, MayRunLong, Finish}
+use Rattle.tp_base.specs.declared.calls.Call.TheVariants as call
 use Rattle.tp_base.specs.declared.calls.Environ.{Environ}
 use Rattle.tp_base.specs.declared.calls.Kind.TheVariants.{Work}
 use Rattle.tp_base.specs.declared.ids.Who.{Who}
 use Rattle.tp_base.specs.declared.ids.Who.TheVariants.{Client, Worker}
-use Rattle.tp_base.specs.Ranges.{IsCallInRange}
-use Rattle.tp_lines.specs.Words.{joined, text_of_kind, text_of_priority, text_of_long, text_of_who}
+use Rattle.tp_lines.specs.declared.parts.Part.{Part}
+use Rattle.tp_lines.specs.declared.parts.Part.TheVariants as part
+use Rattle.tp_lines.specs.declared.words.Field.TheVariants as field
+use Rattle.tp_lines.specs.declared.words.Word.{Word}
+use Rattle.tp_lines.specs.declared.words.Word.TheVariants as word
+use Rattle.tp_lines.specs.Parts.{AreFit, parts_of, row_text}
+use Rattle.tp_lines.specs.Rows.{RowTexts}
+use Rattle.tp_lines.specs.Values.{part_at, small_of, large_of, kind_of, priority_of, length_of}
+use Rattle.tp_lines.specs.Words.{text_of_who}
 
-abbrev pub words_of_environ : Environ → List (List ℕ)
-words_of_environ env = (112 ∷ decimal env.pool.0) ∷ text_of_priority env.priority ∷ text_of_long env.long ∷ (103 ∷ decimal env.group.0) ∷ (113 ∷ decimal env.cancel.0) ∷ []
+abbrev pub environ_parts : Environ → List Part
+environ_parts env = part.Pool env.pool.0 ∷ part.Word (word.Priority env.priority) ∷ part.Word (word.Length env.long) ∷ part.Group env.group.0 ∷ part.Cancel env.cancel.0 ∷ []
 
-abbrev pub words_of_call : Call → List (List ℕ)
-words_of_call CreatePool = codes "create-pool" ∷ []
-words_of_call (ClosePool pool) = codes "close-pool" ∷ decimal pool.0 ∷ []
-words_of_call (SetMaximum pool value) = codes "set-maximum" ∷ decimal pool.0 ∷ decimal value ∷ []
-words_of_call (SetMinimum pool value) = codes "set-minimum" ∷ decimal pool.0 ∷ decimal value ∷ []
-words_of_call (Create kind routine context env) = codes "create" ∷ text_of_kind kind ∷ (114 ∷ decimal routine.0) ∷ (120 ∷ decimal context) ∷ words_of_environ env
-words_of_call (SubmitWork object) = codes "submit" ∷ decimal object.0 ∷ []
-words_of_call Attach = codes "attach" ∷ []
-words_of_call Detach = codes "detach" ∷ []
-words_of_call Take = codes "take" ∷ []
-words_of_call Return = codes "return" ∷ []
-words_of_call MayRunLong = codes "may-run-long" ∷ []
-words_of_call Finish = codes "finish" ∷ []
+-- the word and the parts of a call
+abbrev pub row_of : Call → Word × List Part
+row_of call.CreatePool = (word.CreatePool, [])
+row_of (call.ClosePool pool) = (word.ClosePool, part.Short pool.0 ∷ [])
+row_of (call.SetMaximum pool value) = (word.SetMaximum, part.Short pool.0 ∷ part.Small value ∷ [])
+row_of (call.SetMinimum pool value) = (word.SetMinimum, part.Short pool.0 ∷ part.Small value ∷ [])
+row_of (call.Create kind routine context env) = (word.Create, part.Word (word.Kind kind) ∷ part.Routine routine.0 ∷ part.Context context ∷ environ_parts env)
+row_of (call.SubmitWork object) = (word.Submit, part.Short object.0 ∷ [])
+row_of call.Attach = (word.Attach, [])
+row_of call.Detach = (word.Detach, [])
+row_of call.Take = (word.Take, [])
+row_of call.Return = (word.Return, [])
+row_of call.MayRunLong = (word.MayRunLong, [])
+row_of call.Finish = (word.Finish, [])
 
 -- the line of a call, without its line feed
 abbrev pub line_of_call : Who → Call → List ℕ
-line_of_call who call = joined (text_of_who who ∷ words_of_call call)
+line_of_call who made = text_of_who who ++ 32 ∷ row_text (row_of made)
 
 abbrev pub IsWhoInRange : Who → Type 0
 IsWhoInRange (Client number) = (1 ≤ number) × (number ≤ 16)
 IsWhoInRange (Worker number) = (1 ≤ number) × (number ≤ 64)
 
--- a context has 64 bits, a maximum or minimum 32, and of the kinds of objects `create` reads those that
--- are built
+-- a line can have the numbers and words of the call
+abbrev pub FitsCall : Call → Type 0
+FitsCall made = AreFit (field.Call ∷ []) (parts_of (row_of made))
+
+-- what besides the ranges of its identities a call needs so that a line can have it: its other numbers are of 32
+-- and 64 bits, and of the kinds of objects those that are built are read
 abbrev pub IsReadable : Call → Type 0
-IsReadable (SetMaximum pool value) = value < 2 ^ 32
-IsReadable (SetMinimum pool value) = value < 2 ^ 32
-IsReadable (Create kind routine context env) = (kind ≡ Work) × (context < 2 ^ 64)
+IsReadable (call.SetMaximum pool value) = value < 2 ^ 32
+IsReadable (call.SetMinimum pool value) = value < 2 ^ 32
+IsReadable (call.Create kind routine context env) = (kind ≡ Work) × (context < 2 ^ 64)
 IsReadable _ = Unit {0}
 
--- the text is the line of this call by this actor, and lines can have their numbers
-pub record IsCallLine (who : Who) (call : Call) (text : List ℕ) : Type 0 where
+-- the text is the line of this call by this actor, and a line can have their numbers
+pub record IsCallLine (who : Who) (made : Call) (text : List ℕ) : Type 0 where
   pub who_in_range : IsWhoInRange who
-  pub call_in_range : IsCallInRange call
-  pub readable : IsReadable call
-  pub split : text ≡ line_of_call who call
+  pub call_in_range : FitsCall made
+  pub split : text ≡ line_of_call who made
 
 abbrev pub CallLines : (Who × Call) → List ℕ → Type 0
-CallLines (who, call) text = IsCallLine who call text
+CallLines (who, made) text = IsCallLine who made text
+
+-- the texts of calls behind their actor
+abbrev pub CallTexts : Call → List ℕ → Type 0
+CallTexts = RowTexts field.Call row_of
+
+pub record IsWhoText (who : Who) (text : List ℕ) : Type 0 where
+  pub in_range : IsWhoInRange who
+  pub split : text ≡ text_of_who who
+
+abbrev pub WhoTexts : Who → List ℕ → Type 0
+WhoTexts who text = IsWhoText who text
+
+-- the environment that stands from an index on
+abbrev pub environ_at : List Part → ℕ → Environ
+environ_at parts index = record {
+  pool = record { 0 = small_of (part_at parts index) };
+  group = record { 0 = small_of (part_at parts (index + 3)) };
+  cancel = record { 0 = small_of (part_at parts (index + 4)) };
+  priority = priority_of (part_at parts (index + 1));
+  long = length_of (part_at parts (index + 2));
+}
+
+-- the call of a row, whose word stands at index 0
+abbrev pub call_at : Word → List Part → Option Call
+call_at word.CreatePool parts = Some call.CreatePool
+call_at word.ClosePool parts = Some (call.ClosePool (record { 0 = small_of (part_at parts 1) }))
+call_at word.SetMaximum parts = Some (call.SetMaximum (record { 0 = small_of (part_at parts 1) }) (small_of (part_at parts 2)))
+call_at word.SetMinimum parts = Some (call.SetMinimum (record { 0 = small_of (part_at parts 1) }) (small_of (part_at parts 2)))
+call_at word.Create parts = Some (call.Create (kind_of (part_at parts 1)) (record { 0 = small_of (part_at parts 2) }) (large_of (part_at parts 3)) (environ_at parts 4))
+call_at word.Submit parts = Some (call.SubmitWork (record { 0 = small_of (part_at parts 1) }))
+call_at word.Attach parts = Some call.Attach
+call_at word.Detach parts = Some call.Detach
+call_at word.Take parts = Some call.Take
+call_at word.Return parts = Some call.Return
+call_at word.MayRunLong parts = Some call.MayRunLong
+call_at word.Finish parts = Some call.Finish
+call_at _ parts = None

@@ -1,35 +1,21 @@
--- Lines behind their actor: a space, the word of a shape, and its fields.
-use Rattle.std.specs.Prelude.{◌≡◌, ℕ, List, [], ◌∷◌, ◌⊎◌, Bool, true, false, bytes_eq, if◌then◌else◌}
-use Rattle.line_grammar.specs.Parts.{Led, Pairs}
-use Rattle.tp_lines.specs.declared.shapes.Shape.{Shape}
-use Rattle.tp_lines.specs.declared.values.Value.{Value}
-use Rattle.tp_lines.specs.declared.values.Value.TheVariants.{Nothing}
-use Rattle.tp_lines.specs.Fields.{Tails}
-use Rattle.tp_lines.specs.Shapes.{text_of_word}
+-- Rows of a table: its values, each with its word and parts.
+use Rattle.std.specs.Prelude.{◌≡◌, ℕ, List, [], ◌∷◌, ◌++◌}
+use Rattle.line_grammar.specs.Language.{IsReadTo}
+use Rattle.tp_lines.specs.declared.parts.Part.{Part}
+use Rattle.tp_lines.specs.declared.words.Field.{Field}
+use Rattle.tp_lines.specs.declared.words.Word.{Word}
+use Rattle.tp_lines.specs.Parts.{AreFit, PartsTexts, parts_of, row_text}
 
--- the shape is one of these
-abbrev pub IsListed : List Shape → Shape → Type 0
-IsListed [] shape = ⊥
-IsListed (first ∷ shapes) shape = (shape ≡ first) ⊎ IsListed shapes shape
+-- the text of a value whose row may stand in the table, behind its space
+pub record IsRowText {V : Type 0} (table : Field) (row_of : V → Word × List Part) (value : V) (text : List ℕ) : Type 0 where
+  pub in_range : AreFit (table ∷ []) (parts_of (row_of value))
+  pub split : text ≡ 32 ∷ row_text (row_of value)
 
-pub record IsShapeText (shapes : List Shape) (shape : Shape) (text : List ℕ) : Type 0 where
-  pub listed : IsListed shapes shape
-  pub split : text ≡ text_of_word shape.word
+abbrev pub RowTexts : {V : Type 0} → Field → (V → Word × List Part) → V → List ℕ → Type 0
+RowTexts table row_of value text = IsRowText table row_of value text
 
--- the words of shapes
-abbrev pub ShapeTexts : List Shape → Shape → List ℕ → Type 0
-ShapeTexts shapes shape text = IsShapeText shapes shape text
-
--- a space, the word of one of these shapes, and its fields
-abbrev pub Rows : List Shape → (Shape × List Value) → List ℕ → Type 0
-Rows shapes = Pairs (Led 32 (ShapeTexts shapes)) (λ shape. Tails Nothing shape.fields)
-
--- whether one of these shapes has the word
-abbrev pub has_word : List ℕ → List Shape → Bool
-has_word word [] = false
-has_word word (shape ∷ shapes) = if bytes_eq word (text_of_word shape.word) then true else has_word word shapes
-
--- whether the words of the shapes are apart
-abbrev pub are_apart : List Shape → Bool
-are_apart [] = true
-are_apart (shape ∷ shapes) = if has_word (text_of_word shape.word) shapes then false else are_apart shapes
+-- the parts of these fields were read, and stand behind those before
+pub record ArePartsRead (fields : List Field) (text : List ℕ) (before now : List Part) (size : ℕ) : Type 0 where
+  pub added : List Part
+  pub split : now ≡ before ++ added
+  pub read : IsReadTo (PartsTexts fields) text added size

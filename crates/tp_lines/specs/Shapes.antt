@@ -1,89 +1,108 @@
--- The texts of the words of shapes.
-use Rattle.std.specs.Prelude.{◌≡◌, ℕ, Bool, true, false, List, codes, count_by}
-use Rattle.std.specs.List.{AllPairs}
-use Rattle.tp_lines.specs.declared.shapes.Field.{Field}
-use Rattle.tp_lines.specs.declared.shapes.Field.TheVariants.{Nothing}
-use Rattle.tp_lines.specs.declared.shapes.Shape.{Shape}
-use Rattle.tp_lines.specs.declared.shapes.Word.{Word}
-use Rattle.tp_lines.specs.declared.shapes.Word.TheVariants as word
+-- The words of lines: the field in which each stands, its text, and the fields behind it.
+use Rattle.std.specs.Prelude.{ℕ, List, [], ◌∷◌, codes}
+use Rattle.tp_base.specs.declared.calls.Kind.{Kind}
+use Rattle.tp_base.specs.declared.calls.Kind.TheVariants.{Work}
+use Rattle.tp_lines.specs.declared.words.Field.{Field}
+use Rattle.tp_lines.specs.declared.words.Field.TheVariants as field
+use Rattle.tp_lines.specs.declared.words.Word.{Word}
+use Rattle.tp_lines.specs.declared.words.Word.TheVariants as word
+use Rattle.tp_lines.specs.Words.{text_of_kind, text_of_priority, text_of_long, text_of_flag, text_of_slot, text_of_action}
+
+pub record Shape : Type 0 where
+  pub table : Field
+  pub text : List ℕ
+  pub fields : List Field
+
+-- of the kinds of objects those that are built are read
+abbrev pub table_of_kind : Kind → Field
+table_of_kind Work = field.Kind
+table_of_kind _ = field.Unbuilt
+
+abbrev pub shape_of : Word → Shape
+shape_of word.CreatePool = record { table = field.Call; text = codes "create-pool"; fields = [] }
+shape_of word.ClosePool = record { table = field.Call; text = codes "close-pool"; fields = field.Short ∷ [] }
+shape_of word.SetMaximum = record { table = field.Call; text = codes "set-maximum"; fields = field.Short ∷ field.Small ∷ [] }
+shape_of word.SetMinimum = record { table = field.Call; text = codes "set-minimum"; fields = field.Short ∷ field.Small ∷ [] }
+shape_of word.Create = record { table = field.Call; text = codes "create"; fields = field.Kind ∷ field.Routine ∷ field.Context ∷ field.Pool ∷ field.Priority ∷ field.Length ∷ field.Group ∷ field.Cancel ∷ [] }
+shape_of word.Submit = record { table = field.Call; text = codes "submit"; fields = field.Short ∷ [] }
+shape_of word.Attach = record { table = field.Call; text = codes "attach"; fields = [] }
+shape_of word.Detach = record { table = field.Call; text = codes "detach"; fields = [] }
+shape_of word.Take = record { table = field.Call; text = codes "take"; fields = [] }
+shape_of word.Return = record { table = field.Call; text = codes "return"; fields = [] }
+shape_of word.MayRunLong = record { table = field.Call; text = codes "may-run-long"; fields = [] }
+shape_of word.Finish = record { table = field.Call; text = codes "finish"; fields = [] }
+shape_of word.Done = record { table = field.Answer; text = codes "ok"; fields = [] }
+shape_of word.Made = record { table = field.Answer; text = codes "made"; fields = field.Made ∷ [] }
+shape_of word.Queued = record { table = field.Answer; text = codes "queued"; fields = field.Large ∷ field.Short ∷ [] }
+shape_of word.Was = record { table = field.Answer; text = codes "was"; fields = field.Flag ∷ field.Large ∷ field.Short ∷ [] }
+shape_of word.Flag = record { table = field.Answer; text = codes "flag"; fields = field.Flag ∷ [] }
+shape_of word.Freed = record { table = field.Answer; text = codes "freed"; fields = [] }
+shape_of word.Later = record { table = field.Answer; text = codes "later"; fields = [] }
+shape_of word.Closing = record { table = field.Answer; text = codes "closing"; fields = field.Short ∷ field.Short ∷ field.Short ∷ [] }
+shape_of word.Begun = record { table = field.Answer; text = codes "begun"; fields = field.Short ∷ field.Short ∷ [] }
+shape_of word.Ended = record { table = field.Answer; text = codes "ended"; fields = [] }
+shape_of word.Exhausted = record { table = field.Answer; text = codes "exhausted"; fields = [] }
+shape_of word.Stalled = record { table = field.Answer; text = codes "stalled"; fields = [] }
+shape_of word.Notice = record { table = field.Answer; text = codes "notice"; fields = field.Origin ∷ field.Routine ∷ field.Context ∷ field.Cleanup ∷ [] }
+shape_of word.Started = record { table = field.Answer; text = codes "started"; fields = field.Large ∷ [] }
+shape_of word.Operation = record { table = field.Answer; text = codes "operation"; fields = field.Large ∷ [] }
+shape_of word.Cancelled = record { table = field.Answer; text = codes "cancelled"; fields = field.Large ∷ [] }
+shape_of word.Count = record { table = field.Answer; text = codes "count"; fields = field.Level ∷ field.Large ∷ field.Short ∷ [] }
+shape_of word.Advanced = record { table = field.Answer; text = codes "advanced"; fields = field.Time ∷ field.Large ∷ field.Short ∷ [] }
+shape_of word.Attached = record { table = field.Answer; text = codes "attached"; fields = field.Short ∷ [] }
+shape_of word.Taken = record { table = field.Answer; text = codes "taken"; fields = field.Large ∷ field.Origin ∷ field.Routine ∷ field.Context ∷ field.Result ∷ [] }
+shape_of word.Returned = record { table = field.Answer; text = codes "returned"; fields = field.Slot ∷ field.Slot ∷ field.Slot ∷ field.Slot ∷ field.Large ∷ field.Short ∷ [] }
+shape_of word.Refused = record { table = field.Answer; text = codes "refused"; fields = field.Refusal ∷ [] }
+shape_of word.Plain = record { table = field.Result; text = codes "plain"; fields = [] }
+shape_of word.Object = record { table = field.Result; text = codes "object"; fields = [] }
+shape_of word.Timeout = record { table = field.Result; text = codes "timeout"; fields = [] }
+shape_of word.Io = record { table = field.Result; text = codes "io"; fields = field.Small ∷ field.Large ∷ [] }
+shape_of word.NoSuch = record { table = field.Refusal; text = codes "no-such"; fields = [] }
+shape_of word.WrongKind = record { table = field.Refusal; text = codes "wrong-kind"; fields = [] }
+shape_of word.Released = record { table = field.Refusal; text = codes "released"; fields = [] }
+shape_of word.PoolClosed = record { table = field.Refusal; text = codes "pool-closed"; fields = [] }
+shape_of word.GroupClosed = record { table = field.Refusal; text = codes "group-closed"; fields = [] }
+shape_of word.DefaultPool = record { table = field.Refusal; text = codes "default-pool"; fields = [] }
+shape_of word.NotWorker = record { table = field.Refusal; text = codes "not-worker"; fields = [] }
+shape_of word.NotRunning = record { table = field.Refusal; text = codes "not-running"; fields = [] }
+shape_of word.StillRunning = record { table = field.Refusal; text = codes "still-running"; fields = [] }
+shape_of word.InWait = record { table = field.Refusal; text = codes "in-wait"; fields = [] }
+shape_of word.NoWaitBegun = record { table = field.Refusal; text = codes "no-wait-begun"; fields = [] }
+shape_of word.OwnCallback = record { table = field.Refusal; text = codes "own-callback"; fields = [] }
+shape_of word.HasMembers = record { table = field.Refusal; text = codes "has-members"; fields = field.Short ∷ [] }
+shape_of word.NotStarted = record { table = field.Refusal; text = codes "not-started"; fields = [] }
+shape_of word.NoOperation = record { table = field.Refusal; text = codes "no-operation"; fields = [] }
+shape_of word.OperationsOutstanding = record { table = field.Refusal; text = codes "operations-outstanding"; fields = field.Short ∷ [] }
+shape_of word.SlotTaken = record { table = field.Refusal; text = codes "slot-taken"; fields = field.Action ∷ [] }
+shape_of word.NotOwner = record { table = field.Refusal; text = codes "not-owner"; fields = [] }
+shape_of word.OverMaximum = record { table = field.Refusal; text = codes "over-maximum"; fields = field.Level ∷ [] }
+shape_of word.NotWaitable = record { table = field.Refusal; text = codes "not-waitable"; fields = [] }
+shape_of word.ClockEnd = record { table = field.Refusal; text = codes "clock-end"; fields = [] }
+shape_of word.ObjectLimit = record { table = field.Refusal; text = codes "object-limit"; fields = [] }
+shape_of word.CallbackLimit = record { table = field.Refusal; text = codes "callback-limit"; fields = [] }
+shape_of word.NotAttached = record { table = field.Refusal; text = codes "not-attached"; fields = [] }
+shape_of word.AlreadyAttached = record { table = field.Refusal; text = codes "already-attached"; fields = [] }
+shape_of word.Look = record { table = field.Look; text = codes "look"; fields = field.State ∷ [] }
+shape_of word.Full = record { table = field.Look; text = codes "full"; fields = field.Large ∷ field.Large ∷ [] }
+shape_of word.NotYet = record { table = field.State; text = codes "not-yet"; fields = field.Target ∷ [] }
+shape_of word.Empty = record { table = field.State; text = codes "empty"; fields = [] }
+shape_of word.AtMaximum = record { table = field.State; text = codes "at-maximum"; fields = field.Short ∷ [] }
+shape_of word.NoNeed = record { table = field.State; text = codes "no-need"; fields = [] }
+shape_of word.Stay = record { table = field.State; text = codes "stay"; fields = [] }
+shape_of word.Callback = record { table = field.Target; text = codes "callback"; fields = field.Large ∷ [] }
+shape_of word.Kernel = record { table = field.Target; text = codes "kernel"; fields = field.Short ∷ [] }
+shape_of (word.Kind kind) = record { table = table_of_kind kind; text = text_of_kind kind; fields = [] }
+shape_of (word.Priority priority) = record { table = field.Priority; text = text_of_priority priority; fields = [] }
+shape_of (word.Length long) = record { table = field.Length; text = text_of_long long; fields = [] }
+shape_of (word.YesNo flag) = record { table = field.Flag; text = text_of_flag flag; fields = [] }
+shape_of (word.Slot slot) = record { table = field.Slot; text = text_of_slot slot; fields = [] }
+shape_of (word.Action action) = record { table = field.Action; text = text_of_action action; fields = [] }
+
+abbrev pub table_of : Word → Field
+table_of word = (shape_of word).table
 
 abbrev pub text_of_word : Word → List ℕ
-text_of_word word.CreatePool = codes "create-pool"
-text_of_word word.ClosePool = codes "close-pool"
-text_of_word word.SetMaximum = codes "set-maximum"
-text_of_word word.SetMinimum = codes "set-minimum"
-text_of_word word.Create = codes "create"
-text_of_word word.Submit = codes "submit"
-text_of_word word.Attach = codes "attach"
-text_of_word word.Detach = codes "detach"
-text_of_word word.Take = codes "take"
-text_of_word word.Return = codes "return"
-text_of_word word.MayRunLong = codes "may-run-long"
-text_of_word word.Finish = codes "finish"
-text_of_word word.Done = codes "ok"
-text_of_word word.Made = codes "made"
-text_of_word word.Queued = codes "queued"
-text_of_word word.Was = codes "was"
-text_of_word word.Flag = codes "flag"
-text_of_word word.Freed = codes "freed"
-text_of_word word.Later = codes "later"
-text_of_word word.Closing = codes "closing"
-text_of_word word.Begun = codes "begun"
-text_of_word word.Ended = codes "ended"
-text_of_word word.Exhausted = codes "exhausted"
-text_of_word word.Stalled = codes "stalled"
-text_of_word word.Notice = codes "notice"
-text_of_word word.Started = codes "started"
-text_of_word word.Operation = codes "operation"
-text_of_word word.Cancelled = codes "cancelled"
-text_of_word word.Count = codes "count"
-text_of_word word.Advanced = codes "advanced"
-text_of_word word.Attached = codes "attached"
-text_of_word word.Taken = codes "taken"
-text_of_word word.Returned = codes "returned"
-text_of_word word.Refused = codes "refused"
-text_of_word word.Plain = codes "plain"
-text_of_word word.Object = codes "object"
-text_of_word word.Timeout = codes "timeout"
-text_of_word word.Io = codes "io"
-text_of_word word.NoSuch = codes "no-such"
-text_of_word word.WrongKind = codes "wrong-kind"
-text_of_word word.Released = codes "released"
-text_of_word word.PoolClosed = codes "pool-closed"
-text_of_word word.GroupClosed = codes "group-closed"
-text_of_word word.DefaultPool = codes "default-pool"
-text_of_word word.NotWorker = codes "not-worker"
-text_of_word word.NotRunning = codes "not-running"
-text_of_word word.StillRunning = codes "still-running"
-text_of_word word.InWait = codes "in-wait"
-text_of_word word.NoWaitBegun = codes "no-wait-begun"
-text_of_word word.OwnCallback = codes "own-callback"
-text_of_word word.HasMembers = codes "has-members"
-text_of_word word.NotStarted = codes "not-started"
-text_of_word word.NoOperation = codes "no-operation"
-text_of_word word.OperationsOutstanding = codes "operations-outstanding"
-text_of_word word.SlotTaken = codes "slot-taken"
-text_of_word word.NotOwner = codes "not-owner"
-text_of_word word.OverMaximum = codes "over-maximum"
-text_of_word word.NotWaitable = codes "not-waitable"
-text_of_word word.ClockEnd = codes "clock-end"
-text_of_word word.ObjectLimit = codes "object-limit"
-text_of_word word.CallbackLimit = codes "callback-limit"
-text_of_word word.NotAttached = codes "not-attached"
-text_of_word word.AlreadyAttached = codes "already-attached"
+text_of_word word = (shape_of word).text
 
--- whether a field is used
-abbrev pub used : Field → Bool
-used Nothing = false
-used _ = true
-
-abbrev pub field_count : Shape → ℕ
-field_count shape = count_by used shape.fields
-
--- the shapes have other words, or other numbers of fields
-abbrev pub AreApart : Shape → Shape → Type 0
-AreApart one other = one.word ≡ other.word → field_count one ≡ field_count other → ⊥
-
--- no two shapes have the same word and the same number of fields
-abbrev pub AreDistinct : List Shape → Type 0
-AreDistinct shapes = AllPairs AreApart shapes
+abbrev pub fields_of : Word → List Field
+fields_of word = (shape_of word).fields

@@ -1,5 +1,5 @@
--- What the fields of lines hold.
-use Rattle.std.specs.Prelude.{ℕ, Bool, false, nat_le, if◌then◌else◌}
+-- What the parts of a row hold.
+use Rattle.std.specs.Prelude.{ℕ, Bool, false, List, slice_index_or}
 use Rattle.tp_base.specs.declared.answers.ActionKind.{ActionKind}
 use Rattle.tp_base.specs.declared.answers.ActionKind.TheVariants.{Section}
 use Rattle.tp_base.specs.declared.answers.SlotWord.{SlotWord}
@@ -8,37 +8,59 @@ use Rattle.tp_base.specs.declared.calls.Kind.{Kind}
 use Rattle.tp_base.specs.declared.calls.Kind.TheVariants.{Work}
 use Rattle.tp_base.specs.declared.calls.Priority.{Priority}
 use Rattle.tp_base.specs.declared.calls.Priority.TheVariants.{Normal}
-use Rattle.tp_lines.specs.declared.values.Value.{Value}
-use Rattle.tp_lines.specs.declared.values.Value.TheVariants as value
+use Rattle.tp_lines.specs.declared.parts.Part.{Part}
+use Rattle.tp_lines.specs.declared.parts.Part.TheVariants as part
+use Rattle.tp_lines.specs.declared.words.Word.{Word}
+use Rattle.tp_lines.specs.declared.words.Word.TheVariants as word
 
-abbrev pub number_of : Value → ℕ
-number_of (value.Number number) = number
-number_of _ = 0
+-- the part at an index
+abbrev pub part_at : List Part → ℕ → Part
+part_at parts index = slice_index_or parts index (part.Short 0)
 
-abbrev pub small_of : Value → ℕ
-small_of (value.Number number) = if nat_le number 4294967295 then number else 0
+abbrev pub small_of : Part → ℕ
+small_of (part.Short number) = number
+small_of (part.Made number) = number
+small_of (part.Level number) = number
+small_of (part.Small number) = number
+small_of (part.Routine number) = number
+small_of (part.Origin number) = number
+small_of (part.Pool number) = number
+small_of (part.Group number) = number
+small_of (part.Cancel number) = number
 small_of _ = 0
 
-abbrev pub kind_of : Value → Kind
-kind_of (value.Kind kind) = kind
+abbrev pub large_of : Part → ℕ
+large_of (part.Large number) = number
+large_of (part.Time number) = number
+large_of (part.Context number) = number
+large_of (part.Cleanup number) = number
+large_of _ = 0
+
+abbrev pub word_of : Part → Word
+word_of (part.Word word) = word
+word_of _ = word.Take
+
+abbrev pub kind_of : Part → Kind
+kind_of (part.Word (word.Kind kind)) = kind
 kind_of _ = Work
 
-abbrev pub priority_of : Value → Priority
-priority_of (value.Priority priority) = priority
+abbrev pub priority_of : Part → Priority
+priority_of (part.Word (word.Priority priority)) = priority
 priority_of _ = Normal
 
-abbrev pub long_of : Value → Bool
-long_of (value.Long long) = long
-long_of _ = false
+-- whether callbacks may run long
+abbrev pub length_of : Part → Bool
+length_of (part.Word (word.Length long)) = long
+length_of _ = false
 
-abbrev pub flag_of : Value → Bool
-flag_of (value.Flag flag) = flag
+abbrev pub flag_of : Part → Bool
+flag_of (part.Word (word.YesNo flag)) = flag
 flag_of _ = false
 
-abbrev pub slot_of : Value → SlotWord
-slot_of (value.Slot slot) = slot
+abbrev pub slot_of : Part → SlotWord
+slot_of (part.Word (word.Slot slot)) = slot
 slot_of _ = Unasked
 
-abbrev pub action_of : Value → ActionKind
-action_of (value.Action action) = action
+abbrev pub action_of : Part → ActionKind
+action_of (part.Word (word.Action action)) = action
 action_of _ = Section

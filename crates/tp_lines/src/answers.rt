@@ -2,44 +2,34 @@
 
 ghost use Rattle.std.specs.Prelude.{◌≡◌};
 ghost use Rattle.line_grammar.specs.Language.{IsRead};
-ghost use Rattle.tp_lines.specs.AnswerRows.{answer_of, AnswerTexts, Endings, refusal_of, RefusalTexts, result_of, ResultTexts};
+ghost use Rattle.tp_lines.specs.AnswerRows.{AnswerTexts, answer_at, refusal_at, result_at};
 
-use crate::rows::read_row;
-use crate::shapes::{ANSWERS, REFUSALS, RESULTS, Word};
-use crate::values::Value;
+use crate::parts::Parts;
+use crate::rows::read_parts;
+use crate::words::{Field, Word};
 use tp_base::answers::{Answer, Refusal, TakeResult};
 use tp_base::ids::{ObjectId, PoolId, RoutineId};
 
-/// What stands behind the fields of an answer.
-#[derive(Clone, Copy)]
-pub enum Ending {
-    Nothing,
-    /// Behind `taken`: with what the callback is called.
-    Result(TakeResult),
-    /// Behind `refused`: why.
-    Refusal(Refusal),
-}
-
-/// With what a callback is called, where the word is one of a result.
-pub fn result_of(word: Word, values: &[Value; 8]) -> Option<TakeResult>
-    ensures { result ≡ result_of word values.now }
+// The result of a row that stands behind four parts of an answer.
+fn result_at(word: Word, parts: &Parts) -> Option<TakeResult>
+    ensures { result ≡ result_at word parts.now }
 {
     let taken = match word {
         Word::Plain => TakeResult::Plain,
         Word::Object => TakeResult::WaitObject0,
         Word::Timeout => TakeResult::WaitTimeout,
         Word::Io => TakeResult::Io {
-            error: values[0].small(),
-            bytes: values[1].number(),
+            error: parts.at(6).small(),
+            bytes: parts.at(7).large(),
         },
         _ => return None,
     };
     Some(taken)
 }
 
-/// Why a call was refused, where the word is one of a refusal.
-pub fn refusal_of(word: Word, values: &[Value; 8]) -> Option<Refusal>
-    ensures { result ≡ refusal_of word values.now }
+// The refusal of a row that stands behind the word of an answer.
+fn refusal_at(word: Word, parts: &Parts) -> Option<Refusal>
+    ensures { result ≡ refusal_at word parts.now }
 {
     let refusal = match word {
         Word::NoSuch => Refusal::NoSuch,
@@ -55,19 +45,19 @@ pub fn refusal_of(word: Word, values: &[Value; 8]) -> Option<Refusal>
         Word::NoWaitBegun => Refusal::NoWaitBegun,
         Word::OwnCallback => Refusal::OwnCallback,
         Word::HasMembers => Refusal::HasMembers {
-            object: ObjectId(values[0].small()),
+            object: ObjectId(parts.at(2).small()),
         },
         Word::NotStarted => Refusal::NotStarted,
         Word::NoOperation => Refusal::NoOperation,
         Word::OperationsOutstanding => Refusal::OperationsOutstanding {
-            io: ObjectId(values[0].small()),
+            io: ObjectId(parts.at(2).small()),
         },
         Word::SlotTaken => Refusal::SlotTaken {
-            kind: values[0].action(),
+            kind: parts.at(2).action(),
         },
         Word::NotOwner => Refusal::NotOwner,
         Word::OverMaximum => Refusal::OverMaximum {
-            count: values[0].small(),
+            count: parts.at(2).small(),
         },
         Word::NotWaitable => Refusal::NotWaitable,
         Word::ClockEnd => Refusal::ClockEnd,
@@ -80,161 +70,100 @@ pub fn refusal_of(word: Word, values: &[Value; 8]) -> Option<Refusal>
     Some(refusal)
 }
 
-/// The answer that a word, the values behind it and the ending stand for, where the word is one of an
-/// answer and the ending fits it.
-pub fn answer_of(word: Word, values: &[Value; 8], ending: Ending) -> Option<Answer>
-    ensures { result ≡ answer_of word values.now ending }
+// The answer of a row, where its word is one of an answer.
+fn answer_at(word: Word, parts: &Parts) -> Option<Answer>
+    ensures { result ≡ answer_at word parts.now }
 {
     let answer = match word {
         Word::Done => Answer::Done,
         Word::Made => Answer::Made {
-            number: values[0].small(),
+            number: parts.at(1).small(),
         },
         Word::Queued => Answer::Queued {
-            first: values[0].number(),
-            count: values[1].small(),
+            first: parts.at(1).large(),
+            count: parts.at(2).small(),
         },
         Word::Was => Answer::WasSet {
-            was: values[0].flag(),
-            first: values[1].number(),
-            count: values[2].small(),
+            was: parts.at(1).flag(),
+            first: parts.at(2).large(),
+            count: parts.at(3).small(),
         },
         Word::Flag => Answer::Flag {
-            value: values[0].flag(),
+            value: parts.at(1).flag(),
         },
         Word::Freed => Answer::Closed { later: false },
         Word::Later => Answer::Closed { later: true },
         Word::Closing => Answer::Closing {
-            covered: values[0].small(),
-            cancelled: values[1].small(),
-            notices: values[2].small(),
+            covered: parts.at(1).small(),
+            cancelled: parts.at(2).small(),
+            notices: parts.at(3).small(),
         },
         Word::Begun => Answer::Begun {
-            covered: values[0].small(),
-            cancelled: values[1].small(),
+            covered: parts.at(1).small(),
+            cancelled: parts.at(2).small(),
         },
         Word::Ended => Answer::Ended,
         Word::Exhausted => Answer::Exhausted,
         Word::Stalled => Answer::Stalled,
         Word::Notice => Answer::Notice {
-            object: ObjectId(values[0].small()),
-            routine: RoutineId(values[1].small()),
-            context: values[2].number(),
-            cleanup: values[3].number(),
+            object: ObjectId(parts.at(1).small()),
+            routine: RoutineId(parts.at(2).small()),
+            context: parts.at(3).large(),
+            cleanup: parts.at(4).large(),
         },
         Word::Started => Answer::Started {
-            callback: values[0].number(),
+            callback: parts.at(1).large(),
         },
         Word::Operation => Answer::Operation {
-            callback: values[0].number(),
+            callback: parts.at(1).large(),
         },
         Word::Cancelled => Answer::Cancelled {
-            callback: values[0].number(),
+            callback: parts.at(1).large(),
         },
         Word::Count => Answer::Count {
-            previous: values[0].small(),
-            first: values[1].number(),
-            count: values[2].small(),
+            previous: parts.at(1).small(),
+            first: parts.at(2).large(),
+            count: parts.at(3).small(),
         },
         Word::Advanced => Answer::Advanced {
-            now: values[0].number(),
-            first: values[1].number(),
-            count: values[2].small(),
+            now: parts.at(1).large(),
+            first: parts.at(2).large(),
+            count: parts.at(3).small(),
         },
         Word::Attached => Answer::Attached {
-            pool: PoolId(values[0].small()),
+            pool: PoolId(parts.at(1).small()),
         },
-        Word::Taken => match ending {
-            Ending::Result(taken) => Answer::Taken {
-                callback: values[0].number(),
-                object: ObjectId(values[1].small()),
-                routine: RoutineId(values[2].small()),
-                context: values[3].number(),
-                result: taken,
-            },
-            _ => return None,
+        Word::Taken => Answer::Taken {
+            callback: parts.at(1).large(),
+            object: ObjectId(parts.at(2).small()),
+            routine: RoutineId(parts.at(3).small()),
+            context: parts.at(4).large(),
+            result: result_at(parts.at(5).word(), parts)?,
         },
         Word::Returned => Answer::Returned {
-            section: values[0].slot(),
-            mutex: values[1].slot(),
-            semaphore: values[2].slot(),
-            event: values[3].slot(),
-            first: values[4].number(),
-            count: values[5].small(),
+            section: parts.at(1).slot(),
+            mutex: parts.at(2).slot(),
+            semaphore: parts.at(3).slot(),
+            event: parts.at(4).slot(),
+            first: parts.at(5).large(),
+            count: parts.at(6).small(),
         },
-        Word::Refused => match ending {
-            Ending::Refusal(refusal) => Answer::Refused(refusal),
-            _ => return None,
-        },
+        Word::Refused => Answer::Refused(refusal_at(parts.at(1).word(), parts)?),
         _ => return None,
     };
     Some(answer)
-}
-
-// Reads with what a callback is called, and the space before it.
-fn read_result(text: &[u8]) -> Result<(TakeResult, usize), usize>
-    ensures { IsRead ResultTexts text.now result }
-{
-    let shapes = RESULTS.shapes;
-    let mut values = [Value::Nothing; 8];
-    match read_row(&shapes, text, &mut values) {
-        Err(place) => Err(place),
-        Ok((shape, size)) => match result_of(shape.word, &values) {
-            Some(taken) => Ok((taken, size)),
-            None => unreachable!(),
-        },
-    }
-}
-
-// Reads why a call was refused, and the space before it.
-fn read_refusal(text: &[u8]) -> Result<(Refusal, usize), usize>
-    ensures { IsRead RefusalTexts text.now result }
-{
-    let shapes = REFUSALS.shapes;
-    let mut values = [Value::Nothing; 8];
-    match read_row(&shapes, text, &mut values) {
-        Err(place) => Err(place),
-        Ok((shape, size)) => match refusal_of(shape.word, &values) {
-            Some(refusal) => Ok((refusal, size)),
-            None => unreachable!(),
-        },
-    }
-}
-
-// Reads what stands behind the fields of an answer with this word.
-fn read_ending(word: Word, text: &[u8]) -> Result<(Ending, usize), usize>
-    ensures { IsRead (Endings word) text.now result }
-{
-    match word {
-        Word::Taken => match read_result(text) {
-            Ok((taken, size)) => Ok((Ending::Result(taken), size)),
-            Err(place) => Err(place),
-        },
-        Word::Refused => match read_refusal(text) {
-            Ok((refusal, size)) => Ok((Ending::Refusal(refusal), size)),
-            Err(place) => Err(place),
-        },
-        _ => Ok((Ending::Nothing, 0)),
-    }
 }
 
 /// Reads an answer with the space before it.
 pub fn read_answer(text: &[u8]) -> Result<(Answer, usize), usize>
     ensures { IsRead AnswerTexts text.now result }
 {
-    let shapes = ANSWERS.shapes;
-    let mut values = [Value::Nothing; 8];
-    match read_row(&shapes, text, &mut values) {
+    let mut parts = Parts::new();
+    match read_parts(&[Field::Answer], text, &mut parts) {
         Err(place) => Err(place),
-        Ok((shape, size)) => {
-            let (_, rest) = text.split_at(size);
-            match read_ending(shape.word, rest) {
-                Err(place) => Err(size + place),
-                Ok((ending, more)) => match answer_of(shape.word, &values, ending) {
-                    Some(answer) => Ok((answer, size + more)),
-                    None => unreachable!(),
-                },
-            }
-        }
+        Ok(size) => match answer_at(parts.at(0).word(), &parts) {
+            Some(answer) => Ok((answer, size)),
+            None => unreachable!(),
+        },
     }
 }

@@ -1,49 +1,43 @@
 //! Reading of calls.
 
-ghost use Rattle.std.specs.Prelude.{◌≡◌, Ok};
+ghost use Rattle.std.specs.Prelude.{◌≡◌, ◌≤◌};
 ghost use Rattle.line_grammar.specs.Language.{IsRead};
-ghost use Rattle.tp_lines.specs.CallRows.{call_of, CallTexts, ClientTexts, WhoTexts, WorkerTexts};
-ghost use Rattle.tp_lines.specs.Calls.{CallLines};
+ghost use Rattle.tp_lines.specs.Calls.{CallLines, CallTexts, WhoTexts, call_at, environ_at};
+ghost use Rattle.tp_lines.specs.Actors.{ClientTexts, WorkerTexts};
 
-use crate::rows::read_row;
-use crate::shapes::{CALLS, Word};
-use crate::values::Value;
+use crate::parts::Parts;
+use crate::rows::read_parts;
+use crate::words::{Field, Word};
 use line_grammar::numbers::read_prefixed;
 use line_grammar::words::further;
 use tp_base::calls::{Call, Environ};
 use tp_base::ids::{GroupId, ObjectId, PoolId, RoutineId, Who};
 
-/// The call that a word and the values behind it stand for, where the word is one of a call.
-pub fn call_of(word: Word, values: &[Value; 8]) -> Option<Call>
-    ensures { result ≡ call_of word values.now }
+/// The call of a row, where its word is one of a call.
+fn call_at(word: Word, parts: &Parts) -> Option<Call>
+    ensures { result ≡ call_at word parts.now }
 {
     let call = match word {
         Word::CreatePool => Call::CreatePool,
         Word::ClosePool => Call::ClosePool {
-            pool: PoolId(values[0].small()),
+            pool: PoolId(parts.at(1).small()),
         },
         Word::SetMaximum => Call::SetMaximum {
-            pool: PoolId(values[0].small()),
-            value: values[1].small(),
+            pool: PoolId(parts.at(1).small()),
+            value: parts.at(2).small(),
         },
         Word::SetMinimum => Call::SetMinimum {
-            pool: PoolId(values[0].small()),
-            value: values[1].small(),
+            pool: PoolId(parts.at(1).small()),
+            value: parts.at(2).small(),
         },
         Word::Create => Call::Create {
-            kind: values[0].kind(),
-            routine: RoutineId(values[1].small()),
-            context: values[2].number(),
-            env: Environ {
-                pool: PoolId(values[3].small()),
-                group: GroupId(values[6].small()),
-                cancel: RoutineId(values[7].small()),
-                priority: values[4].priority(),
-                long: values[5].long(),
-            },
+            kind: parts.at(1).kind(),
+            routine: RoutineId(parts.at(2).small()),
+            context: parts.at(3).large(),
+            env: environ_at(parts, 4),
         },
         Word::Submit => Call::SubmitWork {
-            object: ObjectId(values[0].small()),
+            object: ObjectId(parts.at(1).small()),
         },
         Word::Attach => Call::Attach,
         Word::Detach => Call::Detach,
@@ -56,15 +50,28 @@ pub fn call_of(word: Word, values: &[Value; 8]) -> Option<Call>
     Some(call)
 }
 
+// The environment that stands from an index on.
+fn environ_at(parts: &Parts, index: usize) -> Environ
+    requires { index ≤ 10 }
+    ensures { result ≡ environ_at parts.now index }
+{
+    Environ {
+        pool: PoolId(parts.at(index).small()),
+        group: GroupId(parts.at(index + 3).small()),
+        cancel: RoutineId(parts.at(index + 4).small()),
+        priority: parts.at(index + 1).priority(),
+        long: parts.at(index + 2).long(),
+    }
+}
+
 // Reads a call with the space before it.
 fn read_call(text: &[u8]) -> Result<(Call, usize), usize>
     ensures { IsRead CallTexts text.now result }
 {
-    let shapes = CALLS.shapes;
-    let mut values = [Value::Nothing; 8];
-    match read_row(&shapes, text, &mut values) {
+    let mut parts = Parts::new();
+    match read_parts(&[Field::Call], text, &mut parts) {
         Err(place) => Err(place),
-        Ok((shape, size)) => match call_of(shape.word, &values) {
+        Ok(size) => match call_at(parts.at(0).word(), &parts) {
             Some(call) => Ok((call, size)),
             None => unreachable!(),
         },

@@ -2,26 +2,27 @@
 //! the machine answers.
 //!
 //! A text is a line without its line feed. `parse_call` and `parse_entry` read a line, or tell the place
-//! of its fault; `read_entry` reads the entry at the front of a longer text. `print_entry`,
-//! `print_answer`, `print_look` and `print_full` append one.
+//! of its fault; `read_entry` reads the entry at the front of a longer text, and `read_good_call` and
+//! `read_good_entry` a line with its line feed, where one stands there. `print_entry` and `print_outcome`
+//! append one.
 //!
-//! The definitions build a text from words, each with one space behind it but the last (`words_of_call`,
-//! `words_of_answer`). The readers go by tables of shapes (`CALLS`, `ANSWERS`, `RESULTS`, `REFUSALS`): a
-//! word, and up to eight fields. A table's lines are read by `read_row`, whatever the table; what a row
-//! stands for is said by one function a table (`call_of`, `answer_of`). A new call is a shape, an arm of
-//! `call_of`, an arm of `words_of_call`, and two cases of a proof: the row's call, and the call's row.
+//! A call, an answer, a look and full is a row: a word, and parts that describe themselves (`row_of`,
+//! `row_of_answer`, `row_of_outcome`). Its text is theirs, each with one space before it. What stands behind
+//! a word is told by the fields that it brings (`words`), and the range of a number by its field. So one
+//! reader reads all rows (`read_parts`), with the exact place of a fault, and a row tells its call or answer
+//! (`call_at`, `answer_at`).
 
 #![tactic(auto)]
 
 mod answers;
 pub mod calls;
 pub mod entries;
-mod fields;
 pub mod good;
+mod line;
 pub mod parse;
+mod parts;
 pub mod print;
 mod rows;
-pub mod shapes;
 #[cfg(test)]
 mod tests;
-mod values;
+mod words;

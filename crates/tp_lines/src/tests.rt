@@ -1,12 +1,12 @@
 //! Lines written by hand, and the places of faults.
 
+use crate::good::{read_good_call, read_good_entry};
 use crate::parse::{LineFault, LineKind, parse_call, parse_entry};
-use crate::print::{print_answer, print_entry, print_full, print_look};
-use crate::shapes::{ANSWERS, CALLS, Field, Shape, Table, Word};
+use crate::print::{print_entry, print_outcome};
 use std::alloc::{AllocError, Global};
 use std::process::Abort;
 use std::test::Fail;
-use tp_base::answers::{ActionKind, Answer, Entry, Look, Refusal, SlotWord, TakeResult};
+use tp_base::answers::{ActionKind, Answer, Entry, Look, Outcome, Refusal, SlotWord, TakeResult};
 use tp_base::calls::{Call, Environ, Kind, Priority};
 use tp_base::ids::{GroupId, KernelId, ObjectId, PoolId, RoutineId, Who};
 
@@ -567,45 +567,70 @@ fn entries_there_and_back(rt: HostRuntime) -> Result<(), Fail> {
     Ok(())
 }
 
+// An outcome is printed as this text.
+fn check_outcome(
+    rt: &impl Abort,
+    alloc: Global,
+    text: &str,
+    outcome: Outcome,
+) -> Result<(), AllocError> {
+    let mut out = Vec::new(alloc);
+    print_outcome(&outcome, &mut out)?;
+    assert_eq!(rt; out.as_slice(), text.as_bytes(), "{text}");
+    Ok(())
+}
+
 #[test]
-fn printed(rt: HostRuntime) -> Result<(), Fail> {
-    let mut out = Vec::new(rt.alloc());
-    print_answer(rt.alloc(), &Answer::Queued { first: 3, count: 2 }, &mut out)?;
-    assert_eq!(rt; out.as_slice(), "queued 3 2".as_bytes());
-    out.clear();
-    print_full(rt.alloc(), 1, 3, &mut out)?;
-    assert_eq!(rt; out.as_slice(), "full 1 3".as_bytes());
-    let looks = [
-        ("look not-yet callback 8", Look::NotYet { callback: 8 }),
+fn outcomes_printed(rt: HostRuntime) -> Result<(), Fail> {
+    let cases = [
         (
-            "look not-yet kernel 2",
-            Look::NotYetKernel {
-                kernel: KernelId(2),
+            "queued 3 2",
+            Outcome::Done(Answer::Queued { first: 3, count: 2 }),
+        ),
+        ("full 1 3", Outcome::Full { room: 1, cost: 3 }),
+        (
+            "full 18446744073709551615 0",
+            Outcome::Full {
+                room: 18_446_744_073_709_551_615,
+                cost: 0,
             },
         ),
-        ("look empty", Look::Empty),
-        ("look at-maximum 4", Look::AtMaximum { running: 4 }),
-        ("look no-need", Look::NoNeed),
-        ("look stay", Look::Stay),
+        (
+            "look not-yet callback 8",
+            Outcome::Look(Look::NotYet { callback: 8 }),
+        ),
+        (
+            "look not-yet kernel 2",
+            Outcome::Look(Look::NotYetKernel {
+                kernel: KernelId(2),
+            }),
+        ),
+        ("look empty", Outcome::Look(Look::Empty)),
+        (
+            "look at-maximum 4",
+            Outcome::Look(Look::AtMaximum { running: 4 }),
+        ),
+        ("look no-need", Outcome::Look(Look::NoNeed)),
+        ("look stay", Outcome::Look(Look::Stay)),
     ];
-    for (text, look) in looks {
-        out.clear();
-        print_look(rt.alloc(), &look, &mut out)?;
-        assert_eq!(rt; out.as_slice(), text.as_bytes(), "{text}");
+    for (text, outcome) in cases {
+        check_outcome(&rt, rt.alloc(), text, outcome)?;
     }
     Ok(())
 }
 
 #[test]
-fn distinct_tables(rt: HostRuntime) {
-    let take = Shape {
-        word: Word::Take,
-        fields: [Field::Nothing; 8],
+fn good_lines(rt: HostRuntime) {
+    let taken = Some(((Who::Worker(3), Call::Take), 8));
+    assert_eq!(rt; read_good_call("w3 take\nc1 finish\n".as_bytes()), taken);
+    assert_eq!(rt; read_good_call("w3 take".as_bytes()), None);
+    assert_eq!(rt; read_good_call("w3 take 1\n".as_bytes()), None);
+    let entry = Entry {
+        who: Who::Worker(3),
+        call: Call::Take,
+        answer: Answer::Refused(Refusal::NotAttached),
     };
-    let twice = Table {
-        shapes: [take, take],
-    };
-    assert!(rt; CALLS.is_distinct());
-    assert!(rt; ANSWERS.is_distinct());
-    assert!(rt; !twice.is_distinct());
+    let text = "w3 take -> refused not-attached\nend 1\n";
+    assert_eq!(rt; read_good_entry(text.as_bytes()), Some((entry, 32)));
+    assert_eq!(rt; read_good_entry("end 1\n".as_bytes()), None);
 }

@@ -1,21 +1,25 @@
-use Rattle.std.proofs.Common.{sym, ◌∙◌}
-use Rattle.tp_lines.proofs.AnswerFacts.{answer_none, answer_read, answer_stuck_first, answer_stuck_second}
+use Rattle.std.proofs.Common.{◌≡◌, [], ◌∷◌, sym, ap, ◌∙◌, subst}
+use Rattle.tp_lines.specs.declared.words.Field.TheVariants.{Answer}
+use Rattle.tp_lines.specs.AnswerRows.{answer_at}
+use Rattle.tp_lines.specs.Answers.{row_of_answer}
+use Rattle.tp_lines.specs.Rows.{ArePartsRead}
+use Rattle.tp_lines.specs.Values.{part_at, word_of}
+use Rattle.tp_lines.proofs.AnswerFacts.{answer_table}
+use Rattle.tp_lines.proofs.Tables.{row_read, row_some, row_stuck}
 use Rattle.tp_lines.proofs.answers.read_answer.Goals as goal
 
 pub returns-in-Err : goal.returns-in-Err
-returns-in-Err c = answer_stuck_first c.args.text.now c.in-Err.place c.in-Err.ensures
-
-pub returns-in-Err-read_ending : goal.returns-in-Err-read_ending
-returns-in-Err-read_ending c =
-    answer_stuck_second c.args.text.now c.in-Ok.shape c.read_row.new.values c.in-Ok.size c.in-Ok.ensures c.split_at.result.1.now c.split_at.ensures.back
-    c.in-Err-read_ending.place c.in-Err-read_ending.ensures
+returns-in-Err c = row_stuck Answer row_of_answer answer_at answer_table c.args.text.now c.in-Err.place c.in-Err.ensures
 
 pub returns-in-Some : goal.returns-in-Some
 returns-in-Some c =
-    answer_read c.args.text.now c.in-Ok.shape c.read_row.new.values c.in-Ok.size c.in-Ok.ensures c.split_at.result.1.now c.split_at.ensures.back
-    c.in-Ok-read_ending.ending c.in-Ok-read_ending.more c.in-Ok-read_ending.ensures c.in-Some.answer (sym c.answer_of.ensures ∙ c.in-Some.is)
+    let parts = c.read_parts.new.parts in
+    let word : c.word.result ≡ word_of (part_at parts 0) = c.word.ensures ∙ ap word_of c.at.ensures in
+    row_read Answer row_of_answer answer_at answer_table c.args.text.now parts c.in-Ok.size (subst (λ l. ArePartsRead (Answer ∷ []) c.args.text.now l parts c.in-Ok.size) c.new-parts.ensures c.in-Ok.ensures)
+    c.in-Some.answer (ap (λ w. answer_at w parts) (sym word) ∙ sym c.answer_at.ensures ∙ c.in-Some.is)
 
 pub unreachable-requires : goal.unreachable-requires
 unreachable-requires c =
-    answer_none c.args.text.now c.in-Ok.shape c.read_row.new.values c.in-Ok.size c.in-Ok.ensures c.split_at.result.1.now c.split_at.ensures.back
-    c.in-Ok-read_ending.ending c.in-Ok-read_ending.more c.in-Ok-read_ending.ensures (sym c.answer_of.ensures ∙ c.in-None.is)
+    let parts = c.read_parts.new.parts in
+    let word : c.word.result ≡ word_of (part_at parts 0) = c.word.ensures ∙ ap word_of c.at.ensures in
+    row_some Answer row_of_answer answer_at answer_table c.args.text.now parts c.in-Ok.size (subst (λ l. ArePartsRead (Answer ∷ []) c.args.text.now l parts c.in-Ok.size) c.new-parts.ensures c.in-Ok.ensures) (ap (λ w. answer_at w parts) (sym word) ∙ sym c.answer_at.ensures ∙ c.in-None.is)

@@ -1,15 +1,24 @@
-use Rattle.std.proofs.Common.{sym, ◌∙◌, take}
-use Rattle.tp_lines.proofs.CallFacts.{calls_read, calls_stuck, none_stands}
+use Rattle.std.proofs.Common.{◌≡◌, [], ◌∷◌, sym, ap, ◌∙◌, subst}
+use Rattle.tp_lines.specs.declared.words.Field.TheVariants.{Call}
+use Rattle.tp_lines.specs.Calls.{call_at, row_of}
+use Rattle.tp_lines.specs.Rows.{ArePartsRead}
+use Rattle.tp_lines.specs.Values.{part_at, word_of}
+use Rattle.tp_lines.proofs.CallFacts.{call_table}
+use Rattle.tp_lines.proofs.Tables.{row_read, row_some, row_stuck}
 use Rattle.tp_lines.proofs.calls.read_call.Goals as goal
 
 pub returns-in-Err : goal.returns-in-Err
-returns-in-Err c = calls_stuck c.args.text.now c.in-Err.place c.in-Err.ensures
+returns-in-Err c = row_stuck Call row_of call_at call_table c.args.text.now c.in-Err.place c.in-Err.ensures
 
 pub returns-in-Some : goal.returns-in-Some
 returns-in-Some c =
-    calls_read c.args.text.now c.in-Ok.shape c.read_row.new.values c.in-Some.call c.in-Ok.size (sym c.call_of.ensures ∙ c.in-Some.is) c.in-Ok.ensures
+    let parts = c.read_parts.new.parts in
+    let word : c.word.result ≡ word_of (part_at parts 0) = c.word.ensures ∙ ap word_of c.at.ensures in
+    row_read Call row_of call_at call_table c.args.text.now parts c.in-Ok.size (subst (λ l. ArePartsRead (Call ∷ []) c.args.text.now l parts c.in-Ok.size) c.new-parts.ensures c.in-Ok.ensures)
+    c.in-Some.call (ap (λ w. call_at w parts) (sym word) ∙ sym c.call_at.ensures ∙ c.in-Some.is)
 
--- each row of the calls stands for a call
 pub unreachable-requires : goal.unreachable-requires
 unreachable-requires c =
-    none_stands c.in-Ok.shape c.read_row.new.values (take c.in-Ok.size c.args.text.now) c.in-Ok.ensures.text_of (sym c.call_of.ensures ∙ c.in-None.is)
+    let parts = c.read_parts.new.parts in
+    let word : c.word.result ≡ word_of (part_at parts 0) = c.word.ensures ∙ ap word_of c.at.ensures in
+    row_some Call row_of call_at call_table c.args.text.now parts c.in-Ok.size (subst (λ l. ArePartsRead (Call ∷ []) c.args.text.now l parts c.in-Ok.size) c.new-parts.ensures c.in-Ok.ensures) (ap (λ w. call_at w parts) (sym word) ∙ sym c.call_at.ensures ∙ c.in-None.is)

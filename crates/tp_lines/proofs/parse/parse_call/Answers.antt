@@ -7,10 +7,10 @@ use Rattle.tp_lines.proofs.WhoFacts.{lines_part}
 use Rattle.tp_lines.proofs.parse.parse_call.Goals as goal
 
 pub fault_at-requires : goal.fault_at-requires
-fault_at-requires c = omega (arith, read_short CallLines 250 line_short c.args.text.now c.in-Ok.line c.in-Ok.size c.in-Ok.ensures)
+fault_at-requires c = omega (arith, read_short CallLines 340 line_short c.args.text.now c.in-Ok.line c.in-Ok.size c.in-Ok.ensures)
 
 pub fault_at-requires-in-Err : goal.fault_at-requires-in-Err
-fault_at-requires-in-Err c = omega (arith, stuck_short CallLines 250 line_short c.args.text.now c.in-Err.place c.in-Err.ensures)
+fault_at-requires-in-Err c = omega (arith, stuck_short CallLines 340 line_short c.args.text.now c.in-Err.place c.in-Err.ensures)
 
 pub returns-then-size-text-clause-only : goal.returns-then-size-text-clause-only
 returns-then-size-text-clause-only c = λ who call line.

@@ -1,0 +1,118 @@
+-- What holds of all words: each rule is a test, which computes.
+use Rattle.std.proofs.Common.{◌≡◌, ℕ, ◌+◌, ◌<◌, ◌≤◌, List, [], ◌∷◌, ◌++◌, length, refl, sym, ap, ◌∙◌, subst, arith, ◌⊎◌, inl, inr, Bool, true, false, nat_eq, IsTrue, Option, Some, None}
+use Rattle.std.specs.Prelude.{bytes_eq, nat_le, if◌then◌else◌}
+use Rattle.std.proofs.lemmas.Bool.{eqb-true, leb-true}
+use Rattle.std.proofs.lemmas.Slice.Eq.{bytes_eq-Decides}
+use Rattle.line_grammar.specs.Words.{lacks, is_solid}
+use Rattle.tp_base.specs.declared.answers.ActionKind.TheVariants as action
+use Rattle.tp_base.specs.declared.answers.SlotWord.TheVariants as slot
+use Rattle.tp_base.specs.declared.calls.Kind.TheVariants as kind
+use Rattle.tp_base.specs.declared.calls.Priority.TheVariants as priority
+use Rattle.tp_lines.specs.declared.words.Field.{Field}
+use Rattle.tp_lines.specs.declared.words.Field.TheVariants as field
+use Rattle.tp_lines.specs.declared.words.TheConstants.{WORDS}
+use Rattle.tp_lines.specs.declared.words.Word.{Word}
+use Rattle.tp_lines.specs.declared.words.Word.TheVariants as word
+use Rattle.tp_lines.specs.Choices.{IsListed}
+use Rattle.tp_lines.specs.Parts.{room, room_of}
+use Rattle.tp_lines.specs.Shapes.{fields_of, table_of, text_of_word}
+
+abbrev pub both : Bool → Bool → Bool
+both true b = b
+both false b = false
+
+both_left : (a b : Bool) → IsTrue (both a b) → IsTrue a
+both_left true b h = refl
+both_left false b h = h
+
+both_right : (a b : Bool) → IsTrue (both a b) → IsTrue b
+both_right true b h = h
+both_right false b h = let no_such : ⊥ = cc in absurd no_such
+
+-- fields by numbers, so that a test tells them apart
+abbrev pub rank : Field → ℕ
+rank field.Call = 1
+rank field.Answer = 2
+rank field.Look = 3
+rank field.Result = 4
+rank field.Refusal = 5
+rank field.State = 6
+rank field.Target = 7
+rank field.Kind = 8
+rank field.Unbuilt = 9
+rank field.Priority = 10
+rank field.Length = 11
+rank field.Flag = 12
+rank field.Slot = 13
+rank field.Action = 14
+rank _ = 0
+
+abbrev pub first_of_two : Bool → Word → Option Word → Option Word
+first_of_two true w others = Some w
+first_of_two false w others = others
+
+-- the first word of these in the field and with the text
+abbrev pub find : ℕ → List ℕ → List Word → Option Word
+find field text [] = None
+find field text (w ∷ words) = first_of_two (both (nat_eq (rank (table_of w)) field) (bytes_eq text (text_of_word w))) w (find field text words)
+
+-- no space and no line feed stands in a word, none is long, and the fields that it brings have room in its field
+abbrev keeps_rules : Word → Bool
+keeps_rules w = both (is_solid (text_of_word w)) (both (nat_le (length (text_of_word w)) 30) (nat_le (room (fields_of w) + 1) (room_of (table_of w))))
+
+rules_kept : (w : Word) → IsTrue (keeps_rules w)
+rules_kept (word.Kind kind.Work) = refl
+rules_kept (word.Kind _) = refl
+rules_kept (word.Priority priority.High) = refl
+rules_kept (word.Priority _) = refl
+rules_kept (word.Length true) = refl
+rules_kept (word.Length false) = refl
+rules_kept (word.YesNo true) = refl
+rules_kept (word.YesNo false) = refl
+rules_kept (word.Slot slot.Unasked) = refl
+rules_kept (word.Slot _) = refl
+rules_kept (word.Action action.Section) = refl
+rules_kept (word.Action _) = refl
+rules_kept _ = refl
+
+-- each word is the first of all in its field and with its text
+pub found : (w : Word) → find (rank (table_of w)) (text_of_word w) WORDS.words ≡ Some w
+found (word.Kind kind.Work) = refl
+found (word.Kind _) = refl
+found (word.Priority priority.High) = refl
+found (word.Priority _) = refl
+found (word.Length true) = refl
+found (word.Length false) = refl
+found (word.YesNo true) = refl
+found (word.YesNo false) = refl
+found (word.Slot slot.Unasked) = refl
+found (word.Slot _) = refl
+found (word.Action action.Section) = refl
+found (word.Action _) = refl
+found _ = refl
+
+pub solid : (w : Word) → IsTrue (is_solid (text_of_word w))
+solid w = both_left _ _ (rules_kept w)
+
+pub short : (w : Word) → length (text_of_word w) ≤ 30
+short w = leb-true _ _ (both_left _ _ (both_right (is_solid (text_of_word w)) _ (rules_kept w)))
+
+pub roomy : (w : Word) → room (fields_of w) + 1 ≤ room_of (table_of w)
+roomy w = leb-true _ _ (both_right (nat_le (length (text_of_word w)) 30) _ (both_right (is_solid (text_of_word w)) _ (rules_kept w)))
+
+-- words of one field are told apart by their texts
+pub one_word : (w v : Word) → table_of w ≡ table_of v → text_of_word w ≡ text_of_word v → w ≡ v
+one_word w v e f =
+    let same : Some w ≡ Some v = sym (found w) ∙ ap (λ t. find (rank t) (text_of_word w) WORDS.words) e ∙ ap (λ t. find (rank (table_of v)) t WORDS.words) f ∙ found v in
+    cc
+
+by_test : (b : Bool) (x w : Word) (words : List Word) (others : Option Word) → (others ≡ Some w → IsListed words w) → first_of_two b x others ≡ Some w → IsListed (x ∷ words) w
+by_test true x w words others h e = let same : x ≡ w = cc in inl (sym same)
+by_test false x w words others h e = inr (h e)
+
+find_listed : (n : ℕ) (t : List ℕ) (words : List Word) (w : Word) → find n t words ≡ Some w → IsListed words w
+find_listed n t [] w e = let no_such : ⊥ = cc in absurd no_such
+find_listed n t (x ∷ words) w e = by_test (both (nat_eq (rank (table_of x)) n) (bytes_eq t (text_of_word x))) x w words (find n t words) (find_listed n t words w) e
+
+pub all_listed : (w : Word) → IsListed WORDS.words w
+all_listed w = find_listed (rank (table_of w)) (text_of_word w) WORDS.words w (found w)

@@ -1,0 +1,24 @@
+use Rattle.std.proofs.Common.{sym, subst, ◌+◌}
+use Rattle.line_grammar.specs.Language.{IsStuck}
+use Rattle.tp_lines.specs.Parts.{PartsTexts}
+use Rattle.tp_lines.specs.Rows.{ArePartsRead}
+use Rattle.tp_lines.proofs.RowFacts.{nothing_read, parts_read, parts_stuck_first, parts_stuck_second}
+use Rattle.tp_lines.proofs.rows.+read_parts.Goals as goal
+
+pub returns-in-Err : goal.returns-in-Err
+returns-in-Err t c =
+    subst (λ l. IsStuck (PartsTexts l) c.args.text.now c.in-Err.place) (sym c.in-Some.ensures)
+    (parts_stuck_first c.in-Some.field c.in-Some.left.now c.args.text.now c.in-Err.place c.in-Err.ensures)
+
+pub returns-in-Err-read_parts : goal.returns-in-Err-read_parts
+returns-in-Err-read_parts t c =
+    subst (λ l. IsStuck (PartsTexts l) c.args.text.now (c.in-Ok.size + c.in-Err-read_parts.place)) (sym c.in-Some.ensures)
+    (parts_stuck_second c.in-Some.field c.in-Some.left.now c.args.text.now c.in-Ok.part c.in-Ok.size c.in-Ok.ensures
+    c.split_at.result.1.now c.split_at.ensures.back c.after.result.now c.after.ensures c.in-Err-read_parts.place c.in-Err-read_parts.ensures)
+
+pub returns-in-Ok-read_parts : goal.returns-in-Ok-read_parts
+returns-in-Ok-read_parts t c =
+    subst (λ l. ArePartsRead l c.args.text.now c.args.parts.now c.read_parts.new.parts (c.in-Ok.size + c.in-Ok-read_parts.more)) (sym c.in-Some.ensures)
+    (parts_read c.in-Some.field c.in-Some.left.now c.args.text.now c.in-Ok.part c.in-Ok.size c.in-Ok.ensures
+    c.split_at.result.1.now c.split_at.ensures.back c.after.result.now c.after.ensures
+    c.args.parts.now c.read_parts.new.parts c.in-Ok-read_parts.more (subst (λ l. ArePartsRead c.after.result.now c.split_at.result.1.now l c.read_parts.new.parts c.in-Ok-read_parts.more) c.push.ensures c.in-Ok-read_parts.ensures))

@@ -1,0 +1,394 @@
+//! The parts of a line: what stands in one field, and reading it.
+
+ghost use Rattle.std.specs.Prelude.{◌≡◌, ◌<◌, ◌≤◌, ◌++◌, ◌∷◌, [], List, length, take, ◌↔◌, IsTrue};
+ghost use Rattle.line_grammar.specs.Language.{IsRead};
+ghost use Rattle.tp_lines.specs.declared.parts.Part.{Part};
+ghost use Rattle.tp_lines.specs.declared.words.Word.{Word};
+ghost use Rattle.tp_lines.specs.Choices.{BodyTexts, ChoiceTexts, Met, PartTexts, default_word};
+ghost use Rattle.tp_lines.specs.Parts.{after, form_of, instead_of, most_of, number_part};
+ghost use Rattle.tp_lines.specs.Shapes.{table_of};
+ghost use Rattle.tp_lines.specs.Values.{action_of, flag_of, kind_of, large_of, length_of, part_at, priority_of, slot_of, small_of, word_of};
+
+use crate::words::{Field, WORDS, Word, fields_of, find_word, table_of, word_text};
+use line_grammar::numbers::{read_number, read_prefixed};
+use line_grammar::words::{behind, further, read_bytes, word_size};
+use std::marker::Model;
+use tp_base::answers::{ActionKind, SlotWord};
+use tp_base::calls::{Kind, Priority};
+
+/// What stands in one field of a line.
+#[derive(Clone, Copy)]
+pub enum Part {
+    Short(u32),
+    Made(u32),
+    Level(u32),
+    Small(u32),
+    Large(u64),
+    Time(u64),
+    Routine(u32),
+    Context(u64),
+    Cleanup(u64),
+    Origin(u32),
+    Pool(u32),
+    Group(u32),
+    Cancel(u32),
+    Word(Word),
+}
+
+/// How a field is written.
+#[derive(Clone, Copy)]
+pub enum Form {
+    /// A number from `least` to `most`.
+    Number { least: u64, most: u64 },
+    /// A letter, and a number from `least` to `most` behind it.
+    Lettered { letter: u8, least: u64, most: u64 },
+    /// One of the words of the field.
+    Choice,
+}
+
+const ID_MOST: u64 = 65_535;
+
+impl Part {
+    /// The number of 32 bits, or 0 where this is none.
+    pub fn small(self) -> u32
+        ensures { result ≡ small_of self }
+    {
+        match self {
+            Part::Short(number)
+            | Part::Made(number)
+            | Part::Level(number)
+            | Part::Small(number)
+            | Part::Routine(number)
+            | Part::Origin(number)
+            | Part::Pool(number)
+            | Part::Group(number)
+            | Part::Cancel(number) => number,
+            _ => 0,
+        }
+    }
+
+    /// The number of 64 bits, or 0 where this is none.
+    pub fn large(self) -> u64
+        ensures { result ≡ large_of self }
+    {
+        match self {
+            Part::Large(number)
+            | Part::Time(number)
+            | Part::Context(number)
+            | Part::Cleanup(number) => number,
+            _ => 0,
+        }
+    }
+
+    /// The word, or `take` where this is none.
+    pub fn word(self) -> Word
+        ensures { result ≡ word_of self }
+    {
+        match self {
+            Part::Word(word) => word,
+            _ => Word::Take,
+        }
+    }
+
+    /// The kind of an object, or Work where this is none.
+    pub fn kind(self) -> Kind
+        ensures { result ≡ kind_of self }
+    {
+        match self {
+            Part::Word(Word::Kind(kind)) => kind,
+            _ => Kind::Work,
+        }
+    }
+
+    /// The priority, or Normal where this is none.
+    pub fn priority(self) -> Priority
+        ensures { result ≡ priority_of self }
+    {
+        match self {
+            Part::Word(Word::Priority(priority)) => priority,
+            _ => Priority::Normal,
+        }
+    }
+
+    /// Whether callbacks may run long, or false where this doesn't say.
+    pub fn long(self) -> bool
+        ensures { result ≡ length_of self }
+    {
+        match self {
+            Part::Word(Word::Length(long)) => long,
+            _ => false,
+        }
+    }
+
+    /// The flag, or false where this is none.
+    pub fn flag(self) -> bool
+        ensures { result ≡ flag_of self }
+    {
+        match self {
+            Part::Word(Word::YesNo(flag)) => flag,
+            _ => false,
+        }
+    }
+
+    /// What became of an action, or Unasked where this doesn't say.
+    pub fn slot(self) -> SlotWord
+        ensures { result ≡ slot_of self }
+    {
+        match self {
+            Part::Word(Word::Slot(slot)) => slot,
+            _ => SlotWord::Unasked,
+        }
+    }
+
+    /// The kind of an action, or Section where this is none.
+    pub fn action(self) -> ActionKind
+        ensures { result ≡ action_of self }
+    {
+        match self {
+            Part::Word(Word::Action(action)) => action,
+            _ => ActionKind::Section,
+        }
+    }
+}
+
+/// The parts of a row, the first of them its word.
+#[derive(Drop)]
+pub struct Parts {
+    items: [Part; 10],
+    count: usize,
+}
+
+impl Model for Parts {
+    ghost Value = { List Part };
+
+    ghost view = { λ parts. take parts.count parts.items };
+
+    ghost invariant = { λ parts. parts.count ≤ 10 };
+}
+
+impl Parts {
+    pub fn new() -> Parts
+        ensures { result ≡ [] }
+    {
+        Parts {
+            items: [Part::Short(0); 10],
+            count: 0,
+        }
+    }
+
+    /// Adds a part behind the others.
+    pub fn push(&mut self, part: Part)
+        requires { length self.old < 10 }
+        ensures { self.new ≡ self.old ++ part ∷ [] }
+    {
+        self.items[self.count] = part;
+        self.count += 1;
+    }
+
+    /// The part at an index, or the number 0 where there is none.
+    pub fn at(&self, index: usize) -> Part
+        ensures { result ≡ part_at self.now index }
+    {
+        if index < self.count {
+            self.items[index]
+        } else {
+            Part::Short(0)
+        }
+    }
+}
+
+/// How a field is written.
+pub fn form_of(field: Field) -> Form
+    ensures { result ≡ form_of field }
+{
+    match field {
+        Field::Short => number(0, ID_MOST),
+        Field::Made => number(1, ID_MOST),
+        Field::Level => number(0, 2_147_483_647),
+        Field::Small => number(0, 4_294_967_295),
+        Field::Large => number(0, u64::MAX),
+        Field::Time => number(0, 9_223_372_036_854_775_807),
+        Field::Routine => lettered(b'r', 1, ID_MOST),
+        Field::Context => lettered(b'x', 0, u64::MAX),
+        Field::Cleanup => lettered(b'y', 0, u64::MAX),
+        Field::Origin => lettered(b'o', 0, ID_MOST),
+        Field::Pool => lettered(b'p', 0, ID_MOST),
+        Field::Group => lettered(b'g', 0, ID_MOST),
+        Field::Cancel => lettered(b'q', 0, ID_MOST),
+        Field::NoCancel => lettered(b'q', 0, 0),
+        _ => Form::Choice,
+    }
+}
+
+fn number(least: u64, most: u64) -> Form
+    ensures { result ≡ Form.Number least most }
+{
+    Form::Number { least, most }
+}
+
+fn lettered(letter: u8, least: u64, most: u64) -> Form
+    ensures { result ≡ Form.Lettered letter least most }
+{
+    Form::Lettered {
+        letter,
+        least,
+        most,
+    }
+}
+
+/// The part of a field of numbers.
+pub fn number_part(field: Field, number: u64) -> Part
+    requires { number ≤ most_of (form_of field) }
+    ensures { result ≡ number_part field number }
+{
+    match field {
+        Field::Short => Part::Short(number as u32),
+        Field::Made => Part::Made(number as u32),
+        Field::Level => Part::Level(number as u32),
+        Field::Small => Part::Small(number as u32),
+        Field::Time => Part::Time(number),
+        Field::Routine => Part::Routine(number as u32),
+        Field::Context => Part::Context(number),
+        Field::Cleanup => Part::Cleanup(number),
+        Field::Origin => Part::Origin(number as u32),
+        Field::Pool => Part::Pool(number as u32),
+        Field::Group => Part::Group(number as u32),
+        Field::Cancel => Part::Cancel(number as u32),
+        Field::NoCancel => Part::Cancel(number as u32),
+        _ => Part::Large(number),
+    }
+}
+
+/// The fields behind a part, where `left` are left: a word that brings fields puts them in place of those,
+/// and without a group there is no cancel routine.
+pub fn after(part: Part, left: &'static [Field]) -> &'static [Field]
+    ensures { result.now ≡ after part left.now }
+{
+    match part {
+        Part::Word(word) => instead_of(fields_of(word), left),
+        Part::Group(0) => &[Field::NoCancel],
+        _ => left,
+    }
+}
+
+fn instead_of(own: &'static [Field], left: &'static [Field]) -> &'static [Field]
+    ensures { result.now ≡ instead_of own.now left.now }
+{
+    if own.is_empty() { left } else { own }
+}
+
+// Of the words of a field, the one that goes furthest along with the text.
+fn furthest_word(field: Field, text: &[u8]) -> Result<(Word, usize), usize>
+    requires { form_of field ≡ Form.Choice }
+    ensures { IsRead (ChoiceTexts field) text.now result }
+{
+    let words = WORDS.words;
+    furthest_among(field, &words, text)
+}
+
+fn furthest_among(field: Field, words: &[Word], text: &[u8]) -> Result<(Word, usize), usize>
+    ensures { IsRead (Met field (default_word field) words.now) text.now result }
+{
+    let first = default_word(field);
+    let mut best = read_bytes(first, word_text(first), text);
+    for index in 0..words.len() {
+        best = with_word(field, words[index], text, best);
+    }
+    best
+}
+
+// Whether the word stands in the field.
+fn stands_in(word: Word, field: Field) -> bool
+    ensures { IsTrue result ↔ (table_of word ≡ field) }
+{
+    table_of(word) == field
+}
+
+// Of the best so far and the word, if it stands in the field, what goes further along with the text.
+fn with_word(
+    field: Field,
+    word: Word,
+    text: &[u8],
+    best: Result<(Word, usize), usize>,
+) -> Result<(Word, usize), usize>
+    ensures { (words : List Word) → IsRead (Met field (default_word field) words) text.now best →
+        IsRead (Met field (default_word field) (words ++ word ∷ [])) text.now result }
+{
+    if stands_in(word, field) {
+        further(best, read_bytes(word, word_text(word), text))
+    } else {
+        best
+    }
+}
+
+// A word of the field, where it has words.
+fn default_word(field: Field) -> Word
+    ensures { result ≡ default_word field }
+{
+    match field {
+        Field::Answer => Word::Done,
+        Field::Look => Word::Full,
+        Field::Result => Word::Plain,
+        Field::Refusal => Word::NoSuch,
+        Field::State => Word::Stay,
+        Field::Target => Word::Kernel,
+        Field::Kind => Word::Kind(Kind::Work),
+        Field::Unbuilt => Word::Kind(Kind::Timer),
+        Field::Priority => Word::Priority(Priority::Normal),
+        Field::Length => Word::Length(false),
+        Field::Flag => Word::YesNo(false),
+        Field::Slot => Word::Slot(SlotWord::Unasked),
+        Field::Action => Word::Action(ActionKind::Event),
+        _ => Word::Take,
+    }
+}
+
+// Reads a word of the field.
+fn read_choice(field: Field, text: &[u8]) -> Result<(Word, usize), usize>
+    requires { form_of field ≡ Form.Choice }
+    ensures { IsRead (ChoiceTexts field) text.now result }
+{
+    let size = word_size(text);
+    let (word, _) = text.split_at(size);
+    match find_word(field, word) {
+        Some(found) => Ok((found, size)),
+        None => furthest_word(field, text),
+    }
+}
+
+/// Reads what stands in a field.
+fn read_body(field: Field, text: &[u8]) -> Result<(Part, usize), usize>
+    ensures { IsRead (BodyTexts field) text.now result }
+{
+    match form_of(field) {
+        Form::Number { least, most } => match read_number(text, least, most) {
+            Ok((number, size)) => Ok((number_part(field, number), size)),
+            Err(place) => Err(place),
+        },
+        Form::Lettered {
+            letter,
+            least,
+            most,
+        } => match read_prefixed(letter, text, least, most) {
+            Ok((number, size)) => Ok((number_part(field, number), size)),
+            Err(place) => Err(place),
+        },
+        Form::Choice => match read_choice(field, text) {
+            Ok((word, size)) => Ok((Part::Word(word), size)),
+            Err(place) => Err(place),
+        },
+    }
+}
+
+/// Reads what stands in a field, and the space before it.
+pub fn read_part(field: Field, text: &[u8]) -> Result<(Part, usize), usize>
+    ensures { IsRead (PartTexts field) text.now result }
+{
+    let Some(rest) = behind(b' ', text) else {
+        return Err(0);
+    };
+    match read_body(field, rest) {
+        Ok((part, size)) => Ok((part, size + 1)),
+        Err(place) => Err(place + 1),
+    }
+}

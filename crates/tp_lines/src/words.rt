@@ -1,0 +1,413 @@
+//! The words of lines: their texts, and the fields behind them.
+
+ghost use Rattle.std.specs.Prelude.{◌≡◌, IfSome};
+ghost use Rattle.tp_lines.specs.Shapes.{fields_of, table_of, text_of_word};
+
+use tp_base::answers::{ActionKind, SlotWord};
+use tp_base::calls::{Kind, Priority};
+
+/// What one field of a line holds, by the signs of the grammar.
+#[derive(Clone, Copy, PartialEq)]
+pub enum Field {
+    /// A number from 0 to 65,535: of a pool, a group, an object or a kernel object, or how many there are.
+    Short,
+    /// The number of what was made, from 1 to 65,535.
+    Made,
+    /// The count of a semaphore, from 0 to 2,147,483,647.
+    Level,
+    /// A number of 32 bits.
+    Small,
+    /// A number of 64 bits, as of a callback.
+    Large,
+    /// A time of the clock, from 0 to 9,223,372,036,854,775,807.
+    Time,
+    /// `r` and the number of a routine, from 1 to 65,535.
+    Routine,
+    /// `x` and a number of 64 bits.
+    Context,
+    /// `y` and a number of 64 bits.
+    Cleanup,
+    /// `o` and the number of an object.
+    Origin,
+    /// `p` and the number of a pool.
+    Pool,
+    /// `g` and the number of a group, 0 for none.
+    Group,
+    /// `q` and the number of a cancel routine, 0 for none.
+    Cancel,
+    /// `q0`: without a group there is no cancel routine.
+    NoCancel,
+    /// The word of a call, of an answer, of a look or full, and the fields that it brings.
+    Call,
+    Answer,
+    Look,
+    /// With what a callback is called, and its fields.
+    Result,
+    /// Why a call was refused, and its fields.
+    Refusal,
+    /// What is looked at, and its fields.
+    State,
+    /// What is waited for, and its field.
+    Target,
+    /// A kind of objects that is built.
+    Kind,
+    /// A kind of objects that isn't built yet. No line has it.
+    Unbuilt,
+    Priority,
+    /// Whether callbacks may run long.
+    Length,
+    /// `yes` or `no`.
+    Flag,
+    /// What became of an action on return.
+    Slot,
+    /// A kind of action on return.
+    Action,
+}
+
+/// A word of a line.
+#[derive(Clone, Copy)]
+pub enum Word {
+    CreatePool,
+    ClosePool,
+    SetMaximum,
+    SetMinimum,
+    Create,
+    Submit,
+    Attach,
+    Detach,
+    Take,
+    Return,
+    MayRunLong,
+    Finish,
+    Done,
+    Made,
+    Queued,
+    Was,
+    Flag,
+    Freed,
+    Later,
+    Closing,
+    Begun,
+    Ended,
+    Exhausted,
+    Stalled,
+    Notice,
+    Started,
+    Operation,
+    Cancelled,
+    Count,
+    Advanced,
+    Attached,
+    Taken,
+    Returned,
+    Refused,
+    Plain,
+    Object,
+    Timeout,
+    Io,
+    NoSuch,
+    WrongKind,
+    Released,
+    PoolClosed,
+    GroupClosed,
+    DefaultPool,
+    NotWorker,
+    NotRunning,
+    StillRunning,
+    InWait,
+    NoWaitBegun,
+    OwnCallback,
+    HasMembers,
+    NotStarted,
+    NoOperation,
+    OperationsOutstanding,
+    SlotTaken,
+    NotOwner,
+    OverMaximum,
+    NotWaitable,
+    ClockEnd,
+    ObjectLimit,
+    CallbackLimit,
+    NotAttached,
+    AlreadyAttached,
+    Look,
+    Full,
+    NotYet,
+    Empty,
+    AtMaximum,
+    NoNeed,
+    Stay,
+    Callback,
+    Kernel,
+    Kind(Kind),
+    Priority(Priority),
+    Length(bool),
+    YesNo(bool),
+    Slot(SlotWord),
+    Action(ActionKind),
+}
+
+// All words by the field in which each stands: the word, its text, and the fields behind it.
+macro_rules! words {
+    ($then:ident, $($given:tt)+) => {
+        $then! {
+            $($given)+;
+            Call {
+                (Word::CreatePool) b"create-pool" [];
+                (Word::ClosePool) b"close-pool" [Short];
+                (Word::SetMaximum) b"set-maximum" [Short Small];
+                (Word::SetMinimum) b"set-minimum" [Short Small];
+                (Word::Create) b"create" [Kind Routine Context Pool Priority Length Group Cancel];
+                (Word::Submit) b"submit" [Short];
+                (Word::Attach) b"attach" [];
+                (Word::Detach) b"detach" [];
+                (Word::Take) b"take" [];
+                (Word::Return) b"return" [];
+                (Word::MayRunLong) b"may-run-long" [];
+                (Word::Finish) b"finish" [];
+            }
+            Answer {
+                (Word::Done) b"ok" [];
+                (Word::Made) b"made" [Made];
+                (Word::Queued) b"queued" [Large Short];
+                (Word::Was) b"was" [Flag Large Short];
+                (Word::Flag) b"flag" [Flag];
+                (Word::Freed) b"freed" [];
+                (Word::Later) b"later" [];
+                (Word::Closing) b"closing" [Short Short Short];
+                (Word::Begun) b"begun" [Short Short];
+                (Word::Ended) b"ended" [];
+                (Word::Exhausted) b"exhausted" [];
+                (Word::Stalled) b"stalled" [];
+                (Word::Notice) b"notice" [Origin Routine Context Cleanup];
+                (Word::Started) b"started" [Large];
+                (Word::Operation) b"operation" [Large];
+                (Word::Cancelled) b"cancelled" [Large];
+                (Word::Count) b"count" [Level Large Short];
+                (Word::Advanced) b"advanced" [Time Large Short];
+                (Word::Attached) b"attached" [Short];
+                (Word::Taken) b"taken" [Large Origin Routine Context Result];
+                (Word::Returned) b"returned" [Slot Slot Slot Slot Large Short];
+                (Word::Refused) b"refused" [Refusal];
+            }
+            Result {
+                (Word::Plain) b"plain" [];
+                (Word::Object) b"object" [];
+                (Word::Timeout) b"timeout" [];
+                (Word::Io) b"io" [Small Large];
+            }
+            Refusal {
+                (Word::NoSuch) b"no-such" [];
+                (Word::WrongKind) b"wrong-kind" [];
+                (Word::Released) b"released" [];
+                (Word::PoolClosed) b"pool-closed" [];
+                (Word::GroupClosed) b"group-closed" [];
+                (Word::DefaultPool) b"default-pool" [];
+                (Word::NotWorker) b"not-worker" [];
+                (Word::NotRunning) b"not-running" [];
+                (Word::StillRunning) b"still-running" [];
+                (Word::InWait) b"in-wait" [];
+                (Word::NoWaitBegun) b"no-wait-begun" [];
+                (Word::OwnCallback) b"own-callback" [];
+                (Word::HasMembers) b"has-members" [Short];
+                (Word::NotStarted) b"not-started" [];
+                (Word::NoOperation) b"no-operation" [];
+                (Word::OperationsOutstanding) b"operations-outstanding" [Short];
+                (Word::SlotTaken) b"slot-taken" [Action];
+                (Word::NotOwner) b"not-owner" [];
+                (Word::OverMaximum) b"over-maximum" [Level];
+                (Word::NotWaitable) b"not-waitable" [];
+                (Word::ClockEnd) b"clock-end" [];
+                (Word::ObjectLimit) b"object-limit" [];
+                (Word::CallbackLimit) b"callback-limit" [];
+                (Word::NotAttached) b"not-attached" [];
+                (Word::AlreadyAttached) b"already-attached" [];
+            }
+            Look {
+                (Word::Look) b"look" [State];
+                (Word::Full) b"full" [Large Large];
+            }
+            State {
+                (Word::NotYet) b"not-yet" [Target];
+                (Word::Empty) b"empty" [];
+                (Word::AtMaximum) b"at-maximum" [Short];
+                (Word::NoNeed) b"no-need" [];
+                (Word::Stay) b"stay" [];
+            }
+            Target {
+                (Word::Callback) b"callback" [Large];
+                (Word::Kernel) b"kernel" [Short];
+            }
+            Kind {
+                (Word::Kind(Kind::Work)) b"work" [];
+            }
+            Unbuilt {
+                (Word::Kind(Kind::Timer)) b"timer" [];
+                (Word::Kind(Kind::Wait)) b"wait" [];
+                (Word::Kind(Kind::Io)) b"io" [];
+            }
+            Priority {
+                (Word::Priority(Priority::High)) b"high" [];
+                (Word::Priority(Priority::Normal)) b"normal" [];
+                (Word::Priority(Priority::Low)) b"low" [];
+            }
+            Length {
+                (Word::Length(true)) b"long" [];
+                (Word::Length(false)) b"short" [];
+            }
+            Flag {
+                (Word::YesNo(true)) b"yes" [];
+                (Word::YesNo(false)) b"no" [];
+            }
+            Slot {
+                (Word::Slot(SlotWord::Unasked)) b"-" [];
+                (Word::Slot(SlotWord::Performed)) b"done" [];
+                (Word::Slot(SlotWord::NotOwner)) b"not-owner" [];
+                (Word::Slot(SlotWord::OverMaximum)) b"over-maximum" [];
+            }
+            Action {
+                (Word::Action(ActionKind::Section)) b"section" [];
+                (Word::Action(ActionKind::Mutex)) b"mutex" [];
+                (Word::Action(ActionKind::Semaphore)) b"semaphore" [];
+                (Word::Action(ActionKind::Event)) b"event" [];
+            }
+        }
+    };
+}
+
+macro_rules! text_by_word {
+    ($given:expr; $($table:ident { $(($($word:tt)+) $text:literal [$($field:ident)*];)+ })+) => {
+        match $given { $($($($word)+ => $text,)+)+ }
+    };
+}
+
+macro_rules! table_by_word {
+    ($given:expr; $($table:ident { $(($($word:tt)+) $text:literal [$($field:ident)*];)+ })+) => {
+        match $given { $($($($word)+ => Field::$table,)+)+ }
+    };
+}
+
+macro_rules! fields_by_word {
+    ($given:expr; $($table:ident { $(($($word:tt)+) $text:literal [$($field:ident)*];)+ })+) => {
+        match $given { $($($($word)+ => &[$(Field::$field),*],)+)+ }
+    };
+}
+
+// The word with a text among those of one table.
+macro_rules! word_by_text {
+    (Call $given:expr; Call { $($words:tt)+ } $($others:tt)*) => { among!($given; $($words)+) };
+    (Answer $given:expr; Answer { $($words:tt)+ } $($others:tt)*) => { among!($given; $($words)+) };
+    (Result $given:expr; Result { $($words:tt)+ } $($others:tt)*) => { among!($given; $($words)+) };
+    (Refusal $given:expr; Refusal { $(($($word:tt)+) $text:literal [$($field:ident)*];)+ } $($others:tt)*) => {
+        &[$($($word)+),+]
+    };
+    (Kind $given:expr; Kind { $($words:tt)+ } $($others:tt)*) => { among!($given; $($words)+) };
+    (Priority $given:expr; Priority { $($words:tt)+ } $($others:tt)*) => { among!($given; $($words)+) };
+    (Length $given:expr; Length { $($words:tt)+ } $($others:tt)*) => { among!($given; $($words)+) };
+    (Flag $given:expr; Flag { $($words:tt)+ } $($others:tt)*) => { among!($given; $($words)+) };
+    (Slot $given:expr; Slot { $($words:tt)+ } $($others:tt)*) => { among!($given; $($words)+) };
+    (Action $given:expr; Action { $($words:tt)+ } $($others:tt)*) => { among!($given; $($words)+) };
+    ($wanted:ident $given:expr; $table:ident { $($words:tt)+ } $($others:tt)*) => {
+        word_by_text!($wanted $given; $($others)*)
+    };
+}
+
+macro_rules! among {
+    ($given:expr; $(($($word:tt)+) $text:literal [$($field:ident)*];)+) => {
+        match $given { $($text => Some($($word)+),)+ _ => None }
+    };
+}
+
+macro_rules! all_words {
+    ($given:expr; $($table:ident { $(($($word:tt)+) $text:literal [$($field:ident)*];)+ })+) => {
+        [$($($($word)+,)+)+]
+    };
+}
+
+/// All words.
+#[derive(Clone, Copy)]
+pub struct WordList {
+    pub words: [Word; 91],
+}
+
+pub const WORDS: WordList = WordList {
+    words: words!(all_words, ()),
+};
+
+/// The text of a word.
+pub fn word_text(word: Word) -> &'static [u8]
+    ensures { result.now ≡ text_of_word word }
+{
+    words!(text_by_word, word)
+}
+
+/// The field in which a word stands.
+pub fn table_of(word: Word) -> Field
+    ensures { result ≡ table_of word }
+{
+    words!(table_by_word, word)
+}
+
+/// The fields behind a word.
+pub fn fields_of(word: Word) -> &'static [Field]
+    ensures { result.now ≡ fields_of word }
+{
+    words!(fields_by_word, word)
+}
+
+// A word that may be the one of the table with this text.
+fn guess_word(table: Field, text: &[u8]) -> Option<Word> {
+    match table {
+        Field::Call => guess_call(text),
+        Field::Answer => guess_answer(text),
+        Field::Refusal => guess_refusal(text),
+        _ => guess_choice(table, text),
+    }
+}
+
+fn guess_call(text: &[u8]) -> Option<Word> {
+    words!(word_by_text, Call text)
+}
+
+fn guess_answer(text: &[u8]) -> Option<Word> {
+    words!(word_by_text, Answer text)
+}
+
+// Refusals are rare, and their words long.
+fn guess_refusal(text: &[u8]) -> Option<Word> {
+    for word in refusal_words() {
+        if word_text(*word) == text {
+            return Some(*word);
+        }
+    }
+    None
+}
+
+fn refusal_words() -> &'static [Word] {
+    words!(word_by_text, Refusal())
+}
+
+fn guess_choice(table: Field, text: &[u8]) -> Option<Word> {
+    match table {
+        Field::Result => words!(word_by_text, Result text),
+        Field::Kind => words!(word_by_text, Kind text),
+        Field::Priority => words!(word_by_text, Priority text),
+        Field::Length => words!(word_by_text, Length text),
+        Field::Flag => words!(word_by_text, Flag text),
+        Field::Slot => words!(word_by_text, Slot text),
+        Field::Action => words!(word_by_text, Action text),
+        _ => None,
+    }
+}
+
+/// The word of the table that has this text.
+pub fn find_word(table: Field, text: &[u8]) -> Option<Word>
+    ensures { IfSome result (λ word. (table_of word ≡ table) × (text.now ≡ text_of_word word)) }
+{
+    let word = guess_word(table, text)?;
+    if table_of(word) == table && word_text(word) == text {
+        Some(word)
+    } else {
+        None
+    }
+}
