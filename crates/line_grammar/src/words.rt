@@ -86,9 +86,9 @@ pub fn word_size(text: &[u8]) -> usize
     ensures within { result ≤ length text.now }
     ensures ended { EndsWord (drop result text.now) }
 {
-    for (index, byte) in text.iter().enumerate() {
+    for (place, byte) in text.iter().enumerate() {
         if *byte < b'-' {
-            return index;
+            return place;
         }
     }
     text.len()

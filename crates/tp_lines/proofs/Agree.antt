@@ -51,17 +51,28 @@ cancel_fit false group routine e most none = (number_held field.Cancel 0 65535 r
 environ_fit : (env : Environ) → IsEnvironInRange env → AreFit environ_fields (environ_parts env)
 environ_fit env h = (
   number_held field.Pool 0 65535 env.pool.0 refl (omega arith) h.pool_most,
-  (word_part field.Priority (word.Priority env.priority) refl, (word_part field.Length (word.Length env.long) refl,
-    (number_held field.Group 0 65535 env.group.0 refl (omega arith) h.group_most,
-      cancel_fit (nat_eq env.group.0 0) env.group.0 env.cancel.0 refl h.cancel_most h.cancel_with_group))),
+  (
+    word_part field.Priority (word.Priority env.priority) refl,
+    (
+      word_part field.Length (word.Length env.long) refl,
+      (
+        number_held field.Group 0 65535 env.group.0 refl (omega arith) h.group_most,
+        cancel_fit (nat_eq env.group.0 0) env.group.0 env.cancel.0 refl h.cancel_most h.cancel_with_group,
+      ),
+    ),
+  ),
 )
 
 pub range_fits : (c : Call) → IsCallInRange c → IsReadable c → FitsCall c
 range_fits (call.Create sort routine context env) h k = (
   word_part field.Call word.Create refl,
-  (subst (λ x. IsWordPart field.Kind (part.Word (word.Kind x))) (sym k.0) (word_part field.Kind (word.Kind kind.Work) refl),
-    (number_held field.Routine 1 65535 routine.0 refl h.0.least h.0.most,
-      (number_held field.Context 0 18446744073709551615 context refl (omega arith) (omega (arith, k.1)), environ_fit env h.1))),
+  (
+    subst (λ x. IsWordPart field.Kind (part.Word (word.Kind x))) (sym k.0) (word_part field.Kind (word.Kind kind.Work) refl),
+    (
+      number_held field.Routine 1 65535 routine.0 refl h.0.least h.0.most,
+      (number_held field.Context 0 18446744073709551615 context refl (omega arith) (omega (arith, k.1)), environ_fit env h.1),
+    ),
+  ),
 )
 range_fits call.CreatePool h k = search (rules, word_part, number_held)
 range_fits _ h k = search (rules, word_part, number_held)

@@ -16,6 +16,8 @@
 
 mod answers;
 pub mod calls;
+#[cfg(test)]
+mod columns;
 pub mod entries;
 pub mod good;
 mod line;
