@@ -15,12 +15,13 @@ use Rattle.tp_base.specs.declared.calls.Call.{Call}
 use Rattle.tp_base.specs.declared.ids.Who.{Who}
 use Rattle.tp_base.specs.declared.ids.Who.TheVariants.{Client, Worker}
 use Rattle.tp_lines.specs.Answers.{EntryLines, IsEntryLine, text_of_answer}
-use Rattle.tp_lines.specs.Calls.{CallLines, line_of_call}
+use Rattle.tp_lines.specs.Calls.{CallLines, line_of_call, row_of}
+use Rattle.tp_lines.specs.Parts.{row_text}
 use Rattle.tp_lines.specs.Words.{text_of_who}
 use Rattle.tp_lines.proofs.Bounds.{line_short, stuck_short}
 use Rattle.tp_lines.proofs.EntryFacts.{entries_part, entry_short}
 use Rattle.tp_lines.proofs.Feeds.{line_feedless}
-use Rattle.tp_lines.proofs.WhoFacts.{line_back, lines_part}
+use Rattle.tp_lines.proofs.WhoFacts.{lines_part}
 use Rattle.tp_report.specs.declared.headers.Header.{Header}
 use Rattle.tp_report.specs.Histories.{HeaderLines, NextLines, end_line}
 use Rattle.tp_report.specs.Readings.{Ended, Ends}
@@ -53,12 +54,9 @@ pub entry_apart : (entry : Entry) (line more rest : List ℕ) → IsEntryLine en
 entry_apart entry line more rest h e =
     let arrow = codes " -> " in
     let answer = text_of_answer entry.answer in
-    let call = line_back entry.who entry.call (line_of_call entry.who entry.call) (record { who_in_range = h.who_in_range; call_in_range = h.call_in_range; split = refl }) in
-    let start : line_of_call entry.who entry.call ≡ text_of_who entry.who ++ call.back = call.split ∙ ap (λ l. l ++ call.back) call.first.split in
     let behind = (arrow ++ answer) ++ more in
-    letter_apart entry.who call.back behind rest
-    (ap (λ l. l ++ behind) (sym start)
-    ∙ sym (ap (λ l. l ++ more) (h.split ∙ append_assoc (line_of_call entry.who entry.call) arrow answer) ∙ append_assoc (line_of_call entry.who entry.call) (arrow ++ answer) more)
+    letter_apart entry.who (32 ∷ row_text (row_of entry.call)) behind rest
+    (sym (ap (λ l. l ++ more) (h.split ∙ append_assoc (line_of_call entry.who entry.call) arrow answer) ∙ append_assoc (line_of_call entry.who entry.call) (arrow ++ answer) more)
     ∙ e)
 
 -- the lines behind a header and entries
