@@ -1,11 +1,11 @@
 -- The first fault of many lines, from that of one.
-use Rattle.std.proofs.Common.{◌≡◌, ℕ, ◌+◌, List, [], ◌∷◌, ◌++◌, length, take, drop, refl, sym, ap, ◌∙◌, subst, ◌⊎◌, inl, inr, IsTrue}
+use Rattle.std.proofs.Common.{◌≡◌, ℕ, ◌+◌, ◌≤◌, List, [], ◌∷◌, ◌++◌, length, take, drop, refl, sym, ap, ◌∙◌, subst, ◌⊎◌, inl, inr, IsTrue, arith, length-drop}
 use Rattle.std.specs.Prelude.{All}
-use Rattle.std.proofs.lemmas.List.{append-nil, append_assoc, take-append-drop, length-take-le}
+use Rattle.std.proofs.lemmas.List.{append-nil, append_assoc, take-append-drop, length-take-le, drop-drop}
 use Rattle.std.proofs.lemmas.List.Elements.{All-head, All-tail}
 use Rattle.line_grammar.specs.Language.{Begins, Stops, Reaches, IsFault}
 use Rattle.line_grammar.specs.Parts.{Opens}
-use Rattle.line_grammar.specs.Traces.{EndedLine, trace_text, IsTrace, IsTraceFault}
+use Rattle.line_grammar.specs.Traces.{EndedLine, trace_text, IsAhead, IsTrace, IsTraceFault}
 use Rattle.line_grammar.specs.Words.{lacks}
 use Rattle.line_grammar.proofs.Cuts.{Cut, cut, further, nearer, same}
 use Rattle.line_grammar.proofs.Pairs.{along_itself, one_then, stopped}
@@ -166,3 +166,16 @@ module _ (L : List ℕ → Type 0) (feedless : (line : List ℕ) → L line → 
   pub fault_is_no_trace : (bytes : List ℕ) (line column : ℕ) → IsTraceFault L bytes line column → (lines : List (List ℕ)) → IsTrace L bytes lines → ⊥
   fault_is_no_trace bytes line column fault lines trace =
       no_trace fault.front fault.back fault.left fault.open_line fault.reaches fault.lines lines fault.each trace.each (sym fault.split ∙ trace.split)
+
+-- what was read, and the line feed behind it
+pub read_ahead : {V : Type 0} (W : V → List ℕ → Type 0) (bytes : List ℕ) (value : V) (n : ℕ) (rest : List ℕ) → n ≤ length bytes → W value (take n bytes)
+    → drop n bytes ≡ 10 ∷ rest → IsAhead W bytes value (n + 1)
+read_ahead W bytes value n rest within w e =
+    let behind : drop 1 (drop n bytes) ≡ rest = ap (λ l. drop 1 l) e in
+    record {
+      line = take n bytes;
+      is_line = w;
+      split = sym (take-append-drop n bytes) ∙ ap (λ l. take n bytes ++ l) (e ∙ ap (λ l. 10 ∷ l) (sym behind ∙ drop-drop 1 n bytes));
+      size_of = ap (λ m. m + 1) (sym (length-take-le n bytes within));
+      within = omega (arith, ap length e, length-drop n bytes);
+    }

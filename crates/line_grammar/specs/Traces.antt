@@ -1,7 +1,7 @@
 -- Texts of many lines, each ended by a line feed, and the place of the first fault in one.
 --
 -- The lines are those of any language in whose texts no line feed stands.
-use Rattle.std.specs.Prelude.{◌≡◌, ◌≢◌, ℕ, ◌+◌, List, [], ◌∷◌, ◌++◌, length, All}
+use Rattle.std.specs.Prelude.{◌≡◌, ◌≢◌, ℕ, ◌+◌, ◌≤◌, List, [], ◌∷◌, ◌++◌, length, drop, All}
 use Rattle.line_grammar.specs.Language.{Reaches}
 
 -- a line and its line feed
@@ -33,3 +33,11 @@ pub record IsTraceFault (L : List ℕ → Type 0) (bytes : List ℕ) (line colum
   pub reaches : Reaches (EndedLine L) front back
   pub line_of : line ≡ length lines + 1
   pub column_of : column ≡ length front + 1
+
+-- at the front of the bytes stands a line of the value, of `size` bytes with its line feed
+pub record IsAhead {V : Type 0} (W : V → List ℕ → Type 0) (bytes : List ℕ) (value : V) (size : ℕ) : Type 0 where
+  pub line : List ℕ
+  pub is_line : W value line
+  pub split : bytes ≡ line ++ 10 ∷ drop size bytes
+  pub size_of : size ≡ length line + 1
+  pub within : size ≤ length bytes

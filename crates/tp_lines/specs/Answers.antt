@@ -5,6 +5,8 @@ use Rattle.tp_base.specs.declared.answers.Answer.TheVariants as answer
 use Rattle.tp_base.specs.declared.answers.Entry.{Entry}
 use Rattle.tp_base.specs.declared.answers.Look.{Look}
 use Rattle.tp_base.specs.declared.answers.Look.TheVariants as look
+use Rattle.tp_base.specs.declared.answers.Outcome.{Outcome}
+use Rattle.tp_base.specs.declared.answers.Outcome.TheVariants as outcome
 use Rattle.tp_base.specs.declared.answers.Refusal.{Refusal}
 use Rattle.tp_base.specs.declared.answers.Refusal.TheVariants as refusal
 use Rattle.tp_base.specs.declared.answers.TakeResult.{TakeResult}
@@ -86,6 +88,11 @@ text_of_look look = joined (codes "look" ∷ words_of_look look)
 
 abbrev pub text_of_full : ℕ → ℕ → List ℕ
 text_of_full room cost = joined (codes "full" ∷ decimal room ∷ decimal cost ∷ [])
+
+abbrev pub text_of_outcome : Outcome → List ℕ
+text_of_outcome (outcome.Done answer) = text_of_answer answer
+text_of_outcome (outcome.Look look) = text_of_look look
+text_of_outcome (outcome.Full room cost) = text_of_full room cost
 
 -- the line of an entry, without its line feed
 abbrev pub line_of_entry : Entry → List ℕ

@@ -20,9 +20,10 @@
 #![tactic(auto)]
 
 mod answers;
-mod calls;
+pub mod calls;
 pub mod entries;
 mod fields;
+pub mod good;
 pub mod parse;
 pub mod print;
 mod rows;

@@ -5,8 +5,8 @@ ghost use Rattle.line_grammar.specs.Words.{lacks};
 ghost use Rattle.tp_base.specs.declared.answers.Entry.{Entry};
 ghost use Rattle.tp_base.specs.declared.calls.Call.{Call};
 ghost use Rattle.tp_base.specs.declared.ids.Who.{Who};
-ghost use Rattle.tp_lines.specs.Answers.{IsEntryLine};
-ghost use Rattle.tp_lines.specs.Calls.{IsCallLine};
+ghost use Rattle.tp_lines.specs.Answers.{EntryLines, IsEntryLine};
+ghost use Rattle.tp_lines.specs.Calls.{CallLines, IsCallLine};
 ghost use Rattle.tp_lines.specs.Faults.{IsAt, IsEntry, IsLine, IsLineFault};
 
 use crate::calls::read_call_line;
@@ -75,6 +75,16 @@ pub fn parse_entry(text: &[u8]) -> Result<Entry, LineFault>
 pub fn lines_hold_no_feed()
     ensures calls { (text : List ℕ) → IsLine text → IsTrue (lacks 10 text) }
     ensures entries { (text : List ℕ) → IsEntry text → IsTrue (lacks 10 text) }
+{}
+
+/// A text is the line of at most one call by one actor.
+pub fn one_call_a_line()
+    ensures { (one other : Who × Call) (text : List ℕ) → CallLines one text → CallLines other text → one ≡ other }
+{}
+
+/// A text is the line of at most one entry.
+pub fn one_entry_a_line()
+    ensures { (one other : Entry) (text : List ℕ) → EntryLines one text → EntryLines other text → one ≡ other }
 {}
 
 // The fault of a text that goes along with a line up to the place.

@@ -1,12 +1,12 @@
 //! Printing of entries, answers, looks and full.
 
 ghost use Rattle.std.specs.Prelude.{◌≡◌, ◌++◌, ◌∷◌, OnOk, OnErr, IfOk, string_bytes};
-ghost use Rattle.tp_lines.specs.Answers.{line_of_entry, text_of_answer, text_of_full, text_of_look, words_of_refusal, words_of_result};
+ghost use Rattle.tp_lines.specs.Answers.{line_of_entry, text_of_answer, text_of_full, text_of_look, text_of_outcome, words_of_refusal, words_of_result};
 ghost use Rattle.tp_lines.specs.Calls.{line_of_call, words_of_call, words_of_environ};
 ghost use Rattle.tp_lines.specs.Words.{joined, text_of_action, text_of_flag, text_of_kind, text_of_priority, text_of_slot, text_of_who};
 
 use std::alloc::{AllocError, Global};
-use tp_base::answers::{ActionKind, Answer, Entry, Look, Refusal, SlotWord, TakeResult};
+use tp_base::answers::{ActionKind, Answer, Entry, Look, Outcome, Refusal, SlotWord, TakeResult};
 use tp_base::calls::{Call, Environ, Kind, Priority};
 use tp_base::ids::Who;
 
@@ -292,13 +292,28 @@ fn priority_text(priority: Priority) -> &'static str
 }
 
 /// Appends the line of an entry, without its line feed. On want of memory nothing is appended.
-pub fn print_entry(alloc: Global, entry: &Entry, out: &mut Vec<u8>) -> Result<(), AllocError>
+pub fn print_entry(entry: &Entry, out: &mut Vec<u8>) -> Result<(), AllocError>
     ensures ok { OnOk result (out.new.items ≡ out.old.items ++ line_of_entry entry.now) }
     ensures err { OnErr result (out.new.items ≡ out.old.items) }
 {
+    let alloc = *out.allocator();
     let call = call_line(alloc, entry.who, &entry.call)?;
     let answer = answer_text(alloc, &entry.answer)?;
     let line = format!(in alloc; "{} -> {}", call.as_str(), answer.as_str())?;
     out.extend_from_slice(line.as_bytes())?;
     Ok(())
+}
+
+/// Appends the text of what a call came to: its answer, its look, or full. On want of memory nothing is
+/// appended.
+pub fn print_outcome(outcome: &Outcome, out: &mut Vec<u8>) -> Result<(), AllocError>
+    ensures ok { OnOk result (out.new.items ≡ out.old.items ++ text_of_outcome outcome.now) }
+    ensures err { OnErr result (out.new.items ≡ out.old.items) }
+{
+    let alloc = *out.allocator();
+    match outcome {
+        Outcome::Done(answer) => print_answer(alloc, answer, out),
+        Outcome::Look(look) => print_look(alloc, look, out),
+        Outcome::Full { room, cost } => print_full(alloc, *room, *cost, out),
+    }
 }

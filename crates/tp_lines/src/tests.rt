@@ -196,7 +196,7 @@ fn check_call(
         answer: Answer::Done,
     };
     let mut out = Vec::new(alloc);
-    print_entry(alloc, &entry, &mut out)?;
+    print_entry(&entry, &mut out)?;
     assert_eq!(rt; out.as_slice(), line.as_bytes(), "{text}");
     Ok(())
 }
@@ -451,7 +451,7 @@ fn check_entry(
         answer,
     };
     let mut out = Vec::new(alloc);
-    print_entry(alloc, &entry, &mut out)?;
+    print_entry(&entry, &mut out)?;
     assert_eq!(rt; out.as_slice(), text.as_bytes(), "{text}");
     assert_eq!(rt; parse_entry(text.as_bytes()), Ok(entry), "{text}");
     Ok(())

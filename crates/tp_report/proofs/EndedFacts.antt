@@ -1,9 +1,10 @@
 -- Lines with their line feeds.
 use Rattle.std.proofs.Common.{◌≡◌, ℕ, ◌+◌, List, [], ◌∷◌, ◌++◌, length, take, drop, refl, sym, ap, ◌∙◌, subst, arith}
-use Rattle.std.proofs.lemmas.List.{append_assoc, take-append-drop}
+use Rattle.std.proofs.lemmas.List.{append_assoc, length-append, take-append-drop}
+use Rattle.std.proofs.Math.Seq.{take-append_seam}
 use Rattle.line_grammar.specs.Language.{AnyOf, Begins, Stops, Reaches, IsReadTo, IsStuck}
 use Rattle.line_grammar.specs.Parts.{IsPair, Pairs, Opens, IsPart, IsTail}
-use Rattle.line_grammar.specs.Traces.{EndedLine}
+use Rattle.line_grammar.specs.Traces.{EndedLine, IsAhead}
 use Rattle.line_grammar.specs.Words.{Word}
 use Rattle.line_grammar.proofs.Cuts.{Cut, cut, further, nearer, same}
 use Rattle.line_grammar.proofs.Pairs.{pairs_read, pairs_stuck_first, pairs_stuck_second, one_then}
@@ -77,6 +78,30 @@ module _ {V : Type 0} (W : V → List ℕ → Type 0) (part : IsPart 10 W) where
       by_cut (same f g) =
           let rests : x ≡ y = cc in
           (part.unique v w a p (subst (λ l. W w l) (sym f) q), f, rests)
+
+  -- a line is the longest that the text begins with
+  pub ahead_read : (text : List ℕ) (v : V) (n : ℕ) → IsAhead W text v n → IsReadTo (Ended W) text v n
+  ahead_read text v n ahead =
+      let cut_is : take n text ≡ ahead.line ++ 10 ∷ [] = front ahead.line (drop n text) text n ahead.split ahead.size_of in
+      record {
+        within = ahead.within;
+        text_of = record { line = ahead.line; is_line = ahead.is_line; split = cut_is };
+        stops = subst (λ t. Stops (AnyOf (Ended W)) t (drop n text)) (sym cut_is) (stops (drop n text));
+      }
+    where
+      front : (line rest all : List ℕ) (i : ℕ) → all ≡ line ++ 10 ∷ rest → i ≡ length line + 1 → take i all ≡ line ++ 10 ∷ []
+      front line rest all i e f =
+          let whole : all ≡ (line ++ 10 ∷ []) ++ rest = e ∙ sym (append_assoc line (10 ∷ []) rest) in
+          let size : i ≡ length (line ++ 10 ∷ []) = omega (arith, f, length-append line (10 ∷ [])) in
+          rw (whole, size) (take-append_seam (line ++ 10 ∷ []) rest)
+
+      stops : (rest : List ℕ) → Stops (AnyOf (Ended W)) (ahead.line ++ 10 ∷ []) rest
+      stops [] = tt
+      stops (x ∷ rest) = λ (more, (w, e)).
+          let whole : e.line ++ 10 ∷ [] ≡ ahead.line ++ 10 ∷ (x ∷ more) =
+          sym e.split ∙ append_assoc (ahead.line ++ 10 ∷ []) (x ∷ []) more ∙ append_assoc ahead.line (10 ∷ []) (x ∷ more) in
+          let s = first_same w v e.line ahead.line [] (x ∷ more) e.is_line ahead.is_line whole in
+          let none : ⊥ = cc (s.2) in none
 
   -- what was read is the first line
   pub read_first : (text : List ℕ) (v : V) (n : ℕ) → IsReadTo (Ended W) text v n → (w : V) (line more : List ℕ) → W w line → text ≡ line ++ 10 ∷ more

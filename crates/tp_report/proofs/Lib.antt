@@ -4,8 +4,8 @@ pub mod EndedFacts
 pub mod Feeds
 pub mod FreeLines
 pub mod HeaderFacts
-pub mod Honest
 pub mod Judging
 pub mod Keys
 pub mod Places
 pub mod SoFar
+pub mod Traced

@@ -9,12 +9,20 @@ use Rattle.line_grammar.specs.Traces.{trace_text}
 use Rattle.tp_base.specs.declared.answers.Entry.{Entry}
 use Rattle.tp_lines.specs.Answers.{IsEntryLine, line_of_entry}
 use Rattle.tp_report.specs.declared.headers.Header.{Header}
-use Rattle.tp_report.specs.declared.history.CheckFault.{CheckFault}
-use Rattle.tp_report.specs.declared.history.CheckFault.TheVariants.{NoMemory, At}
-use Rattle.tp_report.specs.declared.history.History.{History}
+use Rattle.tp_report.specs.declared.faults.TextFault.{TextFault}
+use Rattle.tp_report.specs.declared.faults.TextFault.TheVariants.{NoMemory, At}
+use Rattle.tp_report.specs.declared.verdict.Verdict.{Verdict}
+use Rattle.tp_report.specs.declared.verdict.Verdict.TheVariants.{Legal, NotLegal}
+use Rattle.pool_book.specs.Recordings.{Recording}
 use Rattle.tp_report.specs.Histories.{HasHeaderLine, HasLine, HeaderLines, IsHistory, IsHistoryFault, NextLines, end_line, header_line}
-use Rattle.tp_report.specs.Readings.{Ended}
-use Rattle.tp_report.specs.Results.{AreEntries, AreRest, IsEntriesFault, IsHistoryOrNoMemory, IsPlaceBehind, IsPlaceIn, entries_text}
+use Rattle.tp_report.specs.Readings.{Ended, IsNext}
+use Rattle.tp_report.specs.declared.lines.Next.TheVariants.{Another, End, Fault}
+use Rattle.tp_base.specs.declared.limits.Limits.{Limits}
+use Rattle.tp_model.specs.Laws.{KeepsLaws}
+use Rattle.tp_model.proofs.Laws.{keeps_laws}
+use Rattle.tp_report.specs.Faults.{IsOrNoMemory, IsPlace}
+use Rattle.tp_report.specs.Judging.{AreEntries, AreRest, IsEntriesFault, IsJudgedTo, IsSameMachine, IsVerdictBehind, entries_text, len_told}
+use Rattle.tp_report.specs.Verdicts.{IfLegal, IsJudged, IsVerdict, limits_of}
 use Rattle.tp_report.proofs.EndedFacts.{read_first, stuck_first, reaches_line, absent_line}
 use Rattle.tp_report.proofs.Places.{header_part, next_part}
 
@@ -200,25 +208,29 @@ module _ (bytes : List ℕ) (header : Header) (size : ℕ) (read : IsReadTo (End
         column_of = f.column_of;
       }
 
-  -- the same of what the reader of the rest answered
+  -- the same of what was answered on the rest
   module _ (text : List ℕ) (behind : text ≡ drop size bytes) where
-    pub result_ok : (r : Result History CheckFault) → IfOk r (λ history. (history.header ≡ header) × AreEntries header.events text history.entries.items)
-        → IfOk r (λ history. IsHistory bytes history.header history.entries.items)
-    result_ok (Ok history) (e, a) = subst (λ h. IsHistory bytes h history.entries.items) (sym e) (history_read history.entries.items (subst (λ t. AreEntries header.events t history.entries.items) behind a))
+    pub result_ok : (r : Result Verdict TextFault) → IfOk r (λ verdict. IsVerdictBehind header text verdict) → IfOk r (λ verdict. IsJudged bytes verdict)
+    result_ok (Ok verdict) h = record {
+      header = header;
+      entries = h.entries;
+      is_history = history_read h.entries (subst (λ t. AreEntries header.events t h.entries) behind h.are_entries);
+      is_verdict = h.is_verdict;
+    }
     result_ok (Err fault) h = h
 
-    pub result_only : (r : Result History CheckFault) → ((entries : List Entry) → AreEntries header.events text entries → IsHistoryOrNoMemory r header entries)
-        → (other : Header) (entries : List Entry) → IsHistory bytes other entries → IsHistoryOrNoMemory r other entries
+    pub result_only : (r : Result Verdict TextFault) → ((entries : List Entry) → AreEntries header.events text entries → IsOrNoMemory (IsVerdict (limits_of header) header.events entries) r)
+        → (other : Header) (entries : List Entry) → IsHistory bytes other entries → IsOrNoMemory (IsVerdict (limits_of other) other.events entries) r
     result_only r h other entries history =
         let o = history_only other entries history in
-        subst (λ x. IsHistoryOrNoMemory r x entries) o.0 (h entries (subst (λ t. AreEntries header.events t entries) (sym behind) o.1))
+        subst (λ (x : Header). IsOrNoMemory (IsVerdict (limits_of x) x.events entries) r) o.0 (h entries (subst (λ t. AreEntries header.events t entries) (sym behind) o.1))
 
-    place_in : (fault : CheckFault) → IsPlaceBehind header.events text fault → IsPlaceIn bytes fault
+    place_in : (fault : TextFault) → IsPlace (IsEntriesFault header.events text) fault → IsPlace (IsHistoryFault bytes) fault
     place_in NoMemory h = tt
     place_in (At line column) h = history_fault line column (subst (λ t. IsEntriesFault header.events t line column) behind h)
 
-    pub result_err : (r : Result History CheckFault) → IfErr r (λ fault. IsPlaceBehind header.events text fault) → IfErr r (λ fault. IsPlaceIn bytes fault)
-    result_err (Ok history) h = h
+    pub result_err : (r : Result Verdict TextFault) → IfErr r (λ fault. IsPlace (IsEntriesFault header.events text) fault) → IfErr r (λ fault. IsPlace (IsHistoryFault bytes) fault)
+    result_err (Ok verdict) h = h
     result_err (Err fault) h = place_in fault h
 
 -- at the header
@@ -242,3 +254,69 @@ header_no bytes place stuck header entries h =
     let more = end_line (length entries) ++ 10 ∷ h.rest in
     stuck_first HeaderLines header_part bytes place stuck header (header_line header) (entries_text entries ++ more) h.has_header_line
     (h.split ∙ append_assoc (header_line header) (10 ∷ entries_text entries) more)
+
+-- what is called legal keeps the laws
+pub legal_keeps : (limits : Limits) (capacity : ℕ) (entries : List Entry) (r : Result Verdict TextFault) → IsOrNoMemory (IsVerdict limits capacity entries) r → IfLegal r (KeepsLaws limits entries)
+legal_keeps limits capacity entries (Ok (Legal len)) v = keeps_laws limits capacity entries v.0
+legal_keeps limits capacity entries (Ok (NotLegal position outcome)) v = tt
+legal_keeps limits capacity entries (Err fault) v = tt
+
+-- ---- read and judged
+
+pub record IsCheckedTo (header : Header) (text : List ℕ) (book : Recording) (verdict : Verdict) (len : ℕ) (rest : List ℕ) : Type 0 where
+  pub entries : List Entry
+  pub read : IsReadBehind header.events text entries rest
+  pub counts : len ≡ length entries
+  pub judged : IsJudgedTo book entries verdict
+  pub limits : book.limits ≡ limits_of header
+  pub capacity : book.capacity ≡ header.events
+
+pub checked_none : (header : Header) (text : List ℕ) (book : Recording) → book.limits ≡ limits_of header → book.capacity ≡ header.events → book.history ≡ [] → IsCheckedTo header text book (Legal 0) 0 text
+checked_none header text book limits capacity empty = record {
+  entries = [];
+  read = read_none header.events text;
+  counts = refl;
+  judged = record { written = empty; is_verdict = (tt, refl) };
+  limits = limits;
+  capacity = capacity;
+}
+
+pub told_len : (limits : Limits) (capacity : ℕ) (entries : List Entry) (verdict : Verdict) → IsVerdict limits capacity entries verdict → len_told verdict ≤ length entries
+told_len limits capacity entries (Legal len) v = omega (arith, v.1)
+told_len limits capacity entries (NotLegal position outcome) v = omega arith
+
+module _ (header : Header) (text : List ℕ) (book : Recording) (verdict : Verdict) (len : ℕ) (rest : List ℕ) (c : IsCheckedTo header text book verdict len rest) (most : header.events ≤ 131072) where
+  pub checked_few : (len ≤ 131072) × (len_told verdict ≤ 131072) × (len ≤ header.events)
+  checked_few = (omega (arith, c.counts, c.read.few), omega (arith, c.read.few, told_len book.limits book.capacity c.entries verdict c.judged.is_verdict), omega (arith, c.counts, c.read.few))
+
+  pub checked_next : (new : Recording) (next : Verdict) (entry : Entry) (size : ℕ) → IsNext header.events len rest (Another entry size)
+      → IsSameMachine book new → ((entries : List Entry) → IsJudgedTo book entries verdict → IsJudgedTo new (entries ++ entry ∷ []) next) → IsCheckedTo header text new next (len + 1) (drop size rest)
+  checked_next new next entry size is same judged = record {
+    entries = c.entries ++ entry ∷ [];
+    read = read_next header.events text c.entries rest c.read most entry size (subst (λ n. IsNext header.events n rest (Another entry size)) c.counts is);
+    counts = omega (arith, c.counts, length-append c.entries (entry ∷ []));
+    judged = judged c.entries c.judged;
+    limits = same.limits ∙ c.limits;
+    capacity = same.capacity ∙ c.capacity;
+  }
+
+  pub checked_verdict : IsVerdict (limits_of header) header.events c.entries verdict
+  checked_verdict = subst (λ n. IsVerdict (limits_of header) n c.entries verdict) c.capacity (subst (λ l. IsVerdict l book.capacity c.entries verdict) c.limits c.judged.is_verdict)
+
+  pub checked_all : IsNext header.events len rest End → IsVerdictBehind header text verdict
+  checked_all is =
+      let end = subst (λ n. IsNext header.events n rest End) c.counts is in
+      record { entries = c.entries; are_entries = read_all header.events text c.entries rest c.read most end.0 end.1; is_verdict = checked_verdict }
+
+  pub checked_only : IsNext header.events len rest End → (all : List Entry) → AreEntries header.events text all → IsVerdict (limits_of header) header.events all verdict
+  checked_only is all a =
+      let end = subst (λ n. IsNext header.events n rest End) c.counts is in
+      subst (λ es. IsVerdict (limits_of header) header.events es verdict) (read_only header.events text c.entries rest c.read most end.0 end.1 all a) checked_verdict
+
+  pub checked_no : (place : ℕ) → IsNext header.events len rest (Fault place) → (all : List Entry) → AreEntries header.events text all → ⊥
+  checked_no place is = read_no header.events text c.entries rest c.read most place (subst (λ n. IsNext header.events n rest (Fault place)) c.counts is)
+
+  pub checked_fault : (place : ℕ) → IsNext header.events len rest (Fault place) → IsEntriesFault header.events text (len + 1 + 1) (place + 1)
+  checked_fault place is =
+      read_fault header.events text c.entries rest c.read most place (len + 1 + 1) (place + 1) (subst (λ n. IsNext header.events n rest (Fault place)) c.counts is)
+      (omega (arith, c.counts)) refl

@@ -1,4 +1,7 @@
+pub mod Faults
 pub mod Histories
+pub mod Judging
+pub mod Playing
 pub mod Readings
-pub mod Results
+pub mod Traces
 pub mod Verdicts

@@ -1,23 +1,23 @@
 -- What is said of a history.
 use Rattle.std.specs.Prelude.{◌≡◌, ◌≢◌, ℕ, ◌+◌, List, [], ◌∷◌, ◌++◌, length, codes, decimal, Result, Ok, Err}
+use Rattle.pool_book.specs.ProgramLimits.{limits_with}
 use Rattle.tp_base.specs.declared.answers.Entry.{Entry}
 use Rattle.tp_base.specs.declared.answers.Outcome.{Outcome}
-use Rattle.tp_base.specs.declared.answers.Outcome.TheVariants.{Done, Look, Full}
+use Rattle.tp_base.specs.declared.answers.Outcome.TheVariants.{Done}
 use Rattle.tp_base.specs.declared.limits.Limits.{Limits}
-use Rattle.tp_lines.specs.Answers.{text_of_answer, text_of_full, text_of_look}
+use Rattle.tp_lines.specs.Answers.{text_of_outcome}
 use Rattle.tp_model.specs.History.{IsLegal, after, room}
 use Rattle.tp_model.specs.Step.{outcome_of}
 use Rattle.tp_model.specs.Table.{step}
 use Rattle.tp_report.specs.Histories.{IsHistory}
 use Rattle.tp_report.specs.declared.headers.Header.{Header}
-use Rattle.tp_report.specs.declared.history.CheckFault.{CheckFault}
-use Rattle.tp_report.specs.declared.history.CheckFault.TheVariants.{NoMemory, At}
+use Rattle.tp_report.specs.declared.faults.TextFault.{TextFault}
 use Rattle.tp_report.specs.declared.verdict.Verdict.{Verdict}
 use Rattle.tp_report.specs.declared.verdict.Verdict.TheVariants.{Legal, NotLegal}
 
 -- the machine whose history this is
 abbrev pub limits_of : Header → Limits
-limits_of header = record { clients = header.clients; workers = header.workers; pools = 64; groups = 255; objects = 4095; kernels = 1024; slots = 8192 }
+limits_of header = limits_with header.clients header.workers
 
 -- what the call of an entry comes to behind these entries
 abbrev pub outcome_behind : Limits → ℕ → List Entry → Entry → Outcome
@@ -46,23 +46,11 @@ pub record IsJudged (bytes : List ℕ) (verdict : Verdict) : Type 0 where
   pub is_history : IsHistory bytes header entries
   pub is_verdict : IsVerdict (limits_of header) header.events entries verdict
 
--- the answer is the verdict of this history, or memory was refused
-abbrev pub IsVerdictOrNoMemory : Result Verdict CheckFault → Header → List Entry → Type 0
-IsVerdictOrNoMemory (Ok verdict) header entries = IsVerdict (limits_of header) header.events entries verdict
-IsVerdictOrNoMemory (Err NoMemory) header entries = Unit {0}
-IsVerdictOrNoMemory (Err (At line column)) header entries = ⊥
-
 -- P, where the answer is that the history is legal
-abbrev pub IfLegal : Result Verdict CheckFault → Type 0 → Type 0
+abbrev pub IfLegal : Result Verdict TextFault → Type 0 → Type 0
 IfLegal (Ok (Legal len)) P = P
 IfLegal (Ok (NotLegal position outcome)) P = Unit {0}
 IfLegal (Err fault) P = Unit {0}
-
--- the text of an outcome, without its line feed
-abbrev pub text_of_outcome : Outcome → List ℕ
-text_of_outcome (Done answer) = text_of_answer answer
-text_of_outcome (Look look) = text_of_look look
-text_of_outcome (Full room cost) = text_of_full room cost
 
 abbrev pub verdict_text : Verdict → List ℕ
 verdict_text (Legal len) = codes "legal " ++ (decimal len ++ 10 ∷ [])

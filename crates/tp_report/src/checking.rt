@@ -1,30 +1,63 @@
 //! Checking of histories.
 
-ghost use Rattle.std.specs.Prelude.{List, IfErr, IfOk};
+ghost use Rattle.std.specs.Prelude.{◌≡◌, ◌≤◌, List, IfErr, IfOk};
 ghost use Rattle.tp_base.specs.declared.answers.Entry.{Entry};
 ghost use Rattle.tp_model.specs.Laws.{KeepsLaws};
-ghost use Rattle.tp_report.specs.declared.headers.Header.{Header};
-ghost use Rattle.tp_report.specs.Histories.{IsHistory};
-ghost use Rattle.tp_report.specs.Results.{IsPlaceIn};
-ghost use Rattle.tp_report.specs.Verdicts.{IfLegal, IsJudged, IsVerdictOrNoMemory, limits_of};
+ghost use Rattle.tp_report.specs.declared.headers.Header.{Header as FirstLine};
+ghost use Rattle.tp_report.specs.Faults.{IsOrNoMemory, IsPlace};
+ghost use Rattle.tp_report.specs.Histories.{HasHeaderLine, IsHistory, IsHistoryFault};
+ghost use Rattle.tp_report.specs.Judging.{AreEntries, IsEntriesFault, IsVerdictBehind};
+ghost use Rattle.tp_report.specs.Verdicts.{IfLegal, IsJudged, IsVerdict, limits_of};
 
-use crate::history::{CheckFault, read_history};
+use crate::faults::{TextFault, fault_behind};
+use crate::headers::Header;
+use crate::lines::{Next, read_header_line, read_next_line};
 use crate::verdict::{Verdict, judge};
+use pool_book::Book;
 use std::alloc::Global;
 
 /// Reads a history, and says whether each answer in it is the machine's.
 ///
 /// `Legal` comes exactly where each is; `NotLegal` names the first that isn't. `At` comes exactly
 /// where the bytes are no history, and `NoMemory` where memory was refused.
-pub fn check(alloc: Global, bytes: &[u8]) -> Result<Verdict, CheckFault>
+pub fn check(alloc: Global, bytes: &[u8]) -> Result<Verdict, TextFault>
     ensures ok { IfOk result (λ verdict. IsJudged bytes.now verdict) }
-    ensures only { (header : Header) (entries : List Entry) → IsHistory bytes.now header entries → IsVerdictOrNoMemory result header entries }
-    ensures err { IfErr result (λ fault. IsPlaceIn bytes.now fault) }
+    ensures only { (header : FirstLine) (entries : List Entry) → IsHistory bytes.now header entries →
+        IsOrNoMemory (IsVerdict (limits_of header) header.events entries) result }
+    ensures err { IfErr result (λ fault. IsPlace (IsHistoryFault bytes.now) fault) }
     // A history that it calls legal keeps the laws.
-    ensures laws { (header : Header) (entries : List Entry) → IsHistory bytes.now header entries → IfLegal result (KeepsLaws (limits_of header) entries) }
+    ensures laws { (header : FirstLine) (entries : List Entry) → IsHistory bytes.now header entries → IfLegal result (KeepsLaws (limits_of header) entries) }
 {
-    let history = read_history(alloc, bytes)?;
-    let limits = history.header.limits();
-    let verdict = judge(alloc, limits, history.header.events, &history.entries)?;
-    Ok(verdict)
+    match read_header_line(bytes) {
+        Err(place) => Err(fault_behind(0, place)),
+        Ok((header, size)) => {
+            let (_, rest) = bytes.split_at(size);
+            check_behind(alloc, header, rest)
+        }
+    }
+}
+
+// Reads what stands behind the header of a history, the entries and the end line, and judges each entry
+// as it is read.
+fn check_behind(alloc: Global, header: Header, text: &[u8]) -> Result<Verdict, TextFault>
+    requires { HasHeaderLine header }
+    ensures ok { IfOk result (λ verdict. IsVerdictBehind header text.now verdict) }
+    ensures only { (entries : List Entry) → AreEntries header.events text.now entries → IsOrNoMemory (IsVerdict (limits_of header) header.events entries) result }
+    ensures err { IfErr result (λ fault. IsPlace (IsEntriesFault header.events text.now) fault) }
+{
+    let mut book = Book::open(alloc, header.limits(), header.events)?;
+    let mut verdict = Verdict::Legal { len: 0 };
+    let mut len = 0;
+    let mut rest = text;
+    loop {
+        match read_next_line(alloc, rest, header.events, len)? {
+            Next::Another { entry, size } => {
+                verdict = judge(&mut book, verdict, &entry);
+                len += 1;
+                (_, rest) = rest.split_at(size);
+            }
+            Next::End => return Ok(verdict),
+            Next::Fault { place } => return Err(fault_behind(len + 1, place)),
+        }
+    }
 }

@@ -7,6 +7,7 @@ ghost use Rattle.tp_report.specs.Readings.{Keyed, Sizes};
 
 use line_grammar::numbers::read_prefixed;
 use line_grammar::words::read_word;
+use pool_book::program_limits;
 use tp_base::limits::Limits;
 
 /// The numbers of a history's first line.
@@ -30,15 +31,7 @@ impl Header {
         ensures value { result ≡ limits_of self.now }
         ensures in_range { AreLimitsInRange result }
     {
-        Limits {
-            clients: self.clients,
-            workers: self.workers,
-            pools: 64,
-            groups: 255,
-            objects: 4_095,
-            kernels: 1_024,
-            slots: 8_192,
-        }
+        program_limits(self.clients, self.workers)
     }
 }
 

@@ -1,20 +1,31 @@
-//! Reports on histories of the thread pool machine.
+//! Reports on histories of the thread pool machine, from texts.
 //!
-//! A history as a text is its first line, which says how large the machine was; its entries, a line
-//! each; and the end line, with their number. `check` reads one and says whether each answer in it is
-//! the machine's; `print_verdict` appends the text of that.
+//! `trace` plays the calls of a text, a line each, and answers the line of what each comes to. `check`
+//! reads a history and says whether each answer in it is the machine's; `print_verdict` appends the
+//! text of that. A history as a text is its first line, which says how large the machine was; its
+//! entries, a line each; and the end line, with their number.
+//!
+//! Both take a text line by line: what is read is played at once on a `pool_book::Book`, and no list of
+//! the lines is kept. Both answer the place of the first fault of a text that isn't in the grammar.
+//!
+//! ```text
+//! trace(alloc, b"c1 create-pool\nc1 finish\n")       // Ok("made 1\nok\n")
+//! trace(alloc, b"c1 create-pool\nc1 finsh\n")        // Err(TextFault::At { line: 2, column: 7 })
+//! ```
 
 #![tactic(auto)]
 
 mod checking;
+mod faults;
 mod headers;
-mod history;
 mod lines;
+mod playing;
 mod verdict;
 
 pub use checking::check;
-pub use history::CheckFault;
-pub use verdict::{Verdict, print_outcome, print_verdict};
+pub use faults::TextFault;
+pub use playing::trace;
+pub use verdict::{Verdict, print_verdict};
 
 #[cfg(test)]
 mod tests;

@@ -1,8 +1,9 @@
-//! The lines of a history, each with its line feed.
+//! The lines of traces and histories, each with its line feed.
 
 ghost use Rattle.std.specs.Prelude.{◌≡◌, ◌≤◌, ◌++◌, ◌∷◌, [], IfOk, string_bytes};
 ghost use Rattle.line_grammar.specs.Language.{IsRead};
 ghost use Rattle.tp_lines.specs.Answers.{EntryLines};
+ghost use Rattle.tp_lines.specs.Calls.{CallLines};
 ghost use Rattle.tp_report.specs.Histories.{end_line, HeaderLines};
 ghost use Rattle.tp_report.specs.Readings.{Ended, IsEndRead, IsNext};
 
@@ -10,7 +11,11 @@ use crate::headers::{Header, read_header};
 use line_grammar::words::{behind, read_word};
 use std::alloc::{AllocError, Global};
 use tp_base::answers::Entry;
+use tp_base::calls::Call;
+use tp_base::ids::Who;
+use tp_lines::calls::read_call_line;
 use tp_lines::entries::read_entry;
+use tp_lines::good::{read_good_call, read_good_entry};
 
 /// What a line behind the header is.
 #[derive(Clone, Copy)]
@@ -23,19 +28,36 @@ pub enum Next {
     Fault { place: usize },
 }
 
+// What was read at the front of a text, with the line feed behind it.
+macro_rules! ended {
+    ($text:ident, $read:expr) => {
+        match $read {
+            Err(place) => Err(place),
+            Ok((value, size)) => {
+                let (_, rest) = $text.split_at(size);
+                match behind(b'\n', rest) {
+                    Some(_) => Ok((value, size + 1)),
+                    None => Err(size),
+                }
+            }
+        }
+    };
+}
+
 /// Reads the first line of a history.
 pub fn read_header_line(text: &[u8]) -> Result<(Header, usize), usize>
     ensures { IsRead (Ended HeaderLines) text.now result }
 {
-    match read_header(text) {
-        Err(place) => Err(place),
-        Ok((header, size)) => {
-            let (_, rest) = text.split_at(size);
-            match behind(b'\n', rest) {
-                Some(_) => Ok((header, size + 1)),
-                None => Err(size),
-            }
-        }
+    ended!(text, read_header(text))
+}
+
+/// Reads the line of a call.
+pub fn read_call(text: &[u8]) -> Result<((Who, Call), usize), usize>
+    ensures { IsRead (Ended CallLines) text.now result }
+{
+    match read_good_call(text) {
+        Some(read) => Ok(read),
+        None => ended!(text, read_call_line(text)),
     }
 }
 
@@ -43,18 +65,11 @@ pub fn read_header_line(text: &[u8]) -> Result<(Header, usize), usize>
 fn read_entry_line(text: &[u8]) -> Result<(Entry, usize), usize>
     ensures { IsRead (Ended EntryLines) text.now result }
 {
-    match read_entry(text) {
-        Err(place) => Err(place),
-        Ok((entry, size)) => {
-            let (_, rest) = text.split_at(size);
-            match behind(b'\n', rest) {
-                Some(_) => Ok((entry, size + 1)),
-                None => Err(size),
-            }
-        }
+    match read_good_entry(text) {
+        Some(read) => Ok(read),
+        None => ended!(text, read_entry(text)),
     }
 }
-
 // Where the text stops going along with the end line behind `len` entries, if it doesn't begin with it.
 fn read_end_line(alloc: Global, text: &[u8], len: u32) -> Result<Option<usize>, AllocError>
     ensures { IfOk result (IsEndRead len text.now) }

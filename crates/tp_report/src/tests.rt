@@ -3,7 +3,7 @@ use std::alloc::Global;
 use std::test::Fail;
 
 // The text of the verdict on a history, or the place of its fault.
-fn verdict_on(alloc: Global, text: &str) -> Result<Vec<u8>, CheckFault> {
+fn verdict_on(alloc: Global, text: &str) -> Result<Vec<u8>, TextFault> {
     let verdict = check(alloc, text.as_bytes())?;
     let mut out = Vec::new(alloc);
     print_verdict(alloc, &verdict, &mut out)?;
@@ -88,8 +88,58 @@ fn names_the_first_fault(rt: HostRuntime) -> Result<(), Fail> {
     for (text, (line, column)) in cases {
         match verdict_on(rt.alloc(), text) {
             Ok(_) => assert!(rt; false, "a history: {text}"),
-            Err(fault) => assert_eq!(rt; fault, CheckFault::At { line, column }, "at {text}"),
+            Err(fault) => assert_eq!(rt; fault, TextFault::At { line, column }, "at {text}"),
         }
+    }
+    Ok(())
+}
+
+#[test]
+fn plays_traces(rt: HostRuntime) -> Result<(), Fail> {
+    for (text, want) in [
+        ("", ""),
+        ("c1 create-pool\nc1 finish\n", "made 1\nok\n"),
+        // The greatest client is known only at the end.
+        ("c1 finish\nc9 finish\nc10 finish\n", "ok\nok\nok\n"),
+        (
+            "w4 take\nw5 take\n",
+            "refused not-attached\nrefused no-such\n",
+        ),
+    ] {
+        match trace(rt.alloc(), text.as_bytes()) {
+            Ok(told) => assert_eq!(rt; told.as_slice(), want.as_bytes(), "at {text}"),
+            Err(fault) => assert!(rt; false, "{fault:?} at {text}"),
+        }
+    }
+    for (text, line, column) in [
+        ("c1 create-pool\nc1 finsh\n", 2, 7),
+        ("c1 create-pool\nc1 finish", 2, 10),
+        ("\n", 1, 1),
+        ("c17 finish\n", 1, 3),
+    ] {
+        match trace(rt.alloc(), text.as_bytes()) {
+            Ok(_) => assert!(rt; false, "a trace: {text}"),
+            Err(fault) => assert_eq!(rt; fault, TextFault::At { line, column }, "at {text}"),
+        }
+    }
+    Ok(())
+}
+
+/// The first 65,536 bytes name no client, and a client comes behind them: the trace is played twice.
+#[test]
+fn finds_a_client_far_behind(rt: HostRuntime) -> Result<(), Fail> {
+    let mut text = Vec::new(rt.alloc());
+    let mut want = Vec::new(rt.alloc());
+    for _ in 0..9_000 {
+        text.extend_from_slice(b"w1 take\n")?;
+        want.extend_from_slice(b"refused not-attached\n")?;
+    }
+    text.extend_from_slice(b"c2 finish\n")?;
+    want.extend_from_slice(b"ok\n")?;
+    assert!(rt; text.len() < 100_000);
+    match trace(rt.alloc(), &text) {
+        Ok(told) => assert_eq!(rt; told.as_slice(), want.as_slice()),
+        Err(fault) => assert!(rt; false, "{fault:?}"),
     }
     Ok(())
 }

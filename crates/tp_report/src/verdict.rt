@@ -1,19 +1,15 @@
 //! Verdicts on histories.
 
-ghost use Rattle.std.specs.Prelude.{◌≡◌, ◌↔◌, ◌<◌, ◌^◌, ◌++◌, All, IfOk, IsTrue, OnErr, OnOk, length};
-ghost use Rattle.tp_base.specs.Ranges.{AreLimitsInRange, IsCallInRange};
-ghost use Rattle.tp_model.specs.History.{room};
-ghost use Rattle.tp_model.specs.Remembered.{Meets, StandsFor};
-ghost use Rattle.tp_model.specs.Table.{step};
-ghost use Rattle.tp_model.specs.World.{World};
-ghost use Rattle.tp_report.specs.Histories.{HasLine};
-ghost use Rattle.tp_report.specs.Verdicts.{IsVerdict, text_of_outcome, verdict_text};
+ghost use Rattle.std.specs.Prelude.{◌≡◌, ◌↔◌, ◌<◌, ◌-◌, ◌^◌, ◌++◌, ◌∷◌, [], List, IfOk, IsTrue, OnErr, OnOk};
+ghost use Rattle.tp_base.specs.declared.answers.Entry.{Entry as Written};
+ghost use Rattle.tp_base.specs.Ranges.{IsCallInRange};
+ghost use Rattle.tp_report.specs.Judging.{IsJudgedTo, IsSameMachine, len_told};
+ghost use Rattle.tp_report.specs.Verdicts.{verdict_text};
 
-use pool_core::Engine;
+use pool_book::Book;
 use std::alloc::{AllocError, Global};
 use tp_base::answers::{Answer, Entry, Outcome};
-use tp_base::limits::Limits;
-use tp_lines::print::{print_answer, print_full, print_look};
+use tp_lines::print::print_outcome;
 
 /// What is said of a history.
 #[derive(Clone, Copy, Debug, PartialEq)]
@@ -25,43 +21,26 @@ pub enum Verdict {
     NotLegal { position: u32, outcome: Outcome },
 }
 
-/// Judges the entries of a history with room for `capacity` of them. They have lines, and there are
-/// fewer than 2^32 of them.
-pub fn judge(
-    alloc: Global,
-    limits: Limits,
-    capacity: u32,
-    entries: &[Entry],
-) -> Result<Verdict, AllocError>
-    requires in_range { AreLimitsInRange limits }
-    requires have_lines { All HasLine entries.now }
-    requires few { length entries.now < 2 ^ 32 }
-    ensures { IfOk result (IsVerdict limits capacity entries.now) }
+/// The verdict on a history with one more entry, from that on those before it. As long as the answers
+/// are the machine's, the book goes along with the history; behind a wrong one nothing more is played.
+pub fn judge(book: &mut Book, verdict: Verdict, entry: &Entry) -> Verdict
+    requires in_range { IsCallInRange entry.now.call }
+    requires few { len_told verdict < 2 ^ 32 - 1 }
+    ensures same { IsSameMachine book.old book.new }
+    ensures judged { (entries : List Written) → IsJudgedTo book.old entries verdict → IsJudgedTo book.new (entries ++ entry.now ∷ []) result }
 {
-    let mut engine = Engine::open(alloc, limits)?;
-    for (index, entry) in entries.iter().enumerate() {
-        let outcome = make_call(&mut engine, capacity, index as u64, entry);
-        if !is_answer(&outcome, &entry.answer) {
-            return Ok(Verdict::NotLegal {
-                position: index as u32 + 1,
-                outcome,
-            });
+    let Verdict::Legal { len } = verdict else {
+        return verdict;
+    };
+    let outcome = book.step(entry.who, entry.call);
+    if is_answer(&outcome, &entry.answer) {
+        Verdict::Legal { len: len + 1 }
+    } else {
+        Verdict::NotLegal {
+            position: len + 1,
+            outcome,
         }
     }
-    Ok(Verdict::Legal {
-        len: entries.len() as u32,
-    })
-}
-
-// Makes the call of an entry on an engine whose history has `len` entries and room for `capacity`.
-fn make_call(engine: &mut Engine, capacity: u32, len: u64, entry: &Entry) -> Outcome
-    requires in_range { IsCallInRange entry.now.call }
-    requires young { engine.old.age < 2 ^ 47 }
-    ensures { (w : World) → StandsFor engine.old w →
-        Meets engine.old engine.new w (step w (room capacity w len) entry.now.who entry.now.call) result }
-{
-    let left = u64::from(capacity).saturating_sub(len);
-    engine.step(entry.who, entry.call, left.saturating_sub(engine.owed()))
 }
 
 // Whether the outcome is this answer.
@@ -96,19 +75,7 @@ fn not_legal_text(alloc: Global, position: u32, outcome: &Outcome) -> Result<Vec
 {
     let start = format!(in alloc; "not legal at {position}: ")?;
     let mut text = Vec::from_slice(alloc, start.as_bytes())?;
-    print_outcome(alloc, outcome, &mut text)?;
+    print_outcome(outcome, &mut text)?;
     text.push(b'\n')?;
     Ok(text)
-}
-
-/// Appends the text of an outcome: an answer, a look or full. There is no line feed.
-pub fn print_outcome(alloc: Global, outcome: &Outcome, text: &mut Vec<u8>) -> Result<(), AllocError>
-    ensures ok { OnOk result (text.new.items ≡ text.old.items ++ text_of_outcome outcome.now) }
-    ensures err { OnErr result (text.new.items ≡ text.old.items) }
-{
-    match outcome {
-        Outcome::Done(answer) => print_answer(alloc, answer, text),
-        Outcome::Look(look) => print_look(alloc, look, text),
-        Outcome::Full { room, cost } => print_full(alloc, *room, *cost, text),
-    }
 }

@@ -1,16 +1,14 @@
 -- What stands between reading and the end of the program.
-use Rattle.std.specs.Prelude.{◌≡◌, ℕ, ◌+◌, ◌≤◌, ◌↔◌, List, length, Option, None, Some, Result, Ok, Err}
+use Rattle.std.specs.Prelude.{◌≡◌, ℕ, ◌≤◌, ◌↔◌, List, length, Option, Some, Result, Ok, Err}
 use Rattle.tp_edge.specs.Given.{with_given, TookFirst}
 use Rattle.tp_edge.specs.Taken.{behind, IsEnded}
 use Rattle.tp_edge.specs.declared.reading.ReadFault.{ReadFault as SourceFault}
 use Rattle.tp_edge.specs.declared.reading.ReadFault.TheVariants as source
-use Rattle.tp_report.specs.declared.history.CheckFault.{CheckFault}
-use Rattle.tp_report.specs.declared.history.CheckFault.TheVariants as history
+use Rattle.tp_report.specs.declared.faults.TextFault.{TextFault}
+use Rattle.tp_report.specs.declared.faults.TextFault.TheVariants as text
 use Rattle.tp_top.specs.Inputs.{Gives, IsFaultyAt}
 use Rattle.tp_top.specs.Runs.{IsWithin}
 use Rattle.tp_top.specs.declared.command.Command.{Command}
-use Rattle.tp_top.specs.declared.reading.TraceFault.{TraceFault}
-use Rattle.tp_top.specs.declared.reading.TraceFault.TheVariants as trace
 use Rattle.tp_top.specs.declared.status.Ending.{Ending}
 use Rattle.tp_top.specs.declared.status.Ending.TheVariants as ending
 use Rattle.tp_top.specs.declared.status.Status.{Status}
@@ -23,20 +21,15 @@ status_of_source source.NoMemory = NoMemory
 status_of_source source.Failed = ReadFault
 status_of_source source.TooLong = TooLong
 
--- the end that a fault of a trace leads to
-abbrev pub status_of_trace : TraceFault → Status
-status_of_trace trace.NoMemory = NoMemory
-status_of_trace (trace.At line column) = BadLine line column
-
 -- the end of the program where all was written
 abbrev pub status_of : Ending → Status
 status_of ending.Fine = Fine
 status_of ending.NotLegal = NotLegal
 
--- the end that a fault of a history leads to
-abbrev pub status_of_history : CheckFault → Status
-status_of_history history.NoMemory = NoMemory
-status_of_history (history.At line column) = BadLine line column
+-- the end that a fault of the input leads to
+abbrev pub status_of_text : TextFault → Status
+status_of_text text.NoMemory = NoMemory
+status_of_text (text.At line column) = BadLine line column
 
 -- the output for the input and its ending, and there are no others
 pub record IsOutput (command : Command) (bytes output : List ℕ) (ends : Ending) : Type 0 where

@@ -4,14 +4,13 @@ use Rattle.line_grammar.specs.Traces.{IsTraceFault}
 use Rattle.tp_base.specs.declared.calls.Call.{Call}
 use Rattle.tp_base.specs.declared.ids.Who.{Who}
 use Rattle.tp_lines.specs.Faults.{IsLine}
-use Rattle.tp_top.specs.Playing.{output_of}
-use Rattle.tp_top.specs.Trace.{IsTraceOf}
 use Rattle.tp_top.specs.declared.command.Command.{Command}
 use Rattle.tp_top.specs.declared.command.Command.TheVariants.{Trace, Check}
 use Rattle.tp_top.specs.declared.status.Ending.{Ending}
 use Rattle.tp_top.specs.declared.status.Ending.TheVariants.{Fine, NotLegal}
 use Rattle.tp_base.specs.declared.answers.Entry.{Entry}
 use Rattle.tp_report.specs.Histories.{IsHistory, IsHistoryFault}
+use Rattle.tp_report.specs.Traces.{IsTraceOf, output_of}
 use Rattle.tp_report.specs.Verdicts.{IsVerdict, limits_of, verdict_text}
 use Rattle.tp_report.specs.declared.headers.Header.{Header}
 use Rattle.tp_report.specs.declared.verdict.Verdict.{Verdict}

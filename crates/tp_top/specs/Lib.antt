@@ -2,9 +2,5 @@ pub mod Codes
 pub mod Commands
 pub mod Ends
 pub mod Inputs
-pub mod Playing
-pub mod Reading
 pub mod Runs
-pub mod Steps
-pub mod Trace
 pub mod Words

@@ -1,11 +1,10 @@
 -- How the program ends.
-use Rattle.std.specs.Prelude.{◌≡◌, ℕ, ◌+◌, ◌≤◌, ◌↔◌, List, length, Option, Result, Ok, Err}
-use Rattle.tp_edge.specs.Given.{with_given, TookFirst}
-use Rattle.tp_edge.specs.Taken.{behind, AreAll, IsEnded}
+use Rattle.std.specs.Prelude.{◌≡◌, ℕ, ◌≤◌, ◌↔◌, List, length, Option}
+use Rattle.tp_edge.specs.Taken.{AreAll}
 use Rattle.tp_top.specs.Inputs.{Gives, IsFaultyAt}
 use Rattle.tp_top.specs.declared.command.Command.{Command}
 use Rattle.tp_top.specs.declared.status.Status.{Status}
-use Rattle.tp_top.specs.declared.status.Status.TheVariants.{Fine, Words, BadLine, ReadFault, WriteFault, NoMemory, TooLong, NotLegal}
+use Rattle.tp_top.specs.declared.status.Status.TheVariants.{Fine, BadLine, WriteFault, TooLong, NotLegal}
 use Rattle.tp_top.specs.declared.status.Ending.{Ending}
 
 -- all was written

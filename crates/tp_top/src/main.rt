@@ -16,8 +16,6 @@
 #![tactic(auto)]
 
 mod command;
-mod playing;
-mod reading;
 mod status;
 #[cfg(test)]
 mod tests;

@@ -2,10 +2,9 @@
 
 ghost use Rattle.std.specs.Prelude.{◌≡◌};
 
-use crate::reading::TraceFault;
 use std::alloc::AllocError;
 use tp_edge::ReadFault;
-use tp_report::{CheckFault, Verdict};
+use tp_report::{TextFault, Verdict};
 
 /// What was found out of an input that is in its grammar.
 #[derive(Clone, Copy, Debug, PartialEq, Eq)]
@@ -98,28 +97,15 @@ impl From<ReadFault> for Status {
     }
 }
 
-impl From<TraceFault> for Status {
-    ghost use Rattle.tp_top.specs.Ends.{status_of_trace};
+impl From<TextFault> for Status {
+    ghost use Rattle.tp_top.specs.Ends.{status_of_text};
 
-    ghost from_gives = { λ fault status. status ≡ status_of_trace fault };
+    ghost from_gives = { λ fault status. status ≡ status_of_text fault };
 
-    fn from(fault: TraceFault) -> Self {
+    fn from(fault: TextFault) -> Self {
         match fault {
-            TraceFault::NoMemory => Status::NoMemory,
-            TraceFault::At { line, column } => Status::BadLine { line, column },
-        }
-    }
-}
-
-impl From<CheckFault> for Status {
-    ghost use Rattle.tp_top.specs.Ends.{status_of_history};
-
-    ghost from_gives = { λ fault status. status ≡ status_of_history fault };
-
-    fn from(fault: CheckFault) -> Self {
-        match fault {
-            CheckFault::NoMemory => Status::NoMemory,
-            CheckFault::At { line, column } => Status::BadLine { line, column },
+            TextFault::NoMemory => Status::NoMemory,
+            TextFault::At { line, column } => Status::BadLine { line, column },
         }
     }
 }

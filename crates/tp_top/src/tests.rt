@@ -14,93 +14,134 @@ const PLAIN_PATH: &str = "c1 create work r1 x7 p0 normal short g0 q0\n\
 const PLAIN_ANSWERS: &str = "made 1\nqueued 1 1\nattached 0\ntaken 1 o1 r1 x7 plain\n\
     returned - - - - 0 0\n";
 
-const PRIORITIES: &str = "c1 create work r1 x0 p0 low short g0 q0\n\
-    c1 create work r2 x0 p0 normal short g0 q0\n\
-    c1 create work r3 x0 p0 high short g0 q0\n\
-    c1 submit 1\n\
-    c1 submit 2\n\
-    c1 submit 3\n\
-    w1 attach\n\
-    w1 take\n\
-    w1 return\n\
-    w1 take\n\
-    w1 return\n\
-    w1 take\n";
+const CALLBACKS_OF_HIGHER_PRIORITY_ARE_TAKEN_FIRST: &[(&str, &str)] = &[
+    ("c1 create work r1 x0 p0 low short g0 q0", "made 1"),
+    ("c1 create work r2 x0 p0 normal short g0 q0", "made 2"),
+    ("c1 create work r3 x0 p0 high short g0 q0", "made 3"),
+    ("c1 submit 1", "queued 1 1"),
+    ("c1 submit 2", "queued 2 1"),
+    ("c1 submit 3", "queued 3 1"),
+    ("w1 attach", "attached 0"),
+    ("w1 take", "taken 3 o3 r3 x0 plain"),
+    ("w1 return", "returned - - - - 0 0"),
+    ("w1 take", "taken 2 o2 r2 x0 plain"),
+    ("w1 return", "returned - - - - 0 0"),
+    ("w1 take", "taken 1 o1 r1 x0 plain"),
+    ("w1 return", "returned - - - - 0 0"),
+    ("w1 take", "look empty"),
+];
 
-const PRIORITIES_ANSWERS: &str = "made 1\n\
-    made 2\n\
-    made 3\n\
-    queued 1 1\n\
-    queued 2 1\n\
-    queued 3 1\n\
-    attached 0\n\
-    taken 3 o3 r3 x0 plain\n\
-    returned - - - - 0 0\n\
-    taken 2 o2 r2 x0 plain\n\
-    returned - - - - 0 0\n\
-    taken 1 o1 r1 x0 plain\n";
+const THE_FIRST_REFUSAL_THAT_APPLIES_IS_ANSWERED: &[(&str, &str)] = &[
+    ("c1 create work r1 x0 p0 normal short g0 q0", "made 1"),
+    ("c1 submit 1", "queued 1 1"),
+    ("c1 submit 0", "refused no-such"),
+    ("w1 take", "refused not-attached"),
+    ("w1 return", "refused not-running"),
+    ("w1 attach", "attached 0"),
+    ("w1 attach", "refused already-attached"),
+    ("w1 take", "taken 1 o1 r1 x0 plain"),
+    ("w1 take", "refused still-running"),
+    ("w1 finish", "refused wrong-kind"),
+    ("w5 take", "refused no-such"),
+    ("c1 attach", "refused not-worker"),
+    ("c1 finish", "ok"),
+    ("c1 submit 1", "refused released"),
+];
 
-const LOWERED_MAXIMUM: &str = "c1 create-pool\n\
-    c1 set-maximum 1 3\n\
-    c1 create work r1 x0 p1 normal short g0 q0\n\
-    c1 submit 1\n\
-    c1 submit 1\n\
-    c1 submit 1\n\
-    w1 attach\n\
-    w1 take\n\
-    w2 attach\n\
-    w2 take\n\
-    w3 attach\n\
-    c1 set-maximum 1 1\n\
-    w3 take\n\
-    w1 return\n\
-    w3 take\n\
-    w2 return\n\
-    w3 take\n";
+const A_LOWERED_MAXIMUM_LETS_RUNNING_CALLBACKS_END: &[(&str, &str)] = &[
+    ("c1 create-pool", "made 1"),
+    ("c1 set-maximum 1 3", "ok"),
+    ("c1 create work r1 x0 p1 normal short g0 q0", "made 1"),
+    ("c1 submit 1", "queued 1 1"),
+    ("c1 submit 1", "queued 2 1"),
+    ("c1 submit 1", "queued 3 1"),
+    ("w1 attach", "attached 1"),
+    ("w1 take", "taken 1 o1 r1 x0 plain"),
+    ("w2 attach", "attached 1"),
+    ("w2 take", "taken 2 o1 r1 x0 plain"),
+    ("w3 attach", "attached 1"),
+    ("c1 set-maximum 1 1", "ok"),
+    ("w3 take", "look at-maximum 2"),
+    ("w1 return", "returned - - - - 0 0"),
+    ("w3 take", "look at-maximum 1"),
+    ("w2 return", "returned - - - - 0 0"),
+    ("w3 take", "taken 3 o1 r1 x0 plain"),
+];
 
-const LOWERED_MAXIMUM_ANSWERS: &str = "made 1\n\
-    ok\n\
-    made 1\n\
-    queued 1 1\n\
-    queued 2 1\n\
-    queued 3 1\n\
-    attached 1\n\
-    taken 1 o1 r1 x0 plain\n\
-    attached 1\n\
-    taken 2 o1 r1 x0 plain\n\
-    attached 1\n\
-    ok\n\
-    look at-maximum 2\n\
-    returned - - - - 0 0\n\
-    look at-maximum 1\n\
-    returned - - - - 0 0\n\
-    taken 3 o1 r1 x0 plain\n";
+const A_POOL_KEEPS_ITS_MINIMUM_FOR_SHORT_CALLBACKS: &[(&str, &str)] = &[
+    ("c1 create-pool", "made 1"),
+    ("c1 set-minimum 1 1", "ok"),
+    ("w1 attach", "attached 1"),
+    ("w2 attach", "look no-need"),
+    ("w1 detach", "look stay"),
+    ("c1 create work r1 x0 p1 normal long g0 q0", "made 1"),
+    ("c1 submit 1", "queued 1 1"),
+    ("w1 take", "taken 1 o1 r1 x0 plain"),
+    ("w2 attach", "attached 1"),
+    ("w1 may-run-long", "flag yes"),
+    ("w1 return", "returned - - - - 0 0"),
+    ("w2 detach", "ok"),
+];
 
-const LONG_CALLBACKS: &str = "c1 create-pool\n\
-    c1 set-minimum 1 1\n\
-    w1 attach\n\
-    w2 attach\n\
-    w1 detach\n\
-    c1 create work r1 x0 p1 normal long g0 q0\n\
-    c1 submit 1\n\
-    w1 take\n\
-    w2 attach\n\
-    w1 may-run-long\n\
-    w1 return\n\
-    w2 detach\n";
+const THE_BOUNDS_OF_A_POOL_MOVE_EACH_OTHER: &[(&str, &str)] = &[
+    ("c1 create-pool", "made 1"),
+    ("c1 set-minimum 1 2", "ok"),
+    ("c1 set-maximum 1 0", "ok"),
+    ("w1 attach", "attached 1"),
+    ("w2 attach", "look no-need"),
+    ("c1 set-minimum 1 2", "ok"),
+    ("w2 attach", "attached 1"),
+    ("w1 detach", "look stay"),
+    ("c1 set-maximum 1 1", "ok"),
+    ("w1 detach", "ok"),
+    ("w2 detach", "look stay"),
+    ("c1 create work r1 x0 p0 normal short g0 q0", "made 1"),
+    ("c1 submit 1", "queued 1 1"),
+    ("w2 detach", "ok"),
+    ("w2 attach", "attached 0"),
+    ("w2 detach", "look stay"),
+];
 
-const LONG_CALLBACKS_ANSWERS: &str = "made 1\n\
-    ok\n\
-    attached 1\n\
-    look no-need\n\
-    look stay\n\
-    made 1\n\
-    queued 1 1\n\
-    taken 1 o1 r1 x0 plain\n\
-    attached 1\n\
-    flag yes\n\
-    returned - - - - 0 0\n\
-    ok\n";
+const POOLS_ARE_REFUSED_IN_ORDER: &[(&str, &str)] = &[
+    ("c1 create-pool", "made 1"),
+    ("w1 create-pool", "refused not-running"),
+    ("w5 create-pool", "refused no-such"),
+    ("c1 set-maximum 0 3", "refused default-pool"),
+    ("c1 set-minimum 2 1", "refused no-such"),
+    ("w1 set-minimum 1 1", "refused not-running"),
+    ("w1 set-minimum 0 1", "refused default-pool"),
+    ("c1 close-pool 0", "refused default-pool"),
+    ("c1 close-pool 1", "freed"),
+    ("c1 close-pool 1", "refused pool-closed"),
+    ("w1 set-maximum 1 1", "refused pool-closed"),
+    (
+        "c1 create work r1 x0 p1 normal short g0 q0",
+        "refused pool-closed",
+    ),
+    ("c1 finish", "ok"),
+    ("c1 create-pool", "refused released"),
+    ("c1 close-pool 1", "refused released"),
+];
+
+const A_LONG_CALLBACK_RUNS_ON_IN_A_CLOSED_POOL: &[(&str, &str)] = &[
+    ("c1 create-pool", "made 1"),
+    ("c1 set-maximum 1 1", "ok"),
+    ("c1 create work r1 x0 p1 normal short g0 q0", "made 1"),
+    ("c1 submit 1", "queued 1 1"),
+    ("w1 attach", "attached 1"),
+    ("w1 may-run-long", "refused not-running"),
+    ("w1 take", "taken 1 o1 r1 x0 plain"),
+    ("w1 may-run-long", "flag no"),
+    ("w1 detach", "refused still-running"),
+    ("c1 may-run-long", "refused not-running"),
+    ("w3 detach", "refused not-attached"),
+    ("c1 detach", "refused not-worker"),
+    ("w1 create-pool", "made 2"),
+    ("c1 close-pool 1", "later"),
+    ("c1 submit 1", "queued 2 1"),
+    ("w1 return", "returned - - - - 0 0"),
+    ("w1 take", "taken 2 o1 r1 x0 plain"),
+];
 
 const HISTORY: &str = "history 1 clients 1 workers 4 events 65536\n\
     c1 create work r1 x7 p0 normal short g0 q0 -> made 1\n\
@@ -157,9 +198,6 @@ fn plays_what_the_lines_say(rt: HostRuntime) -> Result<(), Fail> {
     for (input, output) in [
         ("", ""),
         (PLAIN_PATH, PLAIN_ANSWERS),
-        (PRIORITIES, PRIORITIES_ANSWERS),
-        (LOWERED_MAXIMUM, LOWERED_MAXIMUM_ANSWERS),
-        (LONG_CALLBACKS, LONG_CALLBACKS_ANSWERS),
         (
             "w1 take\nw1 return\nw5 attach\n",
             "refused not-attached\nrefused not-running\nrefused no-such\n",
@@ -176,6 +214,33 @@ fn plays_what_the_lines_say(rt: HostRuntime) -> Result<(), Fail> {
         let (status, text) = run(&rt, "trace", input.as_bytes(), WHOLE, WHOLE)?;
         assert_eq!(rt; status, Status::Fine, "at {input:?}");
         assert_eq!(rt; text.as_slice(), output.as_bytes(), "at {input:?}");
+    }
+    Ok(())
+}
+
+/// Each call of an example, and beside it what the call comes to.
+#[test]
+fn plays_worked_examples(rt: HostRuntime) -> Result<(), Fail> {
+    for example in [
+        CALLBACKS_OF_HIGHER_PRIORITY_ARE_TAKEN_FIRST,
+        THE_FIRST_REFUSAL_THAT_APPLIES_IS_ANSWERED,
+        A_LOWERED_MAXIMUM_LETS_RUNNING_CALLBACKS_END,
+        A_POOL_KEEPS_ITS_MINIMUM_FOR_SHORT_CALLBACKS,
+        THE_BOUNDS_OF_A_POOL_MOVE_EACH_OTHER,
+        POOLS_ARE_REFUSED_IN_ORDER,
+        A_LONG_CALLBACK_RUNS_ON_IN_A_CLOSED_POOL,
+    ] {
+        let mut input = Vec::new(rt.alloc());
+        let mut output = Vec::new(rt.alloc());
+        for (call, outcome) in example {
+            input.extend_from_slice(call.as_bytes())?;
+            input.push(b'\n')?;
+            output.extend_from_slice(outcome.as_bytes())?;
+            output.push(b'\n')?;
+        }
+        let (status, text) = run(&rt, "trace", &input, WHOLE, WHOLE)?;
+        assert_eq!(rt; status, Status::Fine);
+        assert_eq!(rt; text.as_slice(), output.as_slice());
     }
     Ok(())
 }

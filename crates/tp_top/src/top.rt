@@ -11,13 +11,11 @@ ghost use Rattle.tp_top.specs.Runs.{IsAnswered, IsBadLine, IsBadLineOf, IsReadTo
 ghost use Rattle.tp_top.specs.declared.status.Ending.{Ending};
 
 use crate::command::{Command, command_in};
-use crate::playing::play_trace;
-use crate::reading::read_trace;
 use crate::status::{Ending, Status};
 use crate::words::WordList;
 use std::alloc::Global;
 use tp_edge::{Sink, Source, WriteFault, give_all, read_all};
-use tp_report::{check, print_verdict};
+use tp_report::{check, print_verdict, trace};
 
 /// The most bytes that an input may have.
 const INPUT_LIMIT: usize = 16_777_216;
@@ -116,8 +114,7 @@ fn reply(alloc: Global, command: Command, bytes: &[u8]) -> Result<Output, Status
 {
     match command {
         Command::Trace => {
-            let calls = read_trace(alloc, bytes)?;
-            let text = play_trace(alloc, &calls)?;
+            let text = trace(alloc, bytes)?;
             Ok(Output {
                 text,
                 ending: Ending::Fine,

@@ -8,7 +8,7 @@ returns-in-Err c = ended_stuck HeaderLines header_part c.args.text.now c.in-Err.
 
 pub returns-in-Some : goal.returns-in-Some
 returns-in-Some c =
-    ended_read HeaderLines header_part c.args.text.now c.in-Ok.header c.in-Ok.size c.in-Ok.ensures c.split_at.result.1.now c.in-Some.field-0.now c.split_at.ensures.back c.in-Some.ensures
+    ended_read HeaderLines header_part c.args.text.now c.in-Ok.value c.in-Ok.size c.in-Ok.ensures c.split_at.result.1.now c.in-Some.field-0.now c.split_at.ensures.back c.in-Some.ensures
 
 pub returns-in-None : goal.returns-in-None
-returns-in-None c = ended_open HeaderLines header_part c.args.text.now c.in-Ok.header c.in-Ok.size c.in-Ok.ensures c.split_at.result.1.now c.split_at.ensures.back c.in-None.ensures
+returns-in-None c = ended_open HeaderLines header_part c.args.text.now c.in-Ok.value c.in-Ok.size c.in-Ok.ensures c.split_at.result.1.now c.split_at.ensures.back c.in-None.ensures

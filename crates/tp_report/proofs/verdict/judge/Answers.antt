@@ -1,16 +1,14 @@
-use Rattle.std.proofs.Common.{refl}
+use Rattle.std.proofs.Common.{subst}
+use Rattle.tp_report.specs.Judging.{IsJudgedTo}
 use Rattle.tp_report.proofs.Alike.{false_true}
-use Rattle.tp_report.proofs.Judging.{judged_next, judged_wrong}
+use Rattle.tp_report.proofs.Judging.{stays, wrong}
 use Rattle.tp_report.proofs.verdict.judge.Goals as goal
 
-pub returns-then-not-is_answer : goal.returns-then-not-is_answer
-returns-then-not-is_answer c =
-    judged_wrong c.args.limits c.args.capacity c.args.entries.now c.loop-index.index _ c.loop-index.engine c.make_call-outcome.new.engine c.make_call-outcome.result
-    c.loop-index.invariant c.loop-index-test.true c.make_call-outcome.ensures
-    (λ e. false_true (c.if-not-is_answer.ensures.1 e))
+pub returns-in_default-clause-judged : goal.returns-in_default-clause-judged
+returns-in_default-clause-judged c = λ entries j. stays c.args.book.now entries c.args.entry.now c.args.verdict c.in_default.not-Legal j
 
-pub loop-index-preserved : goal.loop-index-preserved
-loop-index-preserved c =
-    judged_next c.args.limits c.args.capacity c.args.entries.now c.loop-index.index _ c.loop-index.engine c.make_call-outcome.new.engine c.make_call-outcome.result
-    c.loop-index.invariant c.loop-index-test.true c.make_call-outcome.ensures
-    (c.if-not-is_answer.ensures.0 refl)
+pub returns-else-is_answer-clause-judged : goal.returns-else-is_answer-clause-judged
+returns-else-is_answer-clause-judged c = λ entries j.
+    wrong c.args.book.now entries c.args.entry.now c.step-outcome.new.self c.in-Legal.len c.step-outcome.result
+    (subst (λ v. IsJudgedTo c.args.book.now entries v) c.in-Legal.is j) c.step-outcome.ensures.history c.step-outcome.ensures.outcome
+    (λ e. false_true (c.if-is_answer.ensures.1 e))

@@ -1,13 +1,8 @@
-use Rattle.std.proofs.Common.{◌≡◌, arith, ap, length, ◌++◌, ◌∙◌, sym, subst}
+use Rattle.std.proofs.Common.{ap, ◌++◌, ◌∙◌, sym, subst}
 use Rattle.tp_report.specs.Verdicts.{verdict_text}
 use Rattle.tp_top.specs.Ends.{IsOutput, IsReply}
 use Rattle.tp_top.proofs.Checked.{output_of_verdict, reply_of_fault}
-use Rattle.tp_top.proofs.SoFar.{trace_count}
 use Rattle.tp_top.proofs.top.reply.Goals as goal
-
-pub play_trace-requires-clause-few : goal.play_trace-requires-clause-few
-play_trace-requires-clause-few c =
-    omega (arith, c.requires, trace_count c.args.bytes.now c.in_ok-calls-in-Trace.calls.items c.in_ok-calls-in-Trace.ensures.ok, ap length c.deref.ensures.value)
 
 pub returns-in_err-verdict-in-Check : goal.returns-in_err-verdict-in-Check
 returns-in_err-verdict-in-Check c =

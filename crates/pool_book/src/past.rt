@@ -1,0 +1,34 @@
+// The entries of a history. They exist only in proofs.
+
+ghost use Rattle.std.specs.Prelude.{◌≡◌, List, [], ◌∷◌, ◌++◌};
+ghost use Rattle.std.specs.Borrow.{ftrue};
+ghost use Rattle.tp_base.specs.declared.answers.Entry.{Entry as Written};
+
+use std::marker::Model;
+use tp_base::answers::Entry;
+
+// It takes no bytes, and its methods do nothing at run time.
+#[derive(Drop)]
+pub struct Past {
+    pub ghost entries: { List Written },
+}
+
+impl Model for Past {
+    ghost also_owns = { λ _. ftrue };
+}
+
+impl Past {
+    #[inline(always)]
+    pub fn none() -> Past
+        ensures { result.entries ≡ [] }
+    {
+        Past {}
+    }
+
+    #[inline(always)]
+    pub fn and(&self, _entry: &Entry) -> Past
+        ensures { result.entries ≡ self.now.entries ++ _entry.now ∷ [] }
+    {
+        Past {}
+    }
+}

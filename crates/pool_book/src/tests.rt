@@ -1,0 +1,145 @@
+ghost use Rattle.std.specs.Prelude.{◌≤◌};
+
+use super::*;
+use std::alloc::Global;
+use std::test::Fail;
+use tp_base::answers::{Answer, Look, Refusal, SlotWord, TakeResult};
+use tp_base::calls::{Environ, Kind, Priority};
+use tp_base::ids::{GroupId, ObjectId, PoolId, RoutineId};
+
+// A book of so many clients and two workers.
+fn book_of(alloc: Global, clients: u32, capacity: u32) -> Result<Book, AllocError>
+    requires { clients ≤ 16 }
+{
+    Book::open(alloc, program_limits(clients, 2), capacity)
+}
+
+#[test]
+fn accepted_and_refused_calls_are_entries(rt: HostRuntime) -> Result<(), Fail> {
+    let mut book = book_of(rt.alloc(), 1, 20)?;
+    assert_eq!(rt; book.capacity(), 20);
+    assert_eq!(rt; book.limits().clients, 1);
+    assert_eq!(rt; book.limits().workers, 2);
+    let client = Who::Client(1);
+    let worker = Who::Worker(1);
+    for (who, call, outcome, len, room) in [
+        (worker, Call::Attach, Outcome::Look(Look::NoNeed), 0, 19),
+        (
+            worker,
+            Call::Take,
+            Outcome::Done(Answer::Refused(Refusal::NotAttached)),
+            1,
+            18,
+        ),
+        (
+            client,
+            Call::CreatePool,
+            Outcome::Done(Answer::Made { number: 1 }),
+            2,
+            17,
+        ),
+        // The client's finish was owed.
+        (client, Call::Finish, Outcome::Done(Answer::Done), 3, 17),
+    ] {
+        assert_eq!(rt; book.step(who, call), outcome);
+        assert_eq!(rt; book.len(), len);
+        assert_eq!(rt; book.room(), room);
+    }
+    Ok(())
+}
+
+/// More is owed than there is room for: nothing but what is owed can be written down.
+#[test]
+fn room_is_none_where_more_is_owed(rt: HostRuntime) -> Result<(), Fail> {
+    let mut book = book_of(rt.alloc(), 3, 1)?;
+    assert_eq!(rt; book.room(), 0);
+    assert_eq!(rt;
+        book.step(Who::Worker(1), Call::Take),
+        Outcome::Full { room: 0, cost: 1 }
+    );
+    assert_eq!(rt; book.len(), 0);
+    assert_eq!(rt;
+        book.step(Who::Client(1), Call::Finish),
+        Outcome::Done(Answer::Done)
+    );
+    assert_eq!(rt; book.len(), 1);
+    assert_eq!(rt; book.room(), 0);
+    Ok(())
+}
+
+/// With room for 16 entries and eight clients, whose finish is owed.
+#[test]
+fn a_full_history_takes_what_it_is_owed(rt: HostRuntime) -> Result<(), Fail> {
+    let mut book = book_of(rt.alloc(), 8, 16)?;
+    let object = ObjectId(1);
+    let submit = Call::SubmitWork { object };
+    let create = Call::Create {
+        kind: Kind::Work,
+        routine: RoutineId(1),
+        context: 0,
+        env: Environ {
+            pool: PoolId(0),
+            group: GroupId(0),
+            cancel: RoutineId(0),
+            priority: Priority::Normal,
+            long: false,
+        },
+    };
+    for (who, call, outcome) in [
+        (
+            Who::Client(8),
+            create,
+            Outcome::Done(Answer::Made { number: 1 }),
+        ),
+        (Who::Client(8), submit, queued(1)),
+        (
+            Who::Worker(1),
+            Call::Attach,
+            Outcome::Done(Answer::Attached { pool: PoolId(0) }),
+        ),
+        (
+            Who::Worker(1),
+            Call::Take,
+            Outcome::Done(Answer::Taken {
+                callback: 1,
+                object,
+                routine: RoutineId(1),
+                context: 0,
+                result: TakeResult::Plain,
+            }),
+        ),
+        (Who::Client(8), submit, queued(2)),
+        (
+            Who::Worker(2),
+            Call::Attach,
+            Outcome::Full { room: 1, cost: 2 },
+        ),
+        (Who::Client(8), submit, queued(3)),
+        (Who::Client(8), submit, Outcome::Full { room: 0, cost: 1 }),
+        (
+            Who::Worker(1),
+            Call::Return,
+            Outcome::Done(Answer::Returned {
+                section: SlotWord::Unasked,
+                mutex: SlotWord::Unasked,
+                semaphore: SlotWord::Unasked,
+                event: SlotWord::Unasked,
+                first: 0,
+                count: 0,
+            }),
+        ),
+        (
+            Who::Worker(1),
+            Call::Take,
+            Outcome::Full { room: 0, cost: 2 },
+        ),
+    ] {
+        assert_eq!(rt; book.step(who, call), outcome);
+    }
+    assert_eq!(rt; book.len(), 7);
+    Ok(())
+}
+
+fn queued(first: u64) -> Outcome {
+    Outcome::Done(Answer::Queued { first, count: 1 })
+}

@@ -1,0 +1,54 @@
+-- Traces of calls, and what they come to.
+use Rattle.std.specs.Prelude.{◌≡◌, ℕ, List, map, fold, max, All}
+use Rattle.std.specs.Global.{Vec}
+use Rattle.line_grammar.specs.Traces.{trace_text}
+use Rattle.pool_book.specs.ProgramLimits.{limits_with}
+use Rattle.tp_base.specs.declared.answers.Outcome.{Outcome}
+use Rattle.tp_base.specs.declared.calls.Call.{Call}
+use Rattle.tp_base.specs.declared.ids.Who.{Who}
+use Rattle.tp_base.specs.declared.ids.Who.TheVariants.{Client, Worker}
+use Rattle.tp_base.specs.declared.limits.Limits.{Limits}
+use Rattle.tp_lines.specs.Answers.{text_of_outcome}
+use Rattle.tp_lines.specs.Calls.{IsCallLine, line_of_call}
+use Rattle.tp_model.specs.History.{play}
+
+abbrev pub line_of : (Who × Call) → List ℕ
+line_of made = line_of_call made.0 made.1
+
+-- the call has a line: its numbers are in the ranges of lines
+abbrev pub HasLine : (Who × Call) → Type 0
+HasLine made = IsCallLine made.0 made.1 (line_of made)
+
+-- the bytes are the lines of these calls, each ended by a line feed
+pub record IsTraceOf (bytes : List ℕ) (calls : List (Who × Call)) : Type 0 where
+  pub have_lines : All HasLine calls
+  pub split : bytes ≡ trace_text (map line_of calls)
+
+-- one line for each outcome
+abbrev pub answers_text : List Outcome → List ℕ
+answers_text outcomes = trace_text (map text_of_outcome outcomes)
+
+abbrev pub client_number : Who → ℕ
+client_number (Client number) = number
+client_number (Worker number) = 0
+
+-- the greatest client number of the calls, or 0
+abbrev pub clients_in : List (Who × Call) → ℕ
+clients_in calls = fold (λ greatest (made : Who × Call). max greatest (client_number made.0)) 0 calls
+
+-- the program's limits for calls of these clients
+abbrev pub limits_of : List (Who × Call) → Limits
+limits_of calls = limits_with (clients_in calls) 4
+
+-- what each call of the trace comes to on a machine that has made no step
+abbrev pub output_of : List (Who × Call) → List ℕ
+output_of calls = answers_text (play (limits_of calls) 65536 calls)
+
+abbrev pub IsOutputOf : List (Who × Call) → Vec ℕ → Type 0
+IsOutputOf calls text = text.items ≡ output_of calls
+
+-- the bytes are a trace, and this is what it comes to
+pub record IsOutput (bytes output : List ℕ) : Type 0 where
+  pub calls : List (Who × Call)
+  pub is_trace : IsTraceOf bytes calls
+  pub output_is : output ≡ output_of calls

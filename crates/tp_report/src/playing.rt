@@ -1,0 +1,125 @@
+//! Playing of traces.
+
+ghost use Rattle.std.specs.Prelude.{◌≡◌, ◌≤◌, ◌<◌, ◌-◌, ◌^◌, ◌++◌, ◌∷◌, [], List, IfErr, IfOk, OnOk, length, max};
+ghost use Rattle.line_grammar.specs.Traces.{IsTraceFault};
+ghost use Rattle.tp_base.specs.declared.calls.Call.{Call};
+ghost use Rattle.tp_base.specs.declared.ids.Who.{Who as Actor};
+ghost use Rattle.tp_lines.specs.Answers.{text_of_outcome};
+ghost use Rattle.tp_lines.specs.Faults.{IsLine};
+ghost use Rattle.tp_report.specs.Faults.{IsOrNoMemory, IsPlace};
+ghost use Rattle.tp_report.specs.Playing.{IsPlayed, IsPlayedOf};
+ghost use Rattle.tp_report.specs.Traces.{client_number, IsOutput, IsOutputOf, IsTraceOf};
+
+use crate::faults::{TextFault, fault_behind};
+use crate::lines::read_call;
+use pool_book::{Book, program_limits};
+use std::alloc::{AllocError, Global};
+use tp_base::answers::Outcome;
+use tp_base::ids::Who;
+use tp_lines::good::read_good_call;
+use tp_lines::print::print_outcome;
+
+/// How many entries the history of a trace has room for.
+const CAPACITY: u32 = 65_536;
+
+/// How many workers the machine of a trace has.
+const WORKERS: u32 = 4;
+
+/// Where the greatest client of a trace is looked for first.
+const FRONT: usize = 65_536;
+
+/// Plays the calls of a text in their order, on a machine that has made no step, and answers the line of
+/// what each comes to. The text, of which there are fewer than 2^32 - 1 bytes, is the lines of the calls;
+/// the machine has as many clients as the greatest number of one that makes a call.
+///
+/// `At` comes exactly where the bytes are no lines of calls, and `NoMemory` where memory was refused.
+pub fn trace(alloc: Global, bytes: &[u8]) -> Result<Vec<u8>, TextFault>
+    requires { length bytes.now < 2 ^ 32 - 1 }
+    ensures ok { IfOk result (λ text. IsOutput bytes.now text.items) }
+    ensures only { (calls : List (Actor × Call)) → IsTraceOf bytes.now calls → IsOrNoMemory (IsOutputOf calls) result }
+    ensures err { IfErr result (λ fault. IsPlace (IsTraceFault IsLine bytes.now) fault) }
+{
+    let guess = guess_clients(bytes);
+    let played = play(alloc, bytes, guess)?;
+    let clients = played.clients;
+    if clients == guess {
+        return Ok(played.text);
+    }
+    drop(played);
+    let again = play(alloc, bytes, clients)?;
+    Ok(again.text)
+}
+
+/// What the calls of a trace came to.
+#[derive(Drop)]
+pub struct Played {
+    /// The line of each outcome.
+    pub text: Vec<u8>,
+    /// The greatest number of a client that made a call, or 0.
+    pub clients: u32,
+}
+
+// Plays the calls of a trace on a machine of so many clients, each as its line is read.
+fn play(alloc: Global, bytes: &[u8], clients: u32) -> Result<Played, TextFault>
+    requires few { length bytes.now < 2 ^ 32 - 1 }
+    requires clients { clients ≤ 16 }
+    ensures ok { IfOk result (λ played. IsPlayed clients bytes.now played) }
+    ensures most { IfOk result (λ played. played.clients ≤ 16) }
+    ensures only { (calls : List (Actor × Call)) → IsTraceOf bytes.now calls → IsOrNoMemory (IsPlayedOf clients calls) result }
+    ensures err { IfErr result (λ fault. IsPlace (IsTraceFault IsLine bytes.now) fault) }
+{
+    let mut book = Book::open(alloc, program_limits(clients, WORKERS), CAPACITY)?;
+    let mut text = Vec::new(alloc);
+    let mut greatest = 0;
+    let mut lines = 0;
+    let mut rest = bytes;
+    while !rest.is_empty() {
+        match read_call(rest) {
+            Err(place) => return Err(fault_behind(lines, place)),
+            Ok(((who, call), size)) => {
+                let outcome = book.step(who, call);
+                print_line(&outcome, &mut text)?;
+                greatest = greater_client(greatest, who);
+                lines += 1;
+                (_, rest) = rest.split_at(size);
+            }
+        }
+    }
+    Ok(Played {
+        text,
+        clients: greatest,
+    })
+}
+
+// Appends the line of an outcome.
+fn print_line(outcome: &Outcome, text: &mut Vec<u8>) -> Result<(), AllocError>
+    ensures { OnOk result (text.new.items ≡ text.old.items ++ (text_of_outcome outcome.now ++ 10 ∷ [])) }
+{
+    print_outcome(outcome, text)?;
+    text.push(b'\n')?;
+    Ok(())
+}
+
+// The greatest client of the good lines at the front of a text. The play shows whether it is the
+// greatest of all.
+fn guess_clients(bytes: &[u8]) -> u32
+    ensures { result ≤ 16 }
+{
+    let (mut rest, _) = bytes.split_at(bytes.len().min(FRONT));
+    let mut greatest = 0;
+    while let Some(((who, _), size)) = read_good_call(rest) {
+        greatest = greater_client(greatest, who);
+        (_, rest) = rest.split_at(size);
+    }
+    greatest
+}
+
+// The greater of a client's number and that of the actor, where it is a client.
+fn greater_client(number: u32, who: Who) -> u32
+    ensures { result ≡ max number (client_number who) }
+{
+    match who {
+        Who::Client(other) if number < other => other,
+        _ => number,
+    }
+}
