@@ -2,7 +2,7 @@
 //!
 //! `open` takes memory for as many rows as there are slots, and no other call takes any. A callback
 //! is made last in its series, so `push` appends its row; `replace` writes the row of a callback
-//! that moved on, and `remove` takes out one that has ended. `find` gives the row of a number, and
+//! that moved on, and `remove` takes out one that is over. `find` gives the row of a number, and
 //! `after` the row that follows a number, so that a caller goes along the list by its numbers.
 //! The rows rise by number, so a number is found by halving. `remove` then moves the rows behind the
 //! one that leaves or those before it, whichever are fewer; no other call moves a row. After `push`

@@ -2,9 +2,10 @@
 //!
 //! Pool 0 is the default pool and is there from the start; pool p stands at place p of the pools.
 //! Workers are numbered from 1; each is attached to one pool or to none, and an attached worker runs
-//! one callback or nothing. `attach`, `take`, `mark_long`, `give_back` and `detach` are the turns of
-//! a worker's life, in that order; `create`, `close`, `set_maximum` and `set_minimum` are a pool's.
-//! `counts` answers what a pool allows, and how many workers are attached to it and at work in it.
+//! one callback or nothing. `attach`, `take`, `mark_long`, `give_back` (its callback returns) and
+//! `detach` are the turns of a worker's life, in that order; `create`, `close`, `set_maximum` and
+//! `set_minimum` are a pool's. `counts` answers what a pool allows, and how many workers are attached
+//! to it and at work in it.
 //! After `attach(2, pool)` and `take(2, 9, true)` worker 2 runs callback 9, and the pool's counts
 //! have one more `attached`, `running` and `long`.
 //!
