@@ -63,6 +63,10 @@ fn longer_number(text: &[u8], size: usize, value: u64, most: u64) -> Option<u64>
         return None;
     }
     let digit = u64::from(byte - b'0');
+    if value < 1_000_000_000_000_000_000 {
+        let longer = value * 10 + digit;
+        return if longer <= most { Some(longer) } else { None };
+    }
     if digit <= most && value <= (most - digit) / 10 {
         Some(value * 10 + digit)
     } else {

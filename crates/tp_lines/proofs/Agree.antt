@@ -1,14 +1,12 @@
 -- The ranges of the parts of a call are those of the call.
-use Rattle.std.proofs.Common.{◌≡◌, ℕ, ◌<◌, ◌≤◌, ◌^◌, List, [], ◌∷◌, refl, sym, subst, arith, rules, Bool, true, false, nat_eq}
+use Rattle.std.proofs.Common.{◌≡◌, ℕ, ◌≤◌, List, [], ◌∷◌, refl, sym, subst, arith, rules, Bool, true, false, nat_eq}
 use Rattle.std.specs.Prelude.{if◌then◌else◌}
 use Rattle.std.proofs.lemmas.Bool.{eqb-true, eqb-false}
 use Rattle.tp_base.specs.Ranges.{IsCallInRange, IsEnvironInRange}
 use Rattle.tp_base.specs.declared.calls.Call.{Call}
 use Rattle.tp_base.specs.declared.calls.Call.TheVariants as call
 use Rattle.tp_base.specs.declared.calls.Environ.{Environ}
-use Rattle.tp_base.specs.declared.calls.Kind.{Kind}
 use Rattle.tp_base.specs.declared.calls.Kind.TheVariants as kind
-use Rattle.tp_lines.specs.declared.parts.Part.{Part}
 use Rattle.tp_lines.specs.declared.parts.Part.TheVariants as part
 use Rattle.tp_lines.specs.declared.words.Field.{Field}
 use Rattle.tp_lines.specs.declared.words.Field.TheVariants as field

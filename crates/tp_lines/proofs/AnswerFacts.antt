@@ -1,5 +1,5 @@
 -- The table of answers.
-use Rattle.std.proofs.Common.{◌≡◌, ℕ, suc, ◌+◌, List, [], ◌∷◌, ◌++◌, length, get_or, refl, sym, ap, ◌∙◌, subst, arith, Bool, true, false, IsTrue, Option, Some, None}
+use Rattle.std.proofs.Common.{◌≡◌, suc, List, [], ◌∷◌, ◌++◌, length, refl, sym, ap, ◌∙◌, subst, arith, Bool, true, false, IsTrue, Option, Some, None}
 use Rattle.std.proofs.lemmas.List.{append_assoc, length-append, get_or_at}
 use Rattle.line_grammar.specs.Parts.{IsPart, IsTail}
 use Rattle.tp_base.specs.declared.answers.Answer.{Answer}

@@ -1,5 +1,5 @@
 -- No line is long.
-use Rattle.std.proofs.Common.{◌≡◌, ℕ, ◌+◌, ◌*◌, ◌<◌, ◌≤◌, ◌^◌, List, [], ◌∷◌, ◌++◌, length, take, refl, ap, sym, subst, arith}
+use Rattle.std.proofs.Common.{ℕ, ◌*◌, ◌<◌, ◌≤◌, ◌^◌, List, [], ◌∷◌, ◌++◌, length, take, ap, sym, subst, arith}
 use Rattle.std.proofs.lemmas.Fmt.{length-decimal-le}
 use Rattle.std.proofs.lemmas.List.{length-append, length-take-le}
 use Rattle.std.specs.Prelude.{decimal}
@@ -14,7 +14,7 @@ use Rattle.tp_lines.specs.declared.words.Field.{Field}
 use Rattle.tp_lines.specs.declared.words.Field.TheVariants as field
 use Rattle.tp_lines.specs.declared.words.Word.{Word}
 use Rattle.tp_lines.specs.Calls.{CallLines, IsWhoInRange, row_of}
-use Rattle.tp_lines.specs.Parts.{AreFit, Fits, FitsForm, after, form_of, number_of, number_part, parts_of, parts_text, room, room_of, text_of_part}
+use Rattle.tp_lines.specs.Parts.{AreFit, FitsForm, after, form_of, number_of, number_part, parts_of, parts_text, room, room_of, text_of_part}
 use Rattle.tp_lines.specs.Rows.{RowTexts}
 use Rattle.tp_lines.specs.Words.{text_of_who}
 use Rattle.tp_lines.proofs.PartFacts.{IsSoundForm, sound_form}

@@ -1,7 +1,6 @@
 -- Reading one of the words of a field.
-use Rattle.std.proofs.Common.{◌≡◌, ℕ, ◌+◌, ◌<◌, ◌≤◌, List, [], ◌∷◌, ◌++◌, length, take, drop, get_or, refl, sym, ap, ◌∙◌, subst, arith, ◌⊎◌, inl, inr, Bool, true, false, nat_eq, IsTrue}
-use Rattle.std.specs.Prelude.{Result, nat_le, if◌then◌else◌}
-use Rattle.std.proofs.lemmas.Bool.{eqb-true, leb-true}
+use Rattle.std.proofs.Common.{◌≡◌, ℕ, ◌+◌, ◌<◌, ◌≤◌, List, [], ◌∷◌, ◌++◌, length, take, drop, get_or, sym, ap, ◌∙◌, subst, ◌⊎◌, inl, inr, false, IsTrue}
+use Rattle.std.specs.Prelude.{Result}
 use Rattle.std.proofs.lemmas.List.{take_more}
 use Rattle.line_grammar.specs.Language.{Stops, AnyOf, IsRead, IsReadTo}
 use Rattle.line_grammar.specs.Parts.{IsPart}
@@ -14,7 +13,6 @@ use Rattle.tp_lines.specs.declared.words.Field.{Field}
 use Rattle.tp_lines.specs.declared.words.Field.TheVariants as field
 use Rattle.tp_lines.specs.declared.words.TheConstants.{WORDS}
 use Rattle.tp_lines.specs.declared.words.Word.{Word}
-use Rattle.tp_lines.specs.declared.words.Word.TheVariants as word
 use Rattle.tp_lines.specs.Choices.{ChoiceTexts, IsListed, Met, default_word}
 use Rattle.tp_lines.specs.Parts.{form_of}
 use Rattle.tp_lines.specs.Shapes.{table_of, text_of_word}

@@ -1,5 +1,5 @@
 -- No line feed stands in a line.
-use Rattle.std.proofs.Common.{◌≡◌, ℕ, ◌<◌, ◌≤◌, ◌^◌, List, [], ◌∷◌, ◌++◌, refl, sym, subst, arith, IsTrue}
+use Rattle.std.proofs.Common.{ℕ, ◌<◌, ◌^◌, List, [], ◌∷◌, refl, sym, subst, arith, IsTrue}
 use Rattle.line_grammar.specs.Words.{lacks}
 use Rattle.line_grammar.proofs.NumberFacts.{decimal_lacks}
 use Rattle.line_grammar.proofs.WordFacts.{lacks_append, solid_lacks}

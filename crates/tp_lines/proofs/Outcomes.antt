@@ -1,6 +1,5 @@
 -- Two outcomes with one text are one outcome.
-use Rattle.std.proofs.Common.{◌≡◌, ℕ, List, [], ◌∷◌, ◌++◌, refl, sym, ap, ◌∙◌, subst, arith, Bool, true, false, IsTrue, Option, Some, None}
-use Rattle.std.specs.Prelude.{codes}
+use Rattle.std.proofs.Common.{◌≡◌, ℕ, List, [], ◌∷◌, ◌++◌, refl, sym, ap, ◌∙◌, subst, arith, IsTrue, Option, Some, None}
 use Rattle.line_grammar.specs.Parts.{Opens}
 use Rattle.line_grammar.specs.Words.{lacks}
 use Rattle.line_grammar.proofs.Cuts.{Cut, cut, further, nearer, same}

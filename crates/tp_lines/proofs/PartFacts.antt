@@ -1,5 +1,5 @@
 -- What stands in one field.
-use Rattle.std.proofs.Common.{◌≡◌, ℕ, ◌+◌, ◌<◌, ◌≤◌, ◌^◌, List, [], ◌∷◌, ◌++◌, length, refl, sym, ap, ◌∙◌, subst, arith, rules}
+use Rattle.std.proofs.Common.{◌≡◌, ℕ, ◌<◌, ◌≤◌, ◌^◌, List, ◌∷◌, refl, sym, ap, ◌∙◌, subst, arith, rules}
 use Rattle.std.specs.Prelude.{decimal}
 use Rattle.line_grammar.specs.Language.{AnyOf, IsReadTo, IsStuck}
 use Rattle.line_grammar.specs.Numbers.{Numbers}

@@ -1,5 +1,5 @@
 -- The parts of a row, told from what stands at each index.
-use Rattle.std.proofs.Common.{◌≡◌, ℕ, suc, ◌+◌, ◌<◌, ◌≤◌, List, [], ◌∷◌, ◌++◌, length, get_or, refl, sym, ap, ◌∙◌, subst, arith, Bool, true, false, nat_eq, IsTrue}
+use Rattle.std.proofs.Common.{◌≡◌, ℕ, suc, ◌+◌, List, [], ◌∷◌, ◌++◌, length, refl, sym, ap, ◌∙◌, subst, arith, Bool, true, false, nat_eq, IsTrue}
 use Rattle.std.specs.Prelude.{if◌then◌else◌}
 use Rattle.std.proofs.lemmas.List.{append-nil, append_assoc, length-append, get_or_at}
 use Rattle.tp_base.specs.declared.calls.Kind.TheVariants as kind
@@ -11,7 +11,7 @@ use Rattle.tp_lines.specs.declared.words.Field.{Field}
 use Rattle.tp_lines.specs.declared.words.Field.TheVariants as field
 use Rattle.tp_lines.specs.declared.words.Word.{Word}
 use Rattle.tp_lines.specs.declared.words.Word.TheVariants as word
-use Rattle.tp_lines.specs.Parts.{AreFit, Fits, FitsForm, IsNumberPart, IsWordPart, after, form_of, instead_of, number_of, number_part}
+use Rattle.tp_lines.specs.Parts.{AreFit, Fits, FitsForm, IsWordPart, after, form_of, instead_of, number_of, number_part}
 use Rattle.tp_lines.specs.Shapes.{fields_of, table_of}
 use Rattle.tp_lines.specs.Values.{part_at, small_of, large_of, word_of, kind_of, priority_of, length_of, flag_of, slot_of, action_of}
 

@@ -1,5 +1,5 @@
 -- The parts of a row, one after another.
-use Rattle.std.proofs.Common.{◌≡◌, ℕ, zero, suc, ◌+◌, ◌<◌, ◌≤◌, List, [], ◌∷◌, ◌++◌, length, take, drop, refl, sym, ap, ◌∙◌, subst, arith, Bool, true, false, nat_eq}
+use Rattle.std.proofs.Common.{◌≡◌, ℕ, zero, suc, ◌+◌, ◌≤◌, List, [], ◌∷◌, ◌++◌, drop, refl, sym, ap, ◌∙◌, subst, arith, Bool, true, false, nat_eq}
 use Rattle.std.specs.Prelude.{if◌then◌else◌}
 use Rattle.std.proofs.lemmas.List.{append-nil, append_assoc}
 use Rattle.line_grammar.specs.Language.{AnyOf, Stops, IsReadTo, IsStuck}
@@ -9,12 +9,10 @@ use Rattle.line_grammar.proofs.Readings.{read_renamed, stuck_renamed}
 use Rattle.tp_lines.specs.declared.parts.Form.{Form}
 use Rattle.tp_lines.specs.declared.parts.Form.TheVariants as form
 use Rattle.tp_lines.specs.declared.parts.Part.{Part}
-use Rattle.tp_lines.specs.declared.parts.Part.TheVariants as part
 use Rattle.tp_lines.specs.declared.words.Field.{Field}
 use Rattle.tp_lines.specs.declared.words.Field.TheVariants as field
-use Rattle.tp_lines.specs.declared.words.Word.{Word}
 use Rattle.tp_lines.specs.Choices.{PartTexts}
-use Rattle.tp_lines.specs.Parts.{AreFit, Fits, FitsForm, IsPartsText, PartsTexts, after, form_of, instead_of, number_of, number_part, parts_text, room, room_of, text_of_part}
+use Rattle.tp_lines.specs.Parts.{AreFit, Fits, FitsForm, PartsTexts, after, form_of, instead_of, number_of, number_part, parts_text, room, room_of, text_of_part}
 use Rattle.tp_lines.specs.Rows.{ArePartsRead}
 use Rattle.tp_lines.specs.Shapes.{fields_of, table_of}
 use Rattle.tp_lines.proofs.PartFacts.{part_part, some_part}

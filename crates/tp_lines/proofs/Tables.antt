@@ -2,7 +2,7 @@
 use Rattle.std.proofs.Common.{◌≡◌, ℕ, List, [], ◌∷◌, ◌++◌, refl, sym, ap, ◌∙◌, subst, Option, Some, None}
 use Rattle.line_grammar.specs.Language.{AnyOf, IsReadTo, IsStuck}
 use Rattle.line_grammar.specs.Parts.{IsPart, IsTail, Opens}
-use Rattle.line_grammar.proofs.Readings.{part_renamed, read_renamed, stuck_renamed}
+use Rattle.line_grammar.proofs.Readings.{read_renamed, stuck_renamed}
 use Rattle.tp_lines.specs.declared.parts.Form.TheVariants as form
 use Rattle.tp_lines.specs.declared.parts.Part.{Part}
 use Rattle.tp_lines.specs.declared.parts.Part.TheVariants as part

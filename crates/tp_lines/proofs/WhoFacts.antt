@@ -1,20 +1,21 @@
 -- Actors, and the lines of calls.
-use Rattle.std.proofs.Common.{◌≡◌, ℕ, ◌+◌, List, [], ◌∷◌, ◌++◌, drop, refl, sym, ap, ◌∙◌, subst, arith, inl, inr}
-use Rattle.std.specs.Prelude.{Result, Ok, Err, decimal}
+use Rattle.std.proofs.Common.{◌≡◌, ℕ, ◌+◌, List, [], ◌∷◌, ◌++◌, drop, refl, sym, ap, ◌∙◌, subst, arith, inl, inr, Bool, true, false}
+use Rattle.std.specs.Prelude.{Result, Ok, Err, decimal, nat_lt, if◌then◌else◌}
+use Rattle.std.proofs.lemmas.Bool.{ltb-true, ltb-false}
 use Rattle.std.proofs.lemmas.List.{append-nil}
 use Rattle.line_grammar.specs.Language.{AnyOf, IsRead, IsReadTo, IsStuck}
 use Rattle.line_grammar.specs.Numbers.{Numbers}
 use Rattle.line_grammar.specs.Parts.{Led, IsPair, Pairs, IsPart}
 use Rattle.line_grammar.specs.Words.{Either, further_of}
-use Rattle.line_grammar.proofs.NumberFacts.{numbers_part}
+use Rattle.line_grammar.proofs.NumberFacts.{numbers_part, some_number}
 use Rattle.line_grammar.proofs.Pairs.{pairs_read, pairs_stuck_first, pairs_stuck_second, pairs_part}
-use Rattle.line_grammar.proofs.Readings.{read_same, part_renamed, stuck_renamed, led_part}
+use Rattle.line_grammar.proofs.Readings.{read_same, part_renamed, stuck_renamed, led_none, led_part}
 use Rattle.line_grammar.proofs.WordFacts.{further_read}
 use Rattle.tp_base.specs.declared.calls.Call.{Call}
 use Rattle.tp_base.specs.declared.ids.Who.{Who}
 use Rattle.tp_base.specs.declared.ids.Who.TheVariants.{Client, Worker}
 use Rattle.tp_lines.specs.Actors.{ClientTexts, WorkerTexts}
-use Rattle.tp_lines.specs.Calls.{IsCallLine, CallLines, CallTexts, IsWhoText, WhoTexts, line_of_call, row_of}
+use Rattle.tp_lines.specs.Calls.{IsCallLine, CallLines, CallTexts, IsWhoText, WhoTexts, row_of}
 use Rattle.tp_lines.specs.Parts.{row_text}
 use Rattle.tp_lines.specs.Words.{text_of_who}
 use Rattle.tp_lines.proofs.CallFacts.{calls_part, calls_tail}
@@ -46,8 +47,41 @@ who_back : (who : Who) (t : List ℕ) → WhoTexts who t → Either ClientTexts 
 who_back (Client n) t a = inl (record { number = n; is = refl; at_least = a.in_range.0; at_most = a.in_range.1; split = a.split })
 who_back (Worker n) t a = inr (record { number = n; is = refl; at_least = a.in_range.0; at_most = a.in_range.1; split = a.split })
 
-pub who_read : (text : List ℕ) (r q z : Result (Who × ℕ) ℕ) → z ≡ further_of r q → IsRead ClientTexts text r → IsRead WorkerTexts text q → IsRead WhoTexts text z
+who_read : (text : List ℕ) (r q z : Result (Who × ℕ) ℕ) → z ≡ further_of r q → IsRead ClientTexts text r → IsRead WorkerTexts text q → IsRead WhoTexts text z
 who_read text r q z e a b = read_same (Either ClientTexts WorkerTexts) WhoTexts who_to who_back text z (further_read ClientTexts WorkerTexts text r q z e a b)
+
+-- the first byte tells which of both is read
+abbrev Read : Type 0
+Read = Result (Who × ℕ) ℕ
+
+none_below : (b : Bool) (m : ℕ) → nat_lt m 0 ≡ b → (x y : Read) → y ≡ (if b then x else y)
+none_below true m e x y = let no_such : ⊥ = omega (arith, ltb-true m 0 e) in absurd no_such
+none_below false m e x y = refl
+
+stuck_both : (b : Bool) (k : ℕ) → nat_lt 0 k ≡ b → (let x : Read = Err k in x) ≡ (if b then Err k else Err 0)
+stuck_both true k e = refl
+stuck_both false k e = let none : k ≡ 0 = omega (arith, ltb-false 0 k e) in ap (λ i. Err i) none
+
+stuck_left : (z : Read) → z ≡ further_of (Err 0) z
+stuck_left (Ok (w, m)) = none_below (nat_lt m 0) m refl (Err 0) (Ok (w, m))
+stuck_left (Err k) = stuck_both (nat_lt 0 k) k refl
+
+stuck_right : (z : Read) → z ≡ further_of z (Err 0)
+stuck_right (Ok (v, n)) = none_below (nat_lt n 0) n refl (Err 0) (Ok (v, n))
+stuck_right (Err k) = none_below (nat_lt k 0) k refl (Err 0) (Err k)
+
+other_letter : (x : ℕ) (rest text : List ℕ) → text ≡ 119 ∷ rest → (more : List ℕ) → text ≡ x ∷ more → x ≡ 99 → ⊥
+other_letter x rest text e more f at = let same : 119 ≡ x = (let both : 119 ∷ rest ≡ x ∷ more = sym e ∙ f in cc) in omega arith
+
+pub worker_who : (text rest : List ℕ) → text ≡ 119 ∷ rest → (z : Result (Who × ℕ) ℕ) → IsRead WorkerTexts text z → IsRead WhoTexts text z
+worker_who text rest e z read =
+    let none : IsRead ClientTexts text (Err 0) = client_stuck text 0 (led_none 99 (Numbers 1 16) text (decimal 1) (some_number 1 16 (omega arith)) (λ x more f at. other_letter x rest text e more f at)) in
+    who_read text (Err 0) z z (stuck_left z) none read
+
+pub client_who : (text : List ℕ) → ((x : ℕ) (rest : List ℕ) → text ≡ x ∷ rest → x ≡ 119 → ⊥) → (z : Result (Who × ℕ) ℕ) → IsRead ClientTexts text z → IsRead WhoTexts text z
+client_who text other z read =
+    let none : IsRead WorkerTexts text (Err 0) = worker_stuck text 0 (led_none 119 (Numbers 1 64) text (decimal 1) (some_number 1 64 (omega arith)) other) in
+    who_read text z (Err 0) z (stuck_right z) read none
 
 -- actors are parts
 client_part : IsPart 32 (Led 99 (Numbers 1 16))

@@ -1,9 +1,8 @@
 -- What holds of all words: each rule is a test, which computes.
-use Rattle.std.proofs.Common.{◌≡◌, ℕ, ◌+◌, ◌<◌, ◌≤◌, List, [], ◌∷◌, ◌++◌, length, refl, sym, ap, ◌∙◌, subst, arith, ◌⊎◌, inl, inr, Bool, true, false, nat_eq, IsTrue, Option, Some, None}
-use Rattle.std.specs.Prelude.{bytes_eq, nat_le, if◌then◌else◌}
-use Rattle.std.proofs.lemmas.Bool.{eqb-true, leb-true}
-use Rattle.std.proofs.lemmas.Slice.Eq.{bytes_eq-Decides}
-use Rattle.line_grammar.specs.Words.{lacks, is_solid}
+use Rattle.std.proofs.Common.{◌≡◌, ℕ, ◌+◌, ◌≤◌, List, [], ◌∷◌, length, refl, sym, ap, ◌∙◌, inl, inr, Bool, true, false, nat_eq, IsTrue, Option, Some, None}
+use Rattle.std.specs.Prelude.{bytes_eq, nat_le}
+use Rattle.std.proofs.lemmas.Bool.{leb-true}
+use Rattle.line_grammar.specs.Words.{is_solid}
 use Rattle.tp_base.specs.declared.answers.ActionKind.TheVariants as action
 use Rattle.tp_base.specs.declared.answers.SlotWord.TheVariants as slot
 use Rattle.tp_base.specs.declared.calls.Kind.TheVariants as kind

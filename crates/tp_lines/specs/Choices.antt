@@ -1,5 +1,5 @@
 -- The texts of single fields, and of the words of a field.
-use Rattle.std.specs.Prelude.{◌≡◌, ℕ, List, [], ◌∷◌, ◌⊎◌, true, false}
+use Rattle.std.specs.Prelude.{◌≡◌, ℕ, List, [], ◌∷◌, ◌⊎◌, false}
 use Rattle.line_grammar.specs.Parts.{Led}
 use Rattle.tp_base.specs.declared.answers.ActionKind.TheVariants as action
 use Rattle.tp_base.specs.declared.answers.SlotWord.TheVariants as slot

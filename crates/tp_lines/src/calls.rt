@@ -9,7 +9,7 @@ use crate::parts::Parts;
 use crate::rows::read_parts;
 use crate::words::{Field, Word};
 use line_grammar::numbers::read_prefixed;
-use line_grammar::words::further;
+use line_grammar::words::behind;
 use tp_base::calls::{Call, Environ};
 use tp_base::ids::{GroupId, ObjectId, PoolId, RoutineId, Who};
 
@@ -82,9 +82,10 @@ fn read_call(text: &[u8]) -> Result<(Call, usize), usize>
 fn read_who(text: &[u8]) -> Result<(Who, usize), usize>
     ensures { IsRead WhoTexts text.now result }
 {
-    let client = read_client(text);
-    let worker = read_worker(text);
-    further(client, worker)
+    match behind(b'w', text) {
+        Some(_) => read_worker(text),
+        None => read_client(text),
+    }
 }
 
 fn read_client(text: &[u8]) -> Result<(Who, usize), usize>

@@ -280,13 +280,27 @@ fn draw_field(
     alloc: Global,
     out: &mut Vec<u8>,
 ) -> Result<(), AllocError> {
-    let mut chosen = "";
+    let chosen = draws.next(7);
+    let mut index: u64 = 0;
     for alternative in field.split('|') {
-        if chosen.is_empty() || draws.next(3) == 0 {
-            chosen = alternative;
+        if index == chosen {
+            return draw_alternative(alternative, draws, alloc, out);
         }
+        index = index.saturating_add(1);
     }
-    for byte in chosen.as_bytes() {
+    match field.split('|').next() {
+        Some(first) => draw_alternative(first, draws, alloc, out),
+        None => Ok(()),
+    }
+}
+
+fn draw_alternative(
+    alternative: &str,
+    draws: &mut Draws,
+    alloc: Global,
+    out: &mut Vec<u8>,
+) -> Result<(), AllocError> {
+    for byte in alternative.as_bytes() {
         match range_of(*byte) {
             Some(range) => draw_number(range, draws, alloc, out)?,
             None => out.extend_from_slice(&[*byte])?,

@@ -1,5 +1,8 @@
-use Rattle.tp_lines.proofs.WhoFacts.{who_read}
+use Rattle.tp_lines.proofs.WhoFacts.{client_who, worker_who}
 use Rattle.tp_lines.proofs.calls.read_who.Goals as goal
 
-pub returns : goal.returns
-returns c = who_read c.args.text.now c.read_client-client.result c.read_worker-worker.result c.further.result c.further.ensures c.read_client-client.ensures c.read_worker-worker.ensures
+pub returns-in-Some : goal.returns-in-Some
+returns-in-Some c = worker_who c.args.text.now c.in-Some.field-0.now c.in-Some.ensures c.read_worker.result c.read_worker.ensures
+
+pub returns-in-None : goal.returns-in-None
+returns-in-None c = client_who c.args.text.now c.in-None.ensures c.read_client.result c.read_client.ensures

@@ -2,7 +2,7 @@ use Rattle.std.proofs.Common.{sym, subst, ◌+◌}
 use Rattle.line_grammar.specs.Language.{IsStuck}
 use Rattle.tp_lines.specs.Parts.{PartsTexts}
 use Rattle.tp_lines.specs.Rows.{ArePartsRead}
-use Rattle.tp_lines.proofs.RowFacts.{nothing_read, parts_read, parts_stuck_first, parts_stuck_second}
+use Rattle.tp_lines.proofs.RowFacts.{parts_read, parts_stuck_first, parts_stuck_second}
 use Rattle.tp_lines.proofs.rows.+read_parts.Goals as goal
 
 pub returns-in-Err : goal.returns-in-Err

@@ -1,4 +1,4 @@
-use Rattle.std.proofs.Common.{◌≡◌, ◌+◌, ◌≤◌, ap, arith, drop, length, length-drop, length-append}
+use Rattle.std.proofs.Common.{ap, arith, drop, length, length-drop, length-append}
 use Rattle.std.proofs.lemmas.Fmt.{length-decimal-le}
 use Rattle.std.specs.Prelude.{decimal}
 use Rattle.tp_lines.proofs.line.Line.digits.Goals as goal
