@@ -13,7 +13,7 @@
 
 #![tactic(auto)]
 
-ghost use Rattle.std.specs.Prelude.{◌≡◌, ◌+◌, ◌^◌, ◌<◌, ◌≤◌, IfOk, IfSome};
+ghost use Rattle.std.specs.Prelude.{◌≡◌, ◌+◌, ◌^◌, ◌<◌, IfOk, IfSome};
 ghost use Rattle.tp_base.specs.Ranges.{AreLimitsInRange, IsCallInRange, IsAnswerInRange, IsOutcomeInRange};
 ghost use Rattle.tp_model.specs.World.{World, opening};
 ghost use Rattle.tp_model.specs.Counts.{owed};
@@ -63,7 +63,7 @@ impl Model for Engine {
 }
 
 impl Engine {
-    ghost use Rattle.pool_core.specs.Entered.{cost_of, entered};
+    ghost use Rattle.pool_core.specs.Entered.{outcome_of_entry, after_entry};
 
     /// Opens the engine of a machine with these limits, before its first call.
     ///
@@ -106,10 +106,8 @@ impl Engine {
         requires answer_in_range { IsAnswerInRange answer }
         requires change_in_range { IfSome change IsChangeInRange }
         requires young { self.old.age < 2 ^ 47 }
-        ensures full { room < cost_of change → result ≡ Outcome.Full room (cost_of change) }
-        ensures unchanged { room < cost_of change → self.new ≡ self.old }
-        ensures done { cost_of change ≤ room → result ≡ Outcome.Done answer }
-        ensures entered { cost_of change ≤ room → self.new ≡ entered self.old change }
+        ensures outcome { result ≡ outcome_of_entry room answer change }
+        ensures after { self.new ≡ after_entry self.old room change }
         ensures in_range { IsOutcomeInRange result }
     {
         let cost = change.map_or(1, price);

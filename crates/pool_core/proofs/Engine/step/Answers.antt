@@ -36,18 +36,16 @@ returns-in-Looked-clause-meets c w stands =
 
 pub returns-in-Refused-clause-meets : goal.returns-in-Refused-clause-meets
 returns-in-Refused-clause-meets c w stands =
-    let h = c.enter.ensures in
     meets_refused c.args.self.now w c.args.room c.args.who c.args.call c.enter.new.self c.in-Refused.refusal c.enter.result
     (planned c.self.inside c.args.self.now c.args.room c.args.who c.args.call c.plan.result _ c.self.view_is c.plan.ensures.plan c.in-Refused.is)
-    (record { full = h.full; unchanged = h.unchanged; done = h.done; entered = h.entered }) stands
+    c.enter.ensures.outcome c.enter.ensures.after stands
 
 pub returns-in-Does-clause-meets : goal.returns-in-Does-clause-meets
 returns-in-Does-clause-meets c w stands =
-    let h = c.enter-in-Does.ensures in
     meets_done c.args.self.now w c.args.room c.args.who c.args.call c.enter-in-Does.new.self c.in-Does.answer c.in-Does.change c.enter-in-Does.result
     (sound c.self.inside c.args.self.now c.self.view_is c.is_reachable.ensures.sound)
     (planned c.self.inside c.args.self.now c.args.room c.args.who c.args.call c.plan.result _ c.self.view_is c.plan.ensures.plan c.in-Does.is)
-    (record { full = h.full; unchanged = h.unchanged; done = h.done; entered = h.entered }) stands
+    c.enter-in-Does.ensures.outcome c.enter-in-Does.ensures.after stands
 
 -- ---- ranges
 
