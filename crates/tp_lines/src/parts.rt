@@ -356,7 +356,7 @@ fn read_choice(field: Field, text: &[u8]) -> Result<(Word, usize), usize>
     }
 }
 
-/// Reads what stands in a field.
+// Reads what stands in a field.
 fn read_body(field: Field, text: &[u8]) -> Result<(Part, usize), usize>
     ensures { IsRead (BodyTexts field) text.now result }
 {

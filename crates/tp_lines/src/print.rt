@@ -1,7 +1,7 @@
 //! Printing of entries, answers, looks and full.
 
 ghost use Rattle.std.specs.Prelude.{◌≡◌, ◌+◌, ◌≤◌, [], ◌∷◌, ◌++◌, OnErr, OnOk, length};
-ghost use Rattle.tp_lines.specs.Answers.{line_of_entry, row_of_refusal, row_of_result, text_of_answer, text_of_look, text_of_outcome};
+ghost use Rattle.tp_lines.specs.Answers.{line_of_entry, row_of_refusal, row_of_result, text_of_answer, text_of_full, text_of_look, text_of_outcome};
 ghost use Rattle.tp_lines.specs.Calls.{environ_parts, row_of};
 ghost use Rattle.tp_lines.specs.Parts.{parts_of, parts_text, row_text};
 ghost use Rattle.tp_lines.specs.Words.{text_of_who};
@@ -30,6 +30,37 @@ pub fn print_outcome(outcome: &Outcome, out: &mut Vec<u8>) -> Result<(), AllocEr
 {
     let mut line = Line::new();
     put_outcome(outcome, &mut line);
+    out.extend_from_slice(line.as_bytes())
+}
+
+/// Appends the text of an answer. On want of memory nothing is appended.
+pub fn print_answer(answer: &Answer, out: &mut Vec<u8>) -> Result<(), AllocError>
+    ensures ok { OnOk result (out.new.items ≡ out.old.items ++ text_of_answer answer.now) }
+    ensures err { OnErr result (out.new.items ≡ out.old.items) }
+{
+    let mut line = Line::new();
+    put_answer(answer, &mut line);
+    out.extend_from_slice(line.as_bytes())
+}
+
+/// Appends the text of a look. On want of memory nothing is appended.
+pub fn print_look(look: &Look, out: &mut Vec<u8>) -> Result<(), AllocError>
+    ensures ok { OnOk result (out.new.items ≡ out.old.items ++ text_of_look look.now) }
+    ensures err { OnErr result (out.new.items ≡ out.old.items) }
+{
+    let mut line = Line::new();
+    put_look(look, &mut line);
+    out.extend_from_slice(line.as_bytes())
+}
+
+/// Appends what stands for a history that is full: how many entries it has room for, and how many the
+/// call costs. On want of memory nothing is appended.
+pub fn print_full(room: u64, cost: u64, out: &mut Vec<u8>) -> Result<(), AllocError>
+    ensures ok { OnOk result (out.new.items ≡ out.old.items ++ text_of_full room cost) }
+    ensures err { OnErr result (out.new.items ≡ out.old.items) }
+{
+    let mut line = Line::new();
+    put_full(room, cost, &mut line);
     out.extend_from_slice(line.as_bytes())
 }
 
@@ -62,10 +93,15 @@ fn put_outcome(outcome: &Outcome, line: &mut Line)
     match outcome {
         Outcome::Done(answer) => put_answer(answer, line),
         Outcome::Look(look) => put_look(look, line),
-        Outcome::Full { room, cost } => {
-            parts!(line; first(Word::Full) number(*room) number(*cost));
-        }
+        Outcome::Full { room, cost } => put_full(*room, *cost, line),
     }
+}
+
+fn put_full(room: u64, cost: u64, line: &mut Line)
+    requires { line.old ≡ [] }
+    ensures { line.new ≡ text_of_full room cost }
+{
+    parts!(line; first(Word::Full) number(room) number(cost));
 }
 
 fn put_look(look: &Look, line: &mut Line)

@@ -2,7 +2,7 @@
 
 use crate::good::{read_good_call, read_good_entry};
 use crate::parse::{LineFault, LineKind, parse_call, parse_entry};
-use crate::print::{print_entry, print_outcome};
+use crate::print::{print_answer, print_entry, print_full, print_look, print_outcome};
 use std::alloc::{AllocError, Global};
 use std::process::Abort;
 use std::test::Fail;
@@ -616,6 +616,16 @@ fn outcomes_printed(rt: HostRuntime) -> Result<(), Fail> {
     for (text, outcome) in cases {
         check_outcome(&rt, rt.alloc(), text, outcome)?;
     }
+    Ok(())
+}
+
+#[test]
+fn parts_of_outcomes_printed(rt: HostRuntime) -> Result<(), Fail> {
+    let mut out = Vec::new(rt.alloc());
+    print_answer(&Answer::Done, &mut out)?;
+    print_look(&Look::Empty, &mut out)?;
+    print_full(1, 3, &mut out)?;
+    assert_eq!(rt; out.as_slice(), "oklook emptyfull 1 3".as_bytes());
     Ok(())
 }
 
