@@ -104,9 +104,11 @@ leads_somewhere() {
     [[ -e $to ]] && { [[ $2 != *'#'* ]] || headings_of "$to" | awk -v wanted="${2#*#}" '$0 == wanted { found = 1 } END { exit !found }'; }
 }
 
-# The table of the README is the example that it names.
-table_is_example() { diff <(tables_of "$here/README.md" '| Call | Prints |' | sed -n '/^--$/q;s/\t.*//p') "$here/examples/pools.trace"; }
-try 'the table of the README is examples/pools.trace' 0 '' '' table_is_example
+# The tables of the README are the examples that it names.
+tables_are_examples() {
+    diff <(tables_of "$here/README.md" '| Call | Prints |' | sed -n '/^--$/d;s/\t.*//p') <(cat "$here/examples/shutdown.trace" "$here/examples/pools.trace")
+}
+try 'the tables of the README are its examples' 0 '' '' tables_are_examples
 
 names_kit() { awk -v kit="$(sed -n "s/^kit='\(.*\)'/\1/p" "$tpool")" 'index($0, kit) { found = 1 } END { exit !found }' "$here/README.md"; }
 try 'the README names the kit of the script' 0 '' '' names_kit
