@@ -1,6 +1,6 @@
 -- Words and choices.
 use Rattle.std.proofs.Common.{◌≡◌, ℕ, ◌+◌, ◌-◌, ◌<◌, ◌≤◌, List, [], ◌∷◌, ◌++◌, length, take, drop, get_or, refl, sym, ap, ◌∙◌, subst, arith, length-drop, ◌⊎◌, inl, inr, Bool, true, false, nat_eq, IsTrue}
-use Rattle.std.proofs.lemmas.Bool.{ltb-true, ltb-false, cases_eq, eqb-false, eqb-true, leb-true}
+use Rattle.std.proofs.lemmas.Bool.{ltb-true, ltb-false, cases_eq, eqb-false, eqb-true, leb-false, leb-true}
 use Rattle.std.proofs.lemmas.List.{append-nil, append_assoc, length-take-le, take-append-drop, get_or-drop, get_or_at, drop-drop, take_more}
 use Rattle.std.proofs.Math.Seq.{take-add}
 use Rattle.std.proofs.lemmas.Slice.Eq.{bytes_eq-Decides}
@@ -184,3 +184,16 @@ solid_lacks separator low (x ∷ text) h =
 pub solid_behind : (front : List ℕ) (x : ℕ) (more : List ℕ) → IsTrue (is_solid (front ++ x ∷ more)) → x < 45 → ⊥
 solid_behind [] x more h low = omega (arith, (solid_cons x more (nat_le 45 x) refl h).0)
 solid_behind (y ∷ front) x more h low = solid_behind front x more (solid_cons y (front ++ x ∷ more) (nat_le 45 y) refl h).1 low
+
+solid_all : (x : ℕ) (text : List ℕ) (b : Bool) → nat_le 45 x ≡ b → 45 ≤ x → IsTrue (is_solid text) → IsTrue (if b then is_solid text else false)
+solid_all x text true e high h = h
+solid_all x text false e high h = let no_such : ⊥ = omega (arith, leb-false 45 x e) in absurd no_such
+
+solid_push : (x : ℕ) (text : List ℕ) → 45 ≤ x → IsTrue (is_solid text) → IsTrue (is_solid (text ++ x ∷ []))
+solid_push x [] high h = solid_all x [] (nat_le 45 x) refl high h
+solid_push x (y ∷ text) high h =
+    let parts = solid_cons y text (nat_le 45 y) refl h in
+    solid_all y (text ++ x ∷ []) (nat_le 45 y) refl parts.0 (solid_push x text high parts.1)
+
+pub solid_next : (text : List ℕ) (i : ℕ) → i < length text → IsTrue (is_solid (take i text)) → 45 ≤ get_or text i 0 → IsTrue (is_solid (take (i + 1) text))
+solid_next text i inside h high = subst (λ t. IsTrue (is_solid t)) (sym (take_more text i 0 inside)) (solid_push (get_or text i 0) (take i text) high h)

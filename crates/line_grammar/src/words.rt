@@ -3,7 +3,7 @@
 ghost use Rattle.std.specs.Prelude.{◌≡◌, ◌≢◌, ◌<◌, ◌≤◌, ℕ, List, ◌∷◌, IsTrue, MatchOption, drop, length, take, slice_index};
 ghost use Rattle.line_grammar.specs.Language.{IsRead};
 ghost use Rattle.line_grammar.specs.Parts.{Opens};
-ghost use Rattle.line_grammar.specs.Words.{Word, EndsWord, further_of, lacks};
+ghost use Rattle.line_grammar.specs.Words.{Word, EndsWord, further_of, is_solid, lacks};
 
 /// Reads the word at the front of the text, which then stands for `meaning`.
 pub fn read_word<V: Copy>(meaning: V, word: &str, text: &[u8]) -> Result<(V, usize), usize>
@@ -84,6 +84,7 @@ pub fn size_before(separator: u8, text: &[u8]) -> usize
 /// no such bytes; a space and a line feed are.
 pub fn word_size(text: &[u8]) -> usize
     ensures within { result ≤ length text.now }
+    ensures solid { IsTrue (is_solid (take result text.now)) }
     ensures ended { EndsWord (drop result text.now) }
 {
     for (place, byte) in text.iter().enumerate() {
