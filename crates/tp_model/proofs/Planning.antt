@@ -47,7 +47,7 @@ use Rattle.tp_model.specs.Told.{told, told_by}
 use Rattle.tp_model.specs.Safe.{IsSafe}
 use Rattle.tp_model.proofs.Lists.{all_get, find_all}
 use Rattle.tp_model.proofs.Refusals.{NoneHolds, none_holds, neither, not_false, both, made, numbered_some, false_true}
-use Rattle.tp_model.proofs.Actors.{IsIdle, idle_stands, busy_stands, next_pending, pool_found}
+use Rattle.tp_model.proofs.Actors.{IsIdle, IsBusy, idle_stands, busy_stands, next_pending, pool_found}
 
 -- what follows where no refusal applies
 safe_unless : (fresh : ℕ) (w : World) (who : Who) (call : Call) (rs : List (Bool × Refusal)) (p : Plan) → (NoneHolds rs → IsSafe fresh w who call p) → IsSafe fresh w who call (unless_refused (first_refusal rs) p)
@@ -191,31 +191,28 @@ take_safe fresh w who s = safe_unless fresh w who Take (idle_refusals w who) _ (
     takes None is = tt
     takes (Some by) is = taken by (next w by.pool.0) (idle_stands w who by is) refl
 
+-- of a call that only a running callback makes
+in_callback_safe : (fresh : ℕ) (w : World) (who : Who) (call : Call) (rs : List (Bool × Refusal)) (by : Option Busy → Plan) → IsSound fresh w → IsSafe fresh w who call (by None)
+    → ((busy : Busy) → IsBusy w who busy → IsSafe fresh w who call (by (Some busy))) → IsSafe fresh w who call (unless_refused (first_refusal rs) (by (busy_of w who)))
+in_callback_safe fresh w who call rs by s none some = safe_unless fresh w who call rs _ (λ _. runs (busy_of w who) refl)
+  where
+    runs : (b : Option Busy) → busy_of w who ≡ b → IsSafe fresh w who call (by b)
+    runs None is = none
+    runs (Some busy) is = some busy (busy_stands fresh w who busy s is)
+
 return_safe : (fresh : ℕ) (w : World) (who : Who) → IsSound fresh w → IsSafe fresh w who Return (return_plan w who)
 unfolding return_plan
-return_safe fresh w who s = safe_unless fresh w who Return (return_refusals w who) _ (λ _. returns (busy_of w who) refl)
-  where
-    returns : (by : Option Busy) → busy_of w who ≡ by → IsSafe fresh w who Return (return by)
-    returns None is = tt
-    returns (Some by) is = let busy = busy_stands fresh w who by s is in record { allowed = busy.runs; made_by = busy.actor; accepted = refl; tells = refl }
+return_safe fresh w who s = in_callback_safe fresh w who Return (return_refusals w who) return s tt (λ _ b. record { allowed = b.runs; made_by = b.actor; accepted = refl; tells = refl })
 
 -- ---- in a callback
 
 may_run_long_safe : (fresh : ℕ) (w : World) (who : Who) → IsSound fresh w → IsSafe fresh w who MayRunLong (may_run_long_plan w who)
 unfolding may_run_long_plan
-may_run_long_safe fresh w who s = safe_unless fresh w who MayRunLong (busy_refusals w who) _ (λ _. marks (busy_of w who) refl)
-  where
-    marks : (by : Option Busy) → busy_of w who ≡ by → IsSafe fresh w who MayRunLong (may_run_long w by)
-    marks None is = tt
-    marks (Some by) is = let busy = busy_stands fresh w who by s is in record { allowed = busy.runs; made_by = busy.actor; accepted = refl; tells = refl }
+may_run_long_safe fresh w who s = in_callback_safe fresh w who MayRunLong (busy_refusals w who) (may_run_long w) s tt (λ _ b. record { allowed = b.runs; made_by = b.actor; accepted = refl; tells = refl })
 
 disassociate_safe : (fresh : ℕ) (w : World) (who : Who) → IsSound fresh w → IsSafe fresh w who Disassociate (disassociate_plan w who)
 unfolding disassociate_plan
-disassociate_safe fresh w who s = safe_unless fresh w who Disassociate (busy_refusals w who) _ (λ _. loosens (busy_of w who) refl)
-  where
-    loosens : (by : Option Busy) → busy_of w who ≡ by → IsSafe fresh w who Disassociate (disassociate by)
-    loosens None is = tt
-    loosens (Some by) is = let busy = busy_stands fresh w who by s is in record { allowed = busy.runs; made_by = busy.actor; accepted = refl; tells = refl }
+disassociate_safe fresh w who s = in_callback_safe fresh w who Disassociate (busy_refusals w who) disassociate s tt (λ _ b. record { allowed = b.runs; made_by = b.actor; accepted = refl; tells = refl })
 
 -- ---- waits
 
