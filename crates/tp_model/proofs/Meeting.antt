@@ -11,7 +11,7 @@ use Rattle.tp_model.specs.World.{World}
 use Rattle.tp_model.specs.Counts.{owed}
 use Rattle.tp_model.specs.Changes.{changed}
 use Rattle.tp_model.specs.Step.{Step, Accepted, Refused, Looked, Full, stepped, unless_full, within, cost, outcome_of, world_after, is_accepted}
-use Rattle.tp_model.specs.Table.{plan_at, row, step}
+use Rattle.tp_model.specs.Table.{plan_at, unpriced, step}
 use Rattle.tp_model.specs.Sound.{IsSound}
 use Rattle.tp_model.specs.Safe.{IsSafe}
 use Rattle.tp_model.specs.Remembered.{Remembered, forget, made_by, step_of, remembered_after, StandsFor, Meets, Goes}
@@ -39,12 +39,12 @@ plan_alike fresh w who call (plan.Does answer ch) s safe left =
     let left_more = grows fresh (forget w) ch left.allowed in
     (refl, changed_forget fresh w ch s safe.allowed, omega (arith, more, left_more), omega (arith, more))
 
-row_alike : (room : ℕ) (w : World) (who : Who) (call : Call) → IsSound (length w.callbacks + 1) w → AreAlike (forget w) w (stepped (forget w) (plan_at (forget w) (length w.callbacks + 1) room who call)) (row w room who call)
-row_alike room w who call s =
+unpriced_alike : (room : ℕ) (w : World) (who : Who) (call : Call) → IsSound (length w.callbacks + 1) w → AreAlike (forget w) w (stepped (forget w) (plan_at (forget w) (length w.callbacks + 1) room who call)) (unpriced w room who call)
+unpriced_alike room w who call s =
     let fresh : ℕ = length w.callbacks + 1 in
     let same : plan_at (forget w) fresh room who call ≡ plan_at w fresh room who call = plan_forget fresh room w who call s in
     let left : IsSafe fresh (forget w) who call (plan_at w fresh room who call) = subst (IsSafe fresh (forget w) who call) same (plan_safe fresh room (forget w) who call (forget_sound fresh w s)) in
-    subst (λ p. AreAlike (forget w) w (stepped (forget w) p) (row w room who call)) (sym same)
+    subst (λ p. AreAlike (forget w) w (stepped (forget w) p) (unpriced w room who call)) (sym same)
     (plan_alike fresh w who call (plan_at w fresh room who call) s (plan_safe fresh room w who call s) left)
 
 -- each step leads to a world of which the same is true
@@ -53,8 +53,8 @@ step_sound fresh w who call (plan.Refused refusal) s safe = subst (λ n. IsSound
 step_sound fresh w who call (plan.Looked look) s safe = subst (λ n. IsSound n w) (omega arith) s
 step_sound fresh w who call (plan.Does answer ch) s safe = subst (λ n. IsSound n (changed w ch)) (omega (arith, grows fresh w ch safe.allowed)) (changed_sound fresh w ch s safe.allowed)
 
-row_sound : (room : ℕ) (w : World) (who : Who) (call : Call) → IsSound (length w.callbacks + 1) w → IsSound (length w.callbacks + 1 + made_by w (row w room who call)) (world_after w (row w room who call))
-row_sound room w who call s = step_sound (length w.callbacks + 1) w who call (plan_at w (length w.callbacks + 1) room who call) s (plan_safe (length w.callbacks + 1) room w who call s)
+unpriced_sound : (room : ℕ) (w : World) (who : Who) (call : Call) → IsSound (length w.callbacks + 1) w → IsSound (length w.callbacks + 1 + made_by w (unpriced w room who call)) (world_after w (unpriced w room who call))
+unpriced_sound room w who call s = step_sound (length w.callbacks + 1) w who call (plan_at w (length w.callbacks + 1) room who call) s (plan_safe (length w.callbacks + 1) room w who call s)
 
 -- ---- with the room of a history
 
@@ -135,7 +135,7 @@ forgotten_step w room who call = within (forget w) room (stepped (forget w) (pla
 step_alike : (w : World) (room : ℕ) (who : Who) (call : Call) → IsSound (length w.callbacks + 1) w → GoesAlike (forget w) w (forgotten_step w room who call) (step w room who call)
 step_alike w room who call s =
     goes_alike w (forgotten_step w room who call) (step w room who call)
-    (within_alike w room (stepped (forget w) (plan_at (forget w) (length w.callbacks + 1) room who call)) (row w room who call) (row_alike room w who call s))
+    (within_alike w room (stepped (forget w) (plan_at (forget w) (length w.callbacks + 1) room who call)) (unpriced w room who call) (unpriced_alike room w who call s))
 
 -- what is remembered after a step is what lives after it, and how many were made
 remembered_world : (e : Remembered) (s : Step) → forget e.world ≡ e.world → (remembered_after e s).world ≡ forget (world_after e.world s)
@@ -175,7 +175,7 @@ meets old new w room who call told goes stands =
         remembers = ap (λ (r : Remembered). r.world) is ∙ remembered_world old (step_of old room who call) whole ∙ left;
         counts = counted;
         sound = subst (λ n. IsSound n (world_after w (step w room who call))) (omega (arith, counted, alike.more))
-            (sound_within fresh w room (row w room who call) sound (row_sound room w who call sound));
+            (sound_within fresh w room (unpriced w room who call) sound (unpriced_sound room w who call sound));
       };
       ages = ap (λ (r : Remembered). r.age) is ∙ remembered_age old (step_of old room who call) ∙ ap (λ b. cond b (old.age + 1) old.age) (ap is_accepted same ∙ alike.accepted);
     }

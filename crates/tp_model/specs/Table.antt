@@ -39,9 +39,9 @@ abbrev pub plan : World → ℕ → Who → Call → Plan
 plan w room who call = plan_at w (length w.callbacks + 1) room who call
 
 -- what a call comes to in a world whose history has this room, but for what it costs
-abbrev pub row : World → ℕ → Who → Call → Step
-row w room who call = stepped w (plan w room who call)
+abbrev pub unpriced : World → ℕ → Who → Call → Step
+unpriced w room who call = stepped w (plan w room who call)
 
 -- what a call comes to in a world whose history has this room
 abbrev pub step : World → ℕ → Who → Call → Step
-step w room who call = within w room (row w room who call)
+step w room who call = within w room (unpriced w room who call)
