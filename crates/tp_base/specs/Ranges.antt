@@ -2,7 +2,7 @@
 use Rattle.std.specs.Prelude.{◌≡◌, ℕ, ◌<◌, ◌≤◌, ◌^◌}
 use Rattle.tp_base.specs.declared.limits.Limits.{Limits}
 use Rattle.tp_base.specs.declared.calls.Call.{Call}
-use Rattle.tp_base.specs.declared.calls.Call.TheVariants.{CreatePool, ClosePool, SetMaximum, SetMinimum, Create, SubmitWork, Attach, Detach, Take, Return, MayRunLong, Finish}
+use Rattle.tp_base.specs.declared.calls.Call.TheVariants.{CreatePool, ClosePool, SetMaximum, SetMinimum, Create, CloseObject, SubmitSimple, SubmitWork, BeginWait, End, Attach, Detach, Take, Return, MayRunLong, Disassociate, Finish}
 use Rattle.tp_base.specs.declared.calls.Environ.{Environ}
 use Rattle.tp_base.specs.declared.answers.Answer.{Answer}
 use Rattle.tp_base.specs.declared.answers.Answer.TheVariants as answer
@@ -42,7 +42,12 @@ pub record IsRoutineInRange (routine : ℕ) : Type 0 where
 -- the numbers of a call are those that a line can have
 abbrev pub IsCallInRange : Call → Type 0
 IsCallInRange (Create kind routine context env) = IsRoutineInRange routine.0 × IsEnvironInRange env
+IsCallInRange (CloseObject kind object) = object.0 ≤ 65535
+IsCallInRange (SubmitSimple routine context env) = IsRoutineInRange routine.0 × IsEnvironInRange env
 IsCallInRange (SubmitWork object) = object.0 ≤ 65535
+IsCallInRange (BeginWait kind object cancel) = object.0 ≤ 65535
+IsCallInRange End = Unit {0}
+IsCallInRange Disassociate = Unit {0}
 IsCallInRange CreatePool = Unit {0}
 IsCallInRange (ClosePool pool) = pool.0 ≤ 65535
 IsCallInRange (SetMaximum pool value) = pool.0 ≤ 65535

@@ -61,10 +61,31 @@ pub enum Call {
         context: u64,
         env: Environ,
     },
+    /// Releases an object: `CloseThreadpoolWork` and its like for the other kinds.
+    CloseObject {
+        kind: Kind,
+        object: ObjectId,
+    },
+    /// Makes one pending callback without an object: `TrySubmitThreadpoolCallback`.
+    SubmitSimple {
+        routine: RoutineId,
+        context: u64,
+        env: Environ,
+    },
     /// Makes one pending callback of a work object: `SubmitThreadpoolWork`.
     SubmitWork {
         object: ObjectId,
     },
+    /// Begins a wait for the callbacks of an object, those that are pending cancelled or not:
+    /// `WaitForThreadpoolWorkCallbacks` and its like for the other kinds.
+    BeginWait {
+        kind: Kind,
+        object: ObjectId,
+        cancel: bool,
+    },
+    /// Ends the wait that the actor has begun, if nothing is left to wait for: the return of the
+    /// function that began it.
+    End,
     /// An unattached worker joins a pool that needs one.
     Attach,
     /// An idle worker leaves its pool, if it isn't wanted there.
@@ -75,6 +96,8 @@ pub enum Call {
     Return,
     /// A running callback says that it may run long: `CallbackMayRunLong`.
     MayRunLong,
+    /// A running callback is no longer waited for: `DisassociateCurrentThreadFromCallback`.
+    Disassociate,
     /// A client makes no further call.
     Finish,
 }
@@ -106,8 +129,12 @@ impl Call {
         ensures { IsTrue result ↔ IsCallInRange self.now }
     {
         match self {
-            Call::Create { routine, env, .. } => routine.in_range() && env.in_range(),
-            Call::SubmitWork { object } => object.0 <= 65_535,
+            Call::Create { routine, env, .. } | Call::SubmitSimple { routine, env, .. } => {
+                routine.in_range() && env.in_range()
+            }
+            Call::SubmitWork { object }
+            | Call::CloseObject { object, .. }
+            | Call::BeginWait { object, .. } => object.0 <= 65_535,
             Call::ClosePool { pool } => pool.0 <= 65_535,
             Call::SetMaximum { pool, .. } => pool.0 <= 65_535,
             Call::SetMinimum { pool, .. } => pool.0 <= 65_535,
@@ -117,6 +144,8 @@ impl Call {
             | Call::Take
             | Call::Return
             | Call::MayRunLong
+            | Call::Disassociate
+            | Call::End
             | Call::Finish => true,
         }
     }

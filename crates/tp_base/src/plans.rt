@@ -1,8 +1,8 @@
 //! What a call comes to, as data: a refusal, a look, or an answer with the change that goes with it.
 
 use crate::answers::{Answer, Look, Refusal};
-use crate::ids::PoolId;
-use crate::rows::{CallbackRow, ObjectRow};
+use crate::ids::{ObjectId, PoolId, Who};
+use crate::rows::{CallbackRow, ObjectRow, WaitTarget};
 
 /// A worker that is attached to a pool and runs nothing.
 #[derive(Clone, Copy)]
@@ -34,6 +34,17 @@ pub enum PoolChange {
 pub enum Mark {
     /// It may run long.
     Long,
+    /// No wait for its object is for it any more.
+    Loose,
+}
+
+/// How a begun wait ends.
+#[derive(Clone, Copy)]
+pub enum WaitEnd {
+    /// Nothing that it covers is outstanding any more.
+    Free,
+    /// Something that it covers is pending, and the history has no room for it to be run.
+    Exhausted,
 }
 
 /// How a world changes by an accepted call.
@@ -47,6 +58,9 @@ pub enum Change {
     },
     /// A further object.
     CreateObject(ObjectRow),
+    ReleaseObject {
+        object: ObjectId,
+    },
     /// A further callback, which waits for a worker.
     QueueCallback(CallbackRow),
     /// A worker joins a pool.
@@ -67,6 +81,17 @@ pub enum Change {
     },
     /// The callback that a worker runs returns.
     Return(Busy),
+    /// An actor begins a wait, which covers what is then outstanding; with `cancel` what is pending
+    /// is cancelled first.
+    BeginWait {
+        who: Who,
+        target: WaitTarget,
+        cancel: bool,
+    },
+    EndWait {
+        who: Who,
+        how: WaitEnd,
+    },
     /// A client makes no further call.
     Finish {
         client: u32,

@@ -1,24 +1,35 @@
 -- What changes cost.
-use Rattle.std.proofs.Common.{◌≡◌, ℕ, ◌+◌, ◌-◌, Bool, true, false, cond, not, [], ◌∷◌, ◌++◌, length, Option, Some, None, is_some, refl, ap, ◌∙◌, arith, slice_get, filter, find, sum_by, length-append}
+use Rattle.std.proofs.Common.{◌≡◌, ℕ, ◌+◌, ◌-◌, Bool, true, false, cond, not, List, [], ◌∷◌, ◌++◌, length, Option, Some, None, is_some, refl, sym, ap, ◌∙◌, subst, arith, slice_get, filter, find, sum_by, length-append}
 use Rattle.std.proofs.lemmas.List.Elements.{filter-append}
 use Rattle.tp_base.specs.declared.ids.PoolId.{PoolId}
 use Rattle.tp_base.specs.declared.plans.Change.{Change}
 use Rattle.tp_base.specs.declared.plans.Change.TheVariants as change
 use Rattle.tp_base.specs.declared.plans.Mark.{Mark}
-use Rattle.tp_base.specs.declared.plans.Mark.TheVariants.{Long}
+use Rattle.tp_base.specs.declared.plans.Mark.TheVariants.{Long, Loose}
 use Rattle.tp_base.specs.declared.plans.PoolChange.{PoolChange}
+use Rattle.tp_base.specs.declared.ids.Who.{Who}
 use Rattle.tp_base.specs.declared.rows.PoolRow.{PoolRow}
+use Rattle.tp_base.specs.declared.rows.ObjectRow.{ObjectRow}
+use Rattle.tp_base.specs.declared.rows.WaitTarget.{WaitTarget}
+use Rattle.tp_base.specs.declared.rows.Status.{Status}
+use Rattle.tp_base.specs.declared.rows.Status.TheVariants.{Running}
 use Rattle.tp_base.specs.declared.rows.CallbackRow.{CallbackRow}
 use Rattle.tp_base.specs.declared.rows.WorkerRow.{WorkerRow}
 use Rattle.tp_base.specs.declared.rows.ClientRow.{ClientRow}
-use Rattle.tp_model.specs.World.{World, unattached, unfinished}
+use Rattle.std.specs.List.{AllByRecursion, list_any}
+use Rattle.std.proofs.lemmas.List.Sums.{sum_by-cons}
+use Rattle.tp_model.specs.Conditions.{is_same_actor, is_in_wait}
+use Rattle.tp_model.specs.Waits.{is_cancelled_by, cancel_where, wait_of}
+use Rattle.tp_model.specs.World.{World, BegunWait, unattached, unfinished}
 use Rattle.tp_model.specs.Counts.{numbered, has_number, is_pending, is_running, owed}
-use Rattle.tp_model.specs.Changes.{with_new_callback, with_callback, with_worker, with_client, change_pool, taken, marked, returned, changed}
-use Rattle.tp_model.specs.Sound.{IsSound}
+use Rattle.tp_model.specs.Changes.{with_new_callback, with_callback, with_worker, with_client, change_pool, taken, marked, returned, changed, loosened, release_object, new_wait, without_wait}
+use Rattle.tp_model.specs.Sound.{IsSound, AreApart}
 use Rattle.tp_model.specs.Allowed.{IsAllowed, price}
 use Rattle.tp_model.proofs.Lists.{length_filter_set}
 use Rattle.tp_model.proofs.Callbacks.{length_filter_replaced, pending_not_running}
-use Rattle.tp_model.proofs.Refusals.{numbered_some}
+use Rattle.tp_model.proofs.Cancelling.{cancelled_pending, count_uncancelled}
+use Rattle.tp_model.proofs.Preserving.{sound_begin_wait, sound_end_wait}
+use Rattle.tp_model.proofs.Refusals.{neither, numbered_some, same_actor_is}
 
 abbrev one_if : Bool → ℕ
 one_if b = cond b 1 0
@@ -94,10 +105,64 @@ owed_finished w number old is unfinished =
     let one : one_if (goes_on old) ≡ 1 = ap (λ b. one_if (not b)) unfinished in
     omega (arith, changed, one)
 
+-- a row that runs in the place of one that runs
+owed_same : (fresh : ℕ) (w : World) (r c : CallbackRow) → IsSound fresh w → find (has_number r.number) w.callbacks ≡ Some c → is_running r.status ≡ is_running c.status → owed (with_callback w r) ≡ owed w
+owed_same fresh w r c s found same =
+    let changed : owed (with_callback w r) + one_if (runs c) ≡ owed w + one_if (runs r) = owed_callback fresh w c r s found in
+    let alike : one_if (runs r) ≡ one_if (runs c) = ap one_if same in
+    omega (arith, changed, alike)
+
+loosened_runs : (s : Status) → is_running (loosened s) ≡ is_running s
+loosened_runs (Running worker associated slots) = refl
+loosened_runs _ = refl
+
 owed_marked : (fresh : ℕ) (w : World) (mark : Mark) (c : CallbackRow) → IsSound fresh w → find (has_number c.number) w.callbacks ≡ Some c → owed (with_callback w (marked mark c)) ≡ owed w
-owed_marked fresh w Long c s found =
-    let changed : owed (with_callback w (marked Long c)) + one_if (runs c) ≡ owed w + one_if (runs (marked Long c)) = owed_callback fresh w c (marked Long c) s found in
-    omega (arith, changed)
+owed_marked fresh w Long c s found = owed_same fresh w (marked Long c) c s found refl
+owed_marked fresh w Loose c s found = owed_same fresh w (marked Loose c) c s found (loosened_runs c.status)
+
+owed_release : (w : World) (object : ℕ) (row : Option ObjectRow) → owed (release_object w object row) ≡ owed w
+owed_release w object None = refl
+owed_release w object (Some row) = refl
+
+-- the notices of waits that have none
+no_notices : (bs : List BegunWait) → AllByRecursion (λ (b : BegunWait). b.notices ≡ []) bs → sum_by (λ (b : BegunWait). length b.notices) bs ≡ 0
+no_notices [] all = refl
+no_notices (b ∷ bs) all = sum_by-cons (λ (x : BegunWait). length x.notices) b bs ∙ omega (arith, ap length all.0, no_notices bs all.1)
+
+-- a wait that begins will end
+owed_begin_wait : (fresh : ℕ) (w : World) (who : Who) (target : WaitTarget) (cancel : Bool) → IsSound fresh w → is_in_wait w who ≡ false → owed (changed w (change.BeginWait who target cancel)) ≡ owed w + 1
+owed_begin_wait fresh w who target cancel s none =
+    let test : CallbackRow → Bool = is_cancelled_by target cancel in
+    let after : IsSound fresh (changed w (change.BeginWait who target cancel)) = sound_begin_wait fresh w who target cancel none s in
+    let run : length (filter runs (cancel_where test w.callbacks)) ≡ length (filter runs w.callbacks)
+    = count_uncancelled runs test (λ c e. sym (pending_not_running c.status (cancelled_pending target cancel c e))) w.callbacks in
+    let longer : length (w.waits ++ new_wait who target cancel (cancel_where test w.callbacks) ∷ []) ≡ length w.waits + 1 = length-append w.waits (new_wait who target cancel (cancel_where test w.callbacks) ∷ []) in
+    omega (arith, run, longer, no_notices w.waits s.unnoticed, no_notices (w.waits ++ new_wait who target cancel (cancel_where test w.callbacks) ∷ []) after.unnoticed)
+
+-- of waits of different actors an actor has one at most
+one_wait : (who : Who) (bs : List BegunWait) (b : BegunWait) → AreApart bs → find (λ (x : BegunWait). is_same_actor x.actor who) bs ≡ Some b → length (filter (λ (x : BegunWait). not (is_same_actor x.actor who)) bs) + 1 ≡ length bs
+one_wait who [] b a e = absurd cc
+one_wait who (c ∷ bs) b a e =
+    elim (is_same_actor c.actor who) as (λ t. is_same_actor c.actor who ≡ t → cond t (Some c) (find (λ (x : BegunWait). is_same_actor x.actor who) bs) ≡ Some b
+    → length (cond (not t) (c ∷ filter (λ (x : BegunWait). not (is_same_actor x.actor who)) bs) (filter (λ (x : BegunWait). not (is_same_actor x.actor who)) bs)) + 1 ≡ length (c ∷ bs)) [
+      | true ↦ λ is _.
+          let own : c.actor ≡ who = same_actor_is c.actor who is in
+          let others : filter (λ (x : BegunWait). not (is_same_actor x.actor who)) bs ≡ bs = all_others bs (subst (λ z. list_any (λ (x : BegunWait). is_same_actor x.actor z) bs ≡ false) own a.0) in
+          omega (arith, ap length others)
+      | false ↦ λ _ h. omega (arith, one_wait who bs b a.1 h)
+    ] refl e
+  where
+    all_others : (xs : List BegunWait) → list_any (λ (x : BegunWait). is_same_actor x.actor who) xs ≡ false → filter (λ (x : BegunWait). not (is_same_actor x.actor who)) xs ≡ xs
+    all_others [] none = refl
+    all_others (x ∷ xs) none =
+        let both_none = neither (is_same_actor x.actor who) (list_any (λ (y : BegunWait). is_same_actor y.actor who) xs) none in
+        ap (λ t. cond (not t) (x ∷ filter (λ (y : BegunWait). not (is_same_actor y.actor who)) xs) (filter (λ (y : BegunWait). not (is_same_actor y.actor who)) xs)) both_none.0
+        ∙ ap (λ l. x ∷ l) (all_others xs both_none.1)
+
+owed_end_wait : (fresh : ℕ) (w : World) (who : Who) (b : BegunWait) → IsSound fresh w → wait_of w who ≡ Some b → owed (without_wait w who) + 1 ≡ owed w
+owed_end_wait fresh w who b s begun =
+    let after : IsSound fresh (without_wait w who) = sound_end_wait fresh w who s in
+    omega (arith, one_wait who w.waits b s.apart begun, no_notices w.waits s.unnoticed, no_notices (filter (λ (x : BegunWait). not (is_same_actor x.actor who)) w.waits) after.unnoticed)
 
 owed_change_pool : (w : World) (pool : ℕ) (how : PoolChange) (row : Option PoolRow) → owed (change_pool w pool how row) ≡ owed w
 owed_change_pool w pool how None = refl
@@ -108,6 +173,7 @@ pub paid : (fresh : ℕ) (w : World) (ch : Change) → IsSound fresh w → IsAll
 paid fresh w change.CreatePool s a = omega arith
 paid fresh w (change.ChangePool pool how) s a = omega (arith, owed_change_pool w pool.0 how (slice_get w.pools pool.0))
 paid fresh w (change.CreateObject row) s a = omega arith
+paid fresh w (change.ReleaseObject object) s a = omega (arith, owed_release w object.0 (numbered w.objects object.0))
 paid fresh w (change.QueueCallback c) s a = omega (arith, owed_new_callback w c (pending_not_running c.status a.pending))
 paid fresh w (change.Attach worker pool) s a = omega (arith, owed_attached w worker unattached pool a.stands refl)
 paid fresh w (change.Detach by) s a =
@@ -118,4 +184,6 @@ paid fresh w (change.Take by c) s a = omega (arith, owed_taken fresh w by.worker
 paid fresh w (change.Mark by mark) s a = omega (arith, owed_marked fresh w mark by.callback s a.found)
 paid fresh w (change.Return by) s a =
     omega (arith, owed_returned fresh w by.worker (record { pool = Some by.pool; callback = Some by.callback.number }) by.callback s a.stands a.found (ap is_running a.running))
+paid fresh w (change.BeginWait who target cancel) s a = omega (arith, owed_begin_wait fresh w who target cancel s a.none)
+paid fresh w (change.EndWait who how) s a = omega (arith, owed_end_wait fresh w who a.wait s a.begun)
 paid fresh w (change.Finish client) s a = omega (arith, owed_finished w client unfinished a refl)

@@ -1,9 +1,9 @@
 -- What an entry of a legal history leads to, and what is kept along a history.
-use Rattle.std.proofs.Common.{◌≡◌, ℕ, ◌+◌, Bool, true, false, cond, ◌&&◌, List, [], ◌∷◌, ◌++◌, length, nat_lt, Some, refl, sym, ap, ◌∙◌, append_assoc, subst, arith}
+use Rattle.std.proofs.Common.{◌≡◌, ℕ, ◌+◌, true, false, cond, List, [], ◌∷◌, ◌++◌, length, nat_lt, Some, refl, sym, ap, ◌∙◌, append_assoc, subst, arith, ap₂, Option, None}
 use Rattle.std.proofs.lemmas.List.{append-nil}
 use Rattle.tp_base.specs.declared.ids.Who.{Who}
 use Rattle.tp_base.specs.declared.calls.Call.{Call}
-use Rattle.tp_base.specs.declared.calls.Call.TheVariants.{CreatePool}
+use Rattle.tp_base.specs.declared.calls.Call.TheVariants.{CreatePool, End}
 use Rattle.tp_base.specs.declared.answers.Answer.{Answer}
 use Rattle.tp_base.specs.declared.answers.Answer.TheVariants as answer
 use Rattle.tp_base.specs.declared.answers.Refusal.{Refusal}
@@ -12,20 +12,27 @@ use Rattle.tp_base.specs.declared.answers.Entry.{Entry}
 use Rattle.tp_base.specs.declared.plans.Change.{Change}
 use Rattle.tp_base.specs.declared.plans.Plan.{Plan}
 use Rattle.tp_base.specs.declared.plans.Plan.TheVariants as plans
-use Rattle.tp_model.specs.World.{World}
+use Rattle.tp_model.specs.World.{World, BegunWait}
 use Rattle.tp_model.specs.Changes.{changed}
 use Rattle.tp_model.specs.Step.{Accepted, Refused, Full, stepped, within, cost, outcome_of}
 use Rattle.tp_model.specs.Table.{plan, step}
-use Rattle.tp_model.specs.History.{is_refusal, change_of, change_told, led_by, led_to, after_from, room, IsLegalFrom}
+use Rattle.tp_model.specs.History.{is_refusal, change_of, change_told, led_by, led_to, after_from, room, IsLegalFrom, wait_end}
 use Rattle.tp_model.specs.Sound.{IsSound}
 use Rattle.tp_model.specs.Safe.{IsSafeChange}
-use Rattle.tp_model.specs.Laws.Entries.{is_return_call}
+use Rattle.tp_model.specs.Laws.Entries.{is_return_call, is_disassociate_call, is_end_call}
+use Rattle.tp_model.specs.Refusing.{first_refusal, unless_refused}
+use Rattle.tp_model.specs.Waits.{wait_of, held}
+use Rattle.tp_model.specs.Calls.Waits.{end_refusals, end_held, end_wait, end_plan, holds_starved}
+use Rattle.tp_base.specs.declared.answers.Look.TheVariants as look
+use Rattle.tp_base.specs.declared.plans.WaitEnd.TheVariants as how
+use Rattle.tp_base.specs.declared.plans.Change.TheVariants as changes
 use Rattle.tp_model.specs.Told.{nothing, told, told_by}
-use Rattle.tp_model.specs.Moves.{Stay, Leads}
+use Rattle.tp_model.specs.Moves.{Stay, Keep, Leads}
 use Rattle.tp_model.proofs.Growing.{grows}
 use Rattle.tp_model.proofs.Preserving.{changed_sound}
 use Rattle.tp_model.proofs.Steps.{plan_allowed}
 use Rattle.tp_model.proofs.Moving.{change_leads}
+use Rattle.tp_model.proofs.Refusals.{and_false}
 
 -- the number that the next callback gets
 abbrev pub fresh_in : World → ℕ
@@ -42,22 +49,47 @@ refused_leads w who call refusal =
       moves = record {
         kept = w.callbacks;
         new = [];
-        move = Stay (record { tells = ap (λ b. record nothing { returned = b }) (never (is_return_call call)); callbacks = refl; workers = refl });
+        move = Stay (record { tells = ap₂ (λ b c. record nothing { returned = b; loosened = c }) (and_false (is_return_call call)) (and_false (is_disassociate_call call)); callbacks = refl; workers = refl });
         rows = tt;
         made = refl;
         queued = refl;
         callbacks = sym (append-nil w.callbacks);
       };
+      waits = Keep (record { begins = refl; ends = and_false (is_end_call call); waits = refl });
       limits = refl;
       maxima = λ pool. refl;
     }
+
+-- the answer of End tells how the wait ends
+told_end : (w : World) (left : ℕ) (who : Who) (a : Answer) (ch : Change) → end_plan w left who ≡ plans.Does a ch → wait_end who a ≡ Some ch
+unfolding end_plan
+told_end w left who a ch is = of_refusal (first_refusal (end_refusals w who)) is
   where
-    never : (b : Bool) → (b && false) ≡ false
-    never true = refl
-    never false = refl
+    told_as : (b : Answer) (c : Change) → wait_end who b ≡ Some c → plans.Does b c ≡ plans.Does a ch → wait_end who a ≡ Some ch
+    told_as b c here e =
+        let answers : b ≡ a = cc in
+        let changes : c ≡ ch = cc in
+        ap (wait_end who) (sym answers) ∙ here ∙ ap (λ x. Some x) changes
+
+    of_held : (numbers : List ℕ) → end_held w left who numbers ≡ plans.Does a ch → wait_end who a ≡ Some ch
+    of_held [] e = told_as answer.Ended (changes.EndWait who how.Free) refl e
+    of_held (n ∷ ns) e =
+        elim (holds_starved w left (n ∷ ns)) as (λ b. cond b (plans.Does answer.Exhausted (changes.EndWait who how.Exhausted)) (plans.Looked (look.NotYet n)) ≡ plans.Does a ch → wait_end who a ≡ Some ch) [
+          | true ↦ λ h. told_as answer.Exhausted (changes.EndWait who how.Exhausted) refl h
+          | false ↦ λ h. absurd cc
+        ] e
+
+    of_wait : (b : Option BegunWait) → end_wait w left who b ≡ plans.Does a ch → wait_end who a ≡ Some ch
+    of_wait None e = absurd cc
+    of_wait (Some b) e = of_held (held w b) e
+
+    of_refusal : (r : Option Refusal) → unless_refused r (end_wait w left who (wait_of w who)) ≡ plans.Does a ch → wait_end who a ≡ Some ch
+    of_refusal (Some refusal) e = absurd cc
+    of_refusal None e = of_wait (wait_of w who) e
 
 -- an entry's answer tells the change of its plan
 pub told_change : (w : World) (left : ℕ) (who : Who) (call : Call) (a : Answer) (ch : Change) → plan w left who call ≡ plans.Does a ch → change_told w who call a ≡ Some ch
+told_change w left who End a ch is = told_end w left who a ch is
 told_change w left who CreatePool a ch is = ap change_of is
 told_change w left who _ a ch is = ap change_of is
 
@@ -73,7 +105,7 @@ entry_leads w left entry s answers = of_plan (plan w left entry.who entry.call) 
         let tells : told_by entry ≡ told (fresh_in w) w ch = ap (λ (x : Answer). told_by (record { who = entry.who; call = entry.call; answer = x })) (sym same) ∙ safe.tells in
         subst (LeadsOn w entry) (sym there)
         (record {
-          leads = change_leads (fresh_in w) w entry ch safe.allowed safe.made_by tells;
+          leads = change_leads (fresh_in w) w entry ch s safe.allowed safe.made_by tells;
           sound = subst (λ n. IsSound n (changed w ch)) (omega (arith, grows (fresh_in w) w ch safe.allowed)) (changed_sound (fresh_in w) w ch s safe.allowed);
         })
 

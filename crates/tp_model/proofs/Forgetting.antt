@@ -1,47 +1,61 @@
 -- A world without the callbacks that are over has the same plan for every call, and each change leaves of it what it leaves of the whole one.
-use Rattle.std.proofs.Common.{◌≡◌, ℕ, ◌+◌, ◌-◌, ◌<◌, Bool, true, false, cond, not, ◌&&◌, ◌||◌, ◌==◌, List, [], ◌∷◌, ◌++◌, length, slice_get, Option, Some, None, is_some, option_map, nat_lt, nat_le, refl, sym, ap, ap₂, ◌∙◌, filter, find}
+use Rattle.std.proofs.Common.{◌≡◌, ℕ, ◌+◌, ◌-◌, ◌<◌, Bool, true, false, cond, not, ◌&&◌, ◌||◌, ◌==◌, List, [], ◌∷◌, ◌++◌, length, map, slice_get, Option, Some, None, is_some, option_map, nat_lt, nat_le, refl, sym, ap, ap₂, ◌∙◌, filter, find, eqb-true, arith}
 use Rattle.std.specs.List.{range_with_len, list_any}
-use Rattle.std.specs.Option.{option_or}
+use Rattle.std.specs.Option.{option_or, option_map_or}
 use Rattle.std.proofs.lemmas.List.Elements.{filter-append}
 use Rattle.tp_base.specs.declared.ids.Who.{Who}
 use Rattle.tp_base.specs.declared.ids.Who.TheVariants.{Client, Worker}
 use Rattle.tp_base.specs.declared.ids.PoolId.{PoolId}
+use Rattle.tp_base.specs.declared.ids.ObjectId.{ObjectId}
 use Rattle.tp_base.specs.declared.calls.Call.{Call}
-use Rattle.tp_base.specs.declared.calls.Call.TheVariants.{CreatePool, ClosePool, SetMaximum, SetMinimum, Create, SubmitWork, Attach, Detach, Take, Return, MayRunLong, Finish}
+use Rattle.tp_base.specs.declared.calls.Call.TheVariants.{CreatePool, ClosePool, SetMaximum, SetMinimum, Create, CloseObject, SubmitSimple, SubmitWork, BeginWait, End, Attach, Detach, Take, Return, MayRunLong, Disassociate, Finish}
 use Rattle.tp_base.specs.declared.calls.Priority.{Priority}
 use Rattle.tp_base.specs.declared.answers.Answer.TheVariants as answer
 use Rattle.tp_base.specs.declared.answers.Look.TheVariants as look
 use Rattle.tp_base.specs.declared.plans.Idle.{Idle}
+use Rattle.tp_base.specs.declared.plans.Busy.{Busy}
 use Rattle.tp_base.specs.declared.plans.Mark.{Mark}
-use Rattle.tp_base.specs.declared.plans.Mark.TheVariants.{Long}
+use Rattle.tp_base.specs.declared.plans.Mark.TheVariants.{Long, Loose}
 use Rattle.tp_base.specs.declared.plans.PoolChange.{PoolChange}
 use Rattle.tp_base.specs.declared.plans.PoolChange.TheVariants.{Close}
 use Rattle.tp_base.specs.declared.plans.Change.{Change}
 use Rattle.tp_base.specs.declared.plans.Change.TheVariants as change
 use Rattle.tp_base.specs.declared.plans.Plan.TheVariants as plan
+use Rattle.tp_base.specs.declared.calls.Kind.{Kind}
+use Rattle.tp_base.specs.declared.calls.Environ.{Environ}
+use Rattle.tp_base.specs.declared.answers.Refusal.{Refusal}
+use Rattle.tp_base.specs.declared.answers.Refusal.TheVariants.{NoSuch, WrongKind, Released, NotRunning, InWait, OwnCallback}
+use Rattle.tp_base.specs.declared.rows.Status.{Status}
+use Rattle.tp_base.specs.declared.rows.Status.TheVariants.{Expected, Issued, Pending, Running, Returned, Cancelled}
+use Rattle.tp_base.specs.declared.rows.WaitTarget.{WaitTarget}
+use Rattle.tp_base.specs.declared.rows.WaitTarget.TheVariants.{Object}
 use Rattle.tp_base.specs.declared.rows.PoolRow.{PoolRow}
 use Rattle.tp_base.specs.declared.rows.ObjectRow.{ObjectRow}
 use Rattle.tp_base.specs.declared.rows.CallbackRow.{CallbackRow}
 use Rattle.tp_base.specs.declared.rows.WorkerRow.{WorkerRow}
-use Rattle.tp_model.specs.World.{World}
+use Rattle.tp_model.specs.World.{World, BegunWait}
 use Rattle.tp_model.specs.Counts.{numbered, has_number, is_live, is_running, is_pending_in, is_running_in, is_running_long_in, is_high, is_normal, is_low, waiting, queue, next, pending, running, running_long, maximum, minimum, attached, slots, owed, is_in_need, is_below_minimum}
-use Rattle.tp_model.specs.Conditions.{busy_row, busy_in, busy_of, idle_of}
+use Rattle.tp_model.specs.Conditions.{busy_row, busy_in, busy_of, idle_of, is_actor, is_associated, is_finished, is_in_wait, is_object, is_object_of, is_released, is_without_callback}
 use Rattle.tp_model.specs.Refusing.{first_refusal, unless_refused}
-use Rattle.tp_model.specs.Changes.{with_new_pool, with_object, with_worker, with_client, change_pool, pool_after, with_pool, replaced, taken, marked, returned, finished, changed}
+use Rattle.tp_model.specs.Changes.{with_new_pool, with_object, with_worker, with_client, change_pool, pool_after, with_pool, replaced, taken, marked, returned, finished, changed, release_object, without_wait}
 use Rattle.tp_model.specs.Calls.Pools.{is_used, change_pool_plan, create_pool_plan, close_pool_plan, set_maximum_plan, set_minimum_plan}
-use Rattle.tp_model.specs.Calls.Objects.{create_plan}
-use Rattle.tp_model.specs.Calls.Work.{submit_work_refusals, submit, submit_work_plan}
+use Rattle.tp_model.specs.Calls.Objects.{create_plan, close_object_refusals, close_object_plan}
+use Rattle.tp_model.specs.Calls.Work.{submit_work_refusals, submit, submit_work_plan, submit_simple_refusals, submit_simple_plan, simple_callback}
 use Rattle.tp_model.specs.Calls.Workers.{attach_refusals, attach_to, attach_plan, pool_to_join, idle_refusals, another_in_need, may_leave, detach, detach_plan, take_callback, take, take_plan, return_refusals, return, return_plan}
-use Rattle.tp_model.specs.Calls.InCallback.{busy_refusals, may_run_long, may_run_long_plan}
+use Rattle.tp_model.specs.Calls.InCallback.{busy_refusals, may_run_long, may_run_long_plan, disassociate, disassociate_plan}
+use Rattle.tp_model.specs.Calls.Waits.{begin_wait_refusals, begin_wait_plan, count_covered, count_cancelled_by, is_starved, holds_starved, end_refusals, end_held, end_wait, end_plan}
+use Rattle.tp_model.specs.Waits.{is_of, is_held_for, is_outstanding_for, count_outstanding, is_cancelled_by, cancelled, cancel_where, is_object_target, is_covered_by, covered_of, is_held, wait_of, held}
+use Rattle.tp_base.specs.declared.plans.WaitEnd.TheVariants as how
 use Rattle.tp_model.specs.Calls.Clients.{finish_plan}
 use Rattle.tp_model.specs.Table.{plan_at}
-use Rattle.tp_model.specs.Sound.{IsSound, IsWorkerSound, AreWorkersSound, RunsOn}
+use Rattle.tp_model.specs.Sound.{IsSound, IsWorkerSound, AreWorkersSound, RunsOn, IsRising}
 use Rattle.tp_model.specs.Allowed.{IsAllowed}
 use Rattle.tp_model.specs.Remembered.{lives, forget}
-use Rattle.tp_model.proofs.Lists.{any_filter, filter_filter, find_kept, find_agree, all_filter}
-use Rattle.tp_model.proofs.Callbacks.{over_not_pending, over_not_running, pending_lives, rising_filter, filter_replaced_out, filter_replaced_filter, found_all}
+use Rattle.tp_model.proofs.Lists.{any_filter, filter_filter, find_kept, find_agree, all_filter, filter_agree}
+use Rattle.tp_model.proofs.Callbacks.{over_not_pending, over_not_running, pending_lives, rising_filter, filter_replaced_out, filter_replaced_filter, found_all, find_above}
+use Rattle.tp_model.proofs.Cancelling.{IsPendingTest, cancelled_pending, cancelled_if}
 use Rattle.tp_model.proofs.Preserving.{worker_at}
-use Rattle.tp_model.proofs.Refusals.{numbered_some}
+use Rattle.tp_model.proofs.Refusals.{numbered_some, false_true, and_false}
 
 -- ---- counts
 
@@ -112,6 +126,8 @@ forget_sound fresh w s =
       numbers = rising_filter lives 1 fresh w.callbacks s.numbers;
       workers = workers_forget w.callbacks 1 w.workers s.workers;
       object_pools = s.object_pools;
+      apart = s.apart;
+      unnoticed = s.unnoticed;
       callback_pools = all_filter (λ (c : CallbackRow). c.pool.0 < length w.pools) lives w.callbacks s.callback_pools;
     }
 
@@ -163,20 +179,137 @@ busy_forget : (fresh : ℕ) (w : World) (who : Who) → IsSound fresh w → busy
 busy_forget fresh w (Client number) s = refl
 busy_forget fresh w (Worker number) s = busy_in_forget fresh w number (numbered w.workers number) s refl
 
+-- ---- waits
+
+over_not_held : (target : WaitTarget) (s : Status) → is_live s ≡ false → is_held_for target s ≡ false
+over_not_held target Returned e = refl
+over_not_held target Cancelled e = refl
+over_not_held target Expected e = cc
+over_not_held target Issued e = cc
+over_not_held target Pending e = cc
+over_not_held target (Running worker associated slots) e = absurd (false_true (sym e))
+
+over_not_outstanding : (target : WaitTarget) (c : CallbackRow) → lives c ≡ false → is_outstanding_for target c ≡ false
+over_not_outstanding target c e = ap (λ b. is_of target c && b) (over_not_held target c.status e) ∙ and_false (is_of target c)
+
+-- what is found among those that live passes a test that none of the others passes
+over_forget : (p : CallbackRow → Bool) → ((c : CallbackRow) → lives c ≡ false → p c ≡ false) → (low fresh number : ℕ) (cs : List CallbackRow) → IsRising low fresh cs
+    → option_map_or p (find (has_number number) (filter lives cs)) false ≡ option_map_or p (find (has_number number) cs) false
+over_forget p over low fresh number [] r = refl
+over_forget p over low fresh number (c ∷ cs) r =
+    elim (lives c) as (λ t. lives c ≡ t → option_map_or p (find (has_number number) (cond t (c ∷ filter lives cs) (filter lives cs))) false ≡ option_map_or p (cond (has_number number c) (Some c) (find (has_number number) cs)) false) [
+      | true ↦ λ _. elim (has_number number c) as (λ b. option_map_or p (cond b (Some c) (find (has_number number) (filter lives cs))) false ≡ option_map_or p (cond b (Some c) (find (has_number number) cs)) false) [
+        | true ↦ refl
+        | false ↦ over_forget p over (c.number + 1) fresh number cs r.1
+      ]
+      | false ↦ λ dead. over_forget p over (c.number + 1) fresh number cs r.1 ∙ elim (has_number number c) as (λ b. has_number number c ≡ b → option_map_or p (find (has_number number) cs) false ≡ option_map_or p (cond b (Some c) (find (has_number number) cs)) false) [
+        | true ↦ λ e.
+            let same : c.number ≡ number = eqb-true c.number number e in
+            ap (λ (o : Option CallbackRow). option_map_or p o false) (find_above number (c.number + 1) fresh cs (omega (arith, same)) r.1) ∙ sym (over c dead)
+        | false ↦ λ _. refl
+      ] refl
+    ] refl
+
+held_forget : (fresh : ℕ) (w : World) (target : WaitTarget) (number : ℕ) → IsSound fresh w → is_held (forget w) target number ≡ is_held w target number
+held_forget fresh w target number s = over_forget (is_outstanding_for target) (over_not_outstanding target) 1 fresh number w.callbacks s.numbers
+
+all_held_forget : (fresh : ℕ) (w : World) (b : BegunWait) → IsSound fresh w → held (forget w) b ≡ held w b
+all_held_forget fresh w b s = filter_agree (is_held (forget w) b.target) (is_held w b.target) (λ n. held_forget fresh w b.target n s) b.covered
+
+starved_forget : (fresh room : ℕ) (w : World) (numbers : List ℕ) → IsSound fresh w → holds_starved (forget w) room numbers ≡ holds_starved w room numbers
+starved_forget fresh room w [] s = refl
+starved_forget fresh room w (n ∷ ns) s =
+    ap₂ (λ p q. p || q)
+    (over_forget (is_starved w room) (λ c e. ap (λ b. b && (nat_lt room 2 || (nat_lt room 4 && (attached w c.pool.0 == 0)))) (over_not_pending c.status e)) 1 fresh n w.callbacks s.numbers)
+    (starved_forget fresh room w ns s)
+
+end_held_forget : (fresh room : ℕ) (w : World) (who : Who) (numbers : List ℕ) → IsSound fresh w → end_held (forget w) room who numbers ≡ end_held w room who numbers
+end_held_forget fresh room w who [] s = refl
+end_held_forget fresh room w who (n ∷ ns) s =
+    ap (λ b. cond b (plan.Does answer.Exhausted (change.EndWait who how.Exhausted)) (plan.Looked (look.NotYet n))) (starved_forget fresh room w (n ∷ ns) s)
+
+end_wait_forget : (fresh room : ℕ) (w : World) (who : Who) (b : Option BegunWait) → IsSound fresh w → end_wait (forget w) room who b ≡ end_wait w room who b
+end_wait_forget fresh room w who None s = refl
+end_wait_forget fresh room w who (Some b) s = ap (end_held (forget w) room who) (all_held_forget fresh w b s) ∙ end_held_forget fresh room w who (held w b) s
+
+-- what lives after a cancellation
+cancel_forget : (q test : CallbackRow → Bool) → IsPendingTest test → ((c : CallbackRow) → lives c ≡ false → q c ≡ false) → (cs : List CallbackRow) → filter q (cancel_where test (filter lives cs)) ≡ filter q (cancel_where test cs)
+cancel_forget q test only over [] = refl
+cancel_forget q test only over (c ∷ cs) =
+    elim (lives c) as (λ t. lives c ≡ t → filter q (cancel_where test (cond t (c ∷ filter lives cs) (filter lives cs))) ≡ filter q (cancelled_if test c ∷ cancel_where test cs)) [
+      | true ↦ λ _. ap (λ l. cond (q (cancelled_if test c)) (cancelled_if test c ∷ l) l) (cancel_forget q test only over cs)
+      | false ↦ λ dead. cancel_forget q test only over cs ∙ sym (ap (λ b. cond (q (cond b (cancelled c) c)) (cond b (cancelled c) c ∷ filter q (cancel_where test cs)) (filter q (cancel_where test cs))) (dead_passed dead)
+          ∙ ap (λ b. cond b (c ∷ filter q (cancel_where test cs)) (filter q (cancel_where test cs))) (over c dead))
+    ] refl
+  where
+    dead_passed : lives c ≡ false → test c ≡ false
+    dead_passed dead = known (test c) refl
+      where
+        known : (b : Bool) → test c ≡ b → test c ≡ false
+        known false e = e
+        known true e = absurd (false_true (sym (over_not_pending c.status dead) ∙ only c e))
+
+pub over_not_covered : (target : WaitTarget) (cancel : Bool) (c : CallbackRow) → lives c ≡ false → is_covered_by target cancel c ≡ false
+over_not_covered target cancel c e = ap (λ b. b && (is_running c.status || not (cancel && is_object_target target))) (over_not_outstanding target c e)
+
+covered_forget : (w : World) (target : WaitTarget) (cancel : Bool) → covered_of target cancel (cancel_where (is_cancelled_by target cancel) (filter lives w.callbacks)) ≡ covered_of target cancel (cancel_where (is_cancelled_by target cancel) w.callbacks)
+covered_forget w target cancel =
+    ap (map (λ (c : CallbackRow). c.number)) (cancel_forget (is_covered_by target cancel) (is_cancelled_by target cancel) (cancelled_pending target cancel) (over_not_covered target cancel) w.callbacks)
+
+pub over_not_cancelled : (target : WaitTarget) (cancel : Bool) (c : CallbackRow) → lives c ≡ false → is_cancelled_by target cancel c ≡ false
+over_not_cancelled target cancel c e = ap (λ b. cancel && (b && is_of target c)) (over_not_pending c.status e) ∙ and_false cancel
+
+begun_forget : (w : World) (target : WaitTarget) (cancel : Bool) → answer.Begun (count_covered (forget w) target cancel) (count_cancelled_by (forget w) target cancel) ≡ answer.Begun (count_covered w target cancel) (count_cancelled_by w target cancel)
+begun_forget w target cancel =
+    ap₂ (λ m n. answer.Begun m n) (ap length (covered_forget w target cancel))
+    (ap length (filter_filter (is_cancelled_by target cancel) lives (over_not_cancelled target cancel) w.callbacks))
+
+own_refusals_forget : (fresh : ℕ) (w : World) (who : Who) (kind : Kind) (object : ℕ) → IsSound fresh w → first_refusal (begin_wait_refusals (forget w) who kind object) ≡ first_refusal (begin_wait_refusals w who kind object)
+own_refusals_forget fresh w who kind object s =
+    ap (λ (by : Option Busy). first_refusal (with_own (option_map_or (λ (x : Busy). is_associated x.callback.status && (x.callback.object.0 == object)) by false))) (busy_forget fresh w who s)
+  where
+    with_own : Bool → List (Bool × Refusal)
+    with_own own =
+        (not (is_actor w who) || not (is_object w object), NoSuch)
+        ∷ (not (is_object_of w kind object), WrongKind)
+        ∷ (is_finished w who || is_released w object, Released)
+        ∷ (is_without_callback w who, NotRunning)
+        ∷ (is_in_wait w who, InWait)
+        ∷ (own, OwnCallback)
+        ∷ []
+
+begin_wait_forget : (fresh : ℕ) (w : World) (who : Who) (kind : Kind) (object : ObjectId) (cancel : Bool) → IsSound fresh w → begin_wait_plan (forget w) who kind object cancel ≡ begin_wait_plan w who kind object cancel
+unfolding begin_wait_plan
+begin_wait_forget fresh w who kind object cancel s =
+    ap₂ (λ r a. unless_refused r (plan.Does a (change.BeginWait who (Object object) cancel))) (own_refusals_forget fresh w who kind object.0 s) (begun_forget w (Object object) cancel)
+
+simple_refusals_forget : (w : World) (who : Who) (env : Environ) → first_refusal (submit_simple_refusals (forget w) who env) ≡ first_refusal (submit_simple_refusals w who env)
+simple_refusals_forget w who env = rw (live_again w.callbacks)
+
+outstanding_forget : (w : World) (target : WaitTarget) → count_outstanding target (forget w) ≡ count_outstanding target w
+outstanding_forget w target = ap length (filter_filter (is_outstanding_for target) lives (over_not_outstanding target) w.callbacks)
+
 pub plan_forget : (fresh room : ℕ) (w : World) (who : Who) (call : Call) → IsSound fresh w → plan_at (forget w) fresh room who call ≡ plan_at w fresh room who call
-unfolding create_pool_plan close_pool_plan set_maximum_plan set_minimum_plan create_plan submit_work_plan attach_plan detach_plan take_plan return_plan may_run_long_plan finish_plan
+unfolding create_pool_plan close_pool_plan set_maximum_plan set_minimum_plan create_plan close_object_plan submit_simple_plan submit_work_plan end_plan disassociate_plan attach_plan detach_plan take_plan return_plan may_run_long_plan finish_plan
 plan_forget fresh room w who CreatePool s = refl
 plan_forget fresh room w who (ClosePool pool) s = ap (λ b. change_pool_plan w who pool Close (answer.Closed b)) (used_forget w pool.0)
 plan_forget fresh room w who (SetMaximum pool value) s = refl
 plan_forget fresh room w who (SetMinimum pool value) s = refl
 plan_forget fresh room w who (Create kind routine context env) s = refl
+plan_forget fresh room w who (CloseObject kind object) s =
+    ap (λ n. unless_refused (first_refusal (close_object_refusals w who kind object.0)) (plan.Does (answer.Closed (nat_lt 0 n)) (change.ReleaseObject object))) (outstanding_forget w (Object object))
+plan_forget fresh room w who (SubmitSimple routine context env) s =
+    ap (λ r. unless_refused r (plan.Does (answer.Queued fresh 1) (change.QueueCallback (simple_callback fresh routine context env)))) (simple_refusals_forget w who env)
 plan_forget fresh room w who (SubmitWork object) s =
     ap (λ r. unless_refused r (submit fresh object (numbered w.objects object.0))) (submit_refusals_forget w who object.0)
+plan_forget fresh room w who (BeginWait kind object cancel) s = begin_wait_forget fresh w who kind object cancel s
+plan_forget fresh room w who End s = ap (unless_refused (first_refusal (end_refusals w who))) (end_wait_forget fresh room w who (wait_of w who) s)
 plan_forget fresh room w who Attach s = ap (λ p. unless_refused (first_refusal (attach_refusals w who)) (attach_to who p)) (to_join_forget w)
 plan_forget fresh room w who Detach s = ap (unless_refused (first_refusal (idle_refusals w who))) (detach_forget w (idle_of w who))
 plan_forget fresh room w who Take s = ap (unless_refused (first_refusal (idle_refusals w who))) (take_forget w (idle_of w who))
 plan_forget fresh room w who Return s = ap (λ by. unless_refused (first_refusal (return_refusals w who)) (return by)) (busy_forget fresh w who s)
 plan_forget fresh room w who MayRunLong s = ap (λ by. unless_refused (first_refusal (busy_refusals w who)) (may_run_long w by)) (busy_forget fresh w who s)
+plan_forget fresh room w who Disassociate s = ap (λ by. unless_refused (first_refusal (busy_refusals w who)) (disassociate by)) (busy_forget fresh w who s)
 plan_forget fresh room w who Finish s = refl
 
 -- ---- changes
@@ -192,6 +325,10 @@ change_pool_forget : (w : World) (pool : ℕ) (how : PoolChange) (row : Option P
 change_pool_forget w pool how None = live_forgotten w
 change_pool_forget w pool how (Some row) = live_forgotten (with_pool w pool (pool_after how row))
 
+release_forget : (w : World) (object : ℕ) (row : Option ObjectRow) → forget (release_object (forget w) object row) ≡ forget (release_object w object row)
+release_forget w object None = live_forgotten w
+release_forget w object (Some row) = live_forgotten (release_object w object (Some row))
+
 -- a live row in the place of another
 replaced_forget : (fresh : ℕ) (w : World) (r c : CallbackRow) → IsSound fresh w → r.number ≡ c.number → find (has_number c.number) w.callbacks ≡ Some c → lives c ≡ true → filter lives (replaced r (filter lives w.callbacks)) ≡ filter lives (replaced r w.callbacks)
 replaced_forget fresh w r c s same found living =
@@ -199,11 +336,13 @@ replaced_forget fresh w r c s same found living =
 
 marked_forget : (fresh : ℕ) (w : World) (mark : Mark) (c : CallbackRow) → IsSound fresh w → find (has_number c.number) w.callbacks ≡ Some c → lives c ≡ true → filter lives (replaced (marked mark c) (filter lives w.callbacks)) ≡ filter lives (replaced (marked mark c) w.callbacks)
 marked_forget fresh w Long c s found living = replaced_forget fresh w (marked Long c) c s refl found living
+marked_forget fresh w Loose c s found living = replaced_forget fresh w (marked Loose c) c s refl found living
 
 pub changed_forget : (fresh : ℕ) (w : World) (ch : Change) → IsSound fresh w → IsAllowed fresh w ch → forget (changed (forget w) ch) ≡ forget (changed w ch)
 changed_forget fresh w change.CreatePool s a = live_forgotten (with_new_pool w)
 changed_forget fresh w (change.ChangePool pool how) s a = change_pool_forget w pool.0 how (slice_get w.pools pool.0)
 changed_forget fresh w (change.CreateObject row) s a = live_forgotten (with_object w row)
+changed_forget fresh w (change.ReleaseObject object) s a = release_forget w object.0 (numbered w.objects object.0)
 changed_forget fresh w (change.QueueCallback c) s a =
     as_live w (filter lives w.callbacks ++ c ∷ []) (w.callbacks ++ c ∷ [])
     (filter-append lives (filter lives w.callbacks) (c ∷ []) ∙ ap (λ t. t ++ filter lives (c ∷ [])) (live_again w.callbacks) ∙ sym (filter-append lives w.callbacks (c ∷ [])))
@@ -220,4 +359,8 @@ changed_forget fresh w (change.Return by) s a =
     let r : CallbackRow = returned by.callback in
     as_live (with_worker w by.worker (record { pool = Some by.pool; callback = None })) (replaced r (filter lives w.callbacks)) (replaced r w.callbacks)
     (filter_replaced_out lives r (filter lives w.callbacks) refl ∙ ap (filter (λ (x : CallbackRow). not (has_number by.callback.number x))) (live_again w.callbacks) ∙ sym (filter_replaced_out lives r w.callbacks refl))
+changed_forget fresh w (change.BeginWait who target cancel) s a =
+    ap₂ (λ cs covered. record w { callbacks = cs; waits = w.waits ++ (record { actor = who; target = target; covered = covered; notices = []; cleanup = 0 }) ∷ [] })
+    (cancel_forget lives (is_cancelled_by target cancel) (cancelled_pending target cancel) (λ c e. e) w.callbacks) (covered_forget w target cancel)
+changed_forget fresh w (change.EndWait who how) s a = live_forgotten (without_wait w who)
 changed_forget fresh w (change.Finish client) s a = live_forgotten (with_client w client finished)

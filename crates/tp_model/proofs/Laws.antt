@@ -1,7 +1,21 @@
 -- Every legal history keeps the laws.
-use Rattle.std.proofs.Common.{◌≡◌, ℕ, List, [], ◌∷◌, ◌++◌, refl, sym, subst}
+use Rattle.std.proofs.Common.{◌≡◌, ℕ, List, [], ◌∷◌, ◌++◌, refl, sym, subst, find, Some, true, ◌==◌, cond, Bool, false, None, ap₂, ◌∙◌, ◌||◌, ap, append_assoc}
+use Rattle.tp_model.specs.Waits.{is_held_for}
+use Rattle.std.specs.List.{list_any}
+use Rattle.tp_base.specs.declared.ids.ObjectId.{ObjectId}
+use Rattle.tp_model.proofs.Refusals.{both, false_true}
+use Rattle.tp_model.proofs.Fates.{taken_from, pending_held, pending_left}
+use Rattle.tp_model.specs.Counts.{has_number, is_pending}
+use Rattle.tp_base.specs.declared.rows.CallbackRow.{CallbackRow}
+use Rattle.tp_model.proofs.Promising.{AreReady, are_ready_more, Promises, promises_more, run_at, NoneHeld, freed, Promised}
+use Rattle.tp_model.specs.Laws.Covered.{AreCovered, is_spoken_of, end_in, ends, IsCovered, AllLetGo, returns, loosens, NoneTakes}
+use Rattle.tp_model.proofs.Running.{runs_on_more, AreRunning, IsRunning}
+use Rattle.tp_model.proofs.Places.{no_place, any_either, find_behind}
+use Rattle.tp_model.specs.Laws.Entries.{Run, run_by, Begins, is_among, numbers_queued, numbers_made, begins_by}
 use Rattle.tp_base.specs.declared.answers.Entry.{Entry}
 use Rattle.tp_base.specs.declared.limits.Limits.{Limits}
+use Rattle.tp_base.specs.declared.answers.Answer.TheVariants as answer
+use Rattle.tp_base.specs.declared.rows.WaitTarget.TheVariants.{Object}
 use Rattle.tp_model.specs.World.{World, opening}
 use Rattle.tp_model.specs.History.{IsLegal, after, led_to}
 use Rattle.tp_model.specs.Sound.{IsSound}
@@ -18,6 +32,18 @@ pub record Holds (limits : Limits) (history : List Entry) (w : World) : Type 0 w
   pub sound : IsSound (fresh_in w) w
   pub agrees : AgreesAfter history w
   pub staffed : IsStaffed limits history w
+  pub runs : AreRunning history w
+  pub ready : AreReady history w
+  pub promises : Promises history w
+
+-- before an entry that takes a callback, the callback is pending
+record TakesPending (limits : Limits) (before : List Entry) (entry : Entry) (run : Run) : Type 0 where
+  world : World
+  holds : Holds limits before world
+  row : CallbackRow
+  found : find (has_number run.number) world.callbacks ≡ Some row
+  object : row.object ≡ run.object
+  waits : is_pending row.status ≡ true
 
 opening_holds : (limits : Limits) → Holds limits [] (opening limits)
 opening_holds limits =
@@ -25,6 +51,9 @@ opening_holds limits =
       sound = opening_sound limits;
       agrees = record { in_order = refl; taken_begun = λ n. refl; pending_queued = λ n c found waits. absurd cc; named_cancelled = λ n named. absurd cc; as_many_taken = refl; as_many_cancelled = refl };
       staffed = opening_staffed limits;
+      runs = λ earlier later entry run split. absurd (no_place earlier entry later split);
+      ready = record { ready = λ n c among found. absurd cc };
+      promises = λ before between begin b split. absurd (no_place before begin between split);
     }
 
 keeps : (limits : Limits) → IsKept (Holds limits)
@@ -34,6 +63,9 @@ keeps limits before w left entry h told =
       sound = on.sound;
       agrees = agrees_on before w entry (led_to w entry) h.sound.numbers h.agrees on.leads.moves;
       staffed = is_staffed_on limits before w entry (led_to w entry) h.sound h.staffed on.leads;
+      runs = runs_on_more (fresh_in w) before w entry (led_to w entry) h.runs on.leads.moves;
+      ready = are_ready_more before w entry (led_to w entry) h.sound.numbers h.agrees h.ready on.leads;
+      promises = promises_more before w entry (led_to w entry) h.sound.numbers h.agrees h.ready on.leads h.promises;
     }
 
 module _ (limits : Limits) (capacity : ℕ) (history : List Entry) (legal : IsLegal limits capacity history) where
@@ -70,5 +102,79 @@ module _ (limits : Limits) (capacity : ℕ) (history : List Entry) (legal : IsLe
             takes_below limits before r.world entry (led_to r.world entry) r.holds.sound r.holds.staffed (leads_on before entry r).leads.moves;
       }
 
+  -- what is taken at an entry is pending before it
+  takes_pending : (before later : List Entry) (entry : Entry) → before ++ entry ∷ later ≡ history → (run : Run) → run_by entry.answer ≡ Some run → TakesPending limits before entry run
+  takes_pending before later entry is run takes =
+      let r = at_entry before later entry is in
+      let moves = (leads_on before entry r).leads.moves in
+      let from = taken_from r.world entry moves.kept (led_to r.world entry).workers run moves.move takes in
+      record { world = r.world; holds = r.holds; row = from.row; found = from.found; object = from.object; waits = from.waits }
+
+  pub are_covered : AreCovered history
+  are_covered = record { at_each = covered }
+    where
+      about : (b : Begins) (front : List Entry) (run : Run) → is_spoken_of b front run ≡ true → (run.object.0 == b.object.0) ≡ true
+      about b front run e = (both (run.object.0 == b.object.0) (is_among run.number (cond b.cancel (numbers_queued front) (numbers_made front))) e).0
+
+      unspoken : (t : Bool) → (t ≡ true → ⊥) → t ≡ false
+      unspoken true h = absurd (h refl)
+      unspoken false h = refl
+
+      covered : (before between later : List Entry) (begin end : Entry) (b : Begins) → (before ++ begin ∷ between) ++ end ∷ later ≡ history → begins_by begin ≡ Some b
+          → end_in begin.who between ≡ None → ends begin.who end ≡ true → end.answer ≡ answer.Ended → IsCovered b before begin between later
+      covered before between later begin end b split begins none is_end ended =
+          record { let_go = let_go; none_later = none_later; none_between = none_between }
+        where
+          those : Run → Bool
+          those = is_spoken_of b before
+
+          front : List Entry
+          front = before ++ begin ∷ between
+
+          spoken_row : (n : ℕ) (c : CallbackRow) (run : Run) → run.number ≡ n → c.object ≡ run.object → those run ≡ true → those (run_at n c) ≡ true
+          spoken_row n c run number object spoken = ap₂ (λ (k : ℕ) (o : ObjectId). those (record { number = k; object = o })) (sym number) object ∙ spoken
+
+          r : Reached (Holds limits) front end
+          r = at_entry front later end split
+
+          on : LeadsOn r.world end (led_to r.world end)
+          on = leads_on front end r
+
+          none_held : NoneHeld those b.object r.world
+          none_held =
+              freed front r.world end (led_to r.world end) r.holds.sound.numbers r.holds.agrees r.holds.ready on.leads those b.object begin.who (about b before)
+              ((r.holds.promises before between begin b refl begins).going none) is_end ended
+
+          let_go : AllLetGo those (before ++ begin ∷ between)
+          let_go earlier rest entry run place takes spoken = known (list_any (λ e. returns entry.who e || loosens entry.who e) rest) refl
+            where
+              known : (t : Bool) → list_any (λ e. returns entry.who e || loosens entry.who e) rest ≡ t → list_any (λ e. returns entry.who e || loosens entry.who e) rest ≡ true
+              known true is = is
+              known false is =
+                  let neither_one = any_either (returns entry.who) (loosens entry.who) rest is in
+                  let runs : IsRunning r.world.callbacks entry.who run (list_any (loosens entry.who) rest) = r.holds.runs earlier rest entry run place takes neither_one.0 in
+                  let held : is_held_for (Object b.object) runs.row.status ≡ true = ap (is_held_for (Object b.object)) runs.status ∙ runs.tied neither_one.1 in
+                  absurd (false_true (sym (none_held run.number runs.row runs.found (spoken_row run.number runs.row run refl runs.object spoken)) ∙ held))
+
+          none_later : NoneTakes those later
+          none_later earlier rest entry run place takes = unspoken (those run) (λ spoken.
+              let whole : (front ++ end ∷ earlier) ++ entry ∷ rest ≡ history = append_assoc front (end ∷ earlier) (entry ∷ rest) ∙ ap (λ l. front ++ end ∷ l) place ∙ split in
+              let from : TakesPending limits (front ++ end ∷ earlier) entry run = takes_pending (front ++ end ∷ earlier) rest entry whole run takes in
+              let place_here : before ++ begin ∷ (between ++ end ∷ earlier) ≡ front ++ end ∷ earlier = sym (append_assoc before (begin ∷ between) (end ∷ earlier)) in
+              let promised : Promised b before (between ++ end ∷ earlier) begin.who from.world = from.holds.promises before (between ++ end ∷ earlier) begin b place_here begins in
+              let unheld = promised.done end (find_behind (ends begin.who) between end earlier none is_end) ended run.number from.row from.found (spoken_row run.number from.row run refl from.object spoken) in
+              false_true (sym unheld ∙ pending_held (Object b.object) from.row.status from.waits))
+
+          none_between : b.cancel ≡ true → NoneTakes those between
+          none_between cancels earlier rest entry run place takes = unspoken (those run) (λ spoken.
+              let whole : (before ++ begin ∷ earlier) ++ entry ∷ (rest ++ end ∷ later) ≡ history =
+              append_assoc before (begin ∷ earlier) (entry ∷ (rest ++ end ∷ later))
+              ∙ ap (λ l. before ++ begin ∷ l) (sym (append_assoc earlier (entry ∷ rest) (end ∷ later)) ∙ ap (λ l. l ++ end ∷ later) place)
+              ∙ sym (append_assoc before (begin ∷ between) (end ∷ later)) ∙ split in
+              let from : TakesPending limits (before ++ begin ∷ earlier) entry run = takes_pending (before ++ begin ∷ earlier) (rest ++ end ∷ later) entry whole run takes in
+              let promised : Promised b before earlier begin.who from.world = from.holds.promises before earlier begin b refl begins in
+              let unleft = promised.cut cancels run.number from.row from.found (spoken_row run.number from.row run refl from.object spoken) in
+              false_true (sym unleft ∙ pending_left from.row.status from.waits))
+
   pub keeps_laws : KeepsLaws limits history
-  keeps_laws = record { once = are_once; maximum = is_within_maximum }
+  keeps_laws = record { once = are_once; maximum = is_within_maximum; covered = are_covered }

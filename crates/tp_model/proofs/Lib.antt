@@ -1,8 +1,10 @@
 pub mod Actors
 pub mod Callbacks
+pub mod Cancelling
 pub mod Costs
 pub mod Entries
 mod Examples
+pub mod Fates
 pub mod Forgetting
 pub mod Growing
 mod LawExamples
@@ -12,8 +14,11 @@ pub mod Maximum
 pub mod Meeting
 pub mod Moving
 pub mod Once
+pub mod Places
 pub mod Planning
 pub mod Preserving
+pub mod Promising
 pub mod Ranging
 pub mod Refusals
+pub mod Running
 pub mod Steps

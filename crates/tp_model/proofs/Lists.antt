@@ -119,3 +119,24 @@ any_filter {X} test p h (x ∷ xs) =
       | true ↦ λ _. ap (λ t. test x || t) (any_filter test p h xs)
       | false ↦ λ e. any_filter test p h xs ∙ ap (λ b. b || list_any test xs) (sym (h x e))
     ] refl
+
+pub filter_agree : {X : Type 0} (p q : X → Bool) → ((x : X) → p x ≡ q x) → (xs : List X) → filter p xs ≡ filter q xs
+filter_agree p q same [] = refl
+filter_agree p q same (x ∷ xs) = ap (λ b. cond b (x ∷ filter p xs) (filter p xs)) (same x) ∙ ap (λ l. cond (q x) (x ∷ l) l) (filter_agree p q same xs)
+
+pub all_set : {X : Type 0} (P : X → Type 0) (xs : List X) (i : ℕ) (x : X) → P x → AllByRecursion P xs → AllByRecursion P (slice_set xs i x)
+all_set P [] i x here all = tt
+all_set P (y ∷ xs) zero x here all = (here, all.1)
+all_set P (y ∷ xs) (suc i) x here all = (all.0, all_set P xs i x here all.1)
+
+-- none of the elements that are left passes a test that none passes
+pub any_filter_none : {X : Type 0} (test p : X → Bool) (xs : List X) → list_any test xs ≡ false → list_any test (filter p xs) ≡ false
+any_filter_none test p [] none = refl
+any_filter_none {X} test p (x ∷ xs) none =
+    elim (test x) as (λ t. (t || list_any test xs) ≡ false → test x ≡ t → list_any test (cond (p x) (x ∷ filter p xs) (filter p xs)) ≡ false) [
+      | true ↦ λ h _. absurd cc
+      | false ↦ λ h is. elim (p x) as (λ b. list_any test (cond b (x ∷ filter p xs) (filter p xs)) ≡ false) [
+        | true ↦ ap (λ b. b || list_any test (filter p xs)) is ∙ any_filter_none test p xs h
+        | false ↦ any_filter_none test p xs h
+      ]
+    ] none refl

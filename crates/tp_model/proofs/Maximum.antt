@@ -22,15 +22,13 @@ use Rattle.tp_model.specs.Sound.{IsSound, IsWorkerSound, AreWorkersSound}
 use Rattle.tp_model.specs.Laws.Entries.{is_taken, is_returned, attached_by, taken_by, is_by, run_after, pool_after, is_within_run, last_pool, maximum_after, told_maximum}
 use Rattle.tp_model.specs.Laws.Maximum.{runs_in, count_running, TakesBelowMaximum}
 use Rattle.tp_model.specs.Told.{Deed, deed_by, nothing}
-use Rattle.tp_model.specs.Moves.{Move, Stay, Mark, Attach, Detach, Take, Return, Moves, AreNew, is_new, Leads, IsFree, maximum_at, put}
+use Rattle.tp_model.specs.Moves.{Move, Stay, Mark, Attach, Detach, Take, Return, Moves, AreNew, is_new, Leads, IsFree, maximum_at, put, Loosen, Cancel}
 use Rattle.tp_model.proofs.Lists.{length_filter_set}
+use Rattle.tp_model.specs.Waits.{cancel_where}
+use Rattle.tp_model.proofs.Cancelling.{count_uncancelled}
 use Rattle.tp_model.proofs.Callbacks.{length_filter_replaced, pending_not_running}
-use Rattle.tp_model.proofs.Refusals.{numbered_some, false_true}
+use Rattle.tp_model.proofs.Refusals.{numbered_some, false_true, and_false}
 use Rattle.tp_model.proofs.Once.{one_if}
-
-and_false : (b : Bool) → (b && false) ≡ false
-and_false true = refl
-and_false false = refl
 
 and_true : (b : Bool) → (b && true) ≡ b
 and_true true = refl
@@ -243,6 +241,19 @@ module _ (limits : Limits) (before : List Entry) (w : World) (entry : Entry) (ke
       as_many pool =
           let alike : one_if (is_running_in pool m.new) ≡ one_if (is_running_in pool m.old) = ap (λ b. one_if (is_running b && (m.new.pool.0 == pool))) m.status ∙ ap (λ (p : PoolId). one_if (is_running m.old.status && (p.0 == pool))) m.pool in
           omega (arith, length_filter_replaced (is_running_in pool) m.new m.old 1 (length w.callbacks + 1) w.callbacks s.numbers m.found, alike)
+  staffed_on (Loosen m) = staffed_same (record nothing { loosened = true }) m.tells refl refl refl m.workers (λ pool. running_callbacks (replaced d w.callbacks) m.callbacks pool ∙ as_many pool)
+    where
+      d : CallbackRow
+      d = record m.callback { status = Running m.worker false m.slots }
+
+      as_many : (pool : ℕ) → length (filter (is_running_in pool) (replaced d w.callbacks)) ≡ length (filter (is_running_in pool) w.callbacks)
+      as_many pool =
+          let alike : one_if (is_running_in pool d) ≡ one_if (is_running_in pool m.callback) = sym (ap (λ (t : Status). one_if (is_running t && (m.callback.pool.0 == pool))) m.running) in
+          omega (arith, length_filter_replaced (is_running_in pool) d m.callback 1 (length w.callbacks + 1) w.callbacks s.numbers m.found, alike)
+  staffed_on (Cancel m) =
+      staffed_same (record nothing { count = length (filter m.test w.callbacks) }) m.tells refl refl refl m.workers
+      (λ pool. running_callbacks (cancel_where m.test w.callbacks) m.callbacks pool
+      ∙ count_uncancelled (is_running_in pool) m.test (λ c e. sym (ap (λ b. b && (c.pool.0 == pool)) (pending_not_running c.status (m.waits c e)))) w.callbacks)
   staffed_on (Attach m) =
       staffed_put m.worker m.actor.row (record { pool = Some m.pool; callback = None }) m.actor.by m.actor.stands m.workers
       (λ old. record {
@@ -294,7 +305,7 @@ module _ (limits : Limits) (before : List Entry) (w : World) (entry : Entry) (ke
           ap (λ (o : Option ℕ). one_if (is_attached_to pool m.row && is_some o)) m.busy ∙ ap one_if (and_true (is_attached_to pool m.row)) ∙ ap (λ (o : Option PoolId). one_if (option_map_or (λ (p : PoolId). p.0 == pool) o false)) m.home in
           let now : one_if (is_busy_in pool (record m.row { callback = None })) ≡ 0 = ap one_if (and_false (is_attached_to pool m.row)) in
           let ran : one_if (is_running_in pool m.callback) ≡ one_if (m.pool.0 == pool) =
-          ap (λ b. one_if (b && (m.callback.pool.0 == pool))) m.runs ∙ ap (λ (p : PoolId). one_if (p.0 == pool)) m.pool_same in
+          ap (λ (t : Status). one_if (is_running t && (m.callback.pool.0 == pool))) m.running ∙ ap (λ (p : PoolId). one_if (p.0 == pool)) m.pool_same in
           omega (arith, was, now, ran, running_callbacks (replaced d w.callbacks) m.callbacks pool, length_filter_replaced (is_running_in pool) d m.callback 1 (length w.callbacks + 1) w.callbacks s.numbers m.found)
 
 -- none of the callbacks that are made runs
@@ -353,6 +364,8 @@ module _ (limits : Limits) (before : List Entry) (w : World) (entry : Entry) (af
   takes_by kept staff (Mark m) worker pool by takes home = absurd (false_true (sym (ap (λ (t : Deed). is_some t.taken) m.tells) ∙ takes))
   takes_by kept staff (Attach m) worker pool by takes home = absurd (false_true (sym (ap (λ (t : Deed). is_some t.taken) m.tells) ∙ takes))
   takes_by kept staff (Detach m) worker pool by takes home = absurd (false_true (sym (ap (λ (t : Deed). is_some t.taken) m.tells) ∙ takes))
+  takes_by kept staff (Loosen m) worker pool by takes home = absurd (false_true (sym (ap (λ (t : Deed). is_some t.taken) m.tells) ∙ takes))
+  takes_by kept staff (Cancel m) worker pool by takes home = absurd (false_true (sym (ap (λ (t : Deed). is_some t.taken) m.tells) ∙ takes))
   takes_by kept staff (Return m) worker pool by takes home = absurd (false_true (sym (ap (λ (t : Deed). is_some t.taken) m.tells) ∙ takes))
 
   pub takes_below : Moves (length w.callbacks + 1) w entry after → TakesBelowMaximum limits before entry

@@ -1,26 +1,38 @@
 -- Each change moves callbacks, workers and pools as its entry tells.
-use Rattle.std.proofs.Common.{◌≡◌, ◌≢◌, ℕ, suc, zero, ◌<◌, Bool, true, false, cond, ◌==◌, max, List, [], ◌∷◌, ◌++◌, length, slice_get, slice_set, get_or, Option, Some, None, refl, sym, ap, ◌∙◌, subst, eqb-true, eq-eqb}
+use Rattle.std.proofs.Common.{◌≡◌, ◌≢◌, ℕ, suc, zero, ◌<◌, Bool, true, false, cond, ◌==◌, max, List, [], ◌∷◌, ◌++◌, length, slice_get, slice_set, get_or, Option, Some, None, refl, sym, ap, ◌∙◌, subst, eqb-true, eq-eqb, filter, find, not, ap₂, ◌&&◌}
+use Rattle.tp_base.specs.declared.rows.CallbackRow.{CallbackRow}
+use Rattle.tp_base.specs.declared.ids.Who.TheVariants.{Worker}
 use Rattle.std.specs.Option.{option_map_or}
 use Rattle.std.proofs.lemmas.Option.{slice_get-get_or}
 use Rattle.std.proofs.lemmas.List.{append-nil}
 use Rattle.tp_base.specs.declared.plans.Mark.{Mark}
-use Rattle.tp_base.specs.declared.plans.Mark.TheVariants.{Long}
+use Rattle.tp_base.specs.declared.plans.Mark.TheVariants.{Long, Loose}
 use Rattle.tp_base.specs.declared.plans.PoolChange.{PoolChange}
 use Rattle.tp_base.specs.declared.plans.PoolChange.TheVariants.{Close, Maximum, Minimum}
 use Rattle.tp_base.specs.declared.plans.Busy.{Busy}
 use Rattle.tp_base.specs.declared.plans.Change.{Change}
 use Rattle.tp_base.specs.declared.plans.Change.TheVariants as change
 use Rattle.tp_base.specs.declared.answers.Entry.{Entry}
+use Rattle.tp_base.specs.declared.ids.Who.{Who}
+use Rattle.tp_base.specs.declared.plans.WaitEnd.{WaitEnd}
+use Rattle.tp_base.specs.declared.plans.WaitEnd.TheVariants.{Free, Exhausted}
+use Rattle.tp_base.specs.declared.rows.ObjectRow.{ObjectRow}
+use Rattle.tp_base.specs.declared.rows.WaitTarget.{WaitTarget}
+use Rattle.tp_base.specs.declared.rows.WaitTarget.TheVariants.{Object, Group, Kernel}
 use Rattle.tp_base.specs.declared.rows.PoolRow.{PoolRow}
 use Rattle.tp_base.specs.declared.rows.Status.{Status}
 use Rattle.tp_base.specs.declared.rows.Status.TheVariants.{Pending}
-use Rattle.tp_model.specs.World.{World, new_pool, unattached}
-use Rattle.tp_model.specs.Counts.{is_pending, is_running}
-use Rattle.tp_model.specs.Changes.{change_pool, pool_after, with_pool, marked, changed}
-use Rattle.tp_model.specs.Allowed.{IsAllowed, IsMadeBy, Runs}
-use Rattle.tp_model.specs.Laws.Entries.{made_by, queued_by}
-use Rattle.tp_model.specs.Told.{Told, deed_by, nothing, silent, maxima_by, told, told_by}
-use Rattle.tp_model.specs.Moves.{Move, Stay, Mark as Marking, Attach, Detach, Take, Return, Moves, Leads, maximum_at, is_new, numbers_of}
+use Rattle.tp_model.specs.World.{World, new_pool, unattached, BegunWait}
+use Rattle.tp_model.specs.Counts.{is_pending, numbered, has_number}
+use Rattle.tp_model.specs.Changes.{change_pool, pool_after, with_pool, marked, changed, replaced, loosened, release_object, new_wait, without_wait}
+use Rattle.tp_model.specs.Conditions.{is_in_wait, is_same_actor}
+use Rattle.tp_model.specs.Waits.{is_of, is_cancelled_by, cancel_where, is_covered_by, wait_of}
+use Rattle.tp_model.specs.Sound.{IsSound}
+use Rattle.tp_model.specs.Allowed.{IsAllowed, IsMadeBy, Runs, MayEnd, IsObjectTarget}
+use Rattle.tp_model.specs.Laws.Entries.{made_by, queued_by, begins_by, is_ending}
+use Rattle.tp_model.specs.Told.{Told, deed_by, nothing, silent, maxima_by, told, told_by, is_free}
+use Rattle.tp_model.specs.Moves.{Move, Stay, Mark as Marking, Attach, Detach, Take, Return, Moves, Leads, maximum_at, is_new, numbers_of, Loosen, Cancel, WaitsMove, Keep, Begin, End}
+use Rattle.tp_model.proofs.Cancelling.{cancelled_pending, cancelled_found_out, among_numbers}
 use Rattle.tp_model.proofs.Refusals.{false_true}
 
 -- ---- pools
@@ -72,16 +84,24 @@ maxima_put w pool Close (Some row) is home other = maximum_put w.pools pool othe
 maxima_put w pool (Maximum value) (Some row) is home other = maximum_put w.pools pool other w.limits.workers row (pool_after (Maximum value) row) (λ m. max value 1) is refl
 maxima_put w pool (Minimum value) (Some row) is home other = maximum_put w.pools pool other w.limits.workers row (pool_after (Minimum value) row) (λ m. max m value) is refl
 
+released_maxima : (w : World) (object : ℕ) (row : Option ObjectRow) (pool : ℕ) → maximum_at (release_object w object row) pool ≡ maximum_at w pool
+released_maxima w object None pool = refl
+released_maxima w object (Some row) pool = refl
+
 maxima_changed : (fresh : ℕ) (w : World) (ch : Change) → IsAllowed fresh w ch → (pool : ℕ) → maximum_at (changed w ch) pool ≡ (told fresh w ch).maxima pool (maximum_at w pool)
 maxima_changed fresh w change.CreatePool a pool = maximum_appended w.limits w.pools pool
 maxima_changed fresh w (change.ChangePool pool how) a other = maxima_put w pool.0 how (slice_get w.pools pool.0) refl a other
 maxima_changed fresh w (change.CreateObject row) a pool = refl
+maxima_changed fresh w (change.ReleaseObject object) a pool = released_maxima w object.0 (numbered w.objects object.0) pool
 maxima_changed fresh w (change.QueueCallback c) a pool = refl
 maxima_changed fresh w (change.Attach worker at) a pool = refl
 maxima_changed fresh w (change.Detach by) a pool = refl
 maxima_changed fresh w (change.Take by c) a pool = refl
-maxima_changed fresh w (change.Mark by mark) a pool = refl
+maxima_changed fresh w (change.Mark by Long) a pool = refl
+maxima_changed fresh w (change.Mark by Loose) a pool = refl
 maxima_changed fresh w (change.Return by) a pool = refl
+maxima_changed fresh w (change.BeginWait who target cancel) a pool = refl
+maxima_changed fresh w (change.EndWait who how) a pool = refl
 maxima_changed fresh w (change.Finish client) a pool = refl
 
 -- ---- callbacks and workers
@@ -101,16 +121,35 @@ module _ (fresh : ℕ) (w : World) (entry : Entry) where
   pool_moves pool how None made queued tells = unmade w made queued (Stay (record { tells = tells; callbacks = refl; workers = refl }))
   pool_moves pool how (Some row) made queued tells = unmade (with_pool w pool (pool_after how row)) made queued (Stay (record { tells = tells; callbacks = refl; workers = refl }))
 
-  mark_moves : (by : Busy) (mark : Mark) → Runs w by → told_by entry ≡ silent → Moves fresh w entry (changed w (change.Mark by mark))
-  mark_moves by Long runs tells =
+  mark_moves : (by : Busy) (mark : Mark) → Runs w by → entry.who ≡ Worker by.worker → told_by entry ≡ told fresh w (change.Mark by mark) → Moves fresh w entry (changed w (change.Mark by mark))
+  mark_moves by Long runs actor tells =
       unmade (changed w (change.Mark by Long)) (ap (λ (t : Told). t.made) tells) (ap (λ (t : Told). t.queued) tells)
       (Marking (record { old = by.callback; new = marked Long by.callback; tells = ap (λ (t : Told). t.deed) tells; found = runs.found; status = refl; object = refl; pool = refl; callbacks = refl; workers = refl }))
+  mark_moves by Loose runs actor tells =
+      unmade (changed w (change.Mark by Loose)) (ap (λ (t : Told). t.made) tells) (ap (λ (t : Told). t.queued) tells)
+      (Loosen (record {
+        worker = by.worker;
+        callback = by.callback;
+        associated = runs.associated;
+        slots = runs.slots;
+        by = actor;
+        tells = ap (λ (t : Told). t.deed) tells;
+        found = runs.found;
+        running = runs.running;
+        callbacks = ap (λ s. replaced (record by.callback { status = loosened s }) w.callbacks) runs.running;
+        workers = refl;
+      }))
+
+  release_moves : (object : ℕ) (row : Option ObjectRow) → told_by entry ≡ silent → Moves fresh w entry (release_object w object row)
+  release_moves object None tells = still w tells refl refl
+  release_moves object (Some row) tells = still (release_object w object (Some row)) tells refl refl
 
   pub change_moves : (ch : Change) → IsAllowed fresh w ch → IsMadeBy entry.who ch → told_by entry ≡ told fresh w ch → Moves fresh w entry (changed w ch)
   change_moves change.CreatePool a by tells = still (changed w change.CreatePool) tells refl refl
   change_moves (change.ChangePool pool how) a by tells =
       pool_moves pool.0 how (slice_get w.pools pool.0) (ap (λ (t : Told). t.made) tells) (ap (λ (t : Told). t.queued) tells) (ap (λ (t : Told). t.deed) tells)
   change_moves (change.CreateObject row) a by tells = still (changed w (change.CreateObject row)) tells refl refl
+  change_moves (change.ReleaseObject object) a by tells = release_moves object.0 (numbered w.objects object.0) tells
   change_moves (change.QueueCallback c) a by tells =
       let is_new_one : is_new c.status ≡ true = pending_new c.status a.pending in
       record {
@@ -148,7 +187,7 @@ module _ (fresh : ℕ) (w : World) (entry : Entry) where
         callbacks = refl;
         workers = refl;
       }))
-  change_moves (change.Mark at mark) a by tells = mark_moves at mark a tells
+  change_moves (change.Mark at mark) a by tells = mark_moves at mark a by tells
   change_moves (change.Return at) a by tells =
       unmade (changed w (change.Return at)) (ap (λ (t : Told). t.made) tells) (ap (λ (t : Told). t.queued) tells)
       (Return (record {
@@ -162,11 +201,18 @@ module _ (fresh : ℕ) (w : World) (entry : Entry) where
         home = refl;
         tells = ap (λ (t : Told). t.deed) tells;
         found = a.found;
-        runs = ap is_running a.running;
+        associated = a.associated;
+        slots = a.slots;
+        running = a.running;
         pool_same = a.home;
         callbacks = refl;
         workers = refl;
       }))
+  change_moves (change.BeginWait who target cancel) a by tells =
+      unmade (changed w (change.BeginWait who target cancel)) (ap (λ (t : Told). t.made) tells) (ap (λ (t : Told). t.queued) tells)
+      (Cancel (record { test = is_cancelled_by target cancel; tells = ap (λ (t : Told). t.deed) tells; waits = cancelled_pending target cancel; callbacks = refl; workers = refl }))
+  change_moves (change.EndWait who how) a by tells =
+      unmade (without_wait w who) (ap (λ (t : Told). t.made) tells) (ap (λ (t : Told). t.queued) tells) (Stay (record { tells = ap (λ (t : Told). t.deed) tells; callbacks = refl; workers = refl }))
   change_moves (change.Finish client) a by tells = still (changed w (change.Finish client)) tells refl refl
 
   limits_same : (ch : Change) → (changed w ch).limits ≡ w.limits
@@ -175,12 +221,92 @@ module _ (fresh : ℕ) (w : World) (entry : Entry) where
       of_row : (row : Option PoolRow) → (change_pool w pool.0 how row).limits ≡ w.limits
       of_row None = refl
       of_row (Some row) = refl
+  limits_same (change.ReleaseObject object) = of_row (numbered w.objects object.0)
+    where
+      of_row : (row : Option ObjectRow) → (release_object w object.0 row).limits ≡ w.limits
+      of_row None = refl
+      of_row (Some row) = refl
   limits_same _ = refl
 
-  pub change_leads : (ch : Change) → IsAllowed fresh w ch → IsMadeBy entry.who ch → told_by entry ≡ told fresh w ch → Leads fresh w entry (changed w ch)
-  change_leads ch a by tells =
+  -- ---- waits
+
+  -- no change but two touches them
+  waits_same : (ch : Change) → (told fresh w ch).begun ≡ None → (told fresh w ch).ending ≡ false → told_by entry ≡ told fresh w ch → (changed w ch).waits ≡ w.waits → WaitsMove w entry (changed w ch)
+  waits_same ch none still tells same = Keep (record { begins = ap (λ (t : Told). t.begun) tells ∙ none; ends = ap (λ (t : Told). t.ending) tells ∙ still; waits = same })
+
+  begin_moves : (who : Who) (target : WaitTarget) (cancel : Bool) → IsSound fresh w → is_in_wait w who ≡ false → entry.who ≡ who → told_by entry ≡ told fresh w (change.BeginWait who target cancel) → IsObjectTarget target
+      → WaitsMove w entry (changed w (change.BeginWait who target cancel))
+  begin_moves who (Group group) cancel s none by tells is = absurd is
+  begin_moves who (Kernel kernel) cancel s none by tells is = absurd is
+  begin_moves who (Object object) cancel s none by tells is =
+      let kept : List CallbackRow = cancel_where (is_cancelled_by (Object object) cancel) w.callbacks in
+      Begin (record {
+        wait = new_wait who (Object object) cancel kept;
+        begun = record { object = object; cancel = cancel };
+        begins = ap (λ (t : Told). t.begun) tells;
+        ends = ap (λ (t : Told). t.ending) tells;
+        actor = sym by;
+        target = refl;
+        none = ap (is_in_wait w) by ∙ none;
+        waits = refl;
+        covers = λ n c found covered. among_numbers (is_covered_by (Object object) cancel) n c kept found covered;
+        cuts = λ with_cancel n c found of. uncancelled (Object object) cancel with_cancel n c found of;
+      })
+    where
+      uncancelled : (target : WaitTarget) (with_cancel : Bool) → with_cancel ≡ true → (n : ℕ) (c : CallbackRow) → find (has_number n) (cancel_where (is_cancelled_by target with_cancel) w.callbacks) ≡ Some c → is_of target c ≡ true → is_pending c.status ≡ false
+      uncancelled target with_cancel on n c found of = known (is_pending c.status) refl
+        where
+          none_left : (test : CallbackRow → Bool) → test c ≡ false → test c ≡ true → ⊥
+          none_left test out passes = false_true (sym out ∙ passes)
+
+          known : (b : Bool) → is_pending c.status ≡ b → is_pending c.status ≡ false
+          known false e = e
+          known true e = absurd (none_left (is_cancelled_by target with_cancel) (cancelled_found_out (is_cancelled_by target with_cancel) (cancelled_pending target with_cancel) n w.callbacks c found) (ap₂ (λ a b. a && (b && is_of target c)) on e ∙ of))
+
+  end_moves : (who : Who) (how : WaitEnd) → MayEnd w who how → entry.who ≡ who → told_by entry ≡ told fresh w (change.EndWait who how) → WaitsMove w entry (without_wait w who)
+  end_moves who how a by tells =
+      End (record {
+        wait = a.wait;
+        begins = ap (λ (t : Told). t.begun) tells;
+        ends = ap (λ (t : Told). t.ending) tells;
+        found = ap (wait_of w) by ∙ a.begun;
+        free = λ freed. a.free (how_free how (sym (ap (λ (t : Told). t.freeing) tells) ∙ freed));
+        waits = ap (λ x. filter (λ (b : BegunWait). not (is_same_actor b.actor x)) w.waits) (sym by);
+      })
+    where
+      how_free : (h : WaitEnd) → is_free h ≡ true → h ≡ Free
+      how_free Free e = refl
+      how_free Exhausted e = absurd (false_true e)
+
+  pub change_waits : (ch : Change) → IsSound fresh w → IsAllowed fresh w ch → IsMadeBy entry.who ch → told_by entry ≡ told fresh w ch → WaitsMove w entry (changed w ch)
+  change_waits (change.BeginWait who target cancel) s a by tells = begin_moves who target cancel s a.none by tells a.object
+  change_waits (change.EndWait who how) s a by tells = end_moves who how a by tells
+  change_waits (change.ChangePool pool how) s a by tells = of_row (slice_get w.pools pool.0) (ap (λ (t : Told). t.begun) tells) (ap (λ (t : Told). t.ending) tells)
+    where
+      of_row : (row : Option PoolRow) → begins_by entry ≡ None → is_ending entry ≡ false → WaitsMove w entry (change_pool w pool.0 how row)
+      of_row None none unending = Keep (record { begins = none; ends = unending; waits = refl })
+      of_row (Some row) none unending = Keep (record { begins = none; ends = unending; waits = refl })
+  change_waits (change.ReleaseObject object) s a by tells = of_row (numbered w.objects object.0) (ap (λ (t : Told). t.begun) tells) (ap (λ (t : Told). t.ending) tells)
+    where
+      of_row : (row : Option ObjectRow) → begins_by entry ≡ None → is_ending entry ≡ false → WaitsMove w entry (release_object w object.0 row)
+      of_row None none unending = Keep (record { begins = none; ends = unending; waits = refl })
+      of_row (Some row) none unending = Keep (record { begins = none; ends = unending; waits = refl })
+  change_waits (change.Mark at Long) s a by tells = waits_same (change.Mark at Long) refl refl tells refl
+  change_waits (change.Mark at Loose) s a by tells = waits_same (change.Mark at Loose) refl refl tells refl
+  change_waits change.CreatePool s a by tells = waits_same change.CreatePool refl refl tells refl
+  change_waits (change.CreateObject row) s a by tells = waits_same (change.CreateObject row) refl refl tells refl
+  change_waits (change.QueueCallback c) s a by tells = waits_same (change.QueueCallback c) refl refl tells refl
+  change_waits (change.Attach worker pool) s a by tells = waits_same (change.Attach worker pool) refl refl tells refl
+  change_waits (change.Detach at) s a by tells = waits_same (change.Detach at) refl refl tells refl
+  change_waits (change.Take at c) s a by tells = waits_same (change.Take at c) refl refl tells refl
+  change_waits (change.Return at) s a by tells = waits_same (change.Return at) refl refl tells refl
+  change_waits (change.Finish client) s a by tells = waits_same (change.Finish client) refl refl tells refl
+
+  pub change_leads : (ch : Change) → IsSound fresh w → IsAllowed fresh w ch → IsMadeBy entry.who ch → told_by entry ≡ told fresh w ch → Leads fresh w entry (changed w ch)
+  change_leads ch s a by tells =
       record {
         moves = change_moves ch a by tells;
+        waits = change_waits ch s a by tells;
         limits = limits_same ch;
         maxima = λ pool. maxima_changed fresh w ch a pool ∙ sym (ap (λ (t : Told). t.maxima pool (maximum_at w pool)) tells);
       }

@@ -22,9 +22,11 @@ use Rattle.tp_model.specs.Sound.{IsRising}
 use Rattle.tp_model.specs.Laws.Entries.{Run, is_among, times, numbers_made, numbers_queued, numbers_taken, numbers_cancelled, count_cancelled, made_by, queued_by, taken_by, cancelled_by, cancelled_count}
 use Rattle.tp_model.specs.Laws.Once.{is_left, left, TakesReady, TakesUncancelled}
 use Rattle.tp_model.specs.Told.{Deed, deed_by, nothing}
-use Rattle.tp_model.specs.Moves.{Move, Stay, Mark, Attach, Detach, Take, Return, Moves, run_of, AreNew, is_new, numbers_of, waiting_of}
+use Rattle.tp_model.specs.Moves.{Move, Stay, Mark, Attach, Detach, Take, Return, Moves, run_of, AreNew, is_new, numbers_of, waiting_of, Loosen, Cancel}
+use Rattle.tp_model.specs.Waits.{cancelled as cancelled_row, cancel_where}
+use Rattle.tp_model.proofs.Cancelling.{IsPendingTest, cancelled_if, cancelled_found, length_cancelled, find_cancelled, count_uncancelled, count_cancelled as count_dropped}
 use Rattle.tp_model.proofs.Callbacks.{find_appended, find_replaced, find_replaced_other, length_replaced, length_filter_replaced, kept_found}
-use Rattle.tp_model.proofs.Refusals.{false_true}
+use Rattle.tp_model.proofs.Refusals.{false_true, or_true}
 
 -- ---- what a status says
 
@@ -155,10 +157,6 @@ among_front n xs ys e = list_any-append (λ m. m == n) xs ys ∙ ap (λ b. b || 
 
 among_back : (n : ℕ) (xs : List ℕ) (m : ℕ) → (m == n) ≡ true → is_among n (xs ++ m ∷ []) ≡ true
 among_back n xs m e = list_any-append (λ k. k == n) xs (m ∷ []) ∙ ap (λ b. is_among n xs || (b || false)) e ∙ or_true (is_among n xs)
-  where
-    or_true : (b : Bool) → (b || true) ≡ true
-    or_true true = refl
-    or_true false = refl
 
 -- the rows found for one number are one
 same_row : (n m : ℕ) (x y : CallbackRow) (cs : List CallbackRow) → n ≡ m → find (has_number n) cs ≡ Some x → find (has_number m) cs ≡ Some y → x ≡ y
@@ -287,6 +285,46 @@ module _ (made queued taken cancelled : List ℕ) (count : ℕ) (cs : List Callb
                   omega (arith, others)
             ] refl
 
+-- pending callbacks are cancelled
+module _ (made queued taken cancelled : List ℕ) (count : ℕ) (cs : List CallbackRow) (test : CallbackRow → Bool) (only : IsPendingTest test) where
+  still_begun : (n : ℕ) (o : Option CallbackRow) → times_begun (cancelled_found test o) ≡ times_begun o
+  still_begun n None = refl
+  still_begun n (Some c) = of_test (test c) refl
+    where
+      of_test : (b : Bool) → test c ≡ b → times_begun (cancelled_found test (Some c)) ≡ times_begun (Some c)
+      of_test true e = ap (λ t. one_if (has_begun (cond t (cancelled_row c) c).status)) e ∙ sym (ap one_if (pending_unbegun c.status (only c e)))
+      of_test false e = ap (λ t. one_if (has_begun (cond t (cancelled_row c) c).status)) e
+
+  -- what is pending after was pending before
+  was_pending : (n : ℕ) (o : Option CallbackRow) (c : CallbackRow) → cancelled_found test o ≡ Some c → is_pending c.status ≡ true → o ≡ Some c
+  was_pending n None c e waits = absurd cc
+  was_pending n (Some d) c e waits = of_test (test d) refl cc
+    where
+      of_test : (b : Bool) → test d ≡ b → cancelled_if test d ≡ c → Some d ≡ Some c
+      of_test true t is = absurd (false_true (ap (λ (x : CallbackRow). is_pending x.status) (sym (ap (λ u. cond u (cancelled_row d) d) t) ∙ is) ∙ waits))
+      of_test false t is = ap (λ x. Some x) (sym (ap (λ u. cond u (cancelled_row d) d) t) ∙ is)
+
+  stays_cancelled : (o : Option CallbackRow) (c : CallbackRow) → o ≡ Some c → is_cancelled c.status ≡ true → (x : CallbackRow) × (cancelled_found test o ≡ Some x) × (is_cancelled x.status ≡ true)
+  stays_cancelled o c is named = (cancelled_if test c, ap (cancelled_found test) is, of_test (test c))
+    where
+      of_test : (b : Bool) → is_cancelled (cond b (cancelled_row c) c).status ≡ true
+      of_test true = refl
+      of_test false = named
+
+  agrees_cancelled : Agrees made queued taken cancelled count cs → AgreesWith made queued taken cancelled count (record nothing { count = length (filter test cs) }) (cancel_where test cs)
+  agrees_cancelled a =
+      record {
+        in_order = a.in_order ∙ ap (range_with_len 1) (sym (length_cancelled test cs));
+        taken_begun = λ n. ap (times n) (append-nil taken) ∙ a.taken_begun n ∙ sym (ap times_begun (find_cancelled test cs n) ∙ still_begun n (find (has_number n) cs));
+        pending_queued = λ n c found waits. a.pending_queued n c (was_pending n (find (has_number n) cs) c (sym (find_cancelled test cs n) ∙ found) waits) waits;
+        named_cancelled = λ n named.
+            let old = a.named_cancelled n (ap (is_among n) (sym (append-nil cancelled)) ∙ named) in
+            let now = stays_cancelled (find (has_number n) cs) old.0 old.1 old.2 in
+            (now.0, find_cancelled test cs n ∙ now.1, now.2);
+        as_many_taken = ap length (append-nil taken) ∙ a.as_many_taken ∙ sym (count_uncancelled begun test (λ c e. sym (pending_unbegun c.status (only c e))) cs);
+        as_many_cancelled = omega (arith, ap length (append-nil cancelled), a.as_many_cancelled, count_dropped dropped test (λ c e. (refl, pending_uncancelled c.status (only c e))) cs);
+      }
+
 -- ---- every move keeps it
 
 move_agrees : (made queued taken cancelled : List ℕ) (count fresh : ℕ) (w : World) (entry : Entry) (kept : List CallbackRow) (staff : List WorkerRow) → IsRising 1 fresh w.callbacks
@@ -313,7 +351,14 @@ move_agrees made queued taken cancelled count fresh w entry kept staff rising a 
     of_move (Return m) =
         let d : CallbackRow = returned m.callback in
         to (record nothing { returned = true }) (replaced d w.callbacks) m.tells m.callbacks
-        (agrees_marked made queued taken cancelled count w.callbacks fresh m.callback d rising m.found a (sym (running_begun m.callback.status m.runs)) (sym (running_uncancelled m.callback.status m.runs)) (λ e. absurd (false_true e)))
+        (agrees_marked made queued taken cancelled count w.callbacks fresh m.callback d rising m.found a (sym (ap has_begun m.running)) (sym (ap is_cancelled m.running)) (λ e. absurd (false_true e)))
+    of_move (Loosen m) =
+        let d : CallbackRow = record m.callback { status = Running m.worker false m.slots } in
+        to (record nothing { loosened = true }) (replaced d w.callbacks) m.tells m.callbacks
+        (agrees_marked made queued taken cancelled count w.callbacks fresh m.callback d rising m.found a (sym (ap has_begun m.running)) (sym (ap is_cancelled m.running)) (λ e. absurd (false_true e)))
+    of_move (Cancel m) =
+        to (record nothing { count = length (filter m.test w.callbacks) }) (cancel_where m.test w.callbacks) m.tells m.callbacks
+        (agrees_cancelled made queued taken cancelled count w.callbacks m.test m.waits a)
 
 -- as many callbacks as before
 pub move_as_many : (w : World) (entry : Entry) (kept : List CallbackRow) (staff : List WorkerRow) → Move w entry kept staff → length kept ≡ length w.callbacks
@@ -323,6 +368,8 @@ move_as_many w entry kept staff (Attach m) = ap length m.callbacks
 move_as_many w entry kept staff (Detach m) = ap length m.callbacks
 move_as_many w entry kept staff (Take m) = ap length m.callbacks ∙ length_replaced (taken_row m.callback m.worker) w.callbacks
 move_as_many w entry kept staff (Return m) = ap length m.callbacks ∙ length_replaced (returned m.callback) w.callbacks
+move_as_many w entry kept staff (Loosen m) = ap length m.callbacks ∙ length_replaced (record m.callback { status = Running m.worker false m.slots }) w.callbacks
+move_as_many w entry kept staff (Cancel m) = ap length m.callbacks ∙ length_cancelled m.test w.callbacks
 
 -- the callbacks that are made, one by one
 new_agree : (made queued taken cancelled : List ℕ) (count fresh : ℕ) (cs new : List CallbackRow) → fresh ≡ length cs + 1 → AreNew fresh new → Agrees made queued taken cancelled count cs
@@ -400,6 +447,8 @@ taken_waits w entry kept staff n (Mark m) e = absurd (let h = sym (ap (λ (t : D
 taken_waits w entry kept staff n (Attach m) e = absurd (let h = sym (ap (λ (t : Deed). t.taken) m.tells) ∙ e in cc)
 taken_waits w entry kept staff n (Detach m) e = absurd (let h = sym (ap (λ (t : Deed). t.taken) m.tells) ∙ e in cc)
 taken_waits w entry kept staff n (Return m) e = absurd (let h = sym (ap (λ (t : Deed). t.taken) m.tells) ∙ e in cc)
+taken_waits w entry kept staff n (Loosen m) e = absurd (let h = sym (ap (λ (t : Deed). t.taken) m.tells) ∙ e in cc)
+taken_waits w entry kept staff n (Cancel m) e = absurd (let h = sym (ap (λ (t : Deed). t.taken) m.tells) ∙ e in cc)
 
 -- a first place that passes is within the list
 passes_within : {X : Type 0} (p : X → Bool) (xs : List X) → list_any p xs ≡ true → is_some (position p xs) ≡ true

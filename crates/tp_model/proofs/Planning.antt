@@ -1,5 +1,5 @@
 -- The plan of each call asks for a change that is allowed, made by the actor.
-use Rattle.std.proofs.Common.{◌≡◌, ℕ, ◌<◌, Bool, true, false, cond, not, ◌||◌, ◌==◌, List, length, nat_le, Option, Some, None, is_some, refl, sym, ap, ◌∙◌, eqb-true}
+use Rattle.std.proofs.Common.{◌≡◌, ℕ, ◌<◌, Bool, true, false, cond, not, ◌||◌, ◌==◌, List, [], ◌∷◌, length, nat_le, Option, Some, None, is_some, refl, sym, ap, ◌∙◌, eqb-true}
 use Rattle.std.specs.Option.{option_map_or}
 use Rattle.std.proofs.lemmas.Bool.{leb-false}
 use Rattle.tp_base.specs.declared.ids.Who.{Who}
@@ -10,7 +10,7 @@ use Rattle.tp_base.specs.declared.ids.RoutineId.{RoutineId}
 use Rattle.tp_base.specs.declared.calls.Kind.{Kind}
 use Rattle.tp_base.specs.declared.calls.Environ.{Environ}
 use Rattle.tp_base.specs.declared.calls.Call.{Call}
-use Rattle.tp_base.specs.declared.calls.Call.TheVariants.{CreatePool, ClosePool, SetMaximum, SetMinimum, Create, SubmitWork, Attach, Detach, Take, Return, MayRunLong, Finish}
+use Rattle.tp_base.specs.declared.calls.Call.TheVariants.{CreatePool, ClosePool, SetMaximum, SetMinimum, Create, CloseObject, SubmitSimple, SubmitWork, BeginWait, End, Attach, Detach, Take, Return, MayRunLong, Disassociate, Finish}
 use Rattle.tp_base.specs.declared.answers.Refusal.{Refusal}
 use Rattle.tp_base.specs.declared.answers.Answer.{Answer}
 use Rattle.tp_base.specs.declared.answers.Answer.TheVariants as answer
@@ -26,22 +26,26 @@ use Rattle.tp_base.specs.declared.rows.ObjectRow.{ObjectRow}
 use Rattle.tp_base.specs.declared.rows.CallbackRow.{CallbackRow}
 use Rattle.tp_base.specs.declared.rows.WorkerRow.{WorkerRow}
 use Rattle.tp_base.specs.declared.rows.ClientRow.{ClientRow}
-use Rattle.tp_model.specs.World.{World, unattached, unfinished}
+use Rattle.tp_model.specs.World.{World, unattached, unfinished, BegunWait}
 use Rattle.tp_model.specs.Counts.{numbered, is_pending, maximum, running, next}
-use Rattle.tp_model.specs.Conditions.{is_actor, is_pool, is_finished, is_attached, runs_callback, is_no_group_or_group, idle_of, busy_of, lacks_slots_for}
+use Rattle.tp_model.specs.Conditions.{is_actor, is_pool, is_finished, is_attached, runs_callback, is_no_group_or_group, idle_of, busy_of, lacks_slots_for, is_object, is_released, is_same_actor}
 use Rattle.tp_model.specs.Refusing.{first_refusal, unless_refused}
 use Rattle.tp_model.specs.History.{is_refusal}
 use Rattle.tp_model.specs.Calls.Pools.{create_pool_refusals, create_pool_plan, pool_refusals, change_pool_plan, is_used, close_pool_plan, set_maximum_plan, set_minimum_plan}
-use Rattle.tp_model.specs.Calls.Objects.{create_refusals, create_plan}
-use Rattle.tp_model.specs.Calls.Work.{submit_work_refusals, submit, submit_work_plan}
+use Rattle.tp_model.specs.Calls.Objects.{create_refusals, create_plan, close_object_refusals, close_object_plan}
+use Rattle.tp_model.specs.Calls.Work.{submit_work_refusals, submit, submit_work_plan, submit_simple_refusals, submit_simple_plan}
 use Rattle.tp_model.specs.Calls.Workers.{attach_refusals, attach_to, attach_plan, pool_to_join, idle_refusals, may_leave, detach, detach_plan, take_callback, take, take_plan, return_refusals, return, return_plan}
-use Rattle.tp_model.specs.Calls.InCallback.{busy_refusals, may_run_long, may_run_long_plan}
+use Rattle.tp_model.specs.Calls.InCallback.{busy_refusals, may_run_long, may_run_long_plan, disassociate, disassociate_plan}
+use Rattle.tp_model.specs.Calls.Waits.{begin_wait_refusals, begin_wait_plan, end_refusals, end_held, end_wait, end_plan, holds_starved}
+use Rattle.tp_model.specs.Waits.{wait_of, held}
+use Rattle.tp_model.specs.Allowed.{IsUnreleased}
+use Rattle.tp_base.specs.declared.plans.WaitEnd.TheVariants as how
 use Rattle.tp_model.specs.Calls.Clients.{finish_refusals, finish, finish_plan}
 use Rattle.tp_model.specs.Table.{plan_at}
 use Rattle.tp_model.specs.Sound.{IsSound}
 use Rattle.tp_model.specs.Told.{told, told_by}
 use Rattle.tp_model.specs.Safe.{IsSafe}
-use Rattle.tp_model.proofs.Lists.{all_get}
+use Rattle.tp_model.proofs.Lists.{all_get, find_all}
 use Rattle.tp_model.proofs.Refusals.{NoneHolds, none_holds, neither, not_false, both, made, numbered_some, false_true}
 use Rattle.tp_model.proofs.Actors.{IsIdle, idle_stands, busy_stands, next_pending, pool_found}
 
@@ -78,6 +82,23 @@ create_safe fresh w who kind routine context env =
     let home = made w.pools env.pool.0 (not_false (is_pool w env.pool.0) (neither (not (is_actor w who)) (not (is_pool w env.pool.0)) there.0).1) in
     record { allowed = record { unreleased = refl; home = home; room = leb-false w.limits.objects (length w.objects) none.1.1.1.1.1.1.0 }; made_by = tt; accepted = refl; tells = refl })
 
+-- the object of the number stands and isn't released
+unreleased : (w : World) (object : ObjectId) → is_object w object.0 ≡ true → is_released w object.0 ≡ false → IsUnreleased w object
+unreleased w object there live = of_row (numbered w.objects object.0) refl there live
+  where
+    of_row : (row : Option ObjectRow) → numbered w.objects object.0 ≡ row → is_some row ≡ true → option_map_or (λ (o : ObjectRow). o.released) row false ≡ false → IsUnreleased w object
+    of_row None is h l = absurd (false_true h)
+    of_row (Some row) is h l = record { row = row; stands = is; unreleased = l }
+
+close_object_safe : (fresh : ℕ) (w : World) (who : Who) (kind : Kind) (object : ObjectId) → IsSafe fresh w who (CloseObject kind object) (close_object_plan w who kind object)
+unfolding close_object_plan
+close_object_safe fresh w who kind object =
+    safe_unless fresh w who (CloseObject kind object) (close_object_refusals w who kind object.0) _
+    (λ none.
+    let there = not_false (is_object w object.0) (neither (not (is_actor w who)) (not (is_object w object.0)) none.0).1 in
+    let live = (neither (is_finished w who) (is_released w object.0) none.1.1.0).1 in
+    record { allowed = unreleased w object there live; made_by = tt; accepted = refl; tells = refl })
+
 -- ---- work
 
 submit_safe : (fresh : ℕ) (w : World) (who : Who) (object : ObjectId) (row : Option ObjectRow) → IsSound fresh w → numbered w.objects object.0 ≡ row → lacks_slots_for w 1 ≡ false → IsSafe fresh w who (SubmitWork object) (submit fresh object row)
@@ -90,6 +111,15 @@ submit_work_safe : (fresh : ℕ) (w : World) (who : Who) (object : ObjectId) →
 unfolding submit_work_plan
 submit_work_safe fresh w who object s =
     safe_unless fresh w who (SubmitWork object) (submit_work_refusals w who object.0) _ (λ none. submit_safe fresh w who object (numbered w.objects object.0) s refl none.1.1.1.1.1.0)
+
+submit_simple_safe : (fresh : ℕ) (w : World) (who : Who) (routine : RoutineId) (context : ℕ) (env : Environ) → IsSafe fresh w who (SubmitSimple routine context env) (submit_simple_plan w fresh who routine context env)
+unfolding submit_simple_plan
+submit_simple_safe fresh w who routine context env =
+    safe_unless fresh w who (SubmitSimple routine context env) (submit_simple_refusals w who env) _
+    (λ none.
+    let there = neither (not (is_actor w who) || not (is_pool w env.pool.0)) (not (is_no_group_or_group w env.group.0)) none.0 in
+    let home = made w.pools env.pool.0 (not_false (is_pool w env.pool.0) (neither (not (is_actor w who)) (not (is_pool w env.pool.0)) there.0).1) in
+    record { allowed = record { number = refl; pending = refl; home = home; room = none.1.1.1.1.1.1.0 }; made_by = tt; accepted = refl; tells = refl })
 
 -- ---- workers
 
@@ -179,6 +209,40 @@ may_run_long_safe fresh w who s = safe_unless fresh w who MayRunLong (busy_refus
     marks None is = tt
     marks (Some by) is = let busy = busy_stands fresh w who by s is in record { allowed = busy.runs; made_by = busy.actor; accepted = refl; tells = refl }
 
+disassociate_safe : (fresh : ℕ) (w : World) (who : Who) → IsSound fresh w → IsSafe fresh w who Disassociate (disassociate_plan w who)
+unfolding disassociate_plan
+disassociate_safe fresh w who s = safe_unless fresh w who Disassociate (busy_refusals w who) _ (λ _. loosens (busy_of w who) refl)
+  where
+    loosens : (by : Option Busy) → busy_of w who ≡ by → IsSafe fresh w who Disassociate (disassociate by)
+    loosens None is = tt
+    loosens (Some by) is = let busy = busy_stands fresh w who by s is in record { allowed = busy.runs; made_by = busy.actor; accepted = refl; tells = refl }
+
+-- ---- waits
+
+begin_wait_safe : (fresh : ℕ) (w : World) (who : Who) (kind : Kind) (object : ObjectId) (cancel : Bool) → IsSafe fresh w who (BeginWait kind object cancel) (begin_wait_plan w who kind object cancel)
+unfolding begin_wait_plan
+begin_wait_safe fresh w who kind object cancel =
+    safe_unless fresh w who (BeginWait kind object cancel) (begin_wait_refusals w who kind object.0) _ (λ none. record { allowed = record { none = none.1.1.1.1.0; object = tt }; made_by = refl; accepted = refl; tells = refl })
+
+end_safe : (fresh room : ℕ) (w : World) (who : Who) → IsSound fresh w → IsSafe fresh w who End (end_plan w room who)
+unfolding end_plan
+end_safe fresh room w who s = safe_unless fresh w who End (end_refusals w who) _ (λ _. ends (wait_of w who) refl)
+  where
+    unnoticed : (b : BegunWait) → wait_of w who ≡ Some b → b.notices ≡ []
+    unnoticed b is = find_all (λ (x : BegunWait). x.notices ≡ []) (λ (x : BegunWait). is_same_actor x.actor who) b w.waits s.unnoticed is
+
+    ends_with : (b : BegunWait) (numbers : List ℕ) → wait_of w who ≡ Some b → held w b ≡ numbers → IsSafe fresh w who End (end_held w room who numbers)
+    ends_with b [] is free = record { allowed = record { wait = b; begun = is; unnoticed = unnoticed b is; free = λ _. free }; made_by = refl; accepted = refl; tells = refl }
+    ends_with b (n ∷ ns) is left =
+        elim (holds_starved w room (n ∷ ns)) as (λ t. IsSafe fresh w who End (cond t (plan.Does answer.Exhausted (change.EndWait who how.Exhausted)) (plan.Looked (look.NotYet n)))) [
+          | true ↦ record { allowed = record { wait = b; begun = is; unnoticed = unnoticed b is; free = λ e. absurd cc }; made_by = refl; accepted = refl; tells = refl }
+          | false ↦ tt
+        ]
+
+    ends : (b : Option BegunWait) → wait_of w who ≡ b → IsSafe fresh w who End (end_wait w room who b)
+    ends None is = tt
+    ends (Some b) is = ends_with b (held w b) is refl
+
 -- ---- clients
 
 finish_safe : (fresh : ℕ) (w : World) (who : Who) → IsSafe fresh w who Finish (finish_plan w who)
@@ -202,10 +266,15 @@ plan_safe fresh room w who (ClosePool pool) s = change_pool_safe fresh w who (Cl
 plan_safe fresh room w who (SetMaximum pool value) s = change_pool_safe fresh w who (SetMaximum pool value) pool (Maximum value) answer.Done refl refl
 plan_safe fresh room w who (SetMinimum pool value) s = change_pool_safe fresh w who (SetMinimum pool value) pool (Minimum value) answer.Done refl refl
 plan_safe fresh room w who (Create kind routine context env) s = create_safe fresh w who kind routine context env
+plan_safe fresh room w who (CloseObject kind object) s = close_object_safe fresh w who kind object
+plan_safe fresh room w who (SubmitSimple routine context env) s = submit_simple_safe fresh w who routine context env
 plan_safe fresh room w who (SubmitWork object) s = submit_work_safe fresh w who object s
+plan_safe fresh room w who (BeginWait kind object cancel) s = begin_wait_safe fresh w who kind object cancel
+plan_safe fresh room w who End s = end_safe fresh room w who s
 plan_safe fresh room w who Attach s = attach_safe fresh w who
 plan_safe fresh room w who Detach s = detach_safe fresh w who
 plan_safe fresh room w who Take s = take_safe fresh w who s
 plan_safe fresh room w who Return s = return_safe fresh w who s
 plan_safe fresh room w who MayRunLong s = may_run_long_safe fresh w who s
+plan_safe fresh room w who Disassociate s = disassociate_safe fresh w who s
 plan_safe fresh room w who Finish s = finish_safe fresh w who

@@ -1,12 +1,13 @@
 -- Each change keeps what is true of all worlds that can be reached.
-use Rattle.std.proofs.Common.{◌≡◌, ◌≢◌, ℕ, suc, zero, ◌+◌, ◌-◌, ◌<◌, ◌≤◌, Bool, true, false, cond, List, [], ◌∷◌, ◌++◌, length, slice_get, slice_set, replicate, Option, Some, None, refl, sym, ap, ◌∙◌, subst, arith, find, eqb-true, ne_eqb, length-append, length-set}
-use Rattle.std.specs.List.{AllByRecursion}
+use Rattle.std.proofs.Common.{◌≡◌, ◌≢◌, ℕ, suc, zero, ◌+◌, ◌-◌, ◌<◌, ◌≤◌, Bool, true, false, cond, not, ◌||◌, List, [], ◌∷◌, ◌++◌, length, slice_get, slice_set, replicate, Option, Some, None, refl, sym, ap, ap₂, ◌∙◌, subst, arith, filter, find, eqb-true, ne_eqb, length-append, length-set}
+use Rattle.std.specs.List.{AllByRecursion, list_any}
+use Rattle.std.proofs.lemmas.List.Folds.{list_any-append}
 use Rattle.tp_base.specs.declared.ids.PoolId.{PoolId}
 use Rattle.tp_base.specs.declared.limits.Limits.{Limits}
 use Rattle.tp_base.specs.declared.plans.Change.{Change}
 use Rattle.tp_base.specs.declared.plans.Change.TheVariants as change
 use Rattle.tp_base.specs.declared.plans.Mark.{Mark}
-use Rattle.tp_base.specs.declared.plans.Mark.TheVariants.{Long}
+use Rattle.tp_base.specs.declared.plans.Mark.TheVariants.{Long, Loose}
 use Rattle.tp_base.specs.declared.plans.PoolChange.{PoolChange}
 use Rattle.tp_base.specs.declared.rows.Slots.{Slots}
 use Rattle.tp_base.specs.declared.rows.Status.{Status}
@@ -15,14 +16,19 @@ use Rattle.tp_base.specs.declared.rows.PoolRow.{PoolRow}
 use Rattle.tp_base.specs.declared.rows.ObjectRow.{ObjectRow}
 use Rattle.tp_base.specs.declared.rows.CallbackRow.{CallbackRow}
 use Rattle.tp_base.specs.declared.rows.WorkerRow.{WorkerRow}
-use Rattle.tp_model.specs.World.{World, opening, unattached, new_pool}
-use Rattle.tp_model.specs.Counts.{has_number, is_pending}
-use Rattle.tp_model.specs.Changes.{with_new_pool, with_pool, with_object, with_new_callback, with_callback, with_worker, with_client, replaced, change_pool, pool_after, taken, marked, returned, no_actions, finished, changed}
-use Rattle.tp_model.specs.Sound.{IsSound, RunsOn, IsWorkerSound, AreWorkersSound}
+use Rattle.tp_base.specs.declared.ids.Who.{Who}
+use Rattle.tp_base.specs.declared.rows.WaitTarget.{WaitTarget}
+use Rattle.tp_model.specs.Waits.{is_cancelled_by, cancelled, cancel_where}
+use Rattle.tp_model.specs.Conditions.{is_same_actor, is_in_wait}
+use Rattle.tp_model.specs.World.{World, BegunWait, opening, unattached, new_pool}
+use Rattle.tp_model.specs.Counts.{numbered, has_number, is_pending, is_running}
+use Rattle.tp_model.specs.Changes.{with_new_pool, with_pool, with_object, with_new_callback, with_callback, with_worker, with_client, replaced, change_pool, pool_after, taken, loosened, marked, returned, no_actions, finished, release_object, new_wait, begin_wait, without_wait, changed}
+use Rattle.tp_model.specs.Sound.{IsSound, RunsOn, IsWorkerSound, AreWorkersSound, AreApart}
 use Rattle.tp_model.specs.Allowed.{IsAllowed, news}
-use Rattle.tp_model.proofs.Lists.{all_below, find_all, all_append, all_map}
-use Rattle.tp_model.proofs.Callbacks.{rising_append, rising_replaced, find_replaced, find_replaced_other, find_appended}
-use Rattle.tp_model.proofs.Refusals.{numbered_some, false_true}
+use Rattle.tp_model.proofs.Lists.{all_below, find_all, all_append, all_map, all_get, all_set, all_filter, any_filter_none}
+use Rattle.tp_model.proofs.Cancelling.{IsPendingTest, cancelled_pending, running_passed, find_uncancelled}
+use Rattle.tp_model.proofs.Callbacks.{rising_append, rising_map, rising_replaced, find_replaced, find_replaced_other, find_appended}
+use Rattle.tp_model.proofs.Refusals.{neither, numbered_some, false_true, same_actor_sym}
 
 -- ---- workers
 
@@ -89,7 +95,7 @@ worker_at cs first (suc place) (w ∷ ws) row s e =
 
 pub sound_object : (fresh : ℕ) (w : World) (o : ObjectRow) → o.env.pool.0 < length w.pools → IsSound fresh w → IsSound fresh (with_object w o)
 sound_object fresh w o home s =
-    record { numbers = s.numbers; workers = s.workers; object_pools = all_append (λ (x : ObjectRow). x.env.pool.0 < length w.pools) w.objects o s.object_pools home; callback_pools = s.callback_pools }
+    record { numbers = s.numbers; workers = s.workers; object_pools = all_append (λ (x : ObjectRow). x.env.pool.0 < length w.pools) w.objects o s.object_pools home; callback_pools = s.callback_pools; apart = s.apart; unnoticed = s.unnoticed }
 
 pub sound_new_callback : (fresh : ℕ) (w : World) (c : CallbackRow) → c.number ≡ fresh → c.pool.0 < length w.pools → IsSound fresh w → IsSound (fresh + 1) (with_new_callback w c)
 sound_new_callback fresh w c number home s =
@@ -97,15 +103,17 @@ sound_new_callback fresh w c number home s =
       numbers = rising_append 1 fresh w.callbacks c number s.numbers;
       workers = workers_appended c w.callbacks 1 w.workers s.workers;
       object_pools = s.object_pools;
+      apart = s.apart;
+      unnoticed = s.unnoticed;
       callback_pools = all_append (λ (x : CallbackRow). x.pool.0 < length w.pools) w.callbacks c s.callback_pools home;
     }
 
 pub sound_free_worker : (fresh : ℕ) (w : World) (worker : ℕ) (row : WorkerRow) → row.callback ≡ None → IsSound fresh w → IsSound fresh (with_worker w worker row)
 sound_free_worker fresh w worker row free s =
-    record { numbers = s.numbers; workers = workers_freed w.callbacks row 1 (worker - 1) w.workers free s.workers; object_pools = s.object_pools; callback_pools = s.callback_pools }
+    record { numbers = s.numbers; workers = workers_freed w.callbacks row 1 (worker - 1) w.workers free s.workers; object_pools = s.object_pools; callback_pools = s.callback_pools; apart = s.apart; unnoticed = s.unnoticed }
 
 pub sound_client : (fresh : ℕ) (w : World) (client : ℕ) (row : _) → IsSound fresh w → IsSound fresh (with_client w client row)
-sound_client fresh w client row s = record { numbers = s.numbers; workers = s.workers; object_pools = s.object_pools; callback_pools = s.callback_pools }
+sound_client fresh w client row s = record { numbers = s.numbers; workers = s.workers; object_pools = s.object_pools; callback_pools = s.callback_pools; apart = s.apart; unnoticed = s.unnoticed }
 
 -- a further pool, and another row of a pool
 pub sound_new_pool : (fresh : ℕ) (w : World) → IsSound fresh w → IsSound fresh (with_new_pool w)
@@ -115,6 +123,8 @@ sound_new_pool fresh w s =
       numbers = s.numbers;
       workers = s.workers;
       object_pools = all_below (λ (o : ObjectRow). o.env.pool.0) (length w.pools) (length (w.pools ++ new_pool w.limits ∷ [])) more w.objects s.object_pools;
+      apart = s.apart;
+      unnoticed = s.unnoticed;
       callback_pools = all_below (λ (c : CallbackRow). c.pool.0) (length w.pools) (length (w.pools ++ new_pool w.limits ∷ [])) more w.callbacks s.callback_pools;
     }
 
@@ -125,6 +135,8 @@ sound_pool fresh w number row s =
       numbers = s.numbers;
       workers = s.workers;
       object_pools = subst (λ n. AllByRecursion (λ (o : ObjectRow). o.env.pool.0 < n) w.objects) as_many s.object_pools;
+      apart = s.apart;
+      unnoticed = s.unnoticed;
       callback_pools = subst (λ n. AllByRecursion (λ (c : CallbackRow). c.pool.0 < n) w.callbacks) as_many s.callback_pools;
     }
 
@@ -147,6 +159,8 @@ sound_taken fresh w worker pool c from_one found waits home s =
           (record { callback = r; associated = true; slots = no_actions; found = find_replaced r c w.callbacks found; runs = ap (λ n. Running n true no_actions) (omega (arith, from_one)); at_home = home })
           s.workers;
       object_pools = s.object_pools;
+      apart = s.apart;
+      unnoticed = s.unnoticed;
       callback_pools = pools_replaced (length w.pools) r w.callbacks (find_all (λ (x : CallbackRow). x.pool.0 < length w.pools) (has_number c.number) c w.callbacks s.callback_pools found) s.callback_pools;
     }
   where
@@ -170,6 +184,8 @@ sound_returned fresh w worker row pool c from_one free runs found s =
           (ap (λ (x : CallbackRow). x.status) (same_found number c.number others.callback runs.callback w.callbacks e others.found runs.found)) ∙ omega (arith, from_one))))
           (subst (λ x. IsWorkerSound (replaced r w.callbacks) (1 + (worker - 1)) row.pool x) (sym free) tt) s.workers;
       object_pools = s.object_pools;
+      apart = s.apart;
+      unnoticed = s.unnoticed;
       callback_pools = pools_replaced (length w.pools) r w.callbacks (find_all (λ (x : CallbackRow). x.pool.0 < length w.pools) (has_number c.number) c w.callbacks s.callback_pools found) s.callback_pools;
     }
   where
@@ -181,7 +197,10 @@ sound_returned fresh w worker row pool c from_one free runs found s =
         let both_found : Some x ≡ Some y = sym fx ∙ ap (λ k. find (has_number k) cs) (sym e) ∙ fy in cc
 
 -- a row that runs where the one before it ran
-worker_same : (r c : CallbackRow) (cs : List CallbackRow) (worker : ℕ) (pool : Option PoolId) (callback : Option ℕ) → find (has_number r.number) cs ≡ Some c → r.status ≡ c.status → r.pool ≡ c.pool
+abbrev RunsWhere : Status → Status → Type 0
+RunsWhere old new = (worker : ℕ) (associated : Bool) (slots : Slots) → old ≡ Running worker associated slots → (b : Bool) × (t : Slots) × (new ≡ Running worker b t)
+
+worker_same : (r c : CallbackRow) (cs : List CallbackRow) (worker : ℕ) (pool : Option PoolId) (callback : Option ℕ) → find (has_number r.number) cs ≡ Some c → RunsWhere c.status r.status → r.pool ≡ c.pool
     → IsWorkerSound cs worker pool callback → IsWorkerSound (replaced r cs) worker pool callback
 worker_same r c cs worker pool None found status at s = tt
 worker_same r c cs worker None (Some number) found status at s = s
@@ -190,12 +209,13 @@ worker_same r c cs worker (Some pool) (Some number) found status at s =
       | true ↦ λ e.
           let is : r.number ≡ number = eqb-true r.number number e in
           let same : s.callback ≡ c = same_row number r.number s.callback c is s.found found in
+          let goes_on = status worker s.associated s.slots (ap (λ (x : CallbackRow). x.status) (sym same) ∙ s.runs) in
           record {
             callback = r;
-            associated = s.associated;
-            slots = s.slots;
+            associated = goes_on.0;
+            slots = goes_on.1;
             found = ap (λ n. find (has_number n) (replaced r cs)) (sym is) ∙ find_replaced r c cs found;
-            runs = status ∙ ap (λ (x : CallbackRow). x.status) (sym same) ∙ s.runs;
+            runs = goes_on.2;
             at_home = at ∙ ap (λ (x : CallbackRow). x.pool) (sym same) ∙ s.at_home;
           }
       | false ↦ λ e. record { callback = s.callback; associated = s.associated; slots = s.slots; found = find_replaced_other r number cs e ∙ s.found; runs = s.runs; at_home = s.at_home }
@@ -204,19 +224,104 @@ worker_same r c cs worker (Some pool) (Some number) found status at s =
     same_row : (m n : ℕ) (x y : CallbackRow) → n ≡ m → find (has_number m) cs ≡ Some x → find (has_number n) cs ≡ Some y → x ≡ y
     same_row m n x y e fx fy = let both_found : Some x ≡ Some y = sym fx ∙ ap (λ k. find (has_number k) cs) (sym e) ∙ fy in cc
 
-workers_same : (r c : CallbackRow) (cs : List CallbackRow) (worker : ℕ) (ws : List WorkerRow) → find (has_number r.number) cs ≡ Some c → r.status ≡ c.status → r.pool ≡ c.pool → AreWorkersSound cs worker ws → AreWorkersSound (replaced r cs) worker ws
+workers_same : (r c : CallbackRow) (cs : List CallbackRow) (worker : ℕ) (ws : List WorkerRow) → find (has_number r.number) cs ≡ Some c → RunsWhere c.status r.status → r.pool ≡ c.pool → AreWorkersSound cs worker ws → AreWorkersSound (replaced r cs) worker ws
 workers_same r c cs worker [] found status at s = tt
 workers_same r c cs worker (w ∷ ws) found status at s = (worker_same r c cs worker w.pool w.callback found status at s.0, workers_same r c cs (worker + 1) ws found status at s.1)
 
--- what a callback says of itself leaves it running where it ran
-pub sound_marked : (fresh : ℕ) (w : World) (mark : Mark) (c : CallbackRow) → find (has_number c.number) w.callbacks ≡ Some c → IsSound fresh w → IsSound fresh (with_callback w (marked mark c))
-sound_marked fresh w Long c found s =
-    let r : CallbackRow = marked Long c in
+-- a row of the same number and pool, which runs where the one before it ran
+sound_same : (fresh : ℕ) (w : World) (r c : CallbackRow) → r.number ≡ c.number → r.pool ≡ c.pool → RunsWhere c.status r.status → find (has_number c.number) w.callbacks ≡ Some c → IsSound fresh w → IsSound fresh (with_callback w r)
+sound_same fresh w r c number pool status found s =
+    let there : find (has_number r.number) w.callbacks ≡ Some c = ap (λ n. find (has_number n) w.callbacks) number ∙ found in
+    let home : r.pool.0 < length w.pools = subst (λ (p : PoolId). p.0 < length w.pools) (sym pool) (find_all (λ (x : CallbackRow). x.pool.0 < length w.pools) (has_number c.number) c w.callbacks s.callback_pools found) in
     record {
       numbers = rising_replaced r 1 fresh w.callbacks s.numbers;
-      workers = workers_same r c w.callbacks 1 w.workers found refl refl s.workers;
+      workers = workers_same r c w.callbacks 1 w.workers there status pool s.workers;
       object_pools = s.object_pools;
-      callback_pools = pools_replaced (length w.pools) r w.callbacks (find_all (λ (x : CallbackRow). x.pool.0 < length w.pools) (has_number c.number) c w.callbacks s.callback_pools found) s.callback_pools;
+      apart = s.apart;
+      unnoticed = s.unnoticed;
+      callback_pools = pools_replaced (length w.pools) r w.callbacks home s.callback_pools;
+    }
+
+-- what a callback says of itself leaves it running where it ran
+pub sound_marked : (fresh : ℕ) (w : World) (mark : Mark) (c : CallbackRow) → find (has_number c.number) w.callbacks ≡ Some c → IsSound fresh w → IsSound fresh (with_callback w (marked mark c))
+sound_marked fresh w Long c found s = sound_same fresh w (marked Long c) c refl refl (λ worker associated slots e. (associated, slots, e)) found s
+sound_marked fresh w Loose c found s = sound_same fresh w (marked Loose c) c refl refl (λ worker associated slots e. (false, slots, ap loosened e)) found s
+
+-- an object is released
+sound_release : (fresh : ℕ) (w : World) (object : ℕ) (row : Option ObjectRow) → numbered w.objects object ≡ row → IsSound fresh w → IsSound fresh (release_object w object row)
+sound_release fresh w object None is s = s
+sound_release fresh w object (Some row) is s =
+    record {
+      numbers = s.numbers;
+      workers = s.workers;
+      object_pools = all_set (λ (o : ObjectRow). o.env.pool.0 < length w.pools) w.objects (object - 1) (record row { released = true })
+          (all_get (λ (o : ObjectRow). o.env.pool.0 < length w.pools) w.objects (object - 1) row s.object_pools (numbered_some w.objects object row is).0) s.object_pools;
+      apart = s.apart;
+      unnoticed = s.unnoticed;
+      callback_pools = s.callback_pools;
+    }
+
+-- a worker that runs nothing that is cancelled
+worker_cancelled : (test : CallbackRow → Bool) (cs : List CallbackRow) → IsPendingTest test → (worker : ℕ) (pool : Option PoolId) (callback : Option ℕ) → IsWorkerSound cs worker pool callback → IsWorkerSound (cancel_where test cs) worker pool callback
+worker_cancelled test cs only worker pool None s = tt
+worker_cancelled test cs only worker None (Some number) s = s
+worker_cancelled test cs only worker (Some pool) (Some number) s =
+    record {
+      callback = s.callback;
+      associated = s.associated;
+      slots = s.slots;
+      found = find_uncancelled test cs number s.callback s.found (running_passed test only s.callback (ap is_running s.runs));
+      runs = s.runs;
+      at_home = s.at_home;
+    }
+
+workers_cancelled : (test : CallbackRow → Bool) (cs : List CallbackRow) → IsPendingTest test → (worker : ℕ) (ws : List WorkerRow) → AreWorkersSound cs worker ws → AreWorkersSound (cancel_where test cs) worker ws
+workers_cancelled test cs only worker [] s = tt
+workers_cancelled test cs only worker (w ∷ ws) s = (worker_cancelled test cs only worker w.pool w.callback s.0, workers_cancelled test cs only (worker + 1) ws s.1)
+
+apart_more : (bs : List BegunWait) (b : BegunWait) → list_any (λ (c : BegunWait). is_same_actor c.actor b.actor) bs ≡ false → AreApart bs → AreApart (bs ++ b ∷ [])
+apart_more [] b none a = (refl, tt)
+apart_more (c ∷ bs) b none a =
+    let both_none = neither (is_same_actor c.actor b.actor) (list_any (λ (x : BegunWait). is_same_actor x.actor b.actor) bs) none in (
+      list_any-append (λ (x : BegunWait). is_same_actor x.actor c.actor) bs (b ∷ [])
+          ∙ ap₂ (λ p q. p || q) a.0 (ap (λ p. p || false) (same_actor_sym b.actor c.actor ∙ both_none.0)),
+      apart_more bs b both_none.1 a.1,
+    )
+
+-- a wait begins
+pub sound_begin_wait : (fresh : ℕ) (w : World) (who : Who) (target : WaitTarget) (cancel : Bool) → is_in_wait w who ≡ false → IsSound fresh w → IsSound fresh (begin_wait w who target cancel (cancel_where (is_cancelled_by target cancel) w.callbacks))
+sound_begin_wait fresh w who target cancel none s =
+    let test : CallbackRow → Bool = is_cancelled_by target cancel in
+    let only : IsPendingTest test = cancelled_pending target cancel in
+    record {
+      numbers = rising_map (λ c. cond (test c) (cancelled c) c) (λ c. elim (test c) as (λ b. (cond b (cancelled c) c).number ≡ c.number) [ true ↦ refl | false ↦ refl ]) 1 fresh w.callbacks s.numbers;
+      workers = workers_cancelled test w.callbacks only 1 w.workers s.workers;
+      object_pools = s.object_pools;
+      apart = apart_more w.waits (new_wait who target cancel (cancel_where test w.callbacks)) none s.apart;
+      unnoticed = all_append (λ (b : BegunWait). b.notices ≡ []) w.waits (new_wait who target cancel (cancel_where test w.callbacks)) s.unnoticed refl;
+      callback_pools = all_map (λ (c : CallbackRow). c.pool.0 < length w.pools) (λ c. cond (test c) (cancelled c) c)
+          (λ c h. elim (test c) as (λ b. (cond b (cancelled c) c).pool.0 < length w.pools) [ true ↦ h | false ↦ h ]) w.callbacks s.callback_pools;
+    }
+
+-- and ends
+apart_filter : (p : BegunWait → Bool) (bs : List BegunWait) → AreApart bs → AreApart (filter p bs)
+apart_filter p [] a = tt
+apart_filter p (b ∷ bs) a =
+    elim (p b) as (λ t. AreApart (cond t (b ∷ filter p bs) (filter p bs))) [
+      | true ↦ (any_filter_none (λ (c : BegunWait). is_same_actor c.actor b.actor) p bs a.0, apart_filter p bs a.1)
+      | false ↦ apart_filter p bs a.1
+    ]
+
+pub sound_end_wait : (fresh : ℕ) (w : World) (who : Who) → IsSound fresh w → IsSound fresh (without_wait w who)
+sound_end_wait fresh w who s =
+    let keeps : BegunWait → Bool = λ (b : BegunWait). not (is_same_actor b.actor who) in
+    record {
+      numbers = s.numbers;
+      workers = s.workers;
+      object_pools = s.object_pools;
+      apart = apart_filter keeps w.waits s.apart;
+      unnoticed = all_filter (λ (b : BegunWait). b.notices ≡ []) keeps w.waits s.unnoticed;
+      callback_pools = s.callback_pools;
     }
 
 -- ---- each change
@@ -232,6 +337,7 @@ pub changed_sound : (fresh : ℕ) (w : World) (ch : Change) → IsSound fresh w 
 changed_sound fresh w change.CreatePool s a = none_made fresh (with_new_pool w) (sound_new_pool fresh w s)
 changed_sound fresh w (change.ChangePool pool how) s a = none_made fresh (changed w (change.ChangePool pool how)) (sound_change_pool fresh w pool.0 how (slice_get w.pools pool.0) s)
 changed_sound fresh w (change.CreateObject row) s a = none_made fresh (with_object w row) (sound_object fresh w row a.home s)
+changed_sound fresh w (change.ReleaseObject object) s a = none_made fresh (changed w (change.ReleaseObject object)) (sound_release fresh w object.0 (numbered w.objects object.0) refl s)
 changed_sound fresh w (change.QueueCallback c) s a = sound_new_callback fresh w c a.number a.home s
 changed_sound fresh w (change.Attach worker pool) s a = none_made fresh (changed w (change.Attach worker pool)) (sound_free_worker fresh w worker (record { pool = Some pool; callback = None }) refl s)
 changed_sound fresh w (change.Detach by) s a = none_made fresh (changed w (change.Detach by)) (sound_free_worker fresh w by.worker unattached refl s)
@@ -243,6 +349,8 @@ changed_sound fresh w (change.Return by) s a =
     (sound_returned fresh w by.worker (record { pool = Some by.pool; callback = None }) by.pool by.callback
     (numbered_some w.workers by.worker (record { pool = Some by.pool; callback = Some by.callback.number }) a.stands).1 refl
     (record { callback = by.callback; associated = a.associated; slots = a.slots; found = a.found; runs = a.running; at_home = a.home }) a.found s)
+changed_sound fresh w (change.BeginWait who target cancel) s a = none_made fresh (changed w (change.BeginWait who target cancel)) (sound_begin_wait fresh w who target cancel a.none s)
+changed_sound fresh w (change.EndWait who how) s a = none_made fresh (without_wait w who) (sound_end_wait fresh w who s)
 changed_sound fresh w (change.Finish client) s a = none_made fresh (changed w (change.Finish client)) (sound_client fresh w client finished s)
 
 -- and it is true of the opening world
@@ -251,4 +359,4 @@ idle_workers cs first zero = tt
 idle_workers cs first (suc count) = (tt, idle_workers cs (first + 1) count)
 
 pub opening_sound : (limits : Limits) → IsSound 1 (opening limits)
-opening_sound limits = record { numbers = omega arith; workers = idle_workers [] 1 limits.workers; object_pools = tt; callback_pools = tt }
+opening_sound limits = record { numbers = omega arith; workers = idle_workers [] 1 limits.workers; object_pools = tt; callback_pools = tt; apart = tt; unnoticed = tt }

@@ -1,8 +1,11 @@
 -- What is known of a call that meets no refusal.
-use Rattle.std.proofs.Common.{◌≡◌, ℕ, suc, zero, ◌-◌, ◌<◌, ◌≤◌, Bool, true, false, cond, not, ◌&&◌, ◌||◌, ◌==◌, List, [], ◌∷◌, length, slice_get, Option, Some, None, is_some, refl, sym, ap, ◌∙◌, arith, ne_eqb}
+use Rattle.std.proofs.Common.{◌≡◌, ℕ, suc, zero, ◌-◌, ◌<◌, ◌≤◌, Bool, true, false, cond, not, ◌&&◌, ◌||◌, ◌==◌, List, [], ◌∷◌, length, slice_get, Option, Some, None, is_some, refl, sym, ap, ◌∙◌, arith, ne_eqb, eqb-true, eq-eqb}
 use Rattle.std.proofs.lemmas.Option.{slice_get_within}
 use Rattle.tp_base.specs.declared.answers.Refusal.{Refusal}
+use Rattle.tp_base.specs.declared.ids.Who.{Who}
+use Rattle.tp_base.specs.declared.ids.Who.TheVariants.{Client, Worker}
 use Rattle.tp_model.specs.Counts.{numbered}
+use Rattle.tp_model.specs.Conditions.{is_same_actor}
 use Rattle.tp_model.specs.Refusing.{first_refusal}
 
 pub false_true : false ≡ true → ⊥
@@ -46,3 +49,35 @@ numbered_some rows zero row e = absurd cc
 numbered_some rows (suc number) row e =
     let above : (suc number == 0) ≡ false = ne_eqb (suc number) 0 (λ h. omega (arith, h)) in
     (sym (ap (λ b. cond b None (slice_get rows (suc number - 1))) above) ∙ e, omega arith)
+
+eqb_sym : (m n : ℕ) → (m == n) ≡ (n == m)
+eqb_sym m n = known (m == n) (n == m) refl refl
+  where
+    known : (a b : Bool) → (m == n) ≡ a → (n == m) ≡ b → (m == n) ≡ (n == m)
+    known true b e f = e ∙ sym (eq-eqb n m (sym (eqb-true m n e)))
+    known false false e f = e ∙ sym f
+    known false true e f = absurd (false_true (sym e ∙ eq-eqb m n (sym (eqb-true n m f))))
+
+pub same_actor_sym : (a b : Who) → is_same_actor a b ≡ is_same_actor b a
+same_actor_sym (Client m) (Client n) = eqb_sym m n
+same_actor_sym (Worker m) (Worker n) = eqb_sym m n
+same_actor_sym (Client m) (Worker n) = refl
+same_actor_sym (Worker m) (Client n) = refl
+
+pub same_actor_is : (a b : Who) → is_same_actor a b ≡ true → a ≡ b
+same_actor_is (Client m) (Client n) e = ap (λ k. Client k) (eqb-true m n e)
+same_actor_is (Worker m) (Worker n) e = ap (λ k. Worker k) (eqb-true m n e)
+same_actor_is (Client m) (Worker n) e = cc
+same_actor_is (Worker m) (Client n) e = cc
+
+pub is_own_actor : (a : Who) → is_same_actor a a ≡ true
+is_own_actor (Client m) = eq-eqb m m refl
+is_own_actor (Worker m) = eq-eqb m m refl
+
+pub and_false : (b : Bool) → (b && false) ≡ false
+and_false true = refl
+and_false false = refl
+
+pub or_true : (b : Bool) → (b || true) ≡ true
+or_true true = refl
+or_true false = refl

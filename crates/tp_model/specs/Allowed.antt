@@ -1,8 +1,13 @@
 -- Which changes a world allows, what each costs, and how many callbacks it makes.
-use Rattle.std.specs.Prelude.{◌≡◌, ℕ, ◌<◌, Bool, true, false, length, None, Some}
+use Rattle.std.specs.Prelude.{◌≡◌, ℕ, ◌<◌, Bool, true, false, [], length, None, Some}
 use Rattle.tp_base.specs.declared.ids.Who.{Who}
 use Rattle.tp_base.specs.declared.ids.Who.TheVariants.{Client, Worker}
+use Rattle.tp_base.specs.declared.ids.ObjectId.{ObjectId}
 use Rattle.tp_base.specs.declared.ids.PoolId.{PoolId}
+use Rattle.tp_base.specs.declared.plans.WaitEnd.{WaitEnd}
+use Rattle.tp_base.specs.declared.rows.WaitTarget.{WaitTarget}
+use Rattle.tp_base.specs.declared.rows.WaitTarget.TheVariants.{Object}
+use Rattle.tp_base.specs.declared.plans.WaitEnd.TheVariants.{Free}
 use Rattle.tp_base.specs.declared.plans.Idle.{Idle}
 use Rattle.tp_base.specs.declared.plans.Busy.{Busy}
 use Rattle.tp_base.specs.declared.plans.Change.{Change}
@@ -11,9 +16,10 @@ use Rattle.tp_base.specs.declared.rows.Slots.{Slots}
 use Rattle.tp_base.specs.declared.rows.Status.TheVariants.{Running}
 use Rattle.tp_base.specs.declared.rows.ObjectRow.{ObjectRow}
 use Rattle.tp_base.specs.declared.rows.CallbackRow.{CallbackRow}
-use Rattle.tp_model.specs.World.{World, unattached, unfinished}
+use Rattle.tp_model.specs.World.{World, BegunWait, unattached, unfinished}
 use Rattle.tp_model.specs.Counts.{numbered, callback_of, is_pending, maximum, running}
-use Rattle.tp_model.specs.Conditions.{lacks_slots_for}
+use Rattle.tp_model.specs.Conditions.{is_in_wait, lacks_slots_for}
+use Rattle.tp_model.specs.Waits.{wait_of, held}
 
 -- an object that has its place, in a pool that was made
 pub record IsNewObject (w : World) (row : ObjectRow) : Type 0 where
@@ -54,23 +60,50 @@ pub record Runs (w : World) (by : Busy) : Type 0 where
   pub running : by.callback.status ≡ Running by.worker associated slots
   pub home : by.callback.pool ≡ by.pool
 
+-- an object that is not released
+pub record IsUnreleased (w : World) (object : ObjectId) : Type 0 where
+  pub row : ObjectRow
+  pub stands : numbered w.objects object.0 ≡ Some row
+  pub unreleased : row.released ≡ false
+
+abbrev pub IsObjectTarget : WaitTarget → Type 0
+IsObjectTarget (Object object) = Unit {0}
+IsObjectTarget _ = ⊥
+
+-- an actor that has no wait begun, and an object to wait for
+pub record MayBegin (w : World) (who : Who) (target : WaitTarget) : Type 0 where
+  pub none : is_in_wait w who ≡ false
+  pub object : IsObjectTarget target
+
+-- the wait that the actor has begun; it ends freely where nothing that it covers is outstanding any more
+pub record MayEnd (w : World) (who : Who) (how : WaitEnd) : Type 0 where
+  pub wait : BegunWait
+  pub begun : wait_of w who ≡ Some wait
+  pub unnoticed : wait.notices ≡ []
+  pub free : how ≡ Free → held w wait ≡ []
+
 -- with the number that the next callback gets
 abbrev pub IsAllowed : ℕ → World → Change → Type 0
 IsAllowed fresh w change.CreatePool = length w.pools < w.limits.pools
 IsAllowed fresh w (change.ChangePool pool how) = pool.0 < length w.pools
 IsAllowed fresh w (change.CreateObject row) = IsNewObject w row
+IsAllowed fresh w (change.ReleaseObject object) = IsUnreleased w object
 IsAllowed fresh w (change.QueueCallback callback) = IsNewCallback fresh w callback
 IsAllowed fresh w (change.Attach worker pool) = MayAttach w worker pool
 IsAllowed fresh w (change.Detach by) = Idles w by
 IsAllowed fresh w (change.Take by callback) = MayTake w by callback
 IsAllowed fresh w (change.Mark by mark) = Runs w by
 IsAllowed fresh w (change.Return by) = Runs w by
+IsAllowed fresh w (change.BeginWait who target cancel) = MayBegin w who target
+IsAllowed fresh w (change.EndWait who how) = MayEnd w who how
 IsAllowed fresh w (change.Finish client) = numbered w.clients client ≡ Some unfinished
 
 -- the entries that a change costs: its own, and those that are owed more than before
 abbrev pub price : Change → ℕ
 price (change.Attach worker pool) = 2
 price (change.Take by callback) = 2
+price (change.BeginWait who target cancel) = 2
+price (change.EndWait who how) = 0
 price (change.Detach by) = 0
 price (change.Return by) = 0
 price (change.Finish client) = 0
@@ -88,5 +121,7 @@ IsMadeBy who (change.Detach by) = who ≡ Worker by.worker
 IsMadeBy who (change.Take by callback) = who ≡ Worker by.worker
 IsMadeBy who (change.Mark by mark) = who ≡ Worker by.worker
 IsMadeBy who (change.Return by) = who ≡ Worker by.worker
+IsMadeBy who (change.BeginWait actor target cancel) = who ≡ actor
+IsMadeBy who (change.EndWait actor how) = who ≡ actor
 IsMadeBy who (change.Finish client) = who ≡ Client client
 IsMadeBy who _ = Unit {0}

@@ -5,4 +5,5 @@ pub mod Objects
 pub mod Work
 pub mod Workers
 pub mod InCallback
+pub mod Waits
 pub mod Clients

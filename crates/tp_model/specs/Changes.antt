@@ -1,20 +1,26 @@
 -- The world after a change.
-use Rattle.std.specs.Prelude.{ℕ, ◌-◌, true, min, max, List, [], ◌∷◌, ◌++◌, map, slice_get, slice_set, if◌then◌else◌, Option, None, Some}
+use Rattle.std.specs.Prelude.{ℕ, ◌-◌, Bool, true, false, not, min, max, List, [], ◌∷◌, ◌++◌, map, slice_get, slice_set, if◌then◌else◌, Option, None, Some}
+use Rattle.std.specs.List.{filter}
 use Rattle.tp_base.specs.declared.plans.Change.{Change}
 use Rattle.tp_base.specs.declared.plans.Change.TheVariants as change
 use Rattle.tp_base.specs.declared.plans.Mark.{Mark}
-use Rattle.tp_base.specs.declared.plans.Mark.TheVariants.{Long}
+use Rattle.tp_base.specs.declared.plans.Mark.TheVariants.{Long, Loose}
 use Rattle.tp_base.specs.declared.plans.PoolChange.{PoolChange}
 use Rattle.tp_base.specs.declared.plans.PoolChange.TheVariants.{Close, Maximum, Minimum}
 use Rattle.tp_base.specs.declared.rows.Slots.{Slots}
+use Rattle.tp_base.specs.declared.rows.Status.{Status}
 use Rattle.tp_base.specs.declared.rows.Status.TheVariants.{Running, Returned}
 use Rattle.tp_base.specs.declared.rows.PoolRow.{PoolRow}
 use Rattle.tp_base.specs.declared.rows.ObjectRow.{ObjectRow}
 use Rattle.tp_base.specs.declared.rows.CallbackRow.{CallbackRow}
 use Rattle.tp_base.specs.declared.rows.WorkerRow.{WorkerRow}
 use Rattle.tp_base.specs.declared.rows.ClientRow.{ClientRow}
-use Rattle.tp_model.specs.World.{World, new_pool, unattached}
-use Rattle.tp_model.specs.Counts.{has_number}
+use Rattle.tp_base.specs.declared.rows.WaitTarget.{WaitTarget}
+use Rattle.tp_base.specs.declared.ids.Who.{Who}
+use Rattle.tp_model.specs.World.{World, BegunWait, new_pool, unattached}
+use Rattle.tp_model.specs.Counts.{numbered, has_number}
+use Rattle.tp_model.specs.Conditions.{is_same_actor}
+use Rattle.tp_model.specs.Waits.{is_cancelled_by, cancel_where, covered_of}
 
 -- ---- one list of a world
 
@@ -58,6 +64,10 @@ abbrev pub change_pool : World → ℕ → PoolChange → Option PoolRow → Wor
 change_pool w pool how None = w
 change_pool w pool how (Some row) = with_pool w pool (pool_after how row)
 
+abbrev pub release_object : World → ℕ → Option ObjectRow → World
+release_object w object None = w
+release_object w object (Some row) = record w { objects = slice_set w.objects (object - 1) (record row { released = true }) }
+
 -- no action on return is asked for
 abbrev pub no_actions : Slots
 no_actions = record { section = None; mutex = None; semaphore = None; event = None }
@@ -65,8 +75,13 @@ no_actions = record { section = None; mutex = None; semaphore = None; event = No
 abbrev pub taken : CallbackRow → ℕ → CallbackRow
 taken c worker = record c { status = Running worker true no_actions }
 
+abbrev pub loosened : Status → Status
+loosened (Running worker associated slots) = Running worker false slots
+loosened status = status
+
 abbrev pub marked : Mark → CallbackRow → CallbackRow
 marked Long c = record c { long = true }
+marked Loose c = record c { status = loosened c.status }
 
 abbrev pub returned : CallbackRow → CallbackRow
 returned c = record c { status = Returned }
@@ -74,12 +89,25 @@ returned c = record c { status = Returned }
 abbrev pub finished : ClientRow
 finished = record { finished = true }
 
+-- ---- waits
+
+-- a wait covers what is outstanding after the cancellation, and nothing that is made later
+abbrev pub new_wait : Who → WaitTarget → Bool → List CallbackRow → BegunWait
+new_wait who target cancel kept = record { actor = who; target = target; covered = covered_of target cancel kept; notices = []; cleanup = 0 }
+
+abbrev pub begin_wait : World → Who → WaitTarget → Bool → List CallbackRow → World
+begin_wait w who target cancel kept = record w { callbacks = kept; waits = w.waits ++ new_wait who target cancel kept ∷ [] }
+
+abbrev pub without_wait : World → Who → World
+without_wait w who = record w { waits = filter (λ (b : BegunWait). not (is_same_actor b.actor who)) w.waits }
+
 -- ---- each change
 
 abbrev pub changed : World → Change → World
 changed w change.CreatePool = with_new_pool w
 changed w (change.ChangePool pool how) = change_pool w pool.0 how (slice_get w.pools pool.0)
 changed w (change.CreateObject row) = with_object w row
+changed w (change.ReleaseObject object) = release_object w object.0 (numbered w.objects object.0)
 changed w (change.QueueCallback callback) = with_new_callback w callback
 changed w (change.Attach worker pool) = with_worker w worker (record { pool = Some pool; callback = None })
 changed w (change.Detach by) = with_worker w by.worker unattached
@@ -88,4 +116,6 @@ changed w (change.Take by callback) =
 changed w (change.Mark by mark) = with_callback w (marked mark by.callback)
 changed w (change.Return by) =
     with_worker (with_callback w (returned by.callback)) by.worker (record { pool = Some by.pool; callback = None })
+changed w (change.BeginWait who target cancel) = begin_wait w who target cancel (cancel_where (is_cancelled_by target cancel) w.callbacks)
+changed w (change.EndWait who how) = without_wait w who
 changed w (change.Finish client) = with_client w client finished

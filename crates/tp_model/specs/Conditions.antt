@@ -1,17 +1,19 @@
 -- The conditions of the refusals that several calls share, with the actor or the thing named as their subject.
-use Rattle.std.specs.Prelude.{ℕ, ◌+◌, Bool, true, false, ◌||◌, ◌==◌, nat_lt, slice_get, is_some, is_none, option_map, None, Some, Option}
+use Rattle.std.specs.Prelude.{ℕ, ◌+◌, Bool, true, false, ◌||◌, ◌&&◌, ◌==◌, nat_lt, slice_get, is_some, is_none, option_map, None, Some, Option}
 use Rattle.std.specs.List.{list_any}
 use Rattle.std.specs.Option.{option_map_or}
 use Rattle.tp_base.specs.declared.ids.Who.{Who}
 use Rattle.tp_base.specs.declared.ids.Who.TheVariants.{Client, Worker}
 use Rattle.tp_base.specs.declared.calls.Kind.{Kind}
-use Rattle.tp_base.specs.declared.calls.Kind.TheVariants.{Work}
+use Rattle.tp_base.specs.declared.calls.Kind.TheVariants.{Work, Timer, Wait, Io}
 use Rattle.tp_base.specs.declared.rows.PoolRow.{PoolRow}
 use Rattle.tp_base.specs.declared.rows.GroupRow.{GroupRow}
 use Rattle.tp_base.specs.declared.rows.ObjectRow.{ObjectRow}
 use Rattle.tp_base.specs.declared.rows.WorkerRow.{WorkerRow}
 use Rattle.tp_base.specs.declared.rows.ClientRow.{ClientRow}
 use Rattle.tp_base.specs.declared.rows.CallbackRow.{CallbackRow}
+use Rattle.tp_base.specs.declared.rows.Status.{Status}
+use Rattle.tp_base.specs.declared.rows.Status.TheVariants.{Running}
 use Rattle.tp_base.specs.declared.ids.PoolId.{PoolId}
 use Rattle.tp_base.specs.declared.plans.Idle.{Idle}
 use Rattle.tp_base.specs.declared.plans.Busy.{Busy}
@@ -97,15 +99,27 @@ is_closed_group w group = option_map_or (λ (g : GroupRow). g.closed) (numbered 
 abbrev pub is_object : World → ℕ → Bool
 is_object w object = is_some (numbered w.objects object)
 
-abbrev pub is_work : Kind → Bool
-is_work Work = true
-is_work _ = false
+abbrev pub is_same_kind : Kind → Kind → Bool
+is_same_kind Work Work = true
+is_same_kind Timer Timer = true
+is_same_kind Wait Wait = true
+is_same_kind Io Io = true
+is_same_kind _ _ = false
 
-abbrev pub is_work_object : World → ℕ → Bool
-is_work_object w object = option_map_or (λ (o : ObjectRow). is_work o.kind) (numbered w.objects object) false
+-- the object is there and of this kind
+abbrev pub is_object_of : World → Kind → ℕ → Bool
+is_object_of w kind object = option_map_or (λ (o : ObjectRow). is_same_kind o.kind kind) (numbered w.objects object) false
 
 abbrev pub is_released : World → ℕ → Bool
 is_released w object = option_map_or (λ (o : ObjectRow). o.released) (numbered w.objects object) false
+
+abbrev pub is_associated : Status → Bool
+is_associated (Running worker associated slots) = associated
+is_associated _ = false
+
+-- the actor runs a callback of the object, and has not been disassociated from it
+abbrev pub runs_own : World → Who → ℕ → Bool
+runs_own w who object = option_map_or (λ (by : Busy). is_associated by.callback.status && (by.callback.object.0 == object)) (busy_of w who) false
 
 -- so many more callbacks would not fit
 abbrev pub lacks_slots_for : World → ℕ → Bool

@@ -3,12 +3,15 @@ use Rattle.std.specs.Prelude.{◌≡◌, ℕ, ◌+◌, ◌-◌, Bool, true, fals
 use Rattle.tp_base.specs.declared.ids.Who.{Who}
 use Rattle.tp_base.specs.declared.calls.Call.{Call}
 use Rattle.tp_base.specs.declared.answers.Answer.{Answer}
-use Rattle.tp_base.specs.declared.answers.Answer.TheVariants.{Refused}
+use Rattle.tp_base.specs.declared.answers.Answer.TheVariants.{Refused, Ended, Exhausted}
 use Rattle.tp_base.specs.declared.answers.Entry.{Entry}
 use Rattle.tp_base.specs.declared.answers.Outcome.{Outcome}
 use Rattle.tp_base.specs.declared.answers.Outcome.TheVariants.{Done}
 use Rattle.tp_base.specs.declared.limits.Limits.{Limits}
+use Rattle.tp_base.specs.declared.calls.Call.TheVariants.{End}
+use Rattle.tp_base.specs.declared.plans.WaitEnd.TheVariants as how
 use Rattle.tp_base.specs.declared.plans.Change.{Change}
+use Rattle.tp_base.specs.declared.plans.Change.TheVariants.{EndWait}
 use Rattle.tp_base.specs.declared.plans.Plan.{Plan}
 use Rattle.tp_base.specs.declared.plans.Plan.TheVariants.{Does}
 use Rattle.tp_model.specs.World.{World, opening}
@@ -29,8 +32,15 @@ abbrev pub change_of : Plan → Option Change
 change_of (Does answer change) = Some change
 change_of _ = None
 
--- the change that an accepted entry tells; it needs no room
+-- how an answer of End says that the wait ended
+abbrev pub wait_end : Who → Answer → Option Change
+wait_end who Ended = Some (EndWait who how.Free)
+wait_end who Exhausted = Some (EndWait who how.Exhausted)
+wait_end who _ = None
+
+-- the change that an accepted entry tells. It needs no room: End alone asks for it, and its answer says what it did
 abbrev pub change_told : World → Who → Call → Answer → Option Change
+change_told w who End answer = wait_end who answer
 change_told w who call answer = change_of (plan w 0 who call)
 
 abbrev pub led_by : World → Option Change → World

@@ -5,9 +5,12 @@ use Rattle.tp_base.specs.declared.limits.Limits.{Limits}
 pub mod Entries
 pub mod Once
 pub mod Maximum
+pub mod Covered
 use Once.{AreOnce}
 use Maximum.{IsWithinMaximum}
+use Covered.{AreCovered}
 
 pub record KeepsLaws (limits : Limits) (history : List Entry) : Type 0 where
   pub once : AreOnce limits history
   pub maximum : IsWithinMaximum limits history
+  pub covered : AreCovered history

@@ -14,4 +14,5 @@ pub mod Sound
 pub mod Step
 pub mod Table
 pub mod Told
+pub mod Waits
 pub mod World

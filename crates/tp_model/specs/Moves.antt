@@ -1,19 +1,23 @@
 -- How an accepted call moves callbacks and workers: one thing becomes of those that there are, and some are made.
-use Rattle.std.specs.Prelude.{◌≡◌, ℕ, ◌+◌, ◌-◌, ◌<◌, Bool, true, false, List, [], ◌∷◌, ◌++◌, map, slice_get, slice_set, None, Some}
+use Rattle.std.specs.Prelude.{◌≡◌, ℕ, ◌+◌, ◌-◌, ◌<◌, Bool, true, false, List, [], ◌∷◌, ◌++◌, map, slice_get, slice_set, None, Some, not, length}
 use Rattle.std.specs.List.{filter, find}
 use Rattle.std.specs.Option.{option_map_or}
 use Rattle.tp_base.specs.declared.ids.Who.TheVariants.{Worker}
 use Rattle.tp_base.specs.declared.ids.PoolId.{PoolId}
 use Rattle.tp_base.specs.declared.answers.Entry.{Entry}
 use Rattle.tp_base.specs.declared.rows.Status.{Status}
-use Rattle.tp_base.specs.declared.rows.Status.TheVariants.{Expected, Pending}
+use Rattle.tp_base.specs.declared.rows.Slots.{Slots}
+use Rattle.tp_base.specs.declared.rows.Status.TheVariants.{Expected, Pending, Running}
+use Rattle.tp_base.specs.declared.rows.WaitTarget.TheVariants.{Object}
 use Rattle.tp_base.specs.declared.rows.PoolRow.{PoolRow}
 use Rattle.tp_base.specs.declared.rows.CallbackRow.{CallbackRow}
 use Rattle.tp_base.specs.declared.rows.WorkerRow.{WorkerRow}
-use Rattle.tp_model.specs.World.{World}
-use Rattle.tp_model.specs.Counts.{numbered, has_number, is_pending, is_running, running, maximum}
+use Rattle.tp_model.specs.World.{World, BegunWait}
+use Rattle.tp_model.specs.Counts.{numbered, has_number, is_pending, running, maximum}
+use Rattle.tp_model.specs.Conditions.{is_in_wait, is_same_actor}
+use Rattle.tp_model.specs.Waits.{cancel_where, is_covered_by, is_of, held, wait_of}
 use Rattle.tp_model.specs.Changes.{replaced, taken, returned}
-use Rattle.tp_model.specs.Laws.Entries.{Run, made_by, queued_by, maximum_after}
+use Rattle.tp_model.specs.Laws.Entries.{Run, Begins, begins_by, is_among, is_ending, is_freeing, made_by, queued_by, maximum_after}
 use Rattle.tp_model.specs.Told.{deed_by, nothing}
 
 -- ---- callbacks and workers that there are; `kept` and `staff` are what becomes of them
@@ -93,10 +97,33 @@ pub record Returns (w : World) (entry : Entry) (kept : List CallbackRow) (staff 
   pub home : row.pool ≡ Some pool
   pub tells : deed_by entry ≡ record nothing { returned = true }
   pub found : find (has_number callback.number) w.callbacks ≡ Some callback
-  pub runs : is_running callback.status ≡ true
+  pub associated : Bool
+  pub slots : Slots
+  pub running : callback.status ≡ Running worker associated slots
   pub pool_same : callback.pool ≡ pool
   pub callbacks : kept ≡ replaced (returned callback) w.callbacks
   pub workers : staff ≡ put w worker (record row { callback = None })
+
+-- a running callback is no longer waited for
+pub record Loosens (w : World) (entry : Entry) (kept : List CallbackRow) (staff : List WorkerRow) : Type 0 where
+  pub worker : ℕ
+  pub callback : CallbackRow
+  pub associated : Bool
+  pub slots : Slots
+  pub by : entry.who ≡ Worker worker
+  pub tells : deed_by entry ≡ record nothing { loosened = true }
+  pub found : find (has_number callback.number) w.callbacks ≡ Some callback
+  pub running : callback.status ≡ Running worker associated slots
+  pub callbacks : kept ≡ replaced (record callback { status = Running worker false slots }) w.callbacks
+  pub workers : staff ≡ w.workers
+
+-- the pending callbacks that pass a test are cancelled
+pub record Cancels (w : World) (entry : Entry) (kept : List CallbackRow) (staff : List WorkerRow) : Type 0 where
+  pub test : CallbackRow → Bool
+  pub tells : deed_by entry ≡ record nothing { count = length (filter test w.callbacks) }
+  pub waits : (c : CallbackRow) → test c ≡ true → is_pending c.status ≡ true
+  pub callbacks : kept ≡ cancel_where test w.callbacks
+  pub workers : staff ≡ w.workers
 
 pub data Move (w : World) (entry : Entry) (kept : List CallbackRow) (staff : List WorkerRow) : Type 0 where
   Stay : Stays w entry kept staff → Move w entry kept staff
@@ -105,6 +132,8 @@ pub data Move (w : World) (entry : Entry) (kept : List CallbackRow) (staff : Lis
   Detach : Detaches w entry kept staff → Move w entry kept staff
   Take : Takes w entry kept staff → Move w entry kept staff
   Return : Returns w entry kept staff → Move w entry kept staff
+  Loosen : Loosens w entry kept staff → Move w entry kept staff
+  Cancel : Cancels w entry kept staff → Move w entry kept staff
 
 -- ---- callbacks that are made
 
@@ -137,6 +166,41 @@ pub record Moves (fresh : ℕ) (w : World) (entry : Entry) (after : World) : Typ
   pub queued : queued_by entry.answer ≡ waiting_of new
   pub callbacks : after.callbacks ≡ kept ++ new
 
+-- ---- waits
+
+-- no wait begins or ends
+pub record KeepsWaits (w : World) (entry : Entry) (after : World) : Type 0 where
+  pub begins : begins_by entry ≡ None
+  pub ends : is_ending entry ≡ false
+  pub waits : after.waits ≡ w.waits
+
+-- the actor begins a wait for what is then outstanding for an object, of which with cancel nothing is pending
+pub record BeginsWait (w : World) (entry : Entry) (after : World) : Type 0 where
+  pub wait : BegunWait
+  pub begun : Begins
+  pub begins : begins_by entry ≡ Some begun
+  pub ends : is_ending entry ≡ false
+  pub actor : wait.actor ≡ entry.who
+  pub target : wait.target ≡ Object begun.object
+  pub none : is_in_wait w entry.who ≡ false
+  pub waits : after.waits ≡ w.waits ++ wait ∷ []
+  pub covers : (n : ℕ) (c : CallbackRow) → find (has_number n) after.callbacks ≡ Some c → is_covered_by (Object begun.object) begun.cancel c ≡ true → is_among n wait.covered ≡ true
+  pub cuts : begun.cancel ≡ true → (n : ℕ) (c : CallbackRow) → find (has_number n) after.callbacks ≡ Some c → is_of (Object begun.object) c ≡ true → is_pending c.status ≡ false
+
+-- the actor's wait ends, and if it does so freely, nothing that it covers is outstanding
+pub record EndsWait (w : World) (entry : Entry) (after : World) : Type 0 where
+  pub wait : BegunWait
+  pub begins : begins_by entry ≡ None
+  pub ends : is_ending entry ≡ true
+  pub found : wait_of w entry.who ≡ Some wait
+  pub free : is_freeing entry ≡ true → held w wait ≡ []
+  pub waits : after.waits ≡ filter (λ (b : BegunWait). not (is_same_actor b.actor entry.who)) w.waits
+
+pub data WaitsMove (w : World) (entry : Entry) (after : World) : Type 0 where
+  Keep : KeepsWaits w entry after → WaitsMove w entry after
+  Begin : BeginsWait w entry after → WaitsMove w entry after
+  End : EndsWait w entry after → WaitsMove w entry after
+
 -- the maximum of a pool, and of one that is not made yet the one that it will begin with
 abbrev pub maximum_at : World → ℕ → ℕ
 maximum_at w pool = option_map_or (λ (p : PoolRow). p.maximum) (slice_get w.pools pool) w.limits.workers
@@ -144,5 +208,6 @@ maximum_at w pool = option_map_or (λ (p : PoolRow). p.maximum) (slice_get w.poo
 -- an entry leads from a world to another
 pub record Leads (fresh : ℕ) (w : World) (entry : Entry) (after : World) : Type 0 where
   pub moves : Moves fresh w entry after
+  pub waits : WaitsMove w entry after
   pub limits : after.limits ≡ w.limits
   pub maxima : (pool : ℕ) → maximum_at after pool ≡ maximum_after pool (maximum_at w pool) entry

@@ -1,9 +1,9 @@
 -- The numbers of a world are in the ranges of lines, and so are those of every answer and look.
-use Rattle.std.specs.Prelude.{ℕ, ◌<◌, ◌≤◌, ◌^◌, length}
+use Rattle.std.specs.Prelude.{ℕ, ◌<◌, ◌≤◌, ◌^◌, length, filter}
 use Rattle.std.specs.List.{AllByRecursion}
 use Rattle.tp_base.specs.Ranges.{AreLimitsInRange, IsRoutineInRange, IsResultInRange, IsRefusalInRange, IsAnswerInRange, IsLookInRange}
 use Rattle.tp_base.specs.declared.calls.Call.{Call}
-use Rattle.tp_base.specs.declared.calls.Call.TheVariants.{Create}
+use Rattle.tp_base.specs.declared.calls.Call.TheVariants.{Create, SubmitSimple}
 use Rattle.tp_base.specs.declared.plans.Change.{Change}
 use Rattle.tp_base.specs.declared.plans.Change.TheVariants as change
 use Rattle.tp_base.specs.declared.plans.Plan.{Plan}
@@ -11,7 +11,7 @@ use Rattle.tp_base.specs.declared.plans.Plan.TheVariants.{Refused, Looked, Does}
 use Rattle.tp_base.specs.declared.rows.ObjectRow.{ObjectRow}
 use Rattle.tp_base.specs.declared.rows.CallbackRow.{CallbackRow}
 use Rattle.tp_model.specs.World.{World}
-use Rattle.tp_model.specs.Counts.{running}
+use Rattle.tp_model.specs.Counts.{running, is_live}
 
 pub record IsObjectInRange (o : ObjectRow) : Type 0 where
   pub routine : IsRoutineInRange o.routine.0
@@ -37,6 +37,7 @@ IsChangeInRange _ = Unit {0}
 -- what a call brings besides the numbers of a line that have a range of their own
 abbrev pub IsWide : Call → Type 0
 IsWide (Create kind routine context env) = context < 2 ^ 64
+IsWide (SubmitSimple routine context env) = context < 2 ^ 64
 IsWide _ = Unit {0}
 
 -- all of a world that the numbers of answers and looks come from
@@ -44,6 +45,7 @@ pub record IsRanged (w : World) : Type 0 where
   pub limits : AreLimitsInRange w.limits
   pub pools_least : 1 ≤ length w.pools
   pub pools_most : length w.pools ≤ w.limits.pools
+  pub slots_most : length (filter (λ c. is_live c.status) w.callbacks) ≤ w.limits.slots
   pub running_most : (pool : ℕ) → running w pool ≤ 65535
   pub rows : AreRowsInRange w
 

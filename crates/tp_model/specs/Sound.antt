@@ -1,14 +1,15 @@
 -- What is true of every world that can be reached.
-use Rattle.std.specs.Prelude.{◌≡◌, ℕ, ◌+◌, ◌<◌, ◌≤◌, Bool, List, [], ◌∷◌, length, None, Some, Option}
-use Rattle.std.specs.List.{find, AllByRecursion}
+use Rattle.std.specs.Prelude.{◌≡◌, ℕ, ◌+◌, ◌<◌, ◌≤◌, Bool, false, List, [], ◌∷◌, length, None, Some, Option}
+use Rattle.std.specs.List.{find, list_any, AllByRecursion}
 use Rattle.tp_base.specs.declared.ids.PoolId.{PoolId}
 use Rattle.tp_base.specs.declared.rows.Slots.{Slots}
 use Rattle.tp_base.specs.declared.rows.Status.TheVariants.{Running}
 use Rattle.tp_base.specs.declared.rows.ObjectRow.{ObjectRow}
 use Rattle.tp_base.specs.declared.rows.CallbackRow.{CallbackRow}
 use Rattle.tp_base.specs.declared.rows.WorkerRow.{WorkerRow}
-use Rattle.tp_model.specs.World.{World}
+use Rattle.tp_model.specs.World.{World, BegunWait}
 use Rattle.tp_model.specs.Counts.{has_number}
+use Rattle.tp_model.specs.Conditions.{is_same_actor}
 
 -- the numbers rise, from low on, and stay below fresh
 abbrev pub IsRising : ℕ → ℕ → List CallbackRow → Type 0
@@ -35,9 +36,17 @@ abbrev pub AreWorkersSound : List CallbackRow → ℕ → List WorkerRow → Typ
 AreWorkersSound callbacks worker [] = Unit {0}
 AreWorkersSound callbacks worker (r ∷ rs) = IsWorkerSound callbacks worker r.pool r.callback × AreWorkersSound callbacks (worker + 1) rs
 
+-- no actor has two waits begun
+abbrev pub AreApart : List BegunWait → Type 0
+AreApart [] = Unit {0}
+AreApart (b ∷ bs) = (list_any (λ (c : BegunWait). is_same_actor c.actor b.actor) bs ≡ false) × AreApart bs
+
 -- with the number that the next callback gets
 pub record IsSound (fresh : ℕ) (w : World) : Type 0 where
   pub numbers : IsRising 1 fresh w.callbacks
   pub workers : AreWorkersSound w.callbacks 1 w.workers
   pub object_pools : AllByRecursion (λ (o : ObjectRow). o.env.pool.0 < length w.pools) w.objects
+  pub apart : AreApart w.waits
+  -- no call begins a wait with notices yet
+  pub unnoticed : AllByRecursion (λ (b : BegunWait). b.notices ≡ []) w.waits
   pub callback_pools : AllByRecursion (λ (c : CallbackRow). c.pool.0 < length w.pools) w.callbacks

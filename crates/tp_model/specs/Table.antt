@@ -2,15 +2,16 @@
 use Rattle.std.specs.Prelude.{ℕ, ◌+◌, length}
 use Rattle.tp_base.specs.declared.ids.Who.{Who}
 use Rattle.tp_base.specs.declared.calls.Call.{Call}
-use Rattle.tp_base.specs.declared.calls.Call.TheVariants.{CreatePool, ClosePool, SetMaximum, SetMinimum, Create, SubmitWork, Attach, Detach, Take, Return, MayRunLong, Finish}
+use Rattle.tp_base.specs.declared.calls.Call.TheVariants.{CreatePool, ClosePool, SetMaximum, SetMinimum, Create, CloseObject, SubmitSimple, SubmitWork, BeginWait, End, Attach, Detach, Take, Return, MayRunLong, Disassociate, Finish}
 use Rattle.tp_base.specs.declared.plans.Plan.{Plan}
 use Rattle.tp_model.specs.World.{World}
 use Rattle.tp_model.specs.Step.{Step, stepped, within}
 use Rattle.tp_model.specs.Calls.Pools.{create_pool_plan, close_pool_plan, set_maximum_plan, set_minimum_plan}
-use Rattle.tp_model.specs.Calls.Objects.{create_plan}
-use Rattle.tp_model.specs.Calls.Work.{submit_work_plan}
+use Rattle.tp_model.specs.Calls.Objects.{create_plan, close_object_plan}
+use Rattle.tp_model.specs.Calls.Work.{submit_work_plan, submit_simple_plan}
 use Rattle.tp_model.specs.Calls.Workers.{attach_plan, detach_plan, take_plan, return_plan}
-use Rattle.tp_model.specs.Calls.InCallback.{may_run_long_plan}
+use Rattle.tp_model.specs.Calls.InCallback.{may_run_long_plan, disassociate_plan}
+use Rattle.tp_model.specs.Calls.Waits.{begin_wait_plan, end_plan}
 use Rattle.tp_model.specs.Calls.Clients.{finish_plan}
 
 -- with the number that the next callback gets, and with the room of the history
@@ -20,12 +21,17 @@ plan_at w fresh room who (ClosePool pool) = close_pool_plan w who pool
 plan_at w fresh room who (SetMaximum pool value) = set_maximum_plan w who pool value
 plan_at w fresh room who (SetMinimum pool value) = set_minimum_plan w who pool value
 plan_at w fresh room who (Create kind routine context env) = create_plan w who kind routine context env
+plan_at w fresh room who (CloseObject kind object) = close_object_plan w who kind object
+plan_at w fresh room who (SubmitSimple routine context env) = submit_simple_plan w fresh who routine context env
 plan_at w fresh room who (SubmitWork object) = submit_work_plan w fresh who object
+plan_at w fresh room who (BeginWait kind object cancel) = begin_wait_plan w who kind object cancel
+plan_at w fresh room who End = end_plan w room who
 plan_at w fresh room who Attach = attach_plan w who
 plan_at w fresh room who Detach = detach_plan w who
 plan_at w fresh room who Take = take_plan w who
 plan_at w fresh room who Return = return_plan w who
 plan_at w fresh room who MayRunLong = may_run_long_plan w who
+plan_at w fresh room who Disassociate = disassociate_plan w who
 plan_at w fresh room who Finish = finish_plan w who
 
 -- callbacks are numbered from 1 in the order in which they are made

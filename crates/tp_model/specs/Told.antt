@@ -1,12 +1,19 @@
 -- What an entry tells of callbacks, workers and pools, and what a change has to tell.
-use Rattle.std.specs.Prelude.{ℕ, Bool, true, false, max, List, [], ◌∷◌, ◌==◌, if◌then◌else◌, Option, None, Some}
+use Rattle.std.specs.Prelude.{ℕ, Bool, true, false, max, List, [], ◌∷◌, length, ◌==◌, if◌then◌else◌, Option, None, Some}
 use Rattle.tp_base.specs.declared.answers.Entry.{Entry}
+use Rattle.std.specs.List.{filter}
+use Rattle.tp_base.specs.declared.plans.Mark.TheVariants.{Loose}
+use Rattle.tp_base.specs.declared.plans.WaitEnd.{WaitEnd}
+use Rattle.tp_base.specs.declared.plans.WaitEnd.TheVariants.{Free, Exhausted}
+use Rattle.tp_base.specs.declared.rows.WaitTarget.{WaitTarget}
+use Rattle.tp_base.specs.declared.rows.WaitTarget.TheVariants.{Object}
 use Rattle.tp_base.specs.declared.plans.PoolChange.{PoolChange}
 use Rattle.tp_base.specs.declared.plans.PoolChange.TheVariants.{Close, Maximum, Minimum}
 use Rattle.tp_base.specs.declared.plans.Change.{Change}
 use Rattle.tp_base.specs.declared.plans.Change.TheVariants as change
 use Rattle.tp_model.specs.World.{World}
-use Rattle.tp_model.specs.Laws.Entries.{Run, made_by, queued_by, taken_by, run_by, cancelled_by, cancelled_count, attached_by, is_returned, maximum_after}
+use Rattle.tp_model.specs.Waits.{is_cancelled_by}
+use Rattle.tp_model.specs.Laws.Entries.{Run, Begins, begins_by, is_ending, is_freeing, is_loosened, made_by, queued_by, taken_by, run_by, cancelled_by, cancelled_count, attached_by, is_returned, maximum_after}
 
 -- of callbacks that were there before, and of the worker
 pub record Deed : Type 0 where
@@ -16,6 +23,7 @@ pub record Deed : Type 0 where
   pub count : ℕ
   pub attached : Option ℕ
   pub returned : Bool
+  pub loosened : Bool
 
 abbrev pub deed_by : Entry → Deed
 deed_by entry = record {
@@ -25,15 +33,19 @@ deed_by entry = record {
   count = cancelled_count entry.answer;
   attached = attached_by entry.answer;
   returned = is_returned entry;
+  loosened = is_loosened entry;
 }
 
 abbrev pub nothing : Deed
-nothing = record { taken = None; run = None; cancelled = None; count = 0; attached = None; returned = false }
+nothing = record { taken = None; run = None; cancelled = None; count = 0; attached = None; returned = false; loosened = false }
 
 pub record Told : Type 0 where
   pub made : List ℕ
   pub queued : List ℕ
   pub deed : Deed
+  pub begun : Option Begins
+  pub ending : Bool
+  pub freeing : Bool
   -- the maximum of each pool after the entry, by what it was before
   pub maxima : ℕ → ℕ → ℕ
 
@@ -42,16 +54,27 @@ told_by entry = record {
   made = made_by entry;
   queued = queued_by entry.answer;
   deed = deed_by entry;
+  begun = begins_by entry;
+  ending = is_ending entry;
+  freeing = is_freeing entry;
   maxima = λ pool maximum. maximum_after pool maximum entry;
 }
 
 abbrev pub silent : Told
-silent = record { made = []; queued = []; deed = nothing; maxima = λ pool maximum. maximum }
+silent = record { made = []; queued = []; deed = nothing; begun = None; ending = false; freeing = false; maxima = λ pool maximum. maximum }
 
 abbrev pub maxima_by : ℕ → PoolChange → ℕ → ℕ → ℕ
 maxima_by pool Close other maximum = maximum
 maxima_by pool (Maximum value) other maximum = if pool == other then max value 1 else maximum
 maxima_by pool (Minimum value) other maximum = if pool == other then max maximum value else maximum
+
+abbrev pub begins_of : WaitTarget → Bool → Option Begins
+begins_of (Object object) cancel = Some (record { object = object; cancel = cancel })
+begins_of _ cancel = None
+
+abbrev pub is_free : WaitEnd → Bool
+is_free Free = true
+is_free Exhausted = false
 
 -- what the entry of a change tells, with the number that the next callback gets
 abbrev pub told : ℕ → World → Change → Told
@@ -60,5 +83,9 @@ told fresh w (change.QueueCallback callback) = record silent { made = fresh ∷ 
 told fresh w (change.Attach worker pool) = record silent { deed = record nothing { attached = Some pool.0 } }
 told fresh w (change.Take by callback) =
     record silent { deed = record nothing { taken = Some callback.number; run = Some (record { number = callback.number; object = callback.object }) } }
+told fresh w (change.Mark by Loose) = record silent { deed = record nothing { loosened = true } }
+told fresh w (change.BeginWait who target cancel) =
+    record silent { deed = record nothing { count = length (filter (is_cancelled_by target cancel) w.callbacks) }; begun = begins_of target cancel }
+told fresh w (change.EndWait who how) = record silent { ending = true; freeing = is_free how }
 told fresh w (change.Return by) = record silent { deed = record nothing { returned = true } }
 told fresh w _ = silent

@@ -1,11 +1,11 @@
--- Calls of a running callback on itself: CallbackMayRunLong.
+-- Calls of a running callback on itself: CallbackMayRunLong, DisassociateCurrentThreadFromCallback.
 use Rattle.std.specs.Prelude.{ℕ, Bool, not, ◌||◌, nat_lt, List, [], ◌∷◌, Option, None, Some}
 use Rattle.tp_base.specs.declared.ids.Who.{Who}
 use Rattle.tp_base.specs.declared.answers.Refusal.{Refusal}
 use Rattle.tp_base.specs.declared.answers.Refusal.TheVariants.{NoSuch, Released, NotRunning, InWait}
 use Rattle.tp_base.specs.declared.answers.Answer.TheVariants as answer
 use Rattle.tp_base.specs.declared.plans.Busy.{Busy}
-use Rattle.tp_base.specs.declared.plans.Mark.TheVariants.{Long}
+use Rattle.tp_base.specs.declared.plans.Mark.TheVariants.{Long, Loose}
 use Rattle.tp_base.specs.declared.plans.Plan.{Plan}
 use Rattle.tp_base.specs.declared.plans.Plan.TheVariants.{Refused, Does}
 use Rattle.tp_base.specs.declared.plans.Change.TheVariants as change
@@ -35,3 +35,12 @@ may_run_long w (Some by) = Does (answer.Flag (has_spare w by.callback.pool.0)) (
 
 unfoldable pub may_run_long_plan : World → Who → Plan
 may_run_long_plan w who = unless_refused (first_refusal (busy_refusals w who)) (may_run_long w (busy_of w who))
+
+-- ---- Disassociate: DisassociateCurrentThreadFromCallback
+
+abbrev pub disassociate : Option Busy → Plan
+disassociate None = Refused NotRunning
+disassociate (Some by) = Does answer.Done (change.Mark by Loose)
+
+unfoldable pub disassociate_plan : World → Who → Plan
+disassociate_plan w who = unless_refused (first_refusal (busy_refusals w who)) (disassociate (busy_of w who))

@@ -1,9 +1,12 @@
--- Calls that make callbacks at once: SubmitThreadpoolWork.
+-- Calls that make callbacks at once: SubmitThreadpoolWork, TrySubmitThreadpoolCallback.
 use Rattle.std.specs.Prelude.{ℕ, Bool, not, ◌||◌, List, [], ◌∷◌, Option, None, Some}
 use Rattle.tp_base.specs.declared.ids.Who.{Who}
 use Rattle.tp_base.specs.declared.ids.ObjectId.{ObjectId}
+use Rattle.tp_base.specs.declared.ids.RoutineId.{RoutineId}
+use Rattle.tp_base.specs.declared.calls.Kind.TheVariants.{Work}
+use Rattle.tp_base.specs.declared.calls.Environ.{Environ}
 use Rattle.tp_base.specs.declared.answers.Refusal.{Refusal}
-use Rattle.tp_base.specs.declared.answers.Refusal.TheVariants.{NoSuch, WrongKind, Released, NotRunning, InWait, CallbackLimit}
+use Rattle.tp_base.specs.declared.answers.Refusal.TheVariants.{NoSuch, WrongKind, Released, PoolClosed, GroupClosed, NotRunning, InWait, CallbackLimit}
 use Rattle.tp_base.specs.declared.answers.TakeResult.{TakeResult}
 use Rattle.tp_base.specs.declared.answers.TakeResult.TheVariants.{Plain}
 use Rattle.tp_base.specs.declared.answers.Answer.TheVariants as answer
@@ -15,7 +18,8 @@ use Rattle.tp_base.specs.declared.rows.ObjectRow.{ObjectRow}
 use Rattle.tp_base.specs.declared.rows.CallbackRow.{CallbackRow}
 use Rattle.tp_model.specs.World.{World}
 use Rattle.tp_model.specs.Counts.{numbered}
-use Rattle.tp_model.specs.Conditions.{is_actor, is_finished, is_without_callback, is_in_wait, is_object, is_work_object, is_released, lacks_slots_for}
+use Rattle.tp_model.specs.Conditions.{is_actor, is_finished, is_without_callback, is_in_wait, is_object, is_object_of, is_released, is_pool, is_closed_pool, is_no_group_or_group, is_closed_group, lacks_slots_for}
+use Rattle.tp_model.specs.Calls.Objects.{new_object}
 use Rattle.tp_model.specs.Refusing.{first_refusal, unless_refused}
 
 -- a callback of an object, as the object's environment was when the object was made
@@ -38,7 +42,7 @@ new_callback number object row result = record {
 abbrev pub submit_work_refusals : World → Who → ℕ → List (Bool × Refusal)
 submit_work_refusals w who object =
     (not (is_actor w who) || not (is_object w object), NoSuch)
-    ∷ (not (is_work_object w object), WrongKind)
+    ∷ (not (is_object_of w Work object), WrongKind)
     ∷ (is_finished w who || is_released w object, Released)
     ∷ (is_without_callback w who, NotRunning)
     ∷ (is_in_wait w who, InWait)
@@ -53,3 +57,24 @@ submit fresh object (Some row) = Does (answer.Queued fresh 1) (change.QueueCallb
 unfoldable pub submit_work_plan : World → ℕ → Who → ObjectId → Plan
 submit_work_plan w fresh who object =
     unless_refused (first_refusal (submit_work_refusals w who object.0)) (submit fresh object (numbered w.objects object.0))
+
+-- ---- SubmitSimple: TrySubmitThreadpoolCallback
+
+abbrev pub submit_simple_refusals : World → Who → Environ → List (Bool × Refusal)
+submit_simple_refusals w who env =
+    (not (is_actor w who) || not (is_pool w env.pool.0) || not (is_no_group_or_group w env.group.0), NoSuch)
+    ∷ (is_finished w who, Released)
+    ∷ (is_closed_pool w env.pool.0, PoolClosed)
+    ∷ (is_closed_group w env.group.0, GroupClosed)
+    ∷ (is_without_callback w who, NotRunning)
+    ∷ (is_in_wait w who, InWait)
+    ∷ (lacks_slots_for w 1, CallbackLimit)
+    ∷ []
+
+-- a callback without an object
+abbrev pub simple_callback : ℕ → RoutineId → ℕ → Environ → CallbackRow
+simple_callback fresh routine context env = new_callback fresh (record { 0 = 0 }) (new_object Work routine context env) Plain
+
+unfoldable pub submit_simple_plan : World → ℕ → Who → RoutineId → ℕ → Environ → Plan
+submit_simple_plan w fresh who routine context env =
+    unless_refused (first_refusal (submit_simple_refusals w who env)) (Does (answer.Queued fresh 1) (change.QueueCallback (simple_callback fresh routine context env)))

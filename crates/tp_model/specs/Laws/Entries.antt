@@ -5,9 +5,9 @@ use Rattle.std.specs.List.{filter, list_any, position, range_with_len, flat_map,
 use Rattle.tp_base.specs.declared.ids.Who.TheVariants.{Worker}
 use Rattle.tp_base.specs.declared.ids.ObjectId.{ObjectId}
 use Rattle.tp_base.specs.declared.calls.Call.{Call}
-use Rattle.tp_base.specs.declared.calls.Call.TheVariants.{Return, SetMaximum, SetMinimum}
+use Rattle.tp_base.specs.declared.calls.Call.TheVariants.{Return, SetMaximum, SetMinimum, BeginWait, End, Disassociate}
 use Rattle.tp_base.specs.declared.answers.Answer.{Answer}
-use Rattle.tp_base.specs.declared.answers.Answer.TheVariants.{Queued, WasSet, Count, Advanced, Returned, Started, Cancelled, Closing, Begun, Attached, Taken}
+use Rattle.tp_base.specs.declared.answers.Answer.TheVariants.{Queued, WasSet, Count, Advanced, Returned, Started, Cancelled, Closing, Begun, Attached, Taken, Ended, Exhausted, Stalled}
 use Rattle.tp_base.specs.declared.answers.Entry.{Entry}
 use Rattle.tp_base.specs.declared.limits.Limits.{Limits}
 use Rattle.tp_model.specs.Conditions.{is_same_actor}
@@ -139,3 +139,48 @@ maximum_after pool maximum entry = if is_refusal entry.answer then maximum else 
 -- minimum above it
 abbrev pub told_maximum : Limits → List Entry → ℕ → ℕ
 told_maximum limits history pool = fold (maximum_after pool) limits.workers history
+
+-- ---- waits
+
+-- a wait for the callbacks of an object, with or without cancel
+pub record Begins : Type 0 where
+  pub object : ObjectId
+  pub cancel : Bool
+
+abbrev pub begins_call : Call → Option Begins
+begins_call (BeginWait kind object cancel) = Some (record { object = object; cancel = cancel })
+begins_call _ = None
+
+-- the wait that an accepted BeginWait begins
+abbrev pub begins_by : Entry → Option Begins
+begins_by entry = if is_refusal entry.answer then None else begins_call entry.call
+
+abbrev pub is_end_call : Call → Bool
+is_end_call End = true
+is_end_call _ = false
+
+abbrev pub is_last_answer : Answer → Bool
+is_last_answer Ended = true
+is_last_answer Exhausted = true
+is_last_answer Stalled = true
+is_last_answer _ = false
+
+-- the entry ends its actor's wait
+abbrev pub is_ending : Entry → Bool
+is_ending entry = is_end_call entry.call && is_last_answer entry.answer
+
+abbrev pub is_ended_answer : Answer → Bool
+is_ended_answer Ended = true
+is_ended_answer _ = false
+
+-- and nothing was left to wait for
+abbrev pub is_freeing : Entry → Bool
+is_freeing entry = is_end_call entry.call && is_ended_answer entry.answer
+
+abbrev pub is_disassociate_call : Call → Bool
+is_disassociate_call Disassociate = true
+is_disassociate_call _ = false
+
+-- an accepted Disassociate
+abbrev pub is_loosened : Entry → Bool
+is_loosened entry = is_disassociate_call entry.call && not (is_refusal entry.answer)

@@ -1,0 +1,80 @@
+-- Waits for callbacks: WaitForThreadpoolWorkCallbacks and its like for the other kinds. BeginWait is the entry of the
+-- function, and End its return.
+use Rattle.std.specs.Prelude.{ℕ, Bool, false, not, ◌||◌, ◌&&◌, ◌==◌, nat_lt, List, [], ◌∷◌, length, if◌then◌else◌, is_none, Option, None, Some}
+use Rattle.std.specs.List.{filter, list_any}
+use Rattle.std.specs.Option.{option_map_or}
+use Rattle.tp_base.specs.declared.ids.Who.{Who}
+use Rattle.tp_base.specs.declared.ids.ObjectId.{ObjectId}
+use Rattle.tp_base.specs.declared.calls.Kind.{Kind}
+use Rattle.tp_base.specs.declared.answers.Refusal.{Refusal}
+use Rattle.tp_base.specs.declared.answers.Refusal.TheVariants.{NoSuch, WrongKind, Released, NotRunning, InWait, NoWaitBegun, OwnCallback}
+use Rattle.tp_base.specs.declared.answers.Answer.TheVariants as answer
+use Rattle.tp_base.specs.declared.answers.Look.TheVariants as look
+use Rattle.tp_base.specs.declared.plans.WaitEnd.TheVariants.{Free, Exhausted}
+use Rattle.tp_base.specs.declared.plans.Plan.{Plan}
+use Rattle.tp_base.specs.declared.plans.Plan.TheVariants.{Refused, Looked, Does}
+use Rattle.tp_base.specs.declared.plans.Change.TheVariants as change
+use Rattle.tp_base.specs.declared.rows.WaitTarget.{WaitTarget}
+use Rattle.tp_base.specs.declared.rows.WaitTarget.TheVariants.{Object}
+use Rattle.tp_base.specs.declared.rows.CallbackRow.{CallbackRow}
+use Rattle.tp_model.specs.World.{World, BegunWait}
+use Rattle.tp_model.specs.Counts.{attached, callback_of, is_pending}
+use Rattle.tp_model.specs.Conditions.{is_actor, is_finished, is_without_callback, is_in_wait, is_object, is_object_of, is_released, runs_own}
+use Rattle.tp_model.specs.Waits.{is_cancelled_by, cancel_where, covered_of, wait_of, held}
+use Rattle.tp_model.specs.Refusing.{first_refusal, unless_refused}
+
+-- ---- BeginWait
+
+abbrev pub begin_wait_refusals : World → Who → Kind → ℕ → List (Bool × Refusal)
+begin_wait_refusals w who kind object =
+    (not (is_actor w who) || not (is_object w object), NoSuch)
+    ∷ (not (is_object_of w kind object), WrongKind)
+    ∷ (is_finished w who || is_released w object, Released)
+    ∷ (is_without_callback w who, NotRunning)
+    ∷ (is_in_wait w who, InWait)
+    ∷ (runs_own w who object, OwnCallback)
+    ∷ []
+
+-- how many callbacks the wait covers, and how many it cancels
+abbrev pub count_covered : World → WaitTarget → Bool → ℕ
+count_covered w target cancel = length (covered_of target cancel (cancel_where (is_cancelled_by target cancel) w.callbacks))
+
+abbrev pub count_cancelled_by : World → WaitTarget → Bool → ℕ
+count_cancelled_by w target cancel = length (filter (is_cancelled_by target cancel) w.callbacks)
+
+unfoldable pub begin_wait_plan : World → Who → Kind → ObjectId → Bool → Plan
+begin_wait_plan w who kind object cancel =
+    unless_refused (first_refusal (begin_wait_refusals w who kind object.0))
+    (Does (answer.Begun (count_covered w (Object object) cancel) (count_cancelled_by w (Object object) cancel)) (change.BeginWait who (Object object) cancel))
+
+-- ---- End
+
+abbrev pub end_refusals : World → Who → List (Bool × Refusal)
+end_refusals w who =
+    (not (is_actor w who), NoSuch)
+    ∷ (is_finished w who, Released)
+    ∷ (is_without_callback w who, NotRunning)
+    ∷ (is_none (wait_of w who), NoWaitBegun)
+    ∷ []
+
+-- the callback is pending, and the history has no room for it to be run: for a take and, where no worker is attached to
+-- its pool, for the attach before it
+abbrev pub is_starved : World → ℕ → CallbackRow → Bool
+is_starved w room c = is_pending c.status && (nat_lt room 2 || (nat_lt room 4 && (attached w c.pool.0 == 0)))
+
+abbrev pub holds_starved : World → ℕ → List ℕ → Bool
+holds_starved w room numbers = list_any (λ n. option_map_or (is_starved w room) (callback_of w n) false) numbers
+
+abbrev pub end_held : World → ℕ → Who → List ℕ → Plan
+end_held w room who [] = Does answer.Ended (change.EndWait who Free)
+end_held w room who (number ∷ numbers) =
+    if holds_starved w room (number ∷ numbers)
+    then Does answer.Exhausted (change.EndWait who Exhausted)
+    else Looked (look.NotYet number)
+
+abbrev pub end_wait : World → ℕ → Who → Option BegunWait → Plan
+end_wait w room who None = Refused NoWaitBegun
+end_wait w room who (Some b) = end_held w room who (held w b)
+
+unfoldable pub end_plan : World → ℕ → Who → Plan
+end_plan w room who = unless_refused (first_refusal (end_refusals w who)) (end_wait w room who (wait_of w who))
