@@ -1,8 +1,11 @@
 -- What a live world is seen as, and what it is after a change.
-use Rattle.std.specs.Prelude.{ℕ, ◌+◌}
+use Rattle.std.specs.Prelude.{ℕ, ◌+◌, true}
+use Rattle.tp_base.specs.declared.ids.ObjectId.{ObjectId}
+use Rattle.tp_base.specs.declared.rows.WaitTarget.TheVariants.{Object}
 use Rattle.tp_base.specs.declared.plans.Change.{Change}
 use Rattle.tp_model.specs.World.{World}
 use Rattle.tp_model.specs.Changes.{changed}
+use Rattle.tp_model.specs.Waits.{is_cancelled_by, cancel_where}
 use Rattle.tp_model.specs.Allowed.{news}
 use Rattle.tp_model.specs.Remembered.{forget}
 
@@ -13,3 +16,11 @@ pub record Live : Type 0 where
 
 abbrev pub moved : Live → Change → Live
 moved l change = record { world = forget (changed l.world change); made = l.made + news change }
+
+-- the same with another world
+abbrev pub became : Live → World → Live
+became l w = record { world = forget w; made = l.made }
+
+-- the pending callbacks of an object cancelled
+abbrev pub without_pending : Live → ObjectId → Live
+without_pending l object = became l (record l.world { callbacks = cancel_where (is_cancelled_by (Object object) true) l.world.callbacks })

@@ -181,7 +181,7 @@ busy_forget fresh w (Worker number) s = busy_in_forget fresh w number (numbered 
 
 -- ---- waits
 
-over_not_held : (target : WaitTarget) (s : Status) → is_live s ≡ false → is_held_for target s ≡ false
+pub over_not_held : (target : WaitTarget) (s : Status) → is_live s ≡ false → is_held_for target s ≡ false
 over_not_held target Returned e = refl
 over_not_held target Cancelled e = refl
 over_not_held target Expected e = cc
@@ -189,11 +189,11 @@ over_not_held target Issued e = cc
 over_not_held target Pending e = cc
 over_not_held target (Running worker associated slots) e = absurd (false_true (sym e))
 
-over_not_outstanding : (target : WaitTarget) (c : CallbackRow) → lives c ≡ false → is_outstanding_for target c ≡ false
+pub over_not_outstanding : (target : WaitTarget) (c : CallbackRow) → lives c ≡ false → is_outstanding_for target c ≡ false
 over_not_outstanding target c e = ap (λ b. is_of target c && b) (over_not_held target c.status e) ∙ and_false (is_of target c)
 
 -- what is found among those that live passes a test that none of the others passes
-over_forget : (p : CallbackRow → Bool) → ((c : CallbackRow) → lives c ≡ false → p c ≡ false) → (low fresh number : ℕ) (cs : List CallbackRow) → IsRising low fresh cs
+pub over_forget : (p : CallbackRow → Bool) → ((c : CallbackRow) → lives c ≡ false → p c ≡ false) → (low fresh number : ℕ) (cs : List CallbackRow) → IsRising low fresh cs
     → option_map_or p (find (has_number number) (filter lives cs)) false ≡ option_map_or p (find (has_number number) cs) false
 over_forget p over low fresh number [] r = refl
 over_forget p over low fresh number (c ∷ cs) r =

@@ -1,0 +1,157 @@
+//! Numbers that have a key each, seen as one list of pairs by rising number, and read key by key.
+//!
+//! `open` takes the memory, and no other call takes any. `add` appends a number, which is above all
+//! others, and `remove` takes one out. `first` gives the least number of a key, and `after` the one
+//! that follows a number of it, so that a caller goes along the numbers of one key and meets no
+//! others.
+//!
+//! ```text
+//! let mut lists = KeyedLists::open(alloc, 3, 8)?;
+//! lists.add(2, 4);
+//! lists.add(0, 5);
+//! lists.add(2, 9);
+//! lists.first(2)          // Some(4)
+//! lists.after(2, 4)       // Some(9)
+//! lists.remove(4)         // true
+//! lists.first(2)          // Some(9)
+//! ```
+//!
+//! What a call costs: a number is found by halving. `first` and `after` read one link, `add` and
+//! `remove` write at most two besides the number's own. What leaves moves the numbers before it or
+//! those behind it, whichever are fewer.
+
+#![tactic(auto)]
+
+ghost use Rattle.std.specs.Prelude.{◌≡◌, ◌<◌, ◌≤◌, ◌==◌, [], ◌∷◌, ◌++◌, All, IfOk, filter, find, is_some, length, not, true};
+ghost use Rattle.keyed_lists.specs.Keyed.{IsRising, entry, first_of, has, next_of};
+
+use std::alloc::{AllocError, Global};
+use std::collections::VecDeque;
+use std::marker::Model;
+
+mod places;
+
+use places::{find_place, place_of, set_before, set_behind};
+
+/// Numbers with a key each.
+#[derive(Drop)]
+pub struct KeyedLists {
+    slots: u32,
+    nodes: VecDeque<Node>,
+    ends: Vec<Ends>,
+}
+
+// A number with its key, and the numbers of that key before and behind it.
+#[derive(Clone, Copy)]
+struct Node {
+    key: u32,
+    number: u64,
+    before: Option<u64>,
+    behind: Option<u64>,
+}
+
+// The least and the greatest number of a key.
+#[derive(Clone, Copy)]
+struct Ends {
+    first: Option<u64>,
+    last: Option<u64>,
+}
+
+impl Model for KeyedLists {
+    ghost use Rattle.keyed_lists.specs.Keyed.{Keyed};
+
+    ghost Value = { Keyed };
+
+    ghost use Rattle.std.specs.Prelude.{length, map};
+    ghost use Rattle.std.specs.VecDeque.{deque_capacity};
+    ghost use Rattle.keyed_lists.specs.Linked.{AreLinked, entry_of};
+
+    ghost view = { λ a. record { keys = length a.ends.items; slots = a.slots; entries = map entry_of a.nodes.items } };
+
+    ghost invariant = { λ a. AreLinked a.slots (deque_capacity a.nodes) a.nodes.items a.ends.items };
+}
+
+impl KeyedLists {
+    /// No numbers, with the memory for `slots` of them, and for the keys below `keys`.
+    ///
+    /// An `AllocError` comes where that memory can't be had.
+    pub fn open(alloc: Global, keys: u32, slots: u32) -> Result<KeyedLists, AllocError>
+        ensures { IfOk result (λ lists. lists ≡ record { keys = keys; slots = slots; entries = [] }) }
+    {
+        let none = Ends {
+            first: None,
+            last: None,
+        };
+        let nodes = VecDeque::with_capacity(alloc, slots as usize)?;
+        let ends = vec![in alloc; none; keys as usize]?;
+        Ok(KeyedLists { slots, nodes, ends })
+    }
+
+    /// How many numbers there are. There are never more than slots.
+    pub fn len(&self) -> u32
+        ensures value { result ≡ length self.now.entries }
+        ensures limited { length self.now.entries ≤ self.now.slots }
+        ensures rising { IsRising self.now.entries }
+    {
+        self.nodes.len() as u32
+    }
+
+    /// The least number of this key, or None where there is none.
+    pub fn first(&self, key: u32) -> Option<u64>
+        requires { key < self.now.keys }
+        ensures { result ≡ first_of self.now.entries key }
+    {
+        self.ends[key as usize].first
+    }
+
+    /// The number that follows a number of this key, or None where it is the last.
+    pub fn after(&self, key: u32, number: u64) -> Option<u64>
+        requires { has self.now.entries key number ≡ true }
+        ensures { result ≡ next_of self.now.entries key number }
+    {
+        self.nodes[place_of(&self.nodes, number)].behind
+    }
+
+    /// Appends a number, above all others, under this key.
+    pub fn add(&mut self, key: u32, number: u64)
+        requires key { key < self.old.keys }
+        requires room { length self.old.entries < self.old.slots }
+        requires last { All (λ e. e.number < number) self.old.entries }
+        ensures { self.new ≡ record self.old { entries = self.old.entries ++ entry key number ∷ [] } }
+    {
+        let mut ends = self.ends[key as usize];
+        let before = ends.last;
+        set_behind(&mut self.nodes, &mut ends, before, Some(number));
+        ends.last = Some(number);
+        self.ends[key as usize] = ends;
+        self.nodes.push_back_reserved(Node {
+            key,
+            number,
+            before,
+            behind: None,
+        });
+    }
+
+    /// Takes a number out, whatever its key. Answers whether it was there. Where it wasn't, nothing
+    /// changes.
+    pub fn remove(&mut self, number: u64) -> bool
+        ensures found { result ≡ is_some (find (λ e. e.number == number) self.old.entries) }
+        ensures after { self.new ≡ record self.old { entries = filter (λ e. not (e.number == number)) self.old.entries } }
+    {
+        match find_place(&self.nodes, number) {
+            Some(place) => {
+                let node = self.nodes[place];
+                let _ = self.nodes.remove(place);
+                let mut ends = self.ends[node.key as usize];
+                set_behind(&mut self.nodes, &mut ends, node.before, node.behind);
+                set_before(&mut self.nodes, &mut ends, node.behind, node.before);
+                self.ends[node.key as usize] = ends;
+                true
+            }
+            None => false,
+        }
+    }
+}
+
+#[cfg(test)]
+mod tests;

@@ -1,0 +1,34 @@
+//! Three keys, filled and emptied out of order.
+
+use crate::KeyedLists;
+use std::test::Fail;
+
+#[test]
+fn numbers_follow_in_their_key(rt: HostRuntime) -> Result<(), Fail> {
+    let mut lists = KeyedLists::open(rt.alloc(), 3, 5)?;
+    lists.add(2, 4);
+    lists.add(0, 5);
+    lists.add(2, 7);
+    lists.add(2, 9);
+    assert_eq!(rt;
+        (lists.first(0), lists.first(1), lists.first(2)),
+        (Some(5), None, Some(4))
+    );
+    assert_eq!(rt;
+        (lists.after(2, 4), lists.after(2, 7), lists.after(2, 9)),
+        (Some(7), Some(9), None)
+    );
+    assert!(rt; lists.remove(7));
+    assert!(rt; !lists.remove(7));
+    assert_eq!(rt; (lists.first(2), lists.len()), (Some(4), 3));
+    assert!(rt; lists.remove(4));
+    assert_eq!(rt; lists.first(2), Some(9));
+    assert!(rt; lists.remove(9));
+    assert_eq!(rt; lists.first(2), None);
+    lists.add(2, 12);
+    assert_eq!(rt;
+        (lists.first(2), lists.first(0), lists.len()),
+        (Some(12), Some(5), 2)
+    );
+    Ok(())
+}
