@@ -1,3 +1,4 @@
+pub mod Listed
 pub mod Lists
 pub mod Entries
 pub mod Queued
@@ -5,5 +6,6 @@ pub mod Tallied
 pub mod Alive
 pub mod Moving
 pub mod Counting
+pub mod Covered
 pub mod Using
 pub mod Opening

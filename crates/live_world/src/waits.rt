@@ -1,6 +1,6 @@
 //! The waits that actors have begun: what each still holds.
 
-ghost use Rattle.std.specs.Prelude.{◌≡◌, ◌+◌, ◌^◌, ◌<◌, Some, is_none};
+ghost use Rattle.std.specs.Prelude.{◌≡◌, ◌+◌, ◌^◌, ◌<◌, Some, false, is_none};
 ghost use Rattle.std.specs.Option.{option_map_or};
 ghost use Rattle.tp_model.specs.Counts.{callback_of, is_pending as is_pending_by};
 ghost use Rattle.tp_model.specs.Conditions.{is_in_wait};
