@@ -1,5 +1,5 @@
 -- What begun waits hold, as callbacks change and as waits begin and end.
-use Rattle.std.proofs.Common.{◌≡◌, ◌≢◌, ℕ, suc, zero, ◌+◌, ◌-◌, ◌<◌, ◌≤◌, Bool, true, false, cond, not, ◌&&◌, ◌||◌, ◌==◌, List, [], ◌∷◌, ◌++◌, length, map, nat_le, get_or, slice_set, Option, Some, None, is_some, refl, sym, ap, ap₂, ◌∙◌, subst, arith, filter, find, option_map, eqb-true, eq-eqb, ne_eqb, length-set, get_or-set_same, get_or-set_other}
+use Rattle.std.proofs.Common.{◌≡◌, ◌≢◌, ℕ, suc, zero, ◌+◌, ◌-◌, ◌<◌, ◌≤◌, Bool, true, false, cond, not, ◌&&◌, ◌||◌, ◌==◌, List, [], ◌∷◌, ◌++◌, length, map, nat_le, get_or, slice_set, Option, Some, None, is_some, is_none, refl, sym, ap, ap₂, ◌∙◌, subst, arith, filter, find, option_map, eqb-true, eq-eqb, ne_eqb, length-set, get_or-set_same, get_or-set_other}
 use Rattle.std.specs.List.{AllByRecursion, list_any}
 use Rattle.std.specs.Option.{option_map_or}
 use Rattle.std.proofs.lemmas.List.{length-map}
@@ -27,6 +27,9 @@ use Rattle.tp_model.proofs.Forgetting.{over_forget, over_not_outstanding}
 use Rattle.tp_model.proofs.Refusals.{false_true, both, neither, and_false, same_actor_is, is_own_actor}
 use Rattle.live_world.specs.Parts.{is_tied, is_held_among, held_among, wait_among, place_within, place_of}
 use Rattle.live_world.specs.Invariant.{AreCovered, IsWaitKept}
+use Rattle.live_world.specs.Live.{Live}
+use Rattle.live_world.specs.View.{shown}
+use Rattle.live_world.specs.declared.LiveWorld.TheInside.{Inside}
 use Rattle.live_world.proofs.Lists.{all_along}
 use Rattle.live_world.proofs.Listed.{held_alike}
 
@@ -200,15 +203,31 @@ pub place_there : (limits : Limits) (a : Who) (place : ℕ) → place_of limits 
 place_there limits (Client n) place e = let r = within 0 limits.clients n place e in omega (arith, r.least, r.most, r.at)
 place_there limits (Worker n) place e = let r = within limits.clients limits.workers n place e in omega (arith, r.least, r.most, r.at)
 
+-- where an actor's wait was found to stand
+pub at_place : (i : Inside) (l : Live) (who : Who) (place is : Option ℕ) → shown i ≡ l → place ≡ place_of l.world.limits who → place ≡ is → place_of i.limits who ≡ is
+at_place i l who place is view found same = ap (λ (x : Live). place_of x.world.limits who) view ∙ sym found ∙ same
+
+pub nowhere : (o : Option ℕ) → ((n : ℕ) → o ≡ Some n → ⊥) → o ≡ None
+nowhere None h = refl
+nowhere (Some n) h = absurd (h n refl)
+
 -- ---- waits that begin and end
 
 some_found : {X : Type 0} (p : X → Bool) (xs : List X) → is_some (find p xs) ≡ list_any p xs
 some_found p [] = refl
 some_found p (x ∷ xs) = elim (p x) as (λ b. is_some (cond b (Some x) (find p xs)) ≡ (b || list_any p xs)) [ true ↦ refl | false ↦ some_found p xs ]
 
+pub not_found : {X : Type 0} (p : X → Bool) (xs : List X) → not (list_any p xs) ≡ is_none (find p xs)
+not_found p [] = refl
+not_found p (x ∷ xs) = elim (p x) as (λ b. not (b || list_any p xs) ≡ is_none (cond b (Some x) (find p xs))) [ true ↦ refl | false ↦ not_found p xs ]
+
 none_found : {X : Type 0} (p : X → Bool) (xs : List X) → list_any p xs ≡ false → find p xs ≡ None
 none_found p [] none = refl
 none_found p (x ∷ xs) none = let h = neither (p x) (list_any p xs) none in ap (λ b. cond b (Some x) (find p xs)) h.0 ∙ none_found p xs h.1
+
+-- an actor that has begun a wait
+pub waiting_somewhere : (who : Who) (waits : List BegunWait) (b : BegunWait) → wait_among waits who ≡ Some b → list_any (λ (x : BegunWait). is_same_actor x.actor who) waits ≡ true
+waiting_somewhere who waits b is = sym (some_found (λ (x : BegunWait). is_same_actor x.actor who) waits) ∙ ap is_some is
 
 -- who is no actor of the machine has no wait
 pub no_stranger : (limits : Limits) (waits : List BegunWait) (fresh : ℕ) (who : Who) → place_of limits who ≡ None → AllByRecursion (IsWaitKept limits fresh) waits → list_any (λ (b : BegunWait). is_same_actor b.actor who) waits ≡ false

@@ -9,3 +9,6 @@ pub mod Counting
 pub mod Covered
 pub mod Using
 pub mod Opening
+pub mod Owned
+pub mod Ending
+pub mod Walks

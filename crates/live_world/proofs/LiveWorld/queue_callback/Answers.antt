@@ -59,9 +59,9 @@ push-requires-2-clause-free c pool =
 pub invariant_of-self : goal.invariant_of-self
 invariant_of-self c =
     let placed = c.push-2.ensures ∙ ap (λ p. with_queue c.self.inside.queues c.args.callback.pool.0 (with_entry (entry p c.args.callback.number) (queue_of c.self.inside.queues c.args.callback.pool.0))) c.priority_byte.ensures in
-    (queued_by c.self.inside c.args.self.now c.args.callback c.push.new.self c.push-2.new.self c.self.view_is c.self.invariant c.requires.allowed c.push.ensures placed).keeps
+    (queued_by c.self.inside c.args.self.now c.args.callback c.push.new.self c.push-2.new.self c.add.new.self c.self.view_is c.self.invariant c.requires.allowed c.push.ensures placed c.add.ensures).keeps
 
 pub returns : goal.returns
 returns c =
     let placed = c.push-2.ensures ∙ ap (λ p. with_queue c.self.inside.queues c.args.callback.pool.0 (with_entry (entry p c.args.callback.number) (queue_of c.self.inside.queues c.args.callback.pool.0))) c.priority_byte.ensures in
-    (queued_by c.self.inside c.args.self.now c.args.callback c.push.new.self c.push-2.new.self c.self.view_is c.self.invariant c.requires.allowed c.push.ensures placed).becomes
+    (queued_by c.self.inside c.args.self.now c.args.callback c.push.new.self c.push-2.new.self c.add.new.self c.self.view_is c.self.invariant c.requires.allowed c.push.ensures placed c.add.ensures).becomes
