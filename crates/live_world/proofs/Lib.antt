@@ -12,3 +12,4 @@ pub mod Opening
 pub mod Owned
 pub mod Ending
 pub mod Walks
+pub mod Numbers

@@ -1,6 +1,7 @@
 -- Rising things, gone along one after another.
-use Rattle.std.proofs.Common.{◌≡◌, ℕ, suc, zero, ◌+◌, ◌<◌, ◌≤◌, Bool, true, false, cond, ◌==◌, List, [], ◌∷◌, length, nat_lt, nat_le, slice_get, Option, Some, None, refl, sym, ap, ap₂, ◌∙◌, subst, arith, filter, find, eqb-true, eq-eqb, ne_eqb, lt-ltb, le-ltb}
-use Rattle.std.specs.List.{AllByRecursion}
+use Rattle.std.proofs.Common.{◌≡◌, ℕ, suc, zero, ◌+◌, ◌<◌, ◌≤◌, Bool, true, false, cond, ◌==◌, List, [], ◌∷◌, length, map, get_or, nat_lt, nat_le, slice_get, Option, Some, None, refl, sym, ap, ap₂, ◌∙◌, subst, arith, filter, find, eqb-true, eq-eqb, ne_eqb, lt-ltb, le-ltb}
+use Rattle.std.specs.List.{AllByRecursion, AllPairs}
+use Rattle.std.proofs.lemmas.List.Elements.{recursion_from_All}
 use Rattle.std.proofs.lemmas.Bool.{le-leb, lt-leb}
 use Rattle.std.proofs.lemmas.Bool.{ltb-true}
 use Rattle.tp_model.proofs.Lists.{find_all, find_passes}
@@ -57,8 +58,8 @@ module _ {X : Type 0} (key : X → ℕ) where
               ∙ skip y ys r.1
               ∙ rest_first (key y + 1) ys r.1))
         | false ↦ λ other found.
-            let ahead : key y < key x = below ys (key y + 1) r.1 found in
-            ap (λ b. cond b (y ∷ rest ys (Some x)) (rest ys (Some x))) (lt-leb (key y) (key x) ahead)
+            let ahead : key y < key x = omega (arith, below ys (key y + 1) r.1 found) in
+            ap (λ b. cond b (y ∷ rest ys (Some x)) (rest ys (Some x))) (lt-leb (key x) (key y) ahead)
             ∙ rest_next (key y + 1) ys x r.1 found
             ∙ ap (λ t. x ∷ t) (sym (ap (rest (y ∷ ys)) (ap (λ b. cond b (Some y) (find (λ z. nat_lt (key x) (key z)) ys)) (le-ltb (key x) (key y) (omega (arith, ahead))))
             ∙ past (find (λ z. nat_lt (key x) (key z)) ys) (λ z h. omega (arith, ahead, over ys z h))))
@@ -70,7 +71,7 @@ module _ {X : Type 0} (key : X → ℕ) where
 
       skip : (u : X) (zs : List X) → Rises (key u + 1) zs → rest (u ∷ zs) (slice_get zs 0) ≡ rest zs (slice_get zs 0)
       skip u [] h = refl
-      skip u (z ∷ zs) h = ap (λ b. cond b (u ∷ rest (z ∷ zs) (Some z)) (rest (z ∷ zs) (Some z))) (lt-leb (key u) (key z) (omega (arith, h.0)))
+      skip u (z ∷ zs) h = ap (λ b. cond b (u ∷ rest (z ∷ zs) (Some z)) (rest (z ∷ zs) (Some z))) (lt-leb (key z) (key u) (omega (arith, h.0)))
 
       over : (zs : List X) (z : X) → find (λ u. nat_lt (key x) (key u)) zs ≡ Some z → key x < key z
       over zs z h = ltb_less (key x) (key z) (passes zs h)
@@ -83,7 +84,7 @@ module _ {X : Type 0} (key : X → ℕ) where
 
       past : (o : Option X) → ((z : X) → o ≡ Some z → key y < key z) → rest (y ∷ ys) o ≡ rest ys o
       past None h = refl
-      past (Some z) h = ap (λ b. cond b (y ∷ rest ys (Some z)) (rest ys (Some z))) (lt-leb (key y) (key z) (h z refl))
+      past (Some z) h = ap (λ b. cond b (y ∷ rest ys (Some z)) (rest ys (Some z))) (lt-leb (key z) (key y) (h z refl))
 
       below : (zs : List X) (least : ℕ) → Rises least zs → find (λ z. key z == key x) zs ≡ Some x → least ≤ key x
       below zs least h found = find_all (λ z. least ≤ key z) (λ z. key z == key x) x zs (above least zs h) found
@@ -106,3 +107,29 @@ module _ {X : Type 0} (key : X → ℕ) where
       known : (o : Option X) → find p xs ≡ o → IsAmong xs (find p xs)
       known None e = subst (IsAmong xs) (sym e) tt
       known (Some z) e = subst (IsAmong xs) (sym e) (found low xs z r e)
+
+  pub rises_filter : (p : X → Bool) (low : ℕ) (xs : List X) → Rises low xs → Rises low (filter p xs)
+  rises_filter p low [] r = tt
+  rises_filter p low (x ∷ xs) r =
+      let tail : Rises (key x + 1) (filter p xs) = rises_filter p (key x + 1) xs r.1 in
+      elim (p x) as (λ b. Rises low (cond b (x ∷ filter p xs) (filter p xs))) [ true ↦ (r.0, tail) | false ↦ rises_lower (key x + 1) low (filter p xs) (omega (arith, r.0)) tail ]
+
+  pub rises_pairs : (low : ℕ) (xs : List X) → AllByRecursion (λ x. low ≤ key x) xs → AllPairs (λ a b. key a < key b) xs → Rises low xs
+  rises_pairs low [] all pairs = tt
+  rises_pairs low (x ∷ xs) all pairs = (
+    all.0,
+    rises_pairs (key x + 1) xs
+        (recursion_from_All (λ y. key x + 1 ≤ key y) xs (λ k d lt. later (get_or xs k d) (pairs 0 (suc k) d (omega arith) (omega (arith, lt)))))
+        (λ i j d less within. pairs (suc i) (suc j) d (omega (arith, less)) (omega (arith, within))),
+  )
+    where
+      later : (y : X) → key x < key y → key x + 1 ≤ key y
+      later y lt = omega (arith, lt)
+
+pub rises_map : {X Y : Type 0} (key : Y → ℕ) (f : X → Y) (low : ℕ) (xs : List X) → Rises (λ x. key (f x)) low xs → Rises key low (map f xs)
+rises_map key f low [] r = tt
+rises_map key f low (x ∷ xs) r = (r.0, rises_map key f (key (f x) + 1) xs r.1)
+
+pub all_least : {X : Type 0} (key : X → ℕ) (xs : List X) → AllByRecursion (λ x. 0 ≤ key x) xs
+all_least key [] = tt
+all_least key (x ∷ xs) = (omega arith, all_least key xs)
