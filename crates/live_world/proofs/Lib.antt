@@ -13,3 +13,5 @@ pub mod Owned
 pub mod Ending
 pub mod Walks
 pub mod Numbers
+pub mod Along
+pub mod Cancelled

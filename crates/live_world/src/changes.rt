@@ -7,7 +7,7 @@ ghost use Rattle.tp_model.specs.Changes.{with_callback, loosened as loosened_by,
 ghost use Rattle.tp_model.specs.Waits.{cancelled, covered_of};
 ghost use Rattle.tp_model.specs.Allowed.{IsAllowed, MayBegin};
 ghost use Rattle.live_world.specs.Parts.{priority_byte as priority_byte_of};
-ghost use Rattle.live_world.specs.Live.{moved, became, without_pending};
+ghost use Rattle.live_world.specs.Live.{moved, became, without_callback, without_pending};
 
 use crate::LiveWorld;
 use crate::begun::Begins;
@@ -244,17 +244,28 @@ impl LiveWorld {
         self.barriers.left(callback.number);
     }
 
+    // Cancels a callback if it is pending.
+    fn cancel_if_pending(&mut self, callback: CallbackRow)
+        requires { callback_of self.old.world callback.number ≡ Some callback }
+        ensures { self.new ≡ without_callback self.old callback }
+    {
+        if is_pending(&callback) {
+            self.cancel_callback(callback);
+        }
+    }
+
     // Cancels what is pending of an object, along what is outstanding for it.
     fn cancel_pending(&mut self, object: ObjectId)
         ensures { self.new ≡ without_pending self.old object }
     {
+        self.is_reachable();
         let mut next = self.first_outstanding(object);
         while let Some(callback) = next {
+            self.is_reachable();
             next = self.next_outstanding(&callback);
-            if is_pending(&callback) {
-                self.cancel_callback(callback);
-            }
+            self.cancel_if_pending(callback);
         }
+        self.is_reachable();
     }
 
     // Begins a wait that covers all that is outstanding for the object.

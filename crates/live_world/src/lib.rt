@@ -100,6 +100,7 @@ impl LiveWorld {
     /// What is true of every live world. It does nothing: who calls it knows this.
     pub fn is_reachable(&self)
         ensures sound { IsSound (self.now.made + 1) self.now.world }
+        ensures living { forget self.now.world ≡ self.now.world }
         ensures bounded { IsBounded self.now.world }
     {
         let _ = self.callbacks.len();

@@ -1,7 +1,7 @@
 //! What is outstanding for an object: its callbacks that are pending, and those that run and were
 //! not disassociated from it.
 
-ghost use Rattle.std.specs.Prelude.{◌≡◌, nat_lt, find, filter, length, slice_get, Some, None};
+ghost use Rattle.std.specs.Prelude.{◌≡◌, ◌+◌, ◌<◌, ◌≤◌, if◌then◌else◌, nat_lt, find, filter, length, slice_get, Some, None};
 ghost use Rattle.tp_model.specs.Counts.{has_number};
 ghost use Rattle.tp_model.specs.Waits.{count_outstanding};
 ghost use Rattle.tp_model.specs.Calls.Waits.{count_covered, count_cancelled_by};
@@ -23,6 +23,21 @@ pub struct WaitCounts {
 struct Outstanding {
     all: u32,
     pending: u32,
+}
+
+impl Outstanding {
+    // One callback more.
+    fn with(self, pending: bool) -> Outstanding
+        requires fits { self.all < 65535 }
+        requires within { self.pending ≤ self.all }
+        ensures all { result.all ≡ self.all + 1 }
+        ensures pending { result.pending ≡ self.pending + (if pending then 1 else 0) }
+    {
+        Outstanding {
+            all: self.all + 1,
+            pending: if pending { self.pending + 1 } else { self.pending },
+        }
+    }
 }
 
 impl LiveWorld {
@@ -69,10 +84,7 @@ impl LiveWorld {
         let mut count = Outstanding { all: 0, pending: 0 };
         let mut next = self.first_outstanding(object);
         while let Some(callback) = next {
-            count.all += 1;
-            if is_pending(&callback) {
-                count.pending += 1;
-            }
+            count = count.with(is_pending(&callback));
             next = self.next_outstanding(&callback);
         }
         count

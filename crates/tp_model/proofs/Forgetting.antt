@@ -233,7 +233,7 @@ end_wait_forget fresh room w who None s = refl
 end_wait_forget fresh room w who (Some b) s = ap (end_held (forget w) room who) (all_held_forget fresh w b s) ∙ end_held_forget fresh room w who (held w b) s
 
 -- what lives after a cancellation
-cancel_forget : (q test : CallbackRow → Bool) → IsPendingTest test → ((c : CallbackRow) → lives c ≡ false → q c ≡ false) → (cs : List CallbackRow) → filter q (cancel_where test (filter lives cs)) ≡ filter q (cancel_where test cs)
+pub cancel_forget : (q test : CallbackRow → Bool) → IsPendingTest test → ((c : CallbackRow) → lives c ≡ false → q c ≡ false) → (cs : List CallbackRow) → filter q (cancel_where test (filter lives cs)) ≡ filter q (cancel_where test cs)
 cancel_forget q test only over [] = refl
 cancel_forget q test only over (c ∷ cs) =
     elim (lives c) as (λ t. lives c ≡ t → filter q (cancel_where test (cond t (c ∷ filter lives cs) (filter lives cs))) ≡ filter q (cancelled_if test c ∷ cancel_where test cs)) [
