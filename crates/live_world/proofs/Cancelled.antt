@@ -18,7 +18,7 @@ use Rattle.tp_model.proofs.Callbacks.{found_all, filter_replaced_out}
 use Rattle.tp_model.proofs.Cancelling.{IsPendingTest, cancelled_pending, cancelled_if}
 use Rattle.tp_model.proofs.Forgetting.{cancel_forget, over_not_outstanding, over_not_covered, over_not_cancelled}
 use Rattle.tp_model.proofs.Refusals.{both, false_true, and_false}
-use Rattle.live_world.specs.Live.{Live, became, without_pending}
+use Rattle.live_world.specs.Live.{Live, became, without_callback, without_pending}
 use Rattle.live_world.specs.Waiting.{outstanding_of}
 use Rattle.live_world.specs.Invariant.{waits, waits_or_runs}
 use Rattle.live_world.proofs.Lists.{all_along}
@@ -251,3 +251,20 @@ cancels_one object fresh start now c rising k =
     fewer_left : (o : Option CallbackRow) → length (rest number_of (filter keep ys) o) ≤ length (rest number_of ys o)
     fewer_left None = omega arith
     fewer_left (Some d) = fewer_twice (λ (y : CallbackRow). nat_le d.number y.number) keep ys
+
+-- one of them is cancelled if it is pending
+pub record GoesOn (object : ObjectId) (start now new : Live) (c : CallbackRow) (before next : Option CallbackRow) : Type 0 where
+  pub holds : Cancelling object start new next
+  pub smaller : length (rest number_of (outstanding_of new.world object) next) < length (rest number_of (outstanding_of now.world object) before)
+
+pub goes_on : (object : ObjectId) (fresh : ℕ) (start now new : Live) (c : CallbackRow) (before next : Option CallbackRow) → IsRising 1 fresh now.world.callbacks → before ≡ Some c → Cancelling object start now before
+    → next ≡ find (λ (x : CallbackRow). nat_lt c.number x.number) (outstanding_of now.world c.object) → new ≡ without_callback now c → GoesOn object start now new c before next
+goes_on object fresh start now new c before next rising is k found becomes =
+    subst (λ o. GoesOn object start now new c o next) (sym is)
+    (elim (is_pending c.status) as (λ b. is_pending c.status ≡ b → new ≡ cond b (became now (with_callback now.world (cancelled c))) now → GoesOn object start now new c (Some c) next) [
+      | true ↦ λ pends now_new. record { holds = one.gone next new found pends now_new; smaller = one.gone_less next new found now_new }
+      | false ↦ λ still same. subst (λ l. GoesOn object start now l c (Some c) next) (sym same) (record { holds = one.passed next found still; smaller = one.passed_less next found })
+    ] refl becomes)
+  where
+    one : CancelsOne object start now c
+    one = cancels_one object fresh start now c rising (subst (Cancelling object start now) is k)

@@ -15,3 +15,4 @@ pub mod Walks
 pub mod Numbers
 pub mod Along
 pub mod Cancelled
+pub mod Beginnings

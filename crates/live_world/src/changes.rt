@@ -1,10 +1,10 @@
 //! The changes of a live world: here alone its parts change, so that what each index and counter is
 //! for stays true.
 
-ghost use Rattle.std.specs.Prelude.{◌≡◌, ◌+◌, ◌^◌, ◌<◌, map, true, Some};
+ghost use Rattle.std.specs.Prelude.{◌≡◌, ◌+◌, ◌^◌, ◌<◌, [], filter, true, Some};
 ghost use Rattle.tp_model.specs.Counts.{callback_of, is_pending as is_pending_by};
 ghost use Rattle.tp_model.specs.Changes.{with_callback, loosened as loosened_by, begin_wait};
-ghost use Rattle.tp_model.specs.Waits.{cancelled, covered_of};
+ghost use Rattle.tp_model.specs.Waits.{cancelled, is_cancelled_by};
 ghost use Rattle.tp_model.specs.Allowed.{IsAllowed, MayBegin};
 ghost use Rattle.live_world.specs.Parts.{priority_byte as priority_byte_of};
 ghost use Rattle.live_world.specs.Live.{moved, became, without_callback, without_pending};
@@ -52,8 +52,6 @@ fn loosened(status: Status) -> Status
 }
 
 impl LiveWorld {
-    ghost use Rattle.live_world.specs.Waiting.{outstanding_of};
-
     /// Makes a change that the world allows. It takes no memory.
     pub fn apply(&mut self, change: Change)
         requires allowed { IsAllowed (self.old.made + 1) self.old.world change }
@@ -75,11 +73,7 @@ impl LiveWorld {
                 who,
                 target,
                 cancel,
-            } => self.begin_wait(Begins {
-                who,
-                target,
-                cancel,
-            }),
+            } => self.begin_wait(who, target, cancel),
             Change::EndWait { who, how } => self.end_wait(who, how),
             Change::Finish { client } => self.finish(client),
         }
@@ -269,32 +263,37 @@ impl LiveWorld {
     }
 
     // Begins a wait that covers all that is outstanding for the object.
-    fn cover_outstanding(&mut self, begins: Begins, object: ObjectId)
-        requires target { begins.target ≡ WaitTarget.Object object }
-        requires allowed { MayBegin self.old.world begins.who begins.target }
-        requires settled { covered_of begins.target begins.cancel self.old.world.callbacks ≡ map (λ c. c.number) (outstanding_of self.old.world object) }
-        ensures { self.new ≡ became self.old (begin_wait self.old.world begins.who begins.target begins.cancel self.old.world.callbacks) }
+    fn cover_outstanding(&mut self, who: Who, object: ObjectId, cancel: bool)
+        requires allowed { MayBegin self.old.world who (WaitTarget.Object object) }
+        requires settled { filter (is_cancelled_by (WaitTarget.Object object) cancel) self.old.world.callbacks ≡ [] }
+        ensures { self.new ≡ became self.old (begin_wait self.old.world who (WaitTarget.Object object) cancel self.old.world.callbacks) }
     {
         let _ = self.outstanding.len();
-        let Some(waiter) = self.waiter(begins.who) else {
+        let Some(waiter) = self.waiter(who) else {
             unreachable!()
         };
         begin_covering(&mut self.barriers, waiter, &self.outstanding, object.0);
+        let begins = Begins {
+            who,
+            target: WaitTarget::Object(object),
+            cancel,
+        };
         self.waits = self.waits.and(&begins, &self.callbacks);
     }
 
     // Begins a wait of an actor. With cancel, what is pending is cancelled first.
-    fn begin_wait(&mut self, begins: Begins)
-        requires { IsAllowed (self.old.made + 1) self.old.world (Change.BeginWait begins.who begins.target begins.cancel) }
-        ensures { self.new ≡ moved self.old (Change.BeginWait begins.who begins.target begins.cancel) }
+    fn begin_wait(&mut self, who: Who, target: WaitTarget, cancel: bool)
+        requires { IsAllowed (self.old.made + 1) self.old.world (Change.BeginWait who target cancel) }
+        ensures { self.new ≡ moved self.old (Change.BeginWait who target cancel) }
     {
-        let WaitTarget::Object(object) = begins.target else {
+        let WaitTarget::Object(object) = target else {
             unreachable!()
         };
-        if begins.cancel {
+        self.is_reachable();
+        if cancel {
             self.cancel_pending(object);
         }
-        self.cover_outstanding(begins, object);
+        self.cover_outstanding(who, object, cancel);
     }
 
     // Ends the wait that an actor has begun.

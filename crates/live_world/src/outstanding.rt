@@ -96,6 +96,7 @@ impl LiveWorld {
         ensures covered { result.covered ≡ count_covered self.now.world (WaitTarget.Object object) cancel }
         ensures cancelled { result.cancelled ≡ count_cancelled_by self.now.world (WaitTarget.Object object) cancel }
     {
+        let _ = &self.limits;
         let count = self.count_outstanding(object);
         if cancel {
             WaitCounts {
