@@ -15,14 +15,17 @@ use Rattle.tp_model.specs.Counts.{has_number, is_pending, is_running}
 use Rattle.tp_model.specs.Changes.{new_wait, begin_wait}
 use Rattle.tp_model.specs.Sound.{IsSound, IsRising}
 use Rattle.tp_model.specs.Allowed.{MayBegin}
+use Rattle.tp_base.specs.declared.plans.Change.TheVariants as change
+use Rattle.tp_model.specs.Remembered.{lives, forget}
+use Rattle.tp_model.proofs.Forgetting.{over_not_covered, over_not_cancelled}
 use Rattle.tp_model.specs.Waits.{is_held_for, is_outstanding_for, is_cancelled_by, is_covered_by, cancelled, cancel_where, covered_of}
-use Rattle.tp_model.proofs.Lists.{all_filter, filter_agree}
+use Rattle.tp_model.proofs.Lists.{all_filter, filter_filter}
 use Rattle.tp_model.proofs.Callbacks.{found_bounds}
 use Rattle.tp_model.proofs.Preserving.{sound_begin_wait}
 use Rattle.tp_model.proofs.Refusals.{and_false, or_true}
 use Rattle.live_world.specs.declared.begun.BegunWaits.{BegunWaits}
 use Rattle.live_world.specs.declared.LiveWorld.TheInside.{Inside}
-use Rattle.live_world.specs.Live.{Live, became}
+use Rattle.live_world.specs.Live.{Live, moved, became, settled}
 use Rattle.live_world.specs.Parts.{place_of, is_held_among, held_among}
 use Rattle.live_world.specs.View.{shown, IsLiveWorld}
 use Rattle.live_world.specs.Invariant.{AreCovered, waits, waits_or_runs}
@@ -209,3 +212,39 @@ begun_by i l who object cancel place barriers begun is k may settled at barriers
               (covered_begun (i.made + 1) place b at may_here.none held tt made k.covered));
         }) in
     record { keeps = r.keeps; becomes = r.becomes ∙ ap (λ (x : Live). became x (begin_wait x.world who (Object object) cancel x.world.callbacks)) is }
+
+-- ---- what a begun wait comes to
+
+nothing_left : (object : ObjectId) (cancel : Bool) (cs : List CallbackRow) → filter (is_cancelled_by (Object object) cancel) (cancel_where (is_cancelled_by (Object object) cancel) cs) ≡ []
+nothing_left object cancel [] = refl
+nothing_left object cancel (c ∷ cs) =
+    let test : CallbackRow → Bool = is_cancelled_by (Object object) cancel in
+    ap (λ b. cond b (cond (test c) (cancelled c) c ∷ filter test (cancel_where test cs)) (filter test (cancel_where test cs)))
+    (elim (test c) as (λ b. test c ≡ b → test (cond b (cancelled c) c) ≡ false) [ true ↦ λ _. and_false cancel | false ↦ λ e. e ] refl)
+    ∙ nothing_left object cancel cs
+
+pub all_settled : (l m : Live) (object : ObjectId) (cancel : Bool) → m ≡ settled l object cancel → filter (is_cancelled_by (Object object) cancel) m.world.callbacks ≡ []
+all_settled l m object cancel is =
+    let kept : List CallbackRow = cancel_where (is_cancelled_by (Object object) cancel) l.world.callbacks in
+    ap (λ (x : Live). filter (is_cancelled_by (Object object) cancel) x.world.callbacks) is
+    ∙ filter_filter (is_cancelled_by (Object object) cancel) lives (over_not_cancelled (Object object) cancel) kept
+    ∙ nothing_left object cancel l.world.callbacks
+
+pub may_settled : (l m : Live) (who : Who) (object : ObjectId) (cancel : Bool) → m ≡ settled l object cancel → MayBegin l.world who (Object object) → MayBegin m.world who (Object object)
+may_settled l m who object cancel is a =
+    subst (λ (x : Live). MayBegin x.world who (Object object)) (sym is) (record { actor = a.actor; none = a.none; object = a.object; made = a.made })
+
+-- to cancel and then to begin is the whole change
+pub begins : (l m : Live) (who : Who) (object : ObjectId) (cancel : Bool) → m ≡ settled l object cancel → became m (begin_wait m.world who (Object object) cancel m.world.callbacks) ≡ moved l (change.BeginWait who (Object object) cancel)
+begins l m who object cancel is =
+    let kept : List CallbackRow = cancel_where (is_cancelled_by (Object object) cancel) l.world.callbacks in
+    ap (λ (x : Live). became x (begin_wait x.world who (Object object) cancel x.world.callbacks)) is
+    ∙ ap₂ (λ cs (ns : List ℕ). record { world = record l.world { callbacks = cs; waits = l.world.waits ++ (record { actor = who; target = Object object; covered = ns; notices = []; cleanup = 0 }) ∷ [] }; made = l.made })
+    (filter_filter lives lives (λ _ e. e) kept)
+    (ap (map number_of) (filter_filter (is_covered_by (Object object) cancel) lives (over_not_covered (Object object) cancel) kept))
+    ∙ ap (λ n. record { world = forget (begin_wait l.world who (Object object) cancel kept); made = n }) (omega arith)
+
+pub not_settled : (l : Live) (object : ObjectId) → forget l.world ≡ l.world → l ≡ settled l object false
+not_settled l object living =
+    ap (λ w. record { world = w; made = l.made }) (sym living)
+    ∙ ap (λ cs. became l (record l.world { callbacks = cs })) (sym (none_where l.world.callbacks (is_cancelled_by (Object object) false) (none_passes (is_cancelled_by (Object object) false) l.world.callbacks (cancels_none object l.world.callbacks))))

@@ -1,9 +1,9 @@
 -- What begun waits hold, as callbacks change and as waits begin and end.
-use Rattle.std.proofs.Common.{◌≡◌, ◌≢◌, ℕ, suc, zero, ◌+◌, ◌-◌, ◌<◌, ◌≤◌, Bool, true, false, cond, not, ◌&&◌, ◌||◌, ◌==◌, List, [], ◌∷◌, ◌++◌, length, map, nat_le, get_or, slice_set, Option, Some, None, is_some, is_none, refl, sym, ap, ap₂, ◌∙◌, subst, arith, filter, find, option_map, eqb-true, eq-eqb, ne_eqb, length-set, get_or-set_same, get_or-set_other}
+use Rattle.std.proofs.Common.{◌≡◌, ◌≢◌, ℕ, suc, zero, ◌+◌, ◌-◌, ◌<◌, ◌≤◌, Bool, true, false, cond, not, ◌&&◌, ◌||◌, ◌==◌, List, [], ◌∷◌, ◌++◌, length, map, nat_le, get_or, slice_get, slice_set, Option, Some, None, is_some, is_none, refl, sym, ap, ap₂, ◌∙◌, subst, arith, filter, find, option_map, eqb-true, eq-eqb, ne_eqb, length-set, get_or-set_same, get_or-set_other}
 use Rattle.std.specs.List.{AllByRecursion, list_any}
 use Rattle.std.specs.Option.{option_map_or}
 use Rattle.std.proofs.lemmas.List.{length-map}
-use Rattle.std.proofs.lemmas.Bool.{leb-true}
+use Rattle.std.proofs.lemmas.Bool.{leb-true, le-leb}
 use Rattle.tp_base.specs.declared.ids.Who.{Who}
 use Rattle.tp_base.specs.declared.ids.Who.TheVariants.{Client, Worker}
 use Rattle.tp_base.specs.declared.ids.ObjectId.{ObjectId}
@@ -14,8 +14,8 @@ use Rattle.tp_base.specs.declared.rows.WaitTarget.TheVariants.{Object, Group, Ke
 use Rattle.cancel_wait.specs.Rising.{all_but}
 use Rattle.cancel_wait.specs.Covers.{Covers, wait_of, with_wait}
 use Rattle.tp_model.specs.World.{BegunWait}
-use Rattle.tp_model.specs.Counts.{has_number}
-use Rattle.tp_model.specs.Conditions.{is_same_actor}
+use Rattle.tp_model.specs.Counts.{has_number, numbered}
+use Rattle.tp_model.specs.Conditions.{is_actor, is_same_actor}
 use Rattle.tp_model.specs.Changes.{replaced}
 use Rattle.tp_model.specs.Sound.{IsRising}
 use Rattle.tp_model.specs.Allowed.{IsObjectTarget}
@@ -24,11 +24,11 @@ use Rattle.tp_model.specs.Waits.{is_outstanding_for}
 use Rattle.tp_model.proofs.Lists.{all_append, all_filter, find_all, find_passes}
 use Rattle.tp_model.proofs.Callbacks.{find_replaced, find_replaced_other}
 use Rattle.tp_model.proofs.Forgetting.{over_forget, over_not_outstanding}
-use Rattle.tp_model.proofs.Refusals.{false_true, both, neither, and_false, same_actor_is, is_own_actor}
-use Rattle.live_world.specs.Parts.{is_tied, is_held_among, held_among, wait_among, place_within, place_of}
+use Rattle.tp_model.proofs.Refusals.{made, false_true, both, neither, and_false, same_actor_is, is_own_actor}
+use Rattle.live_world.specs.Parts.{shown_worker, is_tied, is_held_among, held_among, wait_among, place_within, place_of}
 use Rattle.live_world.specs.Invariant.{AreCovered, IsWaitKept}
 use Rattle.live_world.specs.Live.{Live}
-use Rattle.live_world.specs.View.{shown}
+use Rattle.live_world.specs.View.{shown, IsLiveWorld}
 use Rattle.live_world.specs.declared.LiveWorld.TheInside.{Inside}
 use Rattle.live_world.proofs.Lists.{all_along}
 use Rattle.live_world.proofs.Listed.{held_alike}
@@ -321,3 +321,37 @@ module _ {limits : Limits} {cs : List CallbackRow} {waits : List BegunWait} {bar
                 elsewhere other e bs ∙ sym (ap (λ t. cond t (Some x) (wait_among bs other)) apart)
             | false ↦ λ _. ap (λ t. cond (is_same_actor x.actor other) (Some x) t) (elsewhere other e bs)
           ] refl
+
+-- the barrier of an actor that has begun no wait
+pub idle_there : {limits : Limits} {cs : List CallbackRow} {waits : List BegunWait} {barriers : Covers} (fresh : ℕ) (who : Who) (place : ℕ) → place_of limits who ≡ Some place → list_any (λ (b : BegunWait). is_same_actor b.actor who) waits ≡ false
+    → AreCovered limits fresh cs waits barriers → wait_of barriers place ≡ None
+idle_there {cs = cs} {waits = waits} fresh who place at none k = k.covered who place at ∙ ap (option_map (held_among cs)) (none_found (λ (b : BegunWait). is_same_actor b.actor who) waits none)
+
+-- a row of this number is within the rows
+pub number_most : {X : Type 0} (rows : List X) (number : ℕ) → is_some (numbered rows number) ≡ true → (1 ≤ number) × (number ≤ length rows)
+number_most rows number there =
+    elim (number == 0) as (λ b. (number == 0) ≡ b → is_some (cond b None (slice_get rows (number - 1))) ≡ true → (1 ≤ number) × (number ≤ length rows)) [
+      | true ↦ λ _ h. absurd (false_true h)
+      | false ↦ λ e h.
+          let positive : number ≢ 0 = λ z. false_true (sym e ∙ eq-eqb number 0 z) in
+          let within : number - 1 < length rows = made rows (number - 1) h in
+          (omega (arith, positive), omega (arith, within, positive))
+    ] refl there
+
+within_place : (first count number : ℕ) → 1 ≤ number → number ≤ count → place_within first count number ≡ None → ⊥
+within_place first count number least most none =
+    let some : place_within first count number ≡ Some (first + (number - 1)) = ap₂ (λ a b. cond (a && b) (Some (first + (number - 1))) None) (le-leb 1 number least) (le-leb number count most) in
+    absurd cc
+
+-- an actor of the machine has a place
+pub actor_somewhere : (i : Inside) (who : Who) → IsLiveWorld i → is_actor (shown i).world who ≡ true → place_of i.limits who ≡ None → ⊥
+actor_somewhere i (Client n) k acts none =
+    let within = number_most i.clients.items n (or_nothing (is_some (numbered i.clients.items n)) acts) in
+    within_place 0 i.limits.clients n within.0 (omega (arith, within.1, k.sized.client_count)) none
+  where
+    or_nothing : (b : Bool) → (b || false) ≡ true → b ≡ true
+    or_nothing true e = refl
+    or_nothing false e = e
+actor_somewhere i (Worker n) k acts none =
+    let within = number_most (map shown_worker i.pools.workers) n acts in
+    within_place i.limits.clients i.limits.workers n within.0 (omega (arith, within.1, length-map i.pools.workers shown_worker, k.sized.worker_count)) none

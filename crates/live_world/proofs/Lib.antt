@@ -16,3 +16,4 @@ pub mod Numbers
 pub mod Along
 pub mod Cancelled
 pub mod Beginnings
+pub mod Seeking

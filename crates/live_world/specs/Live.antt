@@ -1,5 +1,5 @@
 -- What a live world is seen as, and what it is after a change.
-use Rattle.std.specs.Prelude.{ℕ, ◌+◌, true, if◌then◌else◌}
+use Rattle.std.specs.Prelude.{ℕ, ◌+◌, Bool, true, if◌then◌else◌}
 use Rattle.tp_base.specs.declared.ids.ObjectId.{ObjectId}
 use Rattle.tp_base.specs.declared.rows.WaitTarget.TheVariants.{Object}
 use Rattle.tp_base.specs.declared.plans.Change.{Change}
@@ -23,9 +23,12 @@ moved l change = record { world = forget (changed l.world change); made = l.made
 abbrev pub became : Live → World → Live
 became l w = record { world = forget w; made = l.made }
 
--- the pending callbacks of an object cancelled
+-- the pending callbacks of an object cancelled, if so it is asked
+abbrev pub settled : Live → ObjectId → Bool → Live
+settled l object cancel = became l (record l.world { callbacks = cancel_where (is_cancelled_by (Object object) cancel) l.world.callbacks })
+
 abbrev pub without_pending : Live → ObjectId → Live
-without_pending l object = became l (record l.world { callbacks = cancel_where (is_cancelled_by (Object object) true) l.world.callbacks })
+without_pending l object = settled l object true
 
 -- a callback cancelled if it is pending
 abbrev pub without_callback : Live → CallbackRow → Live

@@ -7,7 +7,7 @@ ghost use Rattle.tp_model.specs.Changes.{with_callback, loosened as loosened_by,
 ghost use Rattle.tp_model.specs.Waits.{cancelled, is_cancelled_by};
 ghost use Rattle.tp_model.specs.Allowed.{IsAllowed, MayBegin};
 ghost use Rattle.live_world.specs.Parts.{priority_byte as priority_byte_of};
-ghost use Rattle.live_world.specs.Live.{moved, became, without_callback, without_pending};
+ghost use Rattle.live_world.specs.Live.{moved, became, without_callback, without_pending, settled};
 
 use crate::LiveWorld;
 use crate::begun::Begins;
@@ -262,6 +262,16 @@ impl LiveWorld {
         self.is_reachable();
     }
 
+    // With cancel, cancels what is pending of an object.
+    fn settle(&mut self, object: ObjectId, cancel: bool)
+        ensures { self.new ≡ settled self.old object cancel }
+    {
+        self.is_reachable();
+        if cancel {
+            self.cancel_pending(object);
+        }
+    }
+
     // Begins a wait that covers all that is outstanding for the object.
     fn cover_outstanding(&mut self, who: Who, object: ObjectId, cancel: bool)
         requires allowed { MayBegin self.old.world who (WaitTarget.Object object) }
@@ -289,10 +299,7 @@ impl LiveWorld {
         let WaitTarget::Object(object) = target else {
             unreachable!()
         };
-        self.is_reachable();
-        if cancel {
-            self.cancel_pending(object);
-        }
+        self.settle(object, cancel);
         self.cover_outstanding(who, object, cancel);
     }
 
