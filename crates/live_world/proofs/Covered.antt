@@ -221,7 +221,7 @@ pub not_found : {X : Type 0} (p : X → Bool) (xs : List X) → not (list_any p 
 not_found p [] = refl
 not_found p (x ∷ xs) = elim (p x) as (λ b. not (b || list_any p xs) ≡ is_none (cond b (Some x) (find p xs))) [ true ↦ refl | false ↦ not_found p xs ]
 
-none_found : {X : Type 0} (p : X → Bool) (xs : List X) → list_any p xs ≡ false → find p xs ≡ None
+pub none_found : {X : Type 0} (p : X → Bool) (xs : List X) → list_any p xs ≡ false → find p xs ≡ None
 none_found p [] none = refl
 none_found p (x ∷ xs) none = let h = neither (p x) (list_any p xs) none in ap (λ b. cond b (Some x) (find p xs)) h.0 ∙ none_found p xs h.1
 

@@ -1,12 +1,12 @@
 -- What a wait holds, gone along.
-use Rattle.std.proofs.Common.{◌≡◌, ℕ, ◌+◌, ◌<◌, ◌≤◌, Bool, true, false, cond, ◌&&◌, ◌||◌, ◌==◌, List, [], ◌∷◌, length, nat_lt, slice_get, Option, Some, None, refl, sym, ap, ap₂, ◌∙◌, subst, arith, find, option_map, unwrap_or, le-ltb}
+use Rattle.std.proofs.Common.{◌≡◌, ℕ, ◌+◌, ◌<◌, ◌≤◌, Bool, true, false, cond, not, ◌&&◌, ◌||◌, ◌==◌, List, [], ◌∷◌, length, nat_lt, slice_get, Option, Some, None, is_some, is_none, refl, sym, ap, ap₂, ◌∙◌, subst, arith, find, option_map, unwrap_or, le-ltb}
 use Rattle.std.specs.List.{list_any}
 use Rattle.std.specs.List.Sorted.{IsStrictlyIncreasing}
 use Rattle.std.specs.Option.{option_map_or}
 use Rattle.std.proofs.lemmas.List.Kept.{AllPairs-from_increasing}
 use Rattle.tp_base.specs.declared.ids.Who.{Who}
 use Rattle.tp_base.specs.declared.rows.CallbackRow.{CallbackRow}
-use Rattle.cancel_wait.specs.Covers.{covered_of}
+use Rattle.cancel_wait.specs.Covers.{covered_of, wait_of as barrier_of}
 use Rattle.tp_model.specs.World.{World, BegunWait}
 use Rattle.tp_model.specs.Counts.{attached, callback_of, is_pending}
 use Rattle.tp_model.specs.Waits.{held, wait_of}
@@ -16,7 +16,10 @@ use Rattle.live_world.specs.declared.LiveWorld.TheInside.{Inside}
 use Rattle.live_world.specs.Live.{Live}
 use Rattle.live_world.specs.Parts.{place_of}
 use Rattle.live_world.specs.View.{shown, IsLiveWorld}
-use Rattle.live_world.specs.Waiting.{held_by}
+use Rattle.live_world.specs.Waiting.{held_by, progress_with, progress_in, progress_of}
+use Rattle.live_world.specs.declared.waits.Progress.TheVariants.{NotBegun, Free, Starved, Holds}
+use Rattle.tp_model.specs.Conditions.{is_same_actor}
+use Rattle.live_world.proofs.Covered.{not_found, none_found, begun_there, no_stranger}
 use Rattle.live_world.proofs.Walks.{Rises, rest, IsAmong, rises_pairs, all_least, rest_first, first_among, rest_next, found_among}
 use Rattle.live_world.proofs.Numbers.{itself}
 
@@ -76,3 +79,38 @@ seeks w room ns number next is k =
         rises = k.rises;
       };
     }
+
+-- ---- how far a wait has come
+
+-- the actor has begun no wait
+pub not_begun : (w : World) (room : ℕ) (who : Who) → list_any (λ (b : BegunWait). is_same_actor b.actor who) w.waits ≡ false → NotBegun ≡ progress_of w room who
+not_begun w room who none = sym (ap (progress_in w room) (none_found (λ (b : BegunWait). is_same_actor b.actor who) w.waits none))
+
+-- or it has, and this is what its wait holds
+begun_one : (w : World) (room : ℕ) (who : Who) → list_any (λ (b : BegunWait). is_same_actor b.actor who) w.waits ≡ true → progress_with w room (held_by w who) ≡ progress_of w room who
+begun_one w room who some = known (wait_of w who) (sym (not_found (λ (b : BegunWait). is_same_actor b.actor who) w.waits) ∙ ap not some)
+  where
+    known : (o : Option BegunWait) → is_none o ≡ false → progress_with w room (option_map_or (held w) o []) ≡ progress_in w room o
+    known None e = absurd cc
+    known (Some b) e = refl
+
+pub begun_free : (w : World) (room : ℕ) (who : Who) (has : List ℕ) (first : Option ℕ) → list_any (λ (b : BegunWait). is_same_actor b.actor who) w.waits ≡ true → has ≡ held_by w who → first ≡ slice_get has 0 → first ≡ None → Free ≡ progress_of w room who
+begun_free w room who has first some same is none = of_list has (sym is ∙ none) ∙ ap (progress_with w room) same ∙ begun_one w room who some
+  where
+    of_list : (ns : List ℕ) → slice_get ns 0 ≡ None → Free ≡ progress_with w room ns
+    of_list [] e = refl
+    of_list (n ∷ ns) e = absurd cc
+
+pub begun_holds : (w : World) (room : ℕ) (who : Who) (has : List ℕ) (first : Option ℕ) (number : ℕ) → list_any (λ (b : BegunWait). is_same_actor b.actor who) w.waits ≡ true → has ≡ held_by w who → first ≡ slice_get has 0 → first ≡ Some number
+    → cond (holds_starved w room (held_by w who)) Starved (Holds number) ≡ progress_of w room who
+begun_holds w room who has first number some same is at = of_list (held_by w who) (ap (λ ns. slice_get ns 0) (sym same) ∙ sym is ∙ at) ∙ begun_one w room who some
+  where
+    of_list : (ns : List ℕ) → slice_get ns 0 ≡ Some number → cond (holds_starved w room ns) Starved (Holds number) ≡ progress_with w room ns
+    of_list [] e = absurd cc
+    of_list (n ∷ ns) e = let same_number : number ≡ n = cc in ap (λ m. cond (holds_starved w room (n ∷ ns)) Starved (Holds m)) same_number
+
+pub begun_is : (i : Inside) (l : Live) (who : Who) (place : ℕ) (begun : Bool) → shown i ≡ l → IsLiveWorld i → place_of i.limits who ≡ Some place → begun ≡ is_some (barrier_of i.barriers place) → begun ≡ list_any (λ (b : BegunWait). is_same_actor b.actor who) l.world.waits
+begun_is i l who place begun is k at says = says ∙ begun_there (i.made + 1) who place at k.covered ∙ ap (λ (x : Live). list_any (λ (b : BegunWait). is_same_actor b.actor who) x.world.waits) is
+
+pub stranger : (i : Inside) (l : Live) (who : Who) → shown i ≡ l → IsLiveWorld i → place_of i.limits who ≡ None → list_any (λ (b : BegunWait). is_same_actor b.actor who) l.world.waits ≡ false
+stranger i l who is k nowhere = ap (λ (x : Live). list_any (λ (b : BegunWait). is_same_actor b.actor who) x.world.waits) (sym is) ∙ no_stranger i.limits i.waits.waits (i.made + 1) who nowhere k.covered.waits_kept

@@ -111,6 +111,7 @@ impl LiveWorld {
     pub fn progress(&self, who: Who, room: u64) -> Progress
         ensures { result ≡ progress_of self.now.world room who }
     {
+        let _ = &self.limits;
         let Some(waiter) = self.waiter(who) else {
             return Progress::NotBegun;
         };
