@@ -1,7 +1,8 @@
 -- What is listed for objects, as callbacks change.
-use Rattle.std.proofs.Common.{◌≡◌, ℕ, ◌≤◌, Bool, true, false, cond, not, ◌==◌, List, [], ◌∷◌, ◌++◌, map, Some, refl, sym, ap, ap₂, ◌∙◌, subst, filter, find}
+use Rattle.std.proofs.Common.{◌≡◌, ℕ, ◌<◌, ◌≤◌, Bool, true, false, cond, not, ◌==◌, List, [], ◌∷◌, ◌++◌, length, map, Some, refl, sym, ap, ap₂, ◌∙◌, subst, arith, filter, find}
 use Rattle.std.specs.List.{AllByRecursion}
-use Rattle.std.proofs.lemmas.List.{map-append}
+use Rattle.std.proofs.lemmas.List.{map-append, length-map}
+use Rattle.std.proofs.lemmas.List.Sums.{length-filter, count_by-le-length}
 use Rattle.std.proofs.lemmas.List.Elements.{filter-append}
 use Rattle.tp_base.specs.declared.ids.ObjectId.{ObjectId}
 use Rattle.tp_base.specs.declared.limits.Limits.{Limits}
@@ -117,3 +118,15 @@ module _ {limits : Limits} {objects : ℕ} {cs : List CallbackRow} {outstanding 
         listed = k.listed ∙ ap (map tied_entry) (sym (filter_filter is_tied lives over_untied cs));
         objects_made = all_filter (λ (x : CallbackRow). x.object.0 ≤ objects) lives cs k.objects_made;
       }
+
+  -- no more are listed than are kept
+  pub listed_few : AreListed limits objects cs outstanding → length outstanding.entries ≤ length cs
+  listed_few k = omega (arith, ap length k.listed, length-map (filter is_tied cs) tied_entry, length-filter is_tied cs, count_by-le-length is_tied cs)
+
+  -- and their numbers are among those that are kept
+  pub listed_below : (bound : ℕ) → AllByRecursion (λ (c : CallbackRow). c.number < bound) cs → AreListed limits objects cs outstanding → AllByRecursion (λ (e : Entry). e.number < bound) outstanding.entries
+  listed_below bound below k = subst (AllByRecursion (λ (e : Entry). e.number < bound)) (sym k.listed) (each (filter is_tied cs) (all_filter (λ (c : CallbackRow). c.number < bound) is_tied cs below))
+    where
+      each : (ds : List CallbackRow) → AllByRecursion (λ (c : CallbackRow). c.number < bound) ds → AllByRecursion (λ (e : Entry). e.number < bound) (map tied_entry ds)
+      each [] all = tt
+      each (d ∷ ds) all = (all.0, each ds all.1)
