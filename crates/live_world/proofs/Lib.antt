@@ -1,3 +1,4 @@
+pub mod Listed
 pub mod Lists
 pub mod Entries
 pub mod Queued
@@ -5,5 +6,14 @@ pub mod Tallied
 pub mod Alive
 pub mod Moving
 pub mod Counting
+pub mod Covered
 pub mod Using
 pub mod Opening
+pub mod Owned
+pub mod Ending
+pub mod Walks
+pub mod Numbers
+pub mod Along
+pub mod Cancelled
+pub mod Beginnings
+pub mod Seeking

@@ -1,12 +1,12 @@
 -- What the parts show after each change, and that they keep their invariant.
-use Rattle.std.proofs.Common.{◌≡◌, ◌≢◌, ℕ, ◌+◌, ◌-◌, ◌<◌, ◌≤◌, Bool, true, false, cond, not, ◌||◌, ◌==◌, List, [], ◌∷◌, ◌++◌, length, map, slice_get, slice_set, Option, Some, None, refl, sym, ap, ap₂, ◌∙◌, subst, arith, filter, find, option_map, ne_eqb, length-set}
-use Rattle.std.proofs.lemmas.List.{map-set}
+use Rattle.std.proofs.Common.{◌≡◌, ◌≢◌, ℕ, ◌+◌, ◌-◌, ◌<◌, ◌≤◌, Bool, true, false, cond, not, ◌&&◌, ◌||◌, ◌==◌, List, [], ◌∷◌, ◌++◌, length, map, slice_get, slice_set, Option, Some, None, refl, sym, ap, ap₂, ◌∙◌, subst, arith, filter, find, option_map, ne_eqb, length-set}
+use Rattle.std.proofs.lemmas.List.{map-set, length-map}
 use Rattle.std.proofs.lemmas.Option.{slice_get-map}
 use Rattle.tp_base.specs.declared.ids.PoolId.{PoolId}
 use Rattle.tp_base.specs.declared.limits.Limits.{Limits}
 use Rattle.tp_base.specs.declared.plans.Idle.{Idle}
 use Rattle.tp_base.specs.declared.plans.Busy.{Busy}
-use Rattle.tp_base.specs.declared.plans.Mark.TheVariants.{Long}
+use Rattle.tp_base.specs.declared.plans.Mark.TheVariants.{Long, Loose}
 use Rattle.tp_base.specs.declared.plans.Change.{Change}
 use Rattle.tp_base.specs.declared.plans.Change.TheVariants as change
 use Rattle.tp_base.specs.declared.rows.CallbackRow.{CallbackRow}
@@ -18,68 +18,86 @@ use Rattle.prio_queue.specs.Pending.{Pending, queue_of, with_queue, without_numb
 use Rattle.pool_rows.specs.Pools.{Pools, with_worker as with_kept_worker}
 use Rattle.pool_rows.specs.Workers.{idle_in, unattached as unattached_row}
 use Rattle.pool_rows.specs.declared.WorkerRow as kept
-use Rattle.tp_model.specs.World.{World}
-use Rattle.tp_model.specs.Counts.{has_number, is_pending, is_running, is_live}
-use Rattle.tp_model.specs.Changes.{changed, replaced, taken, marked, returned}
+use Rattle.keyed_lists.specs.Keyed.{Keyed, Entry}
+use Rattle.cancel_wait.specs.Rising.{all_but}
+use Rattle.cancel_wait.specs.Covers.{Covers}
+use Rattle.tp_base.specs.declared.rows.Status.TheVariants.{Running}
+use Rattle.tp_base.specs.declared.rows.WaitTarget.TheVariants as target
+use Rattle.tp_model.specs.World.{World, BegunWait}
+use Rattle.tp_model.specs.Counts.{has_number, callback_of, is_pending, is_running, is_live}
+use Rattle.tp_model.specs.Changes.{changed, replaced, with_callback, taken, loosened, marked, returned}
+use Rattle.tp_model.specs.Waits.{is_held_for, cancelled}
 use Rattle.tp_model.specs.Allowed.{IsAllowed, Runs, news}
 use Rattle.tp_model.specs.Sound.{IsSound, IsRising}
 use Rattle.tp_model.specs.Remembered.{lives, forget}
 use Rattle.tp_model.proofs.Lists.{all_get, find_all}
-use Rattle.tp_model.proofs.Callbacks.{found_bounds, find_replaced as find_here, pending_not_running}
-use Rattle.tp_model.proofs.Preserving.{changed_sound}
+use Rattle.tp_model.proofs.Callbacks.{found_bounds, find_replaced as find_here, pending_not_running, rising_replaced}
+use Rattle.tp_model.proofs.Preserving.{changed_sound, sound_cancelled}
 use Rattle.tp_model.proofs.Forgetting.{forget_sound}
 use Rattle.live_world.specs.declared.objects.Object.{Object}
 use Rattle.live_world.specs.declared.LiveWorld.TheInside.{Inside}
-use Rattle.live_world.specs.Live.{Live, moved}
-use Rattle.live_world.specs.Parts.{world_of, shown_worker}
+use Rattle.live_world.specs.Live.{Live, moved, became}
+use Rattle.live_world.specs.Parts.{world_of, shown_worker, shown_object, is_tied, tied_entry}
 use Rattle.live_world.specs.View.{shown, IsLiveWorld}
-use Rattle.live_world.specs.Invariant.{AreKept, AreSized, AreLive, AreQueued, AreTallied, IsHome, IsMarked, AreMarked}
+use Rattle.live_world.specs.Invariant.{AreSized, AreLive, AreQueued, AreTallied, AreListed, AreCovered, IsHome, IsMarked, AreMarked}
 use Rattle.live_world.proofs.Lists.{all_set, set_twice, set_there}
 use Rattle.live_world.proofs.Alive.{alive_more, alive_replaced, alive_less, removed_rows}
+use Rattle.live_world.proofs.Listed.{pending_tied, listed_more, listed_same, listed_less, listed_lives}
+use Rattle.live_world.proofs.Covered.{covered_replaced, covered_less, covered_lives, covered_more}
 use Rattle.live_world.proofs.Queued.{queued_entry, queued_more, queued_less, queued_same, queued_lives}
-use Rattle.live_world.proofs.Tallied.{AreApart, is_behind, runs_nothing, runs_this, worker_changed, idle_alike, busy_alike, tallied_more, tallied_free, tallied_both, tallied_lives, marked_set, marked_apart, marked_replaced, marked_others, others_apart, same_found}
+use Rattle.live_world.proofs.Tallied.{AreApart, is_behind, runs_nothing, runs_this, worker_changed, idle_alike, busy_alike, tallied_more, tallied_free, tallied_both, tallied_still, tallied_lives, pending_apart, marked_set, marked_apart, marked_replaced, marked_others, others_apart, same_found}
 
 -- ---- what every change shows
 
 -- the parts after a change that leads to this world; that it can be reached comes from the model
-pub record After (limits : Limits) (pools : Pools) (objects : Table Object) (callbacks : LiveCallbacks) (queues : Pending) (clients : List ClientRow) (v : World) : Type 0 where
-  pub shows : world_of limits pools objects callbacks.rows clients ≡ forget v
-  pub sized : AreSized limits pools objects clients
-  pub alive : AreLive limits callbacks
-  pub queued : AreQueued limits callbacks.rows queues
-  pub tallied : AreTallied callbacks.rows pools.workers
+pub record After (i : Inside) (v : World) : Type 0 where
+  pub shows : (shown i).world ≡ forget v
+  pub sized : AreSized i.limits i.pools i.objects i.clients.items
+  pub alive : AreLive i.limits i.callbacks
+  pub queued : AreQueued i.limits i.callbacks.rows i.queues
+  pub tallied : AreTallied i.callbacks.rows i.pools.workers
+  pub listed : AreListed i.limits (length i.objects.rows) i.callbacks.rows i.outstanding
+  pub covered : AreCovered i.limits (i.made + 1) i.callbacks.rows i.waits.waits i.barriers
 
-pub record Moved (limits : Limits) (pools : Pools) (objects : Table Object) (callbacks : LiveCallbacks) (queues : Pending) (clients : List ClientRow) (made : ℕ) (l : Live) (ch : Change) : Type 0 where
-  pub keeps : AreKept limits pools objects callbacks queues clients made
-  pub becomes : record { world = world_of limits pools objects callbacks.rows clients; made = made } ≡ moved l ch
+-- they keep their invariant, and show this
+pub record Becomes (i : Inside) (l : Live) : Type 0 where
+  pub keeps : IsLiveWorld i
+  pub becomes : shown i ≡ l
 
-pub moved_by : (i : Inside) (l : Live) (ch : Change) (pools : Pools) (objects : Table Object) (callbacks : LiveCallbacks) (queues : Pending) (clients : List ClientRow) (made : ℕ)
-    → shown i ≡ l → IsLiveWorld i → IsAllowed (l.made + 1) l.world ch → made ≡ i.made + news ch
-    → (IsAllowed (i.made + 1) (shown i).world ch → After i.limits pools objects callbacks queues clients (changed (shown i).world ch))
-    → Moved i.limits pools objects callbacks queues clients made l ch
-moved_by i l ch pools objects callbacks queues clients made is k allowed counts after =
-    let w : World = (shown i).world in
-    let allowed_here : IsAllowed (i.made + 1) w ch = subst (λ (x : Live). IsAllowed (x.made + 1) x.world ch) (sym is) allowed in
-    let a = after allowed_here in
-    let fresh : (i.made + 1) + news ch ≡ made + 1 = omega (arith, counts) in
+pub became_by : (j : Inside) (v : World) → IsSound (j.made + 1) v → After j v → Becomes j (record { world = forget v; made = j.made })
+became_by j v s a =
     record {
       keeps = record {
         sized = a.sized;
         alive = a.alive;
         queued = a.queued;
         tallied = a.tallied;
-        sound = subst (λ v. IsSound (made + 1) v) (sym a.shows)
-            (subst (λ n. IsSound n (forget (changed w ch))) fresh (forget_sound ((i.made + 1) + news ch) (changed w ch) (changed_sound (i.made + 1) w ch k.sound allowed_here)));
+        listed = a.listed;
+        covered = a.covered;
+        sound = subst (λ w. IsSound (j.made + 1) w) (sym a.shows) (forget_sound (j.made + 1) v s);
       };
-      becomes = ap₂ (λ (v : World) (n : ℕ). record { world = v; made = n }) a.shows counts ∙ ap (λ (x : Live). moved x ch) is;
+      becomes = ap (λ (w : World). record { world = w; made = j.made }) a.shows;
+    }
+
+pub moved_by : (i j : Inside) (l : Live) (ch : Change) → shown i ≡ l → IsLiveWorld i → IsAllowed (l.made + 1) l.world ch → j.made ≡ i.made + news ch
+    → (IsAllowed (i.made + 1) (shown i).world ch → After j (changed (shown i).world ch))
+    → Becomes j (moved l ch)
+moved_by i j l ch is k allowed counts after =
+    let w : World = (shown i).world in
+    let allowed_here : IsAllowed (i.made + 1) w ch = subst (λ (x : Live). IsAllowed (x.made + 1) x.world ch) (sym is) allowed in
+    let fresh : (i.made + 1) + news ch ≡ j.made + 1 = omega (arith, counts) in
+    let b = became_by j (changed w ch) (subst (λ n. IsSound n (changed w ch)) fresh (changed_sound (i.made + 1) w ch k.sound allowed_here)) (after allowed_here) in
+    record {
+      keeps = b.keeps;
+      becomes = b.becomes ∙ ap (λ (n : ℕ). record { world = forget (changed w ch); made = n }) counts ∙ ap (λ (x : Live). moved x ch) is;
     }
 
 -- callbacks and workers alone change
-shows_along : (limits : Limits) (pools : Pools) (objects : Table Object) (rows : List CallbackRow) (clients : List ClientRow) (workers : List kept.WorkerRow) (now after : List CallbackRow) (workers_after : List WorkerRow)
+shows_along : (limits : Limits) (pools : Pools) (objects : Table Object) (rows : List CallbackRow) (clients : List ClientRow) (waits : List BegunWait) (workers : List kept.WorkerRow) (now after : List CallbackRow) (workers_after : List WorkerRow)
     → now ≡ filter lives after → map shown_worker workers ≡ workers_after
-    → world_of limits (record pools { workers = workers }) objects now clients ≡ forget (record (world_of limits pools objects rows clients) { callbacks = after; workers = workers_after })
-shows_along limits pools objects rows clients workers now after workers_after ec ew =
-    ap₂ (λ cs ws. record (world_of limits pools objects rows clients) { callbacks = cs; workers = ws }) ec ew
+    → world_of limits (record pools { workers = workers }) objects now clients waits ≡ forget (record (world_of limits pools objects rows clients waits) { callbacks = after; workers = workers_after })
+shows_along limits pools objects rows clients waits workers now after workers_after ec ew =
+    ap₂ (λ cs ws. record (world_of limits pools objects rows clients waits) { callbacks = cs; workers = ws }) ec ew
 
 set_shown : (workers : List kept.WorkerRow) (number : ℕ) (new : kept.WorkerRow) (target : WorkerRow) → shown_worker new ≡ target → map shown_worker (slice_set workers (number - 1) new) ≡ slice_set (map shown_worker workers) (number - 1) target
 set_shown workers number new target shows = map-set shown_worker workers (number - 1) new ∙ ap (λ t. slice_set (map shown_worker workers) (number - 1) t) shows
@@ -105,52 +123,66 @@ same_home pools place row new is same k = subst (λ p. IsHome (length pools.pool
 -- ---- a worker that runs nothing
 
 free_after : (i : Inside) (number : ℕ) (row new : kept.WorkerRow) (target : WorkerRow) → IsLiveWorld i → slice_get i.pools.workers (number - 1) ≡ Some row → row.callback ≡ 0 → new.callback ≡ 0 → IsHome (length i.pools.pools) new → shown_worker new ≡ target
-    → After i.limits (record i.pools { workers = slice_set i.pools.workers (number - 1) new }) i.objects i.callbacks i.queues i.clients.items (record (shown i).world { workers = slice_set (shown i).world.workers (number - 1) target })
+    → After (record i { pools = record i.pools { workers = slice_set i.pools.workers (number - 1) new } }) (record (shown i).world { workers = slice_set (shown i).world.workers (number - 1) target })
 free_after i number row new target k is idle none home shows =
     record {
-      shows = shows_along i.limits i.pools i.objects i.callbacks.rows i.clients.items (slice_set i.pools.workers (number - 1) new) i.callbacks.rows i.callbacks.rows (slice_set (shown i).world.workers (number - 1) target)
+      shows = shows_along i.limits i.pools i.objects i.callbacks.rows i.clients.items i.waits.waits (slice_set i.pools.workers (number - 1) new) i.callbacks.rows i.callbacks.rows (slice_set (shown i).world.workers (number - 1) target)
           (sym k.alive.live) (set_shown i.pools.workers number new target shows);
       sized = sized_worker i.pools (number - 1) new home k.sized;
       alive = k.alive;
       queued = k.queued;
+      listed = k.listed;
+      covered = k.covered;
       tallied = tallied_free i.callbacks.rows i.pools.workers (number - 1) row new is idle none k.tallied;
     }
 
 pub attached : (i : Inside) (l : Live) (worker : ℕ) (pool : PoolId) (pools : Pools) → shown i ≡ l → IsLiveWorld i → IsAllowed (l.made + 1) l.world (change.Attach worker pool)
-    → pools ≡ with_kept_worker worker (λ _. idle_in pool) i.pools → Moved i.limits pools i.objects i.callbacks i.queues i.clients.items i.made l (change.Attach worker pool)
+    → pools ≡ with_kept_worker worker (λ _. idle_in pool) i.pools → Becomes (record i { pools = pools }) (moved l (change.Attach worker pool))
 attached i l worker pool pools is k allowed now =
-    moved_by i l (change.Attach worker pool) pools i.objects i.callbacks i.queues i.clients.items i.made is k allowed (omega arith) (λ a.
+    moved_by i (record i { pools = pools }) l (change.Attach worker pool) is k allowed (omega arith) (λ a.
     let b = is_behind i.pools.workers worker None None a.stands in
-    subst (λ (p : Pools). After i.limits p i.objects i.callbacks i.queues i.clients.items (changed (shown i).world (change.Attach worker pool)))
+    subst (λ (p : Pools). After (record i { pools = p }) (changed (shown i).world (change.Attach worker pool)))
     (sym (now ∙ worker_changed i.pools worker b.row (λ _. idle_in pool) b.at_place b.from_one))
     (free_after i worker b.row (idle_in pool) (record { pool = Some pool; callback = None }) k b.at_place (runs_nothing b.row.callback b.same_callback) refl a.home refl))
 
 pub detached : (i : Inside) (l : Live) (by : Idle) (pools : Pools) → shown i ≡ l → IsLiveWorld i → IsAllowed (l.made + 1) l.world (change.Detach by)
-    → pools ≡ with_kept_worker by.worker (λ _. unattached_row) i.pools → Moved i.limits pools i.objects i.callbacks i.queues i.clients.items i.made l (change.Detach by)
+    → pools ≡ with_kept_worker by.worker (λ _. unattached_row) i.pools → Becomes (record i { pools = pools }) (moved l (change.Detach by))
 detached i l by pools is k allowed now =
-    moved_by i l (change.Detach by) pools i.objects i.callbacks i.queues i.clients.items i.made is k allowed (omega arith) (λ a.
+    moved_by i (record i { pools = pools }) l (change.Detach by) is k allowed (omega arith) (λ a.
     let b = is_behind i.pools.workers by.worker (Some by.pool) None a in
-    subst (λ (p : Pools). After i.limits p i.objects i.callbacks i.queues i.clients.items (changed (shown i).world (change.Detach by)))
+    subst (λ (p : Pools). After (record i { pools = p }) (changed (shown i).world (change.Detach by)))
     (sym (now ∙ worker_changed i.pools by.worker b.row (λ _. unattached_row) b.at_place b.from_one))
     (free_after i by.worker b.row unattached_row (record { pool = None; callback = None }) k b.at_place (runs_nothing b.row.callback b.same_callback) refl tt refl))
 
 -- ---- a callback begins
 
 -- the parts that change, by what each became
-pub with_parts : (i : Inside) (v : World) (pools p : Pools) (callbacks c : LiveCallbacks) (queues q : Pending) → pools ≡ p → callbacks ≡ c → queues ≡ q
-    → After i.limits p i.objects c q i.clients.items v → After i.limits pools i.objects callbacks queues i.clients.items v
-with_parts i v pools p callbacks c queues q ep ec eq a =
-    subst (λ x. After i.limits x i.objects callbacks queues i.clients.items v) (sym ep)
-    (subst (λ x. After i.limits p i.objects x queues i.clients.items v) (sym ec)
-    (subst (λ x. After i.limits p i.objects c x i.clients.items v) (sym eq) a))
+abbrev pub with_changed : Inside → Pools → LiveCallbacks → Pending → Keyed → Covers → Inside
+with_changed i pools callbacks queues outstanding barriers = record i { pools = pools; callbacks = callbacks; queues = queues; outstanding = outstanding; barriers = barriers }
+
+pub with_parts : (i : Inside) (v : World) (pools p : Pools) (callbacks c : LiveCallbacks) (queues q : Pending) (outstanding o : Keyed) (barriers b : Covers) → pools ≡ p → callbacks ≡ c → queues ≡ q → outstanding ≡ o → barriers ≡ b
+    → After (with_changed i p c q o b) v → After (with_changed i pools callbacks queues outstanding barriers) v
+with_parts i v pools p callbacks c queues q outstanding o barriers b ep ec eq eo eb a =
+    subst (λ x. After (with_changed i x callbacks queues outstanding barriers) v) (sym ep)
+    (subst (λ x. After (with_changed i p x queues outstanding barriers) v) (sym ec)
+    (subst (λ x. After (with_changed i p c x outstanding barriers) v) (sym eq)
+    (subst (λ x. After (with_changed i p c q x barriers) v) (sym eo)
+    (subst (λ x. After (with_changed i p c q o x) v) (sym eb) a))))
+
+-- what leaves each list of numbers
+abbrev pub unlisted : Keyed → ℕ → Keyed
+unlisted outstanding number = record outstanding { entries = filter (λ (e : Entry). not (e.number == number)) outstanding.entries }
+
+abbrev pub left : Covers → ℕ → Covers
+left barriers number = record barriers { waits = map (option_map (all_but number)) barriers.waits }
 
 pub taken_by : (i : Inside) (l : Live) (by : Idle) (c : CallbackRow) (pools : Pools) (callbacks : LiveCallbacks) (queues : Pending) → shown i ≡ l → IsLiveWorld i → IsAllowed (l.made + 1) l.world (change.Take by c)
     → pools ≡ with_kept_worker by.worker (λ w. record w { callback = c.number; long = c.long }) i.pools
     → callbacks ≡ record i.callbacks { rows = replaced (taken c by.worker) i.callbacks.rows }
     → queues ≡ with_queue i.queues by.pool.0 (without_number c.number (queue_of i.queues by.pool.0))
-    → Moved i.limits pools i.objects callbacks queues i.clients.items i.made l (change.Take by c)
+    → Becomes (record i { pools = pools; callbacks = callbacks; queues = queues }) (moved l (change.Take by c))
 taken_by i l by c pools callbacks queues is k allowed pools_now rows_now queues_now =
-    moved_by i l (change.Take by c) pools i.objects callbacks queues i.clients.items i.made is k allowed (omega arith) (λ a.
+    moved_by i (record i { pools = pools; callbacks = callbacks; queues = queues }) l (change.Take by c) is k allowed (omega arith) (λ a.
     let b = is_behind i.pools.workers by.worker (Some by.pool) None a.idles in
     let r : CallbackRow = taken c by.worker in
     let new : kept.WorkerRow = record b.row { callback = c.number; long = c.long } in
@@ -162,15 +194,18 @@ taken_by i l by c pools callbacks queues is k allowed pools_now rows_now queues_
     let home : c.pool.0 < length i.pools.pools = find_all (λ (x : CallbackRow). x.pool.0 < length i.pools.pools) (has_number c.number) c i.callbacks.rows k.sound.callback_pools a.found in
     let alive_now = alive_replaced i.callbacks r refl refl k.alive in
     with_parts i (changed (shown i).world (change.Take by c)) pools (record i.pools { workers = slice_set i.pools.workers (by.worker - 1) new }) callbacks (record i.callbacks { rows = replaced r i.callbacks.rows })
-    queues (with_queue i.queues c.pool.0 (without_number c.number (queue_of i.queues c.pool.0)))
+    queues (with_queue i.queues c.pool.0 (without_number c.number (queue_of i.queues c.pool.0))) i.outstanding i.outstanding i.barriers i.barriers
     (pools_now ∙ worker_changed i.pools by.worker b.row (λ w. record w { callback = c.number; long = c.long }) b.at_place b.from_one)
     rows_now
     (queues_now ∙ ap (λ (p : PoolId). with_queue i.queues p.0 (without_number c.number (queue_of i.queues p.0))) (sym a.home))
+    refl refl
     (record {
-      shows = shows_along i.limits i.pools i.objects i.callbacks.rows i.clients.items (slice_set i.pools.workers (by.worker - 1) new) (replaced r i.callbacks.rows) (replaced r i.callbacks.rows) (slice_set (shown i).world.workers (by.worker - 1) target)
+      shows = shows_along i.limits i.pools i.objects i.callbacks.rows i.clients.items i.waits.waits (slice_set i.pools.workers (by.worker - 1) new) (replaced r i.callbacks.rows) (replaced r i.callbacks.rows) (slice_set (shown i).world.workers (by.worker - 1) target)
           (sym alive_now.live) (set_shown i.pools.workers by.worker new target shows);
       sized = sized_worker i.pools (by.worker - 1) new (same_home i.pools (by.worker - 1) b.row new b.at_place refl k.sized) k.sized;
       alive = alive_now;
+      listed = listed_same (i.made + 1) r c refl refl (sym (pending_tied c.object c.status a.pending)) k.sound.numbers a.found k.listed;
+      covered = covered_replaced (i.made + 1) r c refl (sym (pending_tied c.object c.status a.pending)) a.found k.covered;
       queued = queued_less (i.made + 1) r c (omega (arith, home, k.sized.pools_within)) a.pending refl refl k.sound.numbers a.found k.queued;
       tallied = tallied_both (i.made + 1) r c i.callbacks.rows i.pools.workers (by.worker - 1) b.row new k.sound.numbers a.found b.at_place
           (idle_alike c b.row (pending_not_running c.status a.pending) idle)
@@ -222,9 +257,9 @@ shows_same workers place row new is same =
 pub marked_long : (i : Inside) (l : Live) (by : Busy) (pools : Pools) (callbacks : LiveCallbacks) → shown i ≡ l → IsLiveWorld i → IsAllowed (l.made + 1) l.world (change.Mark by Long)
     → pools ≡ with_kept_worker by.worker (λ w. record w { long = true }) i.pools
     → callbacks ≡ record i.callbacks { rows = replaced (marked Long by.callback) i.callbacks.rows }
-    → Moved i.limits pools i.objects callbacks i.queues i.clients.items i.made l (change.Mark by Long)
+    → Becomes (record i { pools = pools; callbacks = callbacks }) (moved l (change.Mark by Long))
 marked_long i l by pools callbacks is k allowed pools_now rows_now =
-    moved_by i l (change.Mark by Long) pools i.objects callbacks i.queues i.clients.items i.made is k allowed (omega arith) (λ a.
+    moved_by i (record i { pools = pools; callbacks = callbacks }) l (change.Mark by Long) is k allowed (omega arith) (λ a.
     let on = is_run i by k a in
     let c : CallbackRow = by.callback in
     let r : CallbackRow = marked Long c in
@@ -232,14 +267,16 @@ marked_long i l by pools callbacks is k allowed pools_now rows_now =
     let rest : kept.WorkerRow = record on.row { callback = 0; long = false } in
     let alive_now = alive_replaced i.callbacks r (ap is_live a.running) (ap (λ s. is_pending s || is_running s) a.running) k.alive in
     with_parts i (changed (shown i).world (change.Mark by Long)) pools (record i.pools { workers = slice_set i.pools.workers (by.worker - 1) new }) callbacks (record i.callbacks { rows = replaced r i.callbacks.rows })
-    i.queues i.queues
+    i.queues i.queues i.outstanding i.outstanding i.barriers i.barriers
     (pools_now ∙ worker_changed i.pools by.worker on.row (λ w. record w { long = true }) on.at_place on.from_one)
-    rows_now refl
+    rows_now refl refl refl
     (record {
-      shows = shows_along i.limits i.pools i.objects i.callbacks.rows i.clients.items (slice_set i.pools.workers (by.worker - 1) new) (replaced r i.callbacks.rows) (replaced r i.callbacks.rows) (shown i).world.workers
+      shows = shows_along i.limits i.pools i.objects i.callbacks.rows i.clients.items i.waits.waits (slice_set i.pools.workers (by.worker - 1) new) (replaced r i.callbacks.rows) (replaced r i.callbacks.rows) (shown i).world.workers
           (sym alive_now.live) (shows_same i.pools.workers (by.worker - 1) on.row new on.at_place refl);
       sized = sized_worker i.pools (by.worker - 1) new (same_home i.pools (by.worker - 1) on.row new on.at_place refl k.sized) k.sized;
       alive = alive_now;
+      listed = listed_same (i.made + 1) r c refl refl refl k.sound.numbers a.found k.listed;
+      covered = covered_replaced (i.made + 1) r c refl refl a.found k.covered;
       queued = queued_same (i.made + 1) r c on.waits_not on.waits_not k.sound.numbers a.found k.queued;
       tallied = tallied_both (i.made + 1) r c i.callbacks.rows i.pools.workers (by.worker - 1) on.row new k.sound.numbers a.found on.at_place
           (busy_alike c on.row by.pool on.joined on.busy a.home on.ran on.mark)
@@ -252,31 +289,35 @@ marked_long i l by pools callbacks is k allowed pools_now rows_now =
     }))
 
 -- it returns
-pub returned_by : (i : Inside) (l : Live) (by : Busy) (pools : Pools) (callbacks : LiveCallbacks) → shown i ≡ l → IsLiveWorld i → IsAllowed (l.made + 1) l.world (change.Return by)
+pub returned_by : (i : Inside) (l : Live) (by : Busy) (pools : Pools) (callbacks : LiveCallbacks) (outstanding : Keyed) (barriers : Covers) → shown i ≡ l → IsLiveWorld i → IsAllowed (l.made + 1) l.world (change.Return by)
     → pools ≡ with_kept_worker by.worker (λ w. record w { callback = 0; long = false }) i.pools
     → callbacks ≡ record i.callbacks { rows = filter (λ (x : CallbackRow). not (x.number == by.callback.number)) i.callbacks.rows }
-    → Moved i.limits pools i.objects callbacks i.queues i.clients.items i.made l (change.Return by)
-returned_by i l by pools callbacks is k allowed pools_now rows_now =
-    moved_by i l (change.Return by) pools i.objects callbacks i.queues i.clients.items i.made is k allowed (omega arith) (λ a.
+    → outstanding ≡ unlisted i.outstanding by.callback.number → barriers ≡ left i.barriers by.callback.number
+    → Becomes (record i { pools = pools; callbacks = callbacks; outstanding = outstanding; barriers = barriers }) (moved l (change.Return by))
+returned_by i l by pools callbacks outstanding barriers is k allowed pools_now rows_now listed_now left_now =
+    moved_by i (record i { pools = pools; callbacks = callbacks; outstanding = outstanding; barriers = barriers }) l (change.Return by) is k allowed (omega arith) (λ a.
     let on = is_run i by k a in
     let c : CallbackRow = by.callback in
     let r : CallbackRow = returned c in
     let new : kept.WorkerRow = record on.row { callback = 0; long = false } in
     let target : WorkerRow = record { pool = Some by.pool; callback = None } in
     let shows : shown_worker new ≡ target = ap (λ (p : Option PoolId). record { pool = p; callback = None }) on.joined in
-    let left : List CallbackRow = filter (λ (x : CallbackRow). not (x.number == c.number)) i.callbacks.rows in
-    let removed : left ≡ filter lives (replaced r i.callbacks.rows) = removed_rows i.callbacks r refl k.alive in
+    let others : List CallbackRow = filter (λ (x : CallbackRow). not (x.number == c.number)) i.callbacks.rows in
+    let removed : others ≡ filter lives (replaced r i.callbacks.rows) = removed_rows i.callbacks r refl k.alive in
     let before : AreMarked i.callbacks.rows (slice_set i.pools.workers (by.worker - 1) new) = marked_set i.callbacks.rows i.pools.workers (by.worker - 1) new (λ busy. absurd (busy refl)) k.tallied.marked in
-    let marks : AreMarked left (slice_set i.pools.workers (by.worker - 1) new) = marked_others c.number i.callbacks.rows (slice_set i.pools.workers (by.worker - 1) new) (on.alone new refl) before in
-    with_parts i (changed (shown i).world (change.Return by)) pools (record i.pools { workers = slice_set i.pools.workers (by.worker - 1) new }) callbacks (record i.callbacks { rows = left })
-    i.queues i.queues
+    let marks : AreMarked others (slice_set i.pools.workers (by.worker - 1) new) = marked_others c.number i.callbacks.rows (slice_set i.pools.workers (by.worker - 1) new) (on.alone new refl) before in
+    with_parts i (changed (shown i).world (change.Return by)) pools (record i.pools { workers = slice_set i.pools.workers (by.worker - 1) new }) callbacks (record i.callbacks { rows = others })
+    i.queues i.queues outstanding (unlisted i.outstanding c.number) barriers (left i.barriers c.number)
     (pools_now ∙ worker_changed i.pools by.worker on.row (λ w. record w { callback = 0; long = false }) on.at_place on.from_one)
-    rows_now refl
+    rows_now refl listed_now left_now
     (record {
-      shows = shows_along i.limits i.pools i.objects i.callbacks.rows i.clients.items (slice_set i.pools.workers (by.worker - 1) new) left (replaced r i.callbacks.rows) (slice_set (shown i).world.workers (by.worker - 1) target)
+      shows = shows_along i.limits i.pools i.objects i.callbacks.rows i.clients.items i.waits.waits (slice_set i.pools.workers (by.worker - 1) new) others (replaced r i.callbacks.rows) (slice_set (shown i).world.workers (by.worker - 1) target)
           removed (set_shown i.pools.workers by.worker new target shows);
       sized = sized_worker i.pools (by.worker - 1) new (same_home i.pools (by.worker - 1) on.row new on.at_place refl k.sized) k.sized;
       alive = alive_less i.callbacks r refl k.alive;
+      listed = subst (λ cs. AreListed i.limits (length i.objects.rows) cs (unlisted i.outstanding c.number)) (sym removed) (listed_lives (listed_less r c refl refl a.found k.listed));
+      covered = subst (λ cs. AreCovered i.limits (i.made + 1) cs i.waits.waits (left i.barriers c.number)) (sym removed)
+          (covered_lives (i.made + 1) (rising_replaced r 1 (i.made + 1) i.callbacks.rows k.sound.numbers) (covered_less (i.made + 1) r c refl a.found k.covered));
       queued = subst (λ cs. AreQueued i.limits cs i.queues) (sym removed) (queued_lives (queued_same (i.made + 1) r c on.waits_not refl k.sound.numbers a.found k.queued));
       tallied = subst (λ cs. AreTallied cs (slice_set i.pools.workers (by.worker - 1) new)) (sym removed)
           (tallied_lives (replaced r i.callbacks.rows) (slice_set i.pools.workers (by.worker - 1) new) (subst (λ cs. AreMarked cs (slice_set i.pools.workers (by.worker - 1) new)) removed marks)
@@ -288,17 +329,85 @@ returned_by i l by pools callbacks is k allowed pools_now rows_now =
 
 -- ---- a callback is made
 
-pub queued_by : (i : Inside) (l : Live) (c : CallbackRow) (callbacks : LiveCallbacks) (queues : Pending) → shown i ≡ l → IsLiveWorld i → IsAllowed (l.made + 1) l.world (change.QueueCallback c)
+pub queued_by : (i : Inside) (l : Live) (c : CallbackRow) (callbacks : LiveCallbacks) (queues : Pending) (outstanding : Keyed) → shown i ≡ l → IsLiveWorld i → IsAllowed (l.made + 1) l.world (change.QueueCallback c)
     → callbacks ≡ record i.callbacks { rows = i.callbacks.rows ++ c ∷ [] } → queues ≡ queued_entry i.queues c
-    → Moved i.limits i.pools i.objects callbacks queues i.clients.items (i.made + 1) l (change.QueueCallback c)
-queued_by i l c callbacks queues is k allowed rows_now queues_now =
-    moved_by i l (change.QueueCallback c) i.pools i.objects callbacks queues i.clients.items (i.made + 1) is k allowed refl (λ a.
+    → outstanding ≡ record i.outstanding { entries = i.outstanding.entries ++ tied_entry c ∷ [] }
+    → Becomes (record i { callbacks = callbacks; queues = queues; outstanding = outstanding; made = i.made + 1 }) (moved l (change.QueueCallback c))
+queued_by i l c callbacks queues outstanding is k allowed rows_now queues_now listed_now =
+    moved_by i (record i { callbacks = callbacks; queues = queues; outstanding = outstanding; made = i.made + 1 }) l (change.QueueCallback c) is k allowed refl (λ a.
     let alive_now = alive_more i.callbacks c a.pending k.alive in
-    with_parts i (changed (shown i).world (change.QueueCallback c)) i.pools i.pools callbacks (record i.callbacks { rows = i.callbacks.rows ++ c ∷ [] }) queues (queued_entry i.queues c) refl rows_now queues_now
+    with_parts (record i { made = i.made + 1 }) (changed (shown i).world (change.QueueCallback c)) i.pools i.pools callbacks (record i.callbacks { rows = i.callbacks.rows ++ c ∷ [] }) queues (queued_entry i.queues c) outstanding (record i.outstanding { entries = i.outstanding.entries ++ tied_entry c ∷ [] }) i.barriers i.barriers
+    refl rows_now queues_now listed_now refl
     (record {
       shows = ap (λ cs. record (shown i).world { callbacks = cs }) (sym alive_now.live);
       sized = k.sized;
+      listed = listed_more c (subst (λ n. c.object.0 ≤ n) (length-map i.objects.rows shown_object) a.object) (pending_tied c.object c.status a.pending) k.listed;
+      covered = covered_more (i.made + 1) c a.number k.covered;
       alive = alive_now;
       queued = queued_more c (omega (arith, a.home, k.sized.pools_within)) a.pending (subst (λ n. IsRising 1 n i.callbacks.rows) (sym a.number) k.sound.numbers) k.queued;
       tallied = tallied_more c i.callbacks.rows i.pools.workers (pending_not_running c.status a.pending) k.tallied;
     }))
+
+-- ---- a callback is no longer outstanding for its object
+
+pub loosened_by : (i : Inside) (l : Live) (by : Busy) (callbacks : LiveCallbacks) (outstanding : Keyed) (barriers : Covers) → shown i ≡ l → IsLiveWorld i → IsAllowed (l.made + 1) l.world (change.Mark by Loose)
+    → callbacks ≡ record i.callbacks { rows = replaced (marked Loose by.callback) i.callbacks.rows }
+    → outstanding ≡ unlisted i.outstanding by.callback.number → barriers ≡ left i.barriers by.callback.number
+    → Becomes (record i { callbacks = callbacks; outstanding = outstanding; barriers = barriers }) (moved l (change.Mark by Loose))
+loosened_by i l by callbacks outstanding barriers is k allowed rows_now listed_now left_now =
+    moved_by i (record i { callbacks = callbacks; outstanding = outstanding; barriers = barriers }) l (change.Mark by Loose) is k allowed (omega arith) (λ a.
+    let on = is_run i by k a in
+    let c : CallbackRow = by.callback in
+    let r : CallbackRow = marked Loose c in
+    let runs : r.status ≡ Running by.worker false a.slots = ap loosened a.running in
+    let untied : is_tied r ≡ false = ap (is_held_for (target.Object c.object)) runs in
+    let alive_now = alive_replaced i.callbacks r (ap is_live runs) (ap (λ s. is_pending s || is_running s) runs) k.alive in
+    with_parts i (changed (shown i).world (change.Mark by Loose)) i.pools i.pools callbacks (record i.callbacks { rows = replaced r i.callbacks.rows })
+    i.queues i.queues outstanding (unlisted i.outstanding c.number) barriers (left i.barriers c.number)
+    refl rows_now refl listed_now left_now
+    (record {
+      shows = ap (λ cs. record (shown i).world { callbacks = cs }) (sym alive_now.live);
+      sized = k.sized;
+      alive = alive_now;
+      queued = queued_same (i.made + 1) r c on.waits_not (ap is_pending runs) k.sound.numbers a.found k.queued;
+      tallied = tallied_still (i.made + 1) r c i.callbacks.rows i.pools.workers (λ p. ap (λ b. b && (c.pool.0 == p)) (ap is_running runs ∙ sym on.ran)) (λ p. ap (λ b. (b && (c.pool.0 == p)) && c.long) (ap is_running runs ∙ sym on.ran)) k.sound.numbers a.found
+          (marked_replaced r c i.callbacks.rows i.pools.workers a.found refl k.tallied.marked) k.tallied;
+      listed = listed_less r c refl untied a.found k.listed;
+      covered = covered_less (i.made + 1) r c untied a.found k.covered;
+    }))
+
+-- ---- a pending callback is cancelled
+
+pub cancelled_by : (i : Inside) (l : Live) (c : CallbackRow) (callbacks : LiveCallbacks) (queues : Pending) (outstanding : Keyed) (barriers : Covers) → shown i ≡ l → IsLiveWorld i
+    → callback_of l.world c.number ≡ Some c → is_pending c.status ≡ true
+    → callbacks ≡ record i.callbacks { rows = filter (λ (x : CallbackRow). not (x.number == c.number)) i.callbacks.rows }
+    → queues ≡ with_queue i.queues c.pool.0 (without_number c.number (queue_of i.queues c.pool.0))
+    → outstanding ≡ unlisted i.outstanding c.number → barriers ≡ left i.barriers c.number
+    → Becomes (record i { callbacks = callbacks; queues = queues; outstanding = outstanding; barriers = barriers }) (became l (with_callback l.world (cancelled c)))
+cancelled_by i l c callbacks queues outstanding barriers is k found pends rows_now queues_now listed_now left_now =
+    let found_here : find (has_number c.number) i.callbacks.rows ≡ Some c = ap (λ (x : Live). callback_of x.world c.number) is ∙ found in
+    let r : CallbackRow = cancelled c in
+    let others : List CallbackRow = filter (λ (x : CallbackRow). not (x.number == c.number)) i.callbacks.rows in
+    let removed : others ≡ filter lives (replaced r i.callbacks.rows) = removed_rows i.callbacks r refl k.alive in
+    let home : c.pool.0 < length i.pools.pools = find_all (λ (x : CallbackRow). x.pool.0 < length i.pools.pools) (has_number c.number) c i.callbacks.rows k.sound.callback_pools found_here in
+    let still : is_running c.status ≡ false = pending_not_running c.status pends in
+    let marks : AreMarked (replaced r i.callbacks.rows) i.pools.workers = marked_replaced r c i.callbacks.rows i.pools.workers found_here refl k.tallied.marked in
+    let apart : AreApart c.number i.pools.workers = pending_apart c i.callbacks.rows 1 i.pools.workers found_here pends k.sound.workers in
+    let v : World = with_callback (shown i).world r in
+    let b = became_by (record i { callbacks = callbacks; queues = queues; outstanding = outstanding; barriers = barriers }) v (sound_cancelled (i.made + 1) (shown i).world c found_here pends k.sound)
+        (with_parts i v i.pools i.pools callbacks (record i.callbacks { rows = others }) queues (with_queue i.queues c.pool.0 (without_number c.number (queue_of i.queues c.pool.0)))
+        outstanding (unlisted i.outstanding c.number) barriers (left i.barriers c.number) refl rows_now queues_now listed_now left_now
+        (record {
+          shows = ap (λ cs. record (shown i).world { callbacks = cs }) removed;
+          sized = k.sized;
+          alive = alive_less i.callbacks r refl k.alive;
+          queued = subst (λ cs. AreQueued i.limits cs (with_queue i.queues c.pool.0 (without_number c.number (queue_of i.queues c.pool.0)))) (sym removed)
+              (queued_lives (queued_less (i.made + 1) r c (omega (arith, home, k.sized.pools_within)) pends refl refl k.sound.numbers found_here k.queued));
+          tallied = subst (λ cs. AreTallied cs i.pools.workers) (sym removed)
+              (tallied_lives (replaced r i.callbacks.rows) i.pools.workers (subst (λ cs. AreMarked cs i.pools.workers) removed (marked_others c.number i.callbacks.rows i.pools.workers apart k.tallied.marked))
+              (tallied_still (i.made + 1) r c i.callbacks.rows i.pools.workers (λ p. ap (λ b. b && (c.pool.0 == p)) (sym still)) (λ p. ap (λ b. (b && (c.pool.0 == p)) && c.long) (sym still)) k.sound.numbers found_here marks k.tallied));
+          listed = subst (λ cs. AreListed i.limits (length i.objects.rows) cs (unlisted i.outstanding c.number)) (sym removed) (listed_lives (listed_less r c refl refl found_here k.listed));
+          covered = subst (λ cs. AreCovered i.limits (i.made + 1) cs i.waits.waits (left i.barriers c.number)) (sym removed)
+              (covered_lives (i.made + 1) (rising_replaced r 1 (i.made + 1) i.callbacks.rows k.sound.numbers) (covered_less (i.made + 1) r c refl found_here k.covered));
+        })) in
+    record { keeps = b.keeps; becomes = b.becomes ∙ ap (λ (x : Live). became x (with_callback x.world r)) is }

@@ -1,5 +1,5 @@
 -- The parts of a world that is opened.
-use Rattle.std.proofs.Common.{◌≡◌, ℕ, suc, zero, false, List, [], ◌∷◌, length, map, get_or, replicate, refl, sym, ap, ap₂, subst, arith, sum_by}
+use Rattle.std.proofs.Common.{◌≡◌, ℕ, suc, zero, ◌+◌, Option, None, false, List, [], ◌∷◌, length, map, get_or, replicate, refl, sym, ap, ap₂, ◌∙◌, subst, arith, sum_by}
 use Rattle.tp_base.specs.declared.limits.Limits.{Limits}
 use Rattle.tp_base.specs.declared.rows.ClientRow.{ClientRow}
 use Rattle.tp_base.specs.Ranges.{AreLimitsInRange}
@@ -8,14 +8,20 @@ use Rattle.handle_table.specs.Table.{Table}
 use Rattle.prio_queue.specs.Pending.{Pending, Entry}
 use Rattle.pool_rows.specs.Pools.{Pools, made_pool}
 use Rattle.pool_rows.specs.Workers.{runs_in, runs_long_in, unattached as unattached_row}
-use Rattle.tp_model.specs.World.{opening, unattached, unfinished}
+use Rattle.tp_model.specs.World.{World, BegunWait, opening, unattached, unfinished}
 use Rattle.tp_model.specs.Sound.{IsSound}
 use Rattle.tp_model.specs.Remembered.{forget}
 use Rattle.tp_model.proofs.Preserving.{opening_sound}
 use Rattle.live_world.specs.declared.objects.Object.{Object}
-use Rattle.live_world.specs.Live.{Live}
 use Rattle.live_world.specs.Parts.{world_of, shown_worker}
-use Rattle.live_world.specs.Invariant.{AreKept, IsHome, IsMarked}
+use Rattle.live_world.specs.Invariant.{AreSized, AreLive, AreQueued, AreTallied, AreListed, AreCovered, IsHome, IsMarked}
+use Rattle.live_world.specs.View.{shown}
+use Rattle.live_world.specs.declared.LiveWorld.TheInside.{Inside}
+use Rattle.live_world.proofs.Moving.{Becomes}
+use Rattle.keyed_lists.specs.Keyed.{Keyed}
+use Rattle.cancel_wait.specs.Covers.{Covers}
+use Rattle.tp_base.specs.declared.rows.CallbackRow.{CallbackRow}
+use Rattle.tp_base.specs.declared.rows.WorkerRow.{WorkerRow}
 use Rattle.live_world.proofs.Lists.{filter_none, map_replicate, length_replicate, all_replicate}
 
 no_entries : (n pool : ℕ) → get_or {A = List Entry} (replicate n []) pool [] ≡ []
@@ -26,6 +32,11 @@ no_entries (suc n) (suc pool) = no_entries n pool
 none_held : (n : ℕ) → sum_by {X = List Entry} length (replicate n []) ≡ 0
 none_held zero = refl
 none_held (suc n) = none_held n
+
+none_begun : (n place : ℕ) → get_or {A = Option (List ℕ)} (replicate n None) place None ≡ None
+none_begun zero place = refl
+none_begun (suc n) zero = refl
+none_begun (suc n) (suc place) = none_begun n place
 
 abbrev pub opened_pools : Limits → Pools
 opened_pools limits = record { limit = limits.pools; pools = made_pool limits.workers ∷ []; workers = replicate limits.workers unattached_row }
@@ -39,52 +50,89 @@ opened_callbacks limits = record { slots = limits.slots; rows = [] }
 abbrev pub opened_queues : Limits → Pending
 opened_queues limits = record { slots = limits.slots; queues = replicate limits.pools [] }
 
--- they keep their invariant, and show the opening world
-pub record Opened (limits : Limits) (pools : Pools) (objects : Table Object) (callbacks : LiveCallbacks) (queues : Pending) (clients : List ClientRow) : Type 0 where
-  pub keeps : AreKept limits pools objects callbacks queues clients 0
-  pub becomes : ◌≡◌ {A = Live} (record { world = world_of limits pools objects callbacks.rows clients; made = 0 }) (record { world = forget (opening limits); made = 0 })
+abbrev pub opened_outstanding : Limits → Keyed
+opened_outstanding limits = record { keys = limits.objects + 1; slots = limits.slots; entries = [] }
 
-opened_parts : (limits : Limits) → AreLimitsInRange limits → Opened limits (opened_pools limits) (opened_objects limits) (opened_callbacks limits) (opened_queues limits) (replicate limits.clients unfinished)
-opened_parts limits in_range =
-    let workers = replicate limits.workers unattached_row in
-    let shown : map shown_worker workers ≡ replicate limits.workers unattached = map_replicate shown_worker unattached_row limits.workers in
+abbrev pub opened_barriers : Limits → Covers
+opened_barriers limits = record { slots = limits.slots; waits = replicate (limits.clients + limits.workers) None }
+
+-- each part as it is opened
+pub record IsOpened (i : Inside) : Type 0 where
+  pub in_range : AreLimitsInRange i.limits
+  pub pools : i.pools ≡ opened_pools i.limits
+  pub objects : i.objects ≡ opened_objects i.limits
+  pub callbacks : i.callbacks ≡ opened_callbacks i.limits
+  pub queues : i.queues ≡ opened_queues i.limits
+  pub outstanding : i.outstanding ≡ opened_outstanding i.limits
+  pub barriers : i.barriers ≡ opened_barriers i.limits
+  pub clients : i.clients.items ≡ replicate i.limits.clients unfinished
+  pub waits : i.waits.waits ≡ []
+  pub made : i.made ≡ 0
+
+both : {A B : Type 0} (P : A → B → Type 0) {a a' : A} {b b' : B} → a ≡ a' → b ≡ b' → P a' b' → P a b
+both P {a} {a'} {b} {b'} ea eb h = subst (λ x. P x b) (sym ea) (subst (λ y. P a' y) (sym eb) h)
+
+sized_opened : (limits : Limits) → AreLimitsInRange limits → AreSized limits (opened_pools limits) (opened_objects limits) (replicate limits.clients unfinished)
+sized_opened limits in_range =
     record {
-      keeps = record {
-        sized = record {
-          in_range = in_range;
-          pool_limit = refl;
-          pools_least = omega arith;
-          pools_within = omega (arith, in_range.pools_least);
-          worker_count = length_replicate unattached_row limits.workers;
-          homes = all_replicate (IsHome 1) unattached_row tt limits.workers;
-          object_limit = refl;
-          client_count = length_replicate unfinished limits.clients;
-        };
-        alive = record { slot_limit = refl; live = refl; at_work = tt };
-        queued = record {
-          queue_slots = refl;
-          queue_count = length_replicate [] limits.pools;
-          queued = λ pool. no_entries limits.pools pool;
-          held_all = none_held limits.pools;
-        };
-        tallied = record {
-          marked = all_replicate (IsMarked []) unattached_row (λ busy. absurd (busy refl)) limits.workers;
-          run = λ pool. sym (ap length (filter_none (runs_in pool) workers (all_replicate (λ w. runs_in pool w ≡ false) unattached_row refl limits.workers)));
-          run_long = λ pool. sym (ap length (filter_none (runs_long_in pool) workers (all_replicate (λ w. runs_long_in pool w ≡ false) unattached_row refl limits.workers)));
-        };
-        sound = subst (λ ws. IsSound 1 (record (opening limits) { workers = ws })) (sym shown) (opening_sound limits);
-      };
-      becomes = ap (λ ws. record { world = record (opening limits) { workers = ws }; made = 0 }) shown;
+      in_range = in_range;
+      pool_limit = refl;
+      pools_least = omega arith;
+      pools_within = omega (arith, in_range.pools_least);
+      worker_count = length_replicate unattached_row limits.workers;
+      homes = all_replicate (IsHome 1) unattached_row tt limits.workers;
+      object_limit = refl;
+      client_count = length_replicate unfinished limits.clients;
     }
 
-pub opened : (limits : Limits) (pools : Pools) (objects : Table Object) (callbacks : LiveCallbacks) (queues : Pending) (clients : List ClientRow) → AreLimitsInRange limits
-    → pools ≡ opened_pools limits → objects.limit ≡ limits.objects → objects.rows ≡ [] → callbacks ≡ opened_callbacks limits → queues.slots ≡ limits.slots → queues.queues ≡ replicate limits.pools [] → clients ≡ replicate limits.clients unfinished
-    → Opened limits pools objects callbacks queues clients
-opened limits pools objects callbacks queues clients in_range ep eol eor ec eqs eqq el =
-    let objects_now : objects ≡ opened_objects limits = ap₂ (λ n rows. record { limit = n; rows = rows }) eol eor in
-    let queues_now : queues ≡ opened_queues limits = ap₂ (λ n qs. record { slots = n; queues = qs }) eqs eqq in
-    subst (λ x. Opened limits x objects callbacks queues clients) (sym ep)
-    (subst (λ x. Opened limits (opened_pools limits) x callbacks queues clients) (sym objects_now)
-    (subst (λ x. Opened limits (opened_pools limits) (opened_objects limits) x queues clients) (sym ec)
-    (subst (λ x. Opened limits (opened_pools limits) (opened_objects limits) (opened_callbacks limits) x clients) (sym queues_now)
-    (subst (λ x. Opened limits (opened_pools limits) (opened_objects limits) (opened_callbacks limits) (opened_queues limits) x) (sym el) (opened_parts limits in_range)))))
+queued_opened : (limits : Limits) → AreQueued limits [] (opened_queues limits)
+queued_opened limits =
+    record {
+      queue_slots = refl;
+      queue_count = length_replicate [] limits.pools;
+      queued = λ pool. no_entries limits.pools pool;
+      held_all = none_held limits.pools;
+    }
+
+tallied_opened : (limits : Limits) → AreTallied [] (replicate limits.workers unattached_row)
+tallied_opened limits =
+    let workers = replicate limits.workers unattached_row in
+    record {
+      marked = all_replicate (IsMarked []) unattached_row (λ busy. absurd (busy refl)) limits.workers;
+      run = λ pool. sym (ap length (filter_none (runs_in pool) workers (all_replicate (λ w. runs_in pool w ≡ false) unattached_row refl limits.workers)));
+      run_long = λ pool. sym (ap length (filter_none (runs_long_in pool) workers (all_replicate (λ w. runs_long_in pool w ≡ false) unattached_row refl limits.workers)));
+    }
+
+covered_opened : (limits : Limits) → AreCovered limits 1 [] [] (opened_barriers limits)
+covered_opened limits =
+    record {
+      waiters = length_replicate None (limits.clients + limits.workers);
+      barrier_slots = refl;
+      covered = λ who place at. none_begun (limits.clients + limits.workers) place;
+      waits_kept = tt;
+    }
+
+-- they keep their invariant, and show the opening world
+pub opened : (i : Inside) → IsOpened i → Becomes i (record { world = forget (opening i.limits); made = 0 })
+opened i o =
+    let limits : Limits = i.limits in
+    let shown_workers : map shown_worker (replicate limits.workers unattached_row) ≡ replicate limits.workers unattached = map_replicate shown_worker unattached_row limits.workers in
+    let rows : i.callbacks.rows ≡ [] = ap (λ (c : LiveCallbacks). c.rows) o.callbacks in
+    let objects : length i.objects.rows ≡ 0 = ap (λ (t : Table Object). length t.rows) o.objects in
+    let world_now : (shown i).world ≡ opening limits =
+        ap₂ (λ (p : Pools) (t : Table Object). world_of limits p t i.callbacks.rows i.clients.items i.waits.waits) o.pools o.objects
+        ∙ ap₂ (λ (cs : List CallbackRow) (cl : List ClientRow). world_of limits (opened_pools limits) (opened_objects limits) cs cl i.waits.waits) rows o.clients
+        ∙ ap₂ (λ (bs : List BegunWait) (ws : List WorkerRow). record (opening limits) { waits = bs; workers = ws }) o.waits shown_workers in
+    record {
+      keeps = record {
+        sized = both (λ p t. AreSized limits p t i.clients.items) o.pools o.objects (subst (λ cl. AreSized limits (opened_pools limits) (opened_objects limits) cl) (sym o.clients) (sized_opened limits o.in_range));
+        alive = subst (λ c. AreLive limits c) (sym o.callbacks) (record { slot_limit = refl; live = refl; at_work = tt });
+        queued = both (λ cs q. AreQueued limits cs q) rows o.queues (queued_opened limits);
+        tallied = both (λ cs ws. AreTallied cs ws) rows (ap (λ (p : Pools). p.workers) o.pools) (tallied_opened limits);
+        listed = both (λ cs k. AreListed limits (length i.objects.rows) cs k) rows o.outstanding
+            (record { key_count = refl; listed_slots = refl; objects_within = omega (arith, objects); listed = refl; objects_made = tt });
+        covered = both (λ cs n. AreCovered limits (n + 1) cs i.waits.waits i.barriers) rows o.made (both (λ bs b. AreCovered limits 1 [] bs b) o.waits o.barriers (covered_opened limits));
+        sound = both (λ w n. IsSound (n + 1) w) world_now o.made (opening_sound limits);
+      };
+      becomes = ap₂ (λ (w : World) (n : ℕ). record { world = w; made = n }) world_now o.made;
+    }

@@ -11,13 +11,13 @@ use Rattle.tp_base.specs.declared.rows.WorkerRow.{WorkerRow}
 use Rattle.pool_rows.specs.Pools.{Pools, worker_of, with_worker as with_kept_worker}
 use Rattle.pool_rows.specs.Workers.{is_attached_to, runs_in, runs_long_in}
 use Rattle.pool_rows.specs.declared.WorkerRow as kept
-use Rattle.tp_model.specs.Counts.{numbered, has_number, is_running, is_running_in, is_running_long_in}
+use Rattle.tp_model.specs.Counts.{numbered, has_number, is_pending, is_running, is_running_in, is_running_long_in}
 use Rattle.tp_model.specs.Changes.{replaced}
 use Rattle.tp_model.specs.Sound.{IsRising, IsWorkerSound, AreWorkersSound}
 use Rattle.tp_model.specs.Remembered.{lives}
 use Rattle.tp_model.proofs.Lists.{find_kept, find_passes, length_filter_set, filter_filter}
 use Rattle.tp_model.proofs.Callbacks.{find_appended, find_replaced, find_replaced_other, length_filter_replaced, over_not_running}
-use Rattle.tp_model.proofs.Refusals.{numbered_some}
+use Rattle.tp_model.proofs.Refusals.{numbered_some, false_true}
 use Rattle.live_world.specs.Parts.{shown_worker}
 use Rattle.live_world.specs.Invariant.{AreTallied, AreMarked, IsMarked}
 use Rattle.live_world.proofs.Lists.{none_more, length_same, one_if, all_set}
@@ -125,6 +125,17 @@ another_runs c runner associated slots cs at w found runs apart s busy same = in
         let is : h.callback ≡ c = same_found w.callback c.number h.callback c cs (sym same) h.found found in
         let status : Running at h.associated h.slots ≡ Running runner associated slots = sym h.runs ∙ ap (λ (x : CallbackRow). x.status) is ∙ runs in
         apart (same_worker at runner h.associated associated h.slots slots status)
+
+-- no worker runs a callback that waits
+pub pending_apart : (c : CallbackRow) (cs : List CallbackRow) (at : ℕ) (ws : List kept.WorkerRow) → find (has_number c.number) cs ≡ Some c → is_pending c.status ≡ true → AreWorkersSound cs at (map shown_worker ws) → AreApart c.number ws
+pending_apart c cs at [] found pends s = tt
+pending_apart c cs at (w ∷ ws) found pends s = ((λ busy same. in_pool w.pool same (subst (λ b. IsWorkerSound cs at w.pool (cond b None (Some w.callback))) (ne_eqb w.callback 0 busy) s.0)), pending_apart c cs (at + 1) ws found pends s.1)
+  where
+    in_pool : (pool : Option PoolId) → w.callback ≡ c.number → IsWorkerSound cs at pool (Some w.callback) → ⊥
+    in_pool None same h = h
+    in_pool (Some p) same h =
+        let is : h.callback ≡ c = same_found w.callback c.number h.callback c cs (sym same) h.found found in
+        false_true (sym (ap is_pending h.runs) ∙ ap (λ (x : CallbackRow). is_pending x.status) is ∙ pends)
 
 -- only one worker runs a callback, so once it runs nothing no worker does
 pub others_apart : (c : CallbackRow) (runner : ℕ) (associated : Bool) (slots : Slots) (cs : List CallbackRow) (first place : ℕ) (ws : List kept.WorkerRow) (new : kept.WorkerRow)
@@ -236,6 +247,21 @@ tallied_both fresh r c cs ws place row new rising found is before after marks k 
         let callbacks_now : length (filter of_callbacks (replaced r cs)) + one_if (of_callbacks c) ≡ length (filter of_callbacks cs) + one_if (of_callbacks r) = length_filter_replaced of_callbacks r c 1 fresh cs rising found in
         let workers_now : length (filter of_workers (slice_set ws place new)) + one_if (of_workers row) ≡ length (filter of_workers ws) + one_if (of_workers new) = length_filter_set of_workers ws place row new is in
         omega (arith, callbacks_now, workers_now, ap one_if was, ap one_if now, same)
+
+-- another row of a callback, which runs where the one before ran
+pub tallied_still : (fresh : ℕ) (r c : CallbackRow) (cs : List CallbackRow) (ws : List kept.WorkerRow) → ((p : ℕ) → is_running_in p r ≡ is_running_in p c) → ((p : ℕ) → is_running_long_in p r ≡ is_running_long_in p c)
+    → IsRising 1 fresh cs → find (has_number r.number) cs ≡ Some c → AreMarked (replaced r cs) ws → AreTallied cs ws → AreTallied (replaced r cs) ws
+tallied_still fresh r c cs ws run run_long rising found marks k =
+    record {
+      marked = marks;
+      run = λ p. counted (is_running_in p) (run p) ∙ k.run p;
+      run_long = λ p. counted (is_running_long_in p) (run_long p) ∙ k.run_long p;
+    }
+  where
+    counted : (test : CallbackRow → Bool) → test r ≡ test c → length (filter test (replaced r cs)) ≡ length (filter test cs)
+    counted test same =
+        let now : length (filter test (replaced r cs)) + one_if (test c) ≡ length (filter test cs) + one_if (test r) = length_filter_replaced test r c 1 fresh cs rising found in
+        omega (arith, now, ap one_if same)
 
 -- what is over is at work nowhere
 pub tallied_lives : (cs : List CallbackRow) (ws : List kept.WorkerRow) → AreMarked (filter lives cs) ws → AreTallied cs ws → AreTallied (filter lives cs) ws

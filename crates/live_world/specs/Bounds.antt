@@ -8,4 +8,5 @@ pub record IsBounded (w : World) : Type 0 where
   pub limits : AreLimitsInRange w.limits
   pub pools_least : 1 ≤ length w.pools
   pub pools_most : length w.pools ≤ w.limits.pools
+  pub slots_most : length w.callbacks ≤ w.limits.slots
   pub running_most : (pool : ℕ) → running w pool ≤ 65535

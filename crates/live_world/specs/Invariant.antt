@@ -1,7 +1,8 @@
 -- What the parts of a live world keep between calls: each index and each counter says of the rows what it is for. Each
 -- record speaks of the parts that it ties and of no others.
-use Rattle.std.specs.Prelude.{◌≡◌, ◌≢◌, ℕ, ◌+◌, ◌<◌, ◌≤◌, Bool, true, ◌||◌, List, length, map, Some, IfSome}
+use Rattle.std.specs.Prelude.{◌≡◌, ◌≢◌, ℕ, ◌+◌, ◌<◌, ◌≤◌, Bool, true, ◌||◌, List, length, map, Some, IfSome, is_some, option_map}
 use Rattle.std.specs.List.{filter, find, AllByRecursion}
+use Rattle.tp_base.specs.declared.ids.Who.{Who}
 use Rattle.tp_base.specs.declared.ids.PoolId.{PoolId}
 use Rattle.tp_base.specs.declared.limits.Limits.{Limits}
 use Rattle.tp_base.specs.declared.rows.ClientRow.{ClientRow}
@@ -10,13 +11,16 @@ use Rattle.tp_base.specs.Ranges.{AreLimitsInRange}
 use Rattle.callback_rows.specs.LiveCallbacks.{LiveCallbacks}
 use Rattle.handle_table.specs.Table.{Table}
 use Rattle.prio_queue.specs.Pending.{Pending, queue_of, held}
+use Rattle.keyed_lists.specs.Keyed.{Keyed}
+use Rattle.cancel_wait.specs.Covers.{Covers, wait_of}
 use Rattle.pool_rows.specs.Pools.{Pools}
 use Rattle.pool_rows.specs.Workers.{runs_in, runs_long_in}
 use Rattle.pool_rows.specs.declared.WorkerRow.{WorkerRow}
 use Rattle.tp_model.specs.Counts.{has_number, is_pending, is_running, is_running_in, is_running_long_in}
-use Rattle.tp_model.specs.Sound.{IsSound}
+use Rattle.tp_model.specs.World.{BegunWait}
+use Rattle.tp_model.specs.Allowed.{IsObjectTarget}
 use Rattle.tp_model.specs.Remembered.{lives}
-use Rattle.live_world.specs.Parts.{world_of, entry_of, queue_among}
+use Rattle.live_world.specs.Parts.{entry_of, queue_among, is_tied, tied_entry, held_among, wait_among, place_of}
 use Rattle.live_world.specs.declared.objects.Object.{Object}
 
 abbrev pub waits : CallbackRow → Bool
@@ -66,9 +70,24 @@ pub record AreTallied (callbacks : List CallbackRow) (workers : List WorkerRow) 
   pub run : (pool : ℕ) → length (filter (is_running_in pool) callbacks) ≡ length (filter (runs_in pool) workers)
   pub run_long : (pool : ℕ) → length (filter (is_running_long_in pool) callbacks) ≡ length (filter (runs_long_in pool) workers)
 
-pub record AreKept (limits : Limits) (pools : Pools) (objects : Table Object) (callbacks : LiveCallbacks) (queues : Pending) (clients : List ClientRow) (made : ℕ) : Type 0 where
-  pub sized : AreSized limits pools objects clients
-  pub alive : AreLive limits callbacks
-  pub queued : AreQueued limits callbacks.rows queues
-  pub tallied : AreTallied callbacks.rows pools.workers
-  pub sound : IsSound (made + 1) (world_of limits pools objects callbacks.rows clients)
+-- the lists of objects hold exactly the callbacks that are outstanding for them
+pub record AreListed (limits : Limits) (objects : ℕ) (callbacks : List CallbackRow) (outstanding : Keyed) : Type 0 where
+  pub key_count : outstanding.keys ≡ limits.objects + 1
+  pub listed_slots : outstanding.slots ≡ limits.slots
+  pub objects_within : objects ≤ limits.objects
+  pub listed : outstanding.entries ≡ map tied_entry (filter is_tied callbacks)
+  -- their objects were made
+  pub objects_made : AllByRecursion (λ (c : CallbackRow). c.object.0 ≤ objects) callbacks
+
+-- an actor of the machine waits for an object's callbacks, of numbers below fresh
+pub record IsWaitKept (limits : Limits) (fresh : ℕ) (b : BegunWait) : Type 0 where
+  pub actor : is_some (place_of limits b.actor) ≡ true
+  pub object : IsObjectTarget b.target
+  pub made : AllByRecursion (λ n. n < fresh) b.covered
+
+-- the barriers hold of each begun wait exactly what it still holds
+pub record AreCovered (limits : Limits) (fresh : ℕ) (callbacks : List CallbackRow) (waits : List BegunWait) (barriers : Covers) : Type 0 where
+  pub waiters : length barriers.waits ≡ limits.clients + limits.workers
+  pub barrier_slots : barriers.slots ≡ limits.slots
+  pub covered : (who : Who) (place : ℕ) → place_of limits who ≡ Some place → wait_of barriers place ≡ option_map (held_among callbacks) (wait_among waits who)
+  pub waits_kept : AllByRecursion (IsWaitKept limits fresh) waits

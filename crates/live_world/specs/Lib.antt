@@ -6,3 +6,4 @@ pub mod Parts
 pub mod Tally
 pub mod Uses
 pub mod View
+pub mod Waiting

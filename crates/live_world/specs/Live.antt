@@ -1,8 +1,13 @@
 -- What a live world is seen as, and what it is after a change.
-use Rattle.std.specs.Prelude.{ℕ, ◌+◌}
+use Rattle.std.specs.Prelude.{ℕ, ◌+◌, Bool, true, if◌then◌else◌}
+use Rattle.tp_base.specs.declared.ids.ObjectId.{ObjectId}
+use Rattle.tp_base.specs.declared.rows.WaitTarget.TheVariants.{Object}
 use Rattle.tp_base.specs.declared.plans.Change.{Change}
 use Rattle.tp_model.specs.World.{World}
-use Rattle.tp_model.specs.Changes.{changed}
+use Rattle.tp_model.specs.Changes.{changed, with_callback}
+use Rattle.tp_base.specs.declared.rows.CallbackRow.{CallbackRow}
+use Rattle.tp_model.specs.Counts.{is_pending}
+use Rattle.tp_model.specs.Waits.{is_cancelled_by, cancelled, cancel_where}
 use Rattle.tp_model.specs.Allowed.{news}
 use Rattle.tp_model.specs.Remembered.{forget}
 
@@ -13,3 +18,18 @@ pub record Live : Type 0 where
 
 abbrev pub moved : Live → Change → Live
 moved l change = record { world = forget (changed l.world change); made = l.made + news change }
+
+-- the same with another world
+abbrev pub became : Live → World → Live
+became l w = record { world = forget w; made = l.made }
+
+-- the pending callbacks of an object cancelled, if so it is asked
+abbrev pub settled : Live → ObjectId → Bool → Live
+settled l object cancel = became l (record l.world { callbacks = cancel_where (is_cancelled_by (Object object) cancel) l.world.callbacks })
+
+abbrev pub without_pending : Live → ObjectId → Live
+without_pending l object = settled l object true
+
+-- a callback cancelled if it is pending
+abbrev pub without_callback : Live → CallbackRow → Live
+without_callback l callback = if is_pending callback.status then became l (with_callback l.world (cancelled callback)) else l

@@ -1,6 +1,12 @@
 -- The world that the parts of an engine show.
-use Rattle.std.specs.Prelude.{ℕ, ◌==◌, ◌&&◌, Bool, List, [], ◌++◌, map, if◌then◌else◌, None, Some}
-use Rattle.std.specs.List.{filter}
+use Rattle.std.specs.Prelude.{ℕ, ◌+◌, ◌-◌, ◌==◌, ◌&&◌, Bool, false, nat_le, List, [], ◌++◌, map, if◌then◌else◌, Option, None, Some}
+use Rattle.std.specs.List.{filter, find}
+use Rattle.std.specs.Option.{option_map_or}
+use Rattle.tp_base.specs.declared.ids.Who.{Who}
+use Rattle.tp_base.specs.declared.ids.Who.TheVariants.{Client, Worker}
+use Rattle.tp_base.specs.declared.rows.WaitTarget.{WaitTarget}
+use Rattle.tp_base.specs.declared.rows.WaitTarget.TheVariants.{Object}
+use Rattle.keyed_lists.specs.Keyed as keyed
 use Rattle.tp_base.specs.declared.limits.Limits.{Limits}
 use Rattle.tp_base.specs.declared.calls.Priority.{Priority}
 use Rattle.tp_base.specs.declared.calls.Priority.TheVariants.{High, Normal, Low}
@@ -12,11 +18,13 @@ use Rattle.handle_table.specs.Table.{Table, Marked}
 use Rattle.prio_queue.specs.Pending.{Entry, entry}
 use Rattle.pool_rows.specs.Pools.{Pools}
 use Rattle.pool_rows.specs.declared.WorkerRow as kept
-use Rattle.tp_model.specs.World.{World}
-use Rattle.tp_model.specs.Counts.{is_pending_in, is_high, is_normal, is_low}
-use Rattle.live_world.specs.declared.objects.Object.{Object}
+use Rattle.tp_model.specs.World.{World, BegunWait}
+use Rattle.tp_model.specs.Counts.{has_number, is_pending_in, is_high, is_normal, is_low}
+use Rattle.tp_model.specs.Conditions.{is_same_actor}
+use Rattle.tp_model.specs.Waits.{is_held_for, is_outstanding_for}
+use Rattle.live_world.specs.declared.objects.Object as made
 
-abbrev pub shown_object : Marked Object → ObjectRow
+abbrev pub shown_object : Marked made.Object → ObjectRow
 shown_object m = record { kind = m.row.kind; routine = m.row.routine; context = m.row.context; env = m.row.env; released = m.released }
 
 -- callback 0 stands for none
@@ -33,8 +41,8 @@ abbrev pub entry_of : CallbackRow → Entry
 entry_of c = entry (priority_byte c.priority) c.number
 
 -- what there are no calls for yet is empty
-abbrev pub world_of : Limits → Pools → Table Object → List CallbackRow → List ClientRow → World
-world_of limits pools objects callbacks clients = record {
+abbrev pub world_of : Limits → Pools → Table made.Object → List CallbackRow → List ClientRow → List BegunWait → World
+world_of limits pools objects callbacks clients waits = record {
   limits = limits;
   pools = pools.pools;
   groups = [];
@@ -45,7 +53,7 @@ world_of limits pools objects callbacks clients = record {
   armings = [];
   workers = map shown_worker pools.workers;
   clients = clients;
-  waits = [];
+  waits = waits;
   now = 0;
   given_up = 0;
 }
@@ -56,3 +64,34 @@ waiting_among callbacks pool test = filter (λ c. is_pending_in pool c && test c
 
 abbrev pub queue_among : List CallbackRow → ℕ → List CallbackRow
 queue_among callbacks pool = waiting_among callbacks pool is_high ++ waiting_among callbacks pool is_normal ++ waiting_among callbacks pool is_low
+
+-- ---- what is outstanding
+
+-- the callback is outstanding for its object; simple callbacks are of object 0
+abbrev pub is_tied : CallbackRow → Bool
+is_tied c = is_held_for (Object c.object) c.status
+
+-- its entry among those of its object
+abbrev pub tied_entry : CallbackRow → keyed.Entry
+tied_entry c = keyed.entry c.object.0 c.number
+
+-- ---- what waits hold
+
+-- the callback of this number is outstanding for the target
+abbrev pub is_held_among : List CallbackRow → WaitTarget → ℕ → Bool
+is_held_among callbacks target number = option_map_or (is_outstanding_for target) (find (has_number number) callbacks) false
+
+abbrev pub held_among : List CallbackRow → BegunWait → List ℕ
+held_among callbacks b = filter (is_held_among callbacks b.target) b.covered
+
+-- the wait that an actor has begun
+abbrev pub wait_among : List BegunWait → Who → Option BegunWait
+wait_among waits who = find (λ (b : BegunWait). is_same_actor b.actor who) waits
+
+abbrev pub place_within : ℕ → ℕ → ℕ → Option ℕ
+place_within first count number = if nat_le 1 number && nat_le number count then Some (first + (number - 1)) else None
+
+-- where an actor's wait stands: first those of the clients, then those of the workers
+abbrev pub place_of : Limits → Who → Option ℕ
+place_of limits (Client number) = place_within 0 limits.clients number
+place_of limits (Worker number) = place_within limits.clients limits.workers number

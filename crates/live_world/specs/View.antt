@@ -1,14 +1,22 @@
--- What the parts of a live world show.
+-- What the parts of a live world show, and what they keep between calls.
+use Rattle.std.specs.Prelude.{◌+◌, length}
+use Rattle.tp_model.specs.Sound.{IsSound}
 use Rattle.live_world.specs.Live.{Live}
-use Rattle.live_world.specs.Invariant.{AreKept}
+use Rattle.live_world.specs.Invariant.{AreSized, AreLive, AreQueued, AreTallied, AreListed, AreCovered}
 use Rattle.live_world.specs.Parts.{world_of}
 use Rattle.live_world.specs.declared.LiveWorld.TheInside.{Inside}
 
 abbrev pub shown : Inside → Live
 shown a = record {
-  world = world_of a.limits a.pools a.objects a.callbacks.rows a.clients.items;
+  world = world_of a.limits a.pools a.objects a.callbacks.rows a.clients.items a.waits.waits;
   made = a.made;
 }
 
-abbrev pub IsLiveWorld : Inside → Type 0
-IsLiveWorld a = AreKept a.limits a.pools a.objects a.callbacks a.queues a.clients.items a.made
+pub record IsLiveWorld (a : Inside) : Type 0 where
+  pub sized : AreSized a.limits a.pools a.objects a.clients.items
+  pub alive : AreLive a.limits a.callbacks
+  pub queued : AreQueued a.limits a.callbacks.rows a.queues
+  pub tallied : AreTallied a.callbacks.rows a.pools.workers
+  pub listed : AreListed a.limits (length a.objects.rows) a.callbacks.rows a.outstanding
+  pub covered : AreCovered a.limits (a.made + 1) a.callbacks.rows a.waits.waits a.barriers
+  pub sound : IsSound (a.made + 1) (shown a).world

@@ -3,13 +3,13 @@
 ghost use Rattle.std.specs.Prelude.{◌≡◌, IfOk, replicate};
 ghost use Rattle.tp_model.specs.World.{unfinished};
 ghost use Rattle.tp_model.specs.Counts.{numbered, callback_of};
-ghost use Rattle.tp_model.specs.Conditions.{worker_of, idle_of, busy_of};
+ghost use Rattle.tp_model.specs.Conditions.{idle_of, busy_of, is_associated as is_associated_by, runs_own};
 
 use crate::LiveWorld;
 use std::alloc::{AllocError, Global};
-use tp_base::ids::Who;
+use tp_base::ids::{ObjectId, Who};
 use tp_base::plans::{Busy, Idle};
-use tp_base::rows::{CallbackRow, ClientRow, WorkerRow};
+use tp_base::rows::{CallbackRow, ClientRow, Status, WorkerRow};
 
 /// What refusals ask of an actor.
 #[derive(Clone, Copy)]
@@ -23,7 +23,7 @@ pub struct Actor {
     /// A worker that runs none.
     pub is_idle: bool,
     pub is_attached: bool,
-    /// It has a wait begun. No call begins one yet.
+    /// It has a wait begun.
     pub in_wait: bool,
 }
 
@@ -54,6 +54,16 @@ pub(crate) fn open_clients(alloc: Global, clients: u32) -> Result<Vec<ClientRow>
     vec![in alloc; ClientRow { finished: false }; clients as usize]
 }
 
+// Whether the callback runs and was not disassociated from its object.
+fn is_associated(status: Status) -> bool
+    ensures { result ≡ is_associated_by status }
+{
+    match status {
+        Status::Running { associated, .. } => associated,
+        _ => false,
+    }
+}
+
 impl LiveWorld {
     ghost use Rattle.live_world.specs.Actors.{actor_of};
 
@@ -61,23 +71,31 @@ impl LiveWorld {
     pub fn actor(&self, who: Who) -> Actor
         ensures { result ≡ actor_of self.now.world who }
     {
-        let _ = &self.limits;
+        let in_wait = self.is_in_wait(who);
         match who {
             Who::Client(number) => match self.client(number) {
-                None => NO_CLIENT,
+                None => Actor {
+                    in_wait,
+                    ..NO_CLIENT
+                },
                 Some(client) => Actor {
                     exists: true,
                     finished: client.finished,
+                    in_wait,
                     ..NO_CLIENT
                 },
             },
             Who::Worker(number) => match self.worker(number) {
-                None => NO_WORKER,
+                None => Actor {
+                    in_wait,
+                    ..NO_WORKER
+                },
                 Some(worker) => Actor {
                     exists: true,
                     runs: worker.callback.is_some(),
                     is_idle: worker.callback.is_none(),
                     is_attached: worker.pool.is_some(),
+                    in_wait,
                     ..NO_WORKER
                 },
             },
@@ -124,6 +142,18 @@ impl LiveWorld {
                 }),
                 _ => None,
             },
+        }
+    }
+
+    /// Whether the actor runs a callback of the object that was not disassociated from it.
+    pub fn runs_own(&self, who: Who, object: ObjectId) -> bool
+        ensures { result ≡ runs_own self.now.world who object.0 }
+    {
+        match self.busy(who) {
+            None => false,
+            Some(by) => {
+                is_associated(by.callback.status) && by.callback.object.0 == object.0
+            }
         }
     }
 

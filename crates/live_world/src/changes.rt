@@ -1,17 +1,23 @@
 //! The changes of a live world: here alone its parts change, so that what each index and counter is
 //! for stays true.
 
-ghost use Rattle.std.specs.Prelude.{◌≡◌, ◌+◌, ◌^◌, ◌<◌};
-ghost use Rattle.tp_model.specs.Allowed.{IsAllowed};
+ghost use Rattle.std.specs.Prelude.{◌≡◌, ◌+◌, ◌^◌, ◌<◌, [], filter, true, Some};
+ghost use Rattle.tp_model.specs.Counts.{callback_of, is_pending as is_pending_by};
+ghost use Rattle.tp_model.specs.Changes.{with_callback, loosened as loosened_by, begin_wait};
+ghost use Rattle.tp_model.specs.Waits.{cancelled, is_cancelled_by};
+ghost use Rattle.tp_model.specs.Allowed.{IsAllowed, MayBegin};
 ghost use Rattle.live_world.specs.Parts.{priority_byte as priority_byte_of};
-ghost use Rattle.live_world.specs.Live.{moved};
+ghost use Rattle.live_world.specs.Live.{moved, became, without_callback, without_pending, settled};
 
 use crate::LiveWorld;
+use crate::begun::Begins;
 use crate::objects::Object;
+use crate::waiting::begin_covering;
+use crate::waits::is_pending;
 use tp_base::calls::Priority;
-use tp_base::ids::PoolId;
-use tp_base::plans::{Busy, Change, Idle, Mark, PoolChange};
-use tp_base::rows::{CallbackRow, ClientRow, ObjectRow, Slots, Status};
+use tp_base::ids::{ObjectId, PoolId, Who};
+use tp_base::plans::{Busy, Change, Idle, Mark, PoolChange, WaitEnd};
+use tp_base::rows::{CallbackRow, ClientRow, ObjectRow, Slots, Status, WaitTarget};
 
 const NO_ACTIONS: Slots = Slots {
     section: None,
@@ -31,6 +37,20 @@ fn priority_byte(priority: Priority) -> u8
     }
 }
 
+// A running callback that is no longer outstanding for its object.
+fn loosened(status: Status) -> Status
+    ensures { result ≡ loosened_by status }
+{
+    match status {
+        Status::Running { worker, slots, .. } => Status::Running {
+            worker,
+            associated: false,
+            slots,
+        },
+        _ => status,
+    }
+}
+
 impl LiveWorld {
     /// Makes a change that the world allows. It takes no memory.
     pub fn apply(&mut self, change: Change)
@@ -42,12 +62,19 @@ impl LiveWorld {
             Change::CreatePool => self.create_pool(),
             Change::ChangePool { pool, how } => self.change_pool(pool, how),
             Change::CreateObject(row) => self.create_object(row),
+            Change::ReleaseObject { object } => self.release_object(object),
             Change::QueueCallback(callback) => self.queue_callback(callback),
             Change::Attach { worker, pool } => self.attach(worker, pool),
             Change::Detach(by) => self.detach(by),
             Change::Take { by, callback } => self.take(by, callback),
             Change::Mark { by, mark } => self.mark(by, mark),
             Change::Return(by) => self.return_callback(by),
+            Change::BeginWait {
+                who,
+                target,
+                cancel,
+            } => self.begin_wait(who, target, cancel),
+            Change::EndWait { who, how } => self.end_wait(who, how),
             Change::Finish { client } => self.finish(client),
         }
     }
@@ -92,6 +119,14 @@ impl LiveWorld {
         }
     }
 
+    // Releases an object. What is outstanding for it is left as it is.
+    fn release_object(&mut self, object: ObjectId)
+        requires { IsAllowed (self.old.made + 1) self.old.world (Change.ReleaseObject object) }
+        ensures { self.new ≡ moved self.old (Change.ReleaseObject object) }
+    {
+        let _was_live = self.objects.release(object.0);
+    }
+
     // Makes a callback that waits for a worker.
     fn queue_callback(&mut self, callback: CallbackRow)
         requires allowed { IsAllowed (self.old.made + 1) self.old.world (Change.QueueCallback callback) }
@@ -104,6 +139,7 @@ impl LiveWorld {
             priority_byte(callback.priority),
             callback.number,
         );
+        self.outstanding.add(callback.object.0, callback.number);
         self.made += 1;
     }
 
@@ -148,6 +184,7 @@ impl LiveWorld {
     {
         match mark {
             Mark::Long => self.mark_long(by),
+            Mark::Loose => self.mark_loose(by),
         }
     }
 
@@ -164,13 +201,118 @@ impl LiveWorld {
         self.pools.mark_long(by.worker);
     }
 
+    // Notes that a running callback is no longer outstanding for its object.
+    fn mark_loose(&mut self, by: Busy)
+        requires { IsAllowed (self.old.made + 1) self.old.world (Change.Mark by Mark.Loose) }
+        ensures { self.new ≡ moved self.old (Change.Mark by Mark.Loose) }
+    {
+        let loose = CallbackRow {
+            status: loosened(by.callback.status),
+            ..by.callback
+        };
+        let _was_there = self.callbacks.replace(loose);
+        let _was_outstanding = self.outstanding.remove(by.callback.number);
+        self.barriers.left(by.callback.number);
+    }
+
     // Ends the callback that a worker runs. The worker stays attached.
     fn return_callback(&mut self, by: Busy)
         requires { IsAllowed (self.old.made + 1) self.old.world (Change.Return by) }
         ensures { self.new ≡ moved self.old (Change.Return by) }
     {
         let _was_there = self.callbacks.remove(by.callback.number);
+        let _was_outstanding = self.outstanding.remove(by.callback.number);
+        self.barriers.left(by.callback.number);
         self.pools.give_back(by.worker);
+    }
+
+    // Cancels a callback that waits for a worker.
+    fn cancel_callback(&mut self, callback: CallbackRow)
+        requires found { callback_of self.old.world callback.number ≡ Some callback }
+        requires pending { is_pending_by callback.status ≡ true }
+        ensures { self.new ≡ became self.old (with_callback self.old.world (cancelled callback)) }
+    {
+        let _was_there = self.callbacks.remove(callback.number);
+        let _was_pending = self.queues.remove(callback.pool.0, callback.number);
+        let _was_outstanding = self.outstanding.remove(callback.number);
+        self.barriers.left(callback.number);
+    }
+
+    // Cancels a callback if it is pending.
+    fn cancel_if_pending(&mut self, callback: CallbackRow)
+        requires { callback_of self.old.world callback.number ≡ Some callback }
+        ensures { self.new ≡ without_callback self.old callback }
+    {
+        if is_pending(&callback) {
+            self.cancel_callback(callback);
+        }
+    }
+
+    // Cancels what is pending of an object, along what is outstanding for it.
+    fn cancel_pending(&mut self, object: ObjectId)
+        ensures { self.new ≡ without_pending self.old object }
+    {
+        self.is_reachable();
+        let mut next = self.first_outstanding(object);
+        while let Some(callback) = next {
+            self.is_reachable();
+            next = self.next_outstanding(&callback);
+            self.cancel_if_pending(callback);
+        }
+        self.is_reachable();
+    }
+
+    // With cancel, cancels what is pending of an object.
+    fn settle(&mut self, object: ObjectId, cancel: bool)
+        ensures { self.new ≡ settled self.old object cancel }
+    {
+        self.is_reachable();
+        if cancel {
+            self.cancel_pending(object);
+        }
+    }
+
+    // Begins a wait that covers all that is outstanding for the object.
+    fn cover_outstanding(&mut self, who: Who, object: ObjectId, cancel: bool)
+        requires allowed { MayBegin self.old.world who (WaitTarget.Object object) }
+        requires settled { filter (is_cancelled_by (WaitTarget.Object object) cancel) self.old.world.callbacks ≡ [] }
+        ensures { self.new ≡ became self.old (begin_wait self.old.world who (WaitTarget.Object object) cancel self.old.world.callbacks) }
+    {
+        let _ = self.outstanding.len();
+        let Some(waiter) = self.waiter(who) else {
+            unreachable!()
+        };
+        begin_covering(&mut self.barriers, waiter, &self.outstanding, object.0);
+        let begins = Begins {
+            who,
+            target: WaitTarget::Object(object),
+            cancel,
+        };
+        self.waits = self.waits.and(&begins, &self.callbacks);
+    }
+
+    // Begins a wait of an actor. With cancel, what is pending is cancelled first.
+    fn begin_wait(&mut self, who: Who, target: WaitTarget, cancel: bool)
+        requires { IsAllowed (self.old.made + 1) self.old.world (Change.BeginWait who target cancel) }
+        ensures { self.new ≡ moved self.old (Change.BeginWait who target cancel) }
+    {
+        let WaitTarget::Object(object) = target else {
+            unreachable!()
+        };
+        self.settle(object, cancel);
+        self.cover_outstanding(who, object, cancel);
+    }
+
+    // Ends the wait that an actor has begun.
+    fn end_wait(&mut self, who: Who, how: WaitEnd)
+        requires { IsAllowed (self.old.made + 1) self.old.world (Change.EndWait who how) }
+        ensures { self.new ≡ moved self.old (Change.EndWait who how) }
+    {
+        let Some(waiter) = self.waiter(who) else {
+            unreachable!()
+        };
+        self.barriers.finish(waiter);
+        self.waits = self.waits.without(&who);
     }
 
     // Notes that a client makes no further call.

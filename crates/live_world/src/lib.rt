@@ -15,8 +15,11 @@ ghost use Rattle.tp_model.specs.Remembered.{forget};
 ghost use Rattle.tp_model.specs.Sound.{IsSound};
 ghost use Rattle.live_world.specs.Bounds.{IsBounded};
 
+use begun::BegunWaits;
 use callback_rows::CallbackRows;
+use cancel_wait::Barriers;
 use handle_table::Rows;
+use keyed_lists::KeyedLists;
 use objects::Object;
 use pool_rows::PoolRows;
 use prio_queue::Queues;
@@ -26,10 +29,14 @@ use tp_base::limits::Limits;
 use tp_base::rows::ClientRow;
 
 pub mod actors;
+mod begun;
 mod callbacks;
 mod changes;
 mod objects;
+pub mod outstanding;
 mod pools;
+mod waiting;
+pub mod waits;
 
 /// What is kept of a world.
 #[derive(Drop)]
@@ -39,6 +46,11 @@ pub struct LiveWorld {
     objects: Rows<Object>,
     callbacks: CallbackRows,
     queues: Queues,
+    // What is outstanding for each object.
+    outstanding: KeyedLists,
+    // What each begun wait still holds.
+    barriers: Barriers,
+    waits: BegunWaits,
     clients: Vec<ClientRow>,
     made: u64,
 }
@@ -68,6 +80,8 @@ impl LiveWorld {
         let objects = Rows::open(alloc, limits.objects)?;
         let callbacks = CallbackRows::open(alloc, limits.slots)?;
         let queues = Queues::open(alloc, limits.pools, limits.slots)?;
+        let outstanding = KeyedLists::open(alloc, limits.objects + 1, limits.slots)?;
+        let barriers = Barriers::open(alloc, limits.clients + limits.workers, limits.slots)?;
         let clients = actors::open_clients(alloc, limits.clients)?;
         Ok(LiveWorld {
             limits,
@@ -75,6 +89,9 @@ impl LiveWorld {
             objects,
             callbacks,
             queues,
+            outstanding,
+            barriers,
+            waits: BegunWaits::none(),
             clients,
             made: 0,
         })
@@ -83,8 +100,9 @@ impl LiveWorld {
     /// What is true of every live world. It does nothing: who calls it knows this.
     pub fn is_reachable(&self)
         ensures sound { IsSound (self.now.made + 1) self.now.world }
+        ensures living { forget self.now.world ≡ self.now.world }
         ensures bounded { IsBounded self.now.world }
     {
-        let _ = &self.limits;
+        let _ = self.callbacks.len();
     }
 }

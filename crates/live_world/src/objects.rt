@@ -4,7 +4,7 @@ ghost use Rattle.std.specs.Prelude.{◌≡◌, ◌+◌, ◌==◌, nat_le, length
 ghost use Rattle.handle_table.specs.Found.{found_row as found_row_of};
 ghost use Rattle.live_world.specs.Parts.{shown_object};
 ghost use Rattle.tp_model.specs.Counts.{numbered};
-ghost use Rattle.tp_model.specs.Conditions.{is_object, is_released, is_work, is_work_object, is_no_group_or_group, is_closed_group};
+ghost use Rattle.tp_model.specs.Conditions.{is_object, is_released, is_same_kind as is_same_kind_of, is_object_of, is_no_group_or_group, is_closed_group};
 
 use crate::LiveWorld;
 use handle_table::Found;
@@ -43,10 +43,16 @@ fn found_row(found: Found<'_, Object>) -> Option<ObjectRow>
     }
 }
 
-fn is_work_kind(kind: Kind) -> bool
-    ensures { result ≡ is_work kind }
+fn is_same_kind(first: Kind, second: Kind) -> bool
+    ensures { result ≡ is_same_kind_of first second }
 {
-    matches!(kind, Kind::Work)
+    matches!(
+        (first, second),
+        (Kind::Work, Kind::Work)
+            | (Kind::Timer, Kind::Timer)
+            | (Kind::Wait, Kind::Wait)
+            | (Kind::Io, Kind::Io)
+    )
 }
 
 impl LiveWorld {
@@ -64,13 +70,13 @@ impl LiveWorld {
         self.object(object).is_some()
     }
 
-    /// Whether it is a work object.
-    pub fn is_work_object(&self, object: ObjectId) -> bool
-        ensures { result ≡ is_work_object self.now.world object.0 }
+    /// Whether an object of this number was made, and is of this kind.
+    pub fn is_object_of(&self, kind: Kind, object: ObjectId) -> bool
+        ensures { result ≡ is_object_of self.now.world kind object.0 }
     {
         match self.object(object) {
             None => false,
-            Some(row) => is_work_kind(row.kind),
+            Some(row) => is_same_kind(row.kind, kind),
         }
     }
 

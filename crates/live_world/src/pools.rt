@@ -78,7 +78,7 @@ impl LiveWorld {
     ghost use Rattle.live_world.specs.Tally.{tally_of};
 
     // What is counted of a pool, whether it was made or not.
-    fn tally(&self, pool: PoolId) -> Tally
+    pub(crate) fn tally(&self, pool: PoolId) -> Tally
         ensures { result ≡ tally_of self.now.world pool.0 }
     {
         match self.pools.counts(pool) {

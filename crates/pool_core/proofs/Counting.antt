@@ -15,12 +15,15 @@ pub news_most : (ch : Change) → news ch ≤ 65536
 news_most change.CreatePool = omega arith
 news_most (change.ChangePool pool how) = omega arith
 news_most (change.CreateObject row) = omega arith
+news_most (change.ReleaseObject object) = omega arith
 news_most (change.QueueCallback callback) = omega arith
 news_most (change.Attach worker pool) = omega arith
 news_most (change.Detach by) = omega arith
 news_most (change.Take by callback) = omega arith
 news_most (change.Mark by mark) = omega arith
 news_most (change.Return by) = omega arith
+news_most (change.BeginWait who target cancel) = omega arith
+news_most (change.EndWait who how) = omega arith
 news_most (change.Finish client) = omega arith
 
 -- and costs little
@@ -28,12 +31,15 @@ pub price_most : (ch : Change) → price ch ≤ 65537
 price_most change.CreatePool = omega arith
 price_most (change.ChangePool pool how) = omega arith
 price_most (change.CreateObject row) = omega arith
+price_most (change.ReleaseObject object) = omega arith
 price_most (change.QueueCallback callback) = omega arith
 price_most (change.Attach worker pool) = omega arith
 price_most (change.Detach by) = omega arith
 price_most (change.Take by callback) = omega arith
 price_most (change.Mark by mark) = omega arith
 price_most (change.Return by) = omega arith
+price_most (change.BeginWait who target cancel) = omega arith
+price_most (change.EndWait who how) = omega arith
 price_most (change.Finish client) = omega arith
 
 none_pass : {X : Type 0} (p : X → Bool) (x : X) → p x ≡ false → (n : ℕ) → length (filter p (replicate n x)) ≡ 0

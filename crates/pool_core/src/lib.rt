@@ -48,6 +48,7 @@ mod objects;
 mod plans;
 mod pools;
 mod refusals;
+mod waits;
 mod work;
 mod workers;
 

@@ -1,15 +1,29 @@
-//! Calls on objects of all kinds: `CreateThreadpoolWork` and its like for timers, waits and I/O.
+//! Calls on objects of all kinds: `CreateThreadpoolWork` and `CloseThreadpoolWork`, and their like for
+//! timers, waits and I/O.
 
 ghost use Rattle.std.specs.Prelude.{◌≡◌, ◌^◌, ◌<◌};
-ghost use Rattle.tp_model.specs.Calls.Objects.{create_plan};
+ghost use Rattle.tp_model.specs.Calls.Objects.{new_object as new_object_of, create_plan, close_object_plan};
 
 use crate::refusals::{either, first_of};
 use live_world::LiveWorld;
 use tp_base::answers::{Answer, Refusal};
 use tp_base::calls::{Environ, Kind};
-use tp_base::ids::{RoutineId, Who};
+use tp_base::ids::{ObjectId, RoutineId, Who};
 use tp_base::plans::{Change, Plan};
 use tp_base::rows::ObjectRow;
+
+/// An object that was just made.
+pub(crate) fn new_object(kind: Kind, routine: RoutineId, context: u64, env: Environ) -> ObjectRow
+    ensures { result ≡ new_object_of kind routine context env }
+{
+    ObjectRow {
+        kind,
+        routine,
+        context,
+        env,
+        released: false,
+    }
+}
 
 /// Makes an object.
 #[tactic(auto, unfolding(tp_model::specs::Calls::Objects::create_plan))]
@@ -46,12 +60,36 @@ pub(crate) fn create(
         answer: Answer::Made {
             number: world.next_object(),
         },
-        change: Change::CreateObject(ObjectRow {
-            kind,
-            routine,
-            context,
-            env,
-            released: false,
-        }),
+        change: Change::CreateObject(new_object(kind, routine, context, env)),
+    }
+}
+
+/// Releases an object. It is freed once none of its callbacks is outstanding.
+#[tactic(auto, unfolding(tp_model::specs::Calls::Objects::close_object_plan))]
+pub(crate) fn close_object(world: &LiveWorld, who: Who, kind: Kind, object: ObjectId) -> Plan
+    ensures { result ≡ close_object_plan world.now.world who kind object }
+{
+    let actor = world.actor(who);
+    let refusal = first_of(&[
+        (
+            either(!actor.exists, !world.is_object(object)),
+            Refusal::NoSuch,
+        ),
+        (!world.is_object_of(kind, object), Refusal::WrongKind),
+        (
+            either(actor.finished, world.is_released(object)),
+            Refusal::Released,
+        ),
+        (actor.is_idle, Refusal::NotRunning),
+        (actor.in_wait, Refusal::InWait),
+    ]);
+    if let Some(refusal) = refusal {
+        return Plan::Refused(refusal);
+    }
+    Plan::Does {
+        answer: Answer::Closed {
+            later: world.is_outstanding(object),
+        },
+        change: Change::ReleaseObject { object },
     }
 }

@@ -5,7 +5,7 @@ ghost use Rattle.tp_model.specs.Allowed.{price as price_of};
 ghost use Rattle.tp_model.specs.Ranged.{IsWide};
 ghost use Rattle.tp_model.specs.Table.{plan_at};
 
-use crate::{clients, in_callback, objects, pools, work, workers};
+use crate::{clients, in_callback, objects, pools, waits, work, workers};
 use live_world::LiveWorld;
 use tp_base::calls::Call;
 use tp_base::ids::Who;
@@ -28,12 +28,25 @@ pub(crate) fn plan(world: &LiveWorld, who: Who, call: Call, room: u64) -> Plan
             context,
             env,
         } => objects::create(world, who, kind, routine, context, env),
+        Call::CloseObject { kind, object } => objects::close_object(world, who, kind, object),
+        Call::SubmitSimple {
+            routine,
+            context,
+            env,
+        } => work::submit_simple(world, who, routine, context, env),
         Call::SubmitWork { object } => work::submit_work(world, who, object),
+        Call::BeginWait {
+            kind,
+            object,
+            cancel,
+        } => waits::begin_wait(world, who, kind, object, cancel),
+        Call::End => waits::end(world, who, room),
         Call::Attach => workers::attach(world, who),
         Call::Detach => workers::detach(world, who),
         Call::Take => workers::take(world, who),
         Call::Return => workers::return_callback(world, who),
         Call::MayRunLong => in_callback::may_run_long(world, who),
+        Call::Disassociate => in_callback::disassociate(world, who),
         Call::Finish => clients::finish(world, who),
     }
 }
@@ -43,11 +56,15 @@ pub(crate) fn price(change: Change) -> u64
     ensures { result ≡ price_of change }
 {
     match change {
-        Change::Attach { .. } | Change::Take { .. } => 2,
-        Change::Detach(_) | Change::Return(_) | Change::Finish { .. } => 0,
+        Change::Attach { .. } | Change::Take { .. } | Change::BeginWait { .. } => 2,
+        Change::Detach(_)
+        | Change::Return(_)
+        | Change::EndWait { .. }
+        | Change::Finish { .. } => 0,
         Change::CreatePool
         | Change::ChangePool { .. }
         | Change::CreateObject(_)
+        | Change::ReleaseObject { .. }
         | Change::QueueCallback(_)
         | Change::Mark { .. } => 1,
     }

@@ -1,12 +1,14 @@
-//! Calls that make callbacks at once: `SubmitThreadpoolWork`.
+//! Calls that make callbacks at once: `SubmitThreadpoolWork` and `TrySubmitThreadpoolCallback`.
 
 ghost use Rattle.std.specs.Prelude.{◌≡◌, ◌+◌, ◌^◌, ◌<◌};
-ghost use Rattle.tp_model.specs.Calls.Work.{new_callback as new_callback_of, submit_work_plan};
+ghost use Rattle.tp_model.specs.Calls.Work.{new_callback as new_callback_of, submit_work_plan, submit_simple_plan};
 
+use crate::objects::new_object;
 use crate::refusals::{either, first_of};
 use live_world::LiveWorld;
 use tp_base::answers::{Answer, Refusal, TakeResult};
-use tp_base::ids::{ObjectId, Who};
+use tp_base::calls::{Environ, Kind};
+use tp_base::ids::{ObjectId, RoutineId, Who};
 use tp_base::plans::{Change, Plan};
 use tp_base::rows::{CallbackRow, ObjectRow, Status};
 
@@ -40,7 +42,7 @@ pub(crate) fn submit_work(world: &LiveWorld, who: Who, object: ObjectId) -> Plan
             either(!actor.exists, !world.is_object(object)),
             Refusal::NoSuch,
         ),
-        (!world.is_work_object(object), Refusal::WrongKind),
+        (!world.is_object_of(Kind::Work, object), Refusal::WrongKind),
         (
             either(actor.finished, world.is_released(object)),
             Refusal::Released,
@@ -59,5 +61,49 @@ pub(crate) fn submit_work(world: &LiveWorld, who: Who, object: ObjectId) -> Plan
     Plan::Does {
         answer: Answer::Queued { first, count: 1 },
         change: Change::QueueCallback(new_callback(first, object, row, TakeResult::Plain)),
+    }
+}
+
+/// Makes a callback without an object.
+#[tactic(auto, unfolding(tp_model::specs::Calls::Work::submit_simple_plan))]
+pub(crate) fn submit_simple(
+    world: &LiveWorld,
+    who: Who,
+    routine: RoutineId,
+    context: u64,
+    env: Environ,
+) -> Plan
+    requires { world.now.made < 2 ^ 63 }
+    ensures plan { result ≡ submit_simple_plan world.now.world (world.now.made + 1) who routine context env }
+    ensures wide { context < 2 ^ 64 }
+{
+    let actor = world.actor(who);
+    let lacks_pool = !world.is_pool(env.pool);
+    let lacks_group = !world.is_no_group_or_group(env.group);
+    let refusal = first_of(&[
+        (
+            either(either(!actor.exists, lacks_pool), lacks_group),
+            Refusal::NoSuch,
+        ),
+        (actor.finished, Refusal::Released),
+        (world.is_closed_pool(env.pool), Refusal::PoolClosed),
+        (world.is_closed_group(env.group), Refusal::GroupClosed),
+        (actor.is_idle, Refusal::NotRunning),
+        (actor.in_wait, Refusal::InWait),
+        (world.lacks_slot(), Refusal::CallbackLimit),
+    ]);
+    if let Some(refusal) = refusal {
+        return Plan::Refused(refusal);
+    }
+    let first = world.next_number();
+    let object = new_object(Kind::Work, routine, context, env);
+    Plan::Does {
+        answer: Answer::Queued { first, count: 1 },
+        change: Change::QueueCallback(new_callback(
+            first,
+            ObjectId(0),
+            object,
+            TakeResult::Plain,
+        )),
     }
 }

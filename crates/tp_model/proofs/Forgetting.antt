@@ -181,7 +181,7 @@ busy_forget fresh w (Worker number) s = busy_in_forget fresh w number (numbered 
 
 -- ---- waits
 
-over_not_held : (target : WaitTarget) (s : Status) → is_live s ≡ false → is_held_for target s ≡ false
+pub over_not_held : (target : WaitTarget) (s : Status) → is_live s ≡ false → is_held_for target s ≡ false
 over_not_held target Returned e = refl
 over_not_held target Cancelled e = refl
 over_not_held target Expected e = cc
@@ -189,11 +189,11 @@ over_not_held target Issued e = cc
 over_not_held target Pending e = cc
 over_not_held target (Running worker associated slots) e = absurd (false_true (sym e))
 
-over_not_outstanding : (target : WaitTarget) (c : CallbackRow) → lives c ≡ false → is_outstanding_for target c ≡ false
+pub over_not_outstanding : (target : WaitTarget) (c : CallbackRow) → lives c ≡ false → is_outstanding_for target c ≡ false
 over_not_outstanding target c e = ap (λ b. is_of target c && b) (over_not_held target c.status e) ∙ and_false (is_of target c)
 
 -- what is found among those that live passes a test that none of the others passes
-over_forget : (p : CallbackRow → Bool) → ((c : CallbackRow) → lives c ≡ false → p c ≡ false) → (low fresh number : ℕ) (cs : List CallbackRow) → IsRising low fresh cs
+pub over_forget : (p : CallbackRow → Bool) → ((c : CallbackRow) → lives c ≡ false → p c ≡ false) → (low fresh number : ℕ) (cs : List CallbackRow) → IsRising low fresh cs
     → option_map_or p (find (has_number number) (filter lives cs)) false ≡ option_map_or p (find (has_number number) cs) false
 over_forget p over low fresh number [] r = refl
 over_forget p over low fresh number (c ∷ cs) r =
@@ -233,7 +233,7 @@ end_wait_forget fresh room w who None s = refl
 end_wait_forget fresh room w who (Some b) s = ap (end_held (forget w) room who) (all_held_forget fresh w b s) ∙ end_held_forget fresh room w who (held w b) s
 
 -- what lives after a cancellation
-cancel_forget : (q test : CallbackRow → Bool) → IsPendingTest test → ((c : CallbackRow) → lives c ≡ false → q c ≡ false) → (cs : List CallbackRow) → filter q (cancel_where test (filter lives cs)) ≡ filter q (cancel_where test cs)
+pub cancel_forget : (q test : CallbackRow → Bool) → IsPendingTest test → ((c : CallbackRow) → lives c ≡ false → q c ≡ false) → (cs : List CallbackRow) → filter q (cancel_where test (filter lives cs)) ≡ filter q (cancel_where test cs)
 cancel_forget q test only over [] = refl
 cancel_forget q test only over (c ∷ cs) =
     elim (lives c) as (λ t. lives c ≡ t → filter q (cancel_where test (cond t (c ∷ filter lives cs) (filter lives cs))) ≡ filter q (cancelled_if test c ∷ cancel_where test cs)) [

@@ -1,5 +1,5 @@
 -- The plan of each call asks for a change that is allowed, made by the actor.
-use Rattle.std.proofs.Common.{◌≡◌, ℕ, ◌<◌, Bool, true, false, cond, not, ◌||◌, ◌==◌, List, [], ◌∷◌, length, nat_le, Option, Some, None, is_some, refl, sym, ap, ◌∙◌, eqb-true}
+use Rattle.std.proofs.Common.{◌≡◌, ℕ, ◌-◌, ◌<◌, Bool, true, false, cond, not, ◌||◌, ◌==◌, List, [], ◌∷◌, length, nat_le, Option, Some, None, is_some, refl, sym, ap, ◌∙◌, arith, eqb-true}
 use Rattle.std.specs.Option.{option_map_or}
 use Rattle.std.proofs.lemmas.Bool.{leb-false}
 use Rattle.tp_base.specs.declared.ids.Who.{Who}
@@ -104,8 +104,10 @@ close_object_safe fresh w who kind object =
 submit_safe : (fresh : ℕ) (w : World) (who : Who) (object : ObjectId) (row : Option ObjectRow) → IsSound fresh w → numbered w.objects object.0 ≡ row → lacks_slots_for w 1 ≡ false → IsSafe fresh w who (SubmitWork object) (submit fresh object row)
 submit_safe fresh w who object None s is fits = tt
 submit_safe fresh w who object (Some row) s is fits =
-    let home = all_get (λ (o : ObjectRow). o.env.pool.0 < length w.pools) w.objects _ row s.object_pools (numbered_some w.objects object.0 row is).0 in
-    record { allowed = record { number = refl; pending = refl; home = home; room = fits }; made_by = tt; accepted = refl; tells = refl }
+    let at = numbered_some w.objects object.0 row is in
+    let home = all_get (λ (o : ObjectRow). o.env.pool.0 < length w.pools) w.objects _ row s.object_pools at.0 in
+    let there : object.0 - 1 < length w.objects = made w.objects (object.0 - 1) (ap is_some at.0) in
+    record { allowed = record { number = refl; pending = refl; object = omega (arith, there, at.1); home = home; room = fits }; made_by = tt; accepted = refl; tells = refl }
 
 submit_work_safe : (fresh : ℕ) (w : World) (who : Who) (object : ObjectId) → IsSound fresh w → IsSafe fresh w who (SubmitWork object) (submit_work_plan w fresh who object)
 unfolding submit_work_plan
@@ -119,7 +121,7 @@ submit_simple_safe fresh w who routine context env =
     (λ none.
     let there = neither (not (is_actor w who) || not (is_pool w env.pool.0)) (not (is_no_group_or_group w env.group.0)) none.0 in
     let home = made w.pools env.pool.0 (not_false (is_pool w env.pool.0) (neither (not (is_actor w who)) (not (is_pool w env.pool.0)) there.0).1) in
-    record { allowed = record { number = refl; pending = refl; home = home; room = none.1.1.1.1.1.1.0 }; made_by = tt; accepted = refl; tells = refl })
+    record { allowed = record { number = refl; pending = refl; object = omega arith; home = home; room = none.1.1.1.1.1.1.0 }; made_by = tt; accepted = refl; tells = refl })
 
 -- ---- workers
 
@@ -219,7 +221,9 @@ disassociate_safe fresh w who s = in_callback_safe fresh w who Disassociate (bus
 begin_wait_safe : (fresh : ℕ) (w : World) (who : Who) (kind : Kind) (object : ObjectId) (cancel : Bool) → IsSafe fresh w who (BeginWait kind object cancel) (begin_wait_plan w who kind object cancel)
 unfolding begin_wait_plan
 begin_wait_safe fresh w who kind object cancel =
-    safe_unless fresh w who (BeginWait kind object cancel) (begin_wait_refusals w who kind object.0) _ (λ none. record { allowed = record { none = none.1.1.1.1.0; object = tt }; made_by = refl; accepted = refl; tells = refl })
+    safe_unless fresh w who (BeginWait kind object cancel) (begin_wait_refusals w who kind object.0) _ (λ none.
+    let there = neither (not (is_actor w who)) (not (is_object w object.0)) none.0 in
+    record { allowed = record { actor = not_false (is_actor w who) there.0; none = none.1.1.1.1.0; object = tt; made = not_false (is_object w object.0) there.1 }; made_by = refl; accepted = refl; tells = refl })
 
 end_safe : (fresh room : ℕ) (w : World) (who : Who) → IsSound fresh w → IsSafe fresh w who End (end_plan w room who)
 unfolding end_plan

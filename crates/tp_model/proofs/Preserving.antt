@@ -242,6 +242,11 @@ sound_same fresh w r c number pool status found s =
       callback_pools = pools_replaced (length w.pools) r w.callbacks home s.callback_pools;
     }
 
+-- a pending callback is cancelled
+pub sound_cancelled : (fresh : ℕ) (w : World) (c : CallbackRow) → find (has_number c.number) w.callbacks ≡ Some c → is_pending c.status ≡ true → IsSound fresh w → IsSound fresh (with_callback w (cancelled c))
+sound_cancelled fresh w c found pends s =
+    sound_same fresh w (cancelled c) c refl refl (λ worker associated slots e. absurd (false_true (sym (ap is_pending e) ∙ pends))) found s
+
 -- what a callback says of itself leaves it running where it ran
 pub sound_marked : (fresh : ℕ) (w : World) (mark : Mark) (c : CallbackRow) → find (has_number c.number) w.callbacks ≡ Some c → IsSound fresh w → IsSound fresh (with_callback w (marked mark c))
 sound_marked fresh w Long c found s = sound_same fresh w (marked Long c) c refl refl (λ worker associated slots e. (associated, slots, e)) found s

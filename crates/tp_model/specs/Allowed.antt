@@ -1,5 +1,5 @@
 -- Which changes a world allows, what each costs, and how many callbacks it makes.
-use Rattle.std.specs.Prelude.{◌≡◌, ℕ, ◌<◌, Bool, true, false, [], length, None, Some}
+use Rattle.std.specs.Prelude.{◌≡◌, ℕ, ◌<◌, ◌≤◌, Bool, true, false, [], length, None, Some}
 use Rattle.tp_base.specs.declared.ids.Who.{Who}
 use Rattle.tp_base.specs.declared.ids.Who.TheVariants.{Client, Worker}
 use Rattle.tp_base.specs.declared.ids.ObjectId.{ObjectId}
@@ -18,7 +18,7 @@ use Rattle.tp_base.specs.declared.rows.ObjectRow.{ObjectRow}
 use Rattle.tp_base.specs.declared.rows.CallbackRow.{CallbackRow}
 use Rattle.tp_model.specs.World.{World, BegunWait, unattached, unfinished}
 use Rattle.tp_model.specs.Counts.{numbered, callback_of, is_pending, maximum, running}
-use Rattle.tp_model.specs.Conditions.{is_in_wait, lacks_slots_for}
+use Rattle.tp_model.specs.Conditions.{is_actor, is_in_wait, is_object, lacks_slots_for}
 use Rattle.tp_model.specs.Waits.{wait_of, held}
 
 -- an object that has its place, in a pool that was made
@@ -27,10 +27,12 @@ pub record IsNewObject (w : World) (row : ObjectRow) : Type 0 where
   pub home : row.env.pool.0 < length w.pools
   pub room : length w.objects < w.limits.objects
 
--- a pending callback of the next number that has its place, in a pool that was made
+-- a pending callback of the next number that has its place, of an object and in a pool that were made; a simple one is of
+-- object 0
 pub record IsNewCallback (fresh : ℕ) (w : World) (callback : CallbackRow) : Type 0 where
   pub number : callback.number ≡ fresh
   pub pending : is_pending callback.status ≡ true
+  pub object : callback.object.0 ≤ length w.objects
   pub home : callback.pool.0 < length w.pools
   pub room : lacks_slots_for w 1 ≡ false
 
@@ -70,10 +72,16 @@ abbrev pub IsObjectTarget : WaitTarget → Type 0
 IsObjectTarget (Object object) = Unit {0}
 IsObjectTarget _ = ⊥
 
+abbrev pub IsTargetMade : World → WaitTarget → Type 0
+IsTargetMade w (Object object) = is_object w object.0 ≡ true
+IsTargetMade w _ = ⊥
+
 -- an actor that has no wait begun, and an object to wait for
 pub record MayBegin (w : World) (who : Who) (target : WaitTarget) : Type 0 where
+  pub actor : is_actor w who ≡ true
   pub none : is_in_wait w who ≡ false
   pub object : IsObjectTarget target
+  pub made : IsTargetMade w target
 
 -- the wait that the actor has begun; it ends freely where nothing that it covers is outstanding any more
 pub record MayEnd (w : World) (who : Who) (how : WaitEnd) : Type 0 where

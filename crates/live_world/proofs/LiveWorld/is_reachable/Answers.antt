@@ -1,9 +1,15 @@
-use Rattle.std.proofs.Common.{subst, arith}
+use Rattle.std.proofs.Common.{◌≡◌, ap, subst, arith}
+use Rattle.tp_model.specs.Remembered.{forget}
+use Rattle.live_world.specs.View.{shown}
 use Rattle.std.proofs.lemmas.List.Sums.{length-filter, count_by-le-length}
 use Rattle.pool_rows.specs.Workers.{runs_in}
 use Rattle.live_world.specs.Bounds.{IsBounded}
 use Rattle.live_world.specs.Live.{Live}
 use Rattle.live_world.proofs.LiveWorld.is_reachable.Goals as goal
+
+pub returns-clause-living : goal.returns-clause-living
+returns-clause-living c =
+    subst (λ (l : Live). forget l.world ≡ l.world) c.self.view_is (ap (λ cs. record (shown c.self.inside).world { callbacks = cs }) c.self.invariant.alive.live)
 
 pub returns-clause-bounded : goal.returns-clause-bounded
 returns-clause-bounded c =
@@ -13,6 +19,7 @@ returns-clause-bounded c =
       limits = k.sized.in_range;
       pools_least = k.sized.pools_least;
       pools_most = k.sized.pools_within;
+      slots_most = omega (arith, c.len.ensures.limited, k.alive.slot_limit);
       -- no more than there are workers
       running_most = λ pool. omega (arith, k.tallied.run pool, length-filter (runs_in pool) i.pools.workers, count_by-le-length (runs_in pool) i.pools.workers, k.sized.worker_count, k.sized.in_range.workers_most);
     })

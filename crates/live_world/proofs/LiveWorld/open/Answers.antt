@@ -1,12 +1,43 @@
+use Rattle.std.proofs.Common.{refl, ap, ap₂, ◌∙◌}
+use Rattle.live_world.specs.declared.LiveWorld.TheInside.{Inside}
+use Rattle.tp_model.specs.World.{opening}
+use Rattle.tp_model.specs.Remembered.{forget}
+use Rattle.live_world.proofs.Moving.{Becomes}
 use Rattle.live_world.proofs.Opening.{opened}
 use Rattle.live_world.proofs.LiveWorld.open.Goals as goal
 
+abbrev parts : goal.After-none → Inside
+parts c = record {
+  limits = c.args.limits;
+  pools = c.in_ok-pools.pools;
+  objects = c.in_ok-objects.objects;
+  callbacks = c.in_ok-callbacks.callbacks;
+  queues = c.in_ok-queues.queues;
+  outstanding = c.in_ok-outstanding.outstanding;
+  barriers = c.in_ok-barriers.barriers;
+  waits = c.none.result;
+  clients = c.in_ok-clients.clients;
+  made = 0;
+}
+
+opened_here : (c : goal.After-none) → Becomes (parts c) (record { world = forget (opening c.args.limits); made = 0 })
+opened_here c =
+    opened (parts c)
+    (record {
+      in_range = c.requires;
+      pools = c.in_ok-pools.ensures;
+      objects = ap₂ (λ n rows. record { limit = n; rows = rows }) c.in_ok-objects.ensures.limit c.in_ok-objects.ensures.empty;
+      callbacks = c.in_ok-callbacks.ensures;
+      queues = ap₂ (λ n qs. record { slots = n; queues = qs }) c.in_ok-queues.ensures.slots c.in_ok-queues.ensures.empty;
+      outstanding = c.in_ok-outstanding.ensures;
+      barriers = ap₂ (λ n ws. record { slots = n; waits = ws }) c.in_ok-barriers.ensures.slots c.in_ok-barriers.ensures.waits;
+      clients = c.in_ok-clients.ensures;
+      waits = c.none.ensures;
+      made = refl;
+    })
+
 pub invariant_of-result : goal.invariant_of-result
-invariant_of-result c =
-    (opened c.args.limits c.in_ok-pools.pools c.in_ok-objects.objects c.in_ok-callbacks.callbacks c.in_ok-queues.queues c.in_ok-clients.clients.items c.requires
-    c.in_ok-pools.ensures c.in_ok-objects.ensures.limit c.in_ok-objects.ensures.empty c.in_ok-callbacks.ensures c.in_ok-queues.ensures.slots c.in_ok-queues.ensures.empty c.in_ok-clients.ensures).keeps
+invariant_of-result c = (opened_here c).keeps
 
 pub returns : goal.returns
-returns c =
-    (opened c.args.limits c.in_ok-pools.pools c.in_ok-objects.objects c.in_ok-callbacks.callbacks c.in_ok-queues.queues c.in_ok-clients.clients.items c.requires
-    c.in_ok-pools.ensures c.in_ok-objects.ensures.limit c.in_ok-objects.ensures.empty c.in_ok-callbacks.ensures c.in_ok-queues.ensures.slots c.in_ok-queues.ensures.empty c.in_ok-clients.ensures).becomes
+returns c = (opened_here c).becomes

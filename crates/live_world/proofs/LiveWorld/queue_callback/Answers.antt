@@ -13,6 +13,8 @@ use Rattle.live_world.specs.View.{shown, IsLiveWorld}
 use Rattle.live_world.specs.declared.LiveWorld.TheInside.{Inside}
 use Rattle.live_world.proofs.Entries.{AreBelow, below_fresh}
 use Rattle.live_world.proofs.Queued.{number_free}
+use Rattle.keyed_lists.specs.Keyed.{Entry}
+use Rattle.live_world.proofs.Listed.{listed_few, listed_below}
 use Rattle.live_world.proofs.Moving.{queued_by}
 use Rattle.live_world.proofs.LiveWorld.queue_callback.Goals as goal
 
@@ -56,12 +58,24 @@ pub push-requires-2-clause-free : goal.push-requires-2-clause-free
 push-requires-2-clause-free c pool =
     number_free c.args.callback.number pool (is_new c.self.inside c.args.self.now c.args.callback c.self.view_is c.self.invariant c.requires.allowed).above c.self.invariant.queued
 
+-- and as many are listed for objects at most
+pub add-requires-clause-room : goal.add-requires-clause-room
+add-requires-clause-room c =
+    let k = c.self.invariant in
+    omega (arith, listed_few k.listed, (is_new c.self.inside c.args.self.now c.args.callback c.self.view_is k c.requires.allowed).room, k.listed.listed_slots)
+
+pub add-requires-clause-last : goal.add-requires-clause-last
+add-requires-clause-last c =
+    let i = c.self.inside in
+    All-from_recursion (λ (e : Entry). e.number < c.args.callback.number) i.outstanding.entries
+    (listed_below c.args.callback.number (is_new i c.args.self.now c.args.callback c.self.view_is c.self.invariant c.requires.allowed).above c.self.invariant.listed)
+
 pub invariant_of-self : goal.invariant_of-self
 invariant_of-self c =
     let placed = c.push-2.ensures ∙ ap (λ p. with_queue c.self.inside.queues c.args.callback.pool.0 (with_entry (entry p c.args.callback.number) (queue_of c.self.inside.queues c.args.callback.pool.0))) c.priority_byte.ensures in
-    (queued_by c.self.inside c.args.self.now c.args.callback c.push.new.self c.push-2.new.self c.self.view_is c.self.invariant c.requires.allowed c.push.ensures placed).keeps
+    (queued_by c.self.inside c.args.self.now c.args.callback c.push.new.self c.push-2.new.self c.add.new.self c.self.view_is c.self.invariant c.requires.allowed c.push.ensures placed c.add.ensures).keeps
 
 pub returns : goal.returns
 returns c =
     let placed = c.push-2.ensures ∙ ap (λ p. with_queue c.self.inside.queues c.args.callback.pool.0 (with_entry (entry p c.args.callback.number) (queue_of c.self.inside.queues c.args.callback.pool.0))) c.priority_byte.ensures in
-    (queued_by c.self.inside c.args.self.now c.args.callback c.push.new.self c.push-2.new.self c.self.view_is c.self.invariant c.requires.allowed c.push.ensures placed).becomes
+    (queued_by c.self.inside c.args.self.now c.args.callback c.push.new.self c.push-2.new.self c.add.new.self c.self.view_is c.self.invariant c.requires.allowed c.push.ensures placed c.add.ensures).becomes

@@ -3,6 +3,9 @@ use Rattle.tp_base.specs.declared.ids.Who.{Who}
 use Rattle.tp_base.specs.declared.calls.Call.{Call}
 use Rattle.tp_base.specs.declared.plans.Plan.{Plan}
 use Rattle.tp_base.specs.Ranges.{IsCallInRange}
+use Rattle.std.proofs.lemmas.List.Sums.{length-filter, count_by-le-length}
+use Rattle.tp_base.specs.declared.rows.CallbackRow.{CallbackRow}
+use Rattle.tp_model.specs.Counts.{is_live}
 use Rattle.tp_model.specs.Table.{plan_at}
 use Rattle.tp_model.specs.Ranged.{IsWide, IsPlanInRange}
 use Rattle.tp_model.specs.Sound.{IsSound}
@@ -55,7 +58,7 @@ ranged : (i : Inside) (e : Remembered) (room : ℕ) (who : Who) (call : Call) (p
 ranged i e room who call plan is same k young s b in_range wide made found =
     let few : i.live.made + 1 < 2 ^ 64 = omega (arith, k.few_made, young, ap (λ (r : Remembered). r.age) same) in
     subst IsPlanInRange (sym made ∙ found)
-    (plan_ranged (i.live.made + 1) i.live.world few s (record { limits = b.limits; pools_least = b.pools_least; pools_most = b.pools_most; running_most = b.running_most; rows = k.rows }) room who call in_range wide)
+    (plan_ranged (i.live.made + 1) i.live.world few s (record { limits = b.limits; pools_least = b.pools_least; pools_most = b.pools_most; slots_most = omega (arith, b.slots_most, length-filter (λ (c : CallbackRow). is_live c.status) i.live.world.callbacks, count_by-le-length (λ (c : CallbackRow). is_live c.status) i.live.world.callbacks); running_most = b.running_most; rows = k.rows }) room who call in_range wide)
 
 pub returns-in-Looked-clause-in_range : goal.returns-in-Looked-clause-in_range
 returns-in-Looked-clause-in_range c =

@@ -1,0 +1,219 @@
+-- What is outstanding for an object, as the lists of objects give it.
+use Rattle.std.proofs.Common.{◌≡◌, ℕ, suc, ◌+◌, ◌-◌, ◌<◌, ◌≤◌, Bool, true, false, cond, not, ◌&&◌, ◌||◌, ◌==◌, List, [], ◌∷◌, length, map, nat_lt, nat_le, slice_get, Option, Some, None, refl, sym, ap, ap₂, ◌∙◌, subst, arith, filter, find, option_map, eqb-true, eq-eqb, ne_eqb}
+use Rattle.std.specs.List.{AllByRecursion, list_any}
+use Rattle.tp_base.specs.declared.ids.ObjectId.{ObjectId}
+use Rattle.tp_base.specs.declared.rows.CallbackRow.{CallbackRow}
+use Rattle.tp_base.specs.declared.rows.WaitTarget.TheVariants.{Object}
+use Rattle.keyed_lists.specs.Keyed.{Entry, first_of, next_of, has}
+use Rattle.tp_model.specs.World.{World}
+use Rattle.tp_model.specs.Counts.{has_number, is_pending}
+use Rattle.tp_model.specs.Sound.{IsRising}
+use Rattle.tp_model.specs.Waits.{is_held_for, is_outstanding_for}
+use Rattle.tp_model.proofs.Lists.{find_all, find_passes}
+use Rattle.tp_model.proofs.Refusals.{both}
+use Rattle.live_world.specs.Parts.{is_tied, tied_entry}
+use Rattle.live_world.specs.Invariant.{waits}
+use Rattle.live_world.specs.Waiting.{numbers_of, outstanding_of}
+use Rattle.live_world.proofs.Lists.{all_pass, filter_none, all_along}
+use Rattle.live_world.proofs.Listed.{held_alike}
+use Rattle.live_world.proofs.Walks.{Rises, rest, IsAmong, rises_filter, rest_first, first_among, rest_next, found_among}
+
+abbrev pub number_of : CallbackRow → ℕ
+number_of c = c.number
+
+-- ---- the rows
+
+pub rows_rise : (low fresh : ℕ) (cs : List CallbackRow) → IsRising low fresh cs → Rises number_of low cs
+rows_rise low fresh [] r = tt
+rows_rise low fresh (c ∷ cs) r = (r.0, rows_rise (c.number + 1) fresh cs r.1)
+
+pub outstanding_rise : (fresh : ℕ) (cs : List CallbackRow) (object : ObjectId) → IsRising 1 fresh cs → Rises number_of 1 (filter (is_outstanding_for (Object object)) cs)
+outstanding_rise fresh cs object rising = rises_filter number_of (is_outstanding_for (Object object)) 1 cs (rows_rise 1 fresh cs rising)
+
+-- an outstanding row is of the object
+pub of_object : (object : ObjectId) (cs : List CallbackRow) (q : CallbackRow → Bool) (c : CallbackRow) → find q (filter (is_outstanding_for (Object object)) cs) ≡ Some c → c.object ≡ object
+of_object object cs q c found =
+    let passes : is_outstanding_for (Object object) c ≡ true = find_all (λ x. is_outstanding_for (Object object) x ≡ true) q c (filter (is_outstanding_for (Object object)) cs) (all_pass (is_outstanding_for (Object object)) cs) found in
+    ap (λ n. record { 0 = n }) (eqb-true c.object.0 object.0 (both (c.object.0 == object.0) (is_held_for (Object object) c.status) passes).0)
+
+pub find_filter : {X : Type 0} (p t : X → Bool) (xs : List X) → find t (filter p xs) ≡ find (λ x. p x && t x) xs
+find_filter p t [] = refl
+find_filter {X} p t (x ∷ xs) =
+    elim (p x) as (λ b. find t (cond b (x ∷ filter p xs) (filter p xs)) ≡ cond (b && t x) (Some x) (find (λ y. p y && t y) xs)) [
+      | true ↦ ap (λ o. cond (t x) (Some x) o) (find_filter p t xs)
+      | false ↦ find_filter p t xs
+    ]
+
+pub first_found : {X : Type 0} (xs : List X) → find (λ _. true) xs ≡ slice_get xs 0
+first_found [] = refl
+first_found (x ∷ xs) = refl
+
+-- a row that is found among some is found by its number among all
+pub looked_up : (fresh : ℕ) (cs : List CallbackRow) (p t : CallbackRow → Bool) (number : ℕ) → IsRising 1 fresh cs → option_map number_of (find t (filter p cs)) ≡ Some number → find (has_number number) cs ≡ find t (filter p cs)
+looked_up fresh cs p t number rising is = known (find t (filter p cs)) refl is
+  where
+    known : (o : Option CallbackRow) → find t (filter p cs) ≡ o → option_map number_of o ≡ Some number → find (has_number number) cs ≡ find t (filter p cs)
+    known None e h = absurd cc
+    known (Some c) e h =
+        let same : c.number ≡ number = cc in
+        let among : IsAmong number_of cs (find (λ x. p x && t x) cs) = found_among number_of 1 (λ x. p x && t x) cs (rows_rise 1 fresh cs rising) in
+        let there : find (λ x. x.number == c.number) cs ≡ Some c = subst (IsAmong number_of cs) (sym (find_filter p t cs) ∙ e) among in
+        ap (λ n. find (has_number n) cs) (sym same) ∙ there ∙ sym e
+
+pub none_up : (cs : List CallbackRow) (t : CallbackRow → Bool) → option_map number_of (find t cs) ≡ None → None ≡ find t cs
+none_up cs t is = known (find t cs) refl is
+  where
+    known : (o : Option CallbackRow) → find t cs ≡ o → option_map number_of o ≡ None → None ≡ find t cs
+    known None e h = sym e
+    known (Some c) e h = absurd cc
+
+-- and so is one that is found among some by its number
+pub found_row : (fresh : ℕ) (cs : List CallbackRow) (p : CallbackRow → Bool) (c : CallbackRow) → IsRising 1 fresh cs → find (has_number c.number) (filter p cs) ≡ Some c → find (has_number c.number) cs ≡ Some c
+found_row fresh cs p c rising found = looked_up fresh cs p (has_number c.number) c.number rising (ap (option_map number_of) found) ∙ found
+
+-- ---- the lists of objects
+
+and_swap : (a b : Bool) → (a && b) ≡ (b && a)
+and_swap true true = refl
+and_swap true false = refl
+and_swap false true = refl
+and_swap false false = refl
+
+and_swap_with : (a b c : Bool) → (a && (b && c)) ≡ ((b && a) && c)
+and_swap_with true true c = refl
+and_swap_with true false c = refl
+and_swap_with false true c = refl
+and_swap_with false false c = refl
+
+-- an entry of the object is that of an outstanding callback
+entry_found : (p t : CallbackRow → Bool) (T : Entry → Bool) → ((c : CallbackRow) → (is_tied c && T (tied_entry c)) ≡ (p c && t c)) → (cs : List CallbackRow)
+    → option_map (λ (e : Entry). e.number) (find T (map tied_entry (filter is_tied cs))) ≡ option_map number_of (find t (filter p cs))
+entry_found p t T same [] = refl
+entry_found p t T same (c ∷ cs) =
+    elim (is_tied c) as (λ b. option_map (λ (e : Entry). e.number) (find T (map tied_entry (cond b (c ∷ filter is_tied cs) (filter is_tied cs)))) ≡ option_map (λ (e : Entry). e.number) (cond (b && T (tied_entry c)) (Some (tied_entry c)) (find T (map tied_entry (filter is_tied cs))))) [ true ↦ refl | false ↦ refl ]
+    ∙ ap (λ b. option_map (λ (e : Entry). e.number) (cond b (Some (tied_entry c)) (find T (map tied_entry (filter is_tied cs))))) (same c)
+    ∙ elim (p c && t c) as (λ b. option_map (λ (e : Entry). e.number) (cond b (Some (tied_entry c)) (find T (map tied_entry (filter is_tied cs)))) ≡ option_map number_of (cond b (Some c) (find t (filter p cs)))) [ true ↦ refl | false ↦ entry_found p t T same cs ]
+    ∙ elim (p c) as (λ b. option_map number_of (cond (b && t c) (Some c) (find t (filter p cs))) ≡ option_map number_of (find t (cond b (c ∷ filter p cs) (filter p cs)))) [ true ↦ refl | false ↦ refl ]
+
+pub first_shown : (cs : List CallbackRow) (object : ObjectId) (entries : List Entry) → entries ≡ map tied_entry (filter is_tied cs) → first_of entries object.0 ≡ option_map number_of (find (λ _. true) (filter (is_outstanding_for (Object object)) cs))
+first_shown cs object entries is =
+    ap (λ es. first_of es object.0) is
+    ∙ entry_found (is_outstanding_for (Object object)) (λ _. true) (λ e. e.key == object.0)
+    (λ c. ap (λ b. b && (c.object.0 == object.0)) (held_alike c.object object c.status) ∙ and_swap (is_held_for (Object object) c.status) (c.object.0 == object.0) ∙ sym (and_true (is_outstanding_for (Object object) c))) cs
+  where
+    and_true : (b : Bool) → (b && true) ≡ b
+    and_true true = refl
+    and_true false = refl
+
+pub next_shown : (cs : List CallbackRow) (object : ObjectId) (number : ℕ) (entries : List Entry) → entries ≡ map tied_entry (filter is_tied cs)
+    → next_of entries object.0 number ≡ option_map number_of (find (λ (c : CallbackRow). nat_lt number c.number) (filter (is_outstanding_for (Object object)) cs))
+next_shown cs object number entries is =
+    ap (λ es. next_of es object.0 number) is
+    ∙ entry_found (is_outstanding_for (Object object)) (λ (c : CallbackRow). nat_lt number c.number) (λ e. (e.key == object.0) && nat_lt number e.number)
+    (λ c. ap (λ b. b && ((c.object.0 == object.0) && nat_lt number c.number)) (held_alike c.object object c.status) ∙ and_swap_with (is_held_for (Object object) c.status) (c.object.0 == object.0) (nat_lt number c.number)) cs
+
+pub number_there : (cs : List CallbackRow) (object : ObjectId) (c : CallbackRow) (entries : List Entry) → entries ≡ map tied_entry (filter is_tied cs) → find (has_number c.number) (filter (is_outstanding_for (Object object)) cs) ≡ Some c → has entries object.0 c.number ≡ true
+number_there cs object c entries is found =
+    ap (λ es. has es object.0 c.number) is ∙ any_found (λ e. (e.key == object.0) && (e.number == c.number)) (map tied_entry (filter is_tied cs)) c.number
+    (entry_found (is_outstanding_for (Object object)) (has_number c.number) (λ e. (e.key == object.0) && (e.number == c.number))
+    (λ x. ap (λ b. b && ((x.object.0 == object.0) && (x.number == c.number))) (held_alike x.object object x.status) ∙ and_swap_with (is_held_for (Object object) x.status) (x.object.0 == object.0) (x.number == c.number)) cs
+    ∙ ap (option_map number_of) found)
+  where
+    any_found : (T : Entry → Bool) (es : List Entry) (n : ℕ) → option_map (λ (e : Entry). e.number) (find T es) ≡ Some n → list_any T es ≡ true
+    any_found T [] n h = absurd cc
+    any_found T (e ∷ es) n h = elim (T e) as (λ b. option_map (λ (x : Entry). x.number) (cond b (Some e) (find T es)) ≡ Some n → (b || list_any T es) ≡ true) [ true ↦ λ _. refl | false ↦ λ later. any_found T es n later ] h
+
+pub numbers_shown : (cs : List CallbackRow) (object : ObjectId) (entries : List Entry) → entries ≡ map tied_entry (filter is_tied cs) → numbers_of entries object.0 ≡ map number_of (filter (is_outstanding_for (Object object)) cs)
+numbers_shown cs object entries is = ap (λ es. numbers_of es object.0) is ∙ each cs
+  where
+    each : (ds : List CallbackRow) → numbers_of (map tied_entry (filter is_tied ds)) object.0 ≡ map number_of (filter (is_outstanding_for (Object object)) ds)
+    each [] = refl
+    each (d ∷ ds) =
+        elim (is_tied d) as (λ b. numbers_of (map tied_entry (cond b (d ∷ filter is_tied ds) (filter is_tied ds))) object.0 ≡ cond (b && (d.object.0 == object.0)) (d.number ∷ numbers_of (map tied_entry (filter is_tied ds)) object.0) (numbers_of (map tied_entry (filter is_tied ds)) object.0)) [
+          | true ↦ elim (d.object.0 == object.0) as (λ b. map (λ (e : Entry). e.number) (cond b (tied_entry d ∷ filter (λ (e : Entry). e.key == object.0) (map tied_entry (filter is_tied ds))) (filter (λ (e : Entry). e.key == object.0) (map tied_entry (filter is_tied ds)))) ≡ cond b (d.number ∷ numbers_of (map tied_entry (filter is_tied ds)) object.0) (numbers_of (map tied_entry (filter is_tied ds)) object.0)) [ true ↦ refl | false ↦ refl ]
+          | false ↦ refl
+        ]
+        ∙ ap (λ b. cond b (d.number ∷ numbers_of (map tied_entry (filter is_tied ds)) object.0) (numbers_of (map tied_entry (filter is_tied ds)) object.0)) (ap (λ b. b && (d.object.0 == object.0)) (held_alike d.object object d.status) ∙ and_swap (is_held_for (Object object) d.status) (d.object.0 == object.0))
+        ∙ ap (λ t. cond (is_outstanding_for (Object object) d) (d.number ∷ t) t) (each ds)
+        ∙ elim (is_outstanding_for (Object object) d) as (λ b. cond b (d.number ∷ map number_of (filter (is_outstanding_for (Object object)) ds)) (map number_of (filter (is_outstanding_for (Object object)) ds)) ≡ map number_of (cond b (d ∷ filter (is_outstanding_for (Object object)) ds) (filter (is_outstanding_for (Object object)) ds))) [ true ↦ refl | false ↦ refl ]
+
+-- nothing is outstanding for an object that can't be made
+pub none_beyond : (objects : ℕ) (object : ObjectId) (cs : List CallbackRow) → objects < object.0 → AllByRecursion (λ (c : CallbackRow). c.object.0 ≤ objects) cs → filter (is_outstanding_for (Object object)) cs ≡ []
+none_beyond objects object cs lt all =
+    filter_none (is_outstanding_for (Object object)) cs (all_along (λ (c : CallbackRow). c.object.0 ≤ objects) (λ c. is_outstanding_for (Object object) c ≡ false)
+    (λ c le. ap (λ b. b && is_held_for (Object object) c.status) (ne_eqb c.object.0 object.0 (λ e. omega (arith, e, le, lt)))) cs all)
+
+-- ---- along what is outstanding
+
+pub record AtRow (cs : List CallbackRow) (object : ObjectId) (c : CallbackRow) : Type 0 where
+  pub same : c.object ≡ object
+  pub step : rest number_of (filter (is_outstanding_for (Object object)) cs) (Some c) ≡ c ∷ rest number_of (filter (is_outstanding_for (Object object)) cs) (find (λ (x : CallbackRow). nat_lt c.number x.number) (filter (is_outstanding_for (Object object)) cs))
+  pub among : IsAmong number_of (filter (is_outstanding_for (Object object)) cs) (find (λ (x : CallbackRow). nat_lt c.number x.number) (filter (is_outstanding_for (Object object)) cs))
+
+pub at_row : (fresh : ℕ) (cs : List CallbackRow) (object : ObjectId) (c : CallbackRow) → IsRising 1 fresh cs → IsAmong number_of (filter (is_outstanding_for (Object object)) cs) (Some c) → AtRow cs object c
+at_row fresh cs object c rising there =
+    let ys : List CallbackRow = filter (is_outstanding_for (Object object)) cs in
+    let rises : Rises number_of 1 ys = outstanding_rise fresh cs object rising in
+    record {
+      same = of_object object cs (λ x. x.number == c.number) c there;
+      step = rest_next number_of 1 ys c rises there;
+      among = found_among number_of 1 (λ (x : CallbackRow). nat_lt c.number x.number) ys rises;
+    }
+
+-- the next one, from a row of the same object
+pub next_row : (w : World) (object : ObjectId) (c : CallbackRow) (next : Option CallbackRow) → c.object ≡ object → next ≡ find (λ (x : CallbackRow). nat_lt c.number x.number) (outstanding_of w c.object)
+    → next ≡ find (λ (x : CallbackRow). nat_lt c.number x.number) (outstanding_of w object)
+next_row w object c next same is = is ∙ ap (λ o. find (λ (x : CallbackRow). nat_lt c.number x.number) (outstanding_of w o)) same
+
+-- what was counted so far, and what is left
+pub record Counting (ys : List CallbackRow) (next : Option CallbackRow) (all pending : ℕ) : Type 0 where
+  pub all_counted : all + length (rest number_of ys next) ≡ length ys
+  pub pending_counted : pending + length (filter waits (rest number_of ys next)) ≡ length (filter waits ys)
+  pub within : pending ≤ all
+  pub among : IsAmong number_of ys next
+
+pub counting_first : (w : World) (fresh : ℕ) (object : ObjectId) (next : Option CallbackRow) → IsRising 1 fresh w.callbacks → next ≡ slice_get (outstanding_of w object) 0 → Counting (outstanding_of w object) next 0 0
+counting_first w fresh object next rising is =
+    let ys : List CallbackRow = outstanding_of w object in
+    let whole : rest number_of ys next ≡ ys = ap (rest number_of ys) is ∙ rest_first number_of 1 ys (outstanding_rise fresh w.callbacks object rising) in
+    record {
+      all_counted = omega (arith, ap length whole);
+      pending_counted = omega (arith, ap (λ xs. length (filter waits xs)) whole);
+      within = omega arith;
+      among = subst (IsAmong number_of ys) (sym is) (first_among number_of ys);
+    }
+
+-- one more
+pub record CountsOne (w : World) (object : ObjectId) (c : CallbackRow) (next : Option CallbackRow) (all pending : ℕ) : Type 0 where
+  pub there : find (has_number c.number) (outstanding_of w c.object) ≡ Some c
+  pub fewer : all < length (outstanding_of w object)
+  pub later : (after : Option CallbackRow) → after ≡ find (λ (x : CallbackRow). nat_lt c.number x.number) (outstanding_of w c.object) → length (rest number_of (outstanding_of w object) after) < length (rest number_of (outstanding_of w object) next)
+  pub goes_on : (after : Option CallbackRow) (more waiting : ℕ) → after ≡ find (λ (x : CallbackRow). nat_lt c.number x.number) (outstanding_of w c.object) → more ≡ all + 1 → waiting ≡ pending + cond (waits c) 1 0 → Counting (outstanding_of w object) after more waiting
+
+pub counts_one : (w : World) (fresh : ℕ) (object : ObjectId) (c : CallbackRow) (next : Option CallbackRow) (all pending : ℕ) → IsRising 1 fresh w.callbacks → next ≡ Some c → Counting (outstanding_of w object) next all pending → CountsOne w object c next all pending
+counts_one w fresh object c next all pending rising is k =
+    let ys : List CallbackRow = outstanding_of w object in
+    let there : IsAmong number_of ys (Some c) = subst (IsAmong number_of ys) is k.among in
+    let at = at_row fresh w.callbacks object c rising there in
+    let left : rest number_of ys next ≡ c ∷ rest number_of ys (find (λ (x : CallbackRow). nat_lt c.number x.number) ys) = ap (rest number_of ys) is ∙ at.step in
+    record {
+      there = ap (λ o. find (has_number c.number) (outstanding_of w o)) at.same ∙ there;
+      fewer = omega (arith, k.all_counted, ap length left);
+      later = λ after found. omega (arith, ap length left, ap (λ o. length (rest number_of ys o)) (next_row w object c after at.same found));
+      goes_on = λ after more waiting found one_more one_waiting.
+          let after_is = next_row w object c after at.same found in
+          record {
+            all_counted = omega (arith, k.all_counted, ap length left, ap (λ o. length (rest number_of ys o)) after_is, one_more);
+            pending_counted = counted (waits c) waiting (rest number_of ys after) one_waiting (ap (λ xs. length (filter waits xs)) (left ∙ ap (λ o. c ∷ rest number_of ys o) (sym after_is)));
+            within = fits (waits c) waiting more one_waiting one_more;
+            among = subst (IsAmong number_of ys) (sym after_is) at.among;
+          };
+    }
+  where
+    counted : (b : Bool) (waiting : ℕ) (xs : List CallbackRow) → waiting ≡ pending + cond b 1 0 → length (filter waits (rest number_of (outstanding_of w object) next)) ≡ length (cond b (c ∷ filter waits xs) (filter waits xs)) → waiting + length (filter waits xs) ≡ length (filter waits (outstanding_of w object))
+    counted true waiting xs e left = omega (arith, k.pending_counted, e, left)
+    counted false waiting xs e left = omega (arith, k.pending_counted, e, left)
+
+    fits : (b : Bool) (waiting more : ℕ) → waiting ≡ pending + cond b 1 0 → more ≡ all + 1 → waiting ≤ more
+    fits true waiting more e m = omega (arith, e, m, k.within)
+    fits false waiting more e m = omega (arith, e, m, k.within)

@@ -1,0 +1,124 @@
+-- The numbers of a key, as the lists of objects give them.
+use Rattle.std.proofs.Common.{◌≡◌, ℕ, ◌+◌, ◌<◌, ◌≤◌, Bool, true, false, cond, ◌&&◌, ◌||◌, ◌==◌, List, [], ◌∷◌, ◌++◌, length, map, nat_lt, slice_get, Option, None, Some, unwrap_or, refl, sym, ap, ap₂, ◌∙◌, subst, arith, filter, find, option_map, eqb-true, eq-eqb, length-append, append_assoc, get_or-set_same}
+use Rattle.std.specs.List.{AllByRecursion, list_any}
+use Rattle.std.proofs.lemmas.List.{length-map}
+use Rattle.std.proofs.lemmas.List.Sums.{length-filter, count_by-le-length}
+use Rattle.keyed_lists.specs.Keyed.{Entry, IsRising, has, first_of, next_of}
+use Rattle.cancel_wait.specs.Covers.{Covers, wait_of, covered_of, with_wait}
+use Rattle.live_world.specs.Waiting.{numbers_of}
+use Rattle.live_world.proofs.Lists.{set_twice, all_along}
+use Rattle.live_world.proofs.Walks.{Rises, rest, IsAmong, rises_filter, rises_map, rises_pairs, all_least, rest_first, first_among, rest_next, found_among}
+
+abbrev pub itself : ℕ → ℕ
+itself n = n
+
+pub numbers_rise : (entries : List Entry) (key : ℕ) → IsRising entries → Rises itself 0 (numbers_of entries key)
+numbers_rise entries key rising =
+    rises_map itself (λ (e : Entry). e.number) 0 (filter (λ (e : Entry). e.key == key) entries)
+    (rises_filter (λ (e : Entry). e.number) (λ (e : Entry). e.key == key) 0 entries (rises_pairs (λ (e : Entry). e.number) 0 entries (all_least (λ (e : Entry). e.number) entries) rising))
+
+pub first_is : (entries : List Entry) (key : ℕ) → first_of entries key ≡ slice_get (numbers_of entries key) 0
+first_is [] key = refl
+first_is (e ∷ es) key =
+    elim (e.key == key) as (λ b. option_map (λ (x : Entry). x.number) (cond b (Some e) (find (λ (x : Entry). x.key == key) es)) ≡ slice_get (map (λ (x : Entry). x.number) (cond b (e ∷ filter (λ (x : Entry). x.key == key) es) (filter (λ (x : Entry). x.key == key) es))) 0) [
+      | true ↦ refl
+      | false ↦ first_is es key
+    ]
+
+pub next_is : (entries : List Entry) (key number : ℕ) → next_of entries key number ≡ find (λ n. nat_lt number n) (numbers_of entries key)
+next_is [] key number = refl
+next_is (e ∷ es) key number =
+    elim (e.key == key) as (λ b. option_map (λ (x : Entry). x.number) (cond (b && nat_lt number e.number) (Some e) (find (λ (x : Entry). (x.key == key) && nat_lt number x.number) es)) ≡ find (λ n. nat_lt number n) (map (λ (x : Entry). x.number) (cond b (e ∷ filter (λ (x : Entry). x.key == key) es) (filter (λ (x : Entry). x.key == key) es)))) [
+      | true ↦ elim (nat_lt number e.number) as (λ b. option_map (λ (x : Entry). x.number) (cond b (Some e) (find (λ (x : Entry). (x.key == key) && nat_lt number x.number) es)) ≡ cond b (Some e.number) (find (λ n. nat_lt number n) (numbers_of es key))) [
+        | true ↦ refl
+        | false ↦ next_is es key number
+      ]
+      | false ↦ next_is es key number
+    ]
+
+pub is_there : (entries : List Entry) (key number : ℕ) → find (λ n. n == number) (numbers_of entries key) ≡ Some number → has entries key number ≡ true
+is_there [] key number found = absurd cc
+is_there (e ∷ es) key number found =
+    elim (e.key == key) as (λ b. find (λ n. n == number) (map (λ (x : Entry). x.number) (cond b (e ∷ filter (λ (x : Entry). x.key == key) es) (filter (λ (x : Entry). x.key == key) es))) ≡ Some number → ((b && (e.number == number)) || has es key number) ≡ true) [
+      | true ↦ λ h. elim (e.number == number) as (λ b. cond b (Some e.number) (find (λ n. n == number) (numbers_of es key)) ≡ Some number → (b || has es key number) ≡ true) [
+        | true ↦ λ _. refl
+        | false ↦ λ later. is_there es key number later
+      ] h
+      | false ↦ λ later. is_there es key number later
+    ] found
+
+pub few_numbers : (entries : List Entry) (key : ℕ) → length (numbers_of entries key) ≤ length entries
+few_numbers entries key =
+    omega (arith, length-map (filter (λ (e : Entry). e.key == key) entries) (λ (e : Entry). e.number), length-filter (λ (e : Entry). e.key == key) entries, count_by-le-length (λ (e : Entry). e.key == key) entries)
+
+-- so far a wait covers those numbers that are not left
+pub record Covering (numbers : List ℕ) (before now : Covers) (waiter : ℕ) (next : Option ℕ) : Type 0 where
+  pub so_far : List ℕ
+  pub covers : now ≡ with_wait before waiter (Some so_far)
+  pub all : so_far ++ rest itself numbers next ≡ numbers
+  pub among : IsAmong itself numbers next
+
+-- the numbers before one of them are below it
+pub all_before : (low number : ℕ) (before after : List ℕ) → Rises itself low (before ++ number ∷ after) → AllByRecursion (λ n. n < number) before
+all_before low number [] after r = tt
+all_before low number (n ∷ ns) after r = (omega (arith, least ns (n + 1) r.1), all_before (n + 1) number ns after r.1)
+  where
+    least : (xs : List ℕ) (bound : ℕ) → Rises itself bound (xs ++ number ∷ after) → bound ≤ number
+    least [] bound h = h.0
+    least (x ∷ xs) bound h = omega (arith, h.0, least xs (x + 1) h.1)
+
+-- what is known where one of them is next
+pub record AtNumber (entries : List Entry) (key : ℕ) (before now : Covers) (waiter number : ℕ) (next : Option ℕ) : Type 0 where
+  pub so_far : List ℕ
+  pub covers : now ≡ with_wait before waiter (Some so_far)
+  pub all : so_far ++ number ∷ rest itself (numbers_of entries key) (next_of entries key number) ≡ numbers_of entries key
+  pub there : has entries key number ≡ true
+  pub below : AllByRecursion (λ n. n < number) so_far
+  pub fewer : length so_far < length entries
+  pub smaller : length (rest itself (numbers_of entries key) (next_of entries key number)) < length (rest itself (numbers_of entries key) next)
+
+pub at_number : (entries : List Entry) (key : ℕ) (before now : Covers) (waiter number : ℕ) (next : Option ℕ) → IsRising entries → next ≡ Some number → Covering (numbers_of entries key) before now waiter next → AtNumber entries key before now waiter number next
+at_number entries key before now waiter number next rising is k =
+    let xs : List ℕ = numbers_of entries key in
+    let rises : Rises itself 0 xs = numbers_rise entries key rising in
+    let among : find (λ n. n == number) xs ≡ Some number = subst (IsAmong itself xs) is k.among in
+    let step : rest itself xs next ≡ number ∷ rest itself xs (next_of entries key number)
+    = ap (rest itself xs) is ∙ rest_next itself 0 xs number rises among ∙ ap (λ o. number ∷ rest itself xs o) (sym (next_is entries key number)) in
+    let all : k.so_far ++ number ∷ rest itself xs (next_of entries key number) ≡ xs = ap (λ t. k.so_far ++ t) (sym step) ∙ k.all in
+    record {
+      so_far = k.so_far;
+      covers = k.covers;
+      all = all;
+      there = is_there entries key number among;
+      below = all_before 0 number k.so_far (rest itself xs (next_of entries key number)) (subst (Rises itself 0) (sym all) rises);
+      fewer = omega (arith, few_numbers entries key, ap length all, length-append k.so_far (number ∷ rest itself xs (next_of entries key number)));
+      smaller = omega (arith, ap length step);
+    }
+
+pub covering_first : (entries : List Entry) (key : ℕ) (before now : Covers) (waiter : ℕ) (next : Option ℕ) → IsRising entries → now ≡ with_wait before waiter (Some []) → next ≡ first_of entries key → Covering (numbers_of entries key) before now waiter next
+covering_first entries key before now waiter next rising begun first =
+    let is : next ≡ slice_get (numbers_of entries key) 0 = first ∙ first_is entries key in
+    record {
+      so_far = [];
+      covers = begun;
+      all = ap (rest itself (numbers_of entries key)) is ∙ rest_first itself 0 (numbers_of entries key) (numbers_rise entries key rising);
+      among = subst (IsAmong itself (numbers_of entries key)) (sym is) (first_among itself (numbers_of entries key));
+    }
+
+-- what the barrier has where so much is covered
+pub has_covered : (before now : Covers) (waiter : ℕ) (so_far : List ℕ) → waiter < length before.waits → now ≡ with_wait before waiter (Some so_far) → wait_of now waiter ≡ Some so_far
+has_covered before now waiter so_far lt is = ap (λ (c : Covers). wait_of c waiter) is ∙ get_or-set_same before.waits waiter (Some so_far) None lt
+
+pub covering_next : (entries : List Entry) (key : ℕ) (before now new : Covers) (waiter number : ℕ) (next after : Option ℕ) → IsRising entries → waiter < length before.waits → AtNumber entries key before now waiter number next
+    → new ≡ with_wait now waiter (Some (covered_of now waiter ++ number ∷ [])) → after ≡ next_of entries key number → Covering (numbers_of entries key) before new waiter after
+covering_next entries key before now new waiter number next after rising lt k covers is =
+    let xs : List ℕ = numbers_of entries key in
+    let had : covered_of now waiter ≡ k.so_far = ap (λ o. unwrap_or o []) (has_covered before now waiter k.so_far lt k.covers) in
+    let next_now : after ≡ find (λ n. nat_lt number n) xs = is ∙ next_is entries key number in
+    record {
+      so_far = k.so_far ++ number ∷ [];
+      covers = covers ∙ ap₂ (λ (c : Covers) (ns : List ℕ). with_wait c waiter (Some (ns ++ number ∷ []))) k.covers had
+          ∙ ap (λ ws. record before { waits = ws }) (set_twice before.waits waiter (Some k.so_far) (Some (k.so_far ++ number ∷ [])));
+      all = append_assoc k.so_far (number ∷ []) (rest itself xs after) ∙ ap (λ o. k.so_far ++ number ∷ rest itself xs o) is ∙ k.all;
+      among = subst (IsAmong itself xs) (sym next_now) (found_among itself 0 (λ n. nat_lt number n) xs (numbers_rise entries key rising));
+    }

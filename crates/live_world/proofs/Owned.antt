@@ -1,0 +1,111 @@
+-- What the parts show after an object is made and after one is released.
+use Rattle.std.proofs.Common.{◌≡◌, ℕ, ◌+◌, ◌-◌, ◌<◌, ◌≤◌, Bool, true, false, cond, not, ◌==◌, [], ◌∷◌, ◌++◌, length, map, slice_get, slice_set, Option, Some, None, refl, sym, ap, ap₂, ◌∙◌, subst, arith, option_map, length-append, length-set}
+use Rattle.std.specs.List.{AllByRecursion}
+use Rattle.std.specs.Option.{option_map_or}
+use Rattle.std.proofs.lemmas.List.{map-append, map-set, length-map}
+use Rattle.std.proofs.lemmas.Option.{slice_get-map}
+use Rattle.tp_base.specs.declared.limits.Limits.{Limits}
+use Rattle.tp_base.specs.declared.ids.ObjectId.{ObjectId}
+use Rattle.tp_base.specs.declared.plans.Change.TheVariants as change
+use Rattle.tp_base.specs.declared.rows.ObjectRow.{ObjectRow}
+use Rattle.tp_base.specs.declared.rows.CallbackRow.{CallbackRow}
+use Rattle.handle_table.specs.Table.{Table, Marked, numbered as numbered_row, is_live as is_live_row, with_row, with_released}
+use Rattle.keyed_lists.specs.Keyed.{Keyed}
+use Rattle.tp_model.specs.Counts.{numbered}
+use Rattle.tp_model.specs.Changes.{changed, release_object}
+use Rattle.tp_model.specs.Allowed.{IsAllowed}
+use Rattle.live_world.specs.declared.objects.Object.{Object}
+use Rattle.live_world.specs.declared.LiveWorld.TheInside.{Inside}
+use Rattle.live_world.specs.Live.{Live, moved}
+use Rattle.live_world.specs.Parts.{shown_object}
+use Rattle.live_world.specs.View.{shown, IsLiveWorld}
+use Rattle.live_world.specs.Invariant.{AreSized, AreListed}
+use Rattle.live_world.proofs.Lists.{all_along}
+use Rattle.live_world.proofs.Moving.{After, Becomes, moved_by}
+
+-- another table of the same limit
+sized_objects : (i : Inside) (objects : Table Object) → objects.limit ≡ i.objects.limit → IsLiveWorld i → AreSized i.limits i.pools objects i.clients.items
+sized_objects i objects same k =
+    record {
+      in_range = k.sized.in_range;
+      pool_limit = k.sized.pool_limit;
+      pools_least = k.sized.pools_least;
+      pools_within = k.sized.pools_within;
+      worker_count = k.sized.worker_count;
+      homes = k.sized.homes;
+      object_limit = same ∙ k.sized.object_limit;
+      client_count = k.sized.client_count;
+    }
+
+-- more objects are made
+listed_objects : (i : Inside) (objects : ℕ) → length i.objects.rows ≤ objects → objects ≤ i.limits.objects → IsLiveWorld i → AreListed i.limits objects i.callbacks.rows i.outstanding
+listed_objects i objects more within k =
+    record {
+      key_count = k.listed.key_count;
+      listed_slots = k.listed.listed_slots;
+      objects_within = within;
+      listed = k.listed.listed;
+      objects_made = all_along (λ (c : CallbackRow). c.object.0 ≤ length i.objects.rows) (λ (c : CallbackRow). c.object.0 ≤ objects) (λ c le. omega (arith, le, more)) i.callbacks.rows k.listed.objects_made;
+    }
+
+pub created : (i : Inside) (l : Live) (row : ObjectRow) (objects : Table Object) → shown i ≡ l → IsLiveWorld i → IsAllowed (l.made + 1) l.world (change.CreateObject row)
+    → objects ≡ with_row i.objects (record { kind = row.kind; routine = row.routine; context = row.context; env = row.env }) → Becomes (record i { objects = objects }) (moved l (change.CreateObject row))
+created i l row objects is k allowed now =
+    moved_by i (record i { objects = objects }) l (change.CreateObject row) is k allowed (omega arith) (λ a.
+    let object : Object = record { kind = row.kind; routine = row.routine; context = row.context; env = row.env } in
+    let longer : length (with_row i.objects object).rows ≡ length i.objects.rows + 1 = length-append i.objects.rows _ in
+    let fewer : length i.objects.rows < i.limits.objects = subst (λ n. n < i.limits.objects) (length-map i.objects.rows shown_object) a.room in
+    let marked : shown_object (record { row = object; released = false }) ≡ row = ap (λ b. record row { released = b }) (sym a.unreleased) in
+    subst (λ (t : Table Object). After (record i { objects = t }) (changed (shown i).world (change.CreateObject row))) (sym now)
+    (record {
+      shows = ap₂ (λ cs os. record (shown i).world { callbacks = cs; objects = os }) (sym k.alive.live) (map-append shown_object i.objects.rows _ ∙ ap (λ (o : ObjectRow). map shown_object i.objects.rows ++ o ∷ []) marked);
+      sized = sized_objects i (with_row i.objects object) refl k;
+      alive = k.alive;
+      queued = k.queued;
+      tallied = k.tallied;
+      listed = listed_objects i (length (with_row i.objects object).rows) (omega (arith, longer)) (omega (arith, longer, fewer)) k;
+      covered = k.covered;
+    }))
+
+-- the row here behind a row of the world
+record IsObjectBehind (objects : Table Object) (number : ℕ) (row : ObjectRow) : Type 0 where
+  marked : Marked Object
+  stands : numbered_row objects number ≡ Some marked
+  shows : shown_object marked ≡ row
+
+object_behind : (objects : Table Object) (number : ℕ) (row : ObjectRow) → numbered (map shown_object objects.rows) number ≡ Some row → IsObjectBehind objects number row
+object_behind objects number row is = known (numbered_row objects number) refl (sym (mapped (number == 0)) ∙ is)
+  where
+    mapped : (b : Bool) → cond b None (slice_get (map shown_object objects.rows) (number - 1)) ≡ option_map shown_object (cond b None (slice_get objects.rows (number - 1)))
+    mapped true = refl
+    mapped false = slice_get-map shown_object objects.rows (number - 1)
+
+    known : (o : Option (Marked Object)) → numbered_row objects number ≡ o → option_map shown_object (numbered_row objects number) ≡ Some row → IsObjectBehind objects number row
+    known None e h = let none : None ≡ Some row = sym (ap (option_map shown_object) e) ∙ h in absurd cc
+    known (Some m) e h = let some : Some (shown_object m) ≡ Some row = sym (ap (option_map shown_object) e) ∙ h in record { marked = m; stands = e; shows = cc }
+
+pub released : (i : Inside) (l : Live) (object : ObjectId) (live : Bool) (objects : Table Object) → shown i ≡ l → IsLiveWorld i → IsAllowed (l.made + 1) l.world (change.ReleaseObject object)
+    → live ≡ is_live_row i.objects object.0 → (live ≡ true → objects ≡ with_released i.objects object.0) → Becomes (record i { objects = objects }) (moved l (change.ReleaseObject object))
+released i l object live objects is k allowed was now =
+    moved_by i (record i { objects = objects }) l (change.ReleaseObject object) is k allowed (omega arith) (λ a.
+    let b = object_behind i.objects object.0 a.row a.stands in
+    let unreleased : b.marked.released ≡ false = ap (λ (o : ObjectRow). o.released) b.shows ∙ a.unreleased in
+    let lives : live ≡ true = was ∙ ap (λ o. option_map_or (λ (m : Marked Object). not m.released) o false) b.stands ∙ ap not unreleased in
+    let marked : Marked Object = record b.marked { released = true } in
+    let there : Table Object = record i.objects { rows = slice_set i.objects.rows (object.0 - 1) marked } in
+    let becomes : objects ≡ there
+    = now lives ∙ ap (λ o. option_map_or (λ (m : Marked Object). record i.objects { rows = slice_set i.objects.rows (object.0 - 1) (record m { released = true }) }) o i.objects) b.stands in
+    let as_long : length there.rows ≡ length i.objects.rows = length-set i.objects.rows (object.0 - 1) marked in
+    let rows_now : map shown_object there.rows ≡ slice_set (shown i).world.objects (object.0 - 1) (record a.row { released = true })
+    = map-set shown_object i.objects.rows (object.0 - 1) marked ∙ ap (λ (o : ObjectRow). slice_set (shown i).world.objects (object.0 - 1) (record o { released = true })) b.shows in
+    subst (λ (t : Table Object). After (record i { objects = t }) (changed (shown i).world (change.ReleaseObject object))) (sym becomes)
+    (subst (λ w. After (record i { objects = there }) w) (sym (ap (release_object (shown i).world object.0) a.stands))
+    (record {
+      shows = ap₂ (λ cs os. record (shown i).world { callbacks = cs; objects = os }) (sym k.alive.live) rows_now;
+      sized = sized_objects i there refl k;
+      alive = k.alive;
+      queued = k.queued;
+      tallied = k.tallied;
+      listed = subst (λ n. AreListed i.limits n i.callbacks.rows i.outstanding) (sym as_long) k.listed;
+      covered = k.covered;
+    })))

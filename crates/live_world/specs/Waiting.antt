@@ -1,0 +1,37 @@
+-- What is outstanding for an object, and how far a wait has come.
+use Rattle.std.specs.Prelude.{ℕ, ◌==◌, List, [], ◌∷◌, map, if◌then◌else◌, Option, None, Some}
+use Rattle.std.specs.List.{filter}
+use Rattle.std.specs.Option.{option_map_or}
+use Rattle.tp_base.specs.declared.ids.Who.{Who}
+use Rattle.tp_base.specs.declared.ids.ObjectId.{ObjectId}
+use Rattle.tp_base.specs.declared.rows.CallbackRow.{CallbackRow}
+use Rattle.tp_base.specs.declared.rows.WaitTarget.TheVariants.{Object}
+use Rattle.keyed_lists.specs.Keyed.{Entry}
+use Rattle.tp_model.specs.World.{World, BegunWait}
+use Rattle.tp_model.specs.Waits.{is_outstanding_for, wait_of, held}
+use Rattle.tp_model.specs.Calls.Waits.{holds_starved}
+use Rattle.live_world.specs.declared.waits.Progress.{Progress}
+use Rattle.live_world.specs.declared.waits.Progress.TheVariants.{NotBegun, Free, Starved, Holds}
+
+-- by rising number
+abbrev pub outstanding_of : World → ObjectId → List CallbackRow
+outstanding_of w object = filter (is_outstanding_for (Object object)) w.callbacks
+
+-- the numbers of a key
+abbrev pub numbers_of : List Entry → ℕ → List ℕ
+numbers_of entries key = map (λ (e : Entry). e.number) (filter (λ (e : Entry). e.key == key) entries)
+
+-- what an actor's wait holds, if it has begun one
+abbrev pub held_by : World → Who → List ℕ
+held_by w who = option_map_or (held w) (wait_of w who) []
+
+abbrev pub progress_with : World → ℕ → List ℕ → Progress
+progress_with w room [] = Free
+progress_with w room (number ∷ numbers) = if holds_starved w room (number ∷ numbers) then Starved else Holds number
+
+abbrev pub progress_in : World → ℕ → Option BegunWait → Progress
+progress_in w room None = NotBegun
+progress_in w room (Some b) = progress_with w room (held w b)
+
+abbrev pub progress_of : World → ℕ → Who → Progress
+progress_of w room who = progress_in w room (wait_of w who)

@@ -1,0 +1,54 @@
+// The waits that are begun, each with all that it covered when it began. They exist only in proofs.
+
+ghost use Rattle.std.specs.Prelude.{◌≡◌, List, [], ◌∷◌, ◌++◌, not};
+ghost use Rattle.std.specs.List.{filter};
+ghost use Rattle.std.specs.Borrow.{ftrue};
+ghost use Rattle.tp_model.specs.World.{BegunWait};
+ghost use Rattle.tp_model.specs.Conditions.{is_same_actor};
+ghost use Rattle.tp_model.specs.Changes.{new_wait};
+
+use callback_rows::CallbackRows;
+use std::marker::Model;
+use tp_base::ids::Who;
+use tp_base::rows::WaitTarget;
+
+// It takes no bytes, and its methods do nothing at run time.
+#[derive(Drop)]
+pub struct BegunWaits {
+    pub ghost waits: { List BegunWait },
+}
+
+// A wait as an actor begins it.
+#[derive(Clone, Copy)]
+pub struct Begins {
+    pub who: Who,
+    pub target: WaitTarget,
+    pub cancel: bool,
+}
+
+impl Model for BegunWaits {
+    ghost also_owns = { λ _. ftrue };
+}
+
+impl BegunWaits {
+    #[inline(always)]
+    pub fn none() -> BegunWaits
+        ensures { result.waits ≡ [] }
+    {
+        BegunWaits {}
+    }
+
+    #[inline(always)]
+    pub fn and(&self, _begins: &Begins, _callbacks: &CallbackRows) -> BegunWaits
+        ensures { result.waits ≡ self.now.waits ++ new_wait _begins.now.who _begins.now.target _begins.now.cancel _callbacks.now.rows ∷ [] }
+    {
+        BegunWaits {}
+    }
+
+    #[inline(always)]
+    pub fn without(&self, _who: &Who) -> BegunWaits
+        ensures { result.waits ≡ filter (λ b. not (is_same_actor b.actor _who.now)) self.now.waits }
+    {
+        BegunWaits {}
+    }
+}

@@ -1,0 +1,113 @@
+//! What is outstanding for an object: its callbacks that are pending, and those that run and were
+//! not disassociated from it.
+
+ghost use Rattle.std.specs.Prelude.{◌≡◌, ◌+◌, ◌<◌, ◌≤◌, if◌then◌else◌, nat_lt, find, filter, length, slice_get, Some, None};
+ghost use Rattle.tp_model.specs.Counts.{has_number};
+ghost use Rattle.tp_model.specs.Waits.{count_outstanding};
+ghost use Rattle.tp_model.specs.Calls.Waits.{count_covered, count_cancelled_by};
+
+use crate::LiveWorld;
+use crate::waits::is_pending;
+use tp_base::ids::ObjectId;
+use tp_base::rows::{CallbackRow, WaitTarget};
+
+/// How many callbacks a wait would cover, and how many it would cancel before.
+#[derive(Clone, Copy)]
+pub struct WaitCounts {
+    pub covered: u32,
+    pub cancelled: u32,
+}
+
+// How many callbacks are outstanding for an object, and how many of them are pending.
+#[derive(Clone, Copy)]
+struct Outstanding {
+    all: u32,
+    pending: u32,
+}
+
+impl Outstanding {
+    // One callback more.
+    fn with(self, pending: bool) -> Outstanding
+        requires fits { self.all < 65535 }
+        requires within { self.pending ≤ self.all }
+        ensures all { result.all ≡ self.all + 1 }
+        ensures pending { result.pending ≡ self.pending + (if pending then 1 else 0) }
+    {
+        Outstanding {
+            all: self.all + 1,
+            pending: if pending { self.pending + 1 } else { self.pending },
+        }
+    }
+}
+
+impl LiveWorld {
+    ghost use Rattle.live_world.specs.Waiting.{outstanding_of};
+    ghost use Rattle.live_world.specs.Invariant.{waits};
+
+    // The outstanding callback of least number.
+    pub(crate) fn first_outstanding(&self, object: ObjectId) -> Option<CallbackRow>
+        ensures { result ≡ slice_get (outstanding_of self.now.world object) 0 }
+    {
+        if object.0 > self.limits.objects {
+            return None;
+        }
+        match self.outstanding.first(object.0) {
+            Some(number) => self.callbacks.find(number),
+            None => None,
+        }
+    }
+
+    // The outstanding callback of the same object that follows this one.
+    pub(crate) fn next_outstanding(&self, callback: &CallbackRow) -> Option<CallbackRow>
+        requires { find (has_number callback.now.number) (outstanding_of self.now.world callback.now.object) ≡ Some callback.now }
+        ensures { result ≡ find (λ c. nat_lt callback.now.number c.number) (outstanding_of self.now.world callback.now.object) }
+    {
+        match self.outstanding.after(callback.object.0, callback.number) {
+            Some(number) => self.callbacks.find(number),
+            None => None,
+        }
+    }
+
+    /// Whether a callback of the object is outstanding.
+    pub fn is_outstanding(&self, object: ObjectId) -> bool
+        ensures { result ≡ nat_lt 0 (count_outstanding (WaitTarget.Object object) self.now.world) }
+    {
+        self.first_outstanding(object).is_some()
+    }
+
+    // Walks what is outstanding for the object.
+    fn count_outstanding(&self, object: ObjectId) -> Outstanding
+        ensures all { result.all ≡ length (outstanding_of self.now.world object) }
+        ensures pending { result.pending ≡ length (filter waits (outstanding_of self.now.world object)) }
+    {
+        self.is_reachable();
+        let mut count = Outstanding { all: 0, pending: 0 };
+        let mut next = self.first_outstanding(object);
+        while let Some(callback) = next {
+            count = count.with(is_pending(&callback));
+            next = self.next_outstanding(&callback);
+        }
+        count
+    }
+
+    /// How many callbacks a wait for the object would cover, and how many it would cancel before.
+    /// It walks what is outstanding for the object.
+    pub fn wait_counts(&self, object: ObjectId, cancel: bool) -> WaitCounts
+        ensures covered { result.covered ≡ count_covered self.now.world (WaitTarget.Object object) cancel }
+        ensures cancelled { result.cancelled ≡ count_cancelled_by self.now.world (WaitTarget.Object object) cancel }
+    {
+        let _ = &self.limits;
+        let count = self.count_outstanding(object);
+        if cancel {
+            WaitCounts {
+                covered: count.all - count.pending,
+                cancelled: count.pending,
+            }
+        } else {
+            WaitCounts {
+                covered: count.all,
+                cancelled: 0,
+            }
+        }
+    }
+}

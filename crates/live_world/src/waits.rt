@@ -1,0 +1,132 @@
+//! The waits that actors have begun: what each still holds.
+
+ghost use Rattle.std.specs.Prelude.{◌≡◌, ◌+◌, ◌^◌, ◌<◌, Some, false, is_none};
+ghost use Rattle.std.specs.Option.{option_map_or};
+ghost use Rattle.tp_model.specs.Counts.{callback_of, is_pending as is_pending_by};
+ghost use Rattle.tp_model.specs.Conditions.{is_in_wait};
+ghost use Rattle.tp_model.specs.Waits.{wait_of};
+ghost use Rattle.tp_model.specs.Calls.Waits.{is_starved, holds_starved};
+ghost use Rattle.live_world.specs.Parts.{place_of, place_within as place_within_of};
+
+use crate::LiveWorld;
+use tp_base::ids::Who;
+use tp_base::rows::{CallbackRow, Status};
+
+/// How far a wait has come.
+#[derive(Clone, Copy)]
+pub enum Progress {
+    /// The actor has begun none.
+    NotBegun,
+    /// Nothing that it covers is outstanding any more.
+    Free,
+    /// It holds a callback that waits for a worker, and the history has no room for it to be run.
+    Starved,
+    /// It holds callbacks, the first of which has this number.
+    Holds { callback: u64 },
+}
+
+// Where a number stands among so many behind the first ones.
+fn place_within(first: u32, count: u32, number: u32) -> Option<u32>
+    requires { first + count < 2 ^ 32 }
+    ensures { result ≡ place_within_of first count number }
+{
+    if 1 <= number && number <= count {
+        Some(first + (number - 1))
+    } else {
+        None
+    }
+}
+
+// The callback waits for a worker.
+pub(crate) fn is_pending(callback: &CallbackRow) -> bool
+    ensures { result ≡ is_pending_by callback.now.status }
+{
+    matches!(callback.status, Status::Pending)
+}
+
+impl LiveWorld {
+    ghost use Rattle.live_world.specs.Waiting.{held_by, progress_of};
+
+    // Where an actor's wait stands among the barriers, if it is an actor of the machine.
+    pub(crate) fn waiter(&self, who: Who) -> Option<u32>
+        ensures { result ≡ place_of self.now.world.limits who }
+    {
+        match who {
+            Who::Client(number) => place_within(0, self.limits.clients, number),
+            Who::Worker(number) => place_within(self.limits.clients, self.limits.workers, number),
+        }
+    }
+
+    /// Whether the actor has begun a wait.
+    pub fn is_in_wait(&self, who: Who) -> bool
+        ensures { result ≡ is_in_wait self.now.world who }
+    {
+        match self.waiter(who) {
+            None => false,
+            Some(waiter) => self.barriers.is_begun(waiter),
+        }
+    }
+
+    /// Whether the actor has begun no wait.
+    pub fn has_no_wait(&self, who: Who) -> bool
+        ensures { result ≡ is_none (wait_of self.now.world who) }
+    {
+        !self.is_in_wait(who)
+    }
+
+    // Whether a held callback is pending, and the history has no room for it to be run.
+    fn is_starved(&self, number: u64, room: u64) -> bool
+        ensures { result ≡ option_map_or (is_starved self.now.world room) (callback_of self.now.world number) false }
+    {
+        match self.callbacks.find(number) {
+            None => false,
+            Some(callback) => {
+                is_pending(&callback)
+                    && (room < 2 || (room < 4 && self.tally(callback.pool).attached == 0))
+            }
+        }
+    }
+
+    // Whether the actor's wait holds a callback that is pending, and the history has no room for it to
+    // be run. It walks what is held only where the room is below 4.
+    fn holds_starved(&self, who: Who, waiter: u32, room: u64) -> bool
+        requires { place_of self.now.world.limits who ≡ Some waiter }
+        ensures { result ≡ holds_starved self.now.world room (held_by self.now.world who) }
+    {
+        if 4 <= room {
+            return false;
+        }
+        let mut next = self.barriers.least(waiter);
+        while let Some(number) = next {
+            if self.is_starved(number, room) {
+                return true;
+            }
+            next = self.barriers.after(waiter, number);
+        }
+        false
+    }
+
+    /// How far the actor's wait has come. It walks what the wait holds only where the room is below
+    /// 4, and else reads the first of it.
+    pub fn progress(&self, who: Who, room: u64) -> Progress
+        ensures { result ≡ progress_of self.now.world room who }
+    {
+        let _ = &self.limits;
+        let Some(waiter) = self.waiter(who) else {
+            return Progress::NotBegun;
+        };
+        if !self.barriers.is_begun(waiter) {
+            return Progress::NotBegun;
+        }
+        match self.barriers.least(waiter) {
+            None => Progress::Free,
+            Some(callback) => {
+                if self.holds_starved(who, waiter, room) {
+                    Progress::Starved
+                } else {
+                    Progress::Holds { callback }
+                }
+            }
+        }
+    }
+}
