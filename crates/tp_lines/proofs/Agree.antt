@@ -6,6 +6,7 @@ use Rattle.tp_base.specs.Ranges.{IsCallInRange, IsEnvironInRange}
 use Rattle.tp_base.specs.declared.calls.Call.{Call}
 use Rattle.tp_base.specs.declared.calls.Call.TheVariants as call
 use Rattle.tp_base.specs.declared.calls.Environ.{Environ}
+use Rattle.tp_base.specs.declared.calls.Kind.{Kind}
 use Rattle.tp_base.specs.declared.calls.Kind.TheVariants as kind
 use Rattle.tp_lines.specs.declared.parts.Part.TheVariants as part
 use Rattle.tp_lines.specs.declared.words.Field.{Field}
@@ -86,5 +87,5 @@ range_fits (call.SubmitSimple routine context env) h k = (
 range_fits (call.CloseObject sort object) h k = (word_part field.Call word.CloseObject refl, (built_kind sort k, (number_held field.Short 0 65535 object.0 refl (omega arith) h, tt)))
 range_fits (call.BeginWait sort object cancel) h k =
     (word_part field.Call word.BeginWait refl, (built_kind sort k, (number_held field.Short 0 65535 object.0 refl (omega arith) h, (word_part field.How (word.How cancel) refl, tt))))
-range_fits call.CreatePool h k = search (rules, word_part, number_held)
-range_fits _ h k = search (rules, word_part, number_held)
+range_fits call.CreatePool h k = search (rules, word_part)
+range_fits _ h k = search (rules, word_part)
