@@ -1,15 +1,15 @@
 -- What is outstanding for an object, as the lists of objects give it.
-use Rattle.std.proofs.Common.{◌≡◌, ℕ, suc, ◌+◌, ◌-◌, ◌<◌, ◌≤◌, Bool, true, false, cond, not, ◌&&◌, ◌||◌, ◌==◌, List, [], ◌∷◌, length, map, nat_lt, nat_le, slice_get, Option, Some, None, refl, sym, ap, ap₂, ◌∙◌, subst, arith, filter, find, option_map, eqb-true, eq-eqb, ne_eqb}
+use Rattle.std.proofs.Common.{◌≡◌, ℕ, ◌+◌, ◌<◌, ◌≤◌, Bool, true, false, cond, ◌&&◌, ◌||◌, ◌==◌, List, [], ◌∷◌, length, map, nat_lt, slice_get, Option, Some, None, refl, sym, ap, ◌∙◌, subst, arith, filter, find, option_map, eqb-true, ne_eqb}
 use Rattle.std.specs.List.{AllByRecursion, list_any}
 use Rattle.tp_base.specs.declared.ids.ObjectId.{ObjectId}
 use Rattle.tp_base.specs.declared.rows.CallbackRow.{CallbackRow}
 use Rattle.tp_base.specs.declared.rows.WaitTarget.TheVariants.{Object}
 use Rattle.keyed_lists.specs.Keyed.{Entry, first_of, next_of, has}
 use Rattle.tp_model.specs.World.{World}
-use Rattle.tp_model.specs.Counts.{has_number, is_pending}
+use Rattle.tp_model.specs.Counts.{has_number}
 use Rattle.tp_model.specs.Sound.{IsRising}
 use Rattle.tp_model.specs.Waits.{is_held_for, is_outstanding_for}
-use Rattle.tp_model.proofs.Lists.{find_all, find_passes}
+use Rattle.tp_model.proofs.Lists.{find_all}
 use Rattle.tp_model.proofs.Refusals.{both}
 use Rattle.live_world.specs.Parts.{is_tied, tied_entry}
 use Rattle.live_world.specs.Invariant.{waits}

@@ -1,6 +1,6 @@
 -- What a wait that begins covers, what it cancels, and what the parts show then.
-use Rattle.std.proofs.Common.{◌≡◌, ℕ, ◌+◌, ◌<◌, ◌≤◌, Bool, true, false, cond, not, ◌&&◌, ◌||◌, ◌==◌, List, [], ◌∷◌, ◌++◌, length, map, Option, Some, None, is_some, refl, sym, ap, ap₂, ◌∙◌, subst, arith, filter, find, eq-eqb, ne_eqb}
-use Rattle.std.specs.List.{AllByRecursion, list_any}
+use Rattle.std.proofs.Common.{◌≡◌, ℕ, ◌+◌, ◌<◌, Bool, true, false, cond, not, ◌&&◌, ◌||◌, ◌==◌, List, [], ◌∷◌, ◌++◌, length, map, Some, refl, sym, ap, ap₂, ◌∙◌, subst, arith, filter, find, eq-eqb, ne_eqb}
+use Rattle.std.specs.List.{AllByRecursion}
 use Rattle.std.specs.Option.{option_map_or}
 use Rattle.std.proofs.lemmas.List.{length-map}
 use Rattle.tp_base.specs.declared.ids.Who.{Who}
@@ -22,7 +22,7 @@ use Rattle.tp_model.specs.Waits.{is_held_for, is_outstanding_for, is_cancelled_b
 use Rattle.tp_model.proofs.Lists.{all_filter, filter_filter}
 use Rattle.tp_model.proofs.Callbacks.{found_bounds}
 use Rattle.tp_model.proofs.Preserving.{sound_begin_wait}
-use Rattle.tp_model.proofs.Refusals.{and_false, or_true}
+use Rattle.tp_model.proofs.Refusals.{and_false}
 use Rattle.live_world.specs.declared.begun.BegunWaits.{BegunWaits}
 use Rattle.live_world.specs.declared.LiveWorld.TheInside.{Inside}
 use Rattle.live_world.specs.Live.{Live, moved, became, settled}
@@ -35,7 +35,7 @@ use Rattle.live_world.proofs.Entries.{AreBelow, below_fresh}
 use Rattle.live_world.proofs.Along.{number_of, numbers_shown}
 use Rattle.live_world.proofs.Cancelled.{none_where}
 use Rattle.live_world.proofs.Covered.{covered_begun}
-use Rattle.live_world.proofs.Moving.{After, Becomes, became_by}
+use Rattle.live_world.proofs.Moving.{Becomes, became_by}
 
 and_true : (b : Bool) → (b && true) ≡ b
 and_true true = refl
@@ -112,7 +112,7 @@ covers_and_cancels object cs busy = ap (λ n. n + length (filter waits (filter (
     each (d ∷ ds) b =
         let here : cond (covers (cond (test d) (cancelled d) d)) 1 0 + cond (p d && waits d) 1 0 ≡ cond (p d) 1 0
         = ap (λ t. cond t 1 0 + cond (p d && waits d) 1 0) (elim (test d) as (λ t. covers (cond t (cancelled d) d) ≡ cond t (((d.object.0 == object.0) && false) && (false || false)) (((d.object.0 == object.0) && is_held_for (Object object) d.status) && (is_running d.status || false))) [ true ↦ refl | false ↦ refl ])
-            ∙ cancel_one object (d.object.0 == object.0) (test d) d.status b.0 refl in
+        ∙ cancel_one object (d.object.0 == object.0) (test d) d.status b.0 refl in
         let kept : length (filter waits (filter p (d ∷ ds))) ≡ cond (p d && waits d) 1 0 + length (filter waits (filter p ds))
         = elim (p d) as (λ t. length (filter waits (cond t (d ∷ filter p ds) (filter p ds))) ≡ cond (t && waits d) 1 0 + length (filter waits (filter p ds))) [ true ↦ length_cond (waits d) d (filter waits (filter p ds)) | false ↦ omega arith ] in
         omega (arith, each ds b.1, here, kept, length_cond (covers (cond (test d) (cancelled d) d)) (cond (test d) (cancelled d) d) (filter covers (cancel_where test ds)), length_cond (p d) d (filter p ds))
@@ -200,17 +200,17 @@ begun_by i l who object cancel place barriers begun is k may settled at barriers
     = subst (AllByRecursion (λ n. n < i.made + 1)) (sym covers) (numbers_below (i.made + 1) (filter (is_outstanding_for (Object object)) cs) (all_filter (λ (c : CallbackRow). c.number < i.made + 1) (is_outstanding_for (Object object)) cs (below_fresh 1 (i.made + 1) cs k.sound.numbers))) in
     let sound : IsSound (i.made + 1) v = subst (λ ds. IsSound (i.made + 1) (begin_wait w who (Object object) cancel ds)) (none_where cs (is_cancelled_by (Object object) cancel) left) (sound_begin_wait (i.made + 1) w who (Object object) cancel may_here.none k.sound) in
     let r = became_by (record i { barriers = barriers; waits = begun }) v sound
-        (record {
-          shows = ap₂ (λ ds bs. record w { callbacks = ds; waits = bs }) (sym k.alive.live) waits_now;
-          sized = k.sized;
-          alive = k.alive;
-          queued = k.queued;
-          tallied = k.tallied;
-          listed = k.listed;
-          covered = subst (λ x. AreCovered i.limits (i.made + 1) cs begun.waits x) (sym (barriers_now ∙ ap (λ ns. with_wait i.barriers place (Some ns)) numbers))
-              (subst (λ bs. AreCovered i.limits (i.made + 1) cs bs (with_wait i.barriers place (Some b.covered))) (sym waits_now)
-              (covered_begun (i.made + 1) place b at may_here.none held tt made k.covered));
-        }) in
+    (record {
+      shows = ap₂ (λ ds bs. record w { callbacks = ds; waits = bs }) (sym k.alive.live) waits_now;
+      sized = k.sized;
+      alive = k.alive;
+      queued = k.queued;
+      tallied = k.tallied;
+      listed = k.listed;
+      covered = subst (λ x. AreCovered i.limits (i.made + 1) cs begun.waits x) (sym (barriers_now ∙ ap (λ ns. with_wait i.barriers place (Some ns)) numbers))
+          (subst (λ bs. AreCovered i.limits (i.made + 1) cs bs (with_wait i.barriers place (Some b.covered))) (sym waits_now)
+          (covered_begun (i.made + 1) place b at may_here.none held tt made k.covered));
+    }) in
     record { keeps = r.keeps; becomes = r.becomes ∙ ap (λ (x : Live). became x (begin_wait x.world who (Object object) cancel x.world.callbacks)) is }
 
 -- ---- what a begun wait comes to

@@ -1,30 +1,26 @@
 -- Callbacks of an object that are cancelled one after another, and what a wait covers then.
-use Rattle.std.proofs.Common.{◌≡◌, ◌≢◌, ℕ, suc, ◌+◌, ◌-◌, ◌<◌, ◌≤◌, Bool, true, false, cond, not, ◌&&◌, ◌||◌, ◌==◌, List, [], ◌∷◌, ◌++◌, length, map, nat_lt, nat_le, slice_get, Option, Some, None, refl, sym, ap, ap₂, ◌∙◌, subst, arith, filter, find, eqb-true, eq-eqb, ne_eqb, ltb-false}
-use Rattle.std.specs.List.{AllByRecursion, list_any}
+use Rattle.std.proofs.Common.{◌≡◌, ◌≢◌, ℕ, ◌+◌, ◌<◌, ◌≤◌, Bool, true, false, cond, not, ◌&&◌, ◌==◌, List, [], ◌∷◌, length, nat_lt, nat_le, slice_get, Option, Some, None, refl, sym, ap, ap₂, ◌∙◌, subst, arith, filter, find, eq-eqb, ne_eqb, ltb-false}
+use Rattle.std.specs.List.{AllByRecursion}
 use Rattle.std.proofs.lemmas.Bool.{le-leb, lt-leb, ltb-true}
 use Rattle.tp_base.specs.declared.ids.ObjectId.{ObjectId}
-use Rattle.tp_base.specs.declared.rows.Status.{Status}
-use Rattle.tp_base.specs.declared.rows.Status.TheVariants.{Expected, Issued, Pending, Running, Returned, Cancelled}
 use Rattle.tp_base.specs.declared.rows.CallbackRow.{CallbackRow}
 use Rattle.tp_base.specs.declared.rows.WaitTarget.TheVariants.{Object}
-use Rattle.tp_model.specs.World.{World}
-use Rattle.tp_model.specs.Counts.{has_number, is_pending, is_running}
+use Rattle.tp_model.specs.Counts.{has_number, is_pending}
 use Rattle.tp_model.specs.Changes.{replaced, with_callback}
 use Rattle.tp_model.specs.Sound.{IsRising}
 use Rattle.tp_model.specs.Remembered.{lives, forget}
-use Rattle.tp_model.specs.Waits.{is_of, is_held_for, is_outstanding_for, is_cancelled_by, is_covered_by, cancelled, cancel_where}
+use Rattle.tp_model.specs.Waits.{is_outstanding_for, is_cancelled_by, cancelled, cancel_where}
 use Rattle.tp_model.proofs.Lists.{find_kept, find_passes, filter_filter}
 use Rattle.tp_model.proofs.Callbacks.{found_all, filter_replaced_out}
 use Rattle.tp_model.proofs.Cancelling.{IsPendingTest, cancelled_pending, cancelled_if}
-use Rattle.tp_model.proofs.Forgetting.{cancel_forget, over_not_outstanding, over_not_covered, over_not_cancelled}
+use Rattle.tp_model.proofs.Forgetting.{cancel_forget, over_not_outstanding}
 use Rattle.tp_model.proofs.Refusals.{both, false_true, and_false}
 use Rattle.live_world.specs.Live.{Live, became, without_callback, without_pending}
 use Rattle.live_world.specs.Waiting.{outstanding_of}
-use Rattle.live_world.specs.Invariant.{waits, waits_or_runs}
 use Rattle.live_world.proofs.Lists.{all_along}
 use Rattle.live_world.proofs.Listed.{pending_tied}
-use Rattle.live_world.proofs.Walks.{Rises, rest, IsAmong, rest_first, first_among}
-use Rattle.live_world.proofs.Along.{number_of, rows_rise, outstanding_rise, find_filter, first_found, AtRow, at_row, next_row, found_row}
+use Rattle.live_world.proofs.Walks.{rest, IsAmong, first_among}
+use Rattle.live_world.proofs.Along.{number_of, find_filter, first_found, AtRow, at_row, next_row, found_row}
 
 -- from this one on
 abbrev pub is_from : Option CallbackRow → CallbackRow → Bool

@@ -1,5 +1,5 @@
 -- What begun waits hold, as callbacks change and as waits begin and end.
-use Rattle.std.proofs.Common.{◌≡◌, ◌≢◌, ℕ, suc, zero, ◌+◌, ◌-◌, ◌<◌, ◌≤◌, Bool, true, false, cond, not, ◌&&◌, ◌||◌, ◌==◌, List, [], ◌∷◌, ◌++◌, length, map, nat_le, get_or, slice_get, slice_set, Option, Some, None, is_some, is_none, refl, sym, ap, ap₂, ◌∙◌, subst, arith, filter, find, option_map, eqb-true, eq-eqb, ne_eqb, length-set, get_or-set_same, get_or-set_other}
+use Rattle.std.proofs.Common.{◌≡◌, ◌≢◌, ℕ, suc, zero, ◌+◌, ◌-◌, ◌<◌, ◌≤◌, Bool, true, false, cond, not, ◌&&◌, ◌||◌, ◌==◌, List, [], ◌∷◌, ◌++◌, length, map, nat_le, get_or, slice_get, Option, Some, None, is_some, is_none, refl, sym, ap, ap₂, ◌∙◌, subst, arith, filter, find, option_map, eqb-true, eq-eqb, ne_eqb, length-set, get_or-set_same, get_or-set_other}
 use Rattle.std.specs.List.{AllByRecursion, list_any}
 use Rattle.std.specs.Option.{option_map_or}
 use Rattle.std.proofs.lemmas.List.{length-map}
@@ -21,7 +21,7 @@ use Rattle.tp_model.specs.Sound.{IsRising}
 use Rattle.tp_model.specs.Allowed.{IsObjectTarget}
 use Rattle.tp_model.specs.Remembered.{lives}
 use Rattle.tp_model.specs.Waits.{is_outstanding_for}
-use Rattle.tp_model.proofs.Lists.{all_append, all_filter, find_all, find_passes}
+use Rattle.tp_model.proofs.Lists.{all_append, all_filter, find_all}
 use Rattle.tp_model.proofs.Callbacks.{find_replaced, find_replaced_other}
 use Rattle.tp_model.proofs.Forgetting.{over_forget, over_not_outstanding}
 use Rattle.tp_model.proofs.Refusals.{made, false_true, both, neither, and_false, same_actor_is, is_own_actor}

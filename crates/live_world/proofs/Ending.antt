@@ -1,23 +1,21 @@
 -- What the parts show after a wait begins and after one ends.
-use Rattle.std.proofs.Common.{◌≡◌, ℕ, ◌+◌, ◌<◌, Bool, true, false, not, List, [], ◌∷◌, ◌++◌, length, map, Option, Some, None, is_some, refl, sym, ap, ap₂, ◌∙◌, subst, arith, filter, find}
-use Rattle.std.specs.List.{AllByRecursion, list_any}
+use Rattle.std.proofs.Common.{◌≡◌, ℕ, ◌+◌, true, false, not, Some, None, is_some, sym, ap₂, ◌∙◌, subst, arith, filter}
+use Rattle.std.specs.List.{list_any}
 use Rattle.tp_base.specs.declared.ids.Who.{Who}
 use Rattle.tp_base.specs.declared.plans.WaitEnd.{WaitEnd}
 use Rattle.tp_base.specs.declared.plans.Change.TheVariants as change
-use Rattle.tp_base.specs.declared.rows.CallbackRow.{CallbackRow}
 use Rattle.cancel_wait.specs.Covers.{Covers, wait_of, with_wait}
-use Rattle.tp_model.specs.World.{World, BegunWait}
+use Rattle.tp_model.specs.World.{BegunWait}
 use Rattle.tp_model.specs.Conditions.{is_same_actor}
-use Rattle.tp_model.specs.Changes.{changed}
 use Rattle.tp_model.specs.Allowed.{IsAllowed, MayEnd}
 use Rattle.live_world.specs.declared.begun.BegunWaits.{BegunWaits}
 use Rattle.live_world.specs.declared.LiveWorld.TheInside.{Inside}
 use Rattle.live_world.specs.Live.{Live, moved}
-use Rattle.live_world.specs.Parts.{place_of, wait_among}
+use Rattle.live_world.specs.Parts.{place_of}
 use Rattle.live_world.specs.View.{shown, IsLiveWorld}
 use Rattle.live_world.specs.Invariant.{AreCovered}
 use Rattle.live_world.proofs.Covered.{covered_ended, no_stranger, begun_there, waiting_somewhere}
-use Rattle.live_world.proofs.Moving.{After, Becomes, moved_by}
+use Rattle.live_world.proofs.Moving.{Becomes, moved_by}
 
 -- an actor that has begun a wait has a place, and its barrier is begun
 pub record HasBegun (i : Inside) (who : Who) : Type 0 where

@@ -395,19 +395,19 @@ cancelled_by i l c callbacks queues outstanding barriers is k found pends rows_n
     let apart : AreApart c.number i.pools.workers = pending_apart c i.callbacks.rows 1 i.pools.workers found_here pends k.sound.workers in
     let v : World = with_callback (shown i).world r in
     let b = became_by (record i { callbacks = callbacks; queues = queues; outstanding = outstanding; barriers = barriers }) v (sound_cancelled (i.made + 1) (shown i).world c found_here pends k.sound)
-        (with_parts i v i.pools i.pools callbacks (record i.callbacks { rows = others }) queues (with_queue i.queues c.pool.0 (without_number c.number (queue_of i.queues c.pool.0)))
-        outstanding (unlisted i.outstanding c.number) barriers (left i.barriers c.number) refl rows_now queues_now listed_now left_now
-        (record {
-          shows = ap (λ cs. record (shown i).world { callbacks = cs }) removed;
-          sized = k.sized;
-          alive = alive_less i.callbacks r refl k.alive;
-          queued = subst (λ cs. AreQueued i.limits cs (with_queue i.queues c.pool.0 (without_number c.number (queue_of i.queues c.pool.0)))) (sym removed)
-              (queued_lives (queued_less (i.made + 1) r c (omega (arith, home, k.sized.pools_within)) pends refl refl k.sound.numbers found_here k.queued));
-          tallied = subst (λ cs. AreTallied cs i.pools.workers) (sym removed)
-              (tallied_lives (replaced r i.callbacks.rows) i.pools.workers (subst (λ cs. AreMarked cs i.pools.workers) removed (marked_others c.number i.callbacks.rows i.pools.workers apart k.tallied.marked))
-              (tallied_still (i.made + 1) r c i.callbacks.rows i.pools.workers (λ p. ap (λ b. b && (c.pool.0 == p)) (sym still)) (λ p. ap (λ b. (b && (c.pool.0 == p)) && c.long) (sym still)) k.sound.numbers found_here marks k.tallied));
-          listed = subst (λ cs. AreListed i.limits (length i.objects.rows) cs (unlisted i.outstanding c.number)) (sym removed) (listed_lives (listed_less r c refl refl found_here k.listed));
-          covered = subst (λ cs. AreCovered i.limits (i.made + 1) cs i.waits.waits (left i.barriers c.number)) (sym removed)
-              (covered_lives (i.made + 1) (rising_replaced r 1 (i.made + 1) i.callbacks.rows k.sound.numbers) (covered_less (i.made + 1) r c refl found_here k.covered));
-        })) in
+    (with_parts i v i.pools i.pools callbacks (record i.callbacks { rows = others }) queues (with_queue i.queues c.pool.0 (without_number c.number (queue_of i.queues c.pool.0)))
+    outstanding (unlisted i.outstanding c.number) barriers (left i.barriers c.number) refl rows_now queues_now listed_now left_now
+    (record {
+      shows = ap (λ cs. record (shown i).world { callbacks = cs }) removed;
+      sized = k.sized;
+      alive = alive_less i.callbacks r refl k.alive;
+      queued = subst (λ cs. AreQueued i.limits cs (with_queue i.queues c.pool.0 (without_number c.number (queue_of i.queues c.pool.0)))) (sym removed)
+          (queued_lives (queued_less (i.made + 1) r c (omega (arith, home, k.sized.pools_within)) pends refl refl k.sound.numbers found_here k.queued));
+      tallied = subst (λ cs. AreTallied cs i.pools.workers) (sym removed)
+          (tallied_lives (replaced r i.callbacks.rows) i.pools.workers (subst (λ cs. AreMarked cs i.pools.workers) removed (marked_others c.number i.callbacks.rows i.pools.workers apart k.tallied.marked))
+          (tallied_still (i.made + 1) r c i.callbacks.rows i.pools.workers (λ p. ap (λ b. b && (c.pool.0 == p)) (sym still)) (λ p. ap (λ b. (b && (c.pool.0 == p)) && c.long) (sym still)) k.sound.numbers found_here marks k.tallied));
+      listed = subst (λ cs. AreListed i.limits (length i.objects.rows) cs (unlisted i.outstanding c.number)) (sym removed) (listed_lives (listed_less r c refl refl found_here k.listed));
+      covered = subst (λ cs. AreCovered i.limits (i.made + 1) cs i.waits.waits (left i.barriers c.number)) (sym removed)
+          (covered_lives (i.made + 1) (rising_replaced r 1 (i.made + 1) i.callbacks.rows k.sound.numbers) (covered_less (i.made + 1) r c refl found_here k.covered));
+    })) in
     record { keeps = b.keeps; becomes = b.becomes ∙ ap (λ (x : Live). became x (with_callback x.world r)) is }

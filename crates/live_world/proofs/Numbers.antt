@@ -1,12 +1,12 @@
 -- The numbers of a key, as the lists of objects give them.
-use Rattle.std.proofs.Common.{◌≡◌, ℕ, ◌+◌, ◌<◌, ◌≤◌, Bool, true, false, cond, ◌&&◌, ◌||◌, ◌==◌, List, [], ◌∷◌, ◌++◌, length, map, nat_lt, slice_get, Option, None, Some, unwrap_or, refl, sym, ap, ap₂, ◌∙◌, subst, arith, filter, find, option_map, eqb-true, eq-eqb, length-append, append_assoc, get_or-set_same}
-use Rattle.std.specs.List.{AllByRecursion, list_any}
+use Rattle.std.proofs.Common.{◌≡◌, ℕ, ◌+◌, ◌<◌, ◌≤◌, true, false, cond, ◌&&◌, ◌||◌, ◌==◌, List, [], ◌∷◌, ◌++◌, length, map, nat_lt, slice_get, Option, None, Some, unwrap_or, refl, sym, ap, ap₂, ◌∙◌, subst, arith, filter, find, option_map, length-append, append_assoc, get_or-set_same}
+use Rattle.std.specs.List.{AllByRecursion}
 use Rattle.std.proofs.lemmas.List.{length-map}
 use Rattle.std.proofs.lemmas.List.Sums.{length-filter, count_by-le-length}
 use Rattle.keyed_lists.specs.Keyed.{Entry, IsRising, has, first_of, next_of}
 use Rattle.cancel_wait.specs.Covers.{Covers, wait_of, covered_of, with_wait}
 use Rattle.live_world.specs.Waiting.{numbers_of}
-use Rattle.live_world.proofs.Lists.{set_twice, all_along}
+use Rattle.live_world.proofs.Lists.{set_twice}
 use Rattle.live_world.proofs.Walks.{Rises, rest, IsAmong, rises_filter, rises_map, rises_pairs, all_least, rest_first, first_among, rest_next, found_among}
 
 abbrev pub itself : ℕ → ℕ

@@ -120,9 +120,9 @@ opened i o =
     let rows : i.callbacks.rows ≡ [] = ap (λ (c : LiveCallbacks). c.rows) o.callbacks in
     let objects : length i.objects.rows ≡ 0 = ap (λ (t : Table Object). length t.rows) o.objects in
     let world_now : (shown i).world ≡ opening limits =
-        ap₂ (λ (p : Pools) (t : Table Object). world_of limits p t i.callbacks.rows i.clients.items i.waits.waits) o.pools o.objects
-        ∙ ap₂ (λ (cs : List CallbackRow) (cl : List ClientRow). world_of limits (opened_pools limits) (opened_objects limits) cs cl i.waits.waits) rows o.clients
-        ∙ ap₂ (λ (bs : List BegunWait) (ws : List WorkerRow). record (opening limits) { waits = bs; workers = ws }) o.waits shown_workers in
+    ap₂ (λ (p : Pools) (t : Table Object). world_of limits p t i.callbacks.rows i.clients.items i.waits.waits) o.pools o.objects
+    ∙ ap₂ (λ (cs : List CallbackRow) (cl : List ClientRow). world_of limits (opened_pools limits) (opened_objects limits) cs cl i.waits.waits) rows o.clients
+    ∙ ap₂ (λ (bs : List BegunWait) (ws : List WorkerRow). record (opening limits) { waits = bs; workers = ws }) o.waits shown_workers in
     record {
       keeps = record {
         sized = both (λ p t. AreSized limits p t i.clients.items) o.pools o.objects (subst (λ cl. AreSized limits (opened_pools limits) (opened_objects limits) cl) (sym o.clients) (sized_opened limits o.in_range));

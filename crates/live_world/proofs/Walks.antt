@@ -1,5 +1,5 @@
 -- Rising things, gone along one after another.
-use Rattle.std.proofs.Common.{◌≡◌, ℕ, suc, zero, ◌+◌, ◌<◌, ◌≤◌, Bool, true, false, cond, ◌==◌, List, [], ◌∷◌, length, map, get_or, nat_lt, nat_le, slice_get, Option, Some, None, refl, sym, ap, ap₂, ◌∙◌, subst, arith, filter, find, eqb-true, eq-eqb, ne_eqb, lt-ltb, le-ltb}
+use Rattle.std.proofs.Common.{◌≡◌, ℕ, suc, ◌+◌, ◌<◌, ◌≤◌, Bool, true, false, cond, ◌==◌, List, [], ◌∷◌, map, get_or, nat_lt, nat_le, slice_get, Option, Some, None, refl, sym, ap, ap₂, ◌∙◌, subst, arith, filter, find, eqb-true, eq-eqb, ne_eqb, lt-ltb, le-ltb}
 use Rattle.std.specs.List.{AllByRecursion, AllPairs}
 use Rattle.std.proofs.lemmas.List.Elements.{recursion_from_All}
 use Rattle.std.proofs.lemmas.Bool.{le-leb, lt-leb}
@@ -54,9 +54,9 @@ module _ {X : Type 0} (key : X → ℕ) where
             let kept : rest (y ∷ ys) (Some x) ≡ y ∷ ys
             = filter_all (λ z. nat_le (key x) (key z)) (y ∷ ys) (le-leb (key x) (key y) (omega (arith, same)), all_along (λ z. key y + 1 ≤ key z) (λ z. nat_le (key x) (key z) ≡ true) (λ z le. le-leb (key x) (key z) (omega (arith, le, same))) ys later) in
             kept ∙ ap₂ (λ (h : X) (t : List X). h ∷ t) is (sym (
-              ap (rest (y ∷ ys)) (ap (λ b. cond b (Some y) (find (λ z. nat_lt (key x) (key z)) ys)) (le-ltb (key x) (key y) (omega (arith, same))) ∙ head ys (all_along (λ z. key y + 1 ≤ key z) (λ z. key x < key z) (λ z le. omega (arith, le, same)) ys later))
-              ∙ skip y ys r.1
-              ∙ rest_first (key y + 1) ys r.1))
+            ap (rest (y ∷ ys)) (ap (λ b. cond b (Some y) (find (λ z. nat_lt (key x) (key z)) ys)) (le-ltb (key x) (key y) (omega (arith, same))) ∙ head ys (all_along (λ z. key y + 1 ≤ key z) (λ z. key x < key z) (λ z le. omega (arith, le, same)) ys later))
+            ∙ skip y ys r.1
+            ∙ rest_first (key y + 1) ys r.1))
         | false ↦ λ other found.
             let ahead : key y < key x = omega (arith, below ys (key y + 1) r.1 found) in
             ap (λ b. cond b (y ∷ rest ys (Some x)) (rest ys (Some x))) (lt-leb (key x) (key y) ahead)

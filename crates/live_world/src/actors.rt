@@ -151,9 +151,7 @@ impl LiveWorld {
     {
         match self.busy(who) {
             None => false,
-            Some(by) => {
-                is_associated(by.callback.status) && by.callback.object.0 == object.0
-            }
+            Some(by) => { is_associated(by.callback.status) && by.callback.object.0 == object.0 }
         }
     }
 

@@ -210,9 +210,10 @@ impl LiveWorld {
             status: loosened(by.callback.status),
             ..by.callback
         };
+        let number = by.callback.number;
         let _was_there = self.callbacks.replace(loose);
-        let _was_outstanding = self.outstanding.remove(by.callback.number);
-        self.barriers.left(by.callback.number);
+        let _was_outstanding = self.outstanding.remove(number);
+        self.barriers.left(number);
     }
 
     // Ends the callback that a worker runs. The worker stays attached.

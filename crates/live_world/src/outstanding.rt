@@ -35,7 +35,11 @@ impl Outstanding {
     {
         Outstanding {
             all: self.all + 1,
-            pending: if pending { self.pending + 1 } else { self.pending },
+            pending: if pending {
+                self.pending + 1
+            } else {
+                self.pending
+            },
         }
     }
 }

@@ -57,10 +57,7 @@ pub(crate) fn price(change: Change) -> u64
 {
     match change {
         Change::Attach { .. } | Change::Take { .. } | Change::BeginWait { .. } => 2,
-        Change::Detach(_)
-        | Change::Return(_)
-        | Change::EndWait { .. }
-        | Change::Finish { .. } => 0,
+        Change::Detach(_) | Change::Return(_) | Change::EndWait { .. } | Change::Finish { .. } => 0,
         Change::CreatePool
         | Change::ChangePool { .. }
         | Change::CreateObject(_)

@@ -99,11 +99,6 @@ pub(crate) fn submit_simple(
     let object = new_object(Kind::Work, routine, context, env);
     Plan::Does {
         answer: Answer::Queued { first, count: 1 },
-        change: Change::QueueCallback(new_callback(
-            first,
-            ObjectId(0),
-            object,
-            TakeResult::Plain,
-        )),
+        change: Change::QueueCallback(new_callback(first, ObjectId(0), object, TakeResult::Plain)),
     }
 }

@@ -1,4 +1,4 @@
-use Rattle.std.proofs.Common.{refl, ap, ap₂, ◌∙◌}
+use Rattle.std.proofs.Common.{refl, ap₂}
 use Rattle.live_world.specs.declared.LiveWorld.TheInside.{Inside}
 use Rattle.tp_model.specs.World.{opening}
 use Rattle.tp_model.specs.Remembered.{forget}

@@ -1,7 +1,7 @@
-use Rattle.std.proofs.Common.{◌≡◌, ◌<◌, List, [], ◌++◌, length, Some, is_some, unwrap_or, refl, sym, ap, ◌∙◌, subst, arith, append-nil}
+use Rattle.std.proofs.Common.{◌≡◌, ◌<◌, [], length, is_some, unwrap_or, sym, ap, subst, arith}
 use Rattle.std.specs.List.{All}
 use Rattle.std.proofs.lemmas.List.Elements.{All-from_recursion}
-use Rattle.cancel_wait.specs.Covers.{wait_of, covered_of, with_wait}
+use Rattle.cancel_wait.specs.Covers.{covered_of}
 use Rattle.live_world.specs.Waiting.{numbers_of}
 use Rattle.live_world.proofs.Walks.{rest}
 use Rattle.live_world.proofs.Numbers.{itself, AtNumber, at_number, covering_first, covering_next, has_covered}
