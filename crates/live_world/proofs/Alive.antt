@@ -7,7 +7,7 @@ use Rattle.tp_base.specs.declared.rows.CallbackRow.{CallbackRow}
 use Rattle.callback_rows.specs.LiveCallbacks.{LiveCallbacks}
 use Rattle.tp_model.specs.Counts.{has_number, is_running}
 use Rattle.tp_model.specs.Changes.{replaced}
-use Rattle.tp_model.specs.Remembered.{lives}
+use Rattle.tp_model.specs.Support.Remembered.{lives}
 use Rattle.tp_model.proofs.Lists.{all_append, all_filter, all_map, filter_filter}
 use Rattle.tp_model.proofs.Callbacks.{filter_replaced_out, pending_lives}
 use Rattle.live_world.specs.Invariant.{AreLive, waits, waits_or_runs}

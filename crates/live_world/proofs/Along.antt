@@ -7,7 +7,7 @@ use Rattle.tp_base.specs.declared.rows.WaitTarget.TheVariants.{Object}
 use Rattle.keyed_lists.specs.Keyed.{Entry, first_of, next_of, has}
 use Rattle.tp_model.specs.World.{World}
 use Rattle.tp_model.specs.Counts.{has_number}
-use Rattle.tp_model.specs.Sound.{IsRising}
+use Rattle.tp_model.specs.Support.Sound.{IsRising}
 use Rattle.tp_model.specs.Waits.{is_held_for, is_outstanding_for}
 use Rattle.tp_model.proofs.Lists.{find_all}
 use Rattle.tp_model.proofs.Refusals.{both}

@@ -13,10 +13,10 @@ use Rattle.cancel_wait.specs.Covers.{Covers, with_wait}
 use Rattle.tp_model.specs.World.{World, BegunWait}
 use Rattle.tp_model.specs.Counts.{has_number, is_pending, is_running}
 use Rattle.tp_model.specs.Changes.{new_wait, begin_wait}
-use Rattle.tp_model.specs.Sound.{IsSound, IsRising}
-use Rattle.tp_model.specs.Allowed.{MayBegin}
+use Rattle.tp_model.specs.Support.Sound.{IsSound, IsRising}
+use Rattle.tp_model.specs.Support.Allowed.{MayBegin}
 use Rattle.tp_base.specs.declared.plans.Change.TheVariants as change
-use Rattle.tp_model.specs.Remembered.{lives, forget}
+use Rattle.tp_model.specs.Support.Remembered.{lives, forget}
 use Rattle.tp_model.proofs.Forgetting.{over_not_covered, over_not_cancelled}
 use Rattle.tp_model.specs.Waits.{is_held_for, is_outstanding_for, is_cancelled_by, is_covered_by, cancelled, cancel_where, covered_of}
 use Rattle.tp_model.proofs.Lists.{all_filter, filter_filter}

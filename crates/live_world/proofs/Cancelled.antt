@@ -7,8 +7,8 @@ use Rattle.tp_base.specs.declared.rows.CallbackRow.{CallbackRow}
 use Rattle.tp_base.specs.declared.rows.WaitTarget.TheVariants.{Object}
 use Rattle.tp_model.specs.Counts.{has_number, is_pending}
 use Rattle.tp_model.specs.Changes.{replaced, with_callback}
-use Rattle.tp_model.specs.Sound.{IsRising}
-use Rattle.tp_model.specs.Remembered.{lives, forget}
+use Rattle.tp_model.specs.Support.Sound.{IsRising}
+use Rattle.tp_model.specs.Support.Remembered.{lives, forget}
 use Rattle.tp_model.specs.Waits.{is_outstanding_for, is_cancelled_by, cancelled, cancel_where}
 use Rattle.tp_model.proofs.Lists.{find_kept, find_passes, filter_filter}
 use Rattle.tp_model.proofs.Callbacks.{found_all, filter_replaced_out}

@@ -17,9 +17,9 @@ use Rattle.tp_model.specs.World.{BegunWait}
 use Rattle.tp_model.specs.Counts.{has_number, numbered}
 use Rattle.tp_model.specs.Conditions.{is_actor, is_same_actor}
 use Rattle.tp_model.specs.Changes.{replaced}
-use Rattle.tp_model.specs.Sound.{IsRising}
-use Rattle.tp_model.specs.Allowed.{IsObjectTarget}
-use Rattle.tp_model.specs.Remembered.{lives}
+use Rattle.tp_model.specs.Support.Sound.{IsRising}
+use Rattle.tp_model.specs.Support.Allowed.{IsObjectTarget}
+use Rattle.tp_model.specs.Support.Remembered.{lives}
 use Rattle.tp_model.specs.Waits.{is_outstanding_for}
 use Rattle.tp_model.proofs.Lists.{all_append, all_filter, find_all}
 use Rattle.tp_model.proofs.Callbacks.{find_replaced, find_replaced_other}

@@ -8,7 +8,7 @@ use Rattle.tp_base.specs.declared.calls.Priority.TheVariants.{High, Normal, Low}
 use Rattle.tp_base.specs.declared.rows.CallbackRow.{CallbackRow}
 use Rattle.prio_queue.specs.Pending.{Entry, entry, comes_before, with_entry}
 use Rattle.tp_model.specs.Counts.{is_high, is_normal, is_low}
-use Rattle.tp_model.specs.Sound.{IsRising}
+use Rattle.tp_model.specs.Support.Sound.{IsRising}
 use Rattle.live_world.specs.Parts.{entry_of, priority_byte}
 use Rattle.live_world.proofs.Lists.{filter_all, filter_none, both_parts}
 

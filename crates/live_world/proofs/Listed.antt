@@ -13,8 +13,8 @@ use Rattle.tp_base.specs.declared.rows.WaitTarget.TheVariants.{Object}
 use Rattle.keyed_lists.specs.Keyed.{Keyed, Entry, entry}
 use Rattle.tp_model.specs.Counts.{has_number, is_pending}
 use Rattle.tp_model.specs.Changes.{replaced}
-use Rattle.tp_model.specs.Sound.{IsRising}
-use Rattle.tp_model.specs.Remembered.{lives}
+use Rattle.tp_model.specs.Support.Sound.{IsRising}
+use Rattle.tp_model.specs.Support.Remembered.{lives}
 use Rattle.tp_model.specs.Waits.{is_held_for}
 use Rattle.tp_model.proofs.Lists.{all_append, all_filter, all_map, filter_filter, find_all}
 use Rattle.tp_model.proofs.Callbacks.{filter_replaced_out, found_all}

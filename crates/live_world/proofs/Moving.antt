@@ -27,9 +27,9 @@ use Rattle.tp_model.specs.World.{World, BegunWait}
 use Rattle.tp_model.specs.Counts.{has_number, callback_of, is_pending, is_running, is_live}
 use Rattle.tp_model.specs.Changes.{changed, replaced, with_callback, taken, loosened, marked, returned}
 use Rattle.tp_model.specs.Waits.{is_held_for, cancelled}
-use Rattle.tp_model.specs.Allowed.{IsAllowed, Runs, news}
-use Rattle.tp_model.specs.Sound.{IsSound, IsRising}
-use Rattle.tp_model.specs.Remembered.{lives, forget}
+use Rattle.tp_model.specs.Support.Allowed.{IsAllowed, Runs, news}
+use Rattle.tp_model.specs.Support.Sound.{IsSound, IsRising}
+use Rattle.tp_model.specs.Support.Remembered.{lives, forget}
 use Rattle.tp_model.proofs.Lists.{all_get, find_all}
 use Rattle.tp_model.proofs.Callbacks.{found_bounds, find_replaced as find_here, pending_not_running, rising_replaced}
 use Rattle.tp_model.proofs.Preserving.{changed_sound, sound_cancelled}

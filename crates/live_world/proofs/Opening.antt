@@ -9,8 +9,8 @@ use Rattle.prio_queue.specs.Pending.{Pending, Entry}
 use Rattle.pool_rows.specs.Pools.{Pools, made_pool}
 use Rattle.pool_rows.specs.Workers.{runs_in, runs_long_in, unattached as unattached_row}
 use Rattle.tp_model.specs.World.{World, BegunWait, opening, unattached, unfinished}
-use Rattle.tp_model.specs.Sound.{IsSound}
-use Rattle.tp_model.specs.Remembered.{forget}
+use Rattle.tp_model.specs.Support.Sound.{IsSound}
+use Rattle.tp_model.specs.Support.Remembered.{forget}
 use Rattle.tp_model.proofs.Preserving.{opening_sound}
 use Rattle.live_world.specs.declared.objects.Object.{Object}
 use Rattle.live_world.specs.Parts.{world_of, shown_worker}

@@ -10,7 +10,7 @@ use Rattle.tp_base.specs.declared.rows.CallbackRow.{CallbackRow}
 use Rattle.handle_table.specs.Table.{Table, Marked, numbered as numbered_row, is_live as is_live_row, with_row, with_released}
 use Rattle.tp_model.specs.Counts.{numbered}
 use Rattle.tp_model.specs.Changes.{changed, release_object}
-use Rattle.tp_model.specs.Allowed.{IsAllowed}
+use Rattle.tp_model.specs.Support.Allowed.{IsAllowed}
 use Rattle.live_world.specs.declared.objects.Object.{Object}
 use Rattle.live_world.specs.declared.LiveWorld.TheInside.{Inside}
 use Rattle.live_world.specs.Live.{Live, moved}

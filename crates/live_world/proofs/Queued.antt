@@ -11,8 +11,8 @@ use Rattle.tp_base.specs.declared.rows.CallbackRow.{CallbackRow}
 use Rattle.prio_queue.specs.Pending.{Pending, Entry, queue_of, with_queue, held, with_entry, without_number, has_number as entries_have, first_number}
 use Rattle.tp_model.specs.Counts.{has_number, is_pending, is_pending_in, is_high, is_normal, is_low}
 use Rattle.tp_model.specs.Changes.{replaced}
-use Rattle.tp_model.specs.Sound.{IsRising}
-use Rattle.tp_model.specs.Remembered.{lives}
+use Rattle.tp_model.specs.Support.Sound.{IsRising}
+use Rattle.tp_model.specs.Support.Remembered.{lives}
 use Rattle.tp_model.proofs.Lists.{all_filter, filter_filter}
 use Rattle.tp_model.proofs.Callbacks.{filter_replaced_out, found_all, length_filter_replaced, over_not_pending, kept_found}
 use Rattle.tp_model.proofs.Refusals.{false_true, both}

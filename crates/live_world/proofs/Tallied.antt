@@ -13,8 +13,8 @@ use Rattle.pool_rows.specs.Workers.{is_attached_to, runs_in, runs_long_in}
 use Rattle.pool_rows.specs.declared.WorkerRow as kept
 use Rattle.tp_model.specs.Counts.{numbered, has_number, is_pending, is_running, is_running_in, is_running_long_in}
 use Rattle.tp_model.specs.Changes.{replaced}
-use Rattle.tp_model.specs.Sound.{IsRising, IsWorkerSound, AreWorkersSound}
-use Rattle.tp_model.specs.Remembered.{lives}
+use Rattle.tp_model.specs.Support.Sound.{IsRising, IsWorkerSound, AreWorkersSound}
+use Rattle.tp_model.specs.Support.Remembered.{lives}
 use Rattle.tp_model.proofs.Lists.{find_kept, find_passes, length_filter_set, filter_filter}
 use Rattle.tp_model.proofs.Callbacks.{find_appended, find_replaced, find_replaced_other, length_filter_replaced, over_not_running}
 use Rattle.tp_model.proofs.Refusals.{numbered_some, false_true}

@@ -18,8 +18,8 @@ use Rattle.pool_rows.specs.Workers.{runs_in, runs_long_in}
 use Rattle.pool_rows.specs.declared.WorkerRow.{WorkerRow}
 use Rattle.tp_model.specs.Counts.{has_number, is_pending, is_running, is_running_in, is_running_long_in}
 use Rattle.tp_model.specs.World.{BegunWait}
-use Rattle.tp_model.specs.Allowed.{IsObjectTarget}
-use Rattle.tp_model.specs.Remembered.{lives}
+use Rattle.tp_model.specs.Support.Allowed.{IsObjectTarget}
+use Rattle.tp_model.specs.Support.Remembered.{lives}
 use Rattle.live_world.specs.Parts.{entry_of, queue_among, is_tied, tied_entry, held_among, wait_among, place_of}
 use Rattle.live_world.specs.declared.objects.Object.{Object}
 

@@ -8,8 +8,8 @@ use Rattle.tp_model.specs.Changes.{changed, with_callback}
 use Rattle.tp_base.specs.declared.rows.CallbackRow.{CallbackRow}
 use Rattle.tp_model.specs.Counts.{is_pending}
 use Rattle.tp_model.specs.Waits.{is_cancelled_by, cancelled, cancel_where}
-use Rattle.tp_model.specs.Allowed.{news}
-use Rattle.tp_model.specs.Remembered.{forget}
+use Rattle.tp_model.specs.Support.Allowed.{news}
+use Rattle.tp_model.specs.Support.Remembered.{forget}
 
 -- a world without the callbacks that are over, and how many were ever made
 pub record Live : Type 0 where

@@ -1,6 +1,6 @@
 -- What the parts of a live world show, and what they keep between calls.
 use Rattle.std.specs.Prelude.{◌+◌, length}
-use Rattle.tp_model.specs.Sound.{IsSound}
+use Rattle.tp_model.specs.Support.Sound.{IsSound}
 use Rattle.live_world.specs.Live.{Live}
 use Rattle.live_world.specs.Invariant.{AreSized, AreLive, AreQueued, AreTallied, AreListed, AreCovered}
 use Rattle.live_world.specs.Parts.{world_of}

@@ -5,7 +5,7 @@ ghost use Rattle.std.specs.Prelude.{◌≡◌, ◌+◌, ◌^◌, ◌<◌, [], fi
 ghost use Rattle.tp_model.specs.Counts.{callback_of, is_pending as is_pending_by};
 ghost use Rattle.tp_model.specs.Changes.{with_callback, loosened as loosened_by, begin_wait};
 ghost use Rattle.tp_model.specs.Waits.{cancelled, is_cancelled_by};
-ghost use Rattle.tp_model.specs.Allowed.{IsAllowed, MayBegin};
+ghost use Rattle.tp_model.specs.Support.Allowed.{IsAllowed, MayBegin};
 ghost use Rattle.live_world.specs.Parts.{priority_byte as priority_byte_of};
 ghost use Rattle.live_world.specs.Live.{moved, became, without_callback, without_pending, settled};
 

@@ -11,8 +11,8 @@
 ghost use Rattle.std.specs.Prelude.{◌≡◌, ◌+◌, ◌^◌, ◌<◌, IfOk};
 ghost use Rattle.tp_base.specs.Ranges.{AreLimitsInRange};
 ghost use Rattle.tp_model.specs.World.{opening};
-ghost use Rattle.tp_model.specs.Remembered.{forget};
-ghost use Rattle.tp_model.specs.Sound.{IsSound};
+ghost use Rattle.tp_model.specs.Support.Remembered.{forget};
+ghost use Rattle.tp_model.specs.Support.Sound.{IsSound};
 ghost use Rattle.live_world.specs.Bounds.{IsBounded};
 
 use begun::BegunWaits;

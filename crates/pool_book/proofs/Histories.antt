@@ -13,7 +13,7 @@ use Rattle.tp_base.specs.declared.plans.Plan.TheVariants as plans
 use Rattle.tp_model.specs.Counts.{owed}
 use Rattle.tp_model.specs.Changes.{changed}
 use Rattle.tp_model.specs.History.{IsLegalFrom, after_from, change_told, is_refusal, led_by, led_to, room}
-use Rattle.tp_model.specs.Sound.{IsSound}
+use Rattle.tp_model.specs.Support.Sound.{IsSound}
 use Rattle.tp_model.specs.Step.{Step, Accepted, Refused, Looked, Full, cost, entries_of, is_accepted, outcome_of, stepped, within, world_after}
 use Rattle.tp_model.specs.Table.{plan, step}
 use Rattle.tp_model.specs.World.{World}

@@ -15,8 +15,8 @@ use Rattle.tp_base.specs.Ranges.{AreLimitsInRange}
 use Rattle.tp_model.specs.Counts.{owed}
 use Rattle.tp_model.specs.History.{IsLegal, after, play_from, room}
 use Rattle.tp_model.specs.Laws.{KeepsLaws}
-use Rattle.tp_model.specs.Remembered.{Remembered, StandsFor, Meets}
-use Rattle.tp_model.specs.Sound.{IsSound}
+use Rattle.tp_model.specs.Support.Remembered.{Remembered, StandsFor, Meets}
+use Rattle.tp_model.specs.Support.Sound.{IsSound}
 use Rattle.tp_model.specs.Step.{Step, entries_of, is_accepted, outcome_of, world_after}
 use Rattle.tp_model.specs.Table.{step}
 use Rattle.tp_model.specs.World.{World, opening, unattached, unfinished}

@@ -7,8 +7,8 @@ use Rattle.tp_base.specs.declared.rows.ClientRow.{ClientRow}
 use Rattle.tp_base.specs.declared.rows.WorkerRow.{WorkerRow}
 use Rattle.tp_model.specs.World.{opening, unattached, unfinished}
 use Rattle.tp_model.specs.Counts.{owed}
-use Rattle.tp_model.specs.Allowed.{price, news}
-use Rattle.tp_model.specs.Remembered.{forget}
+use Rattle.tp_model.specs.Support.Allowed.{price, news}
+use Rattle.tp_model.specs.Support.Remembered.{forget}
 
 -- a change makes few callbacks
 pub news_most : (ch : Change) → news ch ≤ 65536

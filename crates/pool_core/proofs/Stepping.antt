@@ -14,9 +14,9 @@ use Rattle.tp_base.specs.declared.plans.Plan.TheVariants as plan
 use Rattle.tp_model.specs.World.{World}
 use Rattle.tp_model.specs.Step.{Full, Refused, unless_full, outcome_of}
 use Rattle.tp_model.specs.Table.{step, plan_at}
-use Rattle.tp_model.specs.Allowed.{price}
-use Rattle.tp_model.specs.Sound.{IsSound}
-use Rattle.tp_model.specs.Remembered.{Remembered, StandsFor, Meets}
+use Rattle.tp_model.specs.Support.Allowed.{price}
+use Rattle.tp_model.specs.Support.Sound.{IsSound}
+use Rattle.tp_model.specs.Support.Remembered.{Remembered, StandsFor, Meets}
 use Rattle.tp_model.proofs.Steps.{goes_refused, goes_looked, goes_full, goes_done}
 use Rattle.tp_model.proofs.Meeting.{meets}
 use Rattle.pool_core.specs.Entered.{entered, outcome_of_entry, after_entry}

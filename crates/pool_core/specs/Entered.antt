@@ -5,8 +5,8 @@ use Rattle.tp_base.specs.declared.answers.Outcome.{Outcome}
 use Rattle.tp_base.specs.declared.answers.Outcome.TheVariants.{Done, Full}
 use Rattle.tp_base.specs.declared.plans.Change.{Change}
 use Rattle.tp_model.specs.Changes.{changed}
-use Rattle.tp_model.specs.Allowed.{price}
-use Rattle.tp_model.specs.Remembered.{Remembered, remembered_in}
+use Rattle.tp_model.specs.Support.Allowed.{price}
+use Rattle.tp_model.specs.Support.Remembered.{Remembered, remembered_in}
 
 -- a refusal changes nothing
 abbrev pub cost_of : Option Change → ℕ

@@ -1,8 +1,8 @@
 -- What an engine remembers, and what it counts.
 use Rattle.std.specs.Prelude.{◌≡◌, ◌+◌, ◌*◌, ◌≤◌}
 use Rattle.tp_model.specs.Counts.{owed}
-use Rattle.tp_model.specs.Ranged.{AreRowsInRange}
-use Rattle.tp_model.specs.Remembered.{Remembered}
+use Rattle.tp_model.specs.Support.Ranged.{AreRowsInRange}
+use Rattle.tp_model.specs.Support.Remembered.{Remembered}
 use Rattle.pool_core.specs.declared.Engine.TheInside.{Inside}
 
 abbrev pub remembered : Inside → Remembered

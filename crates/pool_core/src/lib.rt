@@ -27,10 +27,10 @@ ghost use Rattle.tp_base.specs.Ranges.{AreLimitsInRange, IsCallInRange, IsAnswer
 ghost use Rattle.tp_model.specs.World.{World, opening};
 ghost use Rattle.tp_model.specs.Counts.{owed};
 ghost use Rattle.tp_model.specs.Changes.{changed};
-ghost use Rattle.tp_model.specs.Allowed.{IsAllowed};
-ghost use Rattle.tp_model.specs.Ranged.{IsChangeInRange};
+ghost use Rattle.tp_model.specs.Support.Allowed.{IsAllowed};
+ghost use Rattle.tp_model.specs.Support.Ranged.{IsChangeInRange};
 ghost use Rattle.tp_model.specs.Table.{step};
-ghost use Rattle.tp_model.specs.Remembered.{StandsFor, Meets, remembered_in};
+ghost use Rattle.tp_model.specs.Support.Remembered.{StandsFor, Meets, remembered_in};
 
 use live_world::LiveWorld;
 use plans::{plan, price};
@@ -61,7 +61,7 @@ pub struct Engine {
 }
 
 impl Model for Engine {
-    ghost use Rattle.tp_model.specs.Remembered.{Remembered};
+    ghost use Rattle.tp_model.specs.Support.Remembered.{Remembered};
 
     ghost Value = { Remembered };
 

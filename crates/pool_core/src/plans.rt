@@ -1,8 +1,8 @@
 //! What each call comes to, and what a change costs.
 
 ghost use Rattle.std.specs.Prelude.{◌≡◌, ◌+◌, ◌^◌, ◌<◌};
-ghost use Rattle.tp_model.specs.Allowed.{price as price_of};
-ghost use Rattle.tp_model.specs.Ranged.{IsWide};
+ghost use Rattle.tp_model.specs.Support.Allowed.{price as price_of};
+ghost use Rattle.tp_model.specs.Support.Ranged.{IsWide};
 ghost use Rattle.tp_model.specs.Table.{plan_at};
 
 use crate::{clients, in_callback, objects, pools, waits, work, workers};

@@ -14,8 +14,8 @@ use Rattle.tp_model.specs.World.{World}
 use Rattle.tp_model.specs.Counts.{numbered, callback_of, has_number, is_pending_in, is_high, is_normal, is_low, waiting, next, least_pool, is_in_need, is_below_minimum}
 use Rattle.tp_model.specs.Conditions.{idle_row, idle_in, idle_of, busy_row, busy_in, busy_of}
 use Rattle.tp_model.specs.Calls.Workers.{pool_to_join}
-use Rattle.tp_model.specs.Sound.{IsSound, RunsOn}
-use Rattle.tp_model.specs.Allowed.{Idles, Runs}
+use Rattle.tp_model.specs.Support.Sound.{IsSound, RunsOn}
+use Rattle.tp_model.specs.Support.Allowed.{Idles, Runs}
 use Rattle.tp_model.proofs.Lists.{find_passes}
 use Rattle.tp_model.proofs.Callbacks.{kept_found}
 use Rattle.tp_model.proofs.Preserving.{worker_at}

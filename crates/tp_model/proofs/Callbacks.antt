@@ -5,7 +5,7 @@ use Rattle.tp_base.specs.declared.rows.Status.TheVariants.{Expected, Issued, Pen
 use Rattle.tp_base.specs.declared.rows.CallbackRow.{CallbackRow}
 use Rattle.tp_model.specs.Counts.{has_number, is_pending, is_running, is_live}
 use Rattle.tp_model.specs.Changes.{replaced}
-use Rattle.tp_model.specs.Sound.{IsRising}
+use Rattle.tp_model.specs.Support.Sound.{IsRising}
 use Rattle.std.specs.List.{AllByRecursion}
 
 -- ---- what is over is neither pending nor running

@@ -23,8 +23,8 @@ use Rattle.tp_model.specs.Waits.{is_cancelled_by, cancel_where, wait_of}
 use Rattle.tp_model.specs.World.{World, BegunWait, unattached, unfinished}
 use Rattle.tp_model.specs.Counts.{numbered, has_number, is_pending, is_running, owed}
 use Rattle.tp_model.specs.Changes.{with_new_callback, with_callback, with_worker, with_client, change_pool, taken, marked, returned, changed, loosened, release_object, new_wait, without_wait}
-use Rattle.tp_model.specs.Sound.{IsSound, AreApart}
-use Rattle.tp_model.specs.Allowed.{IsAllowed, price}
+use Rattle.tp_model.specs.Support.Sound.{IsSound, AreApart}
+use Rattle.tp_model.specs.Support.Allowed.{IsAllowed, price}
 use Rattle.tp_model.proofs.Lists.{length_filter_set}
 use Rattle.tp_model.proofs.Callbacks.{length_filter_replaced, pending_not_running}
 use Rattle.tp_model.proofs.Cancelling.{cancelled_pending, count_uncancelled}

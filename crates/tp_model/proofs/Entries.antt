@@ -17,8 +17,8 @@ use Rattle.tp_model.specs.Changes.{changed}
 use Rattle.tp_model.specs.Step.{Accepted, Refused, Full, stepped, within, cost, outcome_of}
 use Rattle.tp_model.specs.Table.{plan, step}
 use Rattle.tp_model.specs.History.{is_refusal, change_of, change_told, led_by, led_to, after_from, room, IsLegalFrom, wait_end}
-use Rattle.tp_model.specs.Sound.{IsSound}
-use Rattle.tp_model.specs.Safe.{IsSafeChange}
+use Rattle.tp_model.specs.Support.Sound.{IsSound}
+use Rattle.tp_model.specs.Support.Safe.{IsSafeChange}
 use Rattle.tp_model.specs.Laws.Entries.{is_return_call, is_disassociate_call, is_end_call}
 use Rattle.tp_model.specs.Refusing.{first_refusal, unless_refused}
 use Rattle.tp_model.specs.Waits.{wait_of, held}
@@ -26,8 +26,8 @@ use Rattle.tp_model.specs.Calls.Waits.{end_refusals, end_held, end_wait, end_pla
 use Rattle.tp_base.specs.declared.answers.Look.TheVariants as look
 use Rattle.tp_base.specs.declared.plans.WaitEnd.TheVariants as how
 use Rattle.tp_base.specs.declared.plans.Change.TheVariants as changes
-use Rattle.tp_model.specs.Told.{nothing, told, told_by}
-use Rattle.tp_model.specs.Moves.{Stay, Keep, Leads}
+use Rattle.tp_model.specs.Support.Told.{nothing, told, told_by}
+use Rattle.tp_model.specs.Support.Moves.{Stay, Keep, Leads}
 use Rattle.tp_model.proofs.Growing.{grows}
 use Rattle.tp_model.proofs.Preserving.{changed_sound}
 use Rattle.tp_model.proofs.Steps.{plan_allowed}

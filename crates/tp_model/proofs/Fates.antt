@@ -1,6 +1,6 @@
 -- What becomes of one callback, whatever the move.
 use Rattle.std.proofs.Common.{◌≡◌, ℕ, Bool, true, false, cond, List, Option, Some, None, refl, sym, ap, ◌∙◌, find, ◌⊎◌, inl, inr, eqb-true, subst}
-use Rattle.tp_model.specs.Told.{Deed}
+use Rattle.tp_model.specs.Support.Told.{Deed}
 use Rattle.tp_model.specs.Laws.Entries.{Run, run_by}
 use Rattle.tp_base.specs.declared.answers.Entry.{Entry}
 use Rattle.tp_base.specs.declared.rows.Status.{Status}
@@ -14,7 +14,7 @@ use Rattle.tp_model.specs.Counts.{has_number, is_pending}
 use Rattle.tp_model.specs.Changes.{replaced, taken, returned}
 use Rattle.tp_model.specs.Waits.{is_held_for, cancelled, cancel_where}
 use Rattle.tp_model.specs.Laws.Once.{is_left}
-use Rattle.tp_model.specs.Moves.{Move, Stay, Mark, Attach, Detach, Take, Return, Loosen, Cancel, Moves, run_of}
+use Rattle.tp_model.specs.Support.Moves.{Move, Stay, Mark, Attach, Detach, Take, Return, Loosen, Cancel, Moves, run_of}
 use Rattle.tp_model.proofs.Cancelling.{cancelled_found, find_cancelled}
 use Rattle.tp_model.proofs.Callbacks.{find_replaced, find_replaced_other}
 use Rattle.tp_model.proofs.Places.{find_either}

@@ -7,7 +7,7 @@ use Rattle.tp_base.specs.declared.rows.CallbackRow.{CallbackRow}
 use Rattle.tp_model.specs.World.{World}
 use Rattle.tp_model.specs.Counts.{callback_of, has_number, is_pending_in, is_high, is_normal, is_low, waiting, next}
 use Rattle.tp_model.specs.Next.{rank, comes_first, IsNext, IsNextOrNone}
-use Rattle.tp_model.specs.Sound.{IsSound, IsRising}
+use Rattle.tp_model.specs.Support.Sound.{IsSound, IsRising}
 use Rattle.tp_model.proofs.Callbacks.{found_bounds, kept_found}
 use Rattle.tp_model.proofs.Refusals.{both, false_true}
 

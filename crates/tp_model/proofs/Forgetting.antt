@@ -48,9 +48,9 @@ use Rattle.tp_model.specs.Waits.{is_of, is_held_for, is_outstanding_for, count_o
 use Rattle.tp_base.specs.declared.plans.WaitEnd.TheVariants as how
 use Rattle.tp_model.specs.Calls.Clients.{finish_plan}
 use Rattle.tp_model.specs.Table.{plan_at}
-use Rattle.tp_model.specs.Sound.{IsSound, IsWorkerSound, AreWorkersSound, RunsOn, IsRising}
-use Rattle.tp_model.specs.Allowed.{IsAllowed}
-use Rattle.tp_model.specs.Remembered.{lives, forget}
+use Rattle.tp_model.specs.Support.Sound.{IsSound, IsWorkerSound, AreWorkersSound, RunsOn, IsRising}
+use Rattle.tp_model.specs.Support.Allowed.{IsAllowed}
+use Rattle.tp_model.specs.Support.Remembered.{lives, forget}
 use Rattle.tp_model.proofs.Lists.{any_filter, filter_filter, find_kept, find_agree, all_filter, filter_agree}
 use Rattle.tp_model.proofs.Callbacks.{over_not_pending, over_not_running, pending_lives, rising_filter, filter_replaced_out, filter_replaced_filter, found_all, find_above}
 use Rattle.tp_model.proofs.Cancelling.{IsPendingTest, cancelled_pending, cancelled_if}

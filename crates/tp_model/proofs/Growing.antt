@@ -9,7 +9,7 @@ use Rattle.tp_model.specs.World.{World}
 use Rattle.tp_model.specs.Changes.{change_pool, taken, marked, returned, changed, release_object}
 use Rattle.tp_model.specs.Counts.{numbered}
 use Rattle.tp_model.specs.Waits.{is_cancelled_by}
-use Rattle.tp_model.specs.Allowed.{IsAllowed, news}
+use Rattle.tp_model.specs.Support.Allowed.{IsAllowed, news}
 use Rattle.tp_model.proofs.Cancelling.{length_cancelled}
 use Rattle.tp_model.proofs.Callbacks.{length_replaced}
 

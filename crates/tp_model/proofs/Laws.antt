@@ -20,7 +20,7 @@ use Rattle.tp_base.specs.declared.answers.Answer.TheVariants as answer
 use Rattle.tp_base.specs.declared.rows.WaitTarget.TheVariants.{Object}
 use Rattle.tp_model.specs.World.{World, opening}
 use Rattle.tp_model.specs.History.{IsLegal, after, led_to}
-use Rattle.tp_model.specs.Sound.{IsSound}
+use Rattle.tp_model.specs.Support.Sound.{IsSound}
 use Rattle.tp_model.specs.Laws.{KeepsLaws}
 use Rattle.tp_model.specs.Laws.Once.{AreOnce}
 use Rattle.tp_model.specs.Laws.Maximum.{IsWithinMaximum}

@@ -18,11 +18,11 @@ use Rattle.tp_model.specs.World.{World, opening, unattached}
 use Rattle.tp_model.specs.Counts.{numbered, is_running, is_running_in, is_attached_to, running}
 use Rattle.tp_model.specs.Conditions.{is_same_actor}
 use Rattle.tp_model.specs.Changes.{replaced, taken as taken_row, returned}
-use Rattle.tp_model.specs.Sound.{IsSound, IsWorkerSound, AreWorkersSound}
+use Rattle.tp_model.specs.Support.Sound.{IsSound, IsWorkerSound, AreWorkersSound}
 use Rattle.tp_model.specs.Laws.Entries.{is_taken, is_returned, attached_by, taken_by, is_by, run_after, pool_after, is_within_run, last_pool, maximum_after, told_maximum}
 use Rattle.tp_model.specs.Laws.Maximum.{runs_in, count_running, TakesBelowMaximum}
-use Rattle.tp_model.specs.Told.{Deed, deed_by, nothing}
-use Rattle.tp_model.specs.Moves.{Move, Stay, Mark, Attach, Detach, Take, Return, Moves, AreNew, is_new, Leads, IsFree, maximum_at, put, Loosen, Cancel}
+use Rattle.tp_model.specs.Support.Told.{Deed, deed_by, nothing}
+use Rattle.tp_model.specs.Support.Moves.{Move, Stay, Mark, Attach, Detach, Take, Return, Moves, AreNew, is_new, Leads, IsFree, maximum_at, put, Loosen, Cancel}
 use Rattle.tp_model.proofs.Lists.{length_filter_set}
 use Rattle.tp_model.specs.Waits.{cancel_where}
 use Rattle.tp_model.proofs.Cancelling.{count_uncancelled}

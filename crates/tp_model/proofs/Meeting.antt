@@ -12,9 +12,9 @@ use Rattle.tp_model.specs.Counts.{owed}
 use Rattle.tp_model.specs.Changes.{changed}
 use Rattle.tp_model.specs.Step.{Step, Accepted, Refused, Looked, Full, stepped, unless_full, within, cost, outcome_of, world_after, is_accepted}
 use Rattle.tp_model.specs.Table.{plan_at, unpriced, step}
-use Rattle.tp_model.specs.Sound.{IsSound}
-use Rattle.tp_model.specs.Safe.{IsSafe}
-use Rattle.tp_model.specs.Remembered.{Remembered, forget, made_by, step_of, remembered_after, StandsFor, Meets, Goes}
+use Rattle.tp_model.specs.Support.Sound.{IsSound}
+use Rattle.tp_model.specs.Support.Safe.{IsSafe}
+use Rattle.tp_model.specs.Support.Remembered.{Remembered, forget, made_by, step_of, remembered_after, StandsFor, Meets, Goes}
 use Rattle.tp_model.proofs.Preserving.{changed_sound}
 use Rattle.tp_model.proofs.Growing.{grows}
 use Rattle.tp_model.proofs.Planning.{plan_safe}

@@ -27,11 +27,11 @@ use Rattle.tp_model.specs.Counts.{is_pending, numbered, has_number}
 use Rattle.tp_model.specs.Changes.{change_pool, pool_after, with_pool, marked, changed, replaced, loosened, release_object, new_wait, without_wait}
 use Rattle.tp_model.specs.Conditions.{is_in_wait, is_same_actor}
 use Rattle.tp_model.specs.Waits.{is_of, is_cancelled_by, cancel_where, is_covered_by, wait_of}
-use Rattle.tp_model.specs.Sound.{IsSound}
-use Rattle.tp_model.specs.Allowed.{IsAllowed, IsMadeBy, Runs, MayEnd, IsObjectTarget}
+use Rattle.tp_model.specs.Support.Sound.{IsSound}
+use Rattle.tp_model.specs.Support.Allowed.{IsAllowed, IsMadeBy, Runs, MayEnd, IsObjectTarget}
 use Rattle.tp_model.specs.Laws.Entries.{made_by, queued_by, begins_by, is_ending}
-use Rattle.tp_model.specs.Told.{Told, deed_by, nothing, silent, maxima_by, told, told_by, is_free}
-use Rattle.tp_model.specs.Moves.{Move, Stay, Mark as Marking, Attach, Detach, Take, Return, Moves, Leads, maximum_at, is_new, numbers_of, Loosen, Cancel, WaitsMove, Keep, Begin, End}
+use Rattle.tp_model.specs.Support.Told.{Told, deed_by, nothing, silent, maxima_by, told, told_by, is_free}
+use Rattle.tp_model.specs.Support.Moves.{Move, Stay, Mark as Marking, Attach, Detach, Take, Return, Moves, Leads, maximum_at, is_new, numbers_of, Loosen, Cancel, WaitsMove, Keep, Begin, End}
 use Rattle.tp_model.proofs.Cancelling.{cancelled_pending, cancelled_found_out, among_numbers}
 use Rattle.tp_model.proofs.Refusals.{false_true}
 

@@ -18,11 +18,11 @@ use Rattle.tp_base.specs.declared.answers.Entry.{Entry}
 use Rattle.tp_model.specs.World.{World}
 use Rattle.tp_model.specs.Counts.{has_number, is_pending, is_running}
 use Rattle.tp_model.specs.Changes.{replaced, taken as taken_row, returned}
-use Rattle.tp_model.specs.Sound.{IsRising}
+use Rattle.tp_model.specs.Support.Sound.{IsRising}
 use Rattle.tp_model.specs.Laws.Entries.{Run, is_among, times, numbers_made, numbers_queued, numbers_taken, numbers_cancelled, count_cancelled, made_by, queued_by, taken_by, cancelled_by, cancelled_count}
 use Rattle.tp_model.specs.Laws.Once.{is_left, left, TakesReady, TakesUncancelled}
-use Rattle.tp_model.specs.Told.{Deed, deed_by, nothing}
-use Rattle.tp_model.specs.Moves.{Move, Stay, Mark, Attach, Detach, Take, Return, Moves, run_of, AreNew, is_new, numbers_of, waiting_of, Loosen, Cancel}
+use Rattle.tp_model.specs.Support.Told.{Deed, deed_by, nothing}
+use Rattle.tp_model.specs.Support.Moves.{Move, Stay, Mark, Attach, Detach, Take, Return, Moves, run_of, AreNew, is_new, numbers_of, waiting_of, Loosen, Cancel}
 use Rattle.tp_model.specs.Waits.{cancelled as cancelled_row, cancel_where}
 use Rattle.tp_model.proofs.Cancelling.{IsPendingTest, cancelled_if, cancelled_found, length_cancelled, find_cancelled, count_uncancelled, count_cancelled as count_dropped}
 use Rattle.tp_model.proofs.Callbacks.{find_appended, find_replaced, find_replaced_other, length_replaced, length_filter_replaced, kept_found}

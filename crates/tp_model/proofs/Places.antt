@@ -4,7 +4,7 @@ use Rattle.std.specs.List.{list_any}
 use Rattle.std.proofs.lemmas.List.Folds.{list_any-append}
 use Rattle.tp_base.specs.declared.rows.CallbackRow.{CallbackRow}
 use Rattle.tp_model.specs.Counts.{has_number, is_pending}
-use Rattle.tp_model.specs.Moves.{AreNew, waiting_of, numbers_of}
+use Rattle.tp_model.specs.Support.Moves.{AreNew, waiting_of, numbers_of}
 use Rattle.tp_model.specs.Laws.Entries.{is_among}
 use Rattle.tp_model.proofs.Refusals.{neither, false_true}
 

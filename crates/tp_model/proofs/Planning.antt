@@ -38,13 +38,13 @@ use Rattle.tp_model.specs.Calls.Workers.{attach_refusals, attach_to, attach_plan
 use Rattle.tp_model.specs.Calls.InCallback.{busy_refusals, may_run_long, may_run_long_plan, disassociate, disassociate_plan}
 use Rattle.tp_model.specs.Calls.Waits.{begin_wait_refusals, begin_wait_plan, end_refusals, end_held, end_wait, end_plan, holds_starved}
 use Rattle.tp_model.specs.Waits.{wait_of, held}
-use Rattle.tp_model.specs.Allowed.{IsUnreleased}
+use Rattle.tp_model.specs.Support.Allowed.{IsUnreleased}
 use Rattle.tp_base.specs.declared.plans.WaitEnd.TheVariants as how
 use Rattle.tp_model.specs.Calls.Clients.{finish_refusals, finish, finish_plan}
 use Rattle.tp_model.specs.Table.{plan_at}
-use Rattle.tp_model.specs.Sound.{IsSound}
-use Rattle.tp_model.specs.Told.{told, told_by}
-use Rattle.tp_model.specs.Safe.{IsSafe}
+use Rattle.tp_model.specs.Support.Sound.{IsSound}
+use Rattle.tp_model.specs.Support.Told.{told, told_by}
+use Rattle.tp_model.specs.Support.Safe.{IsSafe}
 use Rattle.tp_model.proofs.Lists.{all_get, find_all}
 use Rattle.tp_model.proofs.Refusals.{NoneHolds, none_holds, neither, not_false, both, made, numbered_some, false_true}
 use Rattle.tp_model.proofs.Actors.{IsIdle, IsBusy, idle_stands, busy_stands, next_pending, pool_found}

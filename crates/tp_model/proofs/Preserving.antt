@@ -23,8 +23,8 @@ use Rattle.tp_model.specs.Conditions.{is_same_actor, is_in_wait}
 use Rattle.tp_model.specs.World.{World, BegunWait, opening, unattached, new_pool}
 use Rattle.tp_model.specs.Counts.{numbered, has_number, is_pending, is_running}
 use Rattle.tp_model.specs.Changes.{with_new_pool, with_pool, with_object, with_new_callback, with_callback, with_worker, with_client, replaced, change_pool, pool_after, taken, loosened, marked, returned, no_actions, finished, release_object, new_wait, begin_wait, without_wait, changed}
-use Rattle.tp_model.specs.Sound.{IsSound, RunsOn, IsWorkerSound, AreWorkersSound, AreApart}
-use Rattle.tp_model.specs.Allowed.{IsAllowed, news}
+use Rattle.tp_model.specs.Support.Sound.{IsSound, RunsOn, IsWorkerSound, AreWorkersSound, AreApart}
+use Rattle.tp_model.specs.Support.Allowed.{IsAllowed, news}
 use Rattle.tp_model.proofs.Lists.{all_below, find_all, all_append, all_map, all_get, all_set, all_filter, any_filter_none}
 use Rattle.tp_model.proofs.Cancelling.{IsPendingTest, cancelled_pending, running_passed, find_uncancelled}
 use Rattle.tp_model.proofs.Callbacks.{rising_append, rising_map, rising_replaced, find_replaced, find_replaced_other, find_appended}

@@ -2,7 +2,7 @@
 use Rattle.std.proofs.Common.{◌≡◌, ℕ, suc, zero, ◌+◌, ◌<◌, ◌≤◌, Bool, true, false, cond, not, ◌&&◌, ◌||◌, ◌==◌, List, [], ◌∷◌, ◌++◌, length, Some, None, refl, sym, ap, ap₂, ◌∙◌, subst, find, filter, ◌⊎◌, inl, inr, arith, eqb-true, length-append, append-nil}
 use Rattle.std.specs.Option.{option_map_or}
 use Rattle.std.proofs.lemmas.Grind.{flat_map-append}
-use Rattle.tp_model.specs.Sound.{IsRising}
+use Rattle.tp_model.specs.Support.Sound.{IsRising}
 use Rattle.std.proofs.lemmas.List.Folds.{list_any-append}
 use Rattle.std.specs.List.{list_any, range_with_len}
 use Rattle.tp_base.specs.declared.ids.Who.{Who}
@@ -20,7 +20,7 @@ use Rattle.tp_model.specs.Waits.{is_of, is_held_for, is_outstanding_for, is_cove
 use Rattle.tp_model.specs.Laws.Once.{is_left}
 use Rattle.tp_model.specs.Laws.Entries.{Run, Begins, begins_by, is_among, is_ending, is_end_call, is_last_answer, is_ended_answer, numbers_made, numbers_queued, queued_by, made_by, started_by}
 use Rattle.tp_model.specs.Laws.Covered.{ends, end_in, is_spoken_of}
-use Rattle.tp_model.specs.Moves.{Leads, WaitsMove, Keep, Begin, End}
+use Rattle.tp_model.specs.Support.Moves.{Leads, WaitsMove, Keep, Begin, End}
 use Rattle.tp_model.proofs.Callbacks.{found_bounds}
 use Rattle.tp_model.proofs.Fates.{WasRow, row_was, is_operating}
 use Rattle.tp_model.proofs.Places.{LastPlace, Here, Earlier, last_place, FoundLast, Before, Now, found_last, none_last, new_above, waiting_above, waiting_pends}

@@ -45,10 +45,10 @@ use Rattle.tp_model.specs.Calls.Workers.{attach_refusals, attach_to, attach_plan
 use Rattle.tp_model.specs.Calls.InCallback.{busy_refusals, may_run_long, may_run_long_plan, disassociate, disassociate_plan}
 use Rattle.tp_model.specs.Calls.Clients.{finish_refusals, finish, finish_plan}
 use Rattle.tp_model.specs.Table.{plan_at}
-use Rattle.tp_model.specs.Sound.{IsSound}
-use Rattle.tp_model.specs.Allowed.{IsAllowed}
-use Rattle.tp_model.specs.Ranged.{IsObjectInRange, IsCallbackInRange, AreRowsInRange, IsChangeInRange, IsRanged, IsPlanInRange, IsWide}
-use Rattle.tp_model.specs.Remembered.{lives, forget}
+use Rattle.tp_model.specs.Support.Sound.{IsSound}
+use Rattle.tp_model.specs.Support.Allowed.{IsAllowed}
+use Rattle.tp_model.specs.Support.Ranged.{IsObjectInRange, IsCallbackInRange, AreRowsInRange, IsChangeInRange, IsRanged, IsPlanInRange, IsWide}
+use Rattle.tp_model.specs.Support.Remembered.{lives, forget}
 use Rattle.tp_model.proofs.Lists.{all_append, all_filter, all_get, all_map, find_all, all_set, length_filter_le, find_passes}
 use Rattle.tp_model.proofs.Refusals.{NoneHolds, none_holds, numbered_some, false_true}
 use Rattle.tp_model.proofs.Actors.{next_pending, pool_found}

@@ -15,8 +15,8 @@ use Rattle.tp_model.specs.Counts.{has_number, is_running}
 use Rattle.tp_model.specs.Changes.{replaced, taken as taken_row, returned, no_actions}
 use Rattle.tp_model.specs.Laws.Entries.{Run, run_by}
 use Rattle.tp_model.specs.Laws.Covered.{returns, loosens}
-use Rattle.tp_model.specs.Told.{Deed}
-use Rattle.tp_model.specs.Moves.{Move, Stay, Mark, Attach, Detach, Take, Return, Loosen, Cancel, Moves, run_of}
+use Rattle.tp_model.specs.Support.Told.{Deed}
+use Rattle.tp_model.specs.Support.Moves.{Move, Stay, Mark, Attach, Detach, Take, Return, Loosen, Cancel, Moves, run_of}
 use Rattle.tp_model.proofs.Cancelling.{running_passed, find_uncancelled}
 use Rattle.tp_model.proofs.Callbacks.{find_replaced, find_replaced_other, pending_not_running}
 use Rattle.tp_model.proofs.Places.{LastPlace, Here, Earlier, last_place, any_last, find_front}

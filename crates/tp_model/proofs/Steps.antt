@@ -13,10 +13,10 @@ use Rattle.tp_model.specs.World.{World}
 use Rattle.tp_model.specs.Changes.{changed}
 use Rattle.tp_model.specs.Step.{Step, Accepted, Refused, Looked, Full, stepped, unless_full, within, cost, outcome_of}
 use Rattle.tp_model.specs.Table.{plan_at}
-use Rattle.tp_model.specs.Sound.{IsSound}
-use Rattle.tp_model.specs.Allowed.{IsAllowed, price}
-use Rattle.tp_model.specs.Safe.{IsSafe, IsSafeChange}
-use Rattle.tp_model.specs.Remembered.{Remembered, Goes, step_of, remembered_in, remembered_after}
+use Rattle.tp_model.specs.Support.Sound.{IsSound}
+use Rattle.tp_model.specs.Support.Allowed.{IsAllowed, price}
+use Rattle.tp_model.specs.Support.Safe.{IsSafe, IsSafeChange}
+use Rattle.tp_model.specs.Support.Remembered.{Remembered, Goes, step_of, remembered_in, remembered_after}
 use Rattle.tp_model.proofs.Costs.{paid}
 use Rattle.tp_model.proofs.Planning.{plan_safe}
 

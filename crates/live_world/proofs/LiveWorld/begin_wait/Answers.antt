@@ -1,6 +1,6 @@
 use Rattle.std.proofs.Common.{sym, ap, ◌∙◌, subst}
 use Rattle.tp_base.specs.declared.plans.Change.TheVariants as change
-use Rattle.tp_model.specs.Allowed.{MayBegin}
+use Rattle.tp_model.specs.Support.Allowed.{MayBegin}
 use Rattle.live_world.specs.Live.{moved}
 use Rattle.live_world.proofs.Beginnings.{all_settled, may_settled, begins}
 use Rattle.live_world.proofs.LiveWorld.begin_wait.Goals as goal

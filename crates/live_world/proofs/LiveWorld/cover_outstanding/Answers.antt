@@ -3,7 +3,7 @@ use Rattle.std.proofs.lemmas.List.{length-map}
 use Rattle.tp_base.specs.declared.ids.Who.{Who}
 use Rattle.tp_base.specs.declared.ids.ObjectId.{ObjectId}
 use Rattle.tp_base.specs.declared.rows.WaitTarget.TheVariants.{Object}
-use Rattle.tp_model.specs.Allowed.{MayBegin}
+use Rattle.tp_model.specs.Support.Allowed.{MayBegin}
 use Rattle.live_world.specs.Live.{Live}
 use Rattle.live_world.specs.Parts.{shown_object}
 use Rattle.live_world.specs.View.{shown}

@@ -1,5 +1,5 @@
 use Rattle.std.proofs.Common.{◌≡◌, ap, subst, arith}
-use Rattle.tp_model.specs.Remembered.{forget}
+use Rattle.tp_model.specs.Support.Remembered.{forget}
 use Rattle.live_world.specs.View.{shown}
 use Rattle.std.proofs.lemmas.List.Sums.{length-filter, count_by-le-length}
 use Rattle.pool_rows.specs.Workers.{runs_in}

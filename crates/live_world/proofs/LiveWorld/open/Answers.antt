@@ -1,7 +1,7 @@
 use Rattle.std.proofs.Common.{refl, ap₂}
 use Rattle.live_world.specs.declared.LiveWorld.TheInside.{Inside}
 use Rattle.tp_model.specs.World.{opening}
-use Rattle.tp_model.specs.Remembered.{forget}
+use Rattle.tp_model.specs.Support.Remembered.{forget}
 use Rattle.live_world.proofs.Moving.{Becomes}
 use Rattle.live_world.proofs.Opening.{opened}
 use Rattle.live_world.proofs.LiveWorld.open.Goals as goal

@@ -3,8 +3,8 @@ use Rattle.std.proofs.lemmas.List.Elements.{All-from_recursion}
 use Rattle.tp_base.specs.declared.plans.Change.TheVariants as change
 use Rattle.tp_base.specs.declared.rows.CallbackRow.{CallbackRow}
 use Rattle.prio_queue.specs.Pending.{entry, queue_of, with_queue, with_entry}
-use Rattle.tp_model.specs.Allowed.{IsAllowed}
-use Rattle.tp_model.specs.Remembered.{lives}
+use Rattle.tp_model.specs.Support.Allowed.{IsAllowed}
+use Rattle.tp_model.specs.Support.Remembered.{lives}
 use Rattle.tp_model.proofs.Lists.{length_filter_le}
 use Rattle.tp_model.proofs.Callbacks.{over_not_pending}
 use Rattle.live_world.specs.Live.{Live}

@@ -2,10 +2,10 @@ use Rattle.std.proofs.Common.{◌≡◌, ◌+◌, sym, ap, ◌∙◌, subst, ari
 use Rattle.tp_base.specs.declared.plans.Change.{Change}
 use Rattle.tp_model.specs.Counts.{owed}
 use Rattle.tp_model.specs.Changes.{changed}
-use Rattle.tp_model.specs.Allowed.{IsAllowed, price}
-use Rattle.tp_model.specs.Ranged.{AreRowsInRange}
-use Rattle.tp_model.specs.Sound.{IsSound}
-use Rattle.tp_model.specs.Remembered.{Remembered, forget}
+use Rattle.tp_model.specs.Support.Allowed.{IsAllowed, price}
+use Rattle.tp_model.specs.Support.Ranged.{AreRowsInRange}
+use Rattle.tp_model.specs.Support.Sound.{IsSound}
+use Rattle.tp_model.specs.Support.Remembered.{Remembered, forget}
 use Rattle.tp_model.proofs.Costs.{paid}
 use Rattle.tp_model.proofs.Forgetting.{owed_forget}
 use Rattle.tp_model.proofs.Ranging.{changed_rows, forget_rows}

@@ -1,6 +1,6 @@
 use Rattle.std.proofs.Common.{sym, ap, ◌∙◌, subst, arith}
 use Rattle.tp_model.specs.Counts.{owed}
-use Rattle.tp_model.specs.Ranged.{AreRowsInRange}
+use Rattle.tp_model.specs.Support.Ranged.{AreRowsInRange}
 use Rattle.live_world.specs.Live.{Live}
 use Rattle.pool_core.proofs.Counting.{owed_opening}
 use Rattle.pool_core.proofs.Engine.open.Goals as goal

@@ -1,6 +1,6 @@
 use Rattle.std.proofs.Common.{ap, ◌∙◌}
 use Rattle.tp_model.specs.Counts.{owed}
-use Rattle.tp_model.specs.Remembered.{Remembered}
+use Rattle.tp_model.specs.Support.Remembered.{Remembered}
 use Rattle.tp_model.proofs.Forgetting.{owed_forget}
 use Rattle.pool_core.proofs.Engine.owed.Goals as goal
 

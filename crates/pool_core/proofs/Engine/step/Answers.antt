@@ -7,9 +7,9 @@ use Rattle.std.proofs.lemmas.List.Sums.{length-filter, count_by-le-length}
 use Rattle.tp_base.specs.declared.rows.CallbackRow.{CallbackRow}
 use Rattle.tp_model.specs.Counts.{is_live}
 use Rattle.tp_model.specs.Table.{plan_at}
-use Rattle.tp_model.specs.Ranged.{IsWide, IsPlanInRange}
-use Rattle.tp_model.specs.Sound.{IsSound}
-use Rattle.tp_model.specs.Remembered.{Remembered}
+use Rattle.tp_model.specs.Support.Ranged.{IsWide, IsPlanInRange}
+use Rattle.tp_model.specs.Support.Sound.{IsSound}
+use Rattle.tp_model.specs.Support.Remembered.{Remembered}
 use Rattle.tp_model.proofs.Steps.{plan_allowed}
 use Rattle.tp_model.proofs.Ranging.{plan_ranged}
 use Rattle.live_world.specs.Bounds.{IsBounded}

@@ -9,7 +9,7 @@ use Rattle.tp_model.specs.World.{World}
 use Rattle.tp_model.specs.Counts.{is_live}
 use Rattle.tp_model.specs.Step.{Step, Accepted, Refused, Looked, Full, stepped, within, outcome_of, world_after, is_accepted}
 use Rattle.tp_model.specs.Table.{plan_at}
-use Rattle.tp_model.specs.Sound.{IsSound}
+use Rattle.tp_model.specs.Support.Sound.{IsSound}
 
 -- whether the callback may still run, or runs
 abbrev pub lives : CallbackRow → Bool

@@ -9,8 +9,8 @@ use Rattle.tp_base.specs.declared.plans.Plan.{Plan}
 use Rattle.tp_base.specs.declared.plans.Plan.TheVariants.{Refused, Looked, Does}
 use Rattle.tp_model.specs.World.{World}
 use Rattle.tp_model.specs.History.{is_refusal}
-use Rattle.tp_model.specs.Allowed.{IsAllowed, IsMadeBy}
-use Rattle.tp_model.specs.Told.{told, told_by}
+use Rattle.tp_model.specs.Support.Allowed.{IsAllowed, IsMadeBy}
+use Rattle.tp_model.specs.Support.Told.{told, told_by}
 
 pub record IsSafeChange (fresh : ℕ) (w : World) (who : Who) (call : Call) (answer : Answer) (ch : Change) : Type 0 where
   pub allowed : IsAllowed fresh w ch

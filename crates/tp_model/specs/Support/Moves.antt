@@ -18,7 +18,7 @@ use Rattle.tp_model.specs.Conditions.{is_in_wait, is_same_actor}
 use Rattle.tp_model.specs.Waits.{cancel_where, is_covered_by, is_of, held, wait_of}
 use Rattle.tp_model.specs.Changes.{replaced, taken, returned}
 use Rattle.tp_model.specs.Laws.Entries.{Run, Begins, begins_by, is_among, is_ending, is_freeing, made_by, queued_by, maximum_after}
-use Rattle.tp_model.specs.Told.{deed_by, nothing}
+use Rattle.tp_model.specs.Support.Told.{deed_by, nothing}
 
 -- ---- callbacks and workers that there are; `kept` and `staff` are what becomes of them
 
