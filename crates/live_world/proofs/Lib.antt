@@ -9,7 +9,7 @@ pub mod Counting
 pub mod Covered
 pub mod Using
 pub mod Opening
-pub mod Owned
+pub mod Making
 pub mod Ending
 pub mod Walks
 pub mod Numbers

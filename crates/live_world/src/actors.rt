@@ -72,34 +72,27 @@ impl LiveWorld {
         ensures { result ≡ actor_of self.now.world who }
     {
         let in_wait = self.is_in_wait(who);
-        match who {
+        let known = match who {
             Who::Client(number) => match self.client(number) {
-                None => Actor {
-                    in_wait,
-                    ..NO_CLIENT
-                },
+                None => NO_CLIENT,
                 Some(client) => Actor {
                     exists: true,
                     finished: client.finished,
-                    in_wait,
                     ..NO_CLIENT
                 },
             },
             Who::Worker(number) => match self.worker(number) {
-                None => Actor {
-                    in_wait,
-                    ..NO_WORKER
-                },
+                None => NO_WORKER,
                 Some(worker) => Actor {
                     exists: true,
                     runs: worker.callback.is_some(),
                     is_idle: worker.callback.is_none(),
                     is_attached: worker.pool.is_some(),
-                    in_wait,
                     ..NO_WORKER
                 },
             },
-        }
+        };
+        Actor { in_wait, ..known }
     }
 
     /// The actor as an attached worker that runs nothing, if it is one.

@@ -279,6 +279,7 @@ impl LiveWorld {
         requires settled { filter (is_cancelled_by (WaitTarget.Object object) cancel) self.old.world.callbacks ≡ [] }
         ensures { self.new ≡ became self.old (begin_wait self.old.world who (WaitTarget.Object object) cancel self.old.world.callbacks) }
     {
+        // The numbers rise, and there are no more of them than slots.
         let _ = self.outstanding.len();
         let Some(waiter) = self.waiter(who) else {
             unreachable!()

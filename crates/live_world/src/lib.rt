@@ -2,9 +2,11 @@
 //! the callbacks that are over and the number of callbacks that were ever made.
 //!
 //! `open` takes all memory. The queries (`actor`, `idle`, `busy`, `object`, `next`, ..) answer the
-//! conditions and counts of the model, each by its name there, and ask nothing of the caller.
+//! conditions and counts of the model, each by its name there, and ask nothing of the caller;
+//! `wait_counts` and `progress` say what a wait would cover and how far one has come.
 //! `apply` makes a change that the world allows, and is the only call that changes anything. The
-//! indexes and counters (queues, tallies) change in `changes` alone.
+//! indexes and counters (queues, tallies, the lists of objects, what waits hold) change in `changes`
+//! alone.
 
 #![tactic(auto)]
 

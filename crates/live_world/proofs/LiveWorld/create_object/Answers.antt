@@ -1,4 +1,4 @@
-use Rattle.live_world.proofs.Owned.{created}
+use Rattle.live_world.proofs.Making.{created}
 use Rattle.live_world.proofs.LiveWorld.create_object.Goals as goal
 
 pub invariant_of-self : goal.invariant_of-self

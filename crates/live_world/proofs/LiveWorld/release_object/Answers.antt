@@ -1,6 +1,6 @@
 use Rattle.std.proofs.Common.{◌≡◌, Bool, true, false}
 use Rattle.std.specs.Bool.{OnTrue}
-use Rattle.live_world.proofs.Owned.{released}
+use Rattle.live_world.proofs.Making.{released}
 use Rattle.live_world.proofs.LiveWorld.release_object.Goals as goal
 
 on_true : {P : Type 0} (b : Bool) → OnTrue b P → b ≡ true → P
