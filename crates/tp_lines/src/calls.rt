@@ -1,10 +1,13 @@
-//! Reading of calls.
+//! Reading and printing of calls and of who makes them.
 
-ghost use Rattle.std.specs.Prelude.{◌≡◌, ◌≤◌};
+ghost use Rattle.std.specs.Prelude.{◌≡◌, ◌≤◌, [], ◌∷◌, ◌++◌, length};
 ghost use Rattle.line_grammar.specs.Language.{IsRead};
-ghost use Rattle.tp_lines.specs.Calls.{CallLines, CallTexts, WhoTexts, call_at, environ_at};
+ghost use Rattle.tp_lines.specs.Calls.{CallLines, CallTexts, WhoTexts, call_at, environ_at, environ_parts, row_of};
+ghost use Rattle.tp_lines.specs.Parts.{parts_text, row_text};
+ghost use Rattle.tp_lines.specs.Words.{text_of_who};
 ghost use Rattle.tp_lines.specs.Actors.{ClientTexts, WorkerTexts};
 
+use crate::line::{Line, parts};
 use crate::parts::Parts;
 use crate::rows::read_parts;
 use crate::words::{Field, Word};
@@ -136,4 +139,88 @@ pub fn read_call_line(text: &[u8]) -> Result<((Who, Call), usize), usize>
             }
         }
     }
+}
+
+// The actor, and the space before the call.
+pub fn put_who(who: Who, line: &mut Line)
+    requires { length line.old ≤ 234 }
+    ensures { line.new ≡ text_of_who who ++ 32 ∷ line.old }
+{
+    line.byte(b' ');
+    match who {
+        Who::Client(number) => {
+            line.digits(u64::from(number));
+            line.byte(b'c');
+        }
+        Who::Worker(number) => {
+            line.digits(u64::from(number));
+            line.byte(b'w');
+        }
+    }
+}
+
+// A call behind its actor.
+pub fn put_call(call: &Call, line: &mut Line)
+    requires { line.old ≡ [] }
+    ensures text { line.new ≡ row_text (row_of call.now) }
+    ensures grown { length line.new ≤ 234 }
+{
+    match call {
+        Call::CreatePool => line.first(Word::CreatePool),
+        Call::ClosePool { pool } => {
+            parts!(line; first(Word::ClosePool) number(u64::from(pool.0)));
+        }
+        Call::SetMaximum { pool, value } => {
+            parts!(line; first(Word::SetMaximum) number(u64::from(pool.0)) number(u64::from(*value)));
+        }
+        Call::SetMinimum { pool, value } => {
+            parts!(line; first(Word::SetMinimum) number(u64::from(pool.0)) number(u64::from(*value)));
+        }
+        Call::Create {
+            kind,
+            routine,
+            context,
+            env,
+        } => {
+            put_environ(*env, line);
+            parts!(line; first(Word::Create) word(Word::Kind(*kind)) lettered(b'r', u64::from(routine.0)) lettered(b'x', *context));
+        }
+        Call::CloseObject { kind, object } => {
+            parts!(line; first(Word::CloseObject) word(Word::Kind(*kind)) number(u64::from(object.0)));
+        }
+        Call::SubmitSimple {
+            routine,
+            context,
+            env,
+        } => {
+            put_environ(*env, line);
+            parts!(line; first(Word::SubmitSimple) lettered(b'r', u64::from(routine.0)) lettered(b'x', *context));
+        }
+        Call::SubmitWork { object } => {
+            parts!(line; first(Word::Submit) number(u64::from(object.0)));
+        }
+        Call::BeginWait {
+            kind,
+            object,
+            cancel,
+        } => {
+            parts!(line; first(Word::BeginWait) word(Word::Kind(*kind)) number(u64::from(object.0)) word(Word::How(*cancel)));
+        }
+        Call::End => line.first(Word::End),
+        Call::Attach => line.first(Word::Attach),
+        Call::Detach => line.first(Word::Detach),
+        Call::Take => line.first(Word::Take),
+        Call::Return => line.first(Word::Return),
+        Call::MayRunLong => line.first(Word::MayRunLong),
+        Call::Disassociate => line.first(Word::Disassociate),
+        Call::Finish => line.first(Word::Finish),
+    }
+}
+
+fn put_environ(env: Environ, line: &mut Line)
+    requires { line.old ≡ [] }
+    ensures text { line.new ≡ parts_text (environ_parts env) }
+    ensures grown { length line.new ≤ 128 }
+{
+    parts!(line; lettered(b'p', u64::from(env.pool.0)) word(Word::Priority(env.priority)) word(Word::Length(env.long)) lettered(b'g', u64::from(env.group.0)) lettered(b'q', u64::from(env.cancel.0)));
 }

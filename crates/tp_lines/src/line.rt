@@ -120,3 +120,14 @@ impl Line {
         self.byte(b' ');
     }
 }
+
+// Writes parts, of which the first is written last: a line is written from its end.
+macro_rules! parts {
+    ($line:ident;) => {};
+    ($line:ident; $part:ident($($value:expr),*) $($others:tt)*) => {
+        parts!($line; $($others)*);
+        $line.$part($($value),*);
+    };
+}
+
+pub(crate) use parts;
