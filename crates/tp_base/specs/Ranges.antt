@@ -2,7 +2,7 @@
 use Rattle.std.specs.Prelude.{◌≡◌, ℕ, ◌<◌, ◌≤◌, ◌^◌}
 use Rattle.tp_base.specs.declared.limits.Limits.{Limits}
 use Rattle.tp_base.specs.declared.calls.Call.{Call}
-use Rattle.tp_base.specs.declared.calls.Call.TheVariants.{CreatePool, ClosePool, SetMaximum, SetMinimum, Create, CloseObject, SubmitSimple, SubmitWork, BeginWait, End, Attach, Detach, Take, Return, MayRunLong, Disassociate, Finish}
+use Rattle.tp_base.specs.declared.calls.Call.TheVariants.{ClosePool, SetMaximum, SetMinimum, Create, CloseObject, SubmitSimple, SubmitWork, BeginWait}
 use Rattle.tp_base.specs.declared.calls.Environ.{Environ}
 use Rattle.tp_base.specs.declared.answers.Answer.{Answer}
 use Rattle.tp_base.specs.declared.answers.Answer.TheVariants as answer
@@ -46,18 +46,10 @@ IsCallInRange (CloseObject kind object) = object.0 ≤ 65535
 IsCallInRange (SubmitSimple routine context env) = IsRoutineInRange routine.0 × IsEnvironInRange env
 IsCallInRange (SubmitWork object) = object.0 ≤ 65535
 IsCallInRange (BeginWait kind object cancel) = object.0 ≤ 65535
-IsCallInRange End = Unit {0}
-IsCallInRange Disassociate = Unit {0}
-IsCallInRange CreatePool = Unit {0}
 IsCallInRange (ClosePool pool) = pool.0 ≤ 65535
 IsCallInRange (SetMaximum pool value) = pool.0 ≤ 65535
 IsCallInRange (SetMinimum pool value) = pool.0 ≤ 65535
-IsCallInRange Attach = Unit {0}
-IsCallInRange Detach = Unit {0}
-IsCallInRange MayRunLong = Unit {0}
-IsCallInRange Take = Unit {0}
-IsCallInRange Return = Unit {0}
-IsCallInRange Finish = Unit {0}
+IsCallInRange _ = Unit {0}
 
 abbrev pub IsResultInRange : TakeResult → Type 0
 IsResultInRange (Io error bytes) = (error < 2 ^ 32) × (bytes < 2 ^ 64)
