@@ -3,12 +3,12 @@ use Rattle.std.proofs.Common.{◌≡◌, ℕ, ◌<◌, ◌^◌}
 use Rattle.tp_base.specs.declared.ids.Who.{Who}
 use Rattle.tp_base.specs.declared.calls.Call.{Call}
 use Rattle.tp_base.specs.declared.calls.Call.TheVariants.{CreatePool, ClosePool, SetMaximum, SetMinimum, Create, CloseObject, SubmitSimple, SubmitWork, BeginWait, End, Attach, Detach, Take, Return, MayRunLong, Disassociate, Finish}
+use Rattle.tp_base.specs.Ranges.{IsCallInRange}
 use Rattle.tp_model.specs.World.{World}
 use Rattle.tp_model.specs.Table.{plan_at}
 use Rattle.tp_model.specs.Support.Sound.{IsSound}
 use Rattle.tp_model.specs.Support.Safe.{IsSafe}
 use Rattle.tp_model.specs.Support.Remembered.{forget}
-use Rattle.tp_base.specs.Ranges.{IsCallInRange}
 use Rattle.tp_model.specs.Support.Ranged.{IsRanged, IsPlanInRange, IsWide}
 pub mod Pools
 pub mod Objects

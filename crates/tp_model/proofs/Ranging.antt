@@ -1,6 +1,5 @@
 -- From what it follows that the numbers of a plan are in range; and each change keeps those of the rows.
 use Rattle.std.proofs.Common.{◌≡◌, ℕ, ◌-◌, ◌<◌, ◌≤◌, ◌^◌, Bool, true, false, cond, List, [], ◌∷◌, slice_get, Option, Some, None, refl, sym, subst, find}
-use Rattle.tp_model.specs.Waits.{cancel_where, is_cancelled_by, cancelled}
 use Rattle.std.specs.List.{AllByRecursion}
 use Rattle.tp_base.specs.Ranges.{IsRoutineInRange, IsRefusalInRange, IsResultInRange}
 use Rattle.tp_base.specs.declared.ids.Who.{Who}
@@ -17,6 +16,7 @@ use Rattle.tp_base.specs.declared.plans.Plan.{Plan}
 use Rattle.tp_base.specs.declared.rows.PoolRow.{PoolRow}
 use Rattle.tp_base.specs.declared.rows.ObjectRow.{ObjectRow}
 use Rattle.tp_base.specs.declared.rows.CallbackRow.{CallbackRow}
+use Rattle.tp_model.specs.Waits.{cancel_where, is_cancelled_by, cancelled}
 use Rattle.tp_model.specs.World.{World}
 use Rattle.tp_model.specs.Counts.{numbered, has_number}
 use Rattle.tp_model.specs.Conditions.{busy_of}

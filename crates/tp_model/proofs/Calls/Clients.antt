@@ -10,9 +10,9 @@ use Rattle.tp_model.specs.Counts.{numbered}
 use Rattle.tp_model.specs.Conditions.{is_actor, is_finished}
 use Rattle.tp_model.specs.Calls.Clients.{finish_refusals, finish, finish_plan}
 use Rattle.tp_model.specs.Support.Safe.{IsSafe}
-use Rattle.tp_model.proofs.Refusals.{not_false, false_true}
 use Rattle.tp_model.specs.Support.Remembered.{forget}
 use Rattle.tp_model.specs.Support.Ranged.{IsPlanInRange}
+use Rattle.tp_model.proofs.Refusals.{not_false, false_true}
 use Rattle.tp_model.proofs.Planning.{safe_unless}
 use Rattle.tp_model.proofs.Ranging.{ranged_unless}
 

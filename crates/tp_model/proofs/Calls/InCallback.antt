@@ -7,8 +7,8 @@ use Rattle.tp_model.specs.Calls.InCallback.{busy_refusals, may_run_long, may_run
 use Rattle.tp_model.specs.Support.Sound.{IsSound}
 use Rattle.tp_model.specs.Support.Safe.{IsSafe}
 use Rattle.tp_model.specs.Support.Remembered.{forget}
-use Rattle.tp_model.proofs.Forgetting.{in_callback_forget}
 use Rattle.tp_model.specs.Support.Ranged.{IsPlanInRange}
+use Rattle.tp_model.proofs.Forgetting.{in_callback_forget}
 use Rattle.tp_model.proofs.Planning.{in_callback_safe}
 use Rattle.tp_model.proofs.Ranging.{in_callback_ranged}
 

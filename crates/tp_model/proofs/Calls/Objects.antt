@@ -12,6 +12,8 @@ use Rattle.tp_base.specs.declared.answers.Answer.TheVariants as answer
 use Rattle.tp_base.specs.declared.plans.Change.TheVariants as change
 use Rattle.tp_base.specs.declared.plans.Plan.TheVariants as plan
 use Rattle.tp_base.specs.declared.rows.ObjectRow.{ObjectRow}
+use Rattle.tp_base.specs.declared.rows.WaitTarget.TheVariants.{Object}
+use Rattle.tp_base.specs.Ranges.{IsCallInRange}
 use Rattle.tp_model.specs.World.{World}
 use Rattle.tp_model.specs.Counts.{numbered}
 use Rattle.tp_model.specs.Conditions.{is_actor, is_pool, is_finished, is_no_group_or_group, is_object, is_released}
@@ -19,12 +21,10 @@ use Rattle.tp_model.specs.Refusing.{first_refusal, unless_refused}
 use Rattle.tp_model.specs.Calls.Objects.{create_refusals, create_plan, close_object_refusals, close_object_plan, new_object}
 use Rattle.tp_model.specs.Support.Allowed.{IsUnreleased}
 use Rattle.tp_model.specs.Support.Safe.{IsSafe}
-use Rattle.tp_model.proofs.Refusals.{neither, not_false, made, false_true}
-use Rattle.tp_base.specs.declared.rows.WaitTarget.TheVariants.{Object}
 use Rattle.tp_model.specs.Support.Remembered.{forget}
-use Rattle.tp_model.proofs.Forgetting.{outstanding_forget}
-use Rattle.tp_base.specs.Ranges.{IsCallInRange}
 use Rattle.tp_model.specs.Support.Ranged.{IsRanged, IsPlanInRange, IsWide}
+use Rattle.tp_model.proofs.Refusals.{neither, not_false, made, false_true}
+use Rattle.tp_model.proofs.Forgetting.{outstanding_forget}
 use Rattle.tp_model.proofs.Planning.{safe_unless}
 use Rattle.tp_model.proofs.Ranging.{ranged_unless, made_ranged}
 

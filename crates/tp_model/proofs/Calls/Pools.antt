@@ -1,6 +1,7 @@
 -- The facts of calls on pools.
 use Rattle.std.proofs.Common.{◌≡◌, ℕ, false, not, ◌||◌, ◌==◌, length, refl, ap, arith, ◌&&◌}
 use Rattle.std.proofs.lemmas.Bool.{leb-false}
+use Rattle.std.specs.List.{list_any}
 use Rattle.tp_base.specs.declared.ids.Who.{Who}
 use Rattle.tp_base.specs.declared.ids.PoolId.{PoolId}
 use Rattle.tp_base.specs.declared.calls.Call.{Call}
@@ -13,6 +14,7 @@ use Rattle.tp_base.specs.declared.plans.Change.TheVariants as change
 use Rattle.tp_base.specs.declared.plans.Plan.TheVariants as plan
 use Rattle.tp_base.specs.declared.rows.ObjectRow.{ObjectRow}
 use Rattle.tp_base.specs.declared.rows.CallbackRow.{CallbackRow}
+use Rattle.tp_base.specs.Ranges.{IsAnswerInRange}
 use Rattle.tp_model.specs.World.{World}
 use Rattle.tp_model.specs.Counts.{is_live}
 use Rattle.tp_model.specs.Conditions.{is_actor, is_pool}
@@ -20,12 +22,10 @@ use Rattle.tp_model.specs.History.{is_refusal}
 use Rattle.tp_model.specs.Calls.Pools.{create_pool_refusals, create_pool_plan, pool_refusals, change_pool_plan, is_used, close_pool_plan, set_maximum_plan, set_minimum_plan}
 use Rattle.tp_model.specs.Support.Told.{told, told_by}
 use Rattle.tp_model.specs.Support.Safe.{IsSafe}
+use Rattle.tp_model.specs.Support.Remembered.{lives, forget}
+use Rattle.tp_model.specs.Support.Ranged.{IsRanged, IsPlanInRange}
 use Rattle.tp_model.proofs.Lists.{any_filter}
 use Rattle.tp_model.proofs.Refusals.{neither, not_false, made}
-use Rattle.std.specs.List.{list_any}
-use Rattle.tp_model.specs.Support.Remembered.{lives, forget}
-use Rattle.tp_base.specs.Ranges.{IsAnswerInRange}
-use Rattle.tp_model.specs.Support.Ranged.{IsRanged, IsPlanInRange}
 use Rattle.tp_model.proofs.Planning.{safe_unless}
 use Rattle.tp_model.proofs.Ranging.{ranged_unless, made_ranged}
 

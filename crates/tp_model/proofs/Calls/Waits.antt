@@ -1,6 +1,7 @@
 -- The facts of waits for callbacks.
 use Rattle.std.proofs.Common.{◌≡◌, ℕ, ◌<◌, Bool, true, false, cond, not, ◌||◌, ◌==◌, List, [], ◌∷◌, length, Option, Some, None, refl, ap, ◌∙◌, arith, eqb-true, ◌&&◌, nat_lt, ap₂, filter, ◌≤◌, ◌^◌, subst}
 use Rattle.std.specs.Option.{option_map_or}
+use Rattle.std.proofs.lemmas.List.{length-map}
 use Rattle.tp_base.specs.declared.ids.Who.{Who}
 use Rattle.tp_base.specs.declared.ids.ObjectId.{ObjectId}
 use Rattle.tp_base.specs.declared.calls.Kind.{Kind}
@@ -12,27 +13,26 @@ use Rattle.tp_base.specs.declared.plans.Busy.{Busy}
 use Rattle.tp_base.specs.declared.plans.Change.TheVariants as change
 use Rattle.tp_base.specs.declared.plans.Plan.TheVariants as plan
 use Rattle.tp_base.specs.declared.rows.CallbackRow.{CallbackRow}
+use Rattle.tp_base.specs.declared.plans.WaitEnd.TheVariants as how
+use Rattle.tp_base.specs.declared.answers.Refusal.TheVariants.{NoSuch, WrongKind, Released, NotRunning, InWait, OwnCallback}
+use Rattle.tp_base.specs.declared.rows.WaitTarget.{WaitTarget}
+use Rattle.tp_base.specs.declared.rows.WaitTarget.TheVariants.{Object}
+use Rattle.tp_base.specs.Ranges.{IsAnswerInRange}
 use Rattle.tp_model.specs.World.{World, BegunWait}
 use Rattle.tp_model.specs.Counts.{has_number, attached, callback_of}
 use Rattle.tp_model.specs.Conditions.{is_actor, is_finished, is_object, is_released, is_same_actor, is_associated, is_in_wait, is_object_of, is_without_callback}
 use Rattle.tp_model.specs.Refusing.{first_refusal, unless_refused}
 use Rattle.tp_model.specs.Calls.Waits.{begin_wait_refusals, begin_wait_plan, end_refusals, end_held, end_wait, end_plan, holds_starved, count_covered, count_cancelled_by, is_starved}
 use Rattle.tp_model.specs.Waits.{wait_of, held, is_outstanding_for, is_cancelled_by, cancelled, cancel_where, is_covered_by, covered_of, is_held}
-use Rattle.tp_base.specs.declared.plans.WaitEnd.TheVariants as how
 use Rattle.tp_model.specs.Support.Sound.{IsSound}
 use Rattle.tp_model.specs.Support.Safe.{IsSafe}
+use Rattle.tp_model.specs.Support.Remembered.{lives, forget}
+use Rattle.tp_model.specs.Support.Ranged.{IsCallbackInRange, IsRanged, IsPlanInRange}
 use Rattle.tp_model.proofs.Lists.{find_all, filter_filter, filter_agree, length_filter_le, find_passes}
 use Rattle.tp_model.proofs.Refusals.{neither, not_false, false_true}
-use Rattle.tp_base.specs.declared.answers.Refusal.TheVariants.{NoSuch, WrongKind, Released, NotRunning, InWait, OwnCallback}
-use Rattle.tp_base.specs.declared.rows.WaitTarget.{WaitTarget}
-use Rattle.tp_base.specs.declared.rows.WaitTarget.TheVariants.{Object}
-use Rattle.tp_model.specs.Support.Remembered.{lives, forget}
 use Rattle.tp_model.proofs.Callbacks.{over_not_pending}
 use Rattle.tp_model.proofs.Cancelling.{cancelled_if}
-use Rattle.std.proofs.lemmas.List.{length-map}
 use Rattle.tp_model.proofs.Forgetting.{over_not_cancelled, over_not_covered, covered_forget, busy_forget, over_forget, over_not_outstanding}
-use Rattle.tp_base.specs.Ranges.{IsAnswerInRange}
-use Rattle.tp_model.specs.Support.Ranged.{IsCallbackInRange, IsRanged, IsPlanInRange}
 use Rattle.tp_model.proofs.Planning.{safe_unless}
 use Rattle.tp_model.proofs.Ranging.{ranged_unless}
 

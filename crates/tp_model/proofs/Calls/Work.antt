@@ -9,6 +9,7 @@ use Rattle.tp_base.specs.declared.answers.Answer.TheVariants as answer
 use Rattle.tp_base.specs.declared.plans.Change.TheVariants as change
 use Rattle.tp_base.specs.declared.plans.Plan.TheVariants as plan
 use Rattle.tp_base.specs.declared.rows.ObjectRow.{ObjectRow}
+use Rattle.tp_base.specs.Ranges.{IsCallInRange}
 use Rattle.tp_model.specs.World.{World}
 use Rattle.tp_model.specs.Counts.{numbered}
 use Rattle.tp_model.specs.Conditions.{is_actor, is_pool, is_no_group_or_group, lacks_slots_for}
@@ -16,12 +17,11 @@ use Rattle.tp_model.specs.Refusing.{first_refusal, unless_refused}
 use Rattle.tp_model.specs.Calls.Work.{submit_work_refusals, submit, submit_work_plan, submit_simple_refusals, submit_simple_plan, simple_callback}
 use Rattle.tp_model.specs.Support.Sound.{IsSound}
 use Rattle.tp_model.specs.Support.Safe.{IsSafe}
+use Rattle.tp_model.specs.Support.Remembered.{forget}
+use Rattle.tp_model.specs.Support.Ranged.{IsObjectInRange, IsRanged, IsPlanInRange, IsWide}
 use Rattle.tp_model.proofs.Lists.{all_get}
 use Rattle.tp_model.proofs.Refusals.{neither, not_false, made, numbered_some}
-use Rattle.tp_model.specs.Support.Remembered.{forget}
 use Rattle.tp_model.proofs.Forgetting.{live_again}
-use Rattle.tp_base.specs.Ranges.{IsCallInRange}
-use Rattle.tp_model.specs.Support.Ranged.{IsObjectInRange, IsRanged, IsPlanInRange, IsWide}
 use Rattle.tp_model.proofs.Planning.{safe_unless}
 use Rattle.tp_model.proofs.Ranging.{ranged_unless}
 

@@ -2,6 +2,7 @@
 use Rattle.std.proofs.Common.{◌≡◌, ℕ, ◌-◌, Bool, true, false, cond, not, ◌||◌, ◌==◌, length, nat_le, Option, Some, None, is_some, refl, sym, ap, ◌∙◌, arith, eqb-true, ◌&&◌, nat_lt, ap₂}
 use Rattle.std.specs.Option.{option_map_or, option_or}
 use Rattle.std.proofs.lemmas.Bool.{leb-false}
+use Rattle.std.specs.List.{range_with_len}
 use Rattle.tp_base.specs.declared.ids.Who.{Who}
 use Rattle.tp_base.specs.declared.ids.Who.TheVariants.{Client, Worker}
 use Rattle.tp_base.specs.declared.ids.PoolId.{PoolId}
@@ -20,13 +21,12 @@ use Rattle.tp_model.specs.Refusing.{first_refusal, unless_refused}
 use Rattle.tp_model.specs.Calls.Workers.{attach_refusals, attach_to, attach_plan, pool_to_join, idle_refusals, may_leave, detach, detach_plan, take_callback, take, take_plan, return_refusals, return, return_plan, another_in_need}
 use Rattle.tp_model.specs.Support.Sound.{IsSound}
 use Rattle.tp_model.specs.Support.Safe.{IsSafe}
+use Rattle.tp_model.specs.Support.Remembered.{forget}
+use Rattle.tp_model.specs.Support.Ranged.{IsCallbackInRange, IsRanged, IsPlanInRange}
 use Rattle.tp_model.proofs.Lists.{find_agree}
 use Rattle.tp_model.proofs.Refusals.{not_false, both, false_true}
 use Rattle.tp_model.proofs.Actors.{IsIdle, idle_stands, next_pending, pool_found}
-use Rattle.std.specs.List.{range_with_len}
-use Rattle.tp_model.specs.Support.Remembered.{forget}
 use Rattle.tp_model.proofs.Forgetting.{pending_forget, running_forget, running_long_forget, next_forget, in_need_forget, below_minimum_forget, in_callback_forget}
-use Rattle.tp_model.specs.Support.Ranged.{IsCallbackInRange, IsRanged, IsPlanInRange}
 use Rattle.tp_model.proofs.Planning.{safe_unless, in_callback_safe}
 use Rattle.tp_model.proofs.Ranging.{found_row, ranged_unless, in_callback_ranged}
 
