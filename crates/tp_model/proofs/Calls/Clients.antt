@@ -36,7 +36,7 @@ finish_forget w who = refl
 
 pub finish_ranged : (w : World) (who : Who) → IsPlanInRange (finish_plan w who)
 unfolding finish_plan
-finish_ranged w who = ranged_unless (finish_refusals w who) _ (tt, (tt, (tt, (tt, tt)))) (finishes who)
+finish_ranged w who = ranged_unless (finish_refusals w who) _ _ (finishes who)
   where
     finishes : (actor : Who) → IsPlanInRange (finish actor)
     finishes (Client number) = (tt, tt)

@@ -24,7 +24,7 @@ may_run_long_forget fresh w who s = in_callback_forget fresh w who (busy_refusal
 
 pub may_run_long_ranged : (w : World) (who : Who) → IsPlanInRange (may_run_long_plan w who)
 unfolding may_run_long_plan
-may_run_long_ranged w who = in_callback_ranged w who (busy_refusals w who) (may_run_long w) (tt, (tt, (tt, (tt, tt)))) tt (λ _. (tt, tt))
+may_run_long_ranged w who = in_callback_ranged w who (busy_refusals w who) (may_run_long w) _ tt (λ _. (tt, tt))
 
 -- ---- Disassociate
 
@@ -38,4 +38,4 @@ disassociate_forget fresh w who s = in_callback_forget fresh w who (busy_refusal
 
 pub disassociate_ranged : (w : World) (who : Who) → IsPlanInRange (disassociate_plan w who)
 unfolding disassociate_plan
-disassociate_ranged w who = in_callback_ranged w who (busy_refusals w who) disassociate (tt, (tt, (tt, (tt, tt)))) tt (λ _. (tt, tt))
+disassociate_ranged w who = in_callback_ranged w who (busy_refusals w who) disassociate _ tt (λ _. (tt, tt))

@@ -46,7 +46,7 @@ create_forget w who kind routine context env = refl
 pub create_ranged : (w : World) (who : Who) (kind : Kind) (routine : RoutineId) (context : ℕ) (env : Environ) → IsRanged w → IsCallInRange (Create kind routine context env) → IsWide (Create kind routine context env) → IsPlanInRange (create_plan w who kind routine context env)
 unfolding create_plan
 create_ranged w who kind routine context env g c wide =
-    made_ranged (create_refusals w who env) (plan.Does (answer.Made (length w.objects + 1)) (change.CreateObject (new_object kind routine context env))) (tt, (tt, (tt, (tt, (tt, (tt, (tt, tt)))))))
+    made_ranged (create_refusals w who env) (plan.Does (answer.Made (length w.objects + 1)) (change.CreateObject (new_object kind routine context env))) _
     (λ none. ((omega arith, omega (arith, leb-false w.limits.objects (length w.objects) none.1.1.1.1.1.1.0, g.limits.objects_most)), record { routine = c.0; context = wide }))
 
 -- ---- CloseObject
@@ -75,4 +75,4 @@ close_object_forget w who kind object =
 
 pub close_object_ranged : (w : World) (who : Who) (kind : Kind) (object : ObjectId) → IsPlanInRange (close_object_plan w who kind object)
 unfolding close_object_plan
-close_object_ranged w who kind object = ranged_unless (close_object_refusals w who kind object.0) _ (tt, (tt, (tt, (tt, (tt, tt))))) (tt, tt)
+close_object_ranged w who kind object = ranged_unless (close_object_refusals w who kind object.0) _ _ (tt, tt)

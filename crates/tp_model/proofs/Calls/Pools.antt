@@ -44,7 +44,7 @@ create_pool_forget w who = refl
 pub create_pool_ranged : (w : World) (who : Who) → IsRanged w → IsPlanInRange (create_pool_plan w who)
 unfolding create_pool_plan
 create_pool_ranged w who g =
-    made_ranged (create_pool_refusals w who) (plan.Does (answer.Made (length w.pools)) change.CreatePool) (tt, (tt, (tt, (tt, (tt, tt)))))
+    made_ranged (create_pool_refusals w who) (plan.Does (answer.Made (length w.pools)) change.CreatePool) _
     (λ none. ((g.pools_least, omega (arith, leb-false w.limits.pools (length w.pools) none.1.1.1.1.0, g.limits.pools_most)), tt))
 
 -- ---- what changes a pool
@@ -56,7 +56,7 @@ change_pool_safe fresh w who call pool how a accepted tells =
     (λ none. record { allowed = made w.pools pool.0 (not_false (is_pool w pool.0) (neither (not (is_actor w who)) (not (is_pool w pool.0)) none.0).1); made_by = tt; accepted = accepted; tells = tells })
 
 change_pool_ranged : (w : World) (who : Who) (pool : PoolId) (how : PoolChange) (a : Answer) → IsAnswerInRange a → IsPlanInRange (change_pool_plan w who pool how a)
-change_pool_ranged w who pool how a within = ranged_unless (pool_refusals w who pool.0) _ (tt, (tt, (tt, (tt, (tt, (tt, tt)))))) (within, tt)
+change_pool_ranged w who pool how a within = ranged_unless (pool_refusals w who pool.0) _ _ (within, tt)
 
 -- ---- ClosePool
 

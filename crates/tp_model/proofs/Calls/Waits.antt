@@ -93,7 +93,7 @@ begun_ranged w target cancel g =
 
 pub begin_wait_ranged : (w : World) (who : Who) (kind : Kind) (object : ObjectId) (cancel : Bool) → IsRanged w → IsPlanInRange (begin_wait_plan w who kind object cancel)
 unfolding begin_wait_plan
-begin_wait_ranged w who kind object cancel g = ranged_unless (begin_wait_refusals w who kind object.0) _ (tt, (tt, (tt, (tt, (tt, (tt, tt)))))) (begun_ranged w (Object object) cancel g, tt)
+begin_wait_ranged w who kind object cancel g = ranged_unless (begin_wait_refusals w who kind object.0) _ _ (begun_ranged w (Object object) cancel g, tt)
 
 -- ---- End
 
@@ -162,7 +162,7 @@ held_ranged w b number numbers g e = first (is_held w b.target) (λ k found. of_
 
 pub end_ranged : (room : ℕ) (w : World) (who : Who) → IsRanged w → IsPlanInRange (end_plan w room who)
 unfolding end_plan
-end_ranged room w who g = ranged_unless (end_refusals w who) _ (tt, (tt, (tt, (tt, tt)))) (ends (wait_of w who))
+end_ranged room w who g = ranged_unless (end_refusals w who) _ _ (ends (wait_of w who))
   where
     ends_with : (b : BegunWait) (numbers : List ℕ) → held w b ≡ numbers → IsPlanInRange (end_held w room who numbers)
     ends_with b [] is = (tt, tt)

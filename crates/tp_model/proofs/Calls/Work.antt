@@ -50,7 +50,7 @@ submit_work_forget fresh w who object = ap (λ r. unless_refused r (submit fresh
 pub submit_work_ranged : (fresh : ℕ) (w : World) (who : Who) (object : ObjectId) → fresh < 2 ^ 64 → IsRanged w → IsCallInRange (SubmitWork object) → IsPlanInRange (submit_work_plan w fresh who object)
 unfolding submit_work_plan
 submit_work_ranged fresh w who object few g c =
-    ranged_unless (submit_work_refusals w who object.0) _ (tt, (tt, (tt, (tt, (tt, (tt, tt)))))) (submits (numbered w.objects object.0) refl)
+    ranged_unless (submit_work_refusals w who object.0) _ _ (submits (numbered w.objects object.0) refl)
   where
     submits : (row : Option ObjectRow) → numbered w.objects object.0 ≡ row → IsPlanInRange (submit fresh object row)
     submits None is = tt
@@ -80,5 +80,5 @@ submit_simple_forget fresh w who routine context env =
 pub submit_simple_ranged : (fresh : ℕ) (w : World) (who : Who) (routine : RoutineId) (context : ℕ) (env : Environ) → fresh < 2 ^ 64 → IsCallInRange (SubmitSimple routine context env) → IsWide (SubmitSimple routine context env) → IsPlanInRange (submit_simple_plan w fresh who routine context env)
 unfolding submit_simple_plan
 submit_simple_ranged fresh w who routine context env few c wide =
-    ranged_unless (submit_simple_refusals w who env) _ (tt, (tt, (tt, (tt, (tt, (tt, (tt, tt)))))))
+    ranged_unless (submit_simple_refusals w who env) _ _
     ((few, omega arith), record { number = few; object = omega arith; routine = c.0; context = wide; result = tt })

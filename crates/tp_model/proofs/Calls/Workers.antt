@@ -68,7 +68,7 @@ attach_forget w who = ap (λ p. unless_refused (first_refusal (attach_refusals w
 
 pub attach_ranged : (w : World) (who : Who) → IsRanged w → IsPlanInRange (attach_plan w who)
 unfolding attach_plan
-attach_ranged w who g = ranged_unless (attach_refusals w who) _ (tt, (tt, (tt, (tt, (tt, tt))))) (joins who (pool_to_join w) refl)
+attach_ranged w who g = ranged_unless (attach_refusals w who) _ _ (joins who (pool_to_join w) refl)
   where
     joins : (actor : Who) (pool : Option ℕ) → pool_to_join w ≡ pool → IsPlanInRange (attach_to actor pool)
     joins (Worker number) (Some pool) is = (omega (arith, pool_found w pool is, g.pools_most, g.limits.pools_most), tt)
@@ -109,7 +109,7 @@ detach_forget w who = ap (unless_refused (first_refusal (idle_refusals w who))) 
 
 pub detach_ranged : (w : World) (who : Who) → IsPlanInRange (detach_plan w who)
 unfolding detach_plan
-detach_ranged w who = ranged_unless (idle_refusals w who) _ (tt, (tt, (tt, (tt, (tt, tt))))) (leaves (idle_of w who))
+detach_ranged w who = ranged_unless (idle_refusals w who) _ _ (leaves (idle_of w who))
   where
     leaves : (by : Option Idle) → IsPlanInRange (detach w by)
     leaves None = tt
@@ -163,7 +163,7 @@ take_forget w who = ap (unless_refused (first_refusal (idle_refusals w who))) (t
 
 pub take_ranged : (fresh : ℕ) (w : World) (who : Who) → IsSound fresh w → IsRanged w → IsPlanInRange (take_plan w who)
 unfolding take_plan
-take_ranged fresh w who s g = ranged_unless (idle_refusals w who) _ (tt, (tt, (tt, (tt, (tt, tt))))) (takes (idle_of w who))
+take_ranged fresh w who s g = ranged_unless (idle_refusals w who) _ _ (takes (idle_of w who))
   where
     taken : (by : Idle) (c : Option CallbackRow) → next w by.pool.0 ≡ c → IsPlanInRange (take_callback w by c)
     taken by None is = tt
@@ -190,4 +190,4 @@ return_forget fresh w who s = in_callback_forget fresh w who (return_refusals w 
 
 pub return_ranged : (w : World) (who : Who) → IsPlanInRange (return_plan w who)
 unfolding return_plan
-return_ranged w who = in_callback_ranged w who (return_refusals w who) return (tt, (tt, (tt, (tt, (tt, tt))))) tt (λ _. ((omega arith, omega arith), tt))
+return_ranged w who = in_callback_ranged w who (return_refusals w who) return _ tt (λ _. ((omega arith, omega arith), tt))
