@@ -88,7 +88,7 @@ forget_rows w rows = record { objects = rows.objects; callbacks = all_filter IsC
 
 -- ---- plans
 
--- no refusal of these lists has a number
+-- no refusal of these lists has a number; the check fills this in for `_`
 abbrev pub AreBare : List (Bool × Refusal) → Type 0
 AreBare rs = AllByRecursion (λ r. IsRefusalInRange r.1) rs
 
