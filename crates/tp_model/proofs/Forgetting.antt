@@ -1,57 +1,36 @@
--- A world without the callbacks that are over has the same plan for every call, and each change leaves of it what it leaves of the whole one.
-use Rattle.std.proofs.Common.{◌≡◌, ℕ, ◌+◌, ◌-◌, ◌<◌, Bool, true, false, cond, not, ◌&&◌, ◌||◌, ◌==◌, List, [], ◌∷◌, ◌++◌, length, map, slice_get, Option, Some, None, is_some, option_map, nat_lt, nat_le, refl, sym, ap, ap₂, ◌∙◌, filter, find, eqb-true, arith}
-use Rattle.std.specs.List.{range_with_len, list_any}
-use Rattle.std.specs.Option.{option_or, option_map_or}
+-- What plans read of a world is the same without the callbacks that are over, and each change leaves of it what it leaves of the whole one.
+use Rattle.std.proofs.Common.{◌≡◌, ℕ, ◌+◌, ◌-◌, ◌<◌, Bool, true, false, cond, not, ◌&&◌, ◌||◌, ◌==◌, List, [], ◌∷◌, ◌++◌, length, map, slice_get, Option, Some, None, option_map, refl, sym, ap, ap₂, ◌∙◌, filter, find, eqb-true, arith}
+use Rattle.std.specs.Option.{option_map_or}
 use Rattle.std.proofs.lemmas.List.Elements.{filter-append}
 use Rattle.tp_base.specs.declared.ids.Who.{Who}
 use Rattle.tp_base.specs.declared.ids.Who.TheVariants.{Client, Worker}
 use Rattle.tp_base.specs.declared.ids.PoolId.{PoolId}
-use Rattle.tp_base.specs.declared.ids.ObjectId.{ObjectId}
-use Rattle.tp_base.specs.declared.calls.Call.{Call}
-use Rattle.tp_base.specs.declared.calls.Call.TheVariants.{CreatePool, ClosePool, SetMaximum, SetMinimum, Create, CloseObject, SubmitSimple, SubmitWork, BeginWait, End, Attach, Detach, Take, Return, MayRunLong, Disassociate, Finish}
 use Rattle.tp_base.specs.declared.calls.Priority.{Priority}
-use Rattle.tp_base.specs.declared.answers.Answer.TheVariants as answer
-use Rattle.tp_base.specs.declared.answers.Look.TheVariants as look
-use Rattle.tp_base.specs.declared.plans.Idle.{Idle}
 use Rattle.tp_base.specs.declared.plans.Busy.{Busy}
 use Rattle.tp_base.specs.declared.plans.Mark.{Mark}
 use Rattle.tp_base.specs.declared.plans.Mark.TheVariants.{Long, Loose}
 use Rattle.tp_base.specs.declared.plans.PoolChange.{PoolChange}
-use Rattle.tp_base.specs.declared.plans.PoolChange.TheVariants.{Close}
 use Rattle.tp_base.specs.declared.plans.Change.{Change}
 use Rattle.tp_base.specs.declared.plans.Change.TheVariants as change
-use Rattle.tp_base.specs.declared.plans.Plan.TheVariants as plan
-use Rattle.tp_base.specs.declared.calls.Kind.{Kind}
-use Rattle.tp_base.specs.declared.calls.Environ.{Environ}
+use Rattle.tp_base.specs.declared.plans.Plan.{Plan}
 use Rattle.tp_base.specs.declared.answers.Refusal.{Refusal}
-use Rattle.tp_base.specs.declared.answers.Refusal.TheVariants.{NoSuch, WrongKind, Released, NotRunning, InWait, OwnCallback}
 use Rattle.tp_base.specs.declared.rows.Status.{Status}
 use Rattle.tp_base.specs.declared.rows.Status.TheVariants.{Expected, Issued, Pending, Running, Returned, Cancelled}
 use Rattle.tp_base.specs.declared.rows.WaitTarget.{WaitTarget}
-use Rattle.tp_base.specs.declared.rows.WaitTarget.TheVariants.{Object}
 use Rattle.tp_base.specs.declared.rows.PoolRow.{PoolRow}
 use Rattle.tp_base.specs.declared.rows.ObjectRow.{ObjectRow}
 use Rattle.tp_base.specs.declared.rows.CallbackRow.{CallbackRow}
 use Rattle.tp_base.specs.declared.rows.WorkerRow.{WorkerRow}
-use Rattle.tp_model.specs.World.{World, BegunWait}
-use Rattle.tp_model.specs.Counts.{numbered, has_number, is_live, is_running, is_pending_in, is_running_in, is_running_long_in, is_high, is_normal, is_low, waiting, queue, next, pending, running, running_long, maximum, minimum, attached, slots, owed, is_in_need, is_below_minimum}
-use Rattle.tp_model.specs.Conditions.{busy_row, busy_in, busy_of, idle_of, is_actor, is_associated, is_finished, is_in_wait, is_object, is_object_of, is_released, is_without_callback}
+use Rattle.tp_model.specs.World.{World}
+use Rattle.tp_model.specs.Counts.{numbered, has_number, is_live, is_running, is_pending_in, is_running_in, is_running_long_in, is_high, is_normal, is_low, waiting, queue, next, pending, running, running_long, slots, owed, is_in_need, is_below_minimum}
+use Rattle.tp_model.specs.Conditions.{busy_row, busy_in, busy_of}
 use Rattle.tp_model.specs.Refusing.{first_refusal, unless_refused}
 use Rattle.tp_model.specs.Changes.{with_new_pool, with_object, with_worker, with_client, change_pool, pool_after, with_pool, replaced, taken, marked, returned, finished, changed, release_object, without_wait}
-use Rattle.tp_model.specs.Calls.Pools.{is_used, change_pool_plan, create_pool_plan, close_pool_plan, set_maximum_plan, set_minimum_plan}
-use Rattle.tp_model.specs.Calls.Objects.{create_plan, close_object_refusals, close_object_plan}
-use Rattle.tp_model.specs.Calls.Work.{submit_work_refusals, submit, submit_work_plan, submit_simple_refusals, submit_simple_plan, simple_callback}
-use Rattle.tp_model.specs.Calls.Workers.{attach_refusals, attach_to, attach_plan, pool_to_join, idle_refusals, another_in_need, may_leave, detach, detach_plan, take_callback, take, take_plan, return_refusals, return, return_plan}
-use Rattle.tp_model.specs.Calls.InCallback.{busy_refusals, may_run_long, may_run_long_plan, disassociate, disassociate_plan}
-use Rattle.tp_model.specs.Calls.Waits.{begin_wait_refusals, begin_wait_plan, count_covered, count_cancelled_by, is_starved, holds_starved, end_refusals, end_held, end_wait, end_plan}
-use Rattle.tp_model.specs.Waits.{is_of, is_held_for, is_outstanding_for, count_outstanding, is_cancelled_by, cancelled, cancel_where, is_object_target, is_covered_by, covered_of, is_held, wait_of, held}
-use Rattle.tp_base.specs.declared.plans.WaitEnd.TheVariants as how
-use Rattle.tp_model.specs.Calls.Clients.{finish_plan}
-use Rattle.tp_model.specs.Table.{plan_at}
+use Rattle.tp_model.specs.Waits.{is_of, is_held_for, is_outstanding_for, count_outstanding, is_cancelled_by, cancelled, cancel_where, is_object_target, is_covered_by, covered_of}
 use Rattle.tp_model.specs.Support.Sound.{IsSound, IsWorkerSound, AreWorkersSound, RunsOn, IsRising}
 use Rattle.tp_model.specs.Support.Allowed.{IsAllowed}
 use Rattle.tp_model.specs.Support.Remembered.{lives, forget}
-use Rattle.tp_model.proofs.Lists.{any_filter, filter_filter, find_kept, find_agree, all_filter, filter_agree}
+use Rattle.tp_model.proofs.Lists.{filter_filter, find_kept, all_filter}
 use Rattle.tp_model.proofs.Callbacks.{over_not_pending, over_not_running, pending_lives, rising_filter, filter_replaced_out, filter_replaced_filter, found_all, find_above}
 use Rattle.tp_model.proofs.Cancelling.{IsPendingTest, cancelled_pending, cancelled_if}
 use Rattle.tp_model.proofs.Preserving.{worker_at}
@@ -59,7 +38,7 @@ use Rattle.tp_model.proofs.Refusals.{numbered_some, false_true, and_false}
 
 -- ---- counts
 
-live_again : (cs : List CallbackRow) → filter lives (filter lives cs) ≡ filter lives cs
+pub live_again : (cs : List CallbackRow) → filter lives (filter lives cs) ≡ filter lives cs
 live_again cs = filter_filter lives lives (λ _ e. e) cs
 
 over_not_pending_in : (pool : ℕ) (c : CallbackRow) → lives c ≡ false → is_pending_in pool c ≡ false
@@ -84,7 +63,7 @@ pub queue_forget : (w : World) (pool : ℕ) → queue (forget w) pool ≡ queue 
 queue_forget w pool =
     ap₂ (λ hn l. hn ++ l) (ap₂ (λ h n. h ++ n) (waiting_forget w pool is_high) (waiting_forget w pool is_normal)) (waiting_forget w pool is_low)
 
-next_forget : (w : World) (pool : ℕ) → next (forget w) pool ≡ next w pool
+pub next_forget : (w : World) (pool : ℕ) → next (forget w) pool ≡ next w pool
 next_forget w pool = ap (λ q. slice_get q 0) (queue_forget w pool)
 
 slots_forget : (w : World) → slots (forget w) ≡ slots w
@@ -96,17 +75,11 @@ owed_forget w =
     = filter_filter (λ (c : CallbackRow). is_running c.status) lives (λ c e. over_not_running c.status e) w.callbacks in
     rw same
 
-in_need_forget : (w : World) (pool : ℕ) → is_in_need (forget w) pool ≡ is_in_need w pool
+pub in_need_forget : (w : World) (pool : ℕ) → is_in_need (forget w) pool ≡ is_in_need w pool
 in_need_forget w pool = rw (filter_filter (is_pending_in pool) lives (over_not_pending_in pool) w.callbacks)
 
-below_minimum_forget : (w : World) (pool : ℕ) → is_below_minimum (forget w) pool ≡ is_below_minimum w pool
+pub below_minimum_forget : (w : World) (pool : ℕ) → is_below_minimum (forget w) pool ≡ is_below_minimum w pool
 below_minimum_forget w pool = rw (filter_filter (is_running_long_in pool) lives (λ c e. ap (λ b. b && c.long) (over_not_running_in pool c e)) w.callbacks)
-
-to_join_forget : (w : World) → pool_to_join (forget w) ≡ pool_to_join w
-to_join_forget w =
-    ap₂ option_or
-    (find_agree (is_in_need (forget w)) (is_in_need w) (in_need_forget w) (range_with_len 0 (length w.pools)))
-    (find_agree (is_below_minimum (forget w)) (is_below_minimum w) (below_minimum_forget w) (range_with_len 0 (length w.pools)))
 
 -- ---- what a forgotten world keeps
 
@@ -131,37 +104,7 @@ forget_sound fresh w s =
       callback_pools = all_filter (λ (c : CallbackRow). c.pool.0 < length w.pools) lives w.callbacks s.callback_pools;
     }
 
--- ---- plans
-
-used_forget : (w : World) (pool : ℕ) → is_used (forget w) pool ≡ is_used w pool
-used_forget w pool =
-    ap (λ b. list_any (λ (o : ObjectRow). not o.released && (o.env.pool.0 == pool)) w.objects || b)
-    (any_filter (λ (c : CallbackRow). is_live c.status && (c.pool.0 == pool)) lives (λ c e. ap (λ b. b && (c.pool.0 == pool)) e) w.callbacks)
-
-submit_refusals_forget : (w : World) (who : Who) (object : ℕ) → first_refusal (submit_work_refusals (forget w) who object) ≡ first_refusal (submit_work_refusals w who object)
-submit_refusals_forget w who object = rw (live_again w.callbacks)
-
-another_forget : (w : World) (pool : ℕ) → another_in_need (forget w) pool ≡ another_in_need w pool
-another_forget w pool =
-    ap is_some (find_agree (λ other. not (other == pool) && is_in_need (forget w) other) (λ other. not (other == pool) && is_in_need w other) (λ other. ap (λ b. not (other == pool) && b) (in_need_forget w other)) (range_with_len 0 (length w.pools)))
-
-may_leave_forget : (w : World) (pool : ℕ) → may_leave (forget w) pool ≡ may_leave w pool
-may_leave_forget w pool =
-    ap₂ (λ (n : ℕ) (bc : Bool). nat_lt (maximum w pool) (attached w pool) || ((n == 0) && bc)) (pending_forget w pool)
-    (ap₂ (λ (n : ℕ) (b : Bool). nat_lt (minimum w pool) (attached w pool - n) || b) (running_long_forget w pool) (another_forget w pool))
-
-detach_forget : (w : World) (by : Option Idle) → detach (forget w) by ≡ detach w by
-detach_forget w None = refl
-detach_forget w (Some by) = ap (λ b. cond b (plan.Does answer.Done (change.Detach by)) (plan.Looked look.Stay)) (may_leave_forget w by.pool.0)
-
-take_callback_forget : (w : World) (by : Idle) (c : Option CallbackRow) → take_callback (forget w) by c ≡ take_callback w by c
-take_callback_forget w by None = refl
-take_callback_forget w by (Some c) =
-    ap (λ n. cond (nat_le (maximum w by.pool.0) n) (plan.Looked (look.AtMaximum n)) (plan.Does (answer.Taken c.number c.object c.routine c.context c.result) (change.Take by c))) (running_forget w by.pool.0)
-
-take_forget : (w : World) (by : Option Idle) → take (forget w) by ≡ take w by
-take_forget w None = refl
-take_forget w (Some by) = ap (take_callback (forget w) by) (next_forget w by.pool.0) ∙ take_callback_forget w by (next w by.pool.0)
+-- ---- running callbacks
 
 busy_row_forget : (fresh : ℕ) (w : World) (number : ℕ) (pool : Option PoolId) (callback : Option ℕ) → IsSound fresh w → numbered w.workers number ≡ Some (record { pool = pool; callback = callback }) → busy_row (forget w) number pool callback ≡ busy_row w number pool callback
 busy_row_forget fresh w number (Some pool) (Some callback) s stands =
@@ -175,9 +118,13 @@ busy_in_forget : (fresh : ℕ) (w : World) (number : ℕ) (row : Option WorkerRo
 busy_in_forget fresh w number None s stands = refl
 busy_in_forget fresh w number (Some row) s stands = busy_row_forget fresh w number row.pool row.callback s stands
 
-busy_forget : (fresh : ℕ) (w : World) (who : Who) → IsSound fresh w → busy_of (forget w) who ≡ busy_of w who
+pub busy_forget : (fresh : ℕ) (w : World) (who : Who) → IsSound fresh w → busy_of (forget w) who ≡ busy_of w who
 busy_forget fresh w (Client number) s = refl
 busy_forget fresh w (Worker number) s = busy_in_forget fresh w number (numbered w.workers number) s refl
+
+-- the plan of a call that only a running callback makes
+pub in_callback_forget : (fresh : ℕ) (w : World) (who : Who) (rs : List (Bool × Refusal)) (by : Option Busy → Plan) → IsSound fresh w → unless_refused (first_refusal rs) (by (busy_of (forget w) who)) ≡ unless_refused (first_refusal rs) (by (busy_of w who))
+in_callback_forget fresh w who rs by s = ap (λ b. unless_refused (first_refusal rs) (by b)) (busy_forget fresh w who s)
 
 -- ---- waits
 
@@ -210,28 +157,6 @@ over_forget p over low fresh number (c ∷ cs) r =
       ] refl
     ] refl
 
-held_forget : (fresh : ℕ) (w : World) (target : WaitTarget) (number : ℕ) → IsSound fresh w → is_held (forget w) target number ≡ is_held w target number
-held_forget fresh w target number s = over_forget (is_outstanding_for target) (over_not_outstanding target) 1 fresh number w.callbacks s.numbers
-
-all_held_forget : (fresh : ℕ) (w : World) (b : BegunWait) → IsSound fresh w → held (forget w) b ≡ held w b
-all_held_forget fresh w b s = filter_agree (is_held (forget w) b.target) (is_held w b.target) (λ n. held_forget fresh w b.target n s) b.covered
-
-starved_forget : (fresh room : ℕ) (w : World) (numbers : List ℕ) → IsSound fresh w → holds_starved (forget w) room numbers ≡ holds_starved w room numbers
-starved_forget fresh room w [] s = refl
-starved_forget fresh room w (n ∷ ns) s =
-    ap₂ (λ p q. p || q)
-    (over_forget (is_starved w room) (λ c e. ap (λ b. b && (nat_lt room 2 || (nat_lt room 4 && (attached w c.pool.0 == 0)))) (over_not_pending c.status e)) 1 fresh n w.callbacks s.numbers)
-    (starved_forget fresh room w ns s)
-
-end_held_forget : (fresh room : ℕ) (w : World) (who : Who) (numbers : List ℕ) → IsSound fresh w → end_held (forget w) room who numbers ≡ end_held w room who numbers
-end_held_forget fresh room w who [] s = refl
-end_held_forget fresh room w who (n ∷ ns) s =
-    ap (λ b. cond b (plan.Does answer.Exhausted (change.EndWait who how.Exhausted)) (plan.Looked (look.NotYet n))) (starved_forget fresh room w (n ∷ ns) s)
-
-end_wait_forget : (fresh room : ℕ) (w : World) (who : Who) (b : Option BegunWait) → IsSound fresh w → end_wait (forget w) room who b ≡ end_wait w room who b
-end_wait_forget fresh room w who None s = refl
-end_wait_forget fresh room w who (Some b) s = ap (end_held (forget w) room who) (all_held_forget fresh w b s) ∙ end_held_forget fresh room w who (held w b) s
-
 -- what lives after a cancellation
 pub cancel_forget : (q test : CallbackRow → Bool) → IsPendingTest test → ((c : CallbackRow) → lives c ≡ false → q c ≡ false) → (cs : List CallbackRow) → filter q (cancel_where test (filter lives cs)) ≡ filter q (cancel_where test cs)
 cancel_forget q test only over [] = refl
@@ -252,65 +177,15 @@ cancel_forget q test only over (c ∷ cs) =
 pub over_not_covered : (target : WaitTarget) (cancel : Bool) (c : CallbackRow) → lives c ≡ false → is_covered_by target cancel c ≡ false
 over_not_covered target cancel c e = ap (λ b. b && (is_running c.status || not (cancel && is_object_target target))) (over_not_outstanding target c e)
 
-covered_forget : (w : World) (target : WaitTarget) (cancel : Bool) → covered_of target cancel (cancel_where (is_cancelled_by target cancel) (filter lives w.callbacks)) ≡ covered_of target cancel (cancel_where (is_cancelled_by target cancel) w.callbacks)
+pub covered_forget : (w : World) (target : WaitTarget) (cancel : Bool) → covered_of target cancel (cancel_where (is_cancelled_by target cancel) (filter lives w.callbacks)) ≡ covered_of target cancel (cancel_where (is_cancelled_by target cancel) w.callbacks)
 covered_forget w target cancel =
     ap (map (λ (c : CallbackRow). c.number)) (cancel_forget (is_covered_by target cancel) (is_cancelled_by target cancel) (cancelled_pending target cancel) (over_not_covered target cancel) w.callbacks)
 
 pub over_not_cancelled : (target : WaitTarget) (cancel : Bool) (c : CallbackRow) → lives c ≡ false → is_cancelled_by target cancel c ≡ false
 over_not_cancelled target cancel c e = ap (λ b. cancel && (b && is_of target c)) (over_not_pending c.status e) ∙ and_false cancel
 
-begun_forget : (w : World) (target : WaitTarget) (cancel : Bool) → answer.Begun (count_covered (forget w) target cancel) (count_cancelled_by (forget w) target cancel) ≡ answer.Begun (count_covered w target cancel) (count_cancelled_by w target cancel)
-begun_forget w target cancel =
-    ap₂ (λ m n. answer.Begun m n) (ap length (covered_forget w target cancel))
-    (ap length (filter_filter (is_cancelled_by target cancel) lives (over_not_cancelled target cancel) w.callbacks))
-
-own_refusals_forget : (fresh : ℕ) (w : World) (who : Who) (kind : Kind) (object : ℕ) → IsSound fresh w → first_refusal (begin_wait_refusals (forget w) who kind object) ≡ first_refusal (begin_wait_refusals w who kind object)
-own_refusals_forget fresh w who kind object s =
-    ap (λ (by : Option Busy). first_refusal (with_own (option_map_or (λ (x : Busy). is_associated x.callback.status && (x.callback.object.0 == object)) by false))) (busy_forget fresh w who s)
-  where
-    with_own : Bool → List (Bool × Refusal)
-    with_own own =
-        (not (is_actor w who) || not (is_object w object), NoSuch)
-        ∷ (not (is_object_of w kind object), WrongKind)
-        ∷ (is_finished w who || is_released w object, Released)
-        ∷ (is_without_callback w who, NotRunning)
-        ∷ (is_in_wait w who, InWait)
-        ∷ (own, OwnCallback)
-        ∷ []
-
-begin_wait_forget : (fresh : ℕ) (w : World) (who : Who) (kind : Kind) (object : ObjectId) (cancel : Bool) → IsSound fresh w → begin_wait_plan (forget w) who kind object cancel ≡ begin_wait_plan w who kind object cancel
-unfolding begin_wait_plan
-begin_wait_forget fresh w who kind object cancel s =
-    ap₂ (λ r a. unless_refused r (plan.Does a (change.BeginWait who (Object object) cancel))) (own_refusals_forget fresh w who kind object.0 s) (begun_forget w (Object object) cancel)
-
-simple_refusals_forget : (w : World) (who : Who) (env : Environ) → first_refusal (submit_simple_refusals (forget w) who env) ≡ first_refusal (submit_simple_refusals w who env)
-simple_refusals_forget w who env = rw (live_again w.callbacks)
-
-outstanding_forget : (w : World) (target : WaitTarget) → count_outstanding target (forget w) ≡ count_outstanding target w
+pub outstanding_forget : (w : World) (target : WaitTarget) → count_outstanding target (forget w) ≡ count_outstanding target w
 outstanding_forget w target = ap length (filter_filter (is_outstanding_for target) lives (over_not_outstanding target) w.callbacks)
-
-pub plan_forget : (fresh room : ℕ) (w : World) (who : Who) (call : Call) → IsSound fresh w → plan_at (forget w) fresh room who call ≡ plan_at w fresh room who call
-unfolding create_pool_plan close_pool_plan set_maximum_plan set_minimum_plan create_plan close_object_plan submit_simple_plan submit_work_plan end_plan disassociate_plan attach_plan detach_plan take_plan return_plan may_run_long_plan finish_plan
-plan_forget fresh room w who CreatePool s = refl
-plan_forget fresh room w who (ClosePool pool) s = ap (λ b. change_pool_plan w who pool Close (answer.Closed b)) (used_forget w pool.0)
-plan_forget fresh room w who (SetMaximum pool value) s = refl
-plan_forget fresh room w who (SetMinimum pool value) s = refl
-plan_forget fresh room w who (Create kind routine context env) s = refl
-plan_forget fresh room w who (CloseObject kind object) s =
-    ap (λ n. unless_refused (first_refusal (close_object_refusals w who kind object.0)) (plan.Does (answer.Closed (nat_lt 0 n)) (change.ReleaseObject object))) (outstanding_forget w (Object object))
-plan_forget fresh room w who (SubmitSimple routine context env) s =
-    ap (λ r. unless_refused r (plan.Does (answer.Queued fresh 1) (change.QueueCallback (simple_callback fresh routine context env)))) (simple_refusals_forget w who env)
-plan_forget fresh room w who (SubmitWork object) s =
-    ap (λ r. unless_refused r (submit fresh object (numbered w.objects object.0))) (submit_refusals_forget w who object.0)
-plan_forget fresh room w who (BeginWait kind object cancel) s = begin_wait_forget fresh w who kind object cancel s
-plan_forget fresh room w who End s = ap (unless_refused (first_refusal (end_refusals w who))) (end_wait_forget fresh room w who (wait_of w who) s)
-plan_forget fresh room w who Attach s = ap (λ p. unless_refused (first_refusal (attach_refusals w who)) (attach_to who p)) (to_join_forget w)
-plan_forget fresh room w who Detach s = ap (unless_refused (first_refusal (idle_refusals w who))) (detach_forget w (idle_of w who))
-plan_forget fresh room w who Take s = ap (unless_refused (first_refusal (idle_refusals w who))) (take_forget w (idle_of w who))
-plan_forget fresh room w who Return s = ap (λ by. unless_refused (first_refusal (return_refusals w who)) (return by)) (busy_forget fresh w who s)
-plan_forget fresh room w who MayRunLong s = ap (λ by. unless_refused (first_refusal (busy_refusals w who)) (may_run_long w by)) (busy_forget fresh w who s)
-plan_forget fresh room w who Disassociate s = ap (λ by. unless_refused (first_refusal (busy_refusals w who)) (disassociate by)) (busy_forget fresh w who s)
-plan_forget fresh room w who Finish s = refl
 
 -- ---- changes
 

@@ -1,5 +1,6 @@
 pub mod Actors
 pub mod Callbacks
+pub mod Calls
 pub mod Cancelling
 pub mod Costs
 pub mod Entries

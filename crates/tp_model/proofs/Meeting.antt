@@ -17,8 +17,8 @@ use Rattle.tp_model.specs.Support.Safe.{IsSafe}
 use Rattle.tp_model.specs.Support.Remembered.{Remembered, forget, made_by, step_of, remembered_after, StandsFor, Meets, Goes}
 use Rattle.tp_model.proofs.Preserving.{changed_sound}
 use Rattle.tp_model.proofs.Growing.{grows}
-use Rattle.tp_model.proofs.Planning.{plan_safe}
-use Rattle.tp_model.proofs.Forgetting.{changed_forget, forget_sound, live_forgotten, owed_forget, plan_forget}
+use Rattle.tp_model.proofs.Calls.{plan_safe, plan_forget}
+use Rattle.tp_model.proofs.Forgetting.{changed_forget, forget_sound, live_forgotten, owed_forget}
 
 -- ---- steps of the two worlds
 

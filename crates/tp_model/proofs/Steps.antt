@@ -18,7 +18,7 @@ use Rattle.tp_model.specs.Support.Allowed.{IsAllowed, price}
 use Rattle.tp_model.specs.Support.Safe.{IsSafe, IsSafeChange}
 use Rattle.tp_model.specs.Support.Remembered.{Remembered, Goes, step_of, remembered_in, remembered_after}
 use Rattle.tp_model.proofs.Costs.{paid}
-use Rattle.tp_model.proofs.Planning.{plan_safe}
+use Rattle.tp_model.proofs.Calls.{plan_safe}
 
 not_full : (room cost : ℕ) (s : Step) → cost ≤ room → unless_full room cost s ≡ s
 not_full room cost s fits = ap (λ b. cond b (Full room cost) s) (le-ltb room cost fits)

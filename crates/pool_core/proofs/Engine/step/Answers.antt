@@ -11,7 +11,7 @@ use Rattle.tp_model.specs.Support.Ranged.{IsWide, IsPlanInRange}
 use Rattle.tp_model.specs.Support.Sound.{IsSound}
 use Rattle.tp_model.specs.Support.Remembered.{Remembered}
 use Rattle.tp_model.proofs.Steps.{plan_allowed}
-use Rattle.tp_model.proofs.Ranging.{plan_ranged}
+use Rattle.tp_model.proofs.Calls.{plan_ranged}
 use Rattle.live_world.specs.Bounds.{IsBounded}
 use Rattle.pool_core.specs.View.{remembered, IsEngine}
 use Rattle.pool_core.specs.declared.Engine.TheInside.{Inside}

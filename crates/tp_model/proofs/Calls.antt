@@ -1,0 +1,87 @@
+-- The facts of every call. Each stands with the others of its call, by what the call acts on, as the plans do.
+use Rattle.std.proofs.Common.{◌≡◌, ℕ, ◌<◌, ◌^◌}
+use Rattle.tp_base.specs.declared.ids.Who.{Who}
+use Rattle.tp_base.specs.declared.calls.Call.{Call}
+use Rattle.tp_base.specs.declared.calls.Call.TheVariants.{CreatePool, ClosePool, SetMaximum, SetMinimum, Create, CloseObject, SubmitSimple, SubmitWork, BeginWait, End, Attach, Detach, Take, Return, MayRunLong, Disassociate, Finish}
+use Rattle.tp_base.specs.Ranges.{IsCallInRange}
+use Rattle.tp_model.specs.World.{World}
+use Rattle.tp_model.specs.Table.{plan_at}
+use Rattle.tp_model.specs.Support.Sound.{IsSound}
+use Rattle.tp_model.specs.Support.Safe.{IsSafe}
+use Rattle.tp_model.specs.Support.Remembered.{forget}
+use Rattle.tp_model.specs.Support.Ranged.{IsRanged, IsPlanInRange, IsWide}
+pub mod Pools
+pub mod Objects
+pub mod Work
+pub mod Workers
+pub mod InCallback
+pub mod Waits
+pub mod Clients
+use Pools.{create_pool_safe, create_pool_forget, create_pool_ranged, close_pool_safe, close_pool_forget, close_pool_ranged, set_maximum_safe, set_maximum_forget, set_maximum_ranged, set_minimum_safe, set_minimum_forget, set_minimum_ranged}
+use Objects.{create_safe, create_forget, create_ranged, close_object_safe, close_object_forget, close_object_ranged}
+use Work.{submit_work_safe, submit_work_forget, submit_work_ranged, submit_simple_safe, submit_simple_forget, submit_simple_ranged}
+use Workers.{attach_safe, attach_forget, attach_ranged, detach_safe, detach_forget, detach_ranged, take_safe, take_forget, take_ranged, return_safe, return_forget, return_ranged}
+use InCallback.{may_run_long_safe, may_run_long_forget, may_run_long_ranged, disassociate_safe, disassociate_forget, disassociate_ranged}
+use Waits.{begin_wait_safe, begin_wait_forget, begin_wait_ranged, end_safe, end_forget, end_ranged}
+use Clients.{finish_safe, finish_forget, finish_ranged}
+
+-- the plan of each call asks for a change that is allowed, made by the actor
+pub plan_safe : (fresh room : ℕ) (w : World) (who : Who) (call : Call) → IsSound fresh w → IsSafe fresh w who call (plan_at w fresh room who call)
+plan_safe fresh room w who CreatePool s = create_pool_safe fresh w who
+plan_safe fresh room w who (ClosePool pool) s = close_pool_safe fresh w who pool
+plan_safe fresh room w who (SetMaximum pool value) s = set_maximum_safe fresh w who pool value
+plan_safe fresh room w who (SetMinimum pool value) s = set_minimum_safe fresh w who pool value
+plan_safe fresh room w who (Create kind routine context env) s = create_safe fresh w who kind routine context env
+plan_safe fresh room w who (CloseObject kind object) s = close_object_safe fresh w who kind object
+plan_safe fresh room w who (SubmitSimple routine context env) s = submit_simple_safe fresh w who routine context env
+plan_safe fresh room w who (SubmitWork object) s = submit_work_safe fresh w who object s
+plan_safe fresh room w who (BeginWait kind object cancel) s = begin_wait_safe fresh w who kind object cancel
+plan_safe fresh room w who End s = end_safe fresh room w who s
+plan_safe fresh room w who Attach s = attach_safe fresh w who
+plan_safe fresh room w who Detach s = detach_safe fresh w who
+plan_safe fresh room w who Take s = take_safe fresh w who s
+plan_safe fresh room w who Return s = return_safe fresh w who s
+plan_safe fresh room w who MayRunLong s = may_run_long_safe fresh w who s
+plan_safe fresh room w who Disassociate s = disassociate_safe fresh w who s
+plan_safe fresh room w who Finish s = finish_safe fresh w who
+
+-- a world without the callbacks that are over has the same plan
+pub plan_forget : (fresh room : ℕ) (w : World) (who : Who) (call : Call) → IsSound fresh w → plan_at (forget w) fresh room who call ≡ plan_at w fresh room who call
+plan_forget fresh room w who CreatePool s = create_pool_forget w who
+plan_forget fresh room w who (ClosePool pool) s = close_pool_forget w who pool
+plan_forget fresh room w who (SetMaximum pool value) s = set_maximum_forget w who pool value
+plan_forget fresh room w who (SetMinimum pool value) s = set_minimum_forget w who pool value
+plan_forget fresh room w who (Create kind routine context env) s = create_forget w who kind routine context env
+plan_forget fresh room w who (CloseObject kind object) s = close_object_forget w who kind object
+plan_forget fresh room w who (SubmitSimple routine context env) s = submit_simple_forget fresh w who routine context env
+plan_forget fresh room w who (SubmitWork object) s = submit_work_forget fresh w who object
+plan_forget fresh room w who (BeginWait kind object cancel) s = begin_wait_forget fresh w who kind object cancel s
+plan_forget fresh room w who End s = end_forget fresh room w who s
+plan_forget fresh room w who Attach s = attach_forget w who
+plan_forget fresh room w who Detach s = detach_forget w who
+plan_forget fresh room w who Take s = take_forget w who
+plan_forget fresh room w who Return s = return_forget fresh w who s
+plan_forget fresh room w who MayRunLong s = may_run_long_forget fresh w who s
+plan_forget fresh room w who Disassociate s = disassociate_forget fresh w who s
+plan_forget fresh room w who Finish s = finish_forget w who
+
+-- the numbers of the plan are in range
+module _ (fresh : ℕ) (w : World) (few : fresh < 2 ^ 64) (s : IsSound fresh w) (g : IsRanged w) where
+  pub plan_ranged : (room : ℕ) (who : Who) (call : Call) → IsCallInRange call → IsWide call → IsPlanInRange (plan_at w fresh room who call)
+  plan_ranged room who CreatePool c wide = create_pool_ranged w who g
+  plan_ranged room who (ClosePool pool) c wide = close_pool_ranged w who pool
+  plan_ranged room who (SetMaximum pool value) c wide = set_maximum_ranged w who pool value
+  plan_ranged room who (SetMinimum pool value) c wide = set_minimum_ranged w who pool value
+  plan_ranged room who (Create kind routine context env) c wide = create_ranged w who kind routine context env g c wide
+  plan_ranged room who (CloseObject kind object) c wide = close_object_ranged w who kind object
+  plan_ranged room who (SubmitSimple routine context env) c wide = submit_simple_ranged fresh w who routine context env few c wide
+  plan_ranged room who (SubmitWork object) c wide = submit_work_ranged fresh w who object few g c
+  plan_ranged room who (BeginWait kind object cancel) c wide = begin_wait_ranged w who kind object cancel g
+  plan_ranged room who End c wide = end_ranged room w who g
+  plan_ranged room who Attach c wide = attach_ranged w who g
+  plan_ranged room who Detach c wide = detach_ranged w who
+  plan_ranged room who Take c wide = take_ranged fresh w who s g
+  plan_ranged room who Return c wide = return_ranged w who
+  plan_ranged room who MayRunLong c wide = may_run_long_ranged w who
+  plan_ranged room who Disassociate c wide = disassociate_ranged w who
+  plan_ranged room who Finish c wide = finish_ranged w who

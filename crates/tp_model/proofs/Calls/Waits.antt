@@ -1,0 +1,174 @@
+-- The facts of waits for callbacks.
+use Rattle.std.proofs.Common.{◌≡◌, ℕ, ◌<◌, Bool, true, false, cond, not, ◌||◌, ◌==◌, List, [], ◌∷◌, length, Option, Some, None, refl, ap, ◌∙◌, arith, eqb-true, ◌&&◌, nat_lt, ap₂, filter, ◌≤◌, ◌^◌, subst}
+use Rattle.std.specs.Option.{option_map_or}
+use Rattle.std.proofs.lemmas.List.{length-map}
+use Rattle.tp_base.specs.declared.ids.Who.{Who}
+use Rattle.tp_base.specs.declared.ids.ObjectId.{ObjectId}
+use Rattle.tp_base.specs.declared.calls.Kind.{Kind}
+use Rattle.tp_base.specs.declared.calls.Call.TheVariants.{BeginWait, End}
+use Rattle.tp_base.specs.declared.answers.Refusal.{Refusal}
+use Rattle.tp_base.specs.declared.answers.Answer.TheVariants as answer
+use Rattle.tp_base.specs.declared.answers.Look.TheVariants as look
+use Rattle.tp_base.specs.declared.plans.Busy.{Busy}
+use Rattle.tp_base.specs.declared.plans.Change.TheVariants as change
+use Rattle.tp_base.specs.declared.plans.Plan.TheVariants as plan
+use Rattle.tp_base.specs.declared.rows.CallbackRow.{CallbackRow}
+use Rattle.tp_base.specs.declared.plans.WaitEnd.TheVariants as how
+use Rattle.tp_base.specs.declared.answers.Refusal.TheVariants.{NoSuch, WrongKind, Released, NotRunning, InWait, OwnCallback}
+use Rattle.tp_base.specs.declared.rows.WaitTarget.{WaitTarget}
+use Rattle.tp_base.specs.declared.rows.WaitTarget.TheVariants.{Object}
+use Rattle.tp_base.specs.Ranges.{IsAnswerInRange}
+use Rattle.tp_model.specs.World.{World, BegunWait}
+use Rattle.tp_model.specs.Counts.{has_number, attached, callback_of}
+use Rattle.tp_model.specs.Conditions.{is_actor, is_finished, is_object, is_released, is_same_actor, is_associated, is_in_wait, is_object_of, is_without_callback}
+use Rattle.tp_model.specs.Refusing.{first_refusal, unless_refused}
+use Rattle.tp_model.specs.Calls.Waits.{begin_wait_refusals, begin_wait_plan, end_refusals, end_held, end_wait, end_plan, holds_starved, count_covered, count_cancelled_by, is_starved}
+use Rattle.tp_model.specs.Waits.{wait_of, held, is_outstanding_for, is_cancelled_by, cancelled, cancel_where, is_covered_by, covered_of, is_held}
+use Rattle.tp_model.specs.Support.Sound.{IsSound}
+use Rattle.tp_model.specs.Support.Safe.{IsSafe}
+use Rattle.tp_model.specs.Support.Remembered.{lives, forget}
+use Rattle.tp_model.specs.Support.Ranged.{IsCallbackInRange, IsRanged, IsPlanInRange}
+use Rattle.tp_model.proofs.Lists.{find_all, filter_filter, filter_agree, length_filter_le, find_passes}
+use Rattle.tp_model.proofs.Refusals.{neither, not_false, false_true}
+use Rattle.tp_model.proofs.Callbacks.{over_not_pending}
+use Rattle.tp_model.proofs.Cancelling.{cancelled_if}
+use Rattle.tp_model.proofs.Forgetting.{over_not_cancelled, over_not_covered, covered_forget, busy_forget, over_forget, over_not_outstanding}
+use Rattle.tp_model.proofs.Planning.{safe_unless}
+use Rattle.tp_model.proofs.Ranging.{ranged_unless}
+
+-- ---- BeginWait
+
+pub begin_wait_safe : (fresh : ℕ) (w : World) (who : Who) (kind : Kind) (object : ObjectId) (cancel : Bool) → IsSafe fresh w who (BeginWait kind object cancel) (begin_wait_plan w who kind object cancel)
+unfolding begin_wait_plan
+begin_wait_safe fresh w who kind object cancel =
+    safe_unless fresh w who (BeginWait kind object cancel) (begin_wait_refusals w who kind object.0) _ (λ none.
+    let there = neither (not (is_actor w who)) (not (is_object w object.0)) none.0 in
+    record { allowed = record { actor = not_false (is_actor w who) there.0; none = none.1.1.1.1.0; object = tt; made = not_false (is_object w object.0) there.1 }; made_by = refl; accepted = refl; tells = refl })
+
+begun_forget : (w : World) (target : WaitTarget) (cancel : Bool) → answer.Begun (count_covered (forget w) target cancel) (count_cancelled_by (forget w) target cancel) ≡ answer.Begun (count_covered w target cancel) (count_cancelled_by w target cancel)
+begun_forget w target cancel =
+    ap₂ (λ m n. answer.Begun m n) (ap length (covered_forget w target cancel))
+    (ap length (filter_filter (is_cancelled_by target cancel) lives (over_not_cancelled target cancel) w.callbacks))
+
+own_refusals_forget : (fresh : ℕ) (w : World) (who : Who) (kind : Kind) (object : ℕ) → IsSound fresh w → first_refusal (begin_wait_refusals (forget w) who kind object) ≡ first_refusal (begin_wait_refusals w who kind object)
+own_refusals_forget fresh w who kind object s =
+    ap (λ (by : Option Busy). first_refusal (with_own (option_map_or (λ (x : Busy). is_associated x.callback.status && (x.callback.object.0 == object)) by false))) (busy_forget fresh w who s)
+  where
+    with_own : Bool → List (Bool × Refusal)
+    with_own own =
+        (not (is_actor w who) || not (is_object w object), NoSuch)
+        ∷ (not (is_object_of w kind object), WrongKind)
+        ∷ (is_finished w who || is_released w object, Released)
+        ∷ (is_without_callback w who, NotRunning)
+        ∷ (is_in_wait w who, InWait)
+        ∷ (own, OwnCallback)
+        ∷ []
+
+pub begin_wait_forget : (fresh : ℕ) (w : World) (who : Who) (kind : Kind) (object : ObjectId) (cancel : Bool) → IsSound fresh w → begin_wait_plan (forget w) who kind object cancel ≡ begin_wait_plan w who kind object cancel
+unfolding begin_wait_plan
+begin_wait_forget fresh w who kind object cancel s =
+    ap₂ (λ r a. unless_refused r (plan.Does a (change.BeginWait who (Object object) cancel))) (own_refusals_forget fresh w who kind object.0 s) (begun_forget w (Object object) cancel)
+
+covers_within : (q test : CallbackRow → Bool) (cs : List CallbackRow) → length (filter q (cancel_where test cs)) ≤ length (filter (λ c. q (cancelled_if test c)) cs)
+covers_within q test [] = omega arith
+covers_within q test (c ∷ cs) =
+    elim (q (cancelled_if test c)) as (λ b. length (cond b (cancelled_if test c ∷ filter q (cancel_where test cs)) (filter q (cancel_where test cs))) ≤ length (cond b (c ∷ filter (λ (x : CallbackRow). q (cancelled_if test x)) cs) (filter (λ (x : CallbackRow). q (cancelled_if test x)) cs))) [
+      | true ↦ omega (arith, covers_within q test cs)
+      | false ↦ covers_within q test cs
+    ]
+
+over_covered : (target : WaitTarget) (cancel : Bool) (c : CallbackRow) → lives c ≡ false → is_covered_by target cancel (cancelled_if (is_cancelled_by target cancel) c) ≡ false
+over_covered target cancel c dead = ap (λ b. is_covered_by target cancel (cond b (cancelled c) c)) (over_not_cancelled target cancel c dead) ∙ over_not_covered target cancel c dead
+
+-- a wait covers and cancels no more than there are slots
+few_live : (w : World) (q : CallbackRow → Bool) → IsRanged w → ((c : CallbackRow) → lives c ≡ false → q c ≡ false) → length (filter q w.callbacks) ≤ 65535
+few_live w q g over = omega (arith, length_filter_le q lives over w.callbacks, g.slots_most, g.limits.slots_most)
+
+begun_ranged : (w : World) (target : WaitTarget) (cancel : Bool) → IsRanged w → IsAnswerInRange (answer.Begun (count_covered w target cancel) (count_cancelled_by w target cancel))
+begun_ranged w target cancel g =
+    let test : CallbackRow → Bool = is_cancelled_by target cancel in
+    let covered : length (covered_of target cancel (cancel_where test w.callbacks)) ≡ length (filter (is_covered_by target cancel) (cancel_where test w.callbacks)) = length-map (filter (is_covered_by target cancel) (cancel_where test w.callbacks)) (λ (c : CallbackRow). c.number) in
+    let within : length (filter (is_covered_by target cancel) (cancel_where test w.callbacks)) ≤ length (filter (λ c. is_covered_by target cancel (cancelled_if test c)) w.callbacks) = covers_within (is_covered_by target cancel) test w.callbacks in
+    (omega (arith, covered, within, few_live w (λ c. is_covered_by target cancel (cancelled_if test c)) g (over_covered target cancel)), few_live w test g (over_not_cancelled target cancel))
+
+pub begin_wait_ranged : (w : World) (who : Who) (kind : Kind) (object : ObjectId) (cancel : Bool) → IsRanged w → IsPlanInRange (begin_wait_plan w who kind object cancel)
+unfolding begin_wait_plan
+begin_wait_ranged w who kind object cancel g = ranged_unless (begin_wait_refusals w who kind object.0) _ _ (begun_ranged w (Object object) cancel g, tt)
+
+-- ---- End
+
+pub end_safe : (fresh room : ℕ) (w : World) (who : Who) → IsSound fresh w → IsSafe fresh w who End (end_plan w room who)
+unfolding end_plan
+end_safe fresh room w who s = safe_unless fresh w who End (end_refusals w who) _ (λ _. ends (wait_of w who) refl)
+  where
+    unnoticed : (b : BegunWait) → wait_of w who ≡ Some b → b.notices ≡ []
+    unnoticed b is = find_all (λ (x : BegunWait). x.notices ≡ []) (λ (x : BegunWait). is_same_actor x.actor who) b w.waits s.unnoticed is
+
+    ends_with : (b : BegunWait) (numbers : List ℕ) → wait_of w who ≡ Some b → held w b ≡ numbers → IsSafe fresh w who End (end_held w room who numbers)
+    ends_with b [] is free = record { allowed = record { wait = b; begun = is; unnoticed = unnoticed b is; free = λ _. free }; made_by = refl; accepted = refl; tells = refl }
+    ends_with b (n ∷ ns) is left =
+        elim (holds_starved w room (n ∷ ns)) as (λ t. IsSafe fresh w who End (cond t (plan.Does answer.Exhausted (change.EndWait who how.Exhausted)) (plan.Looked (look.NotYet n)))) [
+          | true ↦ record { allowed = record { wait = b; begun = is; unnoticed = unnoticed b is; free = λ e. absurd cc }; made_by = refl; accepted = refl; tells = refl }
+          | false ↦ tt
+        ]
+
+    ends : (b : Option BegunWait) → wait_of w who ≡ b → IsSafe fresh w who End (end_wait w room who b)
+    ends None is = tt
+    ends (Some b) is = ends_with b (held w b) is refl
+
+held_forget : (fresh : ℕ) (w : World) (target : WaitTarget) (number : ℕ) → IsSound fresh w → is_held (forget w) target number ≡ is_held w target number
+held_forget fresh w target number s = over_forget (is_outstanding_for target) (over_not_outstanding target) 1 fresh number w.callbacks s.numbers
+
+all_held_forget : (fresh : ℕ) (w : World) (b : BegunWait) → IsSound fresh w → held (forget w) b ≡ held w b
+all_held_forget fresh w b s = filter_agree (is_held (forget w) b.target) (is_held w b.target) (λ n. held_forget fresh w b.target n s) b.covered
+
+starved_forget : (fresh room : ℕ) (w : World) (numbers : List ℕ) → IsSound fresh w → holds_starved (forget w) room numbers ≡ holds_starved w room numbers
+starved_forget fresh room w [] s = refl
+starved_forget fresh room w (n ∷ ns) s =
+    ap₂ (λ p q. p || q)
+    (over_forget (is_starved w room) (λ c e. ap (λ b. b && (nat_lt room 2 || (nat_lt room 4 && (attached w c.pool.0 == 0)))) (over_not_pending c.status e)) 1 fresh n w.callbacks s.numbers)
+    (starved_forget fresh room w ns s)
+
+pub end_forget : (fresh room : ℕ) (w : World) (who : Who) → IsSound fresh w → end_plan (forget w) room who ≡ end_plan w room who
+unfolding end_plan
+end_forget fresh room w who s = ap (unless_refused (first_refusal (end_refusals w who))) (ends (wait_of w who))
+  where
+    ends_with : (numbers : List ℕ) → end_held (forget w) room who numbers ≡ end_held w room who numbers
+    ends_with [] = refl
+    ends_with (n ∷ ns) =
+        ap (λ b. cond b (plan.Does answer.Exhausted (change.EndWait who how.Exhausted)) (plan.Looked (look.NotYet n))) (starved_forget fresh room w (n ∷ ns) s)
+
+    ends : (b : Option BegunWait) → end_wait (forget w) room who b ≡ end_wait w room who b
+    ends None = refl
+    ends (Some b) = ap (end_held (forget w) room who) (all_held_forget fresh w b s) ∙ ends_with (held w b)
+
+-- the first of those that a wait still waits for is the number of a callback
+held_ranged : (w : World) (b : BegunWait) (number : ℕ) (numbers : List ℕ) → IsRanged w → held w b ≡ number ∷ numbers → number < 2 ^ 64
+held_ranged w b number numbers g e = first (is_held w b.target) (λ k found. of_row (callback_of w k) k refl found) b.covered number numbers e
+  where
+    of_row : (o : Option CallbackRow) (k : ℕ) → callback_of w k ≡ o → option_map_or (is_outstanding_for b.target) o false ≡ true → k < 2 ^ 64
+    of_row None k f h = absurd (false_true h)
+    of_row (Some x) k f h =
+        let same : x.number ≡ k = eqb-true x.number k (find_passes (has_number k) x w.callbacks f) in
+        subst (λ j. j < 2 ^ 64) same (find_all IsCallbackInRange (has_number k) x w.callbacks g.rows.callbacks f).number
+
+    first : (p : ℕ → Bool) → ((k : ℕ) → p k ≡ true → k < 2 ^ 64) → (xs : List ℕ) (j : ℕ) (js : List ℕ) → filter p xs ≡ j ∷ js → j < 2 ^ 64
+    first p within [] j js h = absurd cc
+    first p within (x ∷ xs) j js h =
+        elim (p x) as (λ t. p x ≡ t → cond t (x ∷ filter p xs) (filter p xs) ≡ j ∷ js → j < 2 ^ 64) [
+          | true ↦ λ passes q. let same : x ≡ j = cc in subst (λ i. i < 2 ^ 64) same (within x passes)
+          | false ↦ λ _ q. first p within xs j js q
+        ] refl h
+
+pub end_ranged : (room : ℕ) (w : World) (who : Who) → IsRanged w → IsPlanInRange (end_plan w room who)
+unfolding end_plan
+end_ranged room w who g = ranged_unless (end_refusals w who) _ _ (ends (wait_of w who))
+  where
+    ends_with : (b : BegunWait) (numbers : List ℕ) → held w b ≡ numbers → IsPlanInRange (end_held w room who numbers)
+    ends_with b [] is = (tt, tt)
+    ends_with b (n ∷ ns) is =
+        elim (holds_starved w room (n ∷ ns)) as (λ t. IsPlanInRange (cond t (plan.Does answer.Exhausted (change.EndWait who how.Exhausted)) (plan.Looked (look.NotYet n)))) [ true ↦ (tt, tt) | false ↦ held_ranged w b n ns g is ]
+
+    ends : (b : Option BegunWait) → IsPlanInRange (end_wait w room who b)
+    ends None = tt
+    ends (Some b) = ends_with b (held w b) refl

@@ -1,0 +1,84 @@
+-- The facts of calls that make callbacks at once.
+use Rattle.std.proofs.Common.{◌≡◌, ℕ, ◌-◌, ◌<◌, false, not, ◌||◌, length, Option, Some, None, is_some, refl, ap, arith, ◌^◌}
+use Rattle.tp_base.specs.declared.ids.Who.{Who}
+use Rattle.tp_base.specs.declared.ids.ObjectId.{ObjectId}
+use Rattle.tp_base.specs.declared.ids.RoutineId.{RoutineId}
+use Rattle.tp_base.specs.declared.calls.Environ.{Environ}
+use Rattle.tp_base.specs.declared.calls.Call.TheVariants.{SubmitSimple, SubmitWork}
+use Rattle.tp_base.specs.declared.answers.Answer.TheVariants as answer
+use Rattle.tp_base.specs.declared.plans.Change.TheVariants as change
+use Rattle.tp_base.specs.declared.plans.Plan.TheVariants as plan
+use Rattle.tp_base.specs.declared.rows.ObjectRow.{ObjectRow}
+use Rattle.tp_base.specs.Ranges.{IsCallInRange}
+use Rattle.tp_model.specs.World.{World}
+use Rattle.tp_model.specs.Counts.{numbered}
+use Rattle.tp_model.specs.Conditions.{is_actor, is_pool, is_no_group_or_group, lacks_slots_for}
+use Rattle.tp_model.specs.Refusing.{first_refusal, unless_refused}
+use Rattle.tp_model.specs.Calls.Work.{submit_work_refusals, submit, submit_work_plan, submit_simple_refusals, submit_simple_plan, simple_callback}
+use Rattle.tp_model.specs.Support.Sound.{IsSound}
+use Rattle.tp_model.specs.Support.Safe.{IsSafe}
+use Rattle.tp_model.specs.Support.Remembered.{forget}
+use Rattle.tp_model.specs.Support.Ranged.{IsObjectInRange, IsRanged, IsPlanInRange, IsWide}
+use Rattle.tp_model.proofs.Lists.{all_get}
+use Rattle.tp_model.proofs.Refusals.{neither, not_false, made, numbered_some}
+use Rattle.tp_model.proofs.Forgetting.{live_again}
+use Rattle.tp_model.proofs.Planning.{safe_unless}
+use Rattle.tp_model.proofs.Ranging.{ranged_unless}
+
+-- ---- SubmitWork
+
+pub submit_work_safe : (fresh : ℕ) (w : World) (who : Who) (object : ObjectId) → IsSound fresh w → IsSafe fresh w who (SubmitWork object) (submit_work_plan w fresh who object)
+unfolding submit_work_plan
+submit_work_safe fresh w who object s =
+    safe_unless fresh w who (SubmitWork object) (submit_work_refusals w who object.0) _ (λ none. submits (numbered w.objects object.0) refl none.1.1.1.1.1.0)
+  where
+    submits : (row : Option ObjectRow) → numbered w.objects object.0 ≡ row → lacks_slots_for w 1 ≡ false → IsSafe fresh w who (SubmitWork object) (submit fresh object row)
+    submits None is fits = tt
+    submits (Some row) is fits =
+        let at = numbered_some w.objects object.0 row is in
+        let home = all_get (λ (o : ObjectRow). o.env.pool.0 < length w.pools) w.objects _ row s.object_pools at.0 in
+        let there : object.0 - 1 < length w.objects = made w.objects (object.0 - 1) (ap is_some at.0) in
+        record { allowed = record { number = refl; pending = refl; object = omega (arith, there, at.1); home = home; room = fits }; made_by = tt; accepted = refl; tells = refl }
+
+pub submit_work_forget : (fresh : ℕ) (w : World) (who : Who) (object : ObjectId) → submit_work_plan (forget w) fresh who object ≡ submit_work_plan w fresh who object
+unfolding submit_work_plan
+submit_work_forget fresh w who object = ap (λ r. unless_refused r (submit fresh object (numbered w.objects object.0))) refused
+  where
+    refused : first_refusal (submit_work_refusals (forget w) who object.0) ≡ first_refusal (submit_work_refusals w who object.0)
+    refused = rw (live_again w.callbacks)
+
+pub submit_work_ranged : (fresh : ℕ) (w : World) (who : Who) (object : ObjectId) → fresh < 2 ^ 64 → IsRanged w → IsCallInRange (SubmitWork object) → IsPlanInRange (submit_work_plan w fresh who object)
+unfolding submit_work_plan
+submit_work_ranged fresh w who object few g c =
+    ranged_unless (submit_work_refusals w who object.0) _ _ (submits (numbered w.objects object.0) refl)
+  where
+    submits : (row : Option ObjectRow) → numbered w.objects object.0 ≡ row → IsPlanInRange (submit fresh object row)
+    submits None is = tt
+    submits (Some row) is =
+        let o = all_get IsObjectInRange w.objects _ row g.rows.objects (numbered_some w.objects object.0 row is).0 in
+        ((few, omega arith), record { number = few; object = c; routine = o.routine; context = o.context; result = tt })
+
+-- ---- SubmitSimple
+
+pub submit_simple_safe : (fresh : ℕ) (w : World) (who : Who) (routine : RoutineId) (context : ℕ) (env : Environ) → IsSafe fresh w who (SubmitSimple routine context env) (submit_simple_plan w fresh who routine context env)
+unfolding submit_simple_plan
+submit_simple_safe fresh w who routine context env =
+    safe_unless fresh w who (SubmitSimple routine context env) (submit_simple_refusals w who env) _
+    (λ none.
+    let there = neither (not (is_actor w who) || not (is_pool w env.pool.0)) (not (is_no_group_or_group w env.group.0)) none.0 in
+    let home = made w.pools env.pool.0 (not_false (is_pool w env.pool.0) (neither (not (is_actor w who)) (not (is_pool w env.pool.0)) there.0).1) in
+    record { allowed = record { number = refl; pending = refl; object = omega arith; home = home; room = none.1.1.1.1.1.1.0 }; made_by = tt; accepted = refl; tells = refl })
+
+pub submit_simple_forget : (fresh : ℕ) (w : World) (who : Who) (routine : RoutineId) (context : ℕ) (env : Environ) → submit_simple_plan (forget w) fresh who routine context env ≡ submit_simple_plan w fresh who routine context env
+unfolding submit_simple_plan
+submit_simple_forget fresh w who routine context env =
+    ap (λ r. unless_refused r (plan.Does (answer.Queued fresh 1) (change.QueueCallback (simple_callback fresh routine context env)))) refused
+  where
+    refused : first_refusal (submit_simple_refusals (forget w) who env) ≡ first_refusal (submit_simple_refusals w who env)
+    refused = rw (live_again w.callbacks)
+
+pub submit_simple_ranged : (fresh : ℕ) (w : World) (who : Who) (routine : RoutineId) (context : ℕ) (env : Environ) → fresh < 2 ^ 64 → IsCallInRange (SubmitSimple routine context env) → IsWide (SubmitSimple routine context env) → IsPlanInRange (submit_simple_plan w fresh who routine context env)
+unfolding submit_simple_plan
+submit_simple_ranged fresh w who routine context env few c wide =
+    ranged_unless (submit_simple_refusals w who env) _ _
+    ((few, omega arith), record { number = few; object = omega arith; routine = c.0; context = wide; result = tt })
