@@ -66,9 +66,6 @@ queue_forget w pool =
 pub next_forget : (w : World) (pool : ℕ) → next (forget w) pool ≡ next w pool
 next_forget w pool = ap (λ q. slice_get q 0) (queue_forget w pool)
 
-slots_forget : (w : World) → slots (forget w) ≡ slots w
-slots_forget w = ap (λ cs. length cs + length w.armings) (live_again w.callbacks)
-
 pub owed_forget : (w : World) → owed (forget w) ≡ owed w
 owed_forget w =
     let same : filter (λ (c : CallbackRow). is_running c.status) (filter lives w.callbacks) ≡ filter (λ (c : CallbackRow). is_running c.status) w.callbacks
