@@ -9,7 +9,7 @@ use std::alloc::{AllocError, Global};
 use std::process::Abort;
 use std::test::Fail;
 
-fn call_patterns() -> [&'static str; 13] {
+fn call_patterns() -> [&'static str; 19] {
     [
         "c&|w~ create-pool",
         "c&|w~ close-pool #",
@@ -17,12 +17,18 @@ fn call_patterns() -> [&'static str; 13] {
         "c&|w~ set-minimum # $",
         "c&|w~ create work r+ x@ p# high|normal|low short|long g+ q#",
         "c&|w~ create work r+ x@ p# high|normal|low short|long g0 q0",
+        "c&|w~ close work #",
+        "c&|w~ submit-simple r+ x@ p# high|normal|low short|long g+ q#",
+        "c&|w~ submit-simple r+ x@ p# high|normal|low short|long g0 q0",
         "c&|w~ submit #",
+        "c&|w~ wait work # keep|cancel",
+        "c&|w~ end",
         "c&|w~ attach",
         "c&|w~ detach",
         "c&|w~ take",
         "c&|w~ return",
         "c&|w~ may-run-long",
+        "c&|w~ disassociate",
         "c&|w~ finish",
     ]
 }
