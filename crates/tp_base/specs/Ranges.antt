@@ -2,7 +2,7 @@
 use Rattle.std.specs.Prelude.{◌≡◌, ℕ, ◌<◌, ◌≤◌, ◌^◌}
 use Rattle.tp_base.specs.declared.limits.Limits.{Limits}
 use Rattle.tp_base.specs.declared.calls.Call.{Call}
-use Rattle.tp_base.specs.declared.calls.Call.TheVariants.{ClosePool, SetMaximum, SetMinimum, Create, CloseObject, SubmitSimple, SubmitWork, BeginWait}
+use Rattle.tp_base.specs.declared.calls.Call.TheVariants.{ClosePool, SetMaximum, SetMinimum, Create, CloseObject, SubmitSimple, SubmitWork, SetTimer, SetTimerEx, IsTimerSet, Advance, BeginWait}
 use Rattle.tp_base.specs.declared.calls.Environ.{Environ}
 use Rattle.tp_base.specs.declared.answers.Answer.{Answer}
 use Rattle.tp_base.specs.declared.answers.Answer.TheVariants as answer
@@ -14,6 +14,7 @@ use Rattle.tp_base.specs.declared.answers.Refusal.{Refusal}
 use Rattle.tp_base.specs.declared.answers.Refusal.TheVariants as refusal
 use Rattle.tp_base.specs.declared.answers.TakeResult.{TakeResult}
 use Rattle.tp_base.specs.declared.answers.TakeResult.TheVariants.{Io}
+use Rattle.tp_base.specs.Timers.{clock_end}
 
 -- a machine has at least a worker, the default pool and a slot, and at most 65,535 of anything
 pub record AreLimitsInRange (limits : Limits) : Type 0 where
@@ -45,6 +46,10 @@ IsCallInRange (Create kind routine context env) = IsRoutineInRange routine.0 × 
 IsCallInRange (CloseObject kind object) = object.0 ≤ 65535
 IsCallInRange (SubmitSimple routine context env) = IsRoutineInRange routine.0 × IsEnvironInRange env
 IsCallInRange (SubmitWork object) = object.0 ≤ 65535
+IsCallInRange (SetTimer object due period window) = object.0 ≤ 65535
+IsCallInRange (SetTimerEx object due period window) = object.0 ≤ 65535
+IsCallInRange (IsTimerSet object) = object.0 ≤ 65535
+IsCallInRange (Advance ticks) = ticks ≤ clock_end
 IsCallInRange (BeginWait kind object cancel) = object.0 ≤ 65535
 IsCallInRange (ClosePool pool) = pool.0 ≤ 65535
 IsCallInRange (SetMaximum pool value) = pool.0 ≤ 65535
@@ -73,7 +78,7 @@ IsAnswerInRange (answer.Started callback) = callback < 2 ^ 64
 IsAnswerInRange (answer.Operation callback) = callback < 2 ^ 64
 IsAnswerInRange (answer.Cancelled callback) = callback < 2 ^ 64
 IsAnswerInRange (answer.Count previous first count) = (previous ≤ 2147483647) × (first < 2 ^ 64) × (count ≤ 65535)
-IsAnswerInRange (answer.Advanced now first count) = (now ≤ 9223372036854775807) × (first < 2 ^ 64) × (count ≤ 65535)
+IsAnswerInRange (answer.Advanced now first count) = (now ≤ clock_end) × (first < 2 ^ 64) × (count ≤ 65535)
 IsAnswerInRange (answer.Attached pool) = pool.0 ≤ 65535
 IsAnswerInRange (answer.Taken callback object routine context result) =
     (callback < 2 ^ 64) × (object.0 ≤ 65535) × IsRoutineInRange routine.0 × (context < 2 ^ 64) × IsResultInRange result

@@ -5,6 +5,9 @@ ghost use Rattle.tp_base.specs.Ranges.{IsCallInRange, IsEnvironInRange, IsRoutin
 
 use crate::ids::{GroupId, ObjectId, PoolId, RoutineId};
 
+/// The last moment of the clock, which counts units of 100 ns from 0.
+pub const CLOCK_END: u64 = 9_223_372_036_854_775_807;
+
 /// The kind of a thread pool object.
 #[derive(Clone, Copy, Debug, PartialEq)]
 pub enum Kind {
@@ -76,6 +79,31 @@ pub enum Call {
     SubmitWork {
         object: ObjectId,
     },
+    /// Sets a timer, or with no due time unsets it: `SetThreadpoolTimer`. A due time is in units of
+    /// 100 ns: above 0 a moment of the clock, below 0 a span from now, and 0 is at once.
+    SetTimer {
+        object: ObjectId,
+        due: Option<i64>,
+        /// Milliseconds from one expiration to the next, or 0 for a timer that expires once.
+        period: u32,
+        /// Milliseconds by which an expiration may come later. It has no effect yet.
+        window: u32,
+    },
+    /// The same, and says whether a setting was ended: `SetThreadpoolTimerEx`.
+    SetTimerEx {
+        object: ObjectId,
+        due: Option<i64>,
+        period: u32,
+        window: u32,
+    },
+    /// Asks whether a timer is set: `IsThreadpoolTimerSet`.
+    IsTimerSet {
+        object: ObjectId,
+    },
+    /// Time passes, in units of 100 ns.
+    Advance {
+        ticks: u64,
+    },
     /// Begins a wait for the callbacks of an object, those that are pending cancelled or not:
     /// `WaitForThreadpoolWorkCallbacks` and its like for the other kinds.
     BeginWait {
@@ -134,7 +162,11 @@ impl Call {
             }
             Call::SubmitWork { object }
             | Call::CloseObject { object, .. }
+            | Call::SetTimer { object, .. }
+            | Call::SetTimerEx { object, .. }
+            | Call::IsTimerSet { object }
             | Call::BeginWait { object, .. } => object.0 <= 65_535,
+            Call::Advance { ticks } => *ticks <= CLOCK_END,
             Call::ClosePool { pool } => pool.0 <= 65_535,
             Call::SetMaximum { pool, .. } => pool.0 <= 65_535,
             Call::SetMinimum { pool, .. } => pool.0 <= 65_535,

@@ -47,9 +47,25 @@ pub enum WaitEnd {
     Exhausted,
 }
 
+/// What makes callbacks pending by time.
+#[derive(Clone, Copy)]
+pub enum Trigger {
+    /// A timer is set, or with no due time unset. One that is due at once makes a callback.
+    SetTimer {
+        object: ObjectId,
+        due: Option<i64>,
+        period: u32,
+        window: u32,
+    },
+    /// The clock comes to this moment. Each timer that is due then makes a callback.
+    Advance { now: u64 },
+}
+
 /// How a world changes by an accepted call.
 #[derive(Clone, Copy)]
 pub enum Change {
+    /// Nothing changes.
+    Keep,
     /// A further pool.
     CreatePool,
     ChangePool {
@@ -63,6 +79,12 @@ pub enum Change {
     },
     /// A further callback, which waits for a worker.
     QueueCallback(CallbackRow),
+    /// What a trigger does, and the callbacks that it makes: so many, numbered from `first` on.
+    Fire {
+        trigger: Trigger,
+        first: u64,
+        count: u32,
+    },
     /// A worker joins a pool.
     Attach {
         worker: u32,

@@ -102,8 +102,11 @@ pub struct KernelRow {
 #[derive(Clone, Copy)]
 pub struct TimerSetting {
     pub object: ObjectId,
+    /// When it expires next, in units of 100 ns since the clock began.
     pub due: u64,
+    /// In milliseconds; 0 for one that expires once.
     pub period: u32,
+    /// In milliseconds.
     pub window: u32,
 }
 
