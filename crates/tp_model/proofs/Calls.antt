@@ -1,8 +1,8 @@
 -- The facts of every call. Each stands with the others of its call, by what the call acts on, as the plans do.
-use Rattle.std.proofs.Common.{◌≡◌, ℕ, ◌<◌, ◌^◌}
+use Rattle.std.proofs.Common.{◌≡◌, ℕ, ◌+◌, ◌≤◌, ◌^◌, arith}
 use Rattle.tp_base.specs.declared.ids.Who.{Who}
 use Rattle.tp_base.specs.declared.calls.Call.{Call}
-use Rattle.tp_base.specs.declared.calls.Call.TheVariants.{CreatePool, ClosePool, SetMaximum, SetMinimum, Create, CloseObject, SubmitSimple, SubmitWork, BeginWait, End, Attach, Detach, Take, Return, MayRunLong, Disassociate, Finish}
+use Rattle.tp_base.specs.declared.calls.Call.TheVariants.{CreatePool, ClosePool, SetMaximum, SetMinimum, Create, CloseObject, SubmitSimple, SubmitWork, SetTimer, SetTimerEx, IsTimerSet, Advance, BeginWait, End, Attach, Detach, Take, Return, MayRunLong, Disassociate, Finish}
 use Rattle.tp_base.specs.Ranges.{IsCallInRange}
 use Rattle.tp_model.specs.World.{World}
 use Rattle.tp_model.specs.Table.{plan_at}
@@ -15,6 +15,7 @@ pub mod Objects
 pub mod Work
 pub mod Workers
 pub mod InCallback
+pub mod Timers
 pub mod Waits
 pub mod Clients
 use Pools.{create_pool_safe, create_pool_forget, create_pool_ranged, close_pool_safe, close_pool_forget, close_pool_ranged, set_maximum_safe, set_maximum_forget, set_maximum_ranged, set_minimum_safe, set_minimum_forget, set_minimum_ranged}
@@ -22,6 +23,7 @@ use Objects.{create_safe, create_forget, create_ranged, close_object_safe, close
 use Work.{submit_work_safe, submit_work_forget, submit_work_ranged, submit_simple_safe, submit_simple_forget, submit_simple_ranged}
 use Workers.{attach_safe, attach_forget, attach_ranged, detach_safe, detach_forget, detach_ranged, take_safe, take_forget, take_ranged, return_safe, return_forget, return_ranged}
 use InCallback.{may_run_long_safe, may_run_long_forget, may_run_long_ranged, disassociate_safe, disassociate_forget, disassociate_ranged}
+use Timers.{set_timer_safe, set_timer_forget, set_timer_ranged, set_timer_ex_safe, set_timer_ex_forget, set_timer_ex_ranged, is_timer_set_safe, is_timer_set_forget, is_timer_set_ranged, advance_safe, advance_forget, advance_ranged}
 use Waits.{begin_wait_safe, begin_wait_forget, begin_wait_ranged, end_safe, end_forget, end_ranged}
 use Clients.{finish_safe, finish_forget, finish_ranged}
 
@@ -35,6 +37,10 @@ plan_safe fresh room w who (Create kind routine context env) s = create_safe fre
 plan_safe fresh room w who (CloseObject kind object) s = close_object_safe fresh w who kind object
 plan_safe fresh room w who (SubmitSimple routine context env) s = submit_simple_safe fresh w who routine context env
 plan_safe fresh room w who (SubmitWork object) s = submit_work_safe fresh w who object s
+plan_safe fresh room w who (SetTimer object due period window) s = set_timer_safe fresh w who object due period window
+plan_safe fresh room w who (SetTimerEx object due period window) s = set_timer_ex_safe fresh w who object due period window
+plan_safe fresh room w who (IsTimerSet object) s = is_timer_set_safe fresh w who object
+plan_safe fresh room w who (Advance ticks) s = advance_safe fresh w who ticks
 plan_safe fresh room w who (BeginWait kind object cancel) s = begin_wait_safe fresh w who kind object cancel
 plan_safe fresh room w who End s = end_safe fresh room w who s
 plan_safe fresh room w who Attach s = attach_safe fresh w who
@@ -55,6 +61,10 @@ plan_forget fresh room w who (Create kind routine context env) s = create_forget
 plan_forget fresh room w who (CloseObject kind object) s = close_object_forget w who kind object
 plan_forget fresh room w who (SubmitSimple routine context env) s = submit_simple_forget fresh w who routine context env
 plan_forget fresh room w who (SubmitWork object) s = submit_work_forget fresh w who object
+plan_forget fresh room w who (SetTimer object due period window) s = set_timer_forget fresh w who object due period window
+plan_forget fresh room w who (SetTimerEx object due period window) s = set_timer_ex_forget fresh w who object due period window
+plan_forget fresh room w who (IsTimerSet object) s = is_timer_set_forget fresh w who object
+plan_forget fresh room w who (Advance ticks) s = advance_forget fresh w who ticks
 plan_forget fresh room w who (BeginWait kind object cancel) s = begin_wait_forget fresh w who kind object cancel s
 plan_forget fresh room w who End s = end_forget fresh room w who s
 plan_forget fresh room w who Attach s = attach_forget w who
@@ -66,7 +76,7 @@ plan_forget fresh room w who Disassociate s = disassociate_forget fresh w who s
 plan_forget fresh room w who Finish s = finish_forget w who
 
 -- the numbers of the plan are in range
-module _ (fresh : ℕ) (w : World) (few : fresh < 2 ^ 64) (s : IsSound fresh w) (g : IsRanged w) where
+module _ (fresh : ℕ) (w : World) (few : fresh + 65536 ≤ 2 ^ 64) (s : IsSound fresh w) (g : IsRanged w) where
   pub plan_ranged : (room : ℕ) (who : Who) (call : Call) → IsCallInRange call → IsWide call → IsPlanInRange (plan_at w fresh room who call)
   plan_ranged room who CreatePool c wide = create_pool_ranged w who g
   plan_ranged room who (ClosePool pool) c wide = close_pool_ranged w who pool
@@ -74,8 +84,12 @@ module _ (fresh : ℕ) (w : World) (few : fresh < 2 ^ 64) (s : IsSound fresh w) 
   plan_ranged room who (SetMinimum pool value) c wide = set_minimum_ranged w who pool value
   plan_ranged room who (Create kind routine context env) c wide = create_ranged w who kind routine context env g c wide
   plan_ranged room who (CloseObject kind object) c wide = close_object_ranged w who kind object
-  plan_ranged room who (SubmitSimple routine context env) c wide = submit_simple_ranged fresh w who routine context env few c wide
-  plan_ranged room who (SubmitWork object) c wide = submit_work_ranged fresh w who object few g c
+  plan_ranged room who (SubmitSimple routine context env) c wide = submit_simple_ranged fresh w who routine context env (omega (arith, few)) c wide
+  plan_ranged room who (SubmitWork object) c wide = submit_work_ranged fresh w who object (omega (arith, few)) g c
+  plan_ranged room who (SetTimer object due period window) c wide = set_timer_ranged fresh w who object due period window few g c
+  plan_ranged room who (SetTimerEx object due period window) c wide = set_timer_ex_ranged fresh w who object due period window few g c
+  plan_ranged room who (IsTimerSet object) c wide = is_timer_set_ranged fresh w who object
+  plan_ranged room who (Advance ticks) c wide = advance_ranged fresh w who ticks few g
   plan_ranged room who (BeginWait kind object cancel) c wide = begin_wait_ranged w who kind object cancel g
   plan_ranged room who End c wide = end_ranged room w who g
   plan_ranged room who Attach c wide = attach_ranged w who g

@@ -20,11 +20,14 @@ use Rattle.std.specs.List.{AllByRecursion, list_any}
 use Rattle.std.proofs.lemmas.List.Sums.{sum_by-cons}
 use Rattle.tp_model.specs.Conditions.{is_same_actor, is_in_wait}
 use Rattle.tp_model.specs.Waits.{is_cancelled_by, cancel_where, wait_of}
+use Rattle.tp_base.specs.declared.ids.ObjectId.{ObjectId}
+use Rattle.tp_model.specs.Sources.{firing, sources_of}
 use Rattle.tp_model.specs.World.{World, BegunWait, unattached, unfinished}
 use Rattle.tp_model.specs.Counts.{numbered, has_number, is_pending, is_running, owed}
 use Rattle.tp_model.specs.Changes.{with_new_callback, with_callback, with_worker, with_client, change_pool, taken, marked, returned, changed, loosened, release_object, new_wait, without_wait}
 use Rattle.tp_model.specs.Support.Sound.{IsSound, AreApart}
 use Rattle.tp_model.specs.Support.Allowed.{IsAllowed, price}
+use Rattle.tp_model.proofs.Firing.{running_appended}
 use Rattle.tp_model.proofs.Lists.{length_filter_set}
 use Rattle.tp_model.proofs.Callbacks.{length_filter_replaced, pending_not_running}
 use Rattle.tp_model.proofs.Cancelling.{cancelled_pending, count_uncancelled}
@@ -120,7 +123,7 @@ owed_marked : (fresh : ℕ) (w : World) (mark : Mark) (c : CallbackRow) → IsSo
 owed_marked fresh w Long c s found = owed_same fresh w (marked Long c) c s found refl
 owed_marked fresh w Loose c s found = owed_same fresh w (marked Loose c) c s found (loosened_runs c.status)
 
-owed_release : (w : World) (object : ℕ) (row : Option ObjectRow) → owed (release_object w object row) ≡ owed w
+owed_release : (w : World) (object : ObjectId) (row : Option ObjectRow) → owed (release_object w object row) ≡ owed w
 owed_release w object None = refl
 owed_release w object (Some row) = refl
 
@@ -170,11 +173,14 @@ owed_change_pool w pool how (Some row) = refl
 
 -- a change costs its entry, and what is owed more than before
 pub paid : (fresh : ℕ) (w : World) (ch : Change) → IsSound fresh w → IsAllowed fresh w ch → 1 + owed (changed w ch) ≡ owed w + price ch
+paid fresh w change.Keep s a = omega arith
 paid fresh w change.CreatePool s a = omega arith
 paid fresh w (change.ChangePool pool how) s a = omega (arith, owed_change_pool w pool.0 how (slice_get w.pools pool.0))
 paid fresh w (change.CreateObject row) s a = omega arith
-paid fresh w (change.ReleaseObject object) s a = omega (arith, owed_release w object.0 (numbered w.objects object.0))
+paid fresh w (change.ReleaseObject object) s a = omega (arith, owed_release w object (numbered w.objects object.0))
 paid fresh w (change.QueueCallback c) s a = omega (arith, owed_new_callback w c (pending_not_running c.status a.pending))
+paid fresh w (change.Fire trigger first count) s a =
+    omega (arith, ap length (running_appended w.callbacks w.objects first (firing trigger (sources_of w)).jobs))
 paid fresh w (change.Attach worker pool) s a = omega (arith, owed_attached w worker unattached pool a.stands refl)
 paid fresh w (change.Detach by) s a =
     let changed : owed (with_worker w by.worker unattached) + one_if (has_pool (record { pool = Some by.pool; callback = None })) ≡ owed w + one_if (has_pool unattached)

@@ -21,6 +21,8 @@ use Rattle.tp_base.specs.declared.rows.PoolRow.{PoolRow}
 use Rattle.tp_base.specs.declared.rows.ObjectRow.{ObjectRow}
 use Rattle.tp_base.specs.declared.rows.CallbackRow.{CallbackRow}
 use Rattle.tp_base.specs.declared.rows.WorkerRow.{WorkerRow}
+use Rattle.tp_base.specs.declared.ids.ObjectId.{ObjectId}
+use Rattle.tp_model.specs.Sources.{Firing, firing, sources_of, rows_of}
 use Rattle.tp_model.specs.World.{World}
 use Rattle.tp_model.specs.Counts.{numbered, has_number, is_live, is_running, is_pending_in, is_running_in, is_running_long_in, is_high, is_normal, is_low, waiting, queue, next, pending, running, running_long, slots, owed, is_in_need, is_below_minimum}
 use Rattle.tp_model.specs.Conditions.{busy_row, busy_in, busy_of}
@@ -98,6 +100,8 @@ forget_sound fresh w s =
       object_pools = s.object_pools;
       apart = s.apart;
       unnoticed = s.unnoticed;
+      timers = s.timers;
+      clock = s.clock;
       callback_pools = all_filter (λ (c : CallbackRow). c.pool.0 < length w.pools) lives w.callbacks s.callback_pools;
     }
 
@@ -197,7 +201,7 @@ change_pool_forget : (w : World) (pool : ℕ) (how : PoolChange) (row : Option P
 change_pool_forget w pool how None = live_forgotten w
 change_pool_forget w pool how (Some row) = live_forgotten (with_pool w pool (pool_after how row))
 
-release_forget : (w : World) (object : ℕ) (row : Option ObjectRow) → forget (release_object (forget w) object row) ≡ forget (release_object w object row)
+release_forget : (w : World) (object : ObjectId) (row : Option ObjectRow) → forget (release_object (forget w) object row) ≡ forget (release_object w object row)
 release_forget w object None = live_forgotten w
 release_forget w object (Some row) = live_forgotten (release_object w object (Some row))
 
@@ -210,14 +214,22 @@ marked_forget : (fresh : ℕ) (w : World) (mark : Mark) (c : CallbackRow) → Is
 marked_forget fresh w Long c s found living = replaced_forget fresh w (marked Long c) c s refl found living
 marked_forget fresh w Loose c s found living = replaced_forget fresh w (marked Loose c) c s refl found living
 
+-- callbacks appended
+appended_forget : (w : World) (cs : List CallbackRow) → forget (record w { callbacks = filter lives w.callbacks ++ cs }) ≡ forget (record w { callbacks = w.callbacks ++ cs })
+appended_forget w cs =
+    as_live w (filter lives w.callbacks ++ cs) (w.callbacks ++ cs)
+    (filter-append lives (filter lives w.callbacks) cs ∙ ap (λ t. t ++ filter lives cs) (live_again w.callbacks) ∙ sym (filter-append lives w.callbacks cs))
+
 pub changed_forget : (fresh : ℕ) (w : World) (ch : Change) → IsSound fresh w → IsAllowed fresh w ch → forget (changed (forget w) ch) ≡ forget (changed w ch)
+changed_forget fresh w change.Keep s a = live_forgotten w
 changed_forget fresh w change.CreatePool s a = live_forgotten (with_new_pool w)
 changed_forget fresh w (change.ChangePool pool how) s a = change_pool_forget w pool.0 how (slice_get w.pools pool.0)
 changed_forget fresh w (change.CreateObject row) s a = live_forgotten (with_object w row)
-changed_forget fresh w (change.ReleaseObject object) s a = release_forget w object.0 (numbered w.objects object.0)
-changed_forget fresh w (change.QueueCallback c) s a =
-    as_live w (filter lives w.callbacks ++ c ∷ []) (w.callbacks ++ c ∷ [])
-    (filter-append lives (filter lives w.callbacks) (c ∷ []) ∙ ap (λ t. t ++ filter lives (c ∷ [])) (live_again w.callbacks) ∙ sym (filter-append lives w.callbacks (c ∷ [])))
+changed_forget fresh w (change.ReleaseObject object) s a = release_forget w object (numbered w.objects object.0)
+changed_forget fresh w (change.QueueCallback c) s a = appended_forget w (c ∷ [])
+changed_forget fresh w (change.Fire trigger first count) s a =
+    let f : Firing = firing trigger (sources_of w) in
+    appended_forget (record w { settings = f.sources.settings; now = f.sources.now }) (rows_of w.objects first f.jobs)
 changed_forget fresh w (change.Attach worker pool) s a = live_forgotten (changed w (change.Attach worker pool))
 changed_forget fresh w (change.Detach by) s a = live_forgotten (changed w (change.Detach by))
 changed_forget fresh w (change.Take by c) s a =

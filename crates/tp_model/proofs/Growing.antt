@@ -1,15 +1,18 @@
 -- No change loses a callback, and each makes as many as it says.
-use Rattle.std.proofs.Common.{◌≡◌, ℕ, ◌+◌, [], ◌∷◌, length, slice_get, Option, Some, None, arith, length-append}
+use Rattle.std.proofs.Common.{◌≡◌, ℕ, ◌+◌, List, [], ◌∷◌, length, slice_get, Option, Some, None, arith, length-append}
 use Rattle.tp_base.specs.declared.plans.Change.{Change}
 use Rattle.tp_base.specs.declared.plans.Change.TheVariants as change
 use Rattle.tp_base.specs.declared.plans.PoolChange.{PoolChange}
 use Rattle.tp_base.specs.declared.rows.PoolRow.{PoolRow}
 use Rattle.tp_base.specs.declared.rows.ObjectRow.{ObjectRow}
+use Rattle.tp_base.specs.declared.ids.ObjectId.{ObjectId}
 use Rattle.tp_model.specs.World.{World}
+use Rattle.tp_model.specs.Sources.{Job, firing, sources_of, rows_of}
 use Rattle.tp_model.specs.Changes.{change_pool, taken, marked, returned, changed, release_object}
 use Rattle.tp_model.specs.Counts.{numbered}
 use Rattle.tp_model.specs.Waits.{is_cancelled_by}
 use Rattle.tp_model.specs.Support.Allowed.{IsAllowed, news}
+use Rattle.tp_model.proofs.Firing.{length_rows}
 use Rattle.tp_model.proofs.Cancelling.{length_cancelled}
 use Rattle.tp_model.proofs.Callbacks.{length_replaced}
 
@@ -17,16 +20,20 @@ same_callbacks : (w : World) (pool : ℕ) (how : PoolChange) (row : Option PoolR
 same_callbacks w pool how None = omega arith
 same_callbacks w pool how (Some row) = omega arith
 
-released : (w : World) (object : ℕ) (row : Option ObjectRow) → length (release_object w object row).callbacks ≡ length w.callbacks + 0
+released : (w : World) (object : ObjectId) (row : Option ObjectRow) → length (release_object w object row).callbacks ≡ length w.callbacks + 0
 released w object None = omega arith
 released w object (Some row) = omega arith
 
 pub grows : (fresh : ℕ) (w : World) (ch : Change) → IsAllowed fresh w ch → length (changed w ch).callbacks ≡ length w.callbacks + news ch
+grows fresh w change.Keep a = omega arith
 grows fresh w change.CreatePool a = omega arith
 grows fresh w (change.ChangePool pool how) a = same_callbacks w pool.0 how (slice_get w.pools pool.0)
 grows fresh w (change.CreateObject row) a = omega arith
-grows fresh w (change.ReleaseObject object) a = released w object.0 (numbered w.objects object.0)
+grows fresh w (change.ReleaseObject object) a = released w object (numbered w.objects object.0)
 grows fresh w (change.QueueCallback c) a = length-append w.callbacks (c ∷ [])
+grows fresh w (change.Fire trigger first count) a =
+    let jobs : List Job = (firing trigger (sources_of w)).jobs in
+    omega (arith, length-append w.callbacks (rows_of w.objects first jobs), length_rows w.objects first jobs, a.counted)
 grows fresh w (change.Attach worker pool) a = omega arith
 grows fresh w (change.Detach by) a = omega arith
 grows fresh w (change.Take by c) a = omega (arith, length_replaced (taken c by.worker) w.callbacks)

@@ -6,6 +6,7 @@ pub mod Costs
 pub mod Entries
 mod Examples
 pub mod Fates
+pub mod Firing
 pub mod First
 pub mod Forgetting
 pub mod Growing

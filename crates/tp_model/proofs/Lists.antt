@@ -63,6 +63,10 @@ pub all_append : {X : Type 0} (P : X → Type 0) (xs : List X) (x : X) → AllBy
 all_append P [] x all here = (here, tt)
 all_append P (y ∷ xs) x all here = (all.0, all_append P xs x all.1 here)
 
+pub all_appended : {X : Type 0} (P : X → Type 0) (xs ys : List X) → AllByRecursion P xs → AllByRecursion P ys → AllByRecursion P (xs ++ ys)
+all_appended P [] ys all more = more
+all_appended P (x ∷ xs) ys all more = (all.0, all_appended P xs ys all.1 more)
+
 pub all_map : {X : Type 0} (P : X → Type 0) (f : X → X) → ((x : X) → P x → P (f x)) → (xs : List X) → AllByRecursion P xs → AllByRecursion P (map f xs)
 all_map P f h [] all = tt
 all_map P f h (x ∷ xs) all = (h x all.0, all_map P f h xs all.1)

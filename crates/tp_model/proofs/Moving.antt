@@ -22,6 +22,9 @@ use Rattle.tp_base.specs.declared.rows.WaitTarget.TheVariants.{Object, Group, Ke
 use Rattle.tp_base.specs.declared.rows.PoolRow.{PoolRow}
 use Rattle.tp_base.specs.declared.rows.Status.{Status}
 use Rattle.tp_base.specs.declared.rows.Status.TheVariants.{Pending}
+use Rattle.std.specs.List.{range_with_len}
+use Rattle.tp_base.specs.declared.ids.ObjectId.{ObjectId}
+use Rattle.tp_model.specs.Sources.{Job, firing, sources_of, rows_of}
 use Rattle.tp_model.specs.World.{World, new_pool, unattached, BegunWait}
 use Rattle.tp_model.specs.Counts.{is_pending, numbered, has_number}
 use Rattle.tp_model.specs.Changes.{change_pool, pool_after, with_pool, marked, changed, replaced, loosened, release_object, new_wait, without_wait}
@@ -31,7 +34,8 @@ use Rattle.tp_model.specs.Support.Sound.{IsSound}
 use Rattle.tp_model.specs.Support.Allowed.{IsAllowed, IsMadeBy, Runs, MayEnd, IsObjectTarget}
 use Rattle.tp_model.specs.Laws.Entries.{made_by, queued_by, begins_by, is_ending}
 use Rattle.tp_model.specs.Support.Told.{Told, deed_by, nothing, silent, maxima_by, told, told_by, is_free}
-use Rattle.tp_model.specs.Support.Moves.{Move, Stay, Mark as Marking, Attach, Detach, Take, Return, Moves, Leads, maximum_at, is_new, numbers_of, Loosen, Cancel, WaitsMove, Keep, Begin, End}
+use Rattle.tp_model.specs.Support.Moves.{Move, Stay, Mark as Marking, Attach, Detach, Take, Return, Moves, Leads, AreNew, maximum_at, is_new, numbers_of, Loosen, Cancel, WaitsMove, Keep, Begin, End}
+use Rattle.tp_model.proofs.Firing.{numbers_rows, waiting_rows, new_rows}
 use Rattle.tp_model.proofs.Cancelling.{cancelled_pending, cancelled_found_out, among_numbers}
 use Rattle.tp_model.proofs.Refusals.{false_true}
 
@@ -84,15 +88,17 @@ maxima_put w pool Close (Some row) is home other = maximum_put w.pools pool othe
 maxima_put w pool (Maximum value) (Some row) is home other = maximum_put w.pools pool other w.limits.workers row (pool_after (Maximum value) row) (λ m. max value 1) is refl
 maxima_put w pool (Minimum value) (Some row) is home other = maximum_put w.pools pool other w.limits.workers row (pool_after (Minimum value) row) (λ m. max m value) is refl
 
-released_maxima : (w : World) (object : ℕ) (row : Option ObjectRow) (pool : ℕ) → maximum_at (release_object w object row) pool ≡ maximum_at w pool
+released_maxima : (w : World) (object : ObjectId) (row : Option ObjectRow) (pool : ℕ) → maximum_at (release_object w object row) pool ≡ maximum_at w pool
 released_maxima w object None pool = refl
 released_maxima w object (Some row) pool = refl
 
 maxima_changed : (fresh : ℕ) (w : World) (ch : Change) → IsAllowed fresh w ch → (pool : ℕ) → maximum_at (changed w ch) pool ≡ (told fresh w ch).maxima pool (maximum_at w pool)
+maxima_changed fresh w change.Keep a pool = refl
+maxima_changed fresh w (change.Fire trigger first count) a pool = refl
 maxima_changed fresh w change.CreatePool a pool = maximum_appended w.limits w.pools pool
 maxima_changed fresh w (change.ChangePool pool how) a other = maxima_put w pool.0 how (slice_get w.pools pool.0) refl a other
 maxima_changed fresh w (change.CreateObject row) a pool = refl
-maxima_changed fresh w (change.ReleaseObject object) a pool = released_maxima w object.0 (numbered w.objects object.0) pool
+maxima_changed fresh w (change.ReleaseObject object) a pool = released_maxima w object (numbered w.objects object.0) pool
 maxima_changed fresh w (change.QueueCallback c) a pool = refl
 maxima_changed fresh w (change.Attach worker at) a pool = refl
 maxima_changed fresh w (change.Detach by) a pool = refl
@@ -140,16 +146,17 @@ module _ (fresh : ℕ) (w : World) (entry : Entry) where
         workers = refl;
       }))
 
-  release_moves : (object : ℕ) (row : Option ObjectRow) → told_by entry ≡ silent → Moves fresh w entry (release_object w object row)
+  release_moves : (object : ObjectId) (row : Option ObjectRow) → told_by entry ≡ silent → Moves fresh w entry (release_object w object row)
   release_moves object None tells = still w tells refl refl
   release_moves object (Some row) tells = still (release_object w object (Some row)) tells refl refl
 
   pub change_moves : (ch : Change) → IsAllowed fresh w ch → IsMadeBy entry.who ch → told_by entry ≡ told fresh w ch → Moves fresh w entry (changed w ch)
+  change_moves change.Keep a by tells = still w tells refl refl
   change_moves change.CreatePool a by tells = still (changed w change.CreatePool) tells refl refl
   change_moves (change.ChangePool pool how) a by tells =
       pool_moves pool.0 how (slice_get w.pools pool.0) (ap (λ (t : Told). t.made) tells) (ap (λ (t : Told). t.queued) tells) (ap (λ (t : Told). t.deed) tells)
   change_moves (change.CreateObject row) a by tells = still (changed w (change.CreateObject row)) tells refl refl
-  change_moves (change.ReleaseObject object) a by tells = release_moves object.0 (numbered w.objects object.0) tells
+  change_moves (change.ReleaseObject object) a by tells = release_moves object (numbered w.objects object.0) tells
   change_moves (change.QueueCallback c) a by tells =
       let is_new_one : is_new c.status ≡ true = pending_new c.status a.pending in
       record {
@@ -165,6 +172,18 @@ module _ (fresh : ℕ) (w : World) (entry : Entry) where
       pending_new : (s : Status) → is_pending s ≡ true → is_new s ≡ true
       pending_new Pending e = refl
       pending_new _ e = absurd (false_true e)
+  change_moves (change.Fire trigger first count) a by tells =
+      let jobs : List Job = (firing trigger (sources_of w)).jobs in
+      let told_range : range_with_len first count ≡ range_with_len first (length jobs) = ap (range_with_len first) a.counted in
+      record {
+        kept = w.callbacks;
+        new = rows_of w.objects first jobs;
+        move = Stay (record { tells = ap (λ (t : Told). t.deed) tells; callbacks = refl; workers = refl });
+        rows = subst (λ n. AreNew n (rows_of w.objects first jobs)) a.number (new_rows w.objects first jobs);
+        made = ap (λ (t : Told). t.made) tells ∙ told_range ∙ sym (numbers_rows w.objects first jobs);
+        queued = ap (λ (t : Told). t.queued) tells ∙ told_range ∙ sym (waiting_rows w.objects first jobs);
+        callbacks = refl;
+      }
   change_moves (change.Attach worker pool) a by tells =
       unmade (changed w (change.Attach worker pool)) (ap (λ (t : Told). t.made) tells) (ap (λ (t : Told). t.queued) tells)
       (Attach (record { worker = worker; pool = pool; actor = record { row = unattached; by = by; stands = a.stands; free = refl }; tells = ap (λ (t : Told). t.deed) tells; callbacks = refl; workers = refl }))
@@ -223,7 +242,7 @@ module _ (fresh : ℕ) (w : World) (entry : Entry) where
       of_row (Some row) = refl
   limits_same (change.ReleaseObject object) = of_row (numbered w.objects object.0)
     where
-      of_row : (row : Option ObjectRow) → (release_object w object.0 row).limits ≡ w.limits
+      of_row : (row : Option ObjectRow) → (release_object w object row).limits ≡ w.limits
       of_row None = refl
       of_row (Some row) = refl
   limits_same _ = refl
@@ -288,11 +307,13 @@ module _ (fresh : ℕ) (w : World) (entry : Entry) where
       of_row (Some row) none unending = Keep (record { begins = none; ends = unending; waits = refl })
   change_waits (change.ReleaseObject object) s a by tells = of_row (numbered w.objects object.0) (ap (λ (t : Told). t.begun) tells) (ap (λ (t : Told). t.ending) tells)
     where
-      of_row : (row : Option ObjectRow) → begins_by entry ≡ None → is_ending entry ≡ false → WaitsMove w entry (release_object w object.0 row)
+      of_row : (row : Option ObjectRow) → begins_by entry ≡ None → is_ending entry ≡ false → WaitsMove w entry (release_object w object row)
       of_row None none unending = Keep (record { begins = none; ends = unending; waits = refl })
       of_row (Some row) none unending = Keep (record { begins = none; ends = unending; waits = refl })
   change_waits (change.Mark at Long) s a by tells = waits_same (change.Mark at Long) refl refl tells refl
   change_waits (change.Mark at Loose) s a by tells = waits_same (change.Mark at Loose) refl refl tells refl
+  change_waits change.Keep s a by tells = waits_same change.Keep refl refl tells refl
+  change_waits (change.Fire trigger first count) s a by tells = waits_same (change.Fire trigger first count) refl refl tells refl
   change_waits change.CreatePool s a by tells = waits_same change.CreatePool refl refl tells refl
   change_waits (change.CreateObject row) s a by tells = waits_same (change.CreateObject row) refl refl tells refl
   change_waits (change.QueueCallback c) s a by tells = waits_same (change.QueueCallback c) refl refl tells refl

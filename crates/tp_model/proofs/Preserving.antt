@@ -1,5 +1,5 @@
 -- Each change keeps what is true of all worlds that can be reached.
-use Rattle.std.proofs.Common.{◌≡◌, ◌≢◌, ℕ, suc, zero, ◌+◌, ◌-◌, ◌<◌, ◌≤◌, Bool, true, false, cond, not, ◌||◌, List, [], ◌∷◌, ◌++◌, length, slice_get, slice_set, replicate, Option, Some, None, refl, sym, ap, ap₂, ◌∙◌, subst, arith, filter, find, eqb-true, ne_eqb, length-append, length-set}
+use Rattle.std.proofs.Common.{◌≡◌, ◌≢◌, ℕ, suc, zero, ◌+◌, ◌-◌, ◌<◌, ◌≤◌, Bool, true, false, cond, not, ◌||◌, ◌==◌, List, [], ◌∷◌, ◌++◌, length, slice_get, slice_set, replicate, Option, Some, None, refl, sym, ap, ap₂, ◌∙◌, subst, arith, filter, find, eqb-true, ne_eqb, length-append, length-set}
 use Rattle.std.specs.List.{AllByRecursion, list_any}
 use Rattle.std.proofs.lemmas.List.Folds.{list_any-append}
 use Rattle.tp_base.specs.declared.ids.PoolId.{PoolId}
@@ -20,6 +20,14 @@ use Rattle.tp_base.specs.declared.ids.Who.{Who}
 use Rattle.tp_base.specs.declared.rows.WaitTarget.{WaitTarget}
 use Rattle.tp_model.specs.Waits.{is_cancelled_by, cancelled, cancel_where}
 use Rattle.tp_model.specs.Conditions.{is_same_actor, is_in_wait}
+use Rattle.tp_base.specs.declared.ids.ObjectId.{ObjectId}
+use Rattle.tp_base.specs.declared.plans.Trigger.{Trigger}
+use Rattle.tp_base.specs.declared.rows.TimerSetting.{TimerSetting}
+use Rattle.tp_base.specs.Timers.{without_setting}
+use Rattle.std.proofs.lemmas.List.{append_assoc, append-nil}
+use Rattle.tp_model.specs.Sources.{Job, Firing, firing, sources_of, rows_of, new_callback, object_row, fired, count_fired}
+use Rattle.tp_model.specs.Support.Allowed.{IsReady}
+use Rattle.tp_model.proofs.Firing.{IsMade, AreOf, AreJobsMade, IsTriggerMade, row_of_made, ready_made, fired_settings, fired_jobs, fired_clock}
 use Rattle.tp_model.specs.World.{World, BegunWait, opening, unattached, new_pool}
 use Rattle.tp_model.specs.Counts.{numbered, has_number, is_pending, is_running}
 use Rattle.tp_model.specs.Changes.{with_new_pool, with_pool, with_object, with_new_callback, with_callback, with_worker, with_client, replaced, change_pool, pool_after, taken, loosened, marked, returned, no_actions, finished, release_object, new_wait, begin_wait, without_wait, changed}
@@ -95,7 +103,11 @@ worker_at cs first (suc place) (w ∷ ws) row s e =
 
 pub sound_object : (fresh : ℕ) (w : World) (o : ObjectRow) → o.env.pool.0 < length w.pools → IsSound fresh w → IsSound fresh (with_object w o)
 sound_object fresh w o home s =
-    record { numbers = s.numbers; workers = s.workers; object_pools = all_append (λ (x : ObjectRow). x.env.pool.0 < length w.pools) w.objects o s.object_pools home; callback_pools = s.callback_pools; apart = s.apart; unnoticed = s.unnoticed }
+    record { numbers = s.numbers; workers = s.workers; object_pools = all_append (λ (x : ObjectRow). x.env.pool.0 < length w.pools) w.objects o s.object_pools home; callback_pools = s.callback_pools; apart = s.apart; unnoticed = s.unnoticed; timers = more_objects w.settings s.timers; clock = s.clock }
+  where
+    more_objects : (settings : List TimerSetting) → AreOf (IsMade (length w.objects)) settings → AreOf (IsMade (length (w.objects ++ o ∷ []))) settings
+    more_objects [] all = tt
+    more_objects (t ∷ ts) all = ((all.0.0, omega (arith, all.0.1, length-append w.objects (o ∷ []))), more_objects ts all.1)
 
 pub sound_new_callback : (fresh : ℕ) (w : World) (c : CallbackRow) → c.number ≡ fresh → c.pool.0 < length w.pools → IsSound fresh w → IsSound (fresh + 1) (with_new_callback w c)
 sound_new_callback fresh w c number home s =
@@ -104,16 +116,16 @@ sound_new_callback fresh w c number home s =
       workers = workers_appended c w.callbacks 1 w.workers s.workers;
       object_pools = s.object_pools;
       apart = s.apart;
-      unnoticed = s.unnoticed;
+      unnoticed = s.unnoticed; timers = s.timers; clock = s.clock;
       callback_pools = all_append (λ (x : CallbackRow). x.pool.0 < length w.pools) w.callbacks c s.callback_pools home;
     }
 
 pub sound_free_worker : (fresh : ℕ) (w : World) (worker : ℕ) (row : WorkerRow) → row.callback ≡ None → IsSound fresh w → IsSound fresh (with_worker w worker row)
 sound_free_worker fresh w worker row free s =
-    record { numbers = s.numbers; workers = workers_freed w.callbacks row 1 (worker - 1) w.workers free s.workers; object_pools = s.object_pools; callback_pools = s.callback_pools; apart = s.apart; unnoticed = s.unnoticed }
+    record { numbers = s.numbers; workers = workers_freed w.callbacks row 1 (worker - 1) w.workers free s.workers; object_pools = s.object_pools; callback_pools = s.callback_pools; apart = s.apart; unnoticed = s.unnoticed; timers = s.timers; clock = s.clock }
 
 pub sound_client : (fresh : ℕ) (w : World) (client : ℕ) (row : _) → IsSound fresh w → IsSound fresh (with_client w client row)
-sound_client fresh w client row s = record { numbers = s.numbers; workers = s.workers; object_pools = s.object_pools; callback_pools = s.callback_pools; apart = s.apart; unnoticed = s.unnoticed }
+sound_client fresh w client row s = record { numbers = s.numbers; workers = s.workers; object_pools = s.object_pools; callback_pools = s.callback_pools; apart = s.apart; unnoticed = s.unnoticed; timers = s.timers; clock = s.clock }
 
 -- a further pool, and another row of a pool
 pub sound_new_pool : (fresh : ℕ) (w : World) → IsSound fresh w → IsSound fresh (with_new_pool w)
@@ -124,7 +136,7 @@ sound_new_pool fresh w s =
       workers = s.workers;
       object_pools = all_below (λ (o : ObjectRow). o.env.pool.0) (length w.pools) (length (w.pools ++ new_pool w.limits ∷ [])) more w.objects s.object_pools;
       apart = s.apart;
-      unnoticed = s.unnoticed;
+      unnoticed = s.unnoticed; timers = s.timers; clock = s.clock;
       callback_pools = all_below (λ (c : CallbackRow). c.pool.0) (length w.pools) (length (w.pools ++ new_pool w.limits ∷ [])) more w.callbacks s.callback_pools;
     }
 
@@ -136,7 +148,7 @@ sound_pool fresh w number row s =
       workers = s.workers;
       object_pools = subst (λ n. AllByRecursion (λ (o : ObjectRow). o.env.pool.0 < n) w.objects) as_many s.object_pools;
       apart = s.apart;
-      unnoticed = s.unnoticed;
+      unnoticed = s.unnoticed; timers = s.timers; clock = s.clock;
       callback_pools = subst (λ n. AllByRecursion (λ (c : CallbackRow). c.pool.0 < n) w.callbacks) as_many s.callback_pools;
     }
 
@@ -160,7 +172,7 @@ sound_taken fresh w worker pool c from_one found waits home s =
           s.workers;
       object_pools = s.object_pools;
       apart = s.apart;
-      unnoticed = s.unnoticed;
+      unnoticed = s.unnoticed; timers = s.timers; clock = s.clock;
       callback_pools = pools_replaced (length w.pools) r w.callbacks (find_all (λ (x : CallbackRow). x.pool.0 < length w.pools) (has_number c.number) c w.callbacks s.callback_pools found) s.callback_pools;
     }
   where
@@ -185,7 +197,7 @@ sound_returned fresh w worker row pool c from_one free runs found s =
           (subst (λ x. IsWorkerSound (replaced r w.callbacks) (1 + (worker - 1)) row.pool x) (sym free) tt) s.workers;
       object_pools = s.object_pools;
       apart = s.apart;
-      unnoticed = s.unnoticed;
+      unnoticed = s.unnoticed; timers = s.timers; clock = s.clock;
       callback_pools = pools_replaced (length w.pools) r w.callbacks (find_all (λ (x : CallbackRow). x.pool.0 < length w.pools) (has_number c.number) c w.callbacks s.callback_pools found) s.callback_pools;
     }
   where
@@ -238,7 +250,7 @@ sound_same fresh w r c number pool status found s =
       workers = workers_same r c w.callbacks 1 w.workers there status pool s.workers;
       object_pools = s.object_pools;
       apart = s.apart;
-      unnoticed = s.unnoticed;
+      unnoticed = s.unnoticed; timers = s.timers; clock = s.clock;
       callback_pools = pools_replaced (length w.pools) r w.callbacks home s.callback_pools;
     }
 
@@ -253,16 +265,18 @@ sound_marked fresh w Long c found s = sound_same fresh w (marked Long c) c refl 
 sound_marked fresh w Loose c found s = sound_same fresh w (marked Loose c) c refl refl (λ worker associated slots e. (false, slots, ap loosened e)) found s
 
 -- an object is released
-sound_release : (fresh : ℕ) (w : World) (object : ℕ) (row : Option ObjectRow) → numbered w.objects object ≡ row → IsSound fresh w → IsSound fresh (release_object w object row)
+sound_release : (fresh : ℕ) (w : World) (object : ObjectId) (row : Option ObjectRow) → numbered w.objects object.0 ≡ row → IsSound fresh w → IsSound fresh (release_object w object row)
 sound_release fresh w object None is s = s
 sound_release fresh w object (Some row) is s =
     record {
       numbers = s.numbers;
       workers = s.workers;
-      object_pools = all_set (λ (o : ObjectRow). o.env.pool.0 < length w.pools) w.objects (object - 1) (record row { released = true })
-          (all_get (λ (o : ObjectRow). o.env.pool.0 < length w.pools) w.objects (object - 1) row s.object_pools (numbered_some w.objects object row is).0) s.object_pools;
+      object_pools = all_set (λ (o : ObjectRow). o.env.pool.0 < length w.pools) w.objects (object.0 - 1) (record row { released = true })
+          (all_get (λ (o : ObjectRow). o.env.pool.0 < length w.pools) w.objects (object.0 - 1) row s.object_pools (numbered_some w.objects object.0 row is).0) s.object_pools;
       apart = s.apart;
-      unnoticed = s.unnoticed;
+      unnoticed = s.unnoticed; timers = subst (λ n. AreOf (IsMade n) (without_setting object w.settings)) (sym (length-set w.objects (object.0 - 1) (record row { released = true })))
+          (all_filter (λ (x : TimerSetting). IsMade (length w.objects) x.object.0) (λ (x : TimerSetting). not (x.object.0 == object.0)) w.settings s.timers);
+      clock = s.clock;
       callback_pools = s.callback_pools;
     }
 
@@ -304,6 +318,8 @@ sound_begin_wait fresh w who target cancel none s =
       object_pools = s.object_pools;
       apart = apart_more w.waits (new_wait who target cancel (cancel_where test w.callbacks)) none s.apart;
       unnoticed = all_append (λ (b : BegunWait). b.notices ≡ []) w.waits (new_wait who target cancel (cancel_where test w.callbacks)) s.unnoticed refl;
+      timers = s.timers;
+      clock = s.clock;
       callback_pools = all_map (λ (c : CallbackRow). c.pool.0 < length w.pools) (λ c. cond (test c) (cancelled c) c)
           (λ c h. elim (test c) as (λ b. (cond b (cancelled c) c).pool.0 < length w.pools) [ true ↦ h | false ↦ h ]) w.callbacks s.callback_pools;
     }
@@ -326,8 +342,40 @@ sound_end_wait fresh w who s =
       object_pools = s.object_pools;
       apart = apart_filter keeps w.waits s.apart;
       unnoticed = all_filter (λ (b : BegunWait). b.notices ≡ []) keeps w.waits s.unnoticed;
+      timers = s.timers;
+      clock = s.clock;
       callback_pools = s.callback_pools;
     }
+
+-- what a trigger comes to
+
+-- callbacks are appended one after another
+sound_rows : (fresh : ℕ) (w : World) (jobs : List Job) → AreJobsMade (length w.objects) jobs → IsSound fresh w → IsSound (fresh + length jobs) (record w { callbacks = w.callbacks ++ rows_of w.objects fresh jobs })
+sound_rows fresh w [] made s =
+    subst (λ (cs : List CallbackRow). IsSound (fresh + 0) (record w { callbacks = cs })) (sym (append-nil w.callbacks)) (subst (λ n. IsSound n w) (omega arith) s)
+sound_rows fresh w (j ∷ js) made s =
+    let c : CallbackRow = new_callback fresh j.object (object_row w.objects j.object) j.result in
+    let home : c.pool.0 < length w.pools = row_of_made (λ (o : ObjectRow). o.env.pool.0 < length w.pools) w.objects j.object s.object_pools made.0 in
+    let more : IsSound (fresh + 1 + length js) (record w { callbacks = (w.callbacks ++ c ∷ []) ++ rows_of w.objects (fresh + 1) js })
+    = sound_rows (fresh + 1) (with_new_callback w c) js made.1 (sound_new_callback fresh w c refl home s) in
+    subst (λ (cs : List CallbackRow). IsSound (fresh + length (j ∷ js)) (record w { callbacks = cs })) (append_assoc w.callbacks (c ∷ []) (rows_of w.objects (fresh + 1) js))
+    (subst (λ n. IsSound n (record w { callbacks = (w.callbacks ++ c ∷ []) ++ rows_of w.objects (fresh + 1) js })) (omega arith) more)
+
+sound_fired : (fresh : ℕ) (w : World) (trigger : Trigger) → IsReady w trigger → IsSound fresh w → IsSound (fresh + length (firing trigger (sources_of w)).jobs) (fired w fresh (firing trigger (sources_of w)))
+sound_fired fresh w trigger ready s =
+    let f : Firing = firing trigger (sources_of w) in
+    let here : IsTriggerMade (length w.objects) trigger = ready_made w trigger ready in
+    sound_rows fresh (record w { settings = f.sources.settings; now = f.sources.now }) f.jobs (fired_jobs (length w.objects) trigger (sources_of w) here s.timers)
+    (record {
+      numbers = s.numbers;
+      workers = s.workers;
+      object_pools = s.object_pools;
+      apart = s.apart;
+      unnoticed = s.unnoticed;
+      callback_pools = s.callback_pools;
+      timers = fired_settings (length w.objects) trigger (sources_of w) here s.timers;
+      clock = fired_clock w trigger ready s.clock;
+    })
 
 -- ---- each change
 
@@ -339,11 +387,17 @@ sound_change_pool fresh w pool how None s = s
 sound_change_pool fresh w pool how (Some row) s = sound_pool fresh w pool (pool_after how row) s
 
 pub changed_sound : (fresh : ℕ) (w : World) (ch : Change) → IsSound fresh w → IsAllowed fresh w ch → IsSound (fresh + news ch) (changed w ch)
+changed_sound fresh w change.Keep s a = none_made fresh w s
 changed_sound fresh w change.CreatePool s a = none_made fresh (with_new_pool w) (sound_new_pool fresh w s)
 changed_sound fresh w (change.ChangePool pool how) s a = none_made fresh (changed w (change.ChangePool pool how)) (sound_change_pool fresh w pool.0 how (slice_get w.pools pool.0) s)
 changed_sound fresh w (change.CreateObject row) s a = none_made fresh (with_object w row) (sound_object fresh w row a.home s)
-changed_sound fresh w (change.ReleaseObject object) s a = none_made fresh (changed w (change.ReleaseObject object)) (sound_release fresh w object.0 (numbered w.objects object.0) refl s)
+changed_sound fresh w (change.ReleaseObject object) s a = none_made fresh (changed w (change.ReleaseObject object)) (sound_release fresh w object (numbered w.objects object.0) refl s)
 changed_sound fresh w (change.QueueCallback c) s a = sound_new_callback fresh w c a.number a.home s
+changed_sound fresh w (change.Fire trigger first count) s a =
+    fired_sound first count a.number (a.counted) (sound_fired fresh w trigger a.ready s)
+  where
+    fired_sound : (first count : ℕ) → first ≡ fresh → count ≡ count_fired w trigger → IsSound (fresh + count_fired w trigger) (fired w fresh (firing trigger (sources_of w))) → IsSound (fresh + count) (fired w first (firing trigger (sources_of w)))
+    fired_sound first count number counted h = subst (λ n. IsSound (fresh + n) (fired w first (firing trigger (sources_of w)))) (sym counted) (subst (λ n. IsSound (fresh + count_fired w trigger) (fired w n (firing trigger (sources_of w)))) (sym number) h)
 changed_sound fresh w (change.Attach worker pool) s a = none_made fresh (changed w (change.Attach worker pool)) (sound_free_worker fresh w worker (record { pool = Some pool; callback = None }) refl s)
 changed_sound fresh w (change.Detach by) s a = none_made fresh (changed w (change.Detach by)) (sound_free_worker fresh w by.worker unattached refl s)
 changed_sound fresh w (change.Take by c) s a =
@@ -364,4 +418,4 @@ idle_workers cs first zero = tt
 idle_workers cs first (suc count) = (tt, idle_workers cs (first + 1) count)
 
 pub opening_sound : (limits : Limits) → IsSound 1 (opening limits)
-opening_sound limits = record { numbers = omega arith; workers = idle_workers [] 1 limits.workers; object_pools = tt; callback_pools = tt; apart = tt; unnoticed = tt }
+opening_sound limits = record { numbers = omega arith; workers = idle_workers [] 1 limits.workers; object_pools = tt; callback_pools = tt; apart = tt; unnoticed = tt; timers = tt; clock = omega arith }

@@ -1,5 +1,5 @@
 -- From what it follows that the numbers of a plan are in range; and each change keeps those of the rows.
-use Rattle.std.proofs.Common.{◌≡◌, ℕ, ◌-◌, ◌<◌, ◌≤◌, ◌^◌, Bool, true, false, cond, List, [], ◌∷◌, slice_get, Option, Some, None, refl, sym, subst, find}
+use Rattle.std.proofs.Common.{◌≡◌, ℕ, ◌+◌, ◌-◌, ◌<◌, ◌≤◌, ◌^◌, Bool, true, false, cond, not, ◌==◌, List, [], ◌∷◌, length, map, arith, slice_get, Option, Some, None, refl, sym, subst, find}
 use Rattle.std.specs.List.{AllByRecursion}
 use Rattle.tp_base.specs.Ranges.{IsRoutineInRange, IsRefusalInRange, IsResultInRange}
 use Rattle.tp_base.specs.declared.ids.Who.{Who}
@@ -17,15 +17,22 @@ use Rattle.tp_base.specs.declared.rows.PoolRow.{PoolRow}
 use Rattle.tp_base.specs.declared.rows.ObjectRow.{ObjectRow}
 use Rattle.tp_base.specs.declared.rows.CallbackRow.{CallbackRow}
 use Rattle.tp_model.specs.Waits.{cancel_where, is_cancelled_by, cancelled}
+use Rattle.tp_base.specs.declared.plans.Trigger.{Trigger}
+use Rattle.tp_base.specs.declared.plans.Trigger.TheVariants.{SetTimer, Advance}
+use Rattle.tp_base.specs.declared.rows.TimerSetting.{TimerSetting}
+use Rattle.tp_base.specs.Timers.{is_due, expired, expires_at_once}
+use Rattle.tp_model.specs.Sources.{Sources, Job, firing, sources_of, rows_of, object_row, plain_job}
+use Rattle.tp_model.specs.Support.Sound.{IsSound}
+use Rattle.tp_model.proofs.Firing.{AreJobsMade, AreOf, row_of_made, fired_jobs, ready_made, of_set, of_expiry}
 use Rattle.tp_model.specs.World.{World}
 use Rattle.tp_model.specs.Counts.{numbered, has_number}
 use Rattle.tp_model.specs.Conditions.{busy_of}
 use Rattle.tp_model.specs.Changes.{change_pool, replaced, taken, marked, returned, changed, release_object}
 use Rattle.tp_model.specs.Refusing.{first_refusal, unless_refused}
 use Rattle.tp_model.specs.Support.Allowed.{IsAllowed}
-use Rattle.tp_model.specs.Support.Ranged.{IsObjectInRange, IsCallbackInRange, AreRowsInRange, IsChangeInRange, IsPlanInRange}
+use Rattle.tp_model.specs.Support.Ranged.{IsObjectInRange, IsCallbackInRange, AreRowsInRange, IsTriggerInRange, IsChangeInRange, IsPlanInRange}
 use Rattle.tp_model.specs.Support.Remembered.{lives, forget}
-use Rattle.tp_model.proofs.Lists.{all_append, all_filter, all_get, all_map, find_all, all_set}
+use Rattle.tp_model.proofs.Lists.{all_append, all_appended, all_filter, all_get, all_map, find_all, all_set}
 use Rattle.tp_model.proofs.Refusals.{NoneHolds, none_holds, numbered_some}
 
 -- ---- rows
@@ -49,42 +56,72 @@ same_numbers r c n o t x s h =
 
 pool_rows : (w : World) (pool : ℕ) (how : PoolChange) (row : Option PoolRow) → AreRowsInRange w → AreRowsInRange (change_pool w pool how row)
 pool_rows w pool how None rows = rows
-pool_rows w pool how (Some row) rows = record { objects = rows.objects; callbacks = rows.callbacks }
+pool_rows w pool how (Some row) rows = record { objects = rows.objects; callbacks = rows.callbacks; timers = rows.timers }
 
 mark_rows : (w : World) (mark : Mark) (c : CallbackRow) → find (has_number c.number) w.callbacks ≡ Some c → AreRowsInRange w → AllByRecursion IsCallbackInRange (replaced (marked mark c) w.callbacks)
 mark_rows w Long c found rows = put_row (marked Long c) w.callbacks (same_numbers (marked Long c) c refl refl refl refl refl (found_row c w.callbacks found rows.callbacks)) rows.callbacks
 mark_rows w Loose c found rows = put_row (marked Loose c) w.callbacks (same_numbers (marked Loose c) c refl refl refl refl refl (found_row c w.callbacks found rows.callbacks)) rows.callbacks
 
-release_rows : (w : World) (object : ℕ) (row : Option ObjectRow) → numbered w.objects object ≡ row → AreRowsInRange w → AreRowsInRange (release_object w object row)
+release_rows : (w : World) (object : ObjectId) (row : Option ObjectRow) → numbered w.objects object.0 ≡ row → AreRowsInRange w → AreRowsInRange (release_object w object row)
 release_rows w object None is rows = rows
 release_rows w object (Some row) is rows =
-    let o = all_get IsObjectInRange w.objects (object - 1) row rows.objects (numbered_some w.objects object row is).0 in
-    record { objects = all_set IsObjectInRange w.objects (object - 1) (record row { released = true }) (record { routine = o.routine; context = o.context }) rows.objects; callbacks = rows.callbacks }
+    let o = all_get IsObjectInRange w.objects (object.0 - 1) row rows.objects (numbered_some w.objects object.0 row is).0 in
+    record { objects = all_set IsObjectInRange w.objects (object.0 - 1) (record row { released = true }) (record { routine = o.routine; context = o.context }) rows.objects; callbacks = rows.callbacks; timers = all_filter (λ (x : TimerSetting). x.object.0 ≤ 65535) (λ (x : TimerSetting). not (x.object.0 == object.0)) w.settings rows.timers }
 
 cancel_rows : (test : CallbackRow → Bool) (cs : List CallbackRow) → AllByRecursion IsCallbackInRange cs → AllByRecursion IsCallbackInRange (cancel_where test cs)
 cancel_rows test cs all =
     all_map IsCallbackInRange (λ c. cond (test c) (cancelled c) c)
     (λ c h. elim (test c) as (λ b. IsCallbackInRange (cond b (cancelled c) c)) [ true ↦ record { number = h.number; object = h.object; routine = h.routine; context = h.context; result = h.result } | false ↦ h ]) cs all
 
-pub changed_rows : (fresh : ℕ) (w : World) (ch : Change) → IsAllowed fresh w ch → IsChangeInRange ch → AreRowsInRange w → AreRowsInRange (changed w ch)
-changed_rows fresh w change.CreatePool a r rows = record { objects = rows.objects; callbacks = rows.callbacks }
-changed_rows fresh w (change.ChangePool pool how) a r rows = pool_rows w pool.0 how (slice_get w.pools pool.0) rows
-changed_rows fresh w (change.CreateObject row) a r rows = record { objects = all_append IsObjectInRange w.objects row rows.objects r; callbacks = rows.callbacks }
-changed_rows fresh w (change.ReleaseObject object) a r rows = release_rows w object.0 (numbered w.objects object.0) refl rows
-changed_rows fresh w (change.QueueCallback c) a r rows = record { objects = rows.objects; callbacks = all_append IsCallbackInRange w.callbacks c rows.callbacks r }
-changed_rows fresh w (change.Attach worker pool) a r rows = record { objects = rows.objects; callbacks = rows.callbacks }
-changed_rows fresh w (change.Detach by) a r rows = record { objects = rows.objects; callbacks = rows.callbacks }
-changed_rows fresh w (change.Take by c) a r rows =
-    record { objects = rows.objects; callbacks = put_row (taken c by.worker) w.callbacks (same_numbers (taken c by.worker) c refl refl refl refl refl (found_row c w.callbacks a.found rows.callbacks)) rows.callbacks }
-changed_rows fresh w (change.Mark by mark) a r rows = record { objects = rows.objects; callbacks = mark_rows w mark by.callback a.found rows }
-changed_rows fresh w (change.Return by) a r rows =
-    record { objects = rows.objects; callbacks = put_row (returned by.callback) w.callbacks (same_numbers (returned by.callback) by.callback refl refl refl refl refl (found_row by.callback w.callbacks a.found rows.callbacks)) rows.callbacks }
-changed_rows fresh w (change.BeginWait who target cancel) a r rows = record { objects = rows.objects; callbacks = cancel_rows (is_cancelled_by target cancel) w.callbacks rows.callbacks }
-changed_rows fresh w (change.EndWait who how) a r rows = record { objects = rows.objects; callbacks = rows.callbacks }
-changed_rows fresh w (change.Finish client) a r rows = record { objects = rows.objects; callbacks = rows.callbacks }
+-- the rows of jobs
+job_rows : (objects : List ObjectRow) (fresh : ℕ) (jobs : List Job) → AllByRecursion IsObjectInRange objects → AreJobsMade (length objects) jobs → AllByRecursion (λ (j : Job). (j.object.0 ≤ 65535) × IsResultInRange j.result) jobs → fresh + length jobs ≤ 2 ^ 64
+    → AllByRecursion IsCallbackInRange (rows_of objects fresh jobs)
+job_rows objects fresh [] os made few fits = tt
+job_rows objects fresh (j ∷ js) os made few fits =
+    let o : IsObjectInRange (object_row objects j.object) = row_of_made IsObjectInRange objects j.object os made.0 in
+    (record { number = omega (arith, fits); object = few.0.0; routine = o.routine; context = o.context; result = few.0.1 }, job_rows objects (fresh + 1) js os made.1 few.1 (omega (arith, fits)))
+
+fired_few : (trigger : Trigger) (s : Sources) → IsTriggerInRange trigger → AreOf (λ n. n ≤ 65535) s.settings → AllByRecursion (λ (j : Job). (j.object.0 ≤ 65535) × IsResultInRange j.result) (firing trigger s).jobs
+fired_few (SetTimer object due period window) s here all =
+    elim (expires_at_once s.now due) as (λ b. AllByRecursion (λ (j : Job). (j.object.0 ≤ 65535) × IsResultInRange j.result) (cond b (plain_job object ∷ []) [])) [ true ↦ ((here, tt), tt) | false ↦ tt ]
+fired_few (Advance now) s here all = few (expired now s.settings) (all_filter (λ (t : TimerSetting). t.object.0 ≤ 65535) (is_due now) s.settings all)
+  where
+    few : (settings : List TimerSetting) → AreOf (λ n. n ≤ 65535) settings → AllByRecursion (λ (j : Job). (j.object.0 ≤ 65535) × IsResultInRange j.result) (map (λ (t : TimerSetting). plain_job t.object) settings)
+    few [] each = tt
+    few (t ∷ ts) each = ((each.0, tt), few ts each.1)
+
+timers_few : (trigger : Trigger) (s : Sources) → IsTriggerInRange trigger → AreOf (λ n. n ≤ 65535) s.settings → AreOf (λ n. n ≤ 65535) (firing trigger s).sources.settings
+timers_few (SetTimer object due period window) s here all = of_set (λ n. n ≤ 65535) s.now object due period window s.settings here all
+timers_few (Advance now) s here all = of_expiry (λ n. n ≤ 65535) now s.settings all
+
+pub changed_rows : (fresh : ℕ) (w : World) (ch : Change) → IsSound fresh w → IsAllowed fresh w ch → IsChangeInRange ch → AreRowsInRange w → AreRowsInRange (changed w ch)
+changed_rows fresh w change.Keep s a r rows = rows
+changed_rows fresh w change.CreatePool s a r rows = record { objects = rows.objects; callbacks = rows.callbacks; timers = rows.timers }
+changed_rows fresh w (change.ChangePool pool how) s a r rows = pool_rows w pool.0 how (slice_get w.pools pool.0) rows
+changed_rows fresh w (change.CreateObject row) s a r rows = record { objects = all_append IsObjectInRange w.objects row rows.objects r; callbacks = rows.callbacks; timers = rows.timers }
+changed_rows fresh w (change.ReleaseObject object) s a r rows = release_rows w object (numbered w.objects object.0) refl rows
+changed_rows fresh w (change.QueueCallback c) s a r rows = record { objects = rows.objects; callbacks = all_append IsCallbackInRange w.callbacks c rows.callbacks r; timers = rows.timers }
+changed_rows fresh w (change.Fire trigger first count) s a r rows =
+    let jobs : List Job = (firing trigger (sources_of w)).jobs in
+    record {
+      objects = rows.objects;
+      callbacks = all_appended IsCallbackInRange w.callbacks (rows_of w.objects first jobs) rows.callbacks
+          (job_rows w.objects first jobs rows.objects (fired_jobs (length w.objects) trigger (sources_of w) (ready_made w trigger a.ready) s.timers) (fired_few trigger (sources_of w) r.0 rows.timers) (omega (arith, r.1, a.counted)));
+      timers = timers_few trigger (sources_of w) r.0 rows.timers;
+    }
+changed_rows fresh w (change.Attach worker pool) s a r rows = record { objects = rows.objects; callbacks = rows.callbacks; timers = rows.timers }
+changed_rows fresh w (change.Detach by) s a r rows = record { objects = rows.objects; callbacks = rows.callbacks; timers = rows.timers }
+changed_rows fresh w (change.Take by c) s a r rows =
+    record { objects = rows.objects; callbacks = put_row (taken c by.worker) w.callbacks (same_numbers (taken c by.worker) c refl refl refl refl refl (found_row c w.callbacks a.found rows.callbacks)) rows.callbacks; timers = rows.timers }
+changed_rows fresh w (change.Mark by mark) s a r rows = record { objects = rows.objects; callbacks = mark_rows w mark by.callback a.found rows; timers = rows.timers }
+changed_rows fresh w (change.Return by) s a r rows =
+    record { objects = rows.objects; callbacks = put_row (returned by.callback) w.callbacks (same_numbers (returned by.callback) by.callback refl refl refl refl refl (found_row by.callback w.callbacks a.found rows.callbacks)) rows.callbacks; timers = rows.timers }
+changed_rows fresh w (change.BeginWait who target cancel) s a r rows = record { objects = rows.objects; callbacks = cancel_rows (is_cancelled_by target cancel) w.callbacks rows.callbacks; timers = rows.timers }
+changed_rows fresh w (change.EndWait who how) s a r rows = record { objects = rows.objects; callbacks = rows.callbacks; timers = rows.timers }
+changed_rows fresh w (change.Finish client) s a r rows = record { objects = rows.objects; callbacks = rows.callbacks; timers = rows.timers }
 
 pub forget_rows : (w : World) → AreRowsInRange w → AreRowsInRange (forget w)
-forget_rows w rows = record { objects = rows.objects; callbacks = all_filter IsCallbackInRange lives w.callbacks rows.callbacks }
+forget_rows w rows = record { objects = rows.objects; callbacks = all_filter IsCallbackInRange lives w.callbacks rows.callbacks; timers = rows.timers }
 
 -- ---- plans
 

@@ -5,5 +5,6 @@ pub mod Objects
 pub mod Work
 pub mod Workers
 pub mod InCallback
+pub mod Timers
 pub mod Waits
 pub mod Clients

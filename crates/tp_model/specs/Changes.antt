@@ -17,9 +17,12 @@ use Rattle.tp_base.specs.declared.rows.WorkerRow.{WorkerRow}
 use Rattle.tp_base.specs.declared.rows.ClientRow.{ClientRow}
 use Rattle.tp_base.specs.declared.rows.WaitTarget.{WaitTarget}
 use Rattle.tp_base.specs.declared.ids.Who.{Who}
+use Rattle.tp_base.specs.declared.ids.ObjectId.{ObjectId}
+use Rattle.tp_base.specs.Timers.{without_setting}
 use Rattle.tp_model.specs.World.{World, BegunWait, new_pool, unattached}
 use Rattle.tp_model.specs.Counts.{numbered, has_number}
 use Rattle.tp_model.specs.Conditions.{is_same_actor}
+use Rattle.tp_model.specs.Sources.{sources_of, firing, fired}
 use Rattle.tp_model.specs.Waits.{is_cancelled_by, cancel_where, covered_of}
 
 -- ---- one list of a world
@@ -64,9 +67,13 @@ abbrev pub change_pool : World → ℕ → PoolChange → Option PoolRow → Wor
 change_pool w pool how None = w
 change_pool w pool how (Some row) = with_pool w pool (pool_after how row)
 
-abbrev pub release_object : World → ℕ → Option ObjectRow → World
+-- a timer that is released is unset
+abbrev pub release_object : World → ObjectId → Option ObjectRow → World
 release_object w object None = w
-release_object w object (Some row) = record w { objects = slice_set w.objects (object - 1) (record row { released = true }) }
+release_object w object (Some row) = record w {
+  objects = slice_set w.objects (object.0 - 1) (record row { released = true });
+  settings = without_setting object w.settings;
+}
 
 -- no action on return is asked for
 abbrev pub no_actions : Slots
@@ -104,11 +111,13 @@ without_wait w who = record w { waits = filter (λ (b : BegunWait). not (is_same
 -- ---- each change
 
 abbrev pub changed : World → Change → World
+changed w change.Keep = w
 changed w change.CreatePool = with_new_pool w
 changed w (change.ChangePool pool how) = change_pool w pool.0 how (slice_get w.pools pool.0)
 changed w (change.CreateObject row) = with_object w row
-changed w (change.ReleaseObject object) = release_object w object.0 (numbered w.objects object.0)
+changed w (change.ReleaseObject object) = release_object w object (numbered w.objects object.0)
 changed w (change.QueueCallback callback) = with_new_callback w callback
+changed w (change.Fire trigger first count) = fired w first (firing trigger (sources_of w))
 changed w (change.Attach worker pool) = with_worker w worker (record { pool = Some pool; callback = None })
 changed w (change.Detach by) = with_worker w by.worker unattached
 changed w (change.Take by callback) =

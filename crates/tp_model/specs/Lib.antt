@@ -6,6 +6,7 @@ pub mod History
 pub mod Laws
 pub mod Next
 pub mod Refusing
+pub mod Sources
 pub mod Step
 pub mod Support
 pub mod Table

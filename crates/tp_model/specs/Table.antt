@@ -2,7 +2,7 @@
 use Rattle.std.specs.Prelude.{ℕ, ◌+◌, length}
 use Rattle.tp_base.specs.declared.ids.Who.{Who}
 use Rattle.tp_base.specs.declared.calls.Call.{Call}
-use Rattle.tp_base.specs.declared.calls.Call.TheVariants.{CreatePool, ClosePool, SetMaximum, SetMinimum, Create, CloseObject, SubmitSimple, SubmitWork, BeginWait, End, Attach, Detach, Take, Return, MayRunLong, Disassociate, Finish}
+use Rattle.tp_base.specs.declared.calls.Call.TheVariants.{CreatePool, ClosePool, SetMaximum, SetMinimum, Create, CloseObject, SubmitSimple, SubmitWork, SetTimer, SetTimerEx, IsTimerSet, Advance, BeginWait, End, Attach, Detach, Take, Return, MayRunLong, Disassociate, Finish}
 use Rattle.tp_base.specs.declared.plans.Plan.{Plan}
 use Rattle.tp_model.specs.World.{World}
 use Rattle.tp_model.specs.Step.{Step, stepped, within}
@@ -11,6 +11,7 @@ use Rattle.tp_model.specs.Calls.Objects.{create_plan, close_object_plan}
 use Rattle.tp_model.specs.Calls.Work.{submit_work_plan, submit_simple_plan}
 use Rattle.tp_model.specs.Calls.Workers.{attach_plan, detach_plan, take_plan, return_plan}
 use Rattle.tp_model.specs.Calls.InCallback.{may_run_long_plan, disassociate_plan}
+use Rattle.tp_model.specs.Calls.Timers.{set_timer_plan, set_timer_ex_plan, is_timer_set_plan, advance_plan}
 use Rattle.tp_model.specs.Calls.Waits.{begin_wait_plan, end_plan}
 use Rattle.tp_model.specs.Calls.Clients.{finish_plan}
 
@@ -24,6 +25,10 @@ plan_at w fresh room who (Create kind routine context env) = create_plan w who k
 plan_at w fresh room who (CloseObject kind object) = close_object_plan w who kind object
 plan_at w fresh room who (SubmitSimple routine context env) = submit_simple_plan w fresh who routine context env
 plan_at w fresh room who (SubmitWork object) = submit_work_plan w fresh who object
+plan_at w fresh room who (SetTimer object due period window) = set_timer_plan w fresh who object due period window
+plan_at w fresh room who (SetTimerEx object due period window) = set_timer_ex_plan w fresh who object due period window
+plan_at w fresh room who (IsTimerSet object) = is_timer_set_plan w who object
+plan_at w fresh room who (Advance ticks) = advance_plan w fresh who ticks
 plan_at w fresh room who (BeginWait kind object cancel) = begin_wait_plan w who kind object cancel
 plan_at w fresh room who End = end_plan w room who
 plan_at w fresh room who Attach = attach_plan w who

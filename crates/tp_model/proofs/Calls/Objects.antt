@@ -17,8 +17,9 @@ use Rattle.tp_base.specs.Ranges.{IsCallInRange}
 use Rattle.tp_model.specs.World.{World}
 use Rattle.tp_model.specs.Counts.{numbered}
 use Rattle.tp_model.specs.Conditions.{is_actor, is_pool, is_finished, is_no_group_or_group, is_object, is_released}
-use Rattle.tp_model.specs.Refusing.{first_refusal, unless_refused}
-use Rattle.tp_model.specs.Calls.Objects.{create_refusals, create_plan, close_object_refusals, close_object_plan, new_object}
+use Rattle.tp_model.specs.Refusing.{first_refusal, unless_refused, object_refusals}
+use Rattle.tp_model.specs.Sources.{new_object}
+use Rattle.tp_model.specs.Calls.Objects.{create_refusals, create_plan, close_object_plan}
 use Rattle.tp_model.specs.Support.Allowed.{IsUnreleased}
 use Rattle.tp_model.specs.Support.Safe.{IsSafe}
 use Rattle.tp_model.specs.Support.Remembered.{forget}
@@ -62,7 +63,7 @@ unreleased w object there live = of_row (numbered w.objects object.0) refl there
 pub close_object_safe : (fresh : ℕ) (w : World) (who : Who) (kind : Kind) (object : ObjectId) → IsSafe fresh w who (CloseObject kind object) (close_object_plan w who kind object)
 unfolding close_object_plan
 close_object_safe fresh w who kind object =
-    safe_unless fresh w who (CloseObject kind object) (close_object_refusals w who kind object.0) _
+    safe_unless fresh w who (CloseObject kind object) (object_refusals w who kind object.0) _
     (λ none.
     let there = not_false (is_object w object.0) (neither (not (is_actor w who)) (not (is_object w object.0)) none.0).1 in
     let live = (neither (is_finished w who) (is_released w object.0) none.1.1.0).1 in
@@ -71,8 +72,8 @@ close_object_safe fresh w who kind object =
 pub close_object_forget : (w : World) (who : Who) (kind : Kind) (object : ObjectId) → close_object_plan (forget w) who kind object ≡ close_object_plan w who kind object
 unfolding close_object_plan
 close_object_forget w who kind object =
-    ap (λ n. unless_refused (first_refusal (close_object_refusals w who kind object.0)) (plan.Does (answer.Closed (nat_lt 0 n)) (change.ReleaseObject object))) (outstanding_forget w (Object object))
+    ap (λ n. unless_refused (first_refusal (object_refusals w who kind object.0)) (plan.Does (answer.Closed (nat_lt 0 n)) (change.ReleaseObject object))) (outstanding_forget w (Object object))
 
 pub close_object_ranged : (w : World) (who : Who) (kind : Kind) (object : ObjectId) → IsPlanInRange (close_object_plan w who kind object)
 unfolding close_object_plan
-close_object_ranged w who kind object = ranged_unless (close_object_refusals w who kind object.0) _ _ (tt, tt)
+close_object_ranged w who kind object = ranged_unless (object_refusals w who kind object.0) _ _ (tt, tt)

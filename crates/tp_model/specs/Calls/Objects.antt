@@ -1,22 +1,22 @@
 -- Calls on objects of all kinds: CreateThreadpoolWork and CloseThreadpoolWork, and their like for the other kinds.
-use Rattle.std.specs.Prelude.{ℕ, ◌+◌, Bool, false, not, ◌||◌, nat_le, nat_lt, List, [], ◌∷◌, length}
+use Rattle.std.specs.Prelude.{ℕ, ◌+◌, Bool, not, ◌||◌, nat_le, nat_lt, List, [], ◌∷◌, length}
 use Rattle.tp_base.specs.declared.ids.Who.{Who}
 use Rattle.tp_base.specs.declared.ids.ObjectId.{ObjectId}
 use Rattle.tp_base.specs.declared.ids.RoutineId.{RoutineId}
 use Rattle.tp_base.specs.declared.calls.Kind.{Kind}
 use Rattle.tp_base.specs.declared.calls.Environ.{Environ}
 use Rattle.tp_base.specs.declared.answers.Refusal.{Refusal}
-use Rattle.tp_base.specs.declared.answers.Refusal.TheVariants.{NoSuch, WrongKind, Released, PoolClosed, GroupClosed, NotRunning, InWait, ObjectLimit}
+use Rattle.tp_base.specs.declared.answers.Refusal.TheVariants.{NoSuch, Released, PoolClosed, GroupClosed, NotRunning, InWait, ObjectLimit}
 use Rattle.tp_base.specs.declared.answers.Answer.TheVariants as answer
 use Rattle.tp_base.specs.declared.plans.Plan.{Plan}
 use Rattle.tp_base.specs.declared.plans.Plan.TheVariants.{Does}
 use Rattle.tp_base.specs.declared.plans.Change.TheVariants as change
-use Rattle.tp_base.specs.declared.rows.ObjectRow.{ObjectRow}
 use Rattle.tp_base.specs.declared.rows.WaitTarget.TheVariants.{Object}
 use Rattle.tp_model.specs.World.{World}
-use Rattle.tp_model.specs.Conditions.{is_actor, is_finished, is_without_callback, is_in_wait, is_pool, is_closed_pool, is_no_group_or_group, is_closed_group, is_object, is_object_of, is_released}
+use Rattle.tp_model.specs.Conditions.{is_actor, is_finished, is_without_callback, is_in_wait, is_pool, is_closed_pool, is_no_group_or_group, is_closed_group}
 use Rattle.tp_model.specs.Waits.{count_outstanding}
-use Rattle.tp_model.specs.Refusing.{first_refusal, unless_refused}
+use Rattle.tp_model.specs.Sources.{new_object}
+use Rattle.tp_model.specs.Refusing.{first_refusal, unless_refused, object_refusals}
 
 -- ---- Create: CreateThreadpoolWork and its like
 
@@ -31,9 +31,6 @@ create_refusals w who env =
     ∷ (nat_le w.limits.objects (length w.objects), ObjectLimit)
     ∷ []
 
-abbrev pub new_object : Kind → RoutineId → ℕ → Environ → ObjectRow
-new_object kind routine context env = record { kind = kind; routine = routine; context = context; env = env; released = false }
-
 unfoldable pub create_plan : World → Who → Kind → RoutineId → ℕ → Environ → Plan
 create_plan w who kind routine context env =
     unless_refused (first_refusal (create_refusals w who env))
@@ -41,17 +38,8 @@ create_plan w who kind routine context env =
 
 -- ---- CloseObject: CloseThreadpoolWork and its like
 
-abbrev pub close_object_refusals : World → Who → Kind → ℕ → List (Bool × Refusal)
-close_object_refusals w who kind object =
-    (not (is_actor w who) || not (is_object w object), NoSuch)
-    ∷ (not (is_object_of w kind object), WrongKind)
-    ∷ (is_finished w who || is_released w object, Released)
-    ∷ (is_without_callback w who, NotRunning)
-    ∷ (is_in_wait w who, InWait)
-    ∷ []
-
 -- the object is freed once none of its callbacks is outstanding; those that are pending still run
 unfoldable pub close_object_plan : World → Who → Kind → ObjectId → Plan
 close_object_plan w who kind object =
-    unless_refused (first_refusal (close_object_refusals w who kind object.0))
+    unless_refused (first_refusal (object_refusals w who kind object.0))
     (Does (answer.Closed (nat_lt 0 (count_outstanding (Object object) w))) (change.ReleaseObject object))

@@ -1,13 +1,13 @@
 -- Waits for callbacks: WaitForThreadpoolWorkCallbacks and its like for the other kinds. BeginWait is the entry of the
 -- function, and End its return.
-use Rattle.std.specs.Prelude.{ℕ, Bool, false, not, ◌||◌, ◌&&◌, ◌==◌, nat_lt, List, [], ◌∷◌, length, if◌then◌else◌, is_none, Option, None, Some}
+use Rattle.std.specs.Prelude.{ℕ, Bool, false, not, ◌||◌, ◌&&◌, ◌==◌, nat_lt, List, [], ◌∷◌, ◌++◌, length, if◌then◌else◌, is_none, Option, None, Some}
 use Rattle.std.specs.List.{filter, list_any}
 use Rattle.std.specs.Option.{option_map_or}
 use Rattle.tp_base.specs.declared.ids.Who.{Who}
 use Rattle.tp_base.specs.declared.ids.ObjectId.{ObjectId}
 use Rattle.tp_base.specs.declared.calls.Kind.{Kind}
 use Rattle.tp_base.specs.declared.answers.Refusal.{Refusal}
-use Rattle.tp_base.specs.declared.answers.Refusal.TheVariants.{NoSuch, WrongKind, Released, NotRunning, InWait, NoWaitBegun, OwnCallback}
+use Rattle.tp_base.specs.declared.answers.Refusal.TheVariants.{NoSuch, Released, NotRunning, NoWaitBegun, OwnCallback}
 use Rattle.tp_base.specs.declared.answers.Answer.TheVariants as answer
 use Rattle.tp_base.specs.declared.answers.Look.TheVariants as look
 use Rattle.tp_base.specs.declared.plans.WaitEnd.TheVariants.{Free, Exhausted}
@@ -19,21 +19,14 @@ use Rattle.tp_base.specs.declared.rows.WaitTarget.TheVariants.{Object}
 use Rattle.tp_base.specs.declared.rows.CallbackRow.{CallbackRow}
 use Rattle.tp_model.specs.World.{World, BegunWait}
 use Rattle.tp_model.specs.Counts.{attached, callback_of, is_pending}
-use Rattle.tp_model.specs.Conditions.{is_actor, is_finished, is_without_callback, is_in_wait, is_object, is_object_of, is_released, runs_own}
+use Rattle.tp_model.specs.Conditions.{is_actor, is_finished, is_without_callback, runs_own}
 use Rattle.tp_model.specs.Waits.{is_cancelled_by, cancel_where, covered_of, wait_of, held}
-use Rattle.tp_model.specs.Refusing.{first_refusal, unless_refused}
+use Rattle.tp_model.specs.Refusing.{first_refusal, unless_refused, object_refusals}
 
 -- ---- BeginWait
 
 abbrev pub begin_wait_refusals : World → Who → Kind → ℕ → List (Bool × Refusal)
-begin_wait_refusals w who kind object =
-    (not (is_actor w who) || not (is_object w object), NoSuch)
-    ∷ (not (is_object_of w kind object), WrongKind)
-    ∷ (is_finished w who || is_released w object, Released)
-    ∷ (is_without_callback w who, NotRunning)
-    ∷ (is_in_wait w who, InWait)
-    ∷ (runs_own w who object, OwnCallback)
-    ∷ []
+begin_wait_refusals w who kind object = object_refusals w who kind object ++ (runs_own w who object, OwnCallback) ∷ []
 
 -- how many callbacks the wait covers, and how many it cancels
 abbrev pub count_covered : World → WaitTarget → Bool → ℕ

@@ -1,53 +1,29 @@
 -- Calls that make callbacks at once: SubmitThreadpoolWork, TrySubmitThreadpoolCallback.
-use Rattle.std.specs.Prelude.{ℕ, Bool, not, ◌||◌, List, [], ◌∷◌, Option, None, Some}
+use Rattle.std.specs.Prelude.{ℕ, Bool, not, ◌||◌, List, [], ◌∷◌, ◌++◌, Option, None, Some}
 use Rattle.tp_base.specs.declared.ids.Who.{Who}
 use Rattle.tp_base.specs.declared.ids.ObjectId.{ObjectId}
 use Rattle.tp_base.specs.declared.ids.RoutineId.{RoutineId}
 use Rattle.tp_base.specs.declared.calls.Kind.TheVariants.{Work}
 use Rattle.tp_base.specs.declared.calls.Environ.{Environ}
 use Rattle.tp_base.specs.declared.answers.Refusal.{Refusal}
-use Rattle.tp_base.specs.declared.answers.Refusal.TheVariants.{NoSuch, WrongKind, Released, PoolClosed, GroupClosed, NotRunning, InWait, CallbackLimit}
-use Rattle.tp_base.specs.declared.answers.TakeResult.{TakeResult}
+use Rattle.tp_base.specs.declared.answers.Refusal.TheVariants.{NoSuch, Released, PoolClosed, GroupClosed, NotRunning, InWait, CallbackLimit}
 use Rattle.tp_base.specs.declared.answers.TakeResult.TheVariants.{Plain}
 use Rattle.tp_base.specs.declared.answers.Answer.TheVariants as answer
 use Rattle.tp_base.specs.declared.plans.Plan.{Plan}
 use Rattle.tp_base.specs.declared.plans.Plan.TheVariants.{Refused, Does}
 use Rattle.tp_base.specs.declared.plans.Change.TheVariants as change
-use Rattle.tp_base.specs.declared.rows.Status.TheVariants.{Pending}
 use Rattle.tp_base.specs.declared.rows.ObjectRow.{ObjectRow}
 use Rattle.tp_base.specs.declared.rows.CallbackRow.{CallbackRow}
 use Rattle.tp_model.specs.World.{World}
 use Rattle.tp_model.specs.Counts.{numbered}
-use Rattle.tp_model.specs.Conditions.{is_actor, is_finished, is_without_callback, is_in_wait, is_object, is_object_of, is_released, is_pool, is_closed_pool, is_no_group_or_group, is_closed_group, lacks_slots_for}
-use Rattle.tp_model.specs.Calls.Objects.{new_object}
-use Rattle.tp_model.specs.Refusing.{first_refusal, unless_refused}
-
--- a callback of an object, as the object's environment was when the object was made
-abbrev pub new_callback : ℕ → ObjectId → ObjectRow → TakeResult → CallbackRow
-new_callback number object row result = record {
-  number = number;
-  object = object;
-  routine = row.routine;
-  context = row.context;
-  pool = row.env.pool;
-  group = row.env.group;
-  priority = row.env.priority;
-  long = row.env.long;
-  result = result;
-  status = Pending;
-}
+use Rattle.tp_model.specs.Conditions.{is_actor, is_finished, is_without_callback, is_in_wait, is_pool, is_closed_pool, is_no_group_or_group, is_closed_group, lacks_slots_for}
+use Rattle.tp_model.specs.Sources.{new_object, new_callback}
+use Rattle.tp_model.specs.Refusing.{first_refusal, unless_refused, object_refusals}
 
 -- ---- SubmitWork: SubmitThreadpoolWork
 
 abbrev pub submit_work_refusals : World → Who → ℕ → List (Bool × Refusal)
-submit_work_refusals w who object =
-    (not (is_actor w who) || not (is_object w object), NoSuch)
-    ∷ (not (is_object_of w Work object), WrongKind)
-    ∷ (is_finished w who || is_released w object, Released)
-    ∷ (is_without_callback w who, NotRunning)
-    ∷ (is_in_wait w who, InWait)
-    ∷ (lacks_slots_for w 1, CallbackLimit)
-    ∷ []
+submit_work_refusals w who object = object_refusals w who Work object ++ (lacks_slots_for w 1, CallbackLimit) ∷ []
 
 -- with the number that the callback gets
 abbrev pub submit : ℕ → ObjectId → Option ObjectRow → Plan

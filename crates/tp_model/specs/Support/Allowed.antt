@@ -10,12 +10,17 @@ use Rattle.tp_base.specs.declared.rows.WaitTarget.TheVariants.{Object}
 use Rattle.tp_base.specs.declared.plans.WaitEnd.TheVariants.{Free}
 use Rattle.tp_base.specs.declared.plans.Idle.{Idle}
 use Rattle.tp_base.specs.declared.plans.Busy.{Busy}
+use Rattle.tp_base.specs.declared.calls.Kind.TheVariants.{Timer}
+use Rattle.tp_base.specs.declared.plans.Trigger.{Trigger}
+use Rattle.tp_base.specs.declared.plans.Trigger.TheVariants as trigger
 use Rattle.tp_base.specs.declared.plans.Change.{Change}
 use Rattle.tp_base.specs.declared.plans.Change.TheVariants as change
 use Rattle.tp_base.specs.declared.rows.Slots.{Slots}
 use Rattle.tp_base.specs.declared.rows.Status.TheVariants.{Running}
 use Rattle.tp_base.specs.declared.rows.ObjectRow.{ObjectRow}
 use Rattle.tp_base.specs.declared.rows.CallbackRow.{CallbackRow}
+use Rattle.tp_base.specs.Timers.{clock_end}
+use Rattle.tp_model.specs.Sources.{count_fired}
 use Rattle.tp_model.specs.World.{World, BegunWait, unattached, unfinished}
 use Rattle.tp_model.specs.Counts.{numbered, callback_of, is_pending, maximum, running}
 use Rattle.tp_model.specs.Conditions.{is_actor, is_in_wait, is_object, lacks_slots_for}
@@ -35,6 +40,28 @@ pub record IsNewCallback (fresh : ℕ) (w : World) (callback : CallbackRow) : Ty
   pub object : callback.object.0 ≤ length w.objects
   pub home : callback.pool.0 < length w.pools
   pub room : lacks_slots_for w 1 ≡ false
+
+-- a timer that is not released; a moment to which the clock may come
+pub record IsTimer (w : World) (object : ObjectId) : Type 0 where
+  pub row : ObjectRow
+  pub stands : numbered w.objects object.0 ≡ Some row
+  pub kind : row.kind ≡ Timer
+  pub unreleased : row.released ≡ false
+
+pub record MayAdvance (w : World) (now : ℕ) : Type 0 where
+  pub onwards : w.now ≤ now
+  pub within : now ≤ clock_end
+
+abbrev pub IsReady : World → Trigger → Type 0
+IsReady w (trigger.SetTimer object due period window) = IsTimer w object
+IsReady w (trigger.Advance now) = MayAdvance w now
+
+-- so many callbacks as the trigger makes, numbered from the next number on, each of which has its place
+pub record MayFire (fresh : ℕ) (w : World) (trigger : Trigger) (first count : ℕ) : Type 0 where
+  pub ready : IsReady w trigger
+  pub number : first ≡ fresh
+  pub counted : count ≡ count_fired w trigger
+  pub room : lacks_slots_for w count ≡ false
 
 -- an unattached worker, and a pool that was made
 pub record MayAttach (w : World) (worker : ℕ) (pool : PoolId) : Type 0 where
@@ -92,11 +119,13 @@ pub record MayEnd (w : World) (who : Who) (how : WaitEnd) : Type 0 where
 
 -- with the number that the next callback gets
 abbrev pub IsAllowed : ℕ → World → Change → Type 0
+IsAllowed fresh w change.Keep = Unit {0}
 IsAllowed fresh w change.CreatePool = length w.pools < w.limits.pools
 IsAllowed fresh w (change.ChangePool pool how) = pool.0 < length w.pools
 IsAllowed fresh w (change.CreateObject row) = IsNewObject w row
 IsAllowed fresh w (change.ReleaseObject object) = IsUnreleased w object
 IsAllowed fresh w (change.QueueCallback callback) = IsNewCallback fresh w callback
+IsAllowed fresh w (change.Fire trigger first count) = MayFire fresh w trigger first count
 IsAllowed fresh w (change.Attach worker pool) = MayAttach w worker pool
 IsAllowed fresh w (change.Detach by) = Idles w by
 IsAllowed fresh w (change.Take by callback) = MayTake w by callback
@@ -120,6 +149,7 @@ price _ = 1
 -- how many callbacks it makes
 abbrev pub news : Change → ℕ
 news (change.QueueCallback callback) = 1
+news (change.Fire trigger first count) = count
 news _ = 0
 
 -- by whom a change can be made

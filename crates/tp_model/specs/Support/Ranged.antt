@@ -1,15 +1,18 @@
 -- The numbers of a world are in the ranges of lines, and so are those of every answer and look.
-use Rattle.std.specs.Prelude.{ℕ, ◌<◌, ◌≤◌, ◌^◌, length, filter}
+use Rattle.std.specs.Prelude.{ℕ, ◌<◌, ◌≤◌, ◌+◌, ◌^◌, length, filter}
 use Rattle.std.specs.List.{AllByRecursion}
 use Rattle.tp_base.specs.Ranges.{AreLimitsInRange, IsRoutineInRange, IsResultInRange, IsRefusalInRange, IsAnswerInRange, IsLookInRange}
 use Rattle.tp_base.specs.declared.calls.Call.{Call}
 use Rattle.tp_base.specs.declared.calls.Call.TheVariants.{Create, SubmitSimple}
+use Rattle.tp_base.specs.declared.plans.Trigger.{Trigger}
+use Rattle.tp_base.specs.declared.plans.Trigger.TheVariants.{SetTimer, Advance}
 use Rattle.tp_base.specs.declared.plans.Change.{Change}
 use Rattle.tp_base.specs.declared.plans.Change.TheVariants as change
 use Rattle.tp_base.specs.declared.plans.Plan.{Plan}
 use Rattle.tp_base.specs.declared.plans.Plan.TheVariants.{Refused, Looked, Does}
 use Rattle.tp_base.specs.declared.rows.ObjectRow.{ObjectRow}
 use Rattle.tp_base.specs.declared.rows.CallbackRow.{CallbackRow}
+use Rattle.tp_base.specs.declared.rows.TimerSetting.{TimerSetting}
 use Rattle.tp_model.specs.World.{World}
 use Rattle.tp_model.specs.Counts.{running, is_live}
 
@@ -28,10 +31,16 @@ pub record IsCallbackInRange (c : CallbackRow) : Type 0 where
 pub record AreRowsInRange (w : World) : Type 0 where
   pub objects : AllByRecursion IsObjectInRange w.objects
   pub callbacks : AllByRecursion IsCallbackInRange w.callbacks
+  pub timers : AllByRecursion (λ (s : TimerSetting). s.object.0 ≤ 65535) w.settings
+
+abbrev pub IsTriggerInRange : Trigger → Type 0
+IsTriggerInRange (SetTimer object due period window) = object.0 ≤ 65535
+IsTriggerInRange (Advance now) = Unit {0}
 
 abbrev pub IsChangeInRange : Change → Type 0
 IsChangeInRange (change.CreateObject row) = IsObjectInRange row
 IsChangeInRange (change.QueueCallback callback) = IsCallbackInRange callback
+IsChangeInRange (change.Fire trigger first count) = IsTriggerInRange trigger × (first + count ≤ 2 ^ 64)
 IsChangeInRange _ = Unit {0}
 
 -- what a call brings besides the numbers of a line that have a range of their own

@@ -6,7 +6,9 @@ use Rattle.tp_base.specs.declared.rows.Slots.{Slots}
 use Rattle.tp_base.specs.declared.rows.Status.TheVariants.{Running}
 use Rattle.tp_base.specs.declared.rows.ObjectRow.{ObjectRow}
 use Rattle.tp_base.specs.declared.rows.CallbackRow.{CallbackRow}
+use Rattle.tp_base.specs.declared.rows.TimerSetting.{TimerSetting}
 use Rattle.tp_base.specs.declared.rows.WorkerRow.{WorkerRow}
+use Rattle.tp_base.specs.Timers.{clock_end}
 use Rattle.tp_model.specs.World.{World, BegunWait}
 use Rattle.tp_model.specs.Counts.{has_number}
 use Rattle.tp_model.specs.Conditions.{is_same_actor}
@@ -49,4 +51,7 @@ pub record IsSound (fresh : ℕ) (w : World) : Type 0 where
   pub apart : AreApart w.waits
   -- no call begins a wait with notices yet
   pub unnoticed : AllByRecursion (λ (b : BegunWait). b.notices ≡ []) w.waits
+  -- a timer that is set was made
+  pub timers : AllByRecursion (λ (s : TimerSetting). (1 ≤ s.object.0) × (s.object.0 ≤ length w.objects)) w.settings
+  pub clock : w.now ≤ clock_end
   pub callback_pools : AllByRecursion (λ (c : CallbackRow). c.pool.0 < length w.pools) w.callbacks

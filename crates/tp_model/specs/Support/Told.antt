@@ -1,7 +1,7 @@
 -- What an entry tells of callbacks, workers and pools, and what a change has to tell.
 use Rattle.std.specs.Prelude.{ℕ, Bool, true, false, max, List, [], ◌∷◌, length, ◌==◌, if◌then◌else◌, Option, None, Some}
 use Rattle.tp_base.specs.declared.answers.Entry.{Entry}
-use Rattle.std.specs.List.{filter}
+use Rattle.std.specs.List.{filter, range_with_len}
 use Rattle.tp_base.specs.declared.plans.Mark.TheVariants.{Loose}
 use Rattle.tp_base.specs.declared.plans.WaitEnd.{WaitEnd}
 use Rattle.tp_base.specs.declared.plans.WaitEnd.TheVariants.{Free, Exhausted}
@@ -80,6 +80,7 @@ is_free Exhausted = false
 abbrev pub told : ℕ → World → Change → Told
 told fresh w (change.ChangePool pool how) = record silent { maxima = maxima_by pool.0 how }
 told fresh w (change.QueueCallback callback) = record silent { made = fresh ∷ []; queued = fresh ∷ [] }
+told fresh w (change.Fire trigger first count) = record silent { made = range_with_len first count; queued = range_with_len first count }
 told fresh w (change.Attach worker pool) = record silent { deed = record nothing { attached = Some pool.0 } }
 told fresh w (change.Take by callback) =
     record silent { deed = record nothing { taken = Some callback.number; run = Some (record { number = callback.number; object = callback.object }) } }

@@ -1,0 +1,72 @@
+-- Calls on timers and the clock: SetThreadpoolTimer, SetThreadpoolTimerEx, IsThreadpoolTimerSet; and time passes.
+use Rattle.std.specs.Prelude.{ℕ, ◌+◌, ℤ, Bool, not, ◌==◌, nat_lt, List, [], ◌∷◌, ◌++◌, if◌then◌else◌, Option}
+use Rattle.std.specs.List.{list_any}
+use Rattle.tp_base.specs.declared.ids.Who.{Who}
+use Rattle.tp_base.specs.declared.ids.ObjectId.{ObjectId}
+use Rattle.tp_base.specs.declared.calls.Kind.TheVariants.{Timer}
+use Rattle.tp_base.specs.declared.answers.Answer.{Answer}
+use Rattle.tp_base.specs.declared.answers.Answer.TheVariants as answer
+use Rattle.tp_base.specs.declared.answers.Refusal.{Refusal}
+use Rattle.tp_base.specs.declared.answers.Refusal.TheVariants.{NoSuch, Released, NotRunning, InWait, ClockEnd, CallbackLimit}
+use Rattle.tp_base.specs.declared.plans.Plan.{Plan}
+use Rattle.tp_base.specs.declared.plans.Plan.TheVariants.{Does}
+use Rattle.tp_base.specs.declared.plans.Trigger.{Trigger}
+use Rattle.tp_base.specs.declared.plans.Trigger.TheVariants.{SetTimer, Advance}
+use Rattle.tp_base.specs.declared.plans.Change.TheVariants as change
+use Rattle.tp_base.specs.declared.rows.TimerSetting.{TimerSetting}
+use Rattle.tp_base.specs.Timers.{clock_end}
+use Rattle.tp_model.specs.World.{World}
+use Rattle.tp_model.specs.Conditions.{is_actor, is_finished, is_without_callback, is_in_wait, lacks_slots_for}
+use Rattle.tp_model.specs.Sources.{count_fired}
+use Rattle.tp_model.specs.Refusing.{first_refusal, unless_refused, object_refusals}
+
+-- ---- what a trigger does, and what its call answers
+
+-- the first number of so many callbacks, or 0 where there are none
+abbrev pub first_of : ℕ → ℕ → ℕ
+first_of fresh count = if count == 0 then 0 else fresh
+
+-- with the number that the next callback gets
+abbrev pub fire : World → ℕ → Trigger → (ℕ → ℕ → Answer) → Plan
+fire w fresh trigger told = Does (told (first_of fresh (count_fired w trigger)) (count_fired w trigger)) (change.Fire trigger fresh (count_fired w trigger))
+
+-- ---- SetTimer, SetTimerEx: SetThreadpoolTimer, SetThreadpoolTimerEx
+
+abbrev pub set_timer_refusals : World → Who → ℕ → Trigger → List (Bool × Refusal)
+set_timer_refusals w who object trigger = object_refusals w who Timer object ++ (lacks_slots_for w (count_fired w trigger), CallbackLimit) ∷ []
+
+unfoldable pub set_timer_plan : World → ℕ → Who → ObjectId → Option ℤ → ℕ → ℕ → Plan
+set_timer_plan w fresh who object due period window =
+    unless_refused (first_refusal (set_timer_refusals w who object.0 (SetTimer object due period window)))
+    (fire w fresh (SetTimer object due period window) answer.Queued)
+
+abbrev pub is_timer_set : World → ℕ → Bool
+is_timer_set w object = list_any (λ (s : TimerSetting). s.object.0 == object) w.settings
+
+unfoldable pub set_timer_ex_plan : World → ℕ → Who → ObjectId → Option ℤ → ℕ → ℕ → Plan
+set_timer_ex_plan w fresh who object due period window =
+    unless_refused (first_refusal (set_timer_refusals w who object.0 (SetTimer object due period window)))
+    (fire w fresh (SetTimer object due period window) (answer.WasSet (is_timer_set w object.0)))
+
+-- ---- IsTimerSet: IsThreadpoolTimerSet
+
+unfoldable pub is_timer_set_plan : World → Who → ObjectId → Plan
+is_timer_set_plan w who object =
+    unless_refused (first_refusal (object_refusals w who Timer object.0)) (Does (answer.Flag (is_timer_set w object.0)) change.Keep)
+
+-- ---- Advance: time passes
+
+abbrev pub advance_refusals : World → Who → ℕ → List (Bool × Refusal)
+advance_refusals w who now =
+    (not (is_actor w who), NoSuch)
+    ∷ (is_finished w who, Released)
+    ∷ (is_without_callback w who, NotRunning)
+    ∷ (is_in_wait w who, InWait)
+    ∷ (nat_lt clock_end now, ClockEnd)
+    ∷ (lacks_slots_for w (count_fired w (Advance now)), CallbackLimit)
+    ∷ []
+
+unfoldable pub advance_plan : World → ℕ → Who → ℕ → Plan
+advance_plan w fresh who ticks =
+    unless_refused (first_refusal (advance_refusals w who (w.now + ticks)))
+    (fire w fresh (Advance (w.now + ticks)) (answer.Advanced (w.now + ticks)))
