@@ -25,4 +25,5 @@ pub mod Ranging
 pub mod Refusals
 pub mod Running
 pub mod Steps
+mod TimerExamples
 mod WaitExamples
