@@ -104,11 +104,14 @@ leads_somewhere() {
     [[ -e $to ]] && { [[ $2 != *'#'* ]] || headings_of "$to" | awk -v wanted="${2#*#}" '$0 == wanted { found = 1 } END { exit !found }'; }
 }
 
-# The tables of the README are the examples that it names.
-tables_are_examples() {
-    diff <(tables_of "$here/README.md" '| Call | Prints |' | sed -n '/^--$/d;s/\t.*//p') <(cat "$here/examples/shutdown.trace" "$here/examples/pools.trace")
+# The tables of a page are the examples that it names.
+tables_are() {
+    local page=$1
+    shift
+    diff <(tables_of "$here/$page" '| Call | Prints |' | sed -n '/^--$/d;s/\t.*//p') <(cd "$here/examples" && cat "$@")
 }
-try 'the tables of the README are its examples' 0 '' '' tables_are_examples
+try 'the tables of the README are its examples' 0 '' '' tables_are README.md shutdown.trace pools.trace
+try 'the table of docs/MACHINE.md is its example' 0 '' '' tables_are docs/MACHINE.md timer-shutdown.trace
 
 names_kit() { awk -v kit="$(sed -n "s/^kit='\(.*\)'/\1/p" "$tpool")" 'index($0, kit) { found = 1 } END { exit !found }' "$here/README.md"; }
 try 'the README names the kit of the script' 0 '' '' names_kit
