@@ -11,6 +11,7 @@ pub mod Using
 pub mod Opening
 pub mod Making
 pub mod Ending
+pub mod Firings
 pub mod Walks
 pub mod Numbers
 pub mod Along

@@ -1,8 +1,13 @@
 -- What a live world is seen as, and what it is after a change.
-use Rattle.std.specs.Prelude.{ℕ, ◌+◌, Bool, true, if◌then◌else◌}
+use Rattle.std.specs.Prelude.{ℕ, ◌+◌, List, Bool, true, if◌then◌else◌}
 use Rattle.tp_base.specs.declared.ids.ObjectId.{ObjectId}
 use Rattle.tp_base.specs.declared.rows.WaitTarget.TheVariants.{Object}
+use Rattle.tp_base.specs.declared.answers.TakeResult.TheVariants.{Plain}
+use Rattle.tp_base.specs.declared.plans.Trigger.TheVariants.{Advance}
 use Rattle.tp_base.specs.declared.plans.Change.{Change}
+use Rattle.tp_base.specs.declared.plans.Change.TheVariants as change
+use Rattle.tp_base.specs.declared.rows.TimerSetting.{TimerSetting}
+use Rattle.tp_model.specs.Sources.{new_callback, object_row, count_fired}
 use Rattle.tp_model.specs.World.{World}
 use Rattle.tp_model.specs.Changes.{changed, with_callback}
 use Rattle.tp_base.specs.declared.rows.CallbackRow.{CallbackRow}
@@ -33,3 +38,20 @@ without_pending l object = settled l object true
 -- a callback cancelled if it is pending
 abbrev pub without_callback : Live → CallbackRow → Live
 without_callback l callback = if is_pending callback.status then became l (with_callback l.world (cancelled callback)) else l
+
+-- ---- time
+
+-- the clock at a moment, and other timers set
+abbrev pub at_time : Live → ℕ → Live
+at_time l now = became l (record l.world { now = now })
+
+abbrev pub with_settings : Live → List TimerSetting → Live
+with_settings l settings = became l (record l.world { settings = settings })
+
+-- the next callback of an object
+abbrev pub next_of_object : Live → ObjectId → Live
+next_of_object l object = moved l (change.QueueCallback (new_callback (l.made + 1) object (object_row l.world.objects object) Plain))
+
+-- all that is due now makes its callbacks
+abbrev pub expired_all : Live → Live
+expired_all l = moved l (change.Fire (Advance l.world.now) (l.made + 1) (count_fired l.world (Advance l.world.now)))

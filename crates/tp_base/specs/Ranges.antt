@@ -1,5 +1,6 @@
 -- Which limits, calls, answers and looks are in range.
-use Rattle.std.specs.Prelude.{◌≡◌, ℕ, ◌<◌, ◌≤◌, ◌^◌}
+use Rattle.std.specs.Prelude.{◌≡◌, ℕ, ℤ, ◌<◌, ◌≤◌, ◌^◌, Option, None, Some, FitsSigned}
+use Rattle.std.specs.Int.{w64}
 use Rattle.tp_base.specs.declared.limits.Limits.{Limits}
 use Rattle.tp_base.specs.declared.calls.Call.{Call}
 use Rattle.tp_base.specs.declared.calls.Call.TheVariants.{ClosePool, SetMaximum, SetMinimum, Create, CloseObject, SubmitSimple, SubmitWork, SetTimer, SetTimerEx, IsTimerSet, Advance, BeginWait}
@@ -40,20 +41,29 @@ pub record IsRoutineInRange (routine : ℕ) : Type 0 where
   pub least : 1 ≤ routine
   pub most : routine ≤ 65535
 
+-- a due time is of 64 bits with its sign
+abbrev pub IsDueInRange : Option ℤ → Type 0
+IsDueInRange None = Unit {0}
+IsDueInRange (Some due) = FitsSigned w64 due
+
+-- and a period and a window are of 32 bits
+abbrev pub IsSettingInRange : Option ℤ → ℕ → ℕ → Type 0
+IsSettingInRange due period window = IsDueInRange due × (period < 2 ^ 32) × (window < 2 ^ 32)
+
 -- the numbers of a call are those that a line can have
 abbrev pub IsCallInRange : Call → Type 0
-IsCallInRange (Create kind routine context env) = IsRoutineInRange routine.0 × IsEnvironInRange env
+IsCallInRange (Create kind routine context env) = IsRoutineInRange routine.0 × IsEnvironInRange env × (context < 2 ^ 64)
 IsCallInRange (CloseObject kind object) = object.0 ≤ 65535
-IsCallInRange (SubmitSimple routine context env) = IsRoutineInRange routine.0 × IsEnvironInRange env
+IsCallInRange (SubmitSimple routine context env) = IsRoutineInRange routine.0 × IsEnvironInRange env × (context < 2 ^ 64)
 IsCallInRange (SubmitWork object) = object.0 ≤ 65535
-IsCallInRange (SetTimer object due period window) = object.0 ≤ 65535
-IsCallInRange (SetTimerEx object due period window) = object.0 ≤ 65535
+IsCallInRange (SetTimer object due period window) = (object.0 ≤ 65535) × IsSettingInRange due period window
+IsCallInRange (SetTimerEx object due period window) = (object.0 ≤ 65535) × IsSettingInRange due period window
 IsCallInRange (IsTimerSet object) = object.0 ≤ 65535
 IsCallInRange (Advance ticks) = ticks ≤ clock_end
 IsCallInRange (BeginWait kind object cancel) = object.0 ≤ 65535
 IsCallInRange (ClosePool pool) = pool.0 ≤ 65535
-IsCallInRange (SetMaximum pool value) = pool.0 ≤ 65535
-IsCallInRange (SetMinimum pool value) = pool.0 ≤ 65535
+IsCallInRange (SetMaximum pool value) = (pool.0 ≤ 65535) × (value < 2 ^ 32)
+IsCallInRange (SetMinimum pool value) = (pool.0 ≤ 65535) × (value < 2 ^ 32)
 IsCallInRange _ = Unit {0}
 
 abbrev pub IsResultInRange : TakeResult → Type 0

@@ -156,29 +156,36 @@ impl Call {
     pub fn in_range(&self) -> bool
         ensures { IsTrue result ↔ IsCallInRange self.now }
     {
-        match self {
-            Call::Create { routine, env, .. } | Call::SubmitSimple { routine, env, .. } => {
-                routine.in_range() && env.in_range()
-            }
-            Call::SubmitWork { object }
-            | Call::CloseObject { object, .. }
-            | Call::SetTimer { object, .. }
-            | Call::SetTimerEx { object, .. }
-            | Call::IsTimerSet { object }
-            | Call::BeginWait { object, .. } => object.0 <= 65_535,
-            Call::Advance { ticks } => *ticks <= CLOCK_END,
-            Call::ClosePool { pool } => pool.0 <= 65_535,
-            Call::SetMaximum { pool, .. } => pool.0 <= 65_535,
-            Call::SetMinimum { pool, .. } => pool.0 <= 65_535,
-            Call::CreatePool
-            | Call::Attach
-            | Call::Detach
-            | Call::Take
-            | Call::Return
-            | Call::MayRunLong
-            | Call::Disassociate
-            | Call::End
-            | Call::Finish => true,
+        is_in_range(*self)
+    }
+}
+
+// The numbers of a call that is passed by itself are known to be those of their types.
+fn is_in_range(call: Call) -> bool
+    ensures { IsTrue result ↔ IsCallInRange call }
+{
+    match call {
+        Call::Create { routine, env, .. } | Call::SubmitSimple { routine, env, .. } => {
+            routine.in_range() && env.in_range()
         }
+        Call::SubmitWork { object }
+        | Call::CloseObject { object, .. }
+        | Call::SetTimer { object, .. }
+        | Call::SetTimerEx { object, .. }
+        | Call::IsTimerSet { object }
+        | Call::BeginWait { object, .. } => object.0 <= 65_535,
+        Call::Advance { ticks } => ticks <= CLOCK_END,
+        Call::ClosePool { pool }
+        | Call::SetMaximum { pool, .. }
+        | Call::SetMinimum { pool, .. } => pool.0 <= 65_535,
+        Call::CreatePool
+        | Call::Attach
+        | Call::Detach
+        | Call::Take
+        | Call::Return
+        | Call::MayRunLong
+        | Call::Disassociate
+        | Call::End
+        | Call::Finish => true,
     }
 }

@@ -9,7 +9,7 @@ use Rattle.tp_model.specs.Table.{plan_at}
 use Rattle.tp_model.specs.Support.Sound.{IsSound}
 use Rattle.tp_model.specs.Support.Safe.{IsSafe}
 use Rattle.tp_model.specs.Support.Remembered.{forget}
-use Rattle.tp_model.specs.Support.Ranged.{IsRanged, IsPlanInRange, IsWide}
+use Rattle.tp_model.specs.Support.Ranged.{IsRanged, IsPlanInRange}
 pub mod Pools
 pub mod Objects
 pub mod Work
@@ -77,25 +77,25 @@ plan_forget fresh room w who Finish s = finish_forget w who
 
 -- the numbers of the plan are in range
 module _ (fresh : ℕ) (w : World) (few : fresh + 65536 ≤ 2 ^ 64) (s : IsSound fresh w) (g : IsRanged w) where
-  pub plan_ranged : (room : ℕ) (who : Who) (call : Call) → IsCallInRange call → IsWide call → IsPlanInRange (plan_at w fresh room who call)
-  plan_ranged room who CreatePool c wide = create_pool_ranged w who g
-  plan_ranged room who (ClosePool pool) c wide = close_pool_ranged w who pool
-  plan_ranged room who (SetMaximum pool value) c wide = set_maximum_ranged w who pool value
-  plan_ranged room who (SetMinimum pool value) c wide = set_minimum_ranged w who pool value
-  plan_ranged room who (Create kind routine context env) c wide = create_ranged w who kind routine context env g c wide
-  plan_ranged room who (CloseObject kind object) c wide = close_object_ranged w who kind object
-  plan_ranged room who (SubmitSimple routine context env) c wide = submit_simple_ranged fresh w who routine context env (omega (arith, few)) c wide
-  plan_ranged room who (SubmitWork object) c wide = submit_work_ranged fresh w who object (omega (arith, few)) g c
-  plan_ranged room who (SetTimer object due period window) c wide = set_timer_ranged fresh w who object due period window few g c
-  plan_ranged room who (SetTimerEx object due period window) c wide = set_timer_ex_ranged fresh w who object due period window few g c
-  plan_ranged room who (IsTimerSet object) c wide = is_timer_set_ranged fresh w who object
-  plan_ranged room who (Advance ticks) c wide = advance_ranged fresh w who ticks few g
-  plan_ranged room who (BeginWait kind object cancel) c wide = begin_wait_ranged w who kind object cancel g
-  plan_ranged room who End c wide = end_ranged room w who g
-  plan_ranged room who Attach c wide = attach_ranged w who g
-  plan_ranged room who Detach c wide = detach_ranged w who
-  plan_ranged room who Take c wide = take_ranged fresh w who s g
-  plan_ranged room who Return c wide = return_ranged w who
-  plan_ranged room who MayRunLong c wide = may_run_long_ranged w who
-  plan_ranged room who Disassociate c wide = disassociate_ranged w who
-  plan_ranged room who Finish c wide = finish_ranged w who
+  pub plan_ranged : (room : ℕ) (who : Who) (call : Call) → IsCallInRange call → IsPlanInRange (plan_at w fresh room who call)
+  plan_ranged room who CreatePool c = create_pool_ranged w who g
+  plan_ranged room who (ClosePool pool) c = close_pool_ranged w who pool
+  plan_ranged room who (SetMaximum pool value) c = set_maximum_ranged w who pool value
+  plan_ranged room who (SetMinimum pool value) c = set_minimum_ranged w who pool value
+  plan_ranged room who (Create kind routine context env) c = create_ranged w who kind routine context env g c
+  plan_ranged room who (CloseObject kind object) c = close_object_ranged w who kind object
+  plan_ranged room who (SubmitSimple routine context env) c = submit_simple_ranged fresh w who routine context env (omega (arith, few)) c
+  plan_ranged room who (SubmitWork object) c = submit_work_ranged fresh w who object (omega (arith, few)) g c
+  plan_ranged room who (SetTimer object due period window) c = set_timer_ranged fresh w who object due period window few g c
+  plan_ranged room who (SetTimerEx object due period window) c = set_timer_ex_ranged fresh w who object due period window few g c
+  plan_ranged room who (IsTimerSet object) c = is_timer_set_ranged fresh w who object
+  plan_ranged room who (Advance ticks) c = advance_ranged fresh w who ticks few g
+  plan_ranged room who (BeginWait kind object cancel) c = begin_wait_ranged w who kind object cancel g
+  plan_ranged room who End c = end_ranged room w who g
+  plan_ranged room who Attach c = attach_ranged w who g
+  plan_ranged room who Detach c = detach_ranged w who
+  plan_ranged room who Take c = take_ranged fresh w who s g
+  plan_ranged room who Return c = return_ranged w who
+  plan_ranged room who MayRunLong c = may_run_long_ranged w who
+  plan_ranged room who Disassociate c = disassociate_ranged w who
+  plan_ranged room who Finish c = finish_ranged w who

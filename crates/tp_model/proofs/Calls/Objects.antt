@@ -23,7 +23,7 @@ use Rattle.tp_model.specs.Calls.Objects.{create_refusals, create_plan, close_obj
 use Rattle.tp_model.specs.Support.Allowed.{IsUnreleased}
 use Rattle.tp_model.specs.Support.Safe.{IsSafe}
 use Rattle.tp_model.specs.Support.Remembered.{forget}
-use Rattle.tp_model.specs.Support.Ranged.{IsRanged, IsPlanInRange, IsWide}
+use Rattle.tp_model.specs.Support.Ranged.{IsRanged, IsPlanInRange}
 use Rattle.tp_model.proofs.Refusals.{neither, not_false, made, false_true}
 use Rattle.tp_model.proofs.Forgetting.{outstanding_forget}
 use Rattle.tp_model.proofs.Planning.{safe_unless}
@@ -44,11 +44,11 @@ pub create_forget : (w : World) (who : Who) (kind : Kind) (routine : RoutineId) 
 unfolding create_plan
 create_forget w who kind routine context env = refl
 
-pub create_ranged : (w : World) (who : Who) (kind : Kind) (routine : RoutineId) (context : ℕ) (env : Environ) → IsRanged w → IsCallInRange (Create kind routine context env) → IsWide (Create kind routine context env) → IsPlanInRange (create_plan w who kind routine context env)
+pub create_ranged : (w : World) (who : Who) (kind : Kind) (routine : RoutineId) (context : ℕ) (env : Environ) → IsRanged w → IsCallInRange (Create kind routine context env) → IsPlanInRange (create_plan w who kind routine context env)
 unfolding create_plan
-create_ranged w who kind routine context env g c wide =
+create_ranged w who kind routine context env g c =
     made_ranged (create_refusals w who env) (plan.Does (answer.Made (length w.objects + 1)) (change.CreateObject (new_object kind routine context env))) _
-    (λ none. ((omega arith, omega (arith, leb-false w.limits.objects (length w.objects) none.1.1.1.1.1.1.0, g.limits.objects_most)), record { routine = c.0; context = wide }))
+    (λ none. ((omega arith, omega (arith, leb-false w.limits.objects (length w.objects) none.1.1.1.1.1.1.0, g.limits.objects_most)), record { routine = c.0; context = c.2 }))
 
 -- ---- CloseObject
 

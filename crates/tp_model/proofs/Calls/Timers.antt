@@ -144,14 +144,14 @@ module _ (fresh : ℕ) (w : World) (who : Who) where
   set_timer_ranged object due period window few g c =
       let t : Trigger = trigger.SetTimer object due period window in
       made_ranged (set_timer_refusals w who object.0 t) _ _
-      (λ none. let n = few_fired (count_fired w t) g none.1.1.1.1.1.0 in ((omega (arith, first_within fresh (count_fired w t), few), n), (c, omega (arith, n, few))))
+      (λ none. let n = few_fired (count_fired w t) g none.1.1.1.1.1.0 in ((omega (arith, first_within fresh (count_fired w t), few), n), (c.0, omega (arith, n, few))))
 
   pub set_timer_ex_ranged : (object : ObjectId) (due : Option ℤ) (period window : ℕ) → fresh + 65536 ≤ 2 ^ 64 → IsRanged w → IsCallInRange (SetTimerEx object due period window) → IsPlanInRange (set_timer_ex_plan w fresh who object due period window)
   unfolding set_timer_ex_plan
   set_timer_ex_ranged object due period window few g c =
       let t : Trigger = trigger.SetTimer object due period window in
       made_ranged (set_timer_refusals w who object.0 t) _ _
-      (λ none. let n = few_fired (count_fired w t) g none.1.1.1.1.1.0 in ((omega (arith, first_within fresh (count_fired w t), few), n), (c, omega (arith, n, few))))
+      (λ none. let n = few_fired (count_fired w t) g none.1.1.1.1.1.0 in ((omega (arith, first_within fresh (count_fired w t), few), n), (c.0, omega (arith, n, few))))
 
   pub is_timer_set_ranged : (object : ObjectId) → IsPlanInRange (is_timer_set_plan w who object)
   unfolding is_timer_set_plan

@@ -18,7 +18,7 @@ use Rattle.tp_model.specs.Calls.Work.{submit_work_refusals, submit, submit_work_
 use Rattle.tp_model.specs.Support.Sound.{IsSound}
 use Rattle.tp_model.specs.Support.Safe.{IsSafe}
 use Rattle.tp_model.specs.Support.Remembered.{forget}
-use Rattle.tp_model.specs.Support.Ranged.{IsObjectInRange, IsRanged, IsPlanInRange, IsWide}
+use Rattle.tp_model.specs.Support.Ranged.{IsObjectInRange, IsRanged, IsPlanInRange}
 use Rattle.tp_model.proofs.Lists.{all_get}
 use Rattle.tp_model.proofs.Refusals.{neither, not_false, made, numbered_some}
 use Rattle.tp_model.proofs.Forgetting.{live_again}
@@ -77,8 +77,8 @@ submit_simple_forget fresh w who routine context env =
     refused : first_refusal (submit_simple_refusals (forget w) who env) ≡ first_refusal (submit_simple_refusals w who env)
     refused = rw (live_again w.callbacks)
 
-pub submit_simple_ranged : (fresh : ℕ) (w : World) (who : Who) (routine : RoutineId) (context : ℕ) (env : Environ) → fresh < 2 ^ 64 → IsCallInRange (SubmitSimple routine context env) → IsWide (SubmitSimple routine context env) → IsPlanInRange (submit_simple_plan w fresh who routine context env)
+pub submit_simple_ranged : (fresh : ℕ) (w : World) (who : Who) (routine : RoutineId) (context : ℕ) (env : Environ) → fresh < 2 ^ 64 → IsCallInRange (SubmitSimple routine context env) → IsPlanInRange (submit_simple_plan w fresh who routine context env)
 unfolding submit_simple_plan
-submit_simple_ranged fresh w who routine context env few c wide =
+submit_simple_ranged fresh w who routine context env few c =
     ranged_unless (submit_simple_refusals w who env) _ _
-    ((few, omega arith), record { number = few; object = omega arith; routine = c.0; context = wide; result = tt })
+    ((few, omega arith), record { number = few; object = omega arith; routine = c.0; context = c.2; result = tt })

@@ -2,8 +2,6 @@
 use Rattle.std.specs.Prelude.{ℕ, ◌<◌, ◌≤◌, ◌+◌, ◌^◌, length, filter}
 use Rattle.std.specs.List.{AllByRecursion}
 use Rattle.tp_base.specs.Ranges.{AreLimitsInRange, IsRoutineInRange, IsResultInRange, IsRefusalInRange, IsAnswerInRange, IsLookInRange}
-use Rattle.tp_base.specs.declared.calls.Call.{Call}
-use Rattle.tp_base.specs.declared.calls.Call.TheVariants.{Create, SubmitSimple}
 use Rattle.tp_base.specs.declared.plans.Trigger.{Trigger}
 use Rattle.tp_base.specs.declared.plans.Trigger.TheVariants.{SetTimer, Advance}
 use Rattle.tp_base.specs.declared.plans.Change.{Change}
@@ -42,12 +40,6 @@ IsChangeInRange (change.CreateObject row) = IsObjectInRange row
 IsChangeInRange (change.QueueCallback callback) = IsCallbackInRange callback
 IsChangeInRange (change.Fire trigger first count) = IsTriggerInRange trigger × (first + count ≤ 2 ^ 64)
 IsChangeInRange _ = Unit {0}
-
--- what a call brings besides the numbers of a line that have a range of their own
-abbrev pub IsWide : Call → Type 0
-IsWide (Create kind routine context env) = context < 2 ^ 64
-IsWide (SubmitSimple routine context env) = context < 2 ^ 64
-IsWide _ = Unit {0}
 
 -- all of a world that the numbers of answers and looks come from
 pub record IsRanged (w : World) : Type 0 where
