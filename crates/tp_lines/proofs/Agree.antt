@@ -7,13 +7,12 @@ use Rattle.tp_base.specs.declared.calls.Call.{Call}
 use Rattle.tp_base.specs.declared.calls.Call.TheVariants as call
 use Rattle.tp_base.specs.declared.calls.Environ.{Environ}
 use Rattle.tp_base.specs.declared.calls.Kind.{Kind}
-use Rattle.tp_base.specs.declared.calls.Kind.TheVariants as kind
 use Rattle.tp_lines.specs.declared.parts.Part.TheVariants as part
 use Rattle.tp_lines.specs.declared.words.Field.{Field}
 use Rattle.tp_lines.specs.declared.words.Field.TheVariants as field
 use Rattle.tp_lines.specs.declared.words.Word.{Word}
 use Rattle.tp_lines.specs.declared.words.Word.TheVariants as word
-use Rattle.tp_lines.specs.Calls.{FitsCall, IsReadable, environ_parts}
+use Rattle.tp_lines.specs.Calls.{FitsCall, IsBuilt, IsReadable, environ_parts}
 use Rattle.tp_lines.specs.Parts.{AreFit, IsNumberPart, IsWordPart, number_of, number_part}
 use Rattle.tp_lines.specs.Shapes.{table_of}
 
@@ -31,8 +30,6 @@ environ_range env h =
     record { pool_most = h.0.at_most; group_most = h.1.1.1.0.at_most; cancel_most = cancel.0; cancel_with_group = cancel.1 }
 
 pub fits_range : (c : Call) → FitsCall c → IsCallInRange c
-fits_range (call.Create kind routine context env) h = (record { least = h.1.1.0.at_least; most = h.1.1.0.at_most }, environ_range env h.1.1.1.1)
-fits_range (call.SubmitSimple routine context env) h = (record { least = h.1.0.at_least; most = h.1.0.at_most }, environ_range env h.1.1.1)
 fits_range call.CreatePool h = search rules
 fits_range _ h = search rules
 
@@ -63,29 +60,9 @@ environ_fit env h = (
   ),
 )
 
-built_kind : (sort : Kind) → sort ≡ kind.Work → IsWordPart field.Kind (part.Word (word.Kind sort))
-built_kind sort is = subst (λ x. IsWordPart field.Kind (part.Word (word.Kind x))) (sym is) (word_part field.Kind (word.Kind kind.Work) refl)
+built_kind : (kind : Kind) → IsBuilt kind → IsWordPart field.Kind (part.Word (word.Kind kind))
+built_kind kind built = word_part field.Kind (word.Kind kind) built
 
 pub range_fits : (c : Call) → IsCallInRange c → IsReadable c → FitsCall c
-range_fits (call.Create sort routine context env) h k = (
-  word_part field.Call word.Create refl,
-  (
-    built_kind sort k.0,
-    (
-      number_held field.Routine 1 65535 routine.0 refl h.0.least h.0.most,
-      (number_held field.Context 0 18446744073709551615 context refl (omega arith) (omega (arith, k.1)), environ_fit env h.1),
-    ),
-  ),
-)
-range_fits (call.SubmitSimple routine context env) h k = (
-  word_part field.Call word.SubmitSimple refl,
-  (
-    number_held field.Routine 1 65535 routine.0 refl h.0.least h.0.most,
-    (number_held field.Context 0 18446744073709551615 context refl (omega arith) (omega (arith, k)), environ_fit env h.1),
-  ),
-)
-range_fits (call.CloseObject sort object) h k = (word_part field.Call word.CloseObject refl, (built_kind sort k, (number_held field.Short 0 65535 object.0 refl (omega arith) h, tt)))
-range_fits (call.BeginWait sort object cancel) h k =
-    (word_part field.Call word.BeginWait refl, (built_kind sort k, (number_held field.Short 0 65535 object.0 refl (omega arith) h, (word_part field.How (word.How cancel) refl, tt))))
 range_fits call.CreatePool h k = search (rules, word_part)
 range_fits _ h k = search (rules, word_part)

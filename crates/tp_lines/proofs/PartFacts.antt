@@ -1,5 +1,5 @@
 -- What stands in one field.
-use Rattle.std.proofs.Common.{◌≡◌, ℕ, ◌<◌, ◌≤◌, ◌^◌, List, ◌∷◌, refl, sym, ap, ◌∙◌, subst, arith, rules}
+use Rattle.std.proofs.Common.{◌≡◌, ℕ, ◌<◌, ◌≤◌, ◌^◌, ℤ, List, ◌∷◌, refl, sym, ap, ◌∙◌, subst, arith, rules, Option, None}
 use Rattle.std.specs.Prelude.{decimal}
 use Rattle.line_grammar.specs.Language.{AnyOf, IsReadTo, IsStuck}
 use Rattle.line_grammar.specs.Numbers.{Numbers}
@@ -13,9 +13,11 @@ use Rattle.tp_lines.specs.declared.parts.Part.TheVariants as part
 use Rattle.tp_lines.specs.declared.words.Field.{Field}
 use Rattle.tp_lines.specs.declared.words.Field.TheVariants as field
 use Rattle.tp_lines.specs.declared.words.Word.{Word}
-use Rattle.tp_lines.specs.Choices.{BodyTexts, ChoiceTexts, PartTexts, default_word}
-use Rattle.tp_lines.specs.Parts.{Fits, FitsForm, IsNumberPart, form_of, number_of, number_part, text_of_part}
+use Rattle.tp_lines.specs.Choices.{BodyTexts, ChoiceTexts, DueTexts, PartTexts, default_word}
+use Rattle.tp_lines.specs.Parts.{Fits, FitsForm, IsDuePart, IsNumberPart, form_of, number_of, number_part, text_of_part}
+use Rattle.tp_lines.specs.Values.{due_of}
 use Rattle.tp_lines.proofs.Choices.{choice_part, default_table}
+use Rattle.tp_lines.proofs.DueFacts.{due_spelled, due_text, dues_part}
 
 number_back : (f : Field) (n : ℕ) → number_of (number_part f n) ≡ n
 number_back field.Short n = refl
@@ -37,7 +39,7 @@ pub record IsSoundRange (least most : ℕ) : Type 0 where
 abbrev pub IsSoundForm : Form → Type 0
 IsSoundForm (form.Number least most) = IsSoundRange least most
 IsSoundForm (form.Lettered letter least most) = IsSoundRange least most
-IsSoundForm form.Choice = Unit {0}
+IsSoundForm _ = Unit {0}
 
 pub sound_form : (f : Field) → IsSoundForm (form_of f)
 sound_form field.Short = search rules
@@ -102,6 +104,29 @@ module _ (f : Field) where
     lettered_part s = part_renamed 32 (Led letter (Numbers least most)) (BodyTexts f) (λ n. number_part f n)
         (λ p t b. let q = lettered_from p t b in (number_of p, q.0, q.1)) (led_part letter (Numbers least most) 32 (numbers_part least most 32 s.bits (omega arith)))
 
+  module _ (e : form_of f ≡ form.Due) where
+    due_from : (p : Part) (t : List ℕ) → BodyTexts f p t → DueTexts (due_of p) t × (p ≡ part.Due (due_of p))
+    due_from p t b =
+        let h : IsDuePart p = subst (λ x. FitsForm x f p) e b.fits in
+        (due_text (due_of p) t h.in_range (b.split ∙ ap text_of_part h.is), h.is)
+
+    due_to : (due : Option ℤ) (t : List ℕ) → DueTexts due t → BodyTexts f (part.Due due) t
+    due_to due t a =
+        let spelled = due_spelled due t a in
+        record { fits = subst (λ x. FitsForm x f (part.Due due)) (sym e) (record { is = refl; in_range = spelled.0 }); split = spelled.1 }
+
+    due_back : (p : Part) (t : List ℕ) → BodyTexts f p t → AnyOf DueTexts t
+    due_back p t b = (due_of p, (due_from p t b).0)
+
+    pub due_read : (text : List ℕ) (due : Option ℤ) (size : ℕ) → IsReadTo DueTexts text due size → IsReadTo (BodyTexts f) text (part.Due due) size
+    due_read text due size read = read_renamed DueTexts (BodyTexts f) due_back text due (part.Due due) size (due_to due) read
+
+    pub due_stuck : (text : List ℕ) (place : ℕ) → IsStuck DueTexts text place → IsStuck (BodyTexts f) text place
+    due_stuck text place stuck = stuck_renamed DueTexts (BodyTexts f) due_back text place (λ due t a. (part.Due due, due_to due t a)) stuck
+
+    due_part : IsPart 32 (BodyTexts f)
+    due_part = part_renamed 32 DueTexts (BodyTexts f) (λ due. part.Due due) (λ p t b. let q = due_from p t b in (due_of p, q.0, q.1)) dues_part
+
   module _ (e : form_of f ≡ form.Choice) where
     choice_from : (p : Part) (t : List ℕ) → BodyTexts f p t → (w : Word) × (ChoiceTexts f w t) × (p ≡ part.Word w)
     choice_from p t b = let h = subst (λ x. FitsForm x f p) e b.fits in (h.word, record { table = h.table; split = b.split ∙ ap text_of_part h.is }, h.is)
@@ -124,11 +149,13 @@ module _ (f : Field) where
   by_form : (x : Form) → form_of f ≡ x → IsSoundForm x → IsPart 32 (BodyTexts f)
   by_form (form.Number least most) e s = plain_part least most e s
   by_form (form.Lettered letter least most) e s = lettered_part letter least most e s
+  by_form form.Due e s = due_part e
   by_form form.Choice e s = word_part e
 
   some_by_form : (x : Form) → form_of f ≡ x → IsSoundForm x → (p : Part) × Fits f p
   some_by_form (form.Number least most) e s = (number_part f most, subst (λ x. FitsForm x f (number_part f most)) (sym e) (number_fits least most most s.order (omega arith)))
   some_by_form (form.Lettered letter least most) e s = (number_part f most, subst (λ x. FitsForm x f (number_part f most)) (sym e) (number_fits least most most s.order (omega arith)))
+  some_by_form form.Due e s = (part.Due None, subst (λ x. FitsForm x f (part.Due None)) (sym e) (record { is = refl; in_range = tt }))
   some_by_form form.Choice e s =
       (part.Word (default_word f), subst (λ x. FitsForm x f (part.Word (default_word f))) (sym e) (record { word = default_word f; is = refl; table = default_table f e }))
 
