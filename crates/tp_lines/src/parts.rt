@@ -384,7 +384,10 @@ fn read_choice(field: Field, text: &[u8]) -> Result<(Word, usize), usize>
 fn read_due(text: &[u8]) -> Result<(Option<i64>, usize), usize>
     ensures { IsRead DueTexts text.now result }
 {
-    further(something(read_signed(text)), read_bytes(None, b"none", text))
+    further(
+        something(read_signed(text)),
+        read_bytes(None, b"none", text),
+    )
 }
 
 // Reads what stands in a field.
