@@ -10,13 +10,13 @@ use Rattle.tp_lines.specs.Choices.{DueTexts}
 use Rattle.tp_lines.specs.Parts.{IsDueInRange}
 use Rattle.tp_lines.specs.Words.{text_of_due}
 
-pub due_spelled : (due : Option ℤ) (t : List ℕ) → DueTexts due t → IsDueInRange due × (t ≡ text_of_due due)
-due_spelled None t a = (tt, a)
-due_spelled (Some z) t a = (a.fits, a.split)
+pub due_written : (due : Option ℤ) (t : List ℕ) → DueTexts due t → IsDueInRange due × (t ≡ text_of_due due)
+due_written None t a = (tt, a)
+due_written (Some z) t a = (a.fits, a.split)
 
-pub due_text : (due : Option ℤ) (t : List ℕ) → IsDueInRange due → t ≡ text_of_due due → DueTexts due t
-due_text None t h e = e
-due_text (Some z) t h e = record { fits = h; split = e }
+pub due_read_as : (due : Option ℤ) (t : List ℕ) → IsDueInRange due → t ≡ text_of_due due → DueTexts due t
+due_read_as None t h e = e
+due_read_as (Some z) t h e = record { fits = h; split = e }
 
 pub due_short : (due : Option ℤ) → IsDueInRange due → length (text_of_due due) ≤ 30
 due_short None h = omega arith

@@ -23,9 +23,9 @@ group_room : (b : Bool) (fields : List Field) → room (if b then field.NoCancel
 group_room true fields = omega arith
 group_room false fields = omega arith
 
-due_room : (f : Field) (fields : List Field) → form_of f ≡ form.Due → room fields + 1 ≤ room_of f + room fields
-due_room field.Due fields e = omega arith
-due_room _ fields e = absurd (let no_such : ⊥ = cc in no_such)
+some_room : (f : Field) → 1 ≤ room_of f
+some_room field.Short = omega arith
+some_room _ = omega arith
 
 number_room : (f : Field) (n : ℕ) (fields : List Field) → room (after (number_part f n) fields) + 1 ≤ room_of f + room fields
 number_room field.Group n fields = group_room (nat_eq n 0) fields
@@ -35,18 +35,18 @@ instead_room : (own fields : List Field) (n : ℕ) → room own + 1 ≤ n → ro
 instead_room [] fields n h = omega arith
 instead_room (g ∷ own) fields n h = omega arith
 
-room_by_form : (x : Form) (f : Field) (p : Part) (fields : List Field) → form_of f ≡ x → FitsForm x f p → room (after p fields) + 1 ≤ room_of f + room fields
-room_by_form (form.Number least most) f p fields e h =
+room_by_form : (x : Form) (f : Field) (p : Part) (fields : List Field) → FitsForm x f p → room (after p fields) + 1 ≤ room_of f + room fields
+room_by_form (form.Number least most) f p fields h =
     subst (λ q. room (after q fields) + 1 ≤ room_of f + room fields) (sym h.is) (number_room f (number_of p) fields)
-room_by_form (form.Lettered letter least most) f p fields e h =
+room_by_form (form.Lettered letter least most) f p fields h =
     subst (λ q. room (after q fields) + 1 ≤ room_of f + room fields) (sym h.is) (number_room f (number_of p) fields)
-room_by_form form.Due f p fields e h = subst (λ q. room (after q fields) + 1 ≤ room_of f + room fields) (sym h.is) (due_room f fields e)
-room_by_form form.Choice f p fields e h =
+room_by_form form.Due f p fields h = subst (λ q. room (after q fields) + 1 ≤ room_of f + room fields) (sym h.is) (omega (arith, some_room f))
+room_by_form form.Choice f p fields h =
     subst (λ q. room (after q fields) + 1 ≤ room_of f + room fields) (sym h.is)
     (subst (λ g. room (instead_of (fields_of h.word) fields) + 1 ≤ room_of g + room fields) h.table (instead_room (fields_of h.word) fields (room_of (table_of h.word)) (roomy h.word)))
 
 pub room_after : (f : Field) (p : Part) (fields : List Field) → Fits f p → room (after p fields) + 1 ≤ room_of f + room fields
-room_after f p fields h = room_by_form (form_of f) f p fields refl h
+room_after f p fields h = room_by_form (form_of f) f p fields h
 
 -- something fits in all fields
 some_fit : (n : ℕ) (fields : List Field) → room fields ≤ n → (parts : List Part) × AreFit fields parts
