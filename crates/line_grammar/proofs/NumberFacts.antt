@@ -1,15 +1,17 @@
 -- Fronts of decimal numbers.
-use Rattle.std.proofs.Common.{◌≡◌, ℕ, ◌+◌, ◌-◌, ◌*◌, ◌/◌, ◌%◌, ◌^◌, ◌<◌, ◌≤◌, List, [], ◌∷◌, ◌++◌, length, take, drop, get_or, refl, sym, ap, ◌∙◌, arith, ◌⊎◌, inl, inr, IsTrue}
+use Rattle.std.proofs.Common.{◌≡◌, ℕ, zero, suc, ◌+◌, ◌-◌, ◌*◌, ◌/◌, ◌%◌, ◌^◌, ◌<◌, ◌≤◌, ℤ, pos, negsuc, FitsSigned, w64, List, [], ◌∷◌, ◌++◌, length, take, drop, get_or, refl, sym, ap, ◌∙◌, arith, ◌⊎◌, inl, inr, IsTrue, Result}
 use Rattle.std.proofs.lemmas.List.{length-append, take_more}
-use Rattle.std.proofs.lemmas.Fmt.{decimal_step, decimal_by_steps, decimal_digit, decimal_nonempty, decimal_injective}
+use Rattle.std.proofs.lemmas.Fmt.{decimal_step, decimal_by_steps, decimal_digit, decimal_nonempty, decimal_injective, signed_decimal_injective}
+use Rattle.std.specs.Fmt.{signed_decimal}
 use Rattle.std.specs.Prelude.{decimal}
-use Rattle.line_grammar.specs.Language.{Stops, AnyOf, IsReadTo, IsStuck}
-use Rattle.line_grammar.specs.Numbers.{Numbers, IsLonger}
-use Rattle.line_grammar.specs.Parts.{IsPart}
-use Rattle.line_grammar.specs.Words.{lacks}
+use Rattle.line_grammar.specs.Language.{Stops, AnyOf, IsRead, IsReadTo, IsStuck}
+use Rattle.line_grammar.specs.Numbers.{Numbers, IsLonger, Negative, NotNegative, Signed}
+use Rattle.line_grammar.specs.Parts.{Led, IsPart}
+use Rattle.line_grammar.specs.Words.{Either, further_of, lacks}
 use Rattle.line_grammar.proofs.Cuts.{Cut, cut, further, nearer, same}
 use Rattle.line_grammar.proofs.Pairs.{one_then}
-use Rattle.line_grammar.proofs.WordFacts.{lacks_push}
+use Rattle.line_grammar.proofs.Readings.{read_same, stuck_renamed}
+use Rattle.line_grammar.proofs.WordFacts.{further_read, lacks_append, lacks_push}
 
 -- what is known of the first byte of a number's text
 record StartsAs (n b : ℕ) : Type 0 where
@@ -207,3 +209,50 @@ lack_more separator low n ds large h = lacks_push separator (48 + n % 10) ds h (
 pub decimal_lacks : (separator : ℕ) → separator < 48 → (n : ℕ) → n < 2 ^ 64 → IsTrue (lacks separator (decimal n))
 unfolding DigitsLack
 decimal_lacks separator low n bound = decimal_by_steps (DigitsLack separator) (lack_one separator low) (lack_more separator low) n bound
+
+-- numbers with a sign
+not_negative_back : (z : ℤ) (t : List ℕ) → NotNegative z t → AnyOf (Numbers 0 9223372036854775807) t
+not_negative_back (pos n) t a = (n, a)
+not_negative_back (negsuc n) t a = absurd a
+
+pub not_negative_stuck : (text : List ℕ) (place : ℕ) → IsStuck (Numbers 0 9223372036854775807) text place → IsStuck NotNegative text place
+not_negative_stuck text place stuck = stuck_renamed (Numbers 0 9223372036854775807) NotNegative not_negative_back text place (λ n t a. (pos n, a)) stuck
+
+abbrev Below : ℕ → List ℕ → Type 0
+Below = Led 45 (Numbers 1 9223372036854775808)
+
+negative_back : (z : ℤ) (t : List ℕ) → Negative z t → AnyOf Below t
+negative_back (pos n) t a = absurd a
+negative_back (negsuc n) t a = (suc n, a)
+
+negative_from : (n : ℕ) (t : List ℕ) → Below n t → AnyOf Negative t
+negative_from zero t a = let no_such : ⊥ = omega (arith, a.behind.at_least) in absurd no_such
+negative_from (suc n) t a = (negsuc n, a)
+
+pub negative_stuck : (text : List ℕ) (place : ℕ) → IsStuck Below text place → IsStuck Negative text place
+negative_stuck text place stuck = stuck_renamed Below Negative negative_back text place negative_from stuck
+
+signed_to : (z : ℤ) (t : List ℕ) → Either NotNegative Negative z t → Signed z t
+signed_to (pos n) t (inl a) = record { fits = record { sfits = omega (arith, a.at_most) }; split = a.split }
+signed_to (negsuc n) t (inl a) = absurd a
+signed_to (pos n) t (inr a) = absurd a
+signed_to (negsuc n) t (inr a) = record { fits = record { sfits = omega (arith, a.behind.at_most) }; split = a.split ∙ ap (λ l. 45 ∷ l) a.behind.split }
+
+signed_back : (z : ℤ) (t : List ℕ) → Signed z t → Either NotNegative Negative z t
+signed_back (pos n) t a = inl (record { at_least = omega arith; at_most = omega (arith, a.fits.sfits); split = a.split })
+signed_back (negsuc n) t a = inr (record { rest = decimal (suc n); split = a.split; behind = record { at_least = omega arith; at_most = omega (arith, a.fits.sfits); split = refl } })
+
+pub signed_read : (text : List ℕ) (r q z : Result (ℤ × ℕ) ℕ) → z ≡ further_of r q → IsRead NotNegative text r → IsRead Negative text q → IsRead Signed text z
+signed_read text r q z e a b = read_same (Either NotNegative Negative) Signed signed_to signed_back text z (further_read NotNegative Negative text r q z e a b)
+
+pub signed_unique : (y z : ℤ) (t : List ℕ) → Signed y t → Signed z t → y ≡ z
+signed_unique y z t a b = signed_decimal_injective y z (omega (arith, a.fits.sfits)) (omega (arith, b.fits.sfits)) (sym a.split ∙ b.split)
+
+pub signed_lacks : (separator : ℕ) → separator < 45 → (z : ℤ) → FitsSigned w64 z → IsTrue (lacks separator (signed_decimal z))
+signed_lacks separator low (pos n) h = decimal_lacks separator (omega arith) n (omega (arith, h.sfits))
+signed_lacks separator low (negsuc n) h = lacks_append separator (45 ∷ []) (decimal (suc n)) (lacks_push separator 45 [] refl (λ e. omega arith)) (decimal_lacks separator (omega arith) (suc n) (omega (arith, h.sfits)))
+
+-- a digit or a `-` stands first
+pub signed_first : (z : ℤ) → FitsSigned w64 z → (b : ℕ) (rest : List ℕ) → signed_decimal z ≡ b ∷ rest → b ≤ 57
+signed_first (pos n) h b rest e = (starts n b rest (omega (arith, h.sfits)) e).1
+signed_first (negsuc n) h b rest e = let first : 45 ≡ b = cc in omega arith

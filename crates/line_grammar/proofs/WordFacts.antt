@@ -4,11 +4,12 @@ use Rattle.std.proofs.lemmas.Bool.{ltb-true, ltb-false, cases_eq, eqb-false, eqb
 use Rattle.std.proofs.lemmas.List.{append-nil, append_assoc, length-take-le, take-append-drop, get_or-drop, get_or_at, drop-drop, take_more}
 use Rattle.std.proofs.Math.Seq.{take-add}
 use Rattle.std.proofs.lemmas.Slice.Eq.{bytes_eq-Decides}
-use Rattle.std.specs.Prelude.{bytes_eq, Result, Ok, Err, nat_le, nat_lt, if◌then◌else◌}
+use Rattle.std.specs.Prelude.{bytes_eq, Option, Some, None, Result, Ok, Err, nat_le, nat_lt, if◌then◌else◌}
 use Rattle.line_grammar.specs.Language.{Begins, Stops, AnyOf, IsReadTo, IsStuck, IsRead}
-use Rattle.line_grammar.specs.Words.{Word, Either, further_of, lacks, is_solid}
+use Rattle.line_grammar.specs.Words.{Word, Either, Optional, further_of, lacks, is_solid, something_of}
 use Rattle.line_grammar.specs.Parts.{IsPart}
 use Rattle.line_grammar.proofs.Pairs.{one_then}
+use Rattle.line_grammar.proofs.Readings.{read_renamed, read_same, stuck_renamed}
 
 word_stops : {V : Type 0} (meaning : V) (word text : List ℕ) (k : ℕ) → k ≤ length text
     → (k < length text → get_or word k 0 ≡ get_or text k 0 → ⊥)
@@ -197,3 +198,47 @@ solid_push x (y ∷ text) high h =
 
 pub solid_next : (text : List ℕ) (i : ℕ) → i < length text → IsTrue (is_solid (take i text)) → 45 ≤ get_or text i 0 → IsTrue (is_solid (take (i + 1) text))
 solid_next text i inside h high = subst (λ t. IsTrue (is_solid t)) (sym (take_more text i 0 inside)) (solid_push (get_or text i 0) (take i text) high h)
+
+-- a word for nothing, or something
+module _ {V : Type 0} (word : List ℕ) (W : V → List ℕ → Type 0) where
+  abbrev Something : Option V → List ℕ → Type 0
+  Something None text = ⊥
+  Something (Some v) text = W v text
+
+  something_back : (o : Option V) (t : List ℕ) → Something o t → AnyOf W t
+  something_back None t a = absurd a
+  something_back (Some v) t a = (v, a)
+
+  something_read : (text : List ℕ) (r : Result (V × ℕ) ℕ) → IsRead W text r → IsRead Something text (something_of r)
+  something_read text (Ok (v, n)) read = read_renamed W Something something_back text v (Some v) n (λ t a. a) read
+  something_read text (Err k) stuck = stuck_renamed W Something something_back text k (λ v t a. (Some v, a)) stuck
+
+  optional_to : (o : Option V) (t : List ℕ) → Either Something (Word None word) o t → Optional word W o t
+  optional_to None t (inl a) = absurd a
+  optional_to None t (inr a) = a.split
+  optional_to (Some v) t (inl a) = a
+  optional_to (Some v) t (inr a) = let no_such : ⊥ = cc (a.means) in absurd no_such
+
+  optional_back : (o : Option V) (t : List ℕ) → Optional word W o t → Either Something (Word None word) o t
+  optional_back None t a = inr (record { means = refl; split = a })
+  optional_back (Some v) t a = inl a
+
+  pub optional_read : (text : List ℕ) (r : Result (V × ℕ) ℕ) (q z : Result (Option V × ℕ) ℕ) → z ≡ further_of (something_of r) q → IsRead W text r
+      → IsRead (Word None word) text q → IsRead (Optional word W) text z
+  optional_read text r q z e a b =
+      read_same (Either Something (Word None word)) (Optional word W) optional_to optional_back text z
+      (further_read Something (Word None word) text (something_of r) q z e (something_read text r a) b)
+
+  pub optional_part : (separator : ℕ) → IsTrue (lacks separator word) → (W_unique : (v w : V) (text : List ℕ) → W v text → W w text → v ≡ w)
+      → ((v : V) (text : List ℕ) → W v text → IsTrue (lacks separator text)) → ((v : V) → W v word → ⊥) → IsPart separator (Optional word W)
+  optional_part separator word_lacks W_unique W_lacks apart = lacking_part separator (Optional word W) unique lacking
+    where
+      unique : (o p : Option V) (text : List ℕ) → Optional word W o text → Optional word W p text → o ≡ p
+      unique None None text a b = refl
+      unique None (Some w) text a b = absurd (apart w (subst (λ t. W w t) a b))
+      unique (Some v) None text a b = absurd (apart v (subst (λ t. W v t) b a))
+      unique (Some v) (Some w) text a b = ap (λ x. Some x) (W_unique v w text a b)
+
+      lacking : (o : Option V) (text : List ℕ) → Optional word W o text → IsTrue (lacks separator text)
+      lacking None text a = subst (λ t. IsTrue (lacks separator t)) (sym a) word_lacks
+      lacking (Some v) text a = W_lacks v text a

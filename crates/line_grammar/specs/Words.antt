@@ -1,5 +1,5 @@
 -- Single words, and choices among languages.
-use Rattle.std.specs.Prelude.{◌≡◌, ℕ, List, [], ◌∷◌, Bool, true, false, nat_eq, nat_le, ◌<◌, ◌⊎◌, Result, Ok, Err, nat_lt, if◌then◌else◌}
+use Rattle.std.specs.Prelude.{◌≡◌, ℕ, List, [], ◌∷◌, Bool, true, false, nat_eq, nat_le, ◌<◌, ◌⊎◌, Option, Some, None, Result, Ok, Err, nat_lt, if◌then◌else◌}
 
 -- the one word, which stands for the value
 pub record IsWord {V A : Type 0} (meaning : V) (word : List A) (value : V) (text : List A) : Type 0 where
@@ -12,6 +12,15 @@ Word meaning word value text = IsWord meaning word value text
 -- a text of either language
 abbrev pub Either : {V A : Type 0} → (V → List A → Type 0) → (V → List A → Type 0) → V → List A → Type 0
 Either P Q value text = P value text ⊎ Q value text
+
+-- the word stands for nothing, and a text of W for something
+abbrev pub Optional : {V A : Type 0} → List A → (V → List A → Type 0) → Option V → List A → Type 0
+Optional word W None text = text ≡ word
+Optional word W (Some value) text = W value text
+
+abbrev pub something_of : {V : Type 0} → Result (V × ℕ) ℕ → Result (Option V × ℕ) ℕ
+something_of (Ok (v, n)) = Ok (Some v, n)
+something_of (Err k) = Err k
 
 -- of what two readers found, the one that came further, and a text rather than a place within one
 abbrev pub further_of : {V : Type 0} → Result (V × ℕ) ℕ → Result (V × ℕ) ℕ → Result (V × ℕ) ℕ

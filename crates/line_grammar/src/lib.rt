@@ -6,8 +6,10 @@
 //! to which the front goes along. Readers of parts make readers of lines, for languages whose parts can be
 //! told from the separator behind them.
 //!
-//! - `read_number` and `read_prefixed` read numbers of a range, without leading zeros;
-//! - `read_word` reads one word, and `further` chooses among readers;
+//! - `read_number` and `read_prefixed` read numbers of a range, without leading zeros, and `read_signed`
+//!   those of 64 bits with a sign;
+//! - `read_word` reads one word, and `further` chooses among readers; where the word stands for nothing,
+//!   `something` is what the other reader found;
 //! - `behind` takes one byte off, and `size_before` finds a separator.
 //!
 //! The fault of a text is the longest front that it shares with a text of the language (`IsFault`); that of
@@ -27,8 +29,8 @@ pub mod words;
 
 #[cfg(test)]
 mod tests {
-    use crate::numbers::{read_number, read_prefixed};
-    use crate::words::{behind, further, read_word, size_before};
+    use crate::numbers::{read_number, read_prefixed, read_signed};
+    use crate::words::{behind, further, read_word, size_before, something};
 
     #[test]
     fn numbers_in_range(rt: HostRuntime) {
@@ -55,6 +57,49 @@ mod tests {
         assert_eq!(rt; read_prefixed(b'c', "c17".as_bytes(), 1, 16), Ok((1, 2)));
         assert_eq!(rt; read_prefixed(b'c', "w1".as_bytes(), 1, 16), Err(0));
         assert_eq!(rt; read_prefixed(b'c', "c0".as_bytes(), 1, 16), Err(1));
+    }
+
+    #[test]
+    fn numbers_with_a_sign(rt: HostRuntime) {
+        let cases = [
+            ("0", Ok((0, 1))),
+            ("-1", Ok((-1, 2))),
+            ("-0", Err(1)),
+            ("-", Err(1)),
+            ("--1", Err(1)),
+            ("+1", Err(0)),
+            ("", Err(0)),
+            ("-01", Err(1)),
+            ("01", Ok((0, 1))),
+            ("-10 5", Ok((-10, 3))),
+            ("9223372036854775807", Ok((9_223_372_036_854_775_807, 19))),
+            ("9223372036854775808", Ok((922_337_203_685_477_580, 18))),
+            (
+                "-9223372036854775808",
+                Ok((-9_223_372_036_854_775_808, 20)),
+            ),
+            ("-9223372036854775809", Ok((-922_337_203_685_477_580, 19))),
+        ];
+        for (text, read) in cases {
+            assert_eq!(rt; read_signed(text.as_bytes()), read, "{text}");
+        }
+    }
+
+    #[test]
+    fn nothing_or_a_number(rt: HostRuntime) {
+        let cases = [
+            ("none", Ok((None, 4))),
+            ("non", Err(3)),
+            ("nonee", Ok((None, 4))),
+            ("7", Ok((Some(7), 1))),
+            ("-", Err(1)),
+            ("", Err(0)),
+        ];
+        for (text, read) in cases {
+            let bytes = text.as_bytes();
+            let found = further(something(read_signed(bytes)), read_word(None, "none", bytes));
+            assert_eq!(rt; found, read, "{text}");
+        }
     }
 
     #[test]

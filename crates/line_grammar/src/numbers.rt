@@ -2,10 +2,10 @@
 
 ghost use Rattle.std.specs.Prelude.{◌≡◌, ◌<◌, ◌≤◌, ◌+◌, ℕ, List, ◌∷◌, drop, length, slice_index, MatchOption};
 ghost use Rattle.line_grammar.specs.Language.{IsRead};
-ghost use Rattle.line_grammar.specs.Numbers.{Numbers, IsLonger};
+ghost use Rattle.line_grammar.specs.Numbers.{Numbers, IsLonger, Negative, NotNegative, Signed};
 ghost use Rattle.line_grammar.specs.Parts.{Led};
 
-use crate::words::behind;
+use crate::words::{behind, further};
 
 /// Reads a number from `least` to `most` at the front of the text.
 pub fn read_number(text: &[u8], least: u64, most: u64) -> Result<(u64, usize), usize>
@@ -86,5 +86,30 @@ pub fn read_prefixed(letter: u8, text: &[u8], least: u64, most: u64) -> Result<(
     match read_number(rest, least, most) {
         Ok((value, size)) => Ok((value, size + 1)),
         Err(place) => Err(place + 1),
+    }
+}
+
+/// Reads a number of 64 bits with a sign: a `-` stands before one that is below 0. `-0` is no number.
+pub fn read_signed(text: &[u8]) -> Result<(i64, usize), usize>
+    ensures { IsRead Signed text.now result }
+{
+    further(read_not_negative(text), read_negative(text))
+}
+
+fn read_not_negative(text: &[u8]) -> Result<(i64, usize), usize>
+    ensures { IsRead NotNegative text.now result }
+{
+    match read_number(text, 0, 9_223_372_036_854_775_807) {
+        Ok((value, size)) => Ok((value as i64, size)),
+        Err(place) => Err(place),
+    }
+}
+
+fn read_negative(text: &[u8]) -> Result<(i64, usize), usize>
+    ensures { IsRead Negative text.now result }
+{
+    match read_prefixed(b'-', text, 1, 9_223_372_036_854_775_808) {
+        Ok((value, size)) => Ok((-1 - (value - 1) as i64, size)),
+        Err(place) => Err(place),
     }
 }

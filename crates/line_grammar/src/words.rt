@@ -3,7 +3,7 @@
 ghost use Rattle.std.specs.Prelude.{◌≡◌, ◌≢◌, ◌<◌, ◌≤◌, ℕ, List, ◌∷◌, IsTrue, MatchOption, drop, length, take, slice_index};
 ghost use Rattle.line_grammar.specs.Language.{IsRead};
 ghost use Rattle.line_grammar.specs.Parts.{Opens};
-ghost use Rattle.line_grammar.specs.Words.{Word, EndsWord, further_of, is_solid, lacks};
+ghost use Rattle.line_grammar.specs.Words.{Word, EndsWord, further_of, is_solid, lacks, something_of};
 
 /// Reads the word at the front of the text, which then stands for `meaning`.
 pub fn read_word<V: Copy>(meaning: V, word: &str, text: &[u8]) -> Result<(V, usize), usize>
@@ -36,6 +36,18 @@ pub fn further<V: Copy>(
         (Ok((v, n)), Err(k)) => if n < k { Err(k) } else { Ok((v, n)) },
         (Err(k), Ok((w, m))) => if m < k { Err(k) } else { Ok((w, m)) },
         (Err(j), Err(k)) => if j < k { Err(k) } else { Err(j) },
+    }
+}
+
+/// What a reader found, as something: the other choice is a word that stands for nothing.
+pub fn something<V: Copy>(
+    read: Result<(V, usize), usize>,
+) -> Result<(Option<V>, usize), usize>
+    ensures { result ≡ something_of read }
+{
+    match read {
+        Ok((value, size)) => Ok((Some(value), size)),
+        Err(place) => Err(place),
     }
 }
 

@@ -3,6 +3,7 @@ mod AnswerFacts
 pub mod Bounds
 mod CallFacts
 mod Choices
+mod DueFacts
 pub mod EntryFacts
 pub mod Feeds
 mod Outcomes

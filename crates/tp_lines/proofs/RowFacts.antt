@@ -23,6 +23,10 @@ group_room : (b : Bool) (fields : List Field) → room (if b then field.NoCancel
 group_room true fields = omega arith
 group_room false fields = omega arith
 
+some_room : (f : Field) → 1 ≤ room_of f
+some_room field.Short = omega arith
+some_room _ = omega arith
+
 number_room : (f : Field) (n : ℕ) (fields : List Field) → room (after (number_part f n) fields) + 1 ≤ room_of f + room fields
 number_room field.Group n fields = group_room (nat_eq n 0) fields
 number_room _ n fields = omega arith
@@ -36,6 +40,7 @@ room_by_form (form.Number least most) f p fields h =
     subst (λ q. room (after q fields) + 1 ≤ room_of f + room fields) (sym h.is) (number_room f (number_of p) fields)
 room_by_form (form.Lettered letter least most) f p fields h =
     subst (λ q. room (after q fields) + 1 ≤ room_of f + room fields) (sym h.is) (number_room f (number_of p) fields)
+room_by_form form.Due f p fields h = subst (λ q. room (after q fields) + 1 ≤ room_of f + room fields) (sym h.is) (omega (arith, some_room f))
 room_by_form form.Choice f p fields h =
     subst (λ q. room (after q fields) + 1 ≤ room_of f + room fields) (sym h.is)
     (subst (λ g. room (instead_of (fields_of h.word) fields) + 1 ≤ room_of g + room fields) h.table (instead_room (fields_of h.word) fields (room_of (table_of h.word)) (roomy h.word)))

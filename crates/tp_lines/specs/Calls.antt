@@ -3,7 +3,7 @@ use Rattle.std.specs.Prelude.{◌≡◌, ℕ, ◌+◌, ◌<◌, ◌≤◌, ◌^�
 use Rattle.tp_base.specs.declared.calls.Call.{Call}
 use Rattle.tp_base.specs.declared.calls.Call.TheVariants as call
 use Rattle.tp_base.specs.declared.calls.Environ.{Environ}
-use Rattle.tp_base.specs.declared.calls.Kind.TheVariants.{Work}
+use Rattle.tp_base.specs.declared.calls.Kind.{Kind}
 use Rattle.tp_base.specs.declared.ids.Who.{Who}
 use Rattle.tp_base.specs.declared.ids.Who.TheVariants.{Client, Worker}
 use Rattle.tp_lines.specs.declared.parts.Part.{Part}
@@ -11,9 +11,10 @@ use Rattle.tp_lines.specs.declared.parts.Part.TheVariants as part
 use Rattle.tp_lines.specs.declared.words.Field.TheVariants as field
 use Rattle.tp_lines.specs.declared.words.Word.{Word}
 use Rattle.tp_lines.specs.declared.words.Word.TheVariants as word
-use Rattle.tp_lines.specs.Parts.{AreFit, parts_of, row_text}
+use Rattle.tp_lines.specs.Parts.{AreFit, IsDueInRange, parts_of, row_text}
 use Rattle.tp_lines.specs.Rows.{RowTexts}
-use Rattle.tp_lines.specs.Values.{part_at, small_of, large_of, kind_of, priority_of, length_of, how_of}
+use Rattle.tp_lines.specs.Shapes.{table_of_kind}
+use Rattle.tp_lines.specs.Values.{part_at, small_of, large_of, due_of, kind_of, priority_of, length_of, how_of}
 use Rattle.tp_lines.specs.Words.{text_of_who}
 
 abbrev pub environ_parts : Environ → List Part
@@ -29,6 +30,10 @@ row_of (call.Create kind routine context env) = (word.Create, part.Word (word.Ki
 row_of (call.CloseObject kind object) = (word.CloseObject, part.Word (word.Kind kind) ∷ part.Short object.0 ∷ [])
 row_of (call.SubmitSimple routine context env) = (word.SubmitSimple, part.Routine routine.0 ∷ part.Context context ∷ environ_parts env)
 row_of (call.SubmitWork object) = (word.Submit, part.Short object.0 ∷ [])
+row_of (call.SetTimer object due period window) = (word.SetTimer, part.Short object.0 ∷ part.Due due ∷ part.Small period ∷ part.Small window ∷ [])
+row_of (call.SetTimerEx object due period window) = (word.SetTimerEx, part.Short object.0 ∷ part.Due due ∷ part.Small period ∷ part.Small window ∷ [])
+row_of (call.IsTimerSet object) = (word.IsTimerSet, part.Short object.0 ∷ [])
+row_of (call.Advance ticks) = (word.Advance, part.Time ticks ∷ [])
 row_of (call.BeginWait kind object cancel) = (word.BeginWait, part.Word (word.Kind kind) ∷ part.Short object.0 ∷ part.Word (word.How cancel) ∷ [])
 row_of call.End = (word.End, [])
 row_of call.Attach = (word.Attach, [])
@@ -51,15 +56,21 @@ IsWhoInRange (Worker number) = (1 ≤ number) × (number ≤ 64)
 abbrev pub FitsCall : Call → Type 0
 FitsCall made = AreFit (field.Call ∷ []) (parts_of (row_of made))
 
+-- of the kinds of objects those that are built are read
+abbrev pub IsBuilt : Kind → Type 0
+IsBuilt kind = table_of_kind kind ≡ field.Kind
+
 -- what besides the ranges of its identities a call needs so that a line can have it: its other numbers are of 32
--- and 64 bits, and of the kinds of objects those that are built are read
+-- and 64 bits, and its kind is built
 abbrev pub IsReadable : Call → Type 0
 IsReadable (call.SetMaximum pool value) = value < 2 ^ 32
 IsReadable (call.SetMinimum pool value) = value < 2 ^ 32
-IsReadable (call.Create kind routine context env) = (kind ≡ Work) × (context < 2 ^ 64)
-IsReadable (call.CloseObject kind object) = kind ≡ Work
+IsReadable (call.Create kind routine context env) = IsBuilt kind × (context < 2 ^ 64)
+IsReadable (call.CloseObject kind object) = IsBuilt kind
 IsReadable (call.SubmitSimple routine context env) = context < 2 ^ 64
-IsReadable (call.BeginWait kind object cancel) = kind ≡ Work
+IsReadable (call.SetTimer object due period window) = IsDueInRange due × (period < 2 ^ 32) × (window < 2 ^ 32)
+IsReadable (call.SetTimerEx object due period window) = IsDueInRange due × (period < 2 ^ 32) × (window < 2 ^ 32)
+IsReadable (call.BeginWait kind object cancel) = IsBuilt kind
 IsReadable _ = Unit {0}
 
 -- the text is the line of this call by this actor, and a line can have their numbers
@@ -102,6 +113,10 @@ call_at word.Create parts = Some (call.Create (kind_of (part_at parts 1)) (recor
 call_at word.CloseObject parts = Some (call.CloseObject (kind_of (part_at parts 1)) (record { 0 = small_of (part_at parts 2) }))
 call_at word.SubmitSimple parts = Some (call.SubmitSimple (record { 0 = small_of (part_at parts 1) }) (large_of (part_at parts 2)) (environ_at parts 3))
 call_at word.Submit parts = Some (call.SubmitWork (record { 0 = small_of (part_at parts 1) }))
+call_at word.SetTimer parts = Some (call.SetTimer (record { 0 = small_of (part_at parts 1) }) (due_of (part_at parts 2)) (small_of (part_at parts 3)) (small_of (part_at parts 4)))
+call_at word.SetTimerEx parts = Some (call.SetTimerEx (record { 0 = small_of (part_at parts 1) }) (due_of (part_at parts 2)) (small_of (part_at parts 3)) (small_of (part_at parts 4)))
+call_at word.IsTimerSet parts = Some (call.IsTimerSet (record { 0 = small_of (part_at parts 1) }))
+call_at word.Advance parts = Some (call.Advance (large_of (part_at parts 1)))
 call_at word.BeginWait parts = Some (call.BeginWait (kind_of (part_at parts 1)) (record { 0 = small_of (part_at parts 2) }) (how_of (part_at parts 3)))
 call_at word.End parts = Some call.End
 call_at word.Attach parts = Some call.Attach

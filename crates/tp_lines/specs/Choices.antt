@@ -1,6 +1,8 @@
 -- The texts of single fields, and of the words of a field.
-use Rattle.std.specs.Prelude.{◌≡◌, ℕ, List, [], ◌∷◌, ◌⊎◌, false}
+use Rattle.std.specs.Prelude.{◌≡◌, ℕ, ℤ, List, [], ◌∷◌, ◌⊎◌, Option, codes, false}
+use Rattle.line_grammar.specs.Numbers.{Signed}
 use Rattle.line_grammar.specs.Parts.{Led}
+use Rattle.line_grammar.specs.Words.{Optional}
 use Rattle.tp_base.specs.declared.answers.ActionKind.TheVariants as action
 use Rattle.tp_base.specs.declared.answers.SlotWord.TheVariants as slot
 use Rattle.tp_base.specs.declared.calls.Kind.TheVariants as kind
@@ -29,6 +31,10 @@ pub record IsChoiceText (field : Field) (word : Word) (text : List ℕ) : Type 0
 abbrev pub ChoiceTexts : Field → Word → List ℕ → Type 0
 ChoiceTexts field word text = IsChoiceText field word text
 
+-- due times
+abbrev pub DueTexts : Option ℤ → List ℕ → Type 0
+DueTexts = Optional (codes "none") Signed
+
 -- the texts of one field with the space before it
 abbrev pub PartTexts : Field → Part → List ℕ → Type 0
 PartTexts field = Led 32 (BodyTexts field)
@@ -42,7 +48,7 @@ default_word field.Refusal = word.NoSuch
 default_word field.State = word.Stay
 default_word field.Target = word.Kernel
 default_word field.Kind = word.Kind kind.Work
-default_word field.Unbuilt = word.Kind kind.Timer
+default_word field.Unbuilt = word.Kind kind.Wait
 default_word field.Priority = word.Priority priority.Normal
 default_word field.Length = word.Length false
 default_word field.How = word.How false

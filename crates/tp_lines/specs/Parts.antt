@@ -1,5 +1,6 @@
 -- The parts of a line: what each holds, and its text.
-use Rattle.std.specs.Prelude.{◌≡◌, ℕ, ◌+◌, ◌≤◌, List, [], ◌∷◌, ◌++◌, decimal, nat_eq, if◌then◌else◌}
+use Rattle.std.specs.Prelude.{◌≡◌, ℕ, ◌+◌, ◌≤◌, ℤ, FitsSigned, Option, Some, None, List, [], ◌∷◌, ◌++◌, decimal, nat_eq, if◌then◌else◌}
+use Rattle.std.specs.Int.{w64}
 use Rattle.tp_lines.specs.declared.parts.Form.{Form}
 use Rattle.tp_lines.specs.declared.parts.Form.TheVariants as form
 use Rattle.tp_lines.specs.declared.parts.Part.{Part}
@@ -8,6 +9,8 @@ use Rattle.tp_lines.specs.declared.words.Field.{Field}
 use Rattle.tp_lines.specs.declared.words.Field.TheVariants as field
 use Rattle.tp_lines.specs.declared.words.Word.{Word}
 use Rattle.tp_lines.specs.Shapes.{fields_of, table_of, text_of_word}
+use Rattle.tp_lines.specs.Values.{due_of}
+use Rattle.tp_lines.specs.Words.{text_of_due}
 
 -- the text of a part behind its space
 abbrev pub text_of_part : Part → List ℕ
@@ -17,6 +20,7 @@ text_of_part (part.Level count) = decimal count
 text_of_part (part.Small number) = decimal number
 text_of_part (part.Large number) = decimal number
 text_of_part (part.Time time) = decimal time
+text_of_part (part.Due due) = text_of_due due
 text_of_part (part.Routine routine) = 114 ∷ decimal routine
 text_of_part (part.Context context) = 120 ∷ decimal context
 text_of_part (part.Cleanup context) = 121 ∷ decimal context
@@ -46,6 +50,7 @@ form_of field.Level = form.Number 0 2147483647
 form_of field.Small = form.Number 0 4294967295
 form_of field.Large = form.Number 0 18446744073709551615
 form_of field.Time = form.Number 0 9223372036854775807
+form_of field.Due = form.Due
 form_of field.Routine = form.Lettered 114 1 65535
 form_of field.Context = form.Lettered 120 0 18446744073709551615
 form_of field.Cleanup = form.Lettered 121 0 18446744073709551615
@@ -59,7 +64,7 @@ form_of _ = form.Choice
 abbrev pub most_of : Form → ℕ
 most_of (form.Number least most) = most
 most_of (form.Lettered letter least most) = most
-most_of form.Choice = 0
+most_of _ = 0
 
 -- the part of a field of numbers
 abbrev pub number_part : Field → ℕ → Part
@@ -93,13 +98,23 @@ number_of (part.Origin number) = number
 number_of (part.Pool number) = number
 number_of (part.Group number) = number
 number_of (part.Cancel number) = number
-number_of (part.Word word) = 0
+number_of _ = 0
 
 -- the part is a number of the field, in the range
 pub record IsNumberPart (field : Field) (least most : ℕ) (held : Part) : Type 0 where
   pub is : held ≡ number_part field (number_of held)
   pub at_least : least ≤ number_of held
   pub at_most : number_of held ≤ most
+
+-- a due time is of 64 bits
+abbrev pub IsDueInRange : Option ℤ → Type 0
+IsDueInRange None = Unit {0}
+IsDueInRange (Some due) = FitsSigned w64 due
+
+-- the part is a due time
+pub record IsDuePart (held : Part) : Type 0 where
+  pub is : held ≡ part.Due (due_of held)
+  pub in_range : IsDueInRange (due_of held)
 
 -- the part is a word of the field
 pub record IsWordPart (field : Field) (held : Part) : Type 0 where
@@ -110,6 +125,7 @@ pub record IsWordPart (field : Field) (held : Part) : Type 0 where
 abbrev pub FitsForm : Form → Field → Part → Type 0
 FitsForm (form.Number least most) field held = IsNumberPart field least most held
 FitsForm (form.Lettered letter least most) field held = IsNumberPart field least most held
+FitsForm form.Due field held = IsDuePart held
 FitsForm form.Choice field held = IsWordPart field held
 
 -- the part may stand in the field

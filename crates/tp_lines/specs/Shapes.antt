@@ -1,7 +1,7 @@
 -- The words of lines: the field in which each stands, its text, and the fields behind it.
 use Rattle.std.specs.Prelude.{ℕ, List, [], ◌∷◌, codes}
 use Rattle.tp_base.specs.declared.calls.Kind.{Kind}
-use Rattle.tp_base.specs.declared.calls.Kind.TheVariants.{Work}
+use Rattle.tp_base.specs.declared.calls.Kind.TheVariants.{Work, Timer}
 use Rattle.tp_lines.specs.declared.words.Field.{Field}
 use Rattle.tp_lines.specs.declared.words.Field.TheVariants as field
 use Rattle.tp_lines.specs.declared.words.Word.{Word}
@@ -16,6 +16,7 @@ pub record Shape : Type 0 where
 -- of the kinds of objects those that are built are read
 abbrev pub table_of_kind : Kind → Field
 table_of_kind Work = field.Kind
+table_of_kind Timer = field.Kind
 table_of_kind _ = field.Unbuilt
 
 abbrev pub shape_of : Word → Shape
@@ -27,6 +28,10 @@ shape_of word.Create = record { table = field.Call; text = codes "create"; field
 shape_of word.CloseObject = record { table = field.Call; text = codes "close"; fields = field.Kind ∷ field.Short ∷ [] }
 shape_of word.SubmitSimple = record { table = field.Call; text = codes "submit-simple"; fields = field.Routine ∷ field.Context ∷ field.Pool ∷ field.Priority ∷ field.Length ∷ field.Group ∷ field.Cancel ∷ [] }
 shape_of word.Submit = record { table = field.Call; text = codes "submit"; fields = field.Short ∷ [] }
+shape_of word.SetTimer = record { table = field.Call; text = codes "set-timer"; fields = field.Short ∷ field.Due ∷ field.Small ∷ field.Small ∷ [] }
+shape_of word.SetTimerEx = record { table = field.Call; text = codes "set-timer-ex"; fields = field.Short ∷ field.Due ∷ field.Small ∷ field.Small ∷ [] }
+shape_of word.IsTimerSet = record { table = field.Call; text = codes "is-timer-set"; fields = field.Short ∷ [] }
+shape_of word.Advance = record { table = field.Call; text = codes "advance"; fields = field.Time ∷ [] }
 shape_of word.BeginWait = record { table = field.Call; text = codes "wait"; fields = field.Kind ∷ field.Short ∷ field.How ∷ [] }
 shape_of word.End = record { table = field.Call; text = codes "end"; fields = [] }
 shape_of word.Attach = record { table = field.Call; text = codes "attach"; fields = [] }

@@ -1,5 +1,5 @@
 -- What the parts of a row hold.
-use Rattle.std.specs.Prelude.{ℕ, Bool, false, List, slice_index_or}
+use Rattle.std.specs.Prelude.{ℕ, ℤ, Bool, false, List, Option, None, slice_index_or}
 use Rattle.tp_base.specs.declared.answers.ActionKind.{ActionKind}
 use Rattle.tp_base.specs.declared.answers.ActionKind.TheVariants.{Section}
 use Rattle.tp_base.specs.declared.answers.SlotWord.{SlotWord}
@@ -35,6 +35,10 @@ large_of (part.Time number) = number
 large_of (part.Context number) = number
 large_of (part.Cleanup number) = number
 large_of _ = 0
+
+abbrev pub due_of : Part → Option ℤ
+due_of (part.Due due) = due
+due_of _ = None
 
 abbrev pub word_of : Part → Word
 word_of (part.Word word) = word

@@ -1,5 +1,6 @@
--- The texts of words that stand for a choice, and of actors.
-use Rattle.std.specs.Prelude.{ℕ, Bool, true, false, List, ◌∷◌, codes, decimal}
+-- The texts of words that stand for a choice, of due times, and of actors.
+use Rattle.std.specs.Prelude.{ℕ, ℤ, Bool, true, false, List, ◌∷◌, codes, decimal, Option, Some, None}
+use Rattle.std.specs.Fmt.{signed_decimal}
 use Rattle.tp_base.specs.declared.answers.ActionKind.{ActionKind}
 use Rattle.tp_base.specs.declared.answers.ActionKind.TheVariants.{Section, Mutex, Semaphore, Event}
 use Rattle.tp_base.specs.declared.answers.SlotWord.{SlotWord}
@@ -47,6 +48,10 @@ text_of_slot Unasked = codes "-"
 text_of_slot Performed = codes "done"
 text_of_slot NotOwner = codes "not-owner"
 text_of_slot OverMaximum = codes "over-maximum"
+
+abbrev pub text_of_due : Option ℤ → List ℕ
+text_of_due None = codes "none"
+text_of_due (Some due) = signed_decimal due
 
 -- the actors: c1, c2, .. and w1, w2, ..
 abbrev pub text_of_who : Who → List ℕ

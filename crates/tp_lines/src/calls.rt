@@ -51,6 +51,24 @@ fn call_at(word: Word, parts: &Parts) -> Option<Call>
         Word::Submit => Call::SubmitWork {
             object: ObjectId(parts.at(1).small()),
         },
+        Word::SetTimer => Call::SetTimer {
+            object: ObjectId(parts.at(1).small()),
+            due: parts.at(2).due(),
+            period: parts.at(3).small(),
+            window: parts.at(4).small(),
+        },
+        Word::SetTimerEx => Call::SetTimerEx {
+            object: ObjectId(parts.at(1).small()),
+            due: parts.at(2).due(),
+            period: parts.at(3).small(),
+            window: parts.at(4).small(),
+        },
+        Word::IsTimerSet => Call::IsTimerSet {
+            object: ObjectId(parts.at(1).small()),
+        },
+        Word::Advance => Call::Advance {
+            ticks: parts.at(1).large(),
+        },
         Word::BeginWait => Call::BeginWait {
             kind: parts.at(1).kind(),
             object: ObjectId(parts.at(2).small()),
@@ -198,6 +216,28 @@ pub fn put_call(call: &Call, line: &mut Line)
         }
         Call::SubmitWork { object } => {
             parts!(line; first(Word::Submit) number(u64::from(object.0)));
+        }
+        Call::SetTimer {
+            object,
+            due,
+            period,
+            window,
+        } => {
+            parts!(line; first(Word::SetTimer) number(u64::from(object.0)) due(*due) number(u64::from(*period)) number(u64::from(*window)));
+        }
+        Call::SetTimerEx {
+            object,
+            due,
+            period,
+            window,
+        } => {
+            parts!(line; first(Word::SetTimerEx) number(u64::from(object.0)) due(*due) number(u64::from(*period)) number(u64::from(*window)));
+        }
+        Call::IsTimerSet { object } => {
+            parts!(line; first(Word::IsTimerSet) number(u64::from(object.0)));
+        }
+        Call::Advance { ticks } => {
+            parts!(line; first(Word::Advance) number(*ticks));
         }
         Call::BeginWait {
             kind,

@@ -9,19 +9,23 @@ use std::alloc::{AllocError, Global};
 use std::process::Abort;
 use std::test::Fail;
 
-fn call_patterns() -> [&'static str; 19] {
+fn call_patterns() -> [&'static str; 23] {
     [
         "c&|w~ create-pool",
         "c&|w~ close-pool #",
         "c&|w~ set-maximum # $",
         "c&|w~ set-minimum # $",
-        "c&|w~ create work r+ x@ p# high|normal|low short|long g+ q#",
-        "c&|w~ create work r+ x@ p# high|normal|low short|long g0 q0",
-        "c&|w~ close work #",
+        "c&|w~ create work|timer r+ x@ p# high|normal|low short|long g+ q#",
+        "c&|w~ create work|timer r+ x@ p# high|normal|low short|long g0 q0",
+        "c&|w~ close work|timer #",
         "c&|w~ submit-simple r+ x@ p# high|normal|low short|long g+ q#",
         "c&|w~ submit-simple r+ x@ p# high|normal|low short|long g0 q0",
         "c&|w~ submit #",
-        "c&|w~ wait work # keep|cancel",
+        "c&|w~ set-timer # none|^|-= $ $",
+        "c&|w~ set-timer-ex # none|^|-= $ $",
+        "c&|w~ is-timer-set #",
+        "c&|w~ advance ^",
+        "c&|w~ wait work|timer # keep|cancel",
         "c&|w~ end",
         "c&|w~ attach",
         "c&|w~ detach",
@@ -72,6 +76,7 @@ fn range_of(sign: u8) -> Option<(u64, u64)> {
         b'$' => Some((0, 4_294_967_295)),
         b'@' => Some((0, u64::MAX)),
         b'^' => Some((0, 9_223_372_036_854_775_807)),
+        b'=' => Some((1, 9_223_372_036_854_775_808)),
         b'&' => Some((1, 16)),
         b'~' => Some((1, 64)),
         _ => None,
@@ -201,23 +206,13 @@ fn pattern_reach(pattern: &str, text: &[u8]) -> Reach {
     Reach { place, whole: true }
 }
 
-fn call_reach(text: &[u8]) -> Reach {
+// How far a text goes along with one of the patterns.
+fn furthest_reach(patterns: &[&str], text: &[u8]) -> Reach {
     let mut best = Reach {
         place: 0,
         whole: false,
     };
-    for pattern in call_patterns() {
-        best = better(best, pattern_reach(pattern, text));
-    }
-    best
-}
-
-fn answer_reach(text: &[u8]) -> Reach {
-    let mut best = Reach {
-        place: 0,
-        whole: false,
-    };
-    for pattern in answer_patterns() {
+    for pattern in patterns {
         best = better(best, pattern_reach(pattern, text));
     }
     best
@@ -225,7 +220,7 @@ fn answer_reach(text: &[u8]) -> Reach {
 
 // How far a text goes along with entries.
 fn entry_reach(text: &[u8]) -> Reach {
-    let call = call_reach(text);
+    let call = furthest_reach(&call_patterns(), text);
     if !call.whole {
         return call;
     }
@@ -237,7 +232,7 @@ fn entry_reach(text: &[u8]) -> Reach {
             whole: false,
         };
     }
-    let answer = answer_reach(rest_of(text, behind));
+    let answer = furthest_reach(&answer_patterns(), rest_of(text, behind));
     Reach {
         place: behind.saturating_add(answer.place),
         whole: answer.whole,
@@ -397,7 +392,7 @@ fn columns_of_drawn_lines(rt: HostRuntime) -> Result<(), Fail> {
                     &rt,
                     text.as_slice(),
                     parse_call(text.as_slice()).err(),
-                    call_reach(text.as_slice()),
+                    furthest_reach(&call_patterns(), text.as_slice()),
                 );
                 line.extend_from_slice(b" -> ")?;
                 draw_pattern(answer, &mut draws, alloc, &mut line)?;

@@ -3,7 +3,9 @@
 //! So each number is written in its place, and its digits are not moved.
 
 ghost use Rattle.std.specs.Prelude.{◌≡◌, ℕ, ◌+◌, ◌≤◌, List, [], ◌∷◌, ◌++◌, decimal, drop, length};
+ghost use Rattle.std.specs.Fmt.{signed_decimal};
 ghost use Rattle.tp_lines.specs.Shapes.{text_of_word};
+ghost use Rattle.tp_lines.specs.Words.{text_of_due};
 
 use crate::words::{Word, word_text};
 use itoa::write_digits;
@@ -106,6 +108,31 @@ impl Line {
     {
         self.digits(number);
         self.byte(b' ');
+    }
+
+    /// Puts a space, and a due time or `none`, before the others.
+    pub fn due(&mut self, due: Option<i64>)
+        requires { length self.old + 22 ≤ 256 }
+        ensures text { self.new ≡ 32 ∷ text_of_due due ++ self.old }
+        ensures grown { length self.new ≤ length self.old + 22 }
+    {
+        match due {
+            Some(time) => self.signed(time),
+            None => self.text(b"none"),
+        }
+        self.byte(b' ');
+    }
+
+    // Puts a number with its sign before the others.
+    fn signed(&mut self, number: i64)
+        requires { length self.old + 21 ≤ 256 }
+        ensures text { self.new ≡ signed_decimal number ++ self.old }
+        ensures grown { length self.new ≤ length self.old + 21 }
+    {
+        self.digits(number.unsigned_abs());
+        if number < 0 {
+            self.byte(b'-');
+        }
     }
 
     /// Puts a space, a letter and a number before the others.

@@ -4,14 +4,14 @@ ghost use Rattle.std.specs.Prelude.{◌≡◌, ◌<◌, ◌≤◌, ◌++◌, ◌
 ghost use Rattle.line_grammar.specs.Language.{IsRead};
 ghost use Rattle.tp_lines.specs.declared.parts.Part.{Part};
 ghost use Rattle.tp_lines.specs.declared.words.Word.{Word};
-ghost use Rattle.tp_lines.specs.Choices.{BodyTexts, ChoiceTexts, Met, PartTexts, default_word};
+ghost use Rattle.tp_lines.specs.Choices.{BodyTexts, ChoiceTexts, DueTexts, Met, PartTexts, default_word};
 ghost use Rattle.tp_lines.specs.Parts.{after, form_of, instead_of, most_of, number_part};
 ghost use Rattle.tp_lines.specs.Shapes.{table_of};
-ghost use Rattle.tp_lines.specs.Values.{action_of, flag_of, how_of, kind_of, large_of, length_of, part_at, priority_of, slot_of, small_of, word_of};
+ghost use Rattle.tp_lines.specs.Values.{action_of, due_of, flag_of, how_of, kind_of, large_of, length_of, part_at, priority_of, slot_of, small_of, word_of};
 
 use crate::words::{Field, WORDS, Word, fields_of, find_word, table_of, word_text};
-use line_grammar::numbers::{read_number, read_prefixed};
-use line_grammar::words::{behind, further, read_bytes, word_size};
+use line_grammar::numbers::{read_number, read_prefixed, read_signed};
+use line_grammar::words::{behind, further, read_bytes, something, word_size};
 use std::marker::Model;
 use tp_base::answers::{ActionKind, SlotWord};
 use tp_base::calls::{Kind, Priority};
@@ -25,6 +25,7 @@ pub enum Part {
     Small(u32),
     Large(u64),
     Time(u64),
+    Due(Option<i64>),
     Routine(u32),
     Context(u64),
     Cleanup(u64),
@@ -42,6 +43,8 @@ pub enum Form {
     Number { least: u64, most: u64 },
     /// A letter, and a number from `least` to `most` behind it.
     Lettered { letter: u8, least: u64, most: u64 },
+    /// `none`, or a number of 64 bits with a sign.
+    Due,
     /// One of the words of the field.
     Choice,
 }
@@ -77,6 +80,16 @@ impl Part {
             | Part::Context(number)
             | Part::Cleanup(number) => number,
             _ => 0,
+        }
+    }
+
+    /// The due time, or none where this doesn't say.
+    pub fn due(self) -> Option<i64>
+        ensures { result ≡ due_of self }
+    {
+        match self {
+            Part::Due(due) => due,
+            _ => None,
         }
     }
 
@@ -218,6 +231,7 @@ pub fn form_of(field: Field) -> Form
         Field::Small => number(0, 4_294_967_295),
         Field::Large => number(0, u64::MAX),
         Field::Time => number(0, 9_223_372_036_854_775_807),
+        Field::Due => Form::Due,
         Field::Routine => lettered(b'r', 1, ID_MOST),
         Field::Context => lettered(b'x', 0, u64::MAX),
         Field::Cleanup => lettered(b'y', 0, u64::MAX),
@@ -343,7 +357,7 @@ fn default_word(field: Field) -> Word
         Field::State => Word::Stay,
         Field::Target => Word::Kernel,
         Field::Kind => Word::Kind(Kind::Work),
-        Field::Unbuilt => Word::Kind(Kind::Timer),
+        Field::Unbuilt => Word::Kind(Kind::Wait),
         Field::Priority => Word::Priority(Priority::Normal),
         Field::Length => Word::Length(false),
         Field::How => Word::How(false),
@@ -367,6 +381,15 @@ fn read_choice(field: Field, text: &[u8]) -> Result<(Word, usize), usize>
     }
 }
 
+fn read_due(text: &[u8]) -> Result<(Option<i64>, usize), usize>
+    ensures { IsRead DueTexts text.now result }
+{
+    further(
+        something(read_signed(text)),
+        read_bytes(None, b"none", text),
+    )
+}
+
 // Reads what stands in a field.
 fn read_body(field: Field, text: &[u8]) -> Result<(Part, usize), usize>
     ensures { IsRead (BodyTexts field) text.now result }
@@ -382,6 +405,10 @@ fn read_body(field: Field, text: &[u8]) -> Result<(Part, usize), usize>
             most,
         } => match read_prefixed(letter, text, least, most) {
             Ok((number, size)) => Ok((number_part(field, number), size)),
+            Err(place) => Err(place),
+        },
+        Form::Due => match read_due(text) {
+            Ok((due, size)) => Ok((Part::Due(due), size)),
             Err(place) => Err(place),
         },
         Form::Choice => match read_choice(field, text) {

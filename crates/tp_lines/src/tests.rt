@@ -45,7 +45,7 @@ fn faults_of_calls(rt: HostRuntime) {
         ("c1 submit -1", 11, LineKind::Unexpected),
         ("c1 submit 05", 12, LineKind::Unexpected),
         ("c1 submit 65536", 15, LineKind::Unexpected),
-        ("c1 create timer", 11, LineKind::Unexpected),
+        ("c1 create io", 11, LineKind::Unexpected),
         ("c1 create work r0", 17, LineKind::Unexpected),
         (
             "c1 create work r1 x18446744073709551616",
@@ -180,6 +180,81 @@ fn faults_of_objects(rt: HostRuntime) {
     }
 }
 
+#[test]
+fn faults_of_timers(rt: HostRuntime) {
+    let cases = [
+        ("c1 create timer", 16, LineKind::Unfinished),
+        ("c1 create timers r1", 16, LineKind::Unexpected),
+        ("c1 create wait r1", 12, LineKind::Unexpected),
+        (
+            "c1 create timer r1 x7 p0 normal short g0 q5",
+            43,
+            LineKind::Unexpected,
+        ),
+        ("c1 close timers 1", 15, LineKind::Unexpected),
+        ("c1 wait timer 1 kept", 19, LineKind::Unexpected),
+        ("c1 set-timers 1", 13, LineKind::Unexpected),
+        ("c1 set-timer-e", 15, LineKind::Unfinished),
+        ("c1 set-timer-ex1", 16, LineKind::Unexpected),
+        ("c1 set-timer 65536 0 0 0", 18, LineKind::Unexpected),
+        ("c1 set-timer 1 0 0 0 0", 21, LineKind::Unexpected),
+        ("c1 set-timer 1 -1 4294967296 0", 28, LineKind::Unexpected),
+        ("c1 set-timer 1 -1 0 -1", 21, LineKind::Unexpected),
+        ("c1 set-timer 1 -1 none 0", 19, LineKind::Unexpected),
+        ("c1 is-timer-set", 16, LineKind::Unfinished),
+        ("c1 is-timer-set none", 17, LineKind::Unexpected),
+        ("c1 advance -1", 12, LineKind::Unexpected),
+        ("c1 advance none", 12, LineKind::Unexpected),
+        ("c1 advance 9223372036854775808", 30, LineKind::Unexpected),
+    ];
+    for (text, column, kind) in cases {
+        check_call_fault(&rt, text, LineFault { column, kind });
+    }
+}
+
+#[test]
+fn faults_of_due_times(rt: HostRuntime) {
+    let cases = [
+        ("c1 set-timer 1", 15, LineKind::Unfinished),
+        ("c1 set-timer 1 -", 17, LineKind::Unfinished),
+        ("c1 set-timer 1 -1", 18, LineKind::Unfinished),
+        ("c1 set-timer 1 no", 18, LineKind::Unfinished),
+        ("c1 set-timer 1 none", 20, LineKind::Unfinished),
+        ("c1 set-timer 1 -0 0 0", 17, LineKind::Unexpected),
+        ("c1 set-timer 1 - 0 0", 17, LineKind::Unexpected),
+        ("c1 set-timer 1 --1 0 0", 17, LineKind::Unexpected),
+        ("c1 set-timer 1 -none 0 0", 17, LineKind::Unexpected),
+        ("c1 set-timer 1 +1 0 0", 16, LineKind::Unexpected),
+        ("c1 set-timer 1 01 0 0", 17, LineKind::Unexpected),
+        ("c1 set-timer 1 None 0 0", 16, LineKind::Unexpected),
+        ("c1 set-timer 1 nonee 0 0", 20, LineKind::Unexpected),
+        ("c1 set-timer 1 null 0 0", 17, LineKind::Unexpected),
+        (
+            "c1 set-timer 1 9223372036854775808 0 0",
+            34,
+            LineKind::Unexpected,
+        ),
+        (
+            "c1 set-timer 1 -9223372036854775809 0 0",
+            35,
+            LineKind::Unexpected,
+        ),
+        (
+            "c1 set-timer 1 -9223372036854775808 0 0 ",
+            40,
+            LineKind::Unexpected,
+        ),
+        (
+            "c1 set-timer-ex 1 -92233720368547758080 0 0",
+            39,
+            LineKind::Unexpected,
+        ),
+    ];
+    for (text, column, kind) in cases {
+        check_call_fault(&rt, text, LineFault { column, kind });
+    }
+}
+
 // The text is read as this call, and printed again in an entry.
 fn check_call(
     rt: &impl Abort,
@@ -281,6 +356,99 @@ fn calls_of_pools_there_and_back(rt: HostRuntime) -> Result<(), Fail> {
         ),
         ("c1 detach", Call::Detach),
         ("c1 may-run-long", Call::MayRunLong),
+    ];
+    for (text, call) in cases {
+        check_call(&rt, rt.alloc(), text, Who::Client(1), call)?;
+    }
+    Ok(())
+}
+
+fn set_timer(object: u32, due: Option<i64>, period: u32, window: u32) -> Call {
+    Call::SetTimer {
+        object: ObjectId(object),
+        due,
+        period,
+        window,
+    }
+}
+
+fn set_timer_ex(object: u32, due: Option<i64>, period: u32, window: u32) -> Call {
+    Call::SetTimerEx {
+        object: ObjectId(object),
+        due,
+        period,
+        window,
+    }
+}
+
+#[test]
+fn calls_of_timers_there_and_back(rt: HostRuntime) -> Result<(), Fail> {
+    let most = 4_294_967_295;
+    let env = Environ {
+        pool: PoolId(0),
+        group: GroupId(0),
+        cancel: RoutineId(0),
+        priority: Priority::Normal,
+        long: false,
+    };
+    let cases = [
+        (
+            "c1 create timer r1 x7 p0 normal short g0 q0",
+            Call::Create {
+                kind: Kind::Timer,
+                routine: RoutineId(1),
+                context: 7,
+                env,
+            },
+        ),
+        (
+            "c1 close timer 3",
+            Call::CloseObject {
+                kind: Kind::Timer,
+                object: ObjectId(3),
+            },
+        ),
+        (
+            "c1 wait timer 3 keep",
+            Call::BeginWait {
+                kind: Kind::Timer,
+                object: ObjectId(3),
+                cancel: false,
+            },
+        ),
+        ("c1 set-timer 1 none 0 0", set_timer(1, None, 0, 0)),
+        ("c1 set-timer 0 0 0 0", set_timer(0, Some(0), 0, 0)),
+        ("c1 set-timer 1 -1 0 7", set_timer(1, Some(-1), 0, 7)),
+        (
+            "c1 set-timer 65535 -9223372036854775808 4294967295 4294967295",
+            set_timer(65_535, Some(-9_223_372_036_854_775_808), most, most),
+        ),
+        (
+            "c1 set-timer 2 9223372036854775807 1000 50",
+            set_timer(2, Some(9_223_372_036_854_775_807), 1_000, 50),
+        ),
+        ("c1 set-timer-ex 7 none 1 2", set_timer_ex(7, None, 1, 2)),
+        (
+            "c1 set-timer-ex 7 -10000 0 4294967295",
+            set_timer_ex(7, Some(-10_000), 0, most),
+        ),
+        (
+            "c1 set-timer-ex 65535 10 4294967295 0",
+            set_timer_ex(65_535, Some(10), most, 0),
+        ),
+        (
+            "c1 is-timer-set 65535",
+            Call::IsTimerSet {
+                object: ObjectId(65_535),
+            },
+        ),
+        ("c1 advance 0", Call::Advance { ticks: 0 }),
+        (
+            "c1 advance 9223372036854775807",
+            Call::Advance {
+                ticks: 9_223_372_036_854_775_807,
+            },
+        ),
     ];
     for (text, call) in cases {
         check_call(&rt, rt.alloc(), text, Who::Client(1), call)?;

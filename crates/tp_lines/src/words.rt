@@ -21,6 +21,8 @@ pub enum Field {
     Large,
     /// A time of the clock, from 0 to 9,223,372,036,854,775,807.
     Time,
+    /// When something is due: `none`, or a number of 64 bits with a sign.
+    Due,
     /// `r` and the number of a routine, from 1 to 65,535.
     Routine,
     /// `x` and a number of 64 bits.
@@ -77,6 +79,10 @@ pub enum Word {
     CloseObject,
     SubmitSimple,
     Submit,
+    SetTimer,
+    SetTimerEx,
+    IsTimerSet,
+    Advance,
     BeginWait,
     End,
     Attach,
@@ -169,6 +175,10 @@ macro_rules! words {
                 (Word::CloseObject) b"close" [Kind Short];
                 (Word::SubmitSimple) b"submit-simple" [Routine Context Pool Priority Length Group Cancel];
                 (Word::Submit) b"submit" [Short];
+                (Word::SetTimer) b"set-timer" [Short Due Small Small];
+                (Word::SetTimerEx) b"set-timer-ex" [Short Due Small Small];
+                (Word::IsTimerSet) b"is-timer-set" [Short];
+                (Word::Advance) b"advance" [Time];
                 (Word::BeginWait) b"wait" [Kind Short How];
                 (Word::End) b"end" [];
                 (Word::Attach) b"attach" [];
@@ -253,9 +263,9 @@ macro_rules! words {
             }
             Kind {
                 (Word::Kind(Kind::Work)) b"work" [];
+                (Word::Kind(Kind::Timer)) b"timer" [];
             }
             Unbuilt {
-                (Word::Kind(Kind::Timer)) b"timer" [];
                 (Word::Kind(Kind::Wait)) b"wait" [];
                 (Word::Kind(Kind::Io)) b"io" [];
             }
@@ -345,7 +355,7 @@ macro_rules! all_words {
 /// All words.
 #[derive(Clone, Copy)]
 pub struct WordList {
-    pub words: [Word; 98],
+    pub words: [Word; 102],
 }
 
 pub const WORDS: WordList = WordList {
