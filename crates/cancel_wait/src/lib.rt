@@ -4,7 +4,8 @@
 //! `open` takes all the memory: `slots` numbers for each waiter, and one for each in the list of
 //! those that have begun. `begin` begins a wait that covers nothing, `cover` adds a number to it,
 //! and `finish` ends it, whatever it still covers. `left` takes a number out of every wait, and
-//! `left_one` out of one; `least` and `after` go along what a wait covers.
+//! `left_one` out of one; `covers` asks for a number, and `least` and `after` go along what a wait
+//! covers.
 //!
 //! ```text
 //! let mut barriers = Barriers::open(alloc, 2, 8)?;
@@ -16,7 +17,7 @@
 //! barriers.finish(0);
 //! ```
 //!
-//! What a call costs: `cover`, `left_one`, `after` and `left` find a number or its place by halving,
+//! What a call costs: `cover`, `covers`, `left_one`, `after` and `left` find a number or its place by halving,
 //! and a number that comes or leaves moves the numbers before it or those behind it, whichever are
 //! fewer: none where the number is above all that the wait covers. `left` goes over the waiters that
 //! have begun a wait, and no others. `begin` and `finish` find their waiter among those by halving;
@@ -136,6 +137,16 @@ impl Barriers {
         }
         let covered = &mut self.waits[waiter as usize].covered;
         covered.take_out(number);
+    }
+
+    /// Whether this waiter's wait covers the number. A wait that isn't begun covers none.
+    pub fn covers(&self, waiter: u32, number: u64) -> bool
+        ensures { result ≡ contains_number number (covered_of self.now waiter) }
+    {
+        match self.waits.get(waiter as usize) {
+            None => false,
+            Some(wait) => wait.covered.contains(number),
+        }
     }
 
     /// The least number that this waiter's wait covers, or None where it covers none or isn't begun, or

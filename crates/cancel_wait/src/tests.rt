@@ -27,6 +27,14 @@ fn waits_cover_what_has_not_left(rt: HostRuntime) -> Result<(), Fail> {
     barriers.left_one(3, 8);
     assert_eq!(rt; (barriers.least(2), barriers.least(3)), (Some(8), None));
     assert_eq!(rt; barriers.after(3, 0), None);
+    assert_eq!(rt;
+        (
+            barriers.covers(2, 8),
+            barriers.covers(2, 3),
+            barriers.covers(3, 8)
+        ),
+        (true, false, false)
+    );
     barriers.finish(2);
     assert_eq!(rt; (barriers.is_begun(2), barriers.least(2)), (false, None));
     barriers.begin(2);

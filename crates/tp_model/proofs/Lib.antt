@@ -25,3 +25,4 @@ pub mod Refusals
 pub mod Running
 pub mod Steps
 mod WaitExamples
+pub mod Waiting
