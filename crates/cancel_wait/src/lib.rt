@@ -4,7 +4,8 @@
 //! `open` takes all the memory: `slots` numbers for each waiter, and one for each in the list of
 //! those that have begun. `begin` begins a wait that covers nothing, `cover` adds a number to it,
 //! and `finish` ends it, whatever it still covers. `left` takes a number out of every wait, and
-//! `left_one` out of one; `least` and `after` go along what a wait covers.
+//! `left_one` out of one; `covers` asks for a number, and `least` and `after` go along what a wait
+//! covers.
 //!
 //! ```text
 //! let mut barriers = Barriers::open(alloc, 2, 8)?;
@@ -16,16 +17,17 @@
 //! barriers.finish(0);
 //! ```
 //!
-//! What a call costs: `cover` appends. `left_one`, `after` and `left` find a number by halving, and
-//! a number that leaves moves the numbers before it or those behind it, whichever are fewer. `left`
-//! goes over the waiters that have begun a wait, and no others. `begin` and `finish` find their
-//! waiter among those by halving; `finish` drops what is left of its wait.
+//! What a call costs: `cover`, `covers`, `left_one`, `after` and `left` find a number or its place by halving,
+//! and a number that comes or leaves moves the numbers before it or those behind it, whichever are
+//! fewer: none where the number is above all that the wait covers. `left` goes over the waiters that
+//! have begun a wait, and no others. `begin` and `finish` find their waiter among those by halving;
+//! `finish` drops what is left of its wait.
 
 #![tactic(auto)]
 
-ghost use Rattle.std.specs.Prelude.{◌≡◌, ◌<◌, [], ◌∷◌, ◌++◌, All, IfOk, IsSome, None, Some, find, is_some, length, map, nat_lt, option_map, replicate, slice_get};
+ghost use Rattle.std.specs.Prelude.{◌≡◌, ◌<◌, [], IfOk, IsSome, None, Some, false, find, is_some, length, map, nat_lt, option_map, replicate, slice_get};
 ghost use Rattle.std.specs.List.Sorted.{IsStrictlyIncreasing};
-ghost use Rattle.rising_numbers.specs.Rising.{all_but};
+ghost use Rattle.rising_numbers.specs.Rising.{all_but, contains_number, with_number};
 ghost use Rattle.cancel_wait.specs.Covers.{covered_of, wait_of, with_wait};
 
 use rising_numbers::RisingNumbers;
@@ -103,15 +105,15 @@ impl Barriers {
         self.begun.put(u64::from(waiter));
     }
 
-    /// Lets the wait that this waiter has begun cover a number above all that it covers.
+    /// Lets the wait that this waiter has begun cover a number that it doesn't cover yet.
     pub fn cover(&mut self, waiter: u32, number: u64)
         requires begun { IsSome (wait_of self.old waiter) }
         requires room { length (covered_of self.old waiter) < self.old.slots }
-        requires above { All (λ n. n < number) (covered_of self.old waiter) }
-        ensures { self.new ≡ with_wait self.old waiter (Some (covered_of self.old waiter ++ number ∷ [])) }
+        requires free { contains_number number (covered_of self.old waiter) ≡ false }
+        ensures { self.new ≡ with_wait self.old waiter (Some (with_number number (covered_of self.old waiter))) }
     {
         let covered = &mut self.waits[waiter as usize].covered;
-        covered.push(number);
+        covered.put(number);
     }
 
     /// Takes a number out of every wait.
@@ -125,30 +127,42 @@ impl Barriers {
         }
     }
 
-    /// Takes a number out of this waiter's wait.
+    /// Takes a number out of this waiter's wait. Nothing changes where that doesn't cover it, or isn't
+    /// begun, or there is no such waiter.
     pub fn left_one(&mut self, waiter: u32, number: u64)
-        requires { waiter < length self.old.waits }
         ensures { self.new ≡ with_wait self.old waiter (option_map (all_but number) (wait_of self.old waiter)) }
     {
+        if self.waits.len() <= waiter as usize {
+            return;
+        }
         let covered = &mut self.waits[waiter as usize].covered;
         covered.take_out(number);
     }
 
-    /// The least number that this waiter's wait covers, or None where it covers none or isn't begun.
+    /// Whether this waiter's wait covers the number. A wait that isn't begun covers none.
+    pub fn covers(&self, waiter: u32, number: u64) -> bool
+        ensures { result ≡ contains_number number (covered_of self.now waiter) }
+    {
+        match self.waits.get(waiter as usize) {
+            None => false,
+            Some(wait) => wait.covered.contains(number),
+        }
+    }
+
+    /// The least number that this waiter's wait covers, or None where it covers none or isn't begun, or
+    /// there is no such waiter.
     pub fn least(&self, waiter: u32) -> Option<u64>
-        requires { waiter < length self.now.waits }
         ensures value { result ≡ slice_get (covered_of self.now waiter) 0 }
         ensures rises { IsStrictlyIncreasing (covered_of self.now waiter) }
     {
-        self.waits[waiter as usize].covered.first()
+        self.waits.get(waiter as usize)?.covered.first()
     }
 
     /// The least number above this one that this waiter's wait covers, or None where there is none.
     pub fn after(&self, waiter: u32, number: u64) -> Option<u64>
-        requires { waiter < length self.now.waits }
         ensures { result ≡ find (λ n. nat_lt number n) (covered_of self.now waiter) }
     {
-        self.waits[waiter as usize].covered.after(number)
+        self.waits.get(waiter as usize)?.covered.after(number)
     }
 
     /// Ends the wait that this waiter has begun.

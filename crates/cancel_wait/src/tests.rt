@@ -9,9 +9,9 @@ fn waits_cover_what_has_not_left(rt: HostRuntime) -> Result<(), Fail> {
     assert_eq!(rt; (barriers.is_begun(2), barriers.least(2)), (false, None));
     barriers.begin(2);
     barriers.begin(0);
-    barriers.cover(2, 3);
     barriers.cover(2, 5);
     barriers.cover(2, 8);
+    barriers.cover(2, 3);
     barriers.cover(0, 5);
     barriers.left(5);
     assert_eq!(rt; (barriers.is_begun(0), barriers.least(0)), (true, None));
@@ -24,7 +24,17 @@ fn waits_cover_what_has_not_left(rt: HostRuntime) -> Result<(), Fail> {
         (Some(3), Some(8), None)
     );
     barriers.left_one(2, 3);
-    assert_eq!(rt; barriers.least(2), Some(8));
+    barriers.left_one(3, 8);
+    assert_eq!(rt; (barriers.least(2), barriers.least(3)), (Some(8), None));
+    assert_eq!(rt; barriers.after(3, 0), None);
+    assert_eq!(rt;
+        (
+            barriers.covers(2, 8),
+            barriers.covers(2, 3),
+            barriers.covers(3, 8)
+        ),
+        (true, false, false)
+    );
     barriers.finish(2);
     assert_eq!(rt; (barriers.is_begun(2), barriers.least(2)), (false, None));
     barriers.begin(2);

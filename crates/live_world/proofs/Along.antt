@@ -9,12 +9,12 @@ use Rattle.tp_model.specs.World.{World}
 use Rattle.tp_model.specs.Counts.{has_number}
 use Rattle.tp_model.specs.Support.Sound.{IsRising}
 use Rattle.tp_model.specs.Waits.{is_held_for, is_outstanding_for}
-use Rattle.tp_model.proofs.Lists.{find_all}
-use Rattle.tp_model.proofs.Refusals.{both}
+use Rattle.tp_model.proofs.Lists.{all_along, find_all}
+use Rattle.tp_model.proofs.Refusals.{both, and_false}
 use Rattle.live_world.specs.Parts.{is_tied, tied_entry}
 use Rattle.live_world.specs.Invariant.{waits}
 use Rattle.live_world.specs.Waiting.{numbers_of, outstanding_of}
-use Rattle.live_world.proofs.Lists.{all_pass, filter_none, all_along}
+use Rattle.live_world.proofs.Lists.{all_pass, filter_none}
 use Rattle.live_world.proofs.Listed.{held_alike}
 use Rattle.live_world.proofs.Walks.{Rises, rest, IsAmong, rises_filter, rest_first, first_among, rest_next, found_among}
 
@@ -85,37 +85,51 @@ and_swap_with true false c = refl
 and_swap_with false true c = refl
 and_swap_with false false c = refl
 
--- an entry of the object is that of an outstanding callback
-entry_found : (p t : CallbackRow → Bool) (T : Entry → Bool) → ((c : CallbackRow) → (is_tied c && T (tied_entry c)) ≡ (p c && t c)) → (cs : List CallbackRow)
-    → option_map (λ (e : Entry). e.number) (find T (map tied_entry (filter is_tied cs))) ≡ option_map number_of (find t (filter p cs))
-entry_found p t T same [] = refl
-entry_found p t T same (c ∷ cs) =
-    elim (is_tied c) as (λ b. option_map (λ (e : Entry). e.number) (find T (map tied_entry (cond b (c ∷ filter is_tied cs) (filter is_tied cs)))) ≡ option_map (λ (e : Entry). e.number) (cond (b && T (tied_entry c)) (Some (tied_entry c)) (find T (map tied_entry (filter is_tied cs))))) [ true ↦ refl | false ↦ refl ]
-    ∙ ap (λ b. option_map (λ (e : Entry). e.number) (cond b (Some (tied_entry c)) (find T (map tied_entry (filter is_tied cs))))) (same c)
-    ∙ elim (p c && t c) as (λ b. option_map (λ (e : Entry). e.number) (cond b (Some (tied_entry c)) (find T (map tied_entry (filter is_tied cs)))) ≡ option_map number_of (cond b (Some c) (find t (filter p cs)))) [ true ↦ refl | false ↦ entry_found p t T same cs ]
+-- an entry is that of a callback that passes the test of its list
+entry_found : (test p t : CallbackRow → Bool) (T : Entry → Bool) → ((c : CallbackRow) → (test c && T (tied_entry c)) ≡ (p c && t c)) → (cs : List CallbackRow)
+    → option_map (λ (e : Entry). e.number) (find T (map tied_entry (filter test cs))) ≡ option_map number_of (find t (filter p cs))
+entry_found test p t T same [] = refl
+entry_found test p t T same (c ∷ cs) =
+    elim (test c) as (λ b. option_map (λ (e : Entry). e.number) (find T (map tied_entry (cond b (c ∷ filter test cs) (filter test cs)))) ≡ option_map (λ (e : Entry). e.number) (cond (b && T (tied_entry c)) (Some (tied_entry c)) (find T (map tied_entry (filter test cs))))) [ true ↦ refl | false ↦ refl ]
+    ∙ ap (λ b. option_map (λ (e : Entry). e.number) (cond b (Some (tied_entry c)) (find T (map tied_entry (filter test cs))))) (same c)
+    ∙ elim (p c && t c) as (λ b. option_map (λ (e : Entry). e.number) (cond b (Some (tied_entry c)) (find T (map tied_entry (filter test cs)))) ≡ option_map number_of (cond b (Some c) (find t (filter p cs)))) [ true ↦ refl | false ↦ entry_found test p t T same cs ]
     ∙ elim (p c) as (λ b. option_map number_of (cond (b && t c) (Some c) (find t (filter p cs))) ≡ option_map number_of (find t (cond b (c ∷ filter p cs) (filter p cs)))) [ true ↦ refl | false ↦ refl ]
 
-pub first_shown : (cs : List CallbackRow) (object : ObjectId) (entries : List Entry) → entries ≡ map tied_entry (filter is_tied cs) → first_of entries object.0 ≡ option_map number_of (find (λ _. true) (filter (is_outstanding_for (Object object)) cs))
-first_shown cs object entries is =
-    ap (λ es. first_of es object.0) is
-    ∙ entry_found (is_outstanding_for (Object object)) (λ _. true) (λ e. e.key == object.0)
-    (λ c. ap (λ b. b && (c.object.0 == object.0)) (held_alike c.object object c.status) ∙ and_swap (is_held_for (Object object) c.status) (c.object.0 == object.0) ∙ sym (and_true (is_outstanding_for (Object object) c))) cs
-  where
-    and_true : (b : Bool) → (b && true) ≡ b
-    and_true true = refl
-    and_true false = refl
+-- what is listed for an object is what passes for it
+abbrev pub IsListedFor : ObjectId → (CallbackRow → Bool) → (CallbackRow → Bool) → Type 0
+IsListedFor object test p = (c : CallbackRow) → (test c && (c.object.0 == object.0)) ≡ p c
+
+pub outstanding_listed : (object : ObjectId) → IsListedFor object is_tied (is_outstanding_for (Object object))
+outstanding_listed object c = ap (λ b. b && (c.object.0 == object.0)) (held_alike c.object object c.status) ∙ and_swap (is_held_for (Object object) c.status) (c.object.0 == object.0)
+
+-- the first of them
+module _ (fresh : ℕ) (cs : List CallbackRow) (object : ObjectId) (test p : CallbackRow → Bool) (listed : IsListedFor object test p) (entries : List Entry) (is : entries ≡ map tied_entry (filter test cs)) (first : Option ℕ) (found : first ≡ first_of entries object.0) where
+  first_shown : option_map number_of (find (λ _. true) (filter p cs)) ≡ first
+  first_shown =
+      sym (found ∙ ap (λ es. first_of es object.0) is
+      ∙ entry_found test p (λ _. true) (λ e. e.key == object.0) (λ c. listed c ∙ sym (and_true (p c))) cs)
+    where
+      and_true : (b : Bool) → (b && true) ≡ b
+      and_true true = refl
+      and_true false = refl
+
+  pub first_row : (number : ℕ) → IsRising 1 fresh cs → first ≡ Some number → find (has_number number) cs ≡ slice_get (filter p cs) 0
+  first_row number rising some = looked_up fresh cs p (λ _. true) number rising (first_shown ∙ some) ∙ first_found (filter p cs)
+
+  pub no_row : first ≡ None → None ≡ slice_get (filter p cs) 0
+  no_row none = none_up (filter p cs) (λ _. true) (first_shown ∙ none) ∙ first_found (filter p cs)
 
 pub next_shown : (cs : List CallbackRow) (object : ObjectId) (number : ℕ) (entries : List Entry) → entries ≡ map tied_entry (filter is_tied cs)
     → next_of entries object.0 number ≡ option_map number_of (find (λ (c : CallbackRow). nat_lt number c.number) (filter (is_outstanding_for (Object object)) cs))
 next_shown cs object number entries is =
     ap (λ es. next_of es object.0 number) is
-    ∙ entry_found (is_outstanding_for (Object object)) (λ (c : CallbackRow). nat_lt number c.number) (λ e. (e.key == object.0) && nat_lt number e.number)
+    ∙ entry_found is_tied (is_outstanding_for (Object object)) (λ (c : CallbackRow). nat_lt number c.number) (λ e. (e.key == object.0) && nat_lt number e.number)
     (λ c. ap (λ b. b && ((c.object.0 == object.0) && nat_lt number c.number)) (held_alike c.object object c.status) ∙ and_swap_with (is_held_for (Object object) c.status) (c.object.0 == object.0) (nat_lt number c.number)) cs
 
 pub number_there : (cs : List CallbackRow) (object : ObjectId) (c : CallbackRow) (entries : List Entry) → entries ≡ map tied_entry (filter is_tied cs) → find (has_number c.number) (filter (is_outstanding_for (Object object)) cs) ≡ Some c → has entries object.0 c.number ≡ true
 number_there cs object c entries is found =
     ap (λ es. has es object.0 c.number) is ∙ any_found (λ e. (e.key == object.0) && (e.number == c.number)) (map tied_entry (filter is_tied cs)) c.number
-    (entry_found (is_outstanding_for (Object object)) (has_number c.number) (λ e. (e.key == object.0) && (e.number == c.number))
+    (entry_found is_tied (is_outstanding_for (Object object)) (has_number c.number) (λ e. (e.key == object.0) && (e.number == c.number))
     (λ x. ap (λ b. b && ((x.object.0 == object.0) && (x.number == c.number))) (held_alike x.object object x.status) ∙ and_swap_with (is_held_for (Object object) x.status) (x.object.0 == object.0) (x.number == c.number)) cs
     ∙ ap (option_map number_of) found)
   where
@@ -137,11 +151,11 @@ numbers_shown cs object entries is = ap (λ es. numbers_of es object.0) is ∙ e
         ∙ ap (λ t. cond (is_outstanding_for (Object object) d) (d.number ∷ t) t) (each ds)
         ∙ elim (is_outstanding_for (Object object) d) as (λ b. cond b (d.number ∷ map number_of (filter (is_outstanding_for (Object object)) ds)) (map number_of (filter (is_outstanding_for (Object object)) ds)) ≡ map number_of (cond b (d ∷ filter (is_outstanding_for (Object object)) ds) (filter (is_outstanding_for (Object object)) ds))) [ true ↦ refl | false ↦ refl ]
 
--- nothing is outstanding for an object that can't be made
-pub none_beyond : (objects : ℕ) (object : ObjectId) (cs : List CallbackRow) → objects < object.0 → AllByRecursion (λ (c : CallbackRow). c.object.0 ≤ objects) cs → filter (is_outstanding_for (Object object)) cs ≡ []
-none_beyond objects object cs lt all =
-    filter_none (is_outstanding_for (Object object)) cs (all_along (λ (c : CallbackRow). c.object.0 ≤ objects) (λ c. is_outstanding_for (Object object) c ≡ false)
-    (λ c le. ap (λ b. b && is_held_for (Object object) c.status) (ne_eqb c.object.0 object.0 (λ e. omega (arith, e, le, lt)))) cs all)
+-- nothing passes for an object that can't be made
+pub none_beyond : (objects : ℕ) (object : ObjectId) (test p : CallbackRow → Bool) → IsListedFor object test p → (cs : List CallbackRow) → objects < object.0 → AllByRecursion (λ (c : CallbackRow). c.object.0 ≤ objects) cs → None ≡ slice_get (filter p cs) 0
+none_beyond objects object test p listed cs lt all =
+    sym (ap (λ ys. slice_get ys 0) (filter_none p cs (all_along (λ (c : CallbackRow). c.object.0 ≤ objects) (λ c. p c ≡ false)
+    (λ c le. sym (listed c) ∙ ap (λ b. test c && b) (ne_eqb c.object.0 object.0 (λ e. omega (arith, e, le, lt))) ∙ and_false (test c)) cs all)))
 
 -- ---- along what is outstanding
 

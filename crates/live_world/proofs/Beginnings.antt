@@ -19,7 +19,7 @@ use Rattle.tp_base.specs.declared.plans.Change.TheVariants as change
 use Rattle.tp_model.specs.Support.Remembered.{lives, forget}
 use Rattle.tp_model.proofs.Forgetting.{over_not_covered, over_not_cancelled}
 use Rattle.tp_model.specs.Waits.{is_held_for, is_outstanding_for, is_cancelled_by, is_covered_by, cancelled, cancel_where, covered_of}
-use Rattle.tp_model.proofs.Lists.{all_filter, filter_filter}
+use Rattle.tp_model.proofs.Lists.{all_along, all_filter, filter_filter}
 use Rattle.tp_model.proofs.Callbacks.{found_bounds}
 use Rattle.tp_model.proofs.Preserving.{sound_begin_wait}
 use Rattle.tp_model.proofs.Refusals.{and_false}
@@ -30,7 +30,7 @@ use Rattle.live_world.specs.Parts.{place_of, is_held_among, held_among}
 use Rattle.live_world.specs.View.{shown, IsLiveWorld}
 use Rattle.live_world.specs.Invariant.{AreCovered, waits, waits_or_runs}
 use Rattle.live_world.specs.Waiting.{numbers_of}
-use Rattle.live_world.proofs.Lists.{filter_all, all_pass, all_along}
+use Rattle.live_world.proofs.Lists.{filter_all, all_pass}
 use Rattle.live_world.proofs.Entries.{AreBelow, below_fresh}
 use Rattle.live_world.proofs.Along.{number_of, numbers_shown}
 use Rattle.live_world.proofs.Cancelled.{none_where}
@@ -178,10 +178,6 @@ all_held fresh object cs rising =
     held [] found passes = tt
     held (d ∷ ds) found passes = (ap (λ o. option_map_or (is_outstanding_for (Object object)) o false) found.0 ∙ passes.0, held ds found.1 passes.1)
 
-numbers_below : (fresh : ℕ) (cs : List CallbackRow) → AreBelow fresh cs → AllByRecursion (λ n. n < fresh) (map number_of cs)
-numbers_below fresh [] all = tt
-numbers_below fresh (c ∷ cs) all = (all.0, numbers_below fresh cs all.1)
-
 pub begun_by : (i : Inside) (l : Live) (who : Who) (object : ObjectId) (cancel : Bool) (place : ℕ) (barriers : Covers) (begun : BegunWaits) → shown i ≡ l → IsLiveWorld i
     → MayBegin l.world who (Object object) → filter (is_cancelled_by (Object object) cancel) l.world.callbacks ≡ [] → place_of i.limits who ≡ Some place
     → barriers ≡ with_wait i.barriers place (Some (numbers_of i.outstanding.entries object.0)) → begun.waits ≡ i.waits.waits ++ new_wait who (Object object) cancel i.callbacks.rows ∷ []
@@ -196,9 +192,7 @@ begun_by i l who object cancel place barriers begun is k may settled at barriers
     let covers : b.covered ≡ map number_of (filter (is_outstanding_for (Object object)) cs) = covers_outstanding object cancel cs k.alive.at_work left in
     let numbers : numbers_of i.outstanding.entries object.0 ≡ b.covered = numbers_shown cs object i.outstanding.entries k.listed.listed ∙ sym covers in
     let held : held_among cs b ≡ b.covered = ap (filter (is_held_among cs (Object object))) covers ∙ all_held (i.made + 1) object cs k.sound.numbers ∙ sym covers in
-    let made : AllByRecursion (λ n. n < i.made + 1) b.covered
-    = subst (AllByRecursion (λ n. n < i.made + 1)) (sym covers) (numbers_below (i.made + 1) (filter (is_outstanding_for (Object object)) cs) (all_filter (λ (c : CallbackRow). c.number < i.made + 1) (is_outstanding_for (Object object)) cs (below_fresh 1 (i.made + 1) cs k.sound.numbers))) in
-    let sound : IsSound (i.made + 1) v = subst (λ ds. IsSound (i.made + 1) (begin_wait w who (Object object) cancel ds)) (none_where cs (is_cancelled_by (Object object) cancel) left) (sound_begin_wait (i.made + 1) w who (Object object) cancel may_here.none k.sound) in
+    let sound : IsSound (i.made + 1) v = subst (λ ds. IsSound (i.made + 1) (begin_wait w who (Object object) cancel ds)) (none_where cs (is_cancelled_by (Object object) cancel) left) (sound_begin_wait (i.made + 1) w who (Object object) cancel may_here.none may_here.made k.sound) in
     let r = became_by (record i { barriers = barriers; waits = begun }) v sound
     (record {
       shows = ap₂ (λ ds bs. record w { callbacks = ds; waits = bs }) (sym k.alive.live) waits_now;
@@ -207,9 +201,10 @@ begun_by i l who object cancel place barriers begun is k may settled at barriers
       queued = k.queued;
       tallied = k.tallied;
       listed = k.listed;
-      covered = subst (λ x. AreCovered i.limits (i.made + 1) cs begun.waits x) (sym (barriers_now ∙ ap (λ ns. with_wait i.barriers place (Some ns)) numbers))
-          (subst (λ bs. AreCovered i.limits (i.made + 1) cs bs (with_wait i.barriers place (Some b.covered))) (sym waits_now)
-          (covered_begun (i.made + 1) place b at may_here.none held tt made k.covered));
+      pending = k.pending;
+      covered = subst (λ x. AreCovered i.limits cs begun.waits x) (sym (barriers_now ∙ ap (λ ns. with_wait i.barriers place (Some ns)) numbers))
+          (subst (λ bs. AreCovered i.limits cs bs (with_wait i.barriers place (Some b.covered))) (sym waits_now)
+          (covered_begun place b at may_here.none held tt k.covered));
     }) in
     record { keeps = r.keeps; becomes = r.becomes ∙ ap (λ (x : Live). became x (begin_wait x.world who (Object object) cancel x.world.callbacks)) is }
 

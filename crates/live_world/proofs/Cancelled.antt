@@ -10,14 +10,13 @@ use Rattle.tp_model.specs.Changes.{replaced, with_callback}
 use Rattle.tp_model.specs.Support.Sound.{IsRising}
 use Rattle.tp_model.specs.Support.Remembered.{lives, forget}
 use Rattle.tp_model.specs.Waits.{is_outstanding_for, is_cancelled_by, cancelled, cancel_where}
-use Rattle.tp_model.proofs.Lists.{find_kept, find_passes, filter_filter}
+use Rattle.tp_model.proofs.Lists.{all_along, find_kept, find_passes, filter_filter}
 use Rattle.tp_model.proofs.Callbacks.{found_all, filter_replaced_out}
 use Rattle.tp_model.proofs.Cancelling.{IsPendingTest, cancelled_pending, cancelled_if}
 use Rattle.tp_model.proofs.Forgetting.{cancel_forget, over_not_outstanding}
 use Rattle.tp_model.proofs.Refusals.{both, false_true, and_false}
 use Rattle.live_world.specs.Live.{Live, became, without_callback, without_pending}
 use Rattle.live_world.specs.Waiting.{outstanding_of}
-use Rattle.live_world.proofs.Lists.{all_along}
 use Rattle.live_world.proofs.Listed.{pending_tied}
 use Rattle.live_world.proofs.Walks.{rest, IsAmong, first_among}
 use Rattle.live_world.proofs.Along.{number_of, find_filter, first_found, AtRow, at_row, next_row, found_row}

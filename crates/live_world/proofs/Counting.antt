@@ -15,13 +15,14 @@ use Rattle.pool_rows.specs.declared.Counts.{Counts}
 use Rattle.pool_rows.specs.declared.WorkerRow as kept
 use Rattle.tp_model.specs.World.{World}
 use Rattle.tp_model.specs.Counts.{is_pending, is_running, is_live, is_pending_in, is_running_in, is_attached_to, is_idle_in, running, running_long, attached, idle}
+use Rattle.tp_model.proofs.Lists.{all_along}
 use Rattle.live_world.specs.declared.LiveWorld.TheInside.{Inside}
 use Rattle.live_world.specs.declared.pools.Tally.{Tally}
 use Rattle.live_world.specs.Tally.{tally_of, tally_shown}
 use Rattle.live_world.specs.Parts.{shown_worker}
 use Rattle.live_world.specs.View.{shown, IsLiveWorld}
 use Rattle.live_world.specs.Invariant.{IsHome, waits_or_runs}
-use Rattle.live_world.proofs.Lists.{filter_map, filter_none, all_along, past_end, some_pass}
+use Rattle.live_world.proofs.Lists.{filter_map, filter_none, past_end, some_pass}
 use Rattle.live_world.proofs.Queued.{queue_shown, queue_nowhere}
 
 -- ---- workers

@@ -17,11 +17,11 @@ use Rattle.tp_model.specs.World.{BegunWait}
 use Rattle.tp_model.specs.Counts.{has_number, numbered}
 use Rattle.tp_model.specs.Conditions.{is_actor, is_same_actor}
 use Rattle.tp_model.specs.Changes.{replaced}
-use Rattle.tp_model.specs.Support.Sound.{IsRising}
+use Rattle.tp_model.specs.Support.Sound.{IsRising, IsWaitSound}
 use Rattle.tp_model.specs.Support.Allowed.{IsObjectTarget}
 use Rattle.tp_model.specs.Support.Remembered.{lives}
 use Rattle.tp_model.specs.Waits.{is_outstanding_for}
-use Rattle.tp_model.proofs.Lists.{all_append, all_filter, find_all}
+use Rattle.tp_model.proofs.Lists.{all_along, all_append, all_filter, find_all, filter_agree}
 use Rattle.tp_model.proofs.Callbacks.{find_replaced, find_replaced_other}
 use Rattle.tp_model.proofs.Forgetting.{over_forget, over_not_outstanding}
 use Rattle.tp_model.proofs.Refusals.{made, false_true, both, neither, and_false, same_actor_is, is_own_actor}
@@ -30,7 +30,6 @@ use Rattle.live_world.specs.Invariant.{AreCovered, IsWaitKept}
 use Rattle.live_world.specs.Live.{Live}
 use Rattle.live_world.specs.View.{shown, IsLiveWorld}
 use Rattle.live_world.specs.declared.LiveWorld.TheInside.{Inside}
-use Rattle.live_world.proofs.Lists.{all_along}
 use Rattle.live_world.proofs.Listed.{held_alike}
 
 -- ---- what is held, by two tests
@@ -50,40 +49,35 @@ held_but p q k (n ∷ ns) same =
 -- ---- of each wait
 
 -- of what an actor's wait holds
-along : (limits : Limits) (cs ds : List CallbackRow) (waits : List BegunWait) (fresh : ℕ) (f : List ℕ → List ℕ) (who : Who) → ((b : BegunWait) → IsWaitKept limits fresh b → f (held_among cs b) ≡ held_among ds b) → AllByRecursion (IsWaitKept limits fresh) waits
+along : (P : BegunWait → Type 0) (cs ds : List CallbackRow) (waits : List BegunWait) (f : List ℕ → List ℕ) (who : Who) → ((b : BegunWait) → P b → f (held_among cs b) ≡ held_among ds b) → AllByRecursion P waits
     → option_map f (option_map (held_among cs) (wait_among waits who)) ≡ option_map (held_among ds) (wait_among waits who)
-along limits cs ds waits fresh f who same all = known (wait_among waits who) refl
+along P cs ds waits f who same all = known (wait_among waits who) refl
   where
     known : (o : Option BegunWait) → wait_among waits who ≡ o → option_map f (option_map (held_among cs) o) ≡ option_map (held_among ds) o
     known None e = refl
-    known (Some b) e = ap (λ ns. Some ns) (same b (find_all (IsWaitKept limits fresh) (λ (x : BegunWait). is_same_actor x.actor who) b waits all e))
-
-waits_later : (limits : Limits) (fresh later : ℕ) → fresh ≤ later → (bs : List BegunWait) → AllByRecursion (IsWaitKept limits fresh) bs → AllByRecursion (IsWaitKept limits later) bs
-waits_later limits fresh later le bs all =
-    all_along (IsWaitKept limits fresh) (IsWaitKept limits later)
-    (λ b k. record { actor = k.actor; object = k.object; made = all_along (λ n. n < fresh) (λ n. n < later) (λ n lt. omega (arith, lt, le)) b.covered k.made }) bs all
+    known (Some b) e = ap (λ ns. Some ns) (same b (find_all P (λ (x : BegunWait). is_same_actor x.actor who) b waits all e))
 
 module _ {limits : Limits} {cs : List CallbackRow} {waits : List BegunWait} {barriers : Covers} where
-  covered_same : (fresh later : ℕ) (ds : List CallbackRow) → fresh ≤ later → ((b : BegunWait) → IsWaitKept limits fresh b → held_among cs b ≡ held_among ds b) → AreCovered limits fresh cs waits barriers → AreCovered limits later ds waits barriers
-  covered_same fresh later ds le same k =
+  covered_same : (P : BegunWait → Type 0) (ds : List CallbackRow) → AllByRecursion P waits → ((b : BegunWait) → P b → held_among cs b ≡ held_among ds b) → AreCovered limits cs waits barriers → AreCovered limits ds waits barriers
+  covered_same P ds all same k =
       record {
         waiters = k.waiters;
         barrier_slots = k.barrier_slots;
-        covered = λ who place at. k.covered who place at ∙ option_id (option_map (held_among cs) (wait_among waits who)) ∙ along limits cs ds waits fresh (λ ns. ns) who same k.waits_kept;
-        waits_kept = waits_later limits fresh later le waits k.waits_kept;
+        covered = λ who place at. k.covered who place at ∙ option_id (option_map (held_among cs) (wait_among waits who)) ∙ along P cs ds waits (λ ns. ns) who same all;
+        waits_kept = k.waits_kept;
       }
     where
       option_id : (o : Option (List ℕ)) → o ≡ option_map (λ ns. ns) o
       option_id None = refl
       option_id (Some ns) = refl
 
-  covered_but : (fresh number : ℕ) (ds : List CallbackRow) → ((b : BegunWait) → IsWaitKept limits fresh b → all_but number (held_among cs b) ≡ held_among ds b) → AreCovered limits fresh cs waits barriers
-      → AreCovered limits fresh ds waits (record barriers { waits = map (option_map (all_but number)) barriers.waits })
-  covered_but fresh number ds same k =
+  covered_but : (number : ℕ) (ds : List CallbackRow) → ((b : BegunWait) → IsWaitKept limits b → all_but number (held_among cs b) ≡ held_among ds b) → AreCovered limits cs waits barriers
+      → AreCovered limits ds waits (record barriers { waits = map (option_map (all_but number)) barriers.waits })
+  covered_but number ds same k =
       record {
         waiters = length-map barriers.waits (option_map (all_but number)) ∙ k.waiters;
         barrier_slots = k.barrier_slots;
-        covered = λ who place at. get_map barriers.waits place ∙ ap (option_map (all_but number)) (k.covered who place at) ∙ along limits cs ds waits fresh (all_but number) who same k.waits_kept;
+        covered = λ who place at. get_map barriers.waits place ∙ ap (option_map (all_but number)) (k.covered who place at) ∙ along (IsWaitKept limits) cs ds waits (all_but number) who same k.waits_kept;
         waits_kept = k.waits_kept;
       }
     where
@@ -133,29 +127,29 @@ held_left r c cs target found out n =
     and_true false = refl
 
 module _ {limits : Limits} {cs : List CallbackRow} {waits : List BegunWait} {barriers : Covers} where
-  pub covered_replaced : (fresh : ℕ) (r c : CallbackRow) → r.object ≡ c.object → is_tied r ≡ is_tied c → find (has_number r.number) cs ≡ Some c → AreCovered limits fresh cs waits barriers → AreCovered limits fresh (replaced r cs) waits barriers
-  covered_replaced fresh r c object tied found k =
-      covered_same fresh fresh (replaced r cs) (omega arith)
-      (λ b kept. held_agree (is_held_among cs b.target) (is_held_among (replaced r cs) b.target) fresh b.covered kept.made (λ n _. held_replaced r c cs b.target found (outstanding_same r c object tied b.target kept.object) n)) k
+  pub covered_replaced : (r c : CallbackRow) → r.object ≡ c.object → is_tied r ≡ is_tied c → find (has_number r.number) cs ≡ Some c → AreCovered limits cs waits barriers → AreCovered limits (replaced r cs) waits barriers
+  covered_replaced r c object tied found k =
+      covered_same (IsWaitKept limits) (replaced r cs) k.waits_kept
+      (λ b kept. filter_agree (is_held_among cs b.target) (is_held_among (replaced r cs) b.target) (held_replaced r c cs b.target found (outstanding_same r c object tied b.target kept.object)) b.covered) k
 
-  pub covered_less : (fresh : ℕ) (r c : CallbackRow) → is_tied r ≡ false → find (has_number r.number) cs ≡ Some c → AreCovered limits fresh cs waits barriers
-      → AreCovered limits fresh (replaced r cs) waits (record barriers { waits = map (option_map (all_but r.number)) barriers.waits })
-  covered_less fresh r c out found k =
-      covered_but fresh r.number (replaced r cs)
+  pub covered_less : (r c : CallbackRow) → is_tied r ≡ false → find (has_number r.number) cs ≡ Some c → AreCovered limits cs waits barriers
+      → AreCovered limits (replaced r cs) waits (record barriers { waits = map (option_map (all_but r.number)) barriers.waits })
+  covered_less r c out found k =
+      covered_but r.number (replaced r cs)
       (λ b kept. sym (held_but (is_held_among (replaced r cs) b.target) (is_held_among cs b.target) r.number b.covered (held_left r c cs b.target found (outstanding_not r out b.target kept.object)))) k
 
   -- what is over is held by no wait
-  pub covered_lives : (fresh : ℕ) → IsRising 1 fresh cs → AreCovered limits fresh cs waits barriers → AreCovered limits fresh (filter lives cs) waits barriers
+  pub covered_lives : (fresh : ℕ) → IsRising 1 fresh cs → AreCovered limits cs waits barriers → AreCovered limits (filter lives cs) waits barriers
   covered_lives fresh rising k =
-      covered_same fresh fresh (filter lives cs) (omega arith)
-      (λ b kept. held_agree (is_held_among cs b.target) (is_held_among (filter lives cs) b.target) fresh b.covered kept.made
-      (λ n _. sym (over_forget (is_outstanding_for b.target) (over_not_outstanding b.target) 1 fresh n cs rising))) k
+      covered_same (IsWaitKept limits) (filter lives cs) k.waits_kept
+      (λ b _. filter_agree (is_held_among cs b.target) (is_held_among (filter lives cs) b.target)
+      (λ n. sym (over_forget (is_outstanding_for b.target) (over_not_outstanding b.target) 1 fresh n cs rising)) b.covered) k
 
   -- no wait holds a callback that is made later
-  pub covered_more : (fresh : ℕ) (c : CallbackRow) → c.number ≡ fresh → AreCovered limits fresh cs waits barriers → AreCovered limits (fresh + 1) (cs ++ c ∷ []) waits barriers
-  covered_more fresh c number k =
-      covered_same fresh (fresh + 1) (cs ++ c ∷ []) (omega arith)
-      (λ b kept. held_agree (is_held_among cs b.target) (is_held_among (cs ++ c ∷ []) b.target) fresh b.covered kept.made
+  pub covered_more : (fresh : ℕ) (c : CallbackRow) → c.number ≡ fresh → AllByRecursion (IsWaitSound fresh cs) waits → AreCovered limits cs waits barriers → AreCovered limits (cs ++ c ∷ []) waits barriers
+  covered_more fresh c number sound k =
+      covered_same (IsWaitSound fresh cs) (cs ++ c ∷ []) sound
+      (λ b s. held_agree (is_held_among cs b.target) (is_held_among (cs ++ c ∷ []) b.target) fresh b.covered s.made
       (λ n lt. ap (λ o. option_map_or (is_outstanding_for b.target) o false) (sym (appended n cs (ne_eqb c.number n (λ e. omega (arith, e, number, lt))))))) k
     where
       appended : (n : ℕ) (ds : List CallbackRow) → has_number n c ≡ false → find (has_number n) (ds ++ c ∷ []) ≡ find (has_number n) ds
@@ -207,9 +201,9 @@ place_there limits (Worker n) place e = let r = within limits.clients limits.wor
 pub at_place : (i : Inside) (l : Live) (who : Who) (place is : Option ℕ) → shown i ≡ l → place ≡ place_of l.world.limits who → place ≡ is → place_of i.limits who ≡ is
 at_place i l who place is view found same = ap (λ (x : Live). place_of x.world.limits who) view ∙ sym found ∙ same
 
-pub nowhere : (o : Option ℕ) → ((n : ℕ) → o ≡ Some n → ⊥) → o ≡ None
+pub nowhere : {X : Type 0} (o : Option X) → ((x : X) → o ≡ Some x → ⊥) → o ≡ None
 nowhere None h = refl
-nowhere (Some n) h = absurd (h n refl)
+nowhere (Some x) h = absurd (h x refl)
 
 -- ---- waits that begin and end
 
@@ -230,10 +224,10 @@ pub waiting_somewhere : (who : Who) (waits : List BegunWait) (b : BegunWait) →
 waiting_somewhere who waits b is = sym (some_found (λ (x : BegunWait). is_same_actor x.actor who) waits) ∙ ap is_some is
 
 -- who is no actor of the machine has no wait
-pub no_stranger : (limits : Limits) (waits : List BegunWait) (fresh : ℕ) (who : Who) → place_of limits who ≡ None → AllByRecursion (IsWaitKept limits fresh) waits → list_any (λ (b : BegunWait). is_same_actor b.actor who) waits ≡ false
-no_stranger limits waits fresh who nowhere all = each waits all
+pub no_stranger : (limits : Limits) (waits : List BegunWait) (who : Who) → place_of limits who ≡ None → AllByRecursion (IsWaitKept limits) waits → list_any (λ (b : BegunWait). is_same_actor b.actor who) waits ≡ false
+no_stranger limits waits who nowhere all = each waits all
   where
-    each : (bs : List BegunWait) → AllByRecursion (IsWaitKept limits fresh) bs → list_any (λ (b : BegunWait). is_same_actor b.actor who) bs ≡ false
+    each : (bs : List BegunWait) → AllByRecursion (IsWaitKept limits) bs → list_any (λ (b : BegunWait). is_same_actor b.actor who) bs ≡ false
     each [] h = refl
     each (b ∷ bs) h =
         elim (is_same_actor b.actor who) as (λ t. is_same_actor b.actor who ≡ t → (t || list_any (λ (x : BegunWait). is_same_actor x.actor who) bs) ≡ false) [
@@ -243,18 +237,18 @@ no_stranger limits waits fresh who nowhere all = each waits all
 
 module _ {limits : Limits} {cs : List CallbackRow} {waits : List BegunWait} {barriers : Covers} where
   -- the barrier of an actor is begun where the actor has begun a wait
-  pub begun_there : (fresh : ℕ) (who : Who) (place : ℕ) → place_of limits who ≡ Some place → AreCovered limits fresh cs waits barriers → is_some (wait_of barriers place) ≡ list_any (λ (b : BegunWait). is_same_actor b.actor who) waits
-  begun_there fresh who place at k = ap is_some (k.covered who place at) ∙ known (wait_among waits who) ∙ some_found (λ (b : BegunWait). is_same_actor b.actor who) waits
+  pub begun_there : (who : Who) (place : ℕ) → place_of limits who ≡ Some place → AreCovered limits cs waits barriers → is_some (wait_of barriers place) ≡ list_any (λ (b : BegunWait). is_same_actor b.actor who) waits
+  begun_there who place at k = ap is_some (k.covered who place at) ∙ known (wait_among waits who) ∙ some_found (λ (b : BegunWait). is_same_actor b.actor who) waits
     where
       known : (o : Option BegunWait) → is_some (option_map (held_among cs) o) ≡ is_some o
       known None = refl
       known (Some b) = refl
 
   -- another wait of one actor
-  covered_set : (fresh : ℕ) (who : Who) (place : ℕ) (later : List BegunWait) (wait : Option (List ℕ)) → place_of limits who ≡ Some place → wait ≡ option_map (held_among cs) (wait_among later who)
-      → ((other : Who) → is_same_actor who other ≡ false → wait_among later other ≡ wait_among waits other) → AllByRecursion (IsWaitKept limits fresh) later
-      → AreCovered limits fresh cs waits barriers → AreCovered limits fresh cs later (with_wait barriers place wait)
-  covered_set fresh who place later wait at here others all k =
+  covered_set : (who : Who) (place : ℕ) (later : List BegunWait) (wait : Option (List ℕ)) → place_of limits who ≡ Some place → wait ≡ option_map (held_among cs) (wait_among later who)
+      → ((other : Who) → is_same_actor who other ≡ false → wait_among later other ≡ wait_among waits other) → AllByRecursion (IsWaitKept limits) later
+      → AreCovered limits cs waits barriers → AreCovered limits cs later (with_wait barriers place wait)
+  covered_set who place later wait at here others all k =
       record {
         waiters = length-set barriers.waits place wait ∙ k.waiters;
         barrier_slots = k.barrier_slots;
@@ -278,13 +272,13 @@ module _ {limits : Limits} {cs : List CallbackRow} {waits : List BegunWait} {bar
           some_same : (m n : ℕ) → Some m ≡ Some n → m ≡ n
           some_same m n e = cc
 
-  pub covered_begun : (fresh place : ℕ) (b : BegunWait) → place_of limits b.actor ≡ Some place → list_any (λ (x : BegunWait). is_same_actor x.actor b.actor) waits ≡ false → held_among cs b ≡ b.covered → IsObjectTarget b.target → AllByRecursion (λ n. n < fresh) b.covered
-      → AreCovered limits fresh cs waits barriers → AreCovered limits fresh cs (waits ++ b ∷ []) (with_wait barriers place (Some b.covered))
-  covered_begun fresh place b at none all_held object made k =
-      covered_set fresh b.actor place (waits ++ b ∷ []) (Some b.covered) at
+  pub covered_begun : (place : ℕ) (b : BegunWait) → place_of limits b.actor ≡ Some place → list_any (λ (x : BegunWait). is_same_actor x.actor b.actor) waits ≡ false → held_among cs b ≡ b.covered → IsObjectTarget b.target
+      → AreCovered limits cs waits barriers → AreCovered limits cs (waits ++ b ∷ []) (with_wait barriers place (Some b.covered))
+  covered_begun place b at none all_held object k =
+      covered_set b.actor place (waits ++ b ∷ []) (Some b.covered) at
       (sym (ap (option_map (held_among cs)) (found waits none) ∙ ap (λ ns. Some ns) all_held))
       (λ other e. elsewhere other e waits)
-      (all_append (IsWaitKept limits fresh) waits b k.waits_kept (record { actor = ap is_some at; object = object; made = made })) k
+      (all_append (IsWaitKept limits) waits b k.waits_kept (record { actor = ap is_some at; object = object })) k
     where
       found : (bs : List BegunWait) → list_any (λ (x : BegunWait). is_same_actor x.actor b.actor) bs ≡ false → wait_among (bs ++ b ∷ []) b.actor ≡ Some b
       found [] h = ap (λ t. cond t (Some b) None) (is_own_actor b.actor)
@@ -296,13 +290,13 @@ module _ {limits : Limits} {cs : List CallbackRow} {waits : List BegunWait} {bar
       elsewhere other e [] = ap (λ t. cond t (Some b) None) e
       elsewhere other e (x ∷ bs) = ap (λ t. cond (is_same_actor x.actor other) (Some x) t) (elsewhere other e bs)
 
-  pub covered_ended : (fresh place : ℕ) (who : Who) → place_of limits who ≡ Some place → AreCovered limits fresh cs waits barriers
-      → AreCovered limits fresh cs (filter (λ (b : BegunWait). not (is_same_actor b.actor who)) waits) (with_wait barriers place None)
-  covered_ended fresh place who at k =
-      covered_set fresh who place (filter (λ (b : BegunWait). not (is_same_actor b.actor who)) waits) None at
+  pub covered_ended : (place : ℕ) (who : Who) → place_of limits who ≡ Some place → AreCovered limits cs waits barriers
+      → AreCovered limits cs (filter (λ (b : BegunWait). not (is_same_actor b.actor who)) waits) (with_wait barriers place None)
+  covered_ended place who at k =
+      covered_set who place (filter (λ (b : BegunWait). not (is_same_actor b.actor who)) waits) None at
       (sym (ap (option_map (held_among cs)) (gone waits)))
       (λ other e. elsewhere other e waits)
-      (all_filter (IsWaitKept limits fresh) (λ (b : BegunWait). not (is_same_actor b.actor who)) waits k.waits_kept) k
+      (all_filter (IsWaitKept limits) (λ (b : BegunWait). not (is_same_actor b.actor who)) waits k.waits_kept) k
     where
       gone : (bs : List BegunWait) → wait_among (filter (λ (b : BegunWait). not (is_same_actor b.actor who)) bs) who ≡ None
       gone [] = refl
@@ -323,9 +317,9 @@ module _ {limits : Limits} {cs : List CallbackRow} {waits : List BegunWait} {bar
           ] refl
 
 -- the barrier of an actor that has begun no wait
-pub idle_there : {limits : Limits} {cs : List CallbackRow} {waits : List BegunWait} {barriers : Covers} (fresh : ℕ) (who : Who) (place : ℕ) → place_of limits who ≡ Some place → list_any (λ (b : BegunWait). is_same_actor b.actor who) waits ≡ false
-    → AreCovered limits fresh cs waits barriers → wait_of barriers place ≡ None
-idle_there {cs = cs} {waits = waits} fresh who place at none k = k.covered who place at ∙ ap (option_map (held_among cs)) (none_found (λ (b : BegunWait). is_same_actor b.actor who) waits none)
+pub idle_there : {limits : Limits} {cs : List CallbackRow} {waits : List BegunWait} {barriers : Covers} (who : Who) (place : ℕ) → place_of limits who ≡ Some place → list_any (λ (b : BegunWait). is_same_actor b.actor who) waits ≡ false
+    → AreCovered limits cs waits barriers → wait_of barriers place ≡ None
+idle_there {cs = cs} {waits = waits} who place at none k = k.covered who place at ∙ ap (option_map (held_among cs)) (none_found (λ (b : BegunWait). is_same_actor b.actor who) waits none)
 
 -- a row of this number is within the rows
 pub number_most : {X : Type 0} (rows : List X) (number : ℕ) → is_some (numbered rows number) ≡ true → (1 ≤ number) × (number ≤ length rows)

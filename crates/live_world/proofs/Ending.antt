@@ -27,8 +27,8 @@ has_begun i l who how is k allowed =
     let a : MayEnd (shown i).world who how = subst (λ (x : Live). IsAllowed (x.made + 1) x.world (change.EndWait who how)) (sym is) allowed in
     let waiting : list_any (λ (b : BegunWait). is_same_actor b.actor who) i.waits.waits ≡ true = waiting_somewhere who i.waits.waits a.wait a.begun in
     record {
-      acts = λ nowhere. let none : list_any (λ (b : BegunWait). is_same_actor b.actor who) i.waits.waits ≡ false = no_stranger i.limits i.waits.waits (i.made + 1) who nowhere k.covered.waits_kept in absurd cc;
-      begun = λ place at. begun_there (i.made + 1) who place at k.covered ∙ waiting;
+      acts = λ nowhere. let none : list_any (λ (b : BegunWait). is_same_actor b.actor who) i.waits.waits ≡ false = no_stranger i.limits i.waits.waits who nowhere k.covered.waits_kept in absurd cc;
+      begun = λ place at. begun_there who place at k.covered ∙ waiting;
     }
 
 pub ended : (i : Inside) (l : Live) (who : Who) (how : WaitEnd) (place : ℕ) (barriers : Covers) (waits : BegunWaits) → shown i ≡ l → IsLiveWorld i → IsAllowed (l.made + 1) l.world (change.EndWait who how)
@@ -43,6 +43,7 @@ ended i l who how place barriers waits is k allowed at barriers_now waits_now =
       queued = k.queued;
       tallied = k.tallied;
       listed = k.listed;
-      covered = subst (λ b. AreCovered i.limits (i.made + 1) i.callbacks.rows waits.waits b) (sym barriers_now)
-          (subst (λ bs. AreCovered i.limits (i.made + 1) i.callbacks.rows bs (with_wait i.barriers place None)) (sym waits_now) (covered_ended (i.made + 1) place who at k.covered));
+      pending = k.pending;
+      covered = subst (λ b. AreCovered i.limits i.callbacks.rows waits.waits b) (sym barriers_now)
+          (subst (λ bs. AreCovered i.limits i.callbacks.rows bs (with_wait i.barriers place None)) (sym waits_now) (covered_ended place who at k.covered));
     })

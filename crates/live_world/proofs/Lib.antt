@@ -17,4 +17,6 @@ pub mod Numbers
 pub mod Along
 pub mod Cancelled
 pub mod Beginnings
-pub mod Seeking
+pub mod ObjectsMade
+pub mod Starving
+pub mod Progress

@@ -55,15 +55,6 @@ some_pass p (x ∷ xs) =
 
 -- ---- all of a list
 
-pub all_along : {X : Type 0} (P Q : X → Type 0) → ((x : X) → P x → Q x) → (xs : List X) → AllByRecursion P xs → AllByRecursion Q xs
-all_along P Q f [] all = tt
-all_along P Q f (x ∷ xs) all = (f x all.0, all_along P Q f xs all.1)
-
-pub all_set : {X : Type 0} (P : X → Type 0) (xs : List X) (i : ℕ) (new : X) → P new → AllByRecursion P xs → AllByRecursion P (slice_set xs i new)
-all_set P [] i new here all = tt
-all_set P (x ∷ xs) zero new here all = (here, all.1)
-all_set P (x ∷ xs) (suc i) new here all = (all.0, all_set P xs i new here all.1)
-
 pub both_parts : {X : Type 0} (P : X → Type 0) (xs ys : List X) → AllByRecursion P xs → AllByRecursion P ys → AllByRecursion P (xs ++ ys)
 both_parts P [] ys a b = b
 both_parts P (x ∷ xs) ys a b = (a.0, both_parts P xs ys a.1 b)

@@ -11,18 +11,18 @@ use Rattle.handle_table.specs.Table.{Table, Marked, numbered as numbered_row, is
 use Rattle.tp_model.specs.Counts.{numbered}
 use Rattle.tp_model.specs.Changes.{changed, release_object}
 use Rattle.tp_model.specs.Support.Allowed.{IsAllowed}
+use Rattle.tp_model.proofs.Lists.{all_along}
 use Rattle.live_world.specs.declared.objects.Object.{Object}
 use Rattle.live_world.specs.declared.LiveWorld.TheInside.{Inside}
 use Rattle.live_world.specs.Live.{Live, moved}
 use Rattle.live_world.specs.Parts.{shown_object}
 use Rattle.live_world.specs.View.{shown, IsLiveWorld}
 use Rattle.live_world.specs.Invariant.{AreSized, AreListed}
-use Rattle.live_world.proofs.Lists.{all_along}
 use Rattle.live_world.proofs.Moving.{After, Becomes, moved_by}
 
 -- another table of the same limit
-sized_objects : (i : Inside) (objects : Table Object) → objects.limit ≡ i.objects.limit → IsLiveWorld i → AreSized i.limits i.pools objects i.clients.items
-sized_objects i objects same k =
+sized_objects : (i : Inside) (objects : Table Object) → objects.limit ≡ i.objects.limit → length objects.rows ≤ i.limits.objects → IsLiveWorld i → AreSized i.limits i.pools objects i.clients.items
+sized_objects i objects same within k =
     record {
       in_range = k.sized.in_range;
       pool_limit = k.sized.pool_limit;
@@ -31,18 +31,8 @@ sized_objects i objects same k =
       worker_count = k.sized.worker_count;
       homes = k.sized.homes;
       object_limit = same ∙ k.sized.object_limit;
-      client_count = k.sized.client_count;
-    }
-
--- more objects are made
-listed_objects : (i : Inside) (objects : ℕ) → length i.objects.rows ≤ objects → objects ≤ i.limits.objects → IsLiveWorld i → AreListed i.limits objects i.callbacks.rows i.outstanding
-listed_objects i objects more within k =
-    record {
-      key_count = k.listed.key_count;
-      listed_slots = k.listed.listed_slots;
       objects_within = within;
-      listed = k.listed.listed;
-      objects_made = all_along (λ (c : CallbackRow). c.object.0 ≤ length i.objects.rows) (λ (c : CallbackRow). c.object.0 ≤ objects) (λ c le. omega (arith, le, more)) i.callbacks.rows k.listed.objects_made;
+      client_count = k.sized.client_count;
     }
 
 pub created : (i : Inside) (l : Live) (row : ObjectRow) (objects : Table Object) → shown i ≡ l → IsLiveWorld i → IsAllowed (l.made + 1) l.world (change.CreateObject row)
@@ -56,11 +46,12 @@ created i l row objects is k allowed now =
     subst (λ (t : Table Object). After (record i { objects = t }) (changed (shown i).world (change.CreateObject row))) (sym now)
     (record {
       shows = ap₂ (λ cs os. record (shown i).world { callbacks = cs; objects = os }) (sym k.alive.live) (map-append shown_object i.objects.rows _ ∙ ap (λ (o : ObjectRow). map shown_object i.objects.rows ++ o ∷ []) marked);
-      sized = sized_objects i (with_row i.objects object) refl k;
+      sized = sized_objects i (with_row i.objects object) refl (omega (arith, longer, fewer)) k;
       alive = k.alive;
       queued = k.queued;
       tallied = k.tallied;
-      listed = listed_objects i (length (with_row i.objects object).rows) (omega (arith, longer)) (omega (arith, longer, fewer)) k;
+      listed = k.listed;
+      pending = k.pending;
       covered = k.covered;
     }))
 
@@ -99,10 +90,11 @@ released i l object live objects is k allowed was now =
     (subst (λ w. After (record i { objects = there }) w) (sym (ap (release_object (shown i).world object.0) a.stands))
     (record {
       shows = ap₂ (λ cs os. record (shown i).world { callbacks = cs; objects = os }) (sym k.alive.live) rows_now;
-      sized = sized_objects i there refl k;
+      sized = sized_objects i there refl (omega (arith, as_long, k.sized.objects_within)) k;
       alive = k.alive;
       queued = k.queued;
       tallied = k.tallied;
-      listed = subst (λ n. AreListed i.limits n i.callbacks.rows i.outstanding) (sym as_long) k.listed;
+      listed = k.listed;
+      pending = k.pending;
       covered = k.covered;
     })))

@@ -30,7 +30,7 @@ use Rattle.tp_model.specs.Waits.{is_held_for, cancelled}
 use Rattle.tp_model.specs.Support.Allowed.{IsAllowed, Runs, news}
 use Rattle.tp_model.specs.Support.Sound.{IsSound, IsRising}
 use Rattle.tp_model.specs.Support.Remembered.{lives, forget}
-use Rattle.tp_model.proofs.Lists.{all_get, find_all}
+use Rattle.tp_model.proofs.Lists.{all_set, all_get, find_all}
 use Rattle.tp_model.proofs.Callbacks.{found_bounds, find_replaced as find_here, pending_not_running, rising_replaced}
 use Rattle.tp_model.proofs.Preserving.{changed_sound, sound_cancelled}
 use Rattle.tp_model.proofs.Forgetting.{forget_sound}
@@ -39,10 +39,10 @@ use Rattle.live_world.specs.declared.LiveWorld.TheInside.{Inside}
 use Rattle.live_world.specs.Live.{Live, moved, became}
 use Rattle.live_world.specs.Parts.{world_of, shown_worker, shown_object, is_tied, tied_entry}
 use Rattle.live_world.specs.View.{shown, IsLiveWorld}
-use Rattle.live_world.specs.Invariant.{AreSized, AreLive, AreQueued, AreTallied, AreListed, AreCovered, IsHome, IsMarked, AreMarked}
-use Rattle.live_world.proofs.Lists.{all_set, set_twice, set_there}
+use Rattle.live_world.specs.Invariant.{AreSized, AreLive, AreQueued, AreTallied, AreListed, AreCovered, IsHome, IsMarked, AreMarked, waits}
+use Rattle.live_world.proofs.Lists.{set_twice, set_there}
 use Rattle.live_world.proofs.Alive.{alive_more, alive_replaced, alive_less, removed_rows}
-use Rattle.live_world.proofs.Listed.{pending_tied, listed_more, listed_same, listed_less, listed_lives}
+use Rattle.live_world.proofs.Listed.{pending_tied, over_untied, over_unpending, listed_more, listed_same, listed_less, listed_lives}
 use Rattle.live_world.proofs.Covered.{covered_replaced, covered_less, covered_lives, covered_more}
 use Rattle.live_world.proofs.Queued.{queued_entry, queued_more, queued_less, queued_same, queued_lives}
 use Rattle.live_world.proofs.Tallied.{AreApart, is_behind, runs_nothing, runs_this, worker_changed, idle_alike, busy_alike, tallied_more, tallied_free, tallied_both, tallied_still, tallied_lives, pending_apart, marked_set, marked_apart, marked_replaced, marked_others, others_apart, same_found}
@@ -56,8 +56,9 @@ pub record After (i : Inside) (v : World) : Type 0 where
   pub alive : AreLive i.limits i.callbacks
   pub queued : AreQueued i.limits i.callbacks.rows i.queues
   pub tallied : AreTallied i.callbacks.rows i.pools.workers
-  pub listed : AreListed i.limits (length i.objects.rows) i.callbacks.rows i.outstanding
-  pub covered : AreCovered i.limits (i.made + 1) i.callbacks.rows i.waits.waits i.barriers
+  pub listed : AreListed i.limits is_tied i.callbacks.rows i.outstanding
+  pub pending : AreListed i.limits waits i.callbacks.rows i.pending
+  pub covered : AreCovered i.limits i.callbacks.rows i.waits.waits i.barriers
 
 -- they keep their invariant, and show this
 pub record Becomes (i : Inside) (l : Live) : Type 0 where
@@ -73,6 +74,7 @@ became_by j v s a =
         queued = a.queued;
         tallied = a.tallied;
         listed = a.listed;
+        pending = a.pending;
         covered = a.covered;
         sound = subst (λ w. IsSound (j.made + 1) w) (sym a.shows) (forget_sound (j.made + 1) v s);
       };
@@ -113,6 +115,7 @@ sized_worker pools place new home k =
       worker_count = length-set pools.workers place new ∙ k.worker_count;
       homes = all_set (IsHome (length pools.pools)) pools.workers place new home k.homes;
       object_limit = k.object_limit;
+      objects_within = k.objects_within;
       client_count = k.client_count;
     }
 
@@ -132,6 +135,7 @@ free_after i number row new target k is idle none home shows =
       alive = k.alive;
       queued = k.queued;
       listed = k.listed;
+      pending = k.pending;
       covered = k.covered;
       tallied = tallied_free i.callbacks.rows i.pools.workers (number - 1) row new is idle none k.tallied;
     }
@@ -157,32 +161,34 @@ detached i l by pools is k allowed now =
 -- ---- a callback begins
 
 -- the parts that change, by what each became
-abbrev pub with_changed : Inside → Pools → LiveCallbacks → Pending → Keyed → Covers → Inside
-with_changed i pools callbacks queues outstanding barriers = record i { pools = pools; callbacks = callbacks; queues = queues; outstanding = outstanding; barriers = barriers }
+abbrev pub with_changed : Inside → Pools → LiveCallbacks → Pending → Keyed → Keyed → Covers → Inside
+with_changed i pools callbacks queues outstanding pending barriers = record i { pools = pools; callbacks = callbacks; queues = queues; outstanding = outstanding; pending = pending; barriers = barriers }
 
-pub with_parts : (i : Inside) (v : World) (pools p : Pools) (callbacks c : LiveCallbacks) (queues q : Pending) (outstanding o : Keyed) (barriers b : Covers) → pools ≡ p → callbacks ≡ c → queues ≡ q → outstanding ≡ o → barriers ≡ b
-    → After (with_changed i p c q o b) v → After (with_changed i pools callbacks queues outstanding barriers) v
-with_parts i v pools p callbacks c queues q outstanding o barriers b ep ec eq eo eb a =
-    subst (λ x. After (with_changed i x callbacks queues outstanding barriers) v) (sym ep)
-    (subst (λ x. After (with_changed i p x queues outstanding barriers) v) (sym ec)
-    (subst (λ x. After (with_changed i p c x outstanding barriers) v) (sym eq)
-    (subst (λ x. After (with_changed i p c q x barriers) v) (sym eo)
-    (subst (λ x. After (with_changed i p c q o x) v) (sym eb) a))))
+pub with_parts : (i : Inside) (v : World) (pools p : Pools) (callbacks c : LiveCallbacks) (queues q : Pending) (outstanding o : Keyed) (pending d : Keyed) (barriers b : Covers) → pools ≡ p → callbacks ≡ c → queues ≡ q → outstanding ≡ o → pending ≡ d → barriers ≡ b
+    → After (with_changed i p c q o d b) v → After (with_changed i pools callbacks queues outstanding pending barriers) v
+with_parts i v pools p callbacks c queues q outstanding o pending d barriers b ep ec eq eo ed eb a =
+    subst (λ x. After (with_changed i x callbacks queues outstanding pending barriers) v) (sym ep)
+    (subst (λ x. After (with_changed i p x queues outstanding pending barriers) v) (sym ec)
+    (subst (λ x. After (with_changed i p c x outstanding pending barriers) v) (sym eq)
+    (subst (λ x. After (with_changed i p c q x pending barriers) v) (sym eo)
+    (subst (λ x. After (with_changed i p c q o x barriers) v) (sym ed)
+    (subst (λ x. After (with_changed i p c q o d x) v) (sym eb) a)))))
 
 -- what leaves each list of numbers
 abbrev pub unlisted : Keyed → ℕ → Keyed
-unlisted outstanding number = record outstanding { entries = filter (λ (e : Entry). not (e.number == number)) outstanding.entries }
+unlisted lists number = record lists { entries = filter (λ (e : Entry). not (e.number == number)) lists.entries }
 
 abbrev pub left : Covers → ℕ → Covers
 left barriers number = record barriers { waits = map (option_map (all_but number)) barriers.waits }
 
-pub taken_by : (i : Inside) (l : Live) (by : Idle) (c : CallbackRow) (pools : Pools) (callbacks : LiveCallbacks) (queues : Pending) → shown i ≡ l → IsLiveWorld i → IsAllowed (l.made + 1) l.world (change.Take by c)
+pub taken_by : (i : Inside) (l : Live) (by : Idle) (c : CallbackRow) (pools : Pools) (callbacks : LiveCallbacks) (queues : Pending) (pending : Keyed) → shown i ≡ l → IsLiveWorld i → IsAllowed (l.made + 1) l.world (change.Take by c)
     → pools ≡ with_kept_worker by.worker (λ w. record w { callback = c.number; long = c.long }) i.pools
     → callbacks ≡ record i.callbacks { rows = replaced (taken c by.worker) i.callbacks.rows }
     → queues ≡ with_queue i.queues by.pool.0 (without_number c.number (queue_of i.queues by.pool.0))
-    → Becomes (record i { pools = pools; callbacks = callbacks; queues = queues }) (moved l (change.Take by c))
-taken_by i l by c pools callbacks queues is k allowed pools_now rows_now queues_now =
-    moved_by i (record i { pools = pools; callbacks = callbacks; queues = queues }) l (change.Take by c) is k allowed (omega arith) (λ a.
+    → pending ≡ unlisted i.pending c.number
+    → Becomes (record i { pools = pools; callbacks = callbacks; queues = queues; pending = pending }) (moved l (change.Take by c))
+taken_by i l by c pools callbacks queues pending is k allowed pools_now rows_now queues_now pending_now =
+    moved_by i (record i { pools = pools; callbacks = callbacks; queues = queues; pending = pending }) l (change.Take by c) is k allowed (omega arith) (λ a.
     let b = is_behind i.pools.workers by.worker (Some by.pool) None a.idles in
     let r : CallbackRow = taken c by.worker in
     let new : kept.WorkerRow = record b.row { callback = c.number; long = c.long } in
@@ -194,18 +200,19 @@ taken_by i l by c pools callbacks queues is k allowed pools_now rows_now queues_
     let home : c.pool.0 < length i.pools.pools = find_all (λ (x : CallbackRow). x.pool.0 < length i.pools.pools) (has_number c.number) c i.callbacks.rows k.sound.callback_pools a.found in
     let alive_now = alive_replaced i.callbacks r refl refl k.alive in
     with_parts i (changed (shown i).world (change.Take by c)) pools (record i.pools { workers = slice_set i.pools.workers (by.worker - 1) new }) callbacks (record i.callbacks { rows = replaced r i.callbacks.rows })
-    queues (with_queue i.queues c.pool.0 (without_number c.number (queue_of i.queues c.pool.0))) i.outstanding i.outstanding i.barriers i.barriers
+    queues (with_queue i.queues c.pool.0 (without_number c.number (queue_of i.queues c.pool.0))) i.outstanding i.outstanding pending (unlisted i.pending c.number) i.barriers i.barriers
     (pools_now ∙ worker_changed i.pools by.worker b.row (λ w. record w { callback = c.number; long = c.long }) b.at_place b.from_one)
     rows_now
     (queues_now ∙ ap (λ (p : PoolId). with_queue i.queues p.0 (without_number c.number (queue_of i.queues p.0))) (sym a.home))
-    refl refl
+    refl pending_now refl
     (record {
       shows = shows_along i.limits i.pools i.objects i.callbacks.rows i.clients.items i.waits.waits (slice_set i.pools.workers (by.worker - 1) new) (replaced r i.callbacks.rows) (replaced r i.callbacks.rows) (slice_set (shown i).world.workers (by.worker - 1) target)
           (sym alive_now.live) (set_shown i.pools.workers by.worker new target shows);
       sized = sized_worker i.pools (by.worker - 1) new (same_home i.pools (by.worker - 1) b.row new b.at_place refl k.sized) k.sized;
       alive = alive_now;
       listed = listed_same (i.made + 1) r c refl refl (sym (pending_tied c.object c.status a.pending)) k.sound.numbers a.found k.listed;
-      covered = covered_replaced (i.made + 1) r c refl (sym (pending_tied c.object c.status a.pending)) a.found k.covered;
+      pending = listed_less r refl k.pending;
+      covered = covered_replaced r c refl (sym (pending_tied c.object c.status a.pending)) a.found k.covered;
       queued = queued_less (i.made + 1) r c (omega (arith, home, k.sized.pools_within)) a.pending refl refl k.sound.numbers a.found k.queued;
       tallied = tallied_both (i.made + 1) r c i.callbacks.rows i.pools.workers (by.worker - 1) b.row new k.sound.numbers a.found b.at_place
           (idle_alike c b.row (pending_not_running c.status a.pending) idle)
@@ -267,16 +274,17 @@ marked_long i l by pools callbacks is k allowed pools_now rows_now =
     let rest : kept.WorkerRow = record on.row { callback = 0; long = false } in
     let alive_now = alive_replaced i.callbacks r (ap is_live a.running) (ap (λ s. is_pending s || is_running s) a.running) k.alive in
     with_parts i (changed (shown i).world (change.Mark by Long)) pools (record i.pools { workers = slice_set i.pools.workers (by.worker - 1) new }) callbacks (record i.callbacks { rows = replaced r i.callbacks.rows })
-    i.queues i.queues i.outstanding i.outstanding i.barriers i.barriers
+    i.queues i.queues i.outstanding i.outstanding i.pending i.pending i.barriers i.barriers
     (pools_now ∙ worker_changed i.pools by.worker on.row (λ w. record w { long = true }) on.at_place on.from_one)
-    rows_now refl refl refl
+    rows_now refl refl refl refl
     (record {
       shows = shows_along i.limits i.pools i.objects i.callbacks.rows i.clients.items i.waits.waits (slice_set i.pools.workers (by.worker - 1) new) (replaced r i.callbacks.rows) (replaced r i.callbacks.rows) (shown i).world.workers
           (sym alive_now.live) (shows_same i.pools.workers (by.worker - 1) on.row new on.at_place refl);
       sized = sized_worker i.pools (by.worker - 1) new (same_home i.pools (by.worker - 1) on.row new on.at_place refl k.sized) k.sized;
       alive = alive_now;
       listed = listed_same (i.made + 1) r c refl refl refl k.sound.numbers a.found k.listed;
-      covered = covered_replaced (i.made + 1) r c refl refl a.found k.covered;
+      pending = listed_same (i.made + 1) r c refl refl refl k.sound.numbers a.found k.pending;
+      covered = covered_replaced r c refl refl a.found k.covered;
       queued = queued_same (i.made + 1) r c on.waits_not on.waits_not k.sound.numbers a.found k.queued;
       tallied = tallied_both (i.made + 1) r c i.callbacks.rows i.pools.workers (by.worker - 1) on.row new k.sound.numbers a.found on.at_place
           (busy_alike c on.row by.pool on.joined on.busy a.home on.ran on.mark)
@@ -307,17 +315,18 @@ returned_by i l by pools callbacks outstanding barriers is k allowed pools_now r
     let before : AreMarked i.callbacks.rows (slice_set i.pools.workers (by.worker - 1) new) = marked_set i.callbacks.rows i.pools.workers (by.worker - 1) new (λ busy. absurd (busy refl)) k.tallied.marked in
     let marks : AreMarked others (slice_set i.pools.workers (by.worker - 1) new) = marked_others c.number i.callbacks.rows (slice_set i.pools.workers (by.worker - 1) new) (on.alone new refl) before in
     with_parts i (changed (shown i).world (change.Return by)) pools (record i.pools { workers = slice_set i.pools.workers (by.worker - 1) new }) callbacks (record i.callbacks { rows = others })
-    i.queues i.queues outstanding (unlisted i.outstanding c.number) barriers (left i.barriers c.number)
+    i.queues i.queues outstanding (unlisted i.outstanding c.number) i.pending i.pending barriers (left i.barriers c.number)
     (pools_now ∙ worker_changed i.pools by.worker on.row (λ w. record w { callback = 0; long = false }) on.at_place on.from_one)
-    rows_now refl listed_now left_now
+    rows_now refl listed_now refl left_now
     (record {
       shows = shows_along i.limits i.pools i.objects i.callbacks.rows i.clients.items i.waits.waits (slice_set i.pools.workers (by.worker - 1) new) others (replaced r i.callbacks.rows) (slice_set (shown i).world.workers (by.worker - 1) target)
           removed (set_shown i.pools.workers by.worker new target shows);
       sized = sized_worker i.pools (by.worker - 1) new (same_home i.pools (by.worker - 1) on.row new on.at_place refl k.sized) k.sized;
       alive = alive_less i.callbacks r refl k.alive;
-      listed = subst (λ cs. AreListed i.limits (length i.objects.rows) cs (unlisted i.outstanding c.number)) (sym removed) (listed_lives (listed_less r c refl refl a.found k.listed));
-      covered = subst (λ cs. AreCovered i.limits (i.made + 1) cs i.waits.waits (left i.barriers c.number)) (sym removed)
-          (covered_lives (i.made + 1) (rising_replaced r 1 (i.made + 1) i.callbacks.rows k.sound.numbers) (covered_less (i.made + 1) r c refl a.found k.covered));
+      listed = subst (λ cs. AreListed i.limits is_tied cs (unlisted i.outstanding c.number)) (sym removed) (listed_lives over_untied (listed_less r refl k.listed));
+      pending = subst (λ cs. AreListed i.limits waits cs i.pending) (sym removed) (listed_lives over_unpending (listed_same (i.made + 1) r c refl refl (sym on.waits_not) k.sound.numbers a.found k.pending));
+      covered = subst (λ cs. AreCovered i.limits cs i.waits.waits (left i.barriers c.number)) (sym removed)
+          (covered_lives (i.made + 1) (rising_replaced r 1 (i.made + 1) i.callbacks.rows k.sound.numbers) (covered_less r c refl a.found k.covered));
       queued = subst (λ cs. AreQueued i.limits cs i.queues) (sym removed) (queued_lives (queued_same (i.made + 1) r c on.waits_not refl k.sound.numbers a.found k.queued));
       tallied = subst (λ cs. AreTallied cs (slice_set i.pools.workers (by.worker - 1) new)) (sym removed)
           (tallied_lives (replaced r i.callbacks.rows) (slice_set i.pools.workers (by.worker - 1) new) (subst (λ cs. AreMarked cs (slice_set i.pools.workers (by.worker - 1) new)) removed marks)
@@ -329,20 +338,25 @@ returned_by i l by pools callbacks outstanding barriers is k allowed pools_now r
 
 -- ---- a callback is made
 
-pub queued_by : (i : Inside) (l : Live) (c : CallbackRow) (callbacks : LiveCallbacks) (queues : Pending) (outstanding : Keyed) → shown i ≡ l → IsLiveWorld i → IsAllowed (l.made + 1) l.world (change.QueueCallback c)
+-- its number is listed
+abbrev pub more_listed : Keyed → CallbackRow → Keyed
+more_listed lists c = record lists { entries = lists.entries ++ tied_entry c ∷ [] }
+
+pub queued_by : (i : Inside) (l : Live) (c : CallbackRow) (callbacks : LiveCallbacks) (queues : Pending) (outstanding pending : Keyed) → shown i ≡ l → IsLiveWorld i → IsAllowed (l.made + 1) l.world (change.QueueCallback c)
     → callbacks ≡ record i.callbacks { rows = i.callbacks.rows ++ c ∷ [] } → queues ≡ queued_entry i.queues c
-    → outstanding ≡ record i.outstanding { entries = i.outstanding.entries ++ tied_entry c ∷ [] }
-    → Becomes (record i { callbacks = callbacks; queues = queues; outstanding = outstanding; made = i.made + 1 }) (moved l (change.QueueCallback c))
-queued_by i l c callbacks queues outstanding is k allowed rows_now queues_now listed_now =
-    moved_by i (record i { callbacks = callbacks; queues = queues; outstanding = outstanding; made = i.made + 1 }) l (change.QueueCallback c) is k allowed refl (λ a.
+    → outstanding ≡ more_listed i.outstanding c → pending ≡ more_listed i.pending c
+    → Becomes (record i { callbacks = callbacks; queues = queues; outstanding = outstanding; pending = pending; made = i.made + 1 }) (moved l (change.QueueCallback c))
+queued_by i l c callbacks queues outstanding pending is k allowed rows_now queues_now listed_now pending_now =
+    moved_by i (record i { callbacks = callbacks; queues = queues; outstanding = outstanding; pending = pending; made = i.made + 1 }) l (change.QueueCallback c) is k allowed refl (λ a.
     let alive_now = alive_more i.callbacks c a.pending k.alive in
-    with_parts (record i { made = i.made + 1 }) (changed (shown i).world (change.QueueCallback c)) i.pools i.pools callbacks (record i.callbacks { rows = i.callbacks.rows ++ c ∷ [] }) queues (queued_entry i.queues c) outstanding (record i.outstanding { entries = i.outstanding.entries ++ tied_entry c ∷ [] }) i.barriers i.barriers
-    refl rows_now queues_now listed_now refl
+    with_parts (record i { made = i.made + 1 }) (changed (shown i).world (change.QueueCallback c)) i.pools i.pools callbacks (record i.callbacks { rows = i.callbacks.rows ++ c ∷ [] }) queues (queued_entry i.queues c) outstanding (more_listed i.outstanding c) pending (more_listed i.pending c) i.barriers i.barriers
+    refl rows_now queues_now listed_now pending_now refl
     (record {
       shows = ap (λ cs. record (shown i).world { callbacks = cs }) (sym alive_now.live);
       sized = k.sized;
-      listed = listed_more c (subst (λ n. c.object.0 ≤ n) (length-map i.objects.rows shown_object) a.object) (pending_tied c.object c.status a.pending) k.listed;
-      covered = covered_more (i.made + 1) c a.number k.covered;
+      listed = listed_more c (pending_tied c.object c.status a.pending) k.listed;
+      pending = listed_more c a.pending k.pending;
+      covered = covered_more (i.made + 1) c a.number k.sound.waits k.covered;
       alive = alive_now;
       queued = queued_more c (omega (arith, a.home, k.sized.pools_within)) a.pending (subst (λ n. IsRising 1 n i.callbacks.rows) (sym a.number) k.sound.numbers) k.queued;
       tallied = tallied_more c i.callbacks.rows i.pools.workers (pending_not_running c.status a.pending) k.tallied;
@@ -363,8 +377,8 @@ loosened_by i l by callbacks outstanding barriers is k allowed rows_now listed_n
     let untied : is_tied r ≡ false = ap (is_held_for (target.Object c.object)) runs in
     let alive_now = alive_replaced i.callbacks r (ap is_live runs) (ap (λ s. is_pending s || is_running s) runs) k.alive in
     with_parts i (changed (shown i).world (change.Mark by Loose)) i.pools i.pools callbacks (record i.callbacks { rows = replaced r i.callbacks.rows })
-    i.queues i.queues outstanding (unlisted i.outstanding c.number) barriers (left i.barriers c.number)
-    refl rows_now refl listed_now left_now
+    i.queues i.queues outstanding (unlisted i.outstanding c.number) i.pending i.pending barriers (left i.barriers c.number)
+    refl rows_now refl listed_now refl left_now
     (record {
       shows = ap (λ cs. record (shown i).world { callbacks = cs }) (sym alive_now.live);
       sized = k.sized;
@@ -372,19 +386,20 @@ loosened_by i l by callbacks outstanding barriers is k allowed rows_now listed_n
       queued = queued_same (i.made + 1) r c on.waits_not (ap is_pending runs) k.sound.numbers a.found k.queued;
       tallied = tallied_still (i.made + 1) r c i.callbacks.rows i.pools.workers (λ p. ap (λ b. b && (c.pool.0 == p)) (ap is_running runs ∙ sym on.ran)) (λ p. ap (λ b. (b && (c.pool.0 == p)) && c.long) (ap is_running runs ∙ sym on.ran)) k.sound.numbers a.found
           (marked_replaced r c i.callbacks.rows i.pools.workers a.found refl k.tallied.marked) k.tallied;
-      listed = listed_less r c refl untied a.found k.listed;
-      covered = covered_less (i.made + 1) r c untied a.found k.covered;
+      listed = listed_less r untied k.listed;
+      pending = listed_same (i.made + 1) r c refl refl (ap is_pending runs ∙ sym on.waits_not) k.sound.numbers a.found k.pending;
+      covered = covered_less r c untied a.found k.covered;
     }))
 
 -- ---- a pending callback is cancelled
 
-pub cancelled_by : (i : Inside) (l : Live) (c : CallbackRow) (callbacks : LiveCallbacks) (queues : Pending) (outstanding : Keyed) (barriers : Covers) → shown i ≡ l → IsLiveWorld i
+pub cancelled_by : (i : Inside) (l : Live) (c : CallbackRow) (callbacks : LiveCallbacks) (queues : Pending) (outstanding pending : Keyed) (barriers : Covers) → shown i ≡ l → IsLiveWorld i
     → callback_of l.world c.number ≡ Some c → is_pending c.status ≡ true
     → callbacks ≡ record i.callbacks { rows = filter (λ (x : CallbackRow). not (x.number == c.number)) i.callbacks.rows }
     → queues ≡ with_queue i.queues c.pool.0 (without_number c.number (queue_of i.queues c.pool.0))
-    → outstanding ≡ unlisted i.outstanding c.number → barriers ≡ left i.barriers c.number
-    → Becomes (record i { callbacks = callbacks; queues = queues; outstanding = outstanding; barriers = barriers }) (became l (with_callback l.world (cancelled c)))
-cancelled_by i l c callbacks queues outstanding barriers is k found pends rows_now queues_now listed_now left_now =
+    → outstanding ≡ unlisted i.outstanding c.number → pending ≡ unlisted i.pending c.number → barriers ≡ left i.barriers c.number
+    → Becomes (record i { callbacks = callbacks; queues = queues; outstanding = outstanding; pending = pending; barriers = barriers }) (became l (with_callback l.world (cancelled c)))
+cancelled_by i l c callbacks queues outstanding pending barriers is k found pends rows_now queues_now listed_now pending_now left_now =
     let found_here : find (has_number c.number) i.callbacks.rows ≡ Some c = ap (λ (x : Live). callback_of x.world c.number) is ∙ found in
     let r : CallbackRow = cancelled c in
     let others : List CallbackRow = filter (λ (x : CallbackRow). not (x.number == c.number)) i.callbacks.rows in
@@ -394,9 +409,9 @@ cancelled_by i l c callbacks queues outstanding barriers is k found pends rows_n
     let marks : AreMarked (replaced r i.callbacks.rows) i.pools.workers = marked_replaced r c i.callbacks.rows i.pools.workers found_here refl k.tallied.marked in
     let apart : AreApart c.number i.pools.workers = pending_apart c i.callbacks.rows 1 i.pools.workers found_here pends k.sound.workers in
     let v : World = with_callback (shown i).world r in
-    let b = became_by (record i { callbacks = callbacks; queues = queues; outstanding = outstanding; barriers = barriers }) v (sound_cancelled (i.made + 1) (shown i).world c found_here pends k.sound)
+    let b = became_by (record i { callbacks = callbacks; queues = queues; outstanding = outstanding; pending = pending; barriers = barriers }) v (sound_cancelled (i.made + 1) (shown i).world c found_here pends k.sound)
     (with_parts i v i.pools i.pools callbacks (record i.callbacks { rows = others }) queues (with_queue i.queues c.pool.0 (without_number c.number (queue_of i.queues c.pool.0)))
-    outstanding (unlisted i.outstanding c.number) barriers (left i.barriers c.number) refl rows_now queues_now listed_now left_now
+    outstanding (unlisted i.outstanding c.number) pending (unlisted i.pending c.number) barriers (left i.barriers c.number) refl rows_now queues_now listed_now pending_now left_now
     (record {
       shows = ap (λ cs. record (shown i).world { callbacks = cs }) removed;
       sized = k.sized;
@@ -406,8 +421,9 @@ cancelled_by i l c callbacks queues outstanding barriers is k found pends rows_n
       tallied = subst (λ cs. AreTallied cs i.pools.workers) (sym removed)
           (tallied_lives (replaced r i.callbacks.rows) i.pools.workers (subst (λ cs. AreMarked cs i.pools.workers) removed (marked_others c.number i.callbacks.rows i.pools.workers apart k.tallied.marked))
           (tallied_still (i.made + 1) r c i.callbacks.rows i.pools.workers (λ p. ap (λ b. b && (c.pool.0 == p)) (sym still)) (λ p. ap (λ b. (b && (c.pool.0 == p)) && c.long) (sym still)) k.sound.numbers found_here marks k.tallied));
-      listed = subst (λ cs. AreListed i.limits (length i.objects.rows) cs (unlisted i.outstanding c.number)) (sym removed) (listed_lives (listed_less r c refl refl found_here k.listed));
-      covered = subst (λ cs. AreCovered i.limits (i.made + 1) cs i.waits.waits (left i.barriers c.number)) (sym removed)
-          (covered_lives (i.made + 1) (rising_replaced r 1 (i.made + 1) i.callbacks.rows k.sound.numbers) (covered_less (i.made + 1) r c refl found_here k.covered));
+      listed = subst (λ cs. AreListed i.limits is_tied cs (unlisted i.outstanding c.number)) (sym removed) (listed_lives over_untied (listed_less r refl k.listed));
+      pending = subst (λ cs. AreListed i.limits waits cs (unlisted i.pending c.number)) (sym removed) (listed_lives over_unpending (listed_less r refl k.pending));
+      covered = subst (λ cs. AreCovered i.limits cs i.waits.waits (left i.barriers c.number)) (sym removed)
+          (covered_lives (i.made + 1) (rising_replaced r 1 (i.made + 1) i.callbacks.rows k.sound.numbers) (covered_less r c refl found_here k.covered));
     })) in
     record { keeps = b.keeps; becomes = b.becomes ∙ ap (λ (x : Live). became x (with_callback x.world r)) is }

@@ -1,6 +1,9 @@
 -- The numbers of a key, as the lists of objects give them.
 use Rattle.std.proofs.Common.{◌≡◌, ℕ, ◌+◌, ◌<◌, ◌≤◌, true, false, cond, ◌&&◌, ◌||◌, ◌==◌, List, [], ◌∷◌, ◌++◌, length, map, nat_lt, slice_get, Option, None, Some, unwrap_or, refl, sym, ap, ap₂, ◌∙◌, subst, arith, filter, find, option_map, length-append, append_assoc, get_or-set_same}
-use Rattle.std.specs.List.{AllByRecursion}
+use Rattle.std.specs.List.{All, AllByRecursion}
+use Rattle.std.proofs.lemmas.List.Elements.{All-from_recursion}
+use Rattle.cancel_wait.specs.Rising.{with_number}
+use Rattle.cancel_wait.proofs.Contained.{with_greatest}
 use Rattle.std.proofs.lemmas.List.{length-map}
 use Rattle.std.proofs.lemmas.List.Sums.{length-filter, count_by-le-length}
 use Rattle.keyed_lists.specs.Keyed.{Entry, IsRising, has, first_of, next_of}
@@ -73,7 +76,7 @@ pub record AtNumber (entries : List Entry) (key : ℕ) (before now : Covers) (wa
   pub covers : now ≡ with_wait before waiter (Some so_far)
   pub all : so_far ++ number ∷ rest itself (numbers_of entries key) (next_of entries key number) ≡ numbers_of entries key
   pub there : has entries key number ≡ true
-  pub below : AllByRecursion (λ n. n < number) so_far
+  pub below : All (λ n. n < number) so_far
   pub fewer : length so_far < length entries
   pub smaller : length (rest itself (numbers_of entries key) (next_of entries key number)) < length (rest itself (numbers_of entries key) next)
 
@@ -90,7 +93,7 @@ at_number entries key before now waiter number next rising is k =
       covers = k.covers;
       all = all;
       there = is_there entries key number among;
-      below = all_before 0 number k.so_far (rest itself xs (next_of entries key number)) (subst (Rises itself 0) (sym all) rises);
+      below = All-from_recursion (λ n. n < number) k.so_far (all_before 0 number k.so_far (rest itself xs (next_of entries key number)) (subst (Rises itself 0) (sym all) rises));
       fewer = omega (arith, few_numbers entries key, ap length all, length-append k.so_far (number ∷ rest itself xs (next_of entries key number)));
       smaller = omega (arith, ap length step);
     }
@@ -110,14 +113,15 @@ pub has_covered : (before now : Covers) (waiter : ℕ) (so_far : List ℕ) → w
 has_covered before now waiter so_far lt is = ap (λ (c : Covers). wait_of c waiter) is ∙ get_or-set_same before.waits waiter (Some so_far) None lt
 
 pub covering_next : (entries : List Entry) (key : ℕ) (before now new : Covers) (waiter number : ℕ) (next after : Option ℕ) → IsRising entries → waiter < length before.waits → AtNumber entries key before now waiter number next
-    → new ≡ with_wait now waiter (Some (covered_of now waiter ++ number ∷ [])) → after ≡ next_of entries key number → Covering (numbers_of entries key) before new waiter after
+    → new ≡ with_wait now waiter (Some (with_number number (covered_of now waiter))) → after ≡ next_of entries key number → Covering (numbers_of entries key) before new waiter after
 covering_next entries key before now new waiter number next after rising lt k covers is =
     let xs : List ℕ = numbers_of entries key in
     let had : covered_of now waiter ≡ k.so_far = ap (λ o. unwrap_or o []) (has_covered before now waiter k.so_far lt k.covers) in
     let next_now : after ≡ find (λ n. nat_lt number n) xs = is ∙ next_is entries key number in
+    let behind : with_number number (covered_of now waiter) ≡ k.so_far ++ number ∷ [] = ap (with_number number) had ∙ with_greatest number k.so_far k.below in
     record {
       so_far = k.so_far ++ number ∷ [];
-      covers = covers ∙ ap₂ (λ (c : Covers) (ns : List ℕ). with_wait c waiter (Some (ns ++ number ∷ []))) k.covers had
+      covers = covers ∙ ap₂ (λ (c : Covers) (ns : List ℕ). with_wait c waiter (Some ns)) k.covers behind
           ∙ ap (λ ws. record before { waits = ws }) (set_twice before.waits waiter (Some k.so_far) (Some (k.so_far ++ number ∷ [])));
       all = append_assoc k.so_far (number ∷ []) (rest itself xs after) ∙ ap (λ o. k.so_far ++ number ∷ rest itself xs o) is ∙ k.all;
       among = subst (IsAmong itself xs) (sym next_now) (found_among itself 0 (λ n. nat_lt number n) xs (numbers_rise entries key rising));

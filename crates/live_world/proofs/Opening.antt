@@ -1,5 +1,5 @@
 -- The parts of a world that is opened.
-use Rattle.std.proofs.Common.{◌≡◌, ℕ, suc, zero, ◌+◌, Option, None, false, List, [], ◌∷◌, length, map, get_or, replicate, refl, sym, ap, ap₂, ◌∙◌, subst, arith, sum_by}
+use Rattle.std.proofs.Common.{◌≡◌, ℕ, Bool, suc, zero, ◌+◌, Option, None, false, List, [], ◌∷◌, length, map, get_or, replicate, refl, sym, ap, ap₂, ◌∙◌, subst, arith, sum_by}
 use Rattle.tp_base.specs.declared.limits.Limits.{Limits}
 use Rattle.tp_base.specs.declared.rows.ClientRow.{ClientRow}
 use Rattle.tp_base.specs.Ranges.{AreLimitsInRange}
@@ -13,8 +13,8 @@ use Rattle.tp_model.specs.Support.Sound.{IsSound}
 use Rattle.tp_model.specs.Support.Remembered.{forget}
 use Rattle.tp_model.proofs.Preserving.{opening_sound}
 use Rattle.live_world.specs.declared.objects.Object.{Object}
-use Rattle.live_world.specs.Parts.{world_of, shown_worker}
-use Rattle.live_world.specs.Invariant.{AreSized, AreLive, AreQueued, AreTallied, AreListed, AreCovered, IsHome, IsMarked}
+use Rattle.live_world.specs.Parts.{world_of, shown_worker, is_tied}
+use Rattle.live_world.specs.Invariant.{AreSized, AreLive, AreQueued, AreTallied, AreListed, AreCovered, IsHome, IsMarked, waits}
 use Rattle.live_world.specs.View.{shown}
 use Rattle.live_world.specs.declared.LiveWorld.TheInside.{Inside}
 use Rattle.live_world.proofs.Moving.{Becomes}
@@ -50,8 +50,8 @@ opened_callbacks limits = record { slots = limits.slots; rows = [] }
 abbrev pub opened_queues : Limits → Pending
 opened_queues limits = record { slots = limits.slots; queues = replicate limits.pools [] }
 
-abbrev pub opened_outstanding : Limits → Keyed
-opened_outstanding limits = record { keys = limits.objects + 1; slots = limits.slots; entries = [] }
+abbrev pub opened_lists : Limits → Keyed
+opened_lists limits = record { keys = limits.objects + 1; slots = limits.slots; entries = [] }
 
 abbrev pub opened_barriers : Limits → Covers
 opened_barriers limits = record { slots = limits.slots; waits = replicate (limits.clients + limits.workers) None }
@@ -63,7 +63,8 @@ pub record IsOpened (i : Inside) : Type 0 where
   pub objects : i.objects ≡ opened_objects i.limits
   pub callbacks : i.callbacks ≡ opened_callbacks i.limits
   pub queues : i.queues ≡ opened_queues i.limits
-  pub outstanding : i.outstanding ≡ opened_outstanding i.limits
+  pub outstanding : i.outstanding ≡ opened_lists i.limits
+  pub pending : i.pending ≡ opened_lists i.limits
   pub barriers : i.barriers ≡ opened_barriers i.limits
   pub clients : i.clients.items ≡ replicate i.limits.clients unfinished
   pub waits : i.waits.waits ≡ []
@@ -82,6 +83,7 @@ sized_opened limits in_range =
       worker_count = length_replicate unattached_row limits.workers;
       homes = all_replicate (IsHome 1) unattached_row tt limits.workers;
       object_limit = refl;
+      objects_within = omega arith;
       client_count = length_replicate unfinished limits.clients;
     }
 
@@ -103,7 +105,10 @@ tallied_opened limits =
       run_long = λ pool. sym (ap length (filter_none (runs_long_in pool) workers (all_replicate (λ w. runs_long_in pool w ≡ false) unattached_row refl limits.workers)));
     }
 
-covered_opened : (limits : Limits) → AreCovered limits 1 [] [] (opened_barriers limits)
+listed_opened : (limits : Limits) (test : CallbackRow → Bool) → AreListed limits test [] (opened_lists limits)
+listed_opened limits test = record { key_count = refl; listed_slots = refl; listed = refl }
+
+covered_opened : (limits : Limits) → AreCovered limits [] [] (opened_barriers limits)
 covered_opened limits =
     record {
       waiters = length_replicate None (limits.clients + limits.workers);
@@ -118,7 +123,6 @@ opened i o =
     let limits : Limits = i.limits in
     let shown_workers : map shown_worker (replicate limits.workers unattached_row) ≡ replicate limits.workers unattached = map_replicate shown_worker unattached_row limits.workers in
     let rows : i.callbacks.rows ≡ [] = ap (λ (c : LiveCallbacks). c.rows) o.callbacks in
-    let objects : length i.objects.rows ≡ 0 = ap (λ (t : Table Object). length t.rows) o.objects in
     let world_now : (shown i).world ≡ opening limits =
     ap₂ (λ (p : Pools) (t : Table Object). world_of limits p t i.callbacks.rows i.clients.items i.waits.waits) o.pools o.objects
     ∙ ap₂ (λ (cs : List CallbackRow) (cl : List ClientRow). world_of limits (opened_pools limits) (opened_objects limits) cs cl i.waits.waits) rows o.clients
@@ -129,9 +133,9 @@ opened i o =
         alive = subst (λ c. AreLive limits c) (sym o.callbacks) (record { slot_limit = refl; live = refl; at_work = tt });
         queued = both (λ cs q. AreQueued limits cs q) rows o.queues (queued_opened limits);
         tallied = both (λ cs ws. AreTallied cs ws) rows (ap (λ (p : Pools). p.workers) o.pools) (tallied_opened limits);
-        listed = both (λ cs k. AreListed limits (length i.objects.rows) cs k) rows o.outstanding
-            (record { key_count = refl; listed_slots = refl; objects_within = omega (arith, objects); listed = refl; objects_made = tt });
-        covered = both (λ cs n. AreCovered limits (n + 1) cs i.waits.waits i.barriers) rows o.made (both (λ bs b. AreCovered limits 1 [] bs b) o.waits o.barriers (covered_opened limits));
+        listed = both (λ cs k. AreListed limits is_tied cs k) rows o.outstanding (listed_opened limits is_tied);
+        pending = both (λ cs k. AreListed limits waits cs k) rows o.pending (listed_opened limits waits);
+        covered = both (λ cs b. AreCovered limits cs i.waits.waits b) rows o.barriers (subst (λ bs. AreCovered limits [] bs (opened_barriers limits)) (sym o.waits) (covered_opened limits));
         sound = both (λ w n. IsSound (n + 1) w) world_now o.made (opening_sound limits);
       };
       becomes = ap₂ (λ (w : World) (n : ℕ). record { world = w; made = n }) world_now o.made;

@@ -13,12 +13,12 @@ use Rattle.tp_model.specs.Counts.{has_number, is_pending, is_pending_in, is_high
 use Rattle.tp_model.specs.Changes.{replaced}
 use Rattle.tp_model.specs.Support.Sound.{IsRising}
 use Rattle.tp_model.specs.Support.Remembered.{lives}
-use Rattle.tp_model.proofs.Lists.{all_filter, filter_filter}
+use Rattle.tp_model.proofs.Lists.{all_along, all_filter, filter_filter}
 use Rattle.tp_model.proofs.Callbacks.{filter_replaced_out, found_all, length_filter_replaced, over_not_pending, kept_found}
 use Rattle.tp_model.proofs.Refusals.{false_true, both}
 use Rattle.live_world.specs.Parts.{entry_of, priority_byte, waiting_among, queue_among}
 use Rattle.live_world.specs.Invariant.{AreQueued, waits}
-use Rattle.live_world.proofs.Lists.{filter_map, filter_none, both_parts, one_more, one_if, all_along}
+use Rattle.live_world.proofs.Lists.{filter_map, filter_none, both_parts, one_more, one_if}
 use Rattle.live_world.proofs.Entries.{AreBelow, AreOf, below_fresh, entries, new_entry, three}
 
 -- ---- the parts of a queue, one for each priority

@@ -15,12 +15,12 @@ use Rattle.tp_model.specs.Counts.{numbered, has_number, is_pending, is_running, 
 use Rattle.tp_model.specs.Changes.{replaced}
 use Rattle.tp_model.specs.Support.Sound.{IsRising, IsWorkerSound, AreWorkersSound}
 use Rattle.tp_model.specs.Support.Remembered.{lives}
-use Rattle.tp_model.proofs.Lists.{find_kept, find_passes, length_filter_set, filter_filter}
+use Rattle.tp_model.proofs.Lists.{all_set, find_kept, find_passes, length_filter_set, filter_filter}
 use Rattle.tp_model.proofs.Callbacks.{find_appended, find_replaced, find_replaced_other, length_filter_replaced, over_not_running}
 use Rattle.tp_model.proofs.Refusals.{numbered_some, false_true}
 use Rattle.live_world.specs.Parts.{shown_worker}
 use Rattle.live_world.specs.Invariant.{AreTallied, AreMarked, IsMarked}
-use Rattle.live_world.proofs.Lists.{none_more, length_same, one_if, all_set}
+use Rattle.live_world.proofs.Lists.{none_more, length_same, one_if}
 
 -- ---- the row here behind a row of the world
 

@@ -4,8 +4,8 @@ use Rattle.std.specs.List.{AllByRecursion, AllPairs}
 use Rattle.std.proofs.lemmas.List.Elements.{recursion_from_All}
 use Rattle.std.proofs.lemmas.Bool.{le-leb, lt-leb}
 use Rattle.std.proofs.lemmas.Bool.{ltb-true}
-use Rattle.tp_model.proofs.Lists.{find_all, find_passes}
-use Rattle.live_world.proofs.Lists.{filter_all, all_along}
+use Rattle.tp_model.proofs.Lists.{all_along, find_all, find_passes}
+use Rattle.live_world.proofs.Lists.{filter_all}
 
 module _ {X : Type 0} (key : X → ℕ) where
   -- each key is above those before it

@@ -20,7 +20,7 @@ use Rattle.tp_model.specs.Counts.{has_number, is_pending, is_running, is_running
 use Rattle.tp_model.specs.World.{BegunWait}
 use Rattle.tp_model.specs.Support.Allowed.{IsObjectTarget}
 use Rattle.tp_model.specs.Support.Remembered.{lives}
-use Rattle.live_world.specs.Parts.{entry_of, queue_among, is_tied, tied_entry, held_among, wait_among, place_of}
+use Rattle.live_world.specs.Parts.{entry_of, queue_among, tied_entry, held_among, wait_among, place_of}
 use Rattle.live_world.specs.declared.objects.Object.{Object}
 
 abbrev pub waits : CallbackRow → Bool
@@ -42,6 +42,7 @@ pub record AreSized (limits : Limits) (pools : Pools) (objects : Table Object) (
   pub worker_count : length pools.workers ≡ limits.workers
   pub homes : AllByRecursion (IsHome (length pools.pools)) pools.workers
   pub object_limit : objects.limit ≡ limits.objects
+  pub objects_within : length objects.rows ≤ limits.objects
   pub client_count : length clients ≡ limits.clients
 
 -- no callback that is over is kept, and each that is kept waits for a worker or runs
@@ -70,24 +71,20 @@ pub record AreTallied (callbacks : List CallbackRow) (workers : List WorkerRow) 
   pub run : (pool : ℕ) → length (filter (is_running_in pool) callbacks) ≡ length (filter (runs_in pool) workers)
   pub run_long : (pool : ℕ) → length (filter (is_running_long_in pool) callbacks) ≡ length (filter (runs_long_in pool) workers)
 
--- the lists of objects hold exactly the callbacks that are outstanding for them
-pub record AreListed (limits : Limits) (objects : ℕ) (callbacks : List CallbackRow) (outstanding : Keyed) : Type 0 where
-  pub key_count : outstanding.keys ≡ limits.objects + 1
-  pub listed_slots : outstanding.slots ≡ limits.slots
-  pub objects_within : objects ≤ limits.objects
-  pub listed : outstanding.entries ≡ map tied_entry (filter is_tied callbacks)
-  -- their objects were made
-  pub objects_made : AllByRecursion (λ (c : CallbackRow). c.object.0 ≤ objects) callbacks
+-- the lists of objects hold exactly the callbacks that pass a test
+pub record AreListed (limits : Limits) (test : CallbackRow → Bool) (callbacks : List CallbackRow) (lists : Keyed) : Type 0 where
+  pub key_count : lists.keys ≡ limits.objects + 1
+  pub listed_slots : lists.slots ≡ limits.slots
+  pub listed : lists.entries ≡ map tied_entry (filter test callbacks)
 
--- an actor of the machine waits for an object's callbacks, of numbers below fresh
-pub record IsWaitKept (limits : Limits) (fresh : ℕ) (b : BegunWait) : Type 0 where
+-- an actor of the machine waits for an object's callbacks
+pub record IsWaitKept (limits : Limits) (b : BegunWait) : Type 0 where
   pub actor : is_some (place_of limits b.actor) ≡ true
   pub object : IsObjectTarget b.target
-  pub made : AllByRecursion (λ n. n < fresh) b.covered
 
 -- the barriers hold of each begun wait exactly what it still holds
-pub record AreCovered (limits : Limits) (fresh : ℕ) (callbacks : List CallbackRow) (waits : List BegunWait) (barriers : Covers) : Type 0 where
+pub record AreCovered (limits : Limits) (callbacks : List CallbackRow) (waits : List BegunWait) (barriers : Covers) : Type 0 where
   pub waiters : length barriers.waits ≡ limits.clients + limits.workers
   pub barrier_slots : barriers.slots ≡ limits.slots
   pub covered : (who : Who) (place : ℕ) → place_of limits who ≡ Some place → wait_of barriers place ≡ option_map (held_among callbacks) (wait_among waits who)
-  pub waits_kept : AllByRecursion (IsWaitKept limits fresh) waits
+  pub waits_kept : AllByRecursion (IsWaitKept limits) waits

@@ -1,9 +1,9 @@
 -- What the parts of a live world show, and what they keep between calls.
-use Rattle.std.specs.Prelude.{◌+◌, length}
+use Rattle.std.specs.Prelude.{◌+◌}
 use Rattle.tp_model.specs.Support.Sound.{IsSound}
 use Rattle.live_world.specs.Live.{Live}
-use Rattle.live_world.specs.Invariant.{AreSized, AreLive, AreQueued, AreTallied, AreListed, AreCovered}
-use Rattle.live_world.specs.Parts.{world_of}
+use Rattle.live_world.specs.Invariant.{AreSized, AreLive, AreQueued, AreTallied, AreListed, AreCovered, waits}
+use Rattle.live_world.specs.Parts.{world_of, is_tied}
 use Rattle.live_world.specs.declared.LiveWorld.TheInside.{Inside}
 
 abbrev pub shown : Inside → Live
@@ -17,6 +17,7 @@ pub record IsLiveWorld (a : Inside) : Type 0 where
   pub alive : AreLive a.limits a.callbacks
   pub queued : AreQueued a.limits a.callbacks.rows a.queues
   pub tallied : AreTallied a.callbacks.rows a.pools.workers
-  pub listed : AreListed a.limits (length a.objects.rows) a.callbacks.rows a.outstanding
-  pub covered : AreCovered a.limits (a.made + 1) a.callbacks.rows a.waits.waits a.barriers
+  pub listed : AreListed a.limits is_tied a.callbacks.rows a.outstanding
+  pub pending : AreListed a.limits waits a.callbacks.rows a.pending
+  pub covered : AreCovered a.limits a.callbacks.rows a.waits.waits a.barriers
   pub sound : IsSound (a.made + 1) (shown a).world

@@ -1,5 +1,5 @@
 -- What is outstanding for an object, and how far a wait has come.
-use Rattle.std.specs.Prelude.{ℕ, ◌==◌, List, [], ◌∷◌, map, if◌then◌else◌, Option, None, Some}
+use Rattle.std.specs.Prelude.{ℕ, Bool, ◌&&◌, ◌==◌, List, [], ◌∷◌, map, if◌then◌else◌, Option, None, Some}
 use Rattle.std.specs.List.{filter}
 use Rattle.std.specs.Option.{option_map_or}
 use Rattle.tp_base.specs.declared.ids.Who.{Who}
@@ -8,6 +8,7 @@ use Rattle.tp_base.specs.declared.rows.CallbackRow.{CallbackRow}
 use Rattle.tp_base.specs.declared.rows.WaitTarget.TheVariants.{Object}
 use Rattle.keyed_lists.specs.Keyed.{Entry}
 use Rattle.tp_model.specs.World.{World, BegunWait}
+use Rattle.tp_model.specs.Counts.{is_pending}
 use Rattle.tp_model.specs.Waits.{is_outstanding_for, wait_of, held}
 use Rattle.tp_model.specs.Calls.Waits.{holds_starved}
 use Rattle.live_world.specs.declared.waits.Progress.{Progress}
@@ -16,6 +17,13 @@ use Rattle.live_world.specs.declared.waits.Progress.TheVariants.{NotBegun, Free,
 -- by rising number
 abbrev pub outstanding_of : World → ObjectId → List CallbackRow
 outstanding_of w object = filter (is_outstanding_for (Object object)) w.callbacks
+
+-- the callback is pending, and of the object
+abbrev pub is_pending_for : ObjectId → CallbackRow → Bool
+is_pending_for object c = is_pending c.status && (c.object.0 == object.0)
+
+abbrev pub pending_of : World → ObjectId → List CallbackRow
+pending_of w object = filter (is_pending_for object) w.callbacks
 
 -- the numbers of a key
 abbrev pub numbers_of : List Entry → ℕ → List ℕ

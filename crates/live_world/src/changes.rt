@@ -140,6 +140,7 @@ impl LiveWorld {
             callback.number,
         );
         self.outstanding.add(callback.object.0, callback.number);
+        self.pending.add(callback.object.0, callback.number);
         self.made += 1;
     }
 
@@ -174,6 +175,7 @@ impl LiveWorld {
         };
         let _was_there = self.callbacks.replace(running);
         let _was_pending = self.queues.remove(by.pool.0, callback.number);
+        let _was_listed = self.pending.remove(callback.number);
         self.pools.take(by.worker, callback.number, callback.long);
     }
 
@@ -236,6 +238,7 @@ impl LiveWorld {
         let _was_there = self.callbacks.remove(callback.number);
         let _was_pending = self.queues.remove(callback.pool.0, callback.number);
         let _was_outstanding = self.outstanding.remove(callback.number);
+        let _was_listed = self.pending.remove(callback.number);
         self.barriers.left(callback.number);
     }
 

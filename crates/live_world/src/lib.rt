@@ -50,6 +50,8 @@ pub struct LiveWorld {
     queues: Queues,
     // What is outstanding for each object.
     outstanding: KeyedLists,
+    // And what of that is pending.
+    pending: KeyedLists,
     // What each begun wait still holds.
     barriers: Barriers,
     waits: BegunWaits,
@@ -83,6 +85,7 @@ impl LiveWorld {
         let callbacks = CallbackRows::open(alloc, limits.slots)?;
         let queues = Queues::open(alloc, limits.pools, limits.slots)?;
         let outstanding = KeyedLists::open(alloc, limits.objects + 1, limits.slots)?;
+        let pending = KeyedLists::open(alloc, limits.objects + 1, limits.slots)?;
         let barriers = Barriers::open(alloc, limits.clients + limits.workers, limits.slots)?;
         let clients = actors::open_clients(alloc, limits.clients)?;
         Ok(LiveWorld {
@@ -92,6 +95,7 @@ impl LiveWorld {
             callbacks,
             queues,
             outstanding,
+            pending,
             barriers,
             waits: BegunWaits::none(),
             clients,

@@ -45,7 +45,7 @@ impl Outstanding {
 }
 
 impl LiveWorld {
-    ghost use Rattle.live_world.specs.Waiting.{outstanding_of};
+    ghost use Rattle.live_world.specs.Waiting.{outstanding_of, pending_of};
     ghost use Rattle.live_world.specs.Invariant.{waits};
 
     // The outstanding callback of least number.
@@ -56,6 +56,19 @@ impl LiveWorld {
             return None;
         }
         match self.outstanding.first(object.0) {
+            Some(number) => self.callbacks.find(number),
+            None => None,
+        }
+    }
+
+    // The pending callback of least number.
+    pub(crate) fn first_pending(&self, object: ObjectId) -> Option<CallbackRow>
+        ensures { result ≡ slice_get (pending_of self.now.world object) 0 }
+    {
+        if object.0 > self.limits.objects {
+            return None;
+        }
+        match self.pending.first(object.0) {
             Some(number) => self.callbacks.find(number),
             None => None,
         }

@@ -1,8 +1,7 @@
 //! The waits that actors have begun: what each still holds.
 
-ghost use Rattle.std.specs.Prelude.{◌≡◌, ◌+◌, ◌^◌, ◌<◌, Some, false, is_none};
-ghost use Rattle.std.specs.Option.{option_map_or};
-ghost use Rattle.tp_model.specs.Counts.{callback_of, is_pending as is_pending_by};
+ghost use Rattle.std.specs.Prelude.{◌≡◌, ◌+◌, ◌^◌, ◌<◌, Some, is_none, slice_get};
+ghost use Rattle.tp_model.specs.Counts.{is_pending as is_pending_by};
 ghost use Rattle.tp_model.specs.Conditions.{is_in_wait};
 ghost use Rattle.tp_model.specs.Waits.{wait_of};
 ghost use Rattle.tp_model.specs.Calls.Waits.{is_starved, holds_starved};
@@ -74,40 +73,34 @@ impl LiveWorld {
         !self.is_in_wait(who)
     }
 
-    // Whether a held callback is pending, and the history has no room for it to be run.
-    fn is_starved(&self, number: u64, room: u64) -> bool
-        ensures { result ≡ option_map_or (is_starved self.now.world room) (callback_of self.now.world number) false }
+    // Whether a callback is pending, and the history has no room for it to be run.
+    fn is_starved(&self, callback: &CallbackRow, room: u64) -> bool
+        ensures { result ≡ is_starved self.now.world room callback.now }
     {
-        match self.callbacks.find(number) {
-            None => false,
-            Some(callback) => {
-                is_pending(&callback)
-                    && (room < 2 || (room < 4 && self.tally(callback.pool).attached == 0))
-            }
-        }
+        is_pending(callback)
+            && (room < 2 || (room < 4 && self.tally(callback.pool).attached == 0))
     }
 
-    // Whether the actor's wait holds a callback that is pending, and the history has no room for it to
-    // be run. It walks what is held only where the room is below 4.
-    fn holds_starved(&self, who: Who, waiter: u32, room: u64) -> bool
-        requires { place_of self.now.world.limits who ≡ Some waiter }
+    // Whether the actor's wait, of which this is the first held callback, holds one that is starved. Of
+    // its object's pending callbacks it holds none without the first, and they are all of one pool, so
+    // that the first tells of all.
+    fn holds_starved(&self, who: Who, waiter: u32, first: u64, room: u64) -> bool
+        requires at { place_of self.now.world.limits who ≡ Some waiter }
+        requires first { slice_get (held_by self.now.world who) 0 ≡ Some first }
         ensures { result ≡ holds_starved self.now.world room (held_by self.now.world who) }
     {
-        if 4 <= room {
-            return false;
-        }
-        let mut next = self.barriers.least(waiter);
-        while let Some(number) = next {
-            if self.is_starved(number, room) {
-                return true;
+        let Some(held) = self.callbacks.find(first) else {
+            unreachable!()
+        };
+        match self.first_pending(held.object) {
+            None => false,
+            Some(callback) => {
+                self.is_starved(&callback, room) && self.barriers.covers(waiter, callback.number)
             }
-            next = self.barriers.after(waiter, number);
         }
-        false
     }
 
-    /// How far the actor's wait has come. It walks what the wait holds only where the room is below
-    /// 4, and else reads the first of it.
+    /// How far the actor's wait has come, where the history has this room left. It walks nothing.
     pub fn progress(&self, who: Who, room: u64) -> Progress
         ensures { result ≡ progress_of self.now.world room who }
     {
@@ -121,7 +114,7 @@ impl LiveWorld {
         match self.barriers.least(waiter) {
             None => Progress::Free,
             Some(callback) => {
-                if self.holds_starved(who, waiter, room) {
+                if self.holds_starved(who, waiter, callback, room) {
                     Progress::Starved
                 } else {
                     Progress::Holds { callback }

@@ -68,6 +68,10 @@ with_number_between number front back low high =
     in
     rw (first, second) refl
 
+-- a number above all others goes behind them
+pub with_greatest : (number : ℕ) (xs : List ℕ) → All (λ x. x < number) xs → with_number number xs ≡ xs ++ number ∷ []
+with_greatest number xs low = ap (with_number number) (sym (append-nil xs)) ∙ with_number_between number xs [] low (λ k d lt. absurd (omega (arith, lt)))
+
 -- the number goes to the place that splits the others
 pub inserted : (number : ℕ) (xs : List ℕ) (place : ℕ) → SplitsAt number xs place → insert xs place number ≡ with_number number xs
 inserted number xs place h =

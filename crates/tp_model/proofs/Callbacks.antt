@@ -5,10 +5,19 @@ use Rattle.tp_base.specs.declared.rows.Status.TheVariants.{Expected, Issued, Pen
 use Rattle.tp_base.specs.declared.rows.CallbackRow.{CallbackRow}
 use Rattle.tp_model.specs.Counts.{has_number, is_pending, is_running, is_live}
 use Rattle.tp_model.specs.Changes.{replaced}
+use Rattle.tp_model.specs.Laws.Once.{is_left}
 use Rattle.tp_model.specs.Support.Sound.{IsRising}
 use Rattle.std.specs.List.{AllByRecursion}
 
--- ---- what is over is neither pending nor running
+-- ---- what is over is neither pending nor running, and won't be
+
+pub over_not_left : (s : Status) → is_live s ≡ false → is_left s ≡ false
+over_not_left Expected e = cc
+over_not_left Issued e = cc
+over_not_left Pending e = cc
+over_not_left (Running worker associated slots) e = refl
+over_not_left Returned e = refl
+over_not_left Cancelled e = refl
 
 pub over_not_pending : (s : Status) → is_live s ≡ false → is_pending s ≡ false
 over_not_pending Expected e = refl

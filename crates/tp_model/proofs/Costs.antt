@@ -25,8 +25,8 @@ use Rattle.tp_model.specs.Sources.{firing, sources_of}
 use Rattle.tp_model.specs.World.{World, BegunWait, unattached, unfinished}
 use Rattle.tp_model.specs.Counts.{numbered, has_number, is_pending, is_running, owed}
 use Rattle.tp_model.specs.Changes.{with_new_callback, with_callback, with_worker, with_client, change_pool, taken, marked, returned, changed, loosened, release_object, new_wait, without_wait}
-use Rattle.tp_model.specs.Support.Sound.{IsSound, AreApart}
-use Rattle.tp_model.specs.Support.Allowed.{IsAllowed, price}
+use Rattle.tp_model.specs.Support.Sound.{IsSound, IsWaitSound, AreApart}
+use Rattle.tp_model.specs.Support.Allowed.{IsAllowed, IsTargetMade, price}
 use Rattle.tp_model.proofs.Firing.{running_appended}
 use Rattle.tp_model.proofs.Lists.{length_filter_set}
 use Rattle.tp_model.proofs.Callbacks.{length_filter_replaced, pending_not_running}
@@ -128,19 +128,19 @@ owed_release w object None = refl
 owed_release w object (Some row) = refl
 
 -- the notices of waits that have none
-no_notices : (bs : List BegunWait) → AllByRecursion (λ (b : BegunWait). b.notices ≡ []) bs → sum_by (λ (b : BegunWait). length b.notices) bs ≡ 0
-no_notices [] all = refl
-no_notices (b ∷ bs) all = sum_by-cons (λ (x : BegunWait). length x.notices) b bs ∙ omega (arith, ap length all.0, no_notices bs all.1)
+no_notices : (fresh : ℕ) (cs : List CallbackRow) (bs : List BegunWait) → AllByRecursion (IsWaitSound fresh cs) bs → sum_by (λ (b : BegunWait). length b.notices) bs ≡ 0
+no_notices fresh cs [] all = refl
+no_notices fresh cs (b ∷ bs) all = sum_by-cons (λ (x : BegunWait). length x.notices) b bs ∙ omega (arith, ap length all.0.unnoticed, no_notices fresh cs bs all.1)
 
 -- a wait that begins will end
-owed_begin_wait : (fresh : ℕ) (w : World) (who : Who) (target : WaitTarget) (cancel : Bool) → IsSound fresh w → is_in_wait w who ≡ false → owed (changed w (change.BeginWait who target cancel)) ≡ owed w + 1
-owed_begin_wait fresh w who target cancel s none =
+owed_begin_wait : (fresh : ℕ) (w : World) (who : Who) (target : WaitTarget) (cancel : Bool) → IsSound fresh w → is_in_wait w who ≡ false → IsTargetMade w target → owed (changed w (change.BeginWait who target cancel)) ≡ owed w + 1
+owed_begin_wait fresh w who target cancel s none made =
     let test : CallbackRow → Bool = is_cancelled_by target cancel in
-    let after : IsSound fresh (changed w (change.BeginWait who target cancel)) = sound_begin_wait fresh w who target cancel none s in
+    let after : IsSound fresh (changed w (change.BeginWait who target cancel)) = sound_begin_wait fresh w who target cancel none made s in
     let run : length (filter runs (cancel_where test w.callbacks)) ≡ length (filter runs w.callbacks)
     = count_uncancelled runs test (λ c e. sym (pending_not_running c.status (cancelled_pending target cancel c e))) w.callbacks in
     let longer : length (w.waits ++ new_wait who target cancel (cancel_where test w.callbacks) ∷ []) ≡ length w.waits + 1 = length-append w.waits (new_wait who target cancel (cancel_where test w.callbacks) ∷ []) in
-    omega (arith, run, longer, no_notices w.waits s.unnoticed, no_notices (w.waits ++ new_wait who target cancel (cancel_where test w.callbacks) ∷ []) after.unnoticed)
+    omega (arith, run, longer, no_notices fresh w.callbacks w.waits s.waits, no_notices fresh (cancel_where test w.callbacks) (w.waits ++ new_wait who target cancel (cancel_where test w.callbacks) ∷ []) after.waits)
 
 -- of waits of different actors an actor has one at most
 one_wait : (who : Who) (bs : List BegunWait) (b : BegunWait) → AreApart bs → find (λ (x : BegunWait). is_same_actor x.actor who) bs ≡ Some b → length (filter (λ (x : BegunWait). not (is_same_actor x.actor who)) bs) + 1 ≡ length bs
@@ -165,7 +165,7 @@ one_wait who (c ∷ bs) b a e =
 owed_end_wait : (fresh : ℕ) (w : World) (who : Who) (b : BegunWait) → IsSound fresh w → wait_of w who ≡ Some b → owed (without_wait w who) + 1 ≡ owed w
 owed_end_wait fresh w who b s begun =
     let after : IsSound fresh (without_wait w who) = sound_end_wait fresh w who s in
-    omega (arith, one_wait who w.waits b s.apart begun, no_notices w.waits s.unnoticed, no_notices (filter (λ (x : BegunWait). not (is_same_actor x.actor who)) w.waits) after.unnoticed)
+    omega (arith, one_wait who w.waits b s.apart begun, no_notices fresh w.callbacks w.waits s.waits, no_notices fresh w.callbacks (filter (λ (x : BegunWait). not (is_same_actor x.actor who)) w.waits) after.waits)
 
 owed_change_pool : (w : World) (pool : ℕ) (how : PoolChange) (row : Option PoolRow) → owed (change_pool w pool how row) ≡ owed w
 owed_change_pool w pool how None = refl
@@ -190,6 +190,6 @@ paid fresh w (change.Take by c) s a = omega (arith, owed_taken fresh w by.worker
 paid fresh w (change.Mark by mark) s a = omega (arith, owed_marked fresh w mark by.callback s a.found)
 paid fresh w (change.Return by) s a =
     omega (arith, owed_returned fresh w by.worker (record { pool = Some by.pool; callback = Some by.callback.number }) by.callback s a.stands a.found (ap is_running a.running))
-paid fresh w (change.BeginWait who target cancel) s a = omega (arith, owed_begin_wait fresh w who target cancel s a.none)
+paid fresh w (change.BeginWait who target cancel) s a = omega (arith, owed_begin_wait fresh w who target cancel s a.none a.made)
 paid fresh w (change.EndWait who how) s a = omega (arith, owed_end_wait fresh w who a.wait s a.begun)
 paid fresh w (change.Finish client) s a = omega (arith, owed_finished w client unfinished a refl)

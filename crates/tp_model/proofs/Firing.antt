@@ -1,5 +1,5 @@
 -- What triggers make and leave: the callbacks are numbered on, pending, and of objects that were made.
-use Rattle.std.proofs.Common.{◌≡◌, ℕ, ◌+◌, ◌-◌, ◌≤◌, ◌==◌, Bool, true, false, cond, not, List, [], ◌∷◌, ◌++◌, length, map, slice_get, get_or, Option, Some, None, is_some, refl, sym, ap, ◌∙◌, subst, arith, filter, ne_eqb}
+use Rattle.std.proofs.Common.{◌≡◌, ℕ, ◌+◌, ◌-◌, ◌≤◌, ◌==◌, Bool, true, false, cond, not, List, [], ◌∷◌, ◌++◌, length, map, slice_get, get_or, Option, Some, None, is_some, refl, sym, ap, ◌∙◌, arith, filter, ne_eqb}
 use Rattle.std.specs.Option.{unwrap_or}
 use Rattle.std.specs.List.{AllByRecursion, range_with_len}
 use Rattle.std.proofs.lemmas.Option.{slice_get-get_or}
@@ -55,11 +55,14 @@ running_appended cs objects fresh jobs =
 abbrev pub IsMade : ℕ → ℕ → Type 0
 IsMade objects object = (1 ≤ object) × (object ≤ objects)
 
-pub row_of_made : (P : ObjectRow → Type 0) (objects : List ObjectRow) (object : ObjectId) → AllByRecursion P objects → IsMade (length objects) object.0 → P (object_row objects object)
-row_of_made P objects object all made =
+pub made_stands : (objects : List ObjectRow) (object : ObjectId) → IsMade (length objects) object.0 → numbered objects object.0 ≡ Some (object_row objects object)
+made_stands objects object made =
     let at : slice_get objects (object.0 - 1) ≡ Some (get_or objects (object.0 - 1) no_object) = slice_get-get_or objects (object.0 - 1) no_object (omega (arith, made.0, made.1)) in
     let there : numbered objects object.0 ≡ slice_get objects (object.0 - 1) = ap (λ b. cond b None (slice_get objects (object.0 - 1))) (ne_eqb object.0 0 (λ e. omega (arith, e, made.0))) in
-    subst P (sym (ap (λ (o : Option ObjectRow). unwrap_or o no_object) (there ∙ at))) (all_get P objects (object.0 - 1) (get_or objects (object.0 - 1) no_object) all at)
+    there ∙ at ∙ ap (λ (o : Option ObjectRow). Some (unwrap_or o no_object)) (sym (there ∙ at))
+
+pub row_of_made : (P : ObjectRow → Type 0) (objects : List ObjectRow) (object : ObjectId) → AllByRecursion P objects → IsMade (length objects) object.0 → P (object_row objects object)
+row_of_made P objects object all made = all_get P objects (object.0 - 1) (object_row objects object) all (numbered_some objects object.0 (object_row objects object) (made_stands objects object made)).0
 
 abbrev pub AreJobsMade : ℕ → List Job → Type 0
 AreJobsMade objects jobs = AllByRecursion (λ (j : Job). IsMade objects j.object.0) jobs

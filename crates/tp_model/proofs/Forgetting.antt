@@ -29,13 +29,14 @@ use Rattle.tp_model.specs.Conditions.{busy_row, busy_in, busy_of}
 use Rattle.tp_model.specs.Refusing.{first_refusal, unless_refused}
 use Rattle.tp_model.specs.Changes.{with_new_pool, with_object, with_worker, with_client, change_pool, pool_after, with_pool, replaced, taken, marked, returned, finished, changed, release_object, without_wait}
 use Rattle.tp_model.specs.Waits.{is_of, is_held_for, is_outstanding_for, count_outstanding, is_cancelled_by, cancelled, cancel_where, is_object_target, is_covered_by, covered_of}
-use Rattle.tp_model.specs.Support.Sound.{IsSound, IsWorkerSound, AreWorkersSound, RunsOn, IsRising}
+use Rattle.tp_model.specs.Support.Sound.{IsSound, IsWorkerSound, AreWorkersSound, RunsOn, IsRising, IsCallbackSound, is_left_of}
 use Rattle.tp_model.specs.Support.Allowed.{IsAllowed}
 use Rattle.tp_model.specs.Support.Remembered.{lives, forget}
 use Rattle.tp_model.proofs.Lists.{filter_filter, find_kept, all_filter}
-use Rattle.tp_model.proofs.Callbacks.{over_not_pending, over_not_running, pending_lives, rising_filter, filter_replaced_out, filter_replaced_filter, found_all, find_above}
+use Rattle.tp_model.proofs.Callbacks.{over_not_left, over_not_pending, over_not_running, pending_lives, rising_filter, filter_replaced_out, filter_replaced_filter, found_all, find_above}
 use Rattle.tp_model.proofs.Cancelling.{IsPendingTest, cancelled_pending, cancelled_if}
 use Rattle.tp_model.proofs.Preserving.{worker_at}
+use Rattle.tp_model.proofs.Waiting.{AreLeftOver, waits_still}
 use Rattle.tp_model.proofs.Refusals.{numbered_some, false_true, and_false}
 
 -- ---- counts
@@ -92,6 +93,31 @@ workers_forget : (cs : List CallbackRow) (worker : ℕ) (ws : List WorkerRow) �
 workers_forget cs worker [] s = tt
 workers_forget cs worker (r ∷ rs) s = (worker_forget cs worker r.pool r.callback s.0, workers_forget cs (worker + 1) rs s.1)
 
+-- what is found among those that live passes a test that none of the others passes
+pub over_forget : (p : CallbackRow → Bool) → ((c : CallbackRow) → lives c ≡ false → p c ≡ false) → (low fresh number : ℕ) (cs : List CallbackRow) → IsRising low fresh cs
+    → option_map_or p (find (has_number number) (filter lives cs)) false ≡ option_map_or p (find (has_number number) cs) false
+over_forget p over low fresh number [] r = refl
+over_forget p over low fresh number (c ∷ cs) r =
+    elim (lives c) as (λ t. lives c ≡ t → option_map_or p (find (has_number number) (cond t (c ∷ filter lives cs) (filter lives cs))) false ≡ option_map_or p (cond (has_number number c) (Some c) (find (has_number number) cs)) false) [
+      | true ↦ λ _. elim (has_number number c) as (λ b. option_map_or p (cond b (Some c) (find (has_number number) (filter lives cs))) false ≡ option_map_or p (cond b (Some c) (find (has_number number) cs)) false) [
+        | true ↦ refl
+        | false ↦ over_forget p over (c.number + 1) fresh number cs r.1
+      ]
+      | false ↦ λ dead. over_forget p over (c.number + 1) fresh number cs r.1 ∙ elim (has_number number c) as (λ b. has_number number c ≡ b → option_map_or p (find (has_number number) cs) false ≡ option_map_or p (cond b (Some c) (find (has_number number) cs)) false) [
+        | true ↦ λ e.
+            let same : c.number ≡ number = eqb-true c.number number e in
+            ap (λ (o : Option CallbackRow). option_map_or p o false) (find_above number (c.number + 1) fresh cs (omega (arith, same)) r.1) ∙ sym (over c dead)
+        | false ↦ λ _. refl
+      ] refl
+    ] refl
+
+-- which callbacks may still be run is the same
+left_forget : (fresh : ℕ) (cs : List CallbackRow) → IsRising 1 fresh cs → AreLeftOver cs (filter lives cs)
+left_forget fresh cs rising target n left = sym (over_forget (is_left_of target) over 1 fresh n cs rising) ∙ left
+  where
+    over : (c : CallbackRow) → lives c ≡ false → is_left_of target c ≡ false
+    over c dead = ap (λ b. is_of target c && b) (over_not_left c.status dead) ∙ and_false (is_of target c)
+
 pub forget_sound : (fresh : ℕ) (w : World) → IsSound fresh w → IsSound fresh (forget w)
 forget_sound fresh w s =
     record {
@@ -99,10 +125,11 @@ forget_sound fresh w s =
       workers = workers_forget w.callbacks 1 w.workers s.workers;
       object_pools = s.object_pools;
       apart = s.apart;
-      unnoticed = s.unnoticed;
+      waits = waits_still fresh w.callbacks (filter lives w.callbacks) (left_forget fresh w.callbacks s.numbers) w.waits s.waits;
       timers = s.timers;
       clock = s.clock;
       callback_pools = all_filter (λ (c : CallbackRow). c.pool.0 < length w.pools) lives w.callbacks s.callback_pools;
+      callback_objects = all_filter (IsCallbackSound w.objects) lives w.callbacks s.callback_objects;
     }
 
 -- ---- running callbacks
@@ -139,24 +166,6 @@ over_not_held target (Running worker associated slots) e = absurd (false_true (s
 
 pub over_not_outstanding : (target : WaitTarget) (c : CallbackRow) → lives c ≡ false → is_outstanding_for target c ≡ false
 over_not_outstanding target c e = ap (λ b. is_of target c && b) (over_not_held target c.status e) ∙ and_false (is_of target c)
-
--- what is found among those that live passes a test that none of the others passes
-pub over_forget : (p : CallbackRow → Bool) → ((c : CallbackRow) → lives c ≡ false → p c ≡ false) → (low fresh number : ℕ) (cs : List CallbackRow) → IsRising low fresh cs
-    → option_map_or p (find (has_number number) (filter lives cs)) false ≡ option_map_or p (find (has_number number) cs) false
-over_forget p over low fresh number [] r = refl
-over_forget p over low fresh number (c ∷ cs) r =
-    elim (lives c) as (λ t. lives c ≡ t → option_map_or p (find (has_number number) (cond t (c ∷ filter lives cs) (filter lives cs))) false ≡ option_map_or p (cond (has_number number c) (Some c) (find (has_number number) cs)) false) [
-      | true ↦ λ _. elim (has_number number c) as (λ b. option_map_or p (cond b (Some c) (find (has_number number) (filter lives cs))) false ≡ option_map_or p (cond b (Some c) (find (has_number number) cs)) false) [
-        | true ↦ refl
-        | false ↦ over_forget p over (c.number + 1) fresh number cs r.1
-      ]
-      | false ↦ λ dead. over_forget p over (c.number + 1) fresh number cs r.1 ∙ elim (has_number number c) as (λ b. has_number number c ≡ b → option_map_or p (find (has_number number) cs) false ≡ option_map_or p (cond b (Some c) (find (has_number number) cs)) false) [
-        | true ↦ λ e.
-            let same : c.number ≡ number = eqb-true c.number number e in
-            ap (λ (o : Option CallbackRow). option_map_or p o false) (find_above number (c.number + 1) fresh cs (omega (arith, same)) r.1) ∙ sym (over c dead)
-        | false ↦ λ _. refl
-      ] refl
-    ] refl
 
 -- what lives after a cancellation
 pub cancel_forget : (q test : CallbackRow → Bool) → IsPendingTest test → ((c : CallbackRow) → lives c ≡ false → q c ≡ false) → (cs : List CallbackRow) → filter q (cancel_where test (filter lives cs)) ≡ filter q (cancel_where test cs)

@@ -27,3 +27,4 @@ pub mod Running
 pub mod Steps
 mod TimerExamples
 mod WaitExamples
+pub mod Waiting

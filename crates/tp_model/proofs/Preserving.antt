@@ -1,5 +1,5 @@
 -- Each change keeps what is true of all worlds that can be reached.
-use Rattle.std.proofs.Common.{◌≡◌, ◌≢◌, ℕ, suc, zero, ◌+◌, ◌-◌, ◌<◌, ◌≤◌, Bool, true, false, cond, not, ◌||◌, ◌==◌, List, [], ◌∷◌, ◌++◌, length, slice_get, slice_set, replicate, Option, Some, None, refl, sym, ap, ap₂, ◌∙◌, subst, arith, filter, find, eqb-true, ne_eqb, length-append, length-set}
+use Rattle.std.proofs.Common.{◌≡◌, ◌≢◌, ℕ, suc, zero, ◌+◌, ◌-◌, ◌<◌, ◌≤◌, Bool, true, false, cond, not, ◌&&◌, ◌||◌, ◌==◌, List, [], ◌∷◌, ◌++◌, length, slice_get, slice_set, replicate, Option, Some, None, refl, sym, ap, ap₂, ◌∙◌, subst, arith, filter, find, eqb-true, ne_eqb, length-append, length-set}
 use Rattle.std.specs.List.{AllByRecursion, list_any}
 use Rattle.std.proofs.lemmas.List.Folds.{list_any-append}
 use Rattle.tp_base.specs.declared.ids.PoolId.{PoolId}
@@ -11,14 +11,16 @@ use Rattle.tp_base.specs.declared.plans.Mark.TheVariants.{Long, Loose}
 use Rattle.tp_base.specs.declared.plans.PoolChange.{PoolChange}
 use Rattle.tp_base.specs.declared.rows.Slots.{Slots}
 use Rattle.tp_base.specs.declared.rows.Status.{Status}
-use Rattle.tp_base.specs.declared.rows.Status.TheVariants.{Running}
+use Rattle.tp_base.specs.declared.ids.ObjectId.{ObjectId}
+use Rattle.tp_base.specs.declared.rows.Status.TheVariants.{Expected, Issued, Pending, Running, Returned, Cancelled}
 use Rattle.tp_base.specs.declared.rows.PoolRow.{PoolRow}
 use Rattle.tp_base.specs.declared.rows.ObjectRow.{ObjectRow}
 use Rattle.tp_base.specs.declared.rows.CallbackRow.{CallbackRow}
 use Rattle.tp_base.specs.declared.rows.WorkerRow.{WorkerRow}
 use Rattle.tp_base.specs.declared.ids.Who.{Who}
 use Rattle.tp_base.specs.declared.rows.WaitTarget.{WaitTarget}
-use Rattle.tp_model.specs.Waits.{is_cancelled_by, cancelled, cancel_where}
+use Rattle.tp_base.specs.declared.rows.WaitTarget.TheVariants.{Object, Group, Kernel}
+use Rattle.tp_model.specs.Waits.{is_of, is_cancelled_by, cancelled, cancel_where}
 use Rattle.tp_model.specs.Conditions.{is_same_actor, is_in_wait}
 use Rattle.tp_base.specs.declared.ids.ObjectId.{ObjectId}
 use Rattle.tp_base.specs.declared.plans.Trigger.{Trigger}
@@ -27,16 +29,18 @@ use Rattle.tp_base.specs.Timers.{without_setting}
 use Rattle.std.proofs.lemmas.List.{append_assoc, append-nil}
 use Rattle.tp_model.specs.Sources.{Job, Firing, firing, sources_of, rows_of, new_callback, object_row, fired, count_fired}
 use Rattle.tp_model.specs.Support.Allowed.{IsReady}
-use Rattle.tp_model.proofs.Firing.{IsMade, AreOf, AreJobsMade, IsTriggerMade, row_of_made, ready_made, fired_settings, fired_jobs, fired_clock}
+use Rattle.tp_model.proofs.Firing.{IsMade, AreOf, AreJobsMade, IsTriggerMade, row_of_made, made_stands, ready_made, fired_settings, fired_jobs, fired_clock}
 use Rattle.tp_model.specs.World.{World, BegunWait, opening, unattached, new_pool}
 use Rattle.tp_model.specs.Counts.{numbered, has_number, is_pending, is_running}
 use Rattle.tp_model.specs.Changes.{with_new_pool, with_pool, with_object, with_new_callback, with_callback, with_worker, with_client, replaced, change_pool, pool_after, taken, loosened, marked, returned, no_actions, finished, release_object, new_wait, begin_wait, without_wait, changed}
-use Rattle.tp_model.specs.Support.Sound.{IsSound, RunsOn, IsWorkerSound, AreWorkersSound, AreApart}
-use Rattle.tp_model.specs.Support.Allowed.{IsAllowed, news}
-use Rattle.tp_model.proofs.Lists.{all_below, find_all, all_append, all_map, all_get, all_set, all_filter, any_filter_none}
-use Rattle.tp_model.proofs.Cancelling.{IsPendingTest, cancelled_pending, running_passed, find_uncancelled}
+use Rattle.tp_model.specs.Laws.Once.{is_left}
+use Rattle.tp_model.specs.Support.Sound.{IsSound, IsRising, RunsOn, IsWorkerSound, AreWorkersSound, AreApart, HasObject, IsCallbackSound, IsWaitSound, is_left_of}
+use Rattle.tp_model.specs.Support.Allowed.{IsAllowed, IsTargetMade, news}
+use Rattle.tp_model.proofs.Lists.{all_along, all_below, find_all, set_kept, slice_get_append, all_append, all_map, all_get, all_set, all_filter, any_filter_none}
+use Rattle.tp_model.proofs.Cancelling.{IsPendingTest, cancelled_pending, cancelled_if, cancelled_number, running_passed, find_uncancelled}
 use Rattle.tp_model.proofs.Callbacks.{rising_append, rising_map, rising_replaced, find_replaced, find_replaced_other, find_appended}
-use Rattle.tp_model.proofs.Refusals.{neither, numbered_some, false_true, same_actor_sym}
+use Rattle.tp_model.proofs.Refusals.{neither, numbered_some, numbered_at, false_true, and_false, same_actor_sym}
+use Rattle.tp_model.proofs.Waiting.{waits_still, waits_longer, left_replaced, left_cancelled, target_named, new_wait_sound}
 
 -- ---- workers
 
@@ -99,33 +103,60 @@ worker_at cs first zero (w ∷ ws) row s e =
 worker_at cs first (suc place) (w ∷ ws) row s e =
     subst (λ n. IsWorkerSound cs n row.pool row.callback) (omega arith) (worker_at cs (first + 1) place ws row s.1 e)
 
+-- ---- objects of callbacks
+
+-- a further object is made, and one is released
+object_appended : (objects : List ObjectRow) (o : ObjectRow) (c : CallbackRow) → HasObject objects c → HasObject (objects ++ o ∷ []) c
+object_appended objects o c of =
+    let at = numbered_some objects c.object.0 of.row of.stands in
+    record { row = of.row; stands = numbered_at (objects ++ o ∷ []) c.object.0 of.row at.1 (slice_get_append objects (o ∷ []) (c.object.0 - 1) of.row at.0); home = of.home }
+
+object_released : (objects : List ObjectRow) (place : ℕ) (row : ObjectRow) (c : CallbackRow) → slice_get objects place ≡ Some row → HasObject objects c → HasObject (slice_set objects place (record row { released = true })) c
+object_released objects place row c stands of =
+    let at = numbered_some objects c.object.0 of.row of.stands in
+    let now = set_kept (λ (o : ObjectRow). o.env.pool) objects place (c.object.0 - 1) row (record row { released = true }) of.row stands refl at.0 in
+    record { row = now.0; stands = numbered_at (slice_set objects place (record row { released = true })) c.object.0 now.0 at.1 now.1; home = of.home ∙ sym now.2 }
+
 -- ---- changes of a world
 
 pub sound_object : (fresh : ℕ) (w : World) (o : ObjectRow) → o.env.pool.0 < length w.pools → IsSound fresh w → IsSound fresh (with_object w o)
 sound_object fresh w o home s =
-    record { numbers = s.numbers; workers = s.workers; object_pools = all_append (λ (x : ObjectRow). x.env.pool.0 < length w.pools) w.objects o s.object_pools home; callback_pools = s.callback_pools; apart = s.apart; unnoticed = s.unnoticed; timers = more_objects w.settings s.timers; clock = s.clock }
+    record {
+      numbers = s.numbers;
+      workers = s.workers;
+      object_pools = all_append (λ (x : ObjectRow). x.env.pool.0 < length w.pools) w.objects o s.object_pools home;
+      callback_pools = s.callback_pools;
+      callback_objects = all_along (IsCallbackSound w.objects) (IsCallbackSound (w.objects ++ o ∷ [])) (λ c sound named. object_appended w.objects o c (sound named)) w.callbacks s.callback_objects;
+      apart = s.apart;
+      timers = more_objects w.settings s.timers;
+      clock = s.clock;
+      waits = s.waits;
+    }
   where
     more_objects : (settings : List TimerSetting) → AreOf (IsMade (length w.objects)) settings → AreOf (IsMade (length (w.objects ++ o ∷ []))) settings
     more_objects [] all = tt
     more_objects (t ∷ ts) all = ((all.0.0, omega (arith, all.0.1, length-append w.objects (o ∷ []))), more_objects ts all.1)
 
-pub sound_new_callback : (fresh : ℕ) (w : World) (c : CallbackRow) → c.number ≡ fresh → c.pool.0 < length w.pools → IsSound fresh w → IsSound (fresh + 1) (with_new_callback w c)
-sound_new_callback fresh w c number home s =
+pub sound_new_callback : (fresh : ℕ) (w : World) (c : CallbackRow) → c.number ≡ fresh → c.pool.0 < length w.pools → IsCallbackSound w.objects c → IsSound fresh w → IsSound (fresh + 1) (with_new_callback w c)
+sound_new_callback fresh w c number home object s =
     record {
       numbers = rising_append 1 fresh w.callbacks c number s.numbers;
       workers = workers_appended c w.callbacks 1 w.workers s.workers;
       object_pools = s.object_pools;
       apart = s.apart;
-      unnoticed = s.unnoticed; timers = s.timers; clock = s.clock;
+      timers = s.timers;
+      clock = s.clock;
+      waits = waits_longer fresh c w.callbacks number w.waits s.waits;
       callback_pools = all_append (λ (x : CallbackRow). x.pool.0 < length w.pools) w.callbacks c s.callback_pools home;
+      callback_objects = all_append (IsCallbackSound w.objects) w.callbacks c s.callback_objects object;
     }
 
 pub sound_free_worker : (fresh : ℕ) (w : World) (worker : ℕ) (row : WorkerRow) → row.callback ≡ None → IsSound fresh w → IsSound fresh (with_worker w worker row)
 sound_free_worker fresh w worker row free s =
-    record { numbers = s.numbers; workers = workers_freed w.callbacks row 1 (worker - 1) w.workers free s.workers; object_pools = s.object_pools; callback_pools = s.callback_pools; apart = s.apart; unnoticed = s.unnoticed; timers = s.timers; clock = s.clock }
+    record { numbers = s.numbers; workers = workers_freed w.callbacks row 1 (worker - 1) w.workers free s.workers; object_pools = s.object_pools; callback_pools = s.callback_pools; apart = s.apart; waits = s.waits; callback_objects = s.callback_objects; timers = s.timers; clock = s.clock }
 
 pub sound_client : (fresh : ℕ) (w : World) (client : ℕ) (row : _) → IsSound fresh w → IsSound fresh (with_client w client row)
-sound_client fresh w client row s = record { numbers = s.numbers; workers = s.workers; object_pools = s.object_pools; callback_pools = s.callback_pools; apart = s.apart; unnoticed = s.unnoticed; timers = s.timers; clock = s.clock }
+sound_client fresh w client row s = record { numbers = s.numbers; workers = s.workers; object_pools = s.object_pools; callback_pools = s.callback_pools; apart = s.apart; waits = s.waits; callback_objects = s.callback_objects; timers = s.timers; clock = s.clock }
 
 -- a further pool, and another row of a pool
 pub sound_new_pool : (fresh : ℕ) (w : World) → IsSound fresh w → IsSound fresh (with_new_pool w)
@@ -136,7 +167,10 @@ sound_new_pool fresh w s =
       workers = s.workers;
       object_pools = all_below (λ (o : ObjectRow). o.env.pool.0) (length w.pools) (length (w.pools ++ new_pool w.limits ∷ [])) more w.objects s.object_pools;
       apart = s.apart;
-      unnoticed = s.unnoticed; timers = s.timers; clock = s.clock;
+      timers = s.timers;
+      clock = s.clock;
+      waits = s.waits;
+      callback_objects = s.callback_objects;
       callback_pools = all_below (λ (c : CallbackRow). c.pool.0) (length w.pools) (length (w.pools ++ new_pool w.limits ∷ [])) more w.callbacks s.callback_pools;
     }
 
@@ -148,15 +182,27 @@ sound_pool fresh w number row s =
       workers = s.workers;
       object_pools = subst (λ n. AllByRecursion (λ (o : ObjectRow). o.env.pool.0 < n) w.objects) as_many s.object_pools;
       apart = s.apart;
-      unnoticed = s.unnoticed; timers = s.timers; clock = s.clock;
+      timers = s.timers;
+      clock = s.clock;
+      waits = s.waits;
+      callback_objects = s.callback_objects;
       callback_pools = subst (λ n. AllByRecursion (λ (c : CallbackRow). c.pool.0 < n) w.callbacks) as_many s.callback_pools;
     }
 
--- pools of callbacks stay where a row of the same pool is put in the place of another
-pools_replaced : (pools : ℕ) (r : CallbackRow) (cs : List CallbackRow) → r.pool.0 < pools → AllByRecursion (λ (c : CallbackRow). c.pool.0 < pools) cs → AllByRecursion (λ (c : CallbackRow). c.pool.0 < pools) (replaced r cs)
-pools_replaced pools r cs home all =
-    all_map (λ (c : CallbackRow). c.pool.0 < pools) (λ c. cond (has_number r.number c) r c)
-    (λ c h. elim (has_number r.number c) as (λ b. (cond b r c).pool.0 < pools) [ true ↦ home | false ↦ h ]) cs all
+-- what all callbacks have, they have where a row that has it is put in the place of another
+all_replaced : (P : CallbackRow → Type 0) (r : CallbackRow) (cs : List CallbackRow) → P r → AllByRecursion P cs → AllByRecursion P (replaced r cs)
+all_replaced P r cs here all = all_map P (λ c. cond (has_number r.number c) r c) (λ c h. elim (has_number r.number c) as (λ b. P (cond b r c)) [ true ↦ here | false ↦ h ]) cs all
+
+-- a row of the same pool and object in the place of another
+pools_replaced : (pools : ℕ) (r c : CallbackRow) (cs : List CallbackRow) → r.pool ≡ c.pool → find (has_number c.number) cs ≡ Some c → AllByRecursion (λ (x : CallbackRow). x.pool.0 < pools) cs → AllByRecursion (λ (x : CallbackRow). x.pool.0 < pools) (replaced r cs)
+pools_replaced pools r c cs pool found all =
+    all_replaced (λ x. x.pool.0 < pools) r cs (subst (λ (p : PoolId). p.0 < pools) (sym pool) (find_all (λ (x : CallbackRow). x.pool.0 < pools) (has_number c.number) c cs all found)) all
+
+objects_replaced : (objects : List ObjectRow) (r c : CallbackRow) (cs : List CallbackRow) → r.pool ≡ c.pool → r.object ≡ c.object → find (has_number c.number) cs ≡ Some c → AllByRecursion (IsCallbackSound objects) cs → AllByRecursion (IsCallbackSound objects) (replaced r cs)
+objects_replaced objects r c cs pool object found all =
+    all_replaced (IsCallbackSound objects) r cs (λ named.
+    let of : HasObject objects c = find_all (IsCallbackSound objects) (has_number c.number) c cs all found (λ none. named (ap (λ (o : ObjectId). o.0) object ∙ none)) in
+    record { row = of.row; stands = ap (λ (o : ObjectId). numbered objects o.0) object ∙ of.stands; home = pool ∙ of.home }) all
 
 -- a worker begins a pending callback of its pool
 pub sound_taken : (fresh : ℕ) (w : World) (worker : ℕ) (pool : PoolId) (c : CallbackRow) → 1 ≤ worker → find (has_number c.number) w.callbacks ≡ Some c → is_pending c.status ≡ true → c.pool ≡ pool → IsSound fresh w
@@ -172,8 +218,11 @@ sound_taken fresh w worker pool c from_one found waits home s =
           s.workers;
       object_pools = s.object_pools;
       apart = s.apart;
-      unnoticed = s.unnoticed; timers = s.timers; clock = s.clock;
-      callback_pools = pools_replaced (length w.pools) r w.callbacks (find_all (λ (x : CallbackRow). x.pool.0 < length w.pools) (has_number c.number) c w.callbacks s.callback_pools found) s.callback_pools;
+      timers = s.timers;
+      clock = s.clock;
+      waits = waits_still fresh w.callbacks (replaced r w.callbacks) (left_replaced r c w.callbacks found (λ target left. absurd (false_true (sym (and_false (is_of target r)) ∙ left)))) w.waits s.waits;
+      callback_pools = pools_replaced (length w.pools) r c w.callbacks refl found s.callback_pools;
+      callback_objects = objects_replaced w.objects r c w.callbacks refl refl found s.callback_objects;
     }
   where
     not_pending : (status : Status) (other : ℕ) (associated : Bool) (slots : Slots) → status ≡ Running other associated slots → is_pending status ≡ true → ⊥
@@ -197,8 +246,11 @@ sound_returned fresh w worker row pool c from_one free runs found s =
           (subst (λ x. IsWorkerSound (replaced r w.callbacks) (1 + (worker - 1)) row.pool x) (sym free) tt) s.workers;
       object_pools = s.object_pools;
       apart = s.apart;
-      unnoticed = s.unnoticed; timers = s.timers; clock = s.clock;
-      callback_pools = pools_replaced (length w.pools) r w.callbacks (find_all (λ (x : CallbackRow). x.pool.0 < length w.pools) (has_number c.number) c w.callbacks s.callback_pools found) s.callback_pools;
+      timers = s.timers;
+      clock = s.clock;
+      waits = waits_still fresh w.callbacks (replaced r w.callbacks) (left_replaced r c w.callbacks found (λ target left. absurd (false_true (sym (and_false (is_of target r)) ∙ left)))) w.waits s.waits;
+      callback_pools = pools_replaced (length w.pools) r c w.callbacks refl found s.callback_pools;
+      callback_objects = objects_replaced w.objects r c w.callbacks refl refl found s.callback_objects;
     }
   where
     same_worker : (m n : ℕ) (a b : Bool) (s t : Slots) (x y : Status) → x ≡ Running m a s → y ≡ Running n b t → x ≡ y → m ≡ n
@@ -240,29 +292,50 @@ workers_same : (r c : CallbackRow) (cs : List CallbackRow) (worker : ℕ) (ws : 
 workers_same r c cs worker [] found status at s = tt
 workers_same r c cs worker (w ∷ ws) found status at s = (worker_same r c cs worker w.pool w.callback found status at s.0, workers_same r c cs (worker + 1) ws found status at s.1)
 
--- a row of the same number and pool, which runs where the one before it ran
-sound_same : (fresh : ℕ) (w : World) (r c : CallbackRow) → r.number ≡ c.number → r.pool ≡ c.pool → RunsWhere c.status r.status → find (has_number c.number) w.callbacks ≡ Some c → IsSound fresh w → IsSound fresh (with_callback w r)
-sound_same fresh w r c number pool status found s =
+-- a row of the same number, pool and object, which runs where the one before it ran, and may be run only where that might
+sound_same : (fresh : ℕ) (w : World) (r c : CallbackRow) → r.number ≡ c.number → r.pool ≡ c.pool → r.object ≡ c.object → RunsWhere c.status r.status → ((target : WaitTarget) → is_left_of target r ≡ true → is_left_of target c ≡ true) → find (has_number c.number) w.callbacks ≡ Some c → IsSound fresh w
+    → IsSound fresh (with_callback w r)
+sound_same fresh w r c number pool object status left found s =
     let there : find (has_number r.number) w.callbacks ≡ Some c = ap (λ n. find (has_number n) w.callbacks) number ∙ found in
-    let home : r.pool.0 < length w.pools = subst (λ (p : PoolId). p.0 < length w.pools) (sym pool) (find_all (λ (x : CallbackRow). x.pool.0 < length w.pools) (has_number c.number) c w.callbacks s.callback_pools found) in
     record {
       numbers = rising_replaced r 1 fresh w.callbacks s.numbers;
       workers = workers_same r c w.callbacks 1 w.workers there status pool s.workers;
       object_pools = s.object_pools;
       apart = s.apart;
-      unnoticed = s.unnoticed; timers = s.timers; clock = s.clock;
-      callback_pools = pools_replaced (length w.pools) r w.callbacks home s.callback_pools;
+      timers = s.timers;
+      clock = s.clock;
+      waits = waits_still fresh w.callbacks (replaced r w.callbacks) (left_replaced r c w.callbacks there left) w.waits s.waits;
+      callback_pools = pools_replaced (length w.pools) r c w.callbacks pool found s.callback_pools;
+      callback_objects = objects_replaced w.objects r c w.callbacks pool object found s.callback_objects;
     }
 
 -- a pending callback is cancelled
 pub sound_cancelled : (fresh : ℕ) (w : World) (c : CallbackRow) → find (has_number c.number) w.callbacks ≡ Some c → is_pending c.status ≡ true → IsSound fresh w → IsSound fresh (with_callback w (cancelled c))
 sound_cancelled fresh w c found pends s =
-    sound_same fresh w (cancelled c) c refl refl (λ worker associated slots e. absurd (false_true (sym (ap is_pending e) ∙ pends))) found s
+    sound_same fresh w (cancelled c) c refl refl refl (λ worker associated slots e. absurd (false_true (sym (ap is_pending e) ∙ pends))) (λ target left. absurd (false_true (sym (and_false (is_of target (cancelled c))) ∙ left))) found s
 
 -- what a callback says of itself leaves it running where it ran
 pub sound_marked : (fresh : ℕ) (w : World) (mark : Mark) (c : CallbackRow) → find (has_number c.number) w.callbacks ≡ Some c → IsSound fresh w → IsSound fresh (with_callback w (marked mark c))
-sound_marked fresh w Long c found s = sound_same fresh w (marked Long c) c refl refl (λ worker associated slots e. (associated, slots, e)) found s
-sound_marked fresh w Loose c found s = sound_same fresh w (marked Loose c) c refl refl (λ worker associated slots e. (false, slots, ap loosened e)) found s
+sound_marked fresh w Long c found s = sound_same fresh w (marked Long c) c refl refl refl (λ worker associated slots e. (associated, slots, e)) (λ target left. same_left target left) found s
+  where
+    same_left : (target : WaitTarget) → is_left_of target (marked Long c) ≡ true → is_left_of target c ≡ true
+    same_left (Object object) left = left
+    same_left (Group group) left = left
+    same_left (Kernel kernel) left = left
+sound_marked fresh w Loose c found s = sound_same fresh w (marked Loose c) c refl refl refl (λ worker associated slots e. (false, slots, ap loosened e)) (λ target left. same_left target left) found s
+  where
+    still : (status : Status) → is_left (loosened status) ≡ is_left status
+    still Expected = refl
+    still Issued = refl
+    still Pending = refl
+    still (Running worker associated slots) = refl
+    still Returned = refl
+    still Cancelled = refl
+
+    same_left : (target : WaitTarget) → is_left_of target (marked Loose c) ≡ true → is_left_of target c ≡ true
+    same_left (Object object) left = ap (λ b. (c.object.0 == object.0) && b) (sym (still c.status)) ∙ left
+    same_left (Group group) left = ap (λ b. (c.group.0 == group.0) && b) (sym (still c.status)) ∙ left
+    same_left (Kernel kernel) left = left
 
 -- an object is released
 sound_release : (fresh : ℕ) (w : World) (object : ObjectId) (row : Option ObjectRow) → numbered w.objects object.0 ≡ row → IsSound fresh w → IsSound fresh (release_object w object row)
@@ -274,10 +347,13 @@ sound_release fresh w object (Some row) is s =
       object_pools = all_set (λ (o : ObjectRow). o.env.pool.0 < length w.pools) w.objects (object.0 - 1) (record row { released = true })
           (all_get (λ (o : ObjectRow). o.env.pool.0 < length w.pools) w.objects (object.0 - 1) row s.object_pools (numbered_some w.objects object.0 row is).0) s.object_pools;
       apart = s.apart;
-      unnoticed = s.unnoticed; timers = subst (λ n. AreOf (IsMade n) (without_setting object w.settings)) (sym (length-set w.objects (object.0 - 1) (record row { released = true })))
+      timers = subst (λ n. AreOf (IsMade n) (without_setting object w.settings)) (sym (length-set w.objects (object.0 - 1) (record row { released = true })))
           (all_filter (λ (x : TimerSetting). IsMade (length w.objects) x.object.0) (λ (x : TimerSetting). not (x.object.0 == object.0)) w.settings s.timers);
       clock = s.clock;
+      waits = s.waits;
       callback_pools = s.callback_pools;
+      callback_objects = all_along (IsCallbackSound w.objects) (IsCallbackSound (slice_set w.objects (object.0 - 1) (record row { released = true })))
+          (λ c sound named. object_released w.objects (object.0 - 1) row c (numbered_some w.objects object.0 row is).0 (sound named)) w.callbacks s.callback_objects;
     }
 
 -- a worker that runs nothing that is cancelled
@@ -307,21 +383,27 @@ apart_more (c ∷ bs) b none a =
       apart_more bs b both_none.1 a.1,
     )
 
+all_cancelled : (P : CallbackRow → Type 0) (test : CallbackRow → Bool) → ((c : CallbackRow) → P c → P (cancelled c)) → (cs : List CallbackRow) → AllByRecursion P cs → AllByRecursion P (cancel_where test cs)
+all_cancelled P test h cs all = all_map P (cancelled_if test) (λ c here. elim (test c) as (λ b. P (cond b (cancelled c) c)) [ true ↦ h c here | false ↦ here ]) cs all
+
 -- a wait begins
-pub sound_begin_wait : (fresh : ℕ) (w : World) (who : Who) (target : WaitTarget) (cancel : Bool) → is_in_wait w who ≡ false → IsSound fresh w → IsSound fresh (begin_wait w who target cancel (cancel_where (is_cancelled_by target cancel) w.callbacks))
-sound_begin_wait fresh w who target cancel none s =
+pub sound_begin_wait : (fresh : ℕ) (w : World) (who : Who) (target : WaitTarget) (cancel : Bool) → is_in_wait w who ≡ false → IsTargetMade w target → IsSound fresh w → IsSound fresh (begin_wait w who target cancel (cancel_where (is_cancelled_by target cancel) w.callbacks))
+sound_begin_wait fresh w who target cancel none made s =
     let test : CallbackRow → Bool = is_cancelled_by target cancel in
     let only : IsPendingTest test = cancelled_pending target cancel in
+    let rising : IsRising 1 fresh (cancel_where test w.callbacks) = rising_map (cancelled_if test) (cancelled_number test) 1 fresh w.callbacks s.numbers in
     record {
-      numbers = rising_map (λ c. cond (test c) (cancelled c) c) (λ c. elim (test c) as (λ b. (cond b (cancelled c) c).number ≡ c.number) [ true ↦ refl | false ↦ refl ]) 1 fresh w.callbacks s.numbers;
+      numbers = rising;
       workers = workers_cancelled test w.callbacks only 1 w.workers s.workers;
       object_pools = s.object_pools;
       apart = apart_more w.waits (new_wait who target cancel (cancel_where test w.callbacks)) none s.apart;
-      unnoticed = all_append (λ (b : BegunWait). b.notices ≡ []) w.waits (new_wait who target cancel (cancel_where test w.callbacks)) s.unnoticed refl;
       timers = s.timers;
       clock = s.clock;
-      callback_pools = all_map (λ (c : CallbackRow). c.pool.0 < length w.pools) (λ c. cond (test c) (cancelled c) c)
-          (λ c h. elim (test c) as (λ b. (cond b (cancelled c) c).pool.0 < length w.pools) [ true ↦ h | false ↦ h ]) w.callbacks s.callback_pools;
+      waits = all_append (IsWaitSound fresh (cancel_where test w.callbacks)) w.waits (new_wait who target cancel (cancel_where test w.callbacks))
+          (waits_still fresh w.callbacks (cancel_where test w.callbacks) (left_cancelled test w.callbacks) w.waits s.waits)
+          (new_wait_sound fresh who target cancel (cancel_where test w.callbacks) (target_named w target made) rising);
+      callback_pools = all_cancelled (λ (c : CallbackRow). c.pool.0 < length w.pools) test (λ c h. h) w.callbacks s.callback_pools;
+      callback_objects = all_cancelled (IsCallbackSound w.objects) test (λ c sound named. let of = sound named in record { row = of.row; stands = of.stands; home = of.home }) w.callbacks s.callback_objects;
     }
 
 -- and ends
@@ -341,10 +423,11 @@ sound_end_wait fresh w who s =
       workers = s.workers;
       object_pools = s.object_pools;
       apart = apart_filter keeps w.waits s.apart;
-      unnoticed = all_filter (λ (b : BegunWait). b.notices ≡ []) keeps w.waits s.unnoticed;
       timers = s.timers;
       clock = s.clock;
+      waits = all_filter (IsWaitSound fresh w.callbacks) keeps w.waits s.waits;
       callback_pools = s.callback_pools;
+      callback_objects = s.callback_objects;
     }
 
 -- what a trigger comes to
@@ -357,7 +440,7 @@ sound_rows fresh w (j ∷ js) made s =
     let c : CallbackRow = new_callback fresh j.object (object_row w.objects j.object) j.result in
     let home : c.pool.0 < length w.pools = row_of_made (λ (o : ObjectRow). o.env.pool.0 < length w.pools) w.objects j.object s.object_pools made.0 in
     let more : IsSound (fresh + 1 + length js) (record w { callbacks = (w.callbacks ++ c ∷ []) ++ rows_of w.objects (fresh + 1) js })
-    = sound_rows (fresh + 1) (with_new_callback w c) js made.1 (sound_new_callback fresh w c refl home s) in
+    = sound_rows (fresh + 1) (with_new_callback w c) js made.1 (sound_new_callback fresh w c refl home (λ _. record { row = object_row w.objects j.object; stands = made_stands w.objects j.object made.0; home = refl }) s) in
     subst (λ (cs : List CallbackRow). IsSound (fresh + length (j ∷ js)) (record w { callbacks = cs })) (append_assoc w.callbacks (c ∷ []) (rows_of w.objects (fresh + 1) js))
     (subst (λ n. IsSound n (record w { callbacks = (w.callbacks ++ c ∷ []) ++ rows_of w.objects (fresh + 1) js })) (omega arith) more)
 
@@ -371,7 +454,8 @@ sound_fired fresh w trigger ready s =
       workers = s.workers;
       object_pools = s.object_pools;
       apart = s.apart;
-      unnoticed = s.unnoticed;
+      waits = s.waits;
+      callback_objects = s.callback_objects;
       callback_pools = s.callback_pools;
       timers = fired_settings (length w.objects) trigger (sources_of w) here s.timers;
       clock = fired_clock w trigger ready s.clock;
@@ -392,9 +476,9 @@ changed_sound fresh w change.CreatePool s a = none_made fresh (with_new_pool w) 
 changed_sound fresh w (change.ChangePool pool how) s a = none_made fresh (changed w (change.ChangePool pool how)) (sound_change_pool fresh w pool.0 how (slice_get w.pools pool.0) s)
 changed_sound fresh w (change.CreateObject row) s a = none_made fresh (with_object w row) (sound_object fresh w row a.home s)
 changed_sound fresh w (change.ReleaseObject object) s a = none_made fresh (changed w (change.ReleaseObject object)) (sound_release fresh w object (numbered w.objects object.0) refl s)
-changed_sound fresh w (change.QueueCallback c) s a = sound_new_callback fresh w c a.number a.home s
+changed_sound fresh w (change.QueueCallback c) s a = sound_new_callback fresh w c a.number a.home a.object s
 changed_sound fresh w (change.Fire trigger first count) s a =
-    fired_sound first count a.number (a.counted) (sound_fired fresh w trigger a.ready s)
+    fired_sound first count a.number a.counted (sound_fired fresh w trigger a.ready s)
   where
     fired_sound : (first count : ℕ) → first ≡ fresh → count ≡ count_fired w trigger → IsSound (fresh + count_fired w trigger) (fired w fresh (firing trigger (sources_of w))) → IsSound (fresh + count) (fired w first (firing trigger (sources_of w)))
     fired_sound first count number counted h = subst (λ n. IsSound (fresh + n) (fired w first (firing trigger (sources_of w)))) (sym counted) (subst (λ n. IsSound (fresh + count_fired w trigger) (fired w n (firing trigger (sources_of w)))) (sym number) h)
@@ -408,7 +492,7 @@ changed_sound fresh w (change.Return by) s a =
     (sound_returned fresh w by.worker (record { pool = Some by.pool; callback = None }) by.pool by.callback
     (numbered_some w.workers by.worker (record { pool = Some by.pool; callback = Some by.callback.number }) a.stands).1 refl
     (record { callback = by.callback; associated = a.associated; slots = a.slots; found = a.found; runs = a.running; at_home = a.home }) a.found s)
-changed_sound fresh w (change.BeginWait who target cancel) s a = none_made fresh (changed w (change.BeginWait who target cancel)) (sound_begin_wait fresh w who target cancel a.none s)
+changed_sound fresh w (change.BeginWait who target cancel) s a = none_made fresh (changed w (change.BeginWait who target cancel)) (sound_begin_wait fresh w who target cancel a.none a.made s)
 changed_sound fresh w (change.EndWait who how) s a = none_made fresh (without_wait w who) (sound_end_wait fresh w who s)
 changed_sound fresh w (change.Finish client) s a = none_made fresh (changed w (change.Finish client)) (sound_client fresh w client finished s)
 
@@ -418,4 +502,4 @@ idle_workers cs first zero = tt
 idle_workers cs first (suc count) = (tt, idle_workers cs (first + 1) count)
 
 pub opening_sound : (limits : Limits) → IsSound 1 (opening limits)
-opening_sound limits = record { numbers = omega arith; workers = idle_workers [] 1 limits.workers; object_pools = tt; callback_pools = tt; apart = tt; unnoticed = tt; timers = tt; clock = omega arith }
+opening_sound limits = record { numbers = omega arith; workers = idle_workers [] 1 limits.workers; object_pools = tt; callback_pools = tt; callback_objects = tt; apart = tt; waits = tt; timers = tt; clock = omega arith }

@@ -50,6 +50,9 @@ numbered_some rows (suc number) row e =
     let above : (suc number == 0) ≡ false = ne_eqb (suc number) 0 (λ h. omega (arith, h)) in
     (sym (ap (λ b. cond b None (slice_get rows (suc number - 1))) above) ∙ e, omega arith)
 
+pub numbered_at : {X : Type 0} (rows : List X) (number : ℕ) (row : X) → 1 ≤ number → slice_get rows (number - 1) ≡ Some row → numbered rows number ≡ Some row
+numbered_at rows number row above at = ap (λ b. cond b None (slice_get rows (number - 1))) (ne_eqb number 0 (λ h. omega (arith, h, above))) ∙ at
+
 eqb_sym : (m n : ℕ) → (m == n) ≡ (n == m)
 eqb_sym m n = known (m == n) (n == m) refl refl
   where

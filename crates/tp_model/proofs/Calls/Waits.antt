@@ -24,7 +24,7 @@ use Rattle.tp_model.specs.Conditions.{is_actor, is_finished, is_object, is_relea
 use Rattle.tp_model.specs.Refusing.{first_refusal, unless_refused}
 use Rattle.tp_model.specs.Calls.Waits.{begin_wait_refusals, begin_wait_plan, end_refusals, end_held, end_wait, end_plan, holds_starved, count_covered, count_cancelled_by, is_starved}
 use Rattle.tp_model.specs.Waits.{wait_of, held, is_outstanding_for, is_cancelled_by, cancelled, cancel_where, is_covered_by, covered_of, is_held}
-use Rattle.tp_model.specs.Support.Sound.{IsSound}
+use Rattle.tp_model.specs.Support.Sound.{IsSound, IsWaitSound}
 use Rattle.tp_model.specs.Support.Safe.{IsSafe}
 use Rattle.tp_model.specs.Support.Remembered.{lives, forget}
 use Rattle.tp_model.specs.Support.Ranged.{IsCallbackInRange, IsRanged, IsPlanInRange}
@@ -102,7 +102,7 @@ unfolding end_plan
 end_safe fresh room w who s = safe_unless fresh w who End (end_refusals w who) _ (λ _. ends (wait_of w who) refl)
   where
     unnoticed : (b : BegunWait) → wait_of w who ≡ Some b → b.notices ≡ []
-    unnoticed b is = find_all (λ (x : BegunWait). x.notices ≡ []) (λ (x : BegunWait). is_same_actor x.actor who) b w.waits s.unnoticed is
+    unnoticed b is = (find_all (IsWaitSound fresh w.callbacks) (λ (x : BegunWait). is_same_actor x.actor who) b w.waits s.waits is).unnoticed
 
     ends_with : (b : BegunWait) (numbers : List ℕ) → wait_of w who ≡ Some b → held w b ≡ numbers → IsSafe fresh w who End (end_held w room who numbers)
     ends_with b [] is free = record { allowed = record { wait = b; begun = is; unnoticed = unnoticed b is; free = λ _. free }; made_by = refl; accepted = refl; tells = refl }

@@ -25,6 +25,7 @@ use Rattle.tp_model.specs.World.{World, BegunWait, unattached, unfinished}
 use Rattle.tp_model.specs.Counts.{numbered, callback_of, is_pending, maximum, running}
 use Rattle.tp_model.specs.Conditions.{is_actor, is_in_wait, is_object, lacks_slots_for}
 use Rattle.tp_model.specs.Waits.{wait_of, held}
+use Rattle.tp_model.specs.Support.Sound.{IsCallbackSound}
 
 -- an object that has its place, in a pool that was made
 pub record IsNewObject (w : World) (row : ObjectRow) : Type 0 where
@@ -32,12 +33,12 @@ pub record IsNewObject (w : World) (row : ObjectRow) : Type 0 where
   pub home : row.env.pool.0 < length w.pools
   pub room : length w.objects < w.limits.objects
 
--- a pending callback of the next number that has its place, of an object and in a pool that were made; a simple one is of
--- object 0
+-- a pending callback of the next number that has its place, in a pool that was made, and of an object of that pool if it
+-- isn't simple
 pub record IsNewCallback (fresh : ℕ) (w : World) (callback : CallbackRow) : Type 0 where
   pub number : callback.number ≡ fresh
   pub pending : is_pending callback.status ≡ true
-  pub object : callback.object.0 ≤ length w.objects
+  pub object : IsCallbackSound w.objects callback
   pub home : callback.pool.0 < length w.pools
   pub room : lacks_slots_for w 1 ≡ false
 

@@ -1,6 +1,7 @@
 -- What is true of every world that can be reached.
-use Rattle.std.specs.Prelude.{◌≡◌, ℕ, ◌+◌, ◌<◌, ◌≤◌, Bool, false, List, [], ◌∷◌, length, None, Some, Option}
+use Rattle.std.specs.Prelude.{◌≡◌, ◌≢◌, ℕ, ◌+◌, ◌<◌, ◌≤◌, Bool, true, false, ◌&&◌, List, [], ◌∷◌, length, None, Some, Option}
 use Rattle.std.specs.List.{find, list_any, AllByRecursion}
+use Rattle.std.specs.Option.{option_map_or}
 use Rattle.tp_base.specs.declared.ids.PoolId.{PoolId}
 use Rattle.tp_base.specs.declared.rows.Slots.{Slots}
 use Rattle.tp_base.specs.declared.rows.Status.TheVariants.{Running}
@@ -9,9 +10,14 @@ use Rattle.tp_base.specs.declared.rows.CallbackRow.{CallbackRow}
 use Rattle.tp_base.specs.declared.rows.TimerSetting.{TimerSetting}
 use Rattle.tp_base.specs.declared.rows.WorkerRow.{WorkerRow}
 use Rattle.tp_base.specs.Timers.{clock_end}
+use Rattle.tp_base.specs.declared.rows.WaitTarget.{WaitTarget}
+use Rattle.tp_base.specs.declared.rows.WaitTarget.TheVariants.{Object}
 use Rattle.tp_model.specs.World.{World, BegunWait}
-use Rattle.tp_model.specs.Counts.{has_number}
+use Rattle.tp_model.specs.Counts.{numbered, has_number}
 use Rattle.tp_model.specs.Conditions.{is_same_actor}
+use Rattle.tp_model.specs.Waits.{is_of}
+use Rattle.tp_model.specs.Laws.Entries.{is_among}
+use Rattle.tp_model.specs.Laws.Once.{is_left}
 
 -- the numbers rise, from low on, and stay below fresh
 abbrev pub IsRising : ℕ → ℕ → List CallbackRow → Type 0
@@ -38,6 +44,36 @@ abbrev pub AreWorkersSound : List CallbackRow → ℕ → List WorkerRow → Typ
 AreWorkersSound callbacks worker [] = Unit {0}
 AreWorkersSound callbacks worker (r ∷ rs) = IsWorkerSound callbacks worker r.pool r.callback × AreWorkersSound callbacks (worker + 1) rs
 
+-- the callback's object was made, and is of the callback's pool
+pub record HasObject (objects : List ObjectRow) (c : CallbackRow) : Type 0 where
+  pub row : ObjectRow
+  pub stands : numbered objects c.object.0 ≡ Some row
+  pub home : c.pool ≡ row.env.pool
+
+-- simple callbacks have none
+abbrev pub IsCallbackSound : List ObjectRow → CallbackRow → Type 0
+IsCallbackSound objects c = c.object.0 ≢ 0 → HasObject objects c
+
+-- the callback of this number is of the target, and may still be run
+abbrev pub is_left_of : WaitTarget → CallbackRow → Bool
+is_left_of target c = is_of target c && is_left c.status
+
+abbrev pub is_left_among : List CallbackRow → WaitTarget → ℕ → Bool
+is_left_among callbacks target number = option_map_or (is_left_of target) (find (has_number number) callbacks) false
+
+-- no wait is for object 0
+abbrev pub IsNamed : WaitTarget → Type 0
+IsNamed (Object object) = object.0 ≢ 0
+IsNamed _ = Unit {0}
+
+-- a wait covers callbacks that were made, and of those that may still be run none without the ones before it
+pub record IsWaitSound (fresh : ℕ) (callbacks : List CallbackRow) (b : BegunWait) : Type 0 where
+  pub named : IsNamed b.target
+  pub made : AllByRecursion (λ n. n < fresh) b.covered
+  pub closed : (m n : ℕ) → m < n → is_left_among callbacks b.target m ≡ true → is_left_among callbacks b.target n ≡ true → is_among n b.covered ≡ true → is_among m b.covered ≡ true
+  -- no call begins a wait with notices yet
+  pub unnoticed : b.notices ≡ []
+
 -- no actor has two waits begun
 abbrev pub AreApart : List BegunWait → Type 0
 AreApart [] = Unit {0}
@@ -49,9 +85,9 @@ pub record IsSound (fresh : ℕ) (w : World) : Type 0 where
   pub workers : AreWorkersSound w.callbacks 1 w.workers
   pub object_pools : AllByRecursion (λ (o : ObjectRow). o.env.pool.0 < length w.pools) w.objects
   pub apart : AreApart w.waits
-  -- no call begins a wait with notices yet
-  pub unnoticed : AllByRecursion (λ (b : BegunWait). b.notices ≡ []) w.waits
   -- a timer that is set was made
   pub timers : AllByRecursion (λ (s : TimerSetting). (1 ≤ s.object.0) × (s.object.0 ≤ length w.objects)) w.settings
   pub clock : w.now ≤ clock_end
+  pub waits : AllByRecursion (IsWaitSound fresh w.callbacks) w.waits
   pub callback_pools : AllByRecursion (λ (c : CallbackRow). c.pool.0 < length w.pools) w.callbacks
+  pub callback_objects : AllByRecursion (IsCallbackSound w.objects) w.callbacks

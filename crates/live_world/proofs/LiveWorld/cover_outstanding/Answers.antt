@@ -29,8 +29,8 @@ begin_covering-requires c =
     let at = (at_place c.self.inside c.args.self.now c.args.who c.waiter.result (Some c.in-Some.waiter) c.self.view_is c.waiter.ensures c.in-Some.is) in
     record {
       there = omega (arith, place_there i.limits c.args.who c.in-Some.waiter at, k.covered.waiters);
-      idle = idle_there (i.made + 1) c.args.who c.in-Some.waiter at a.none k.covered;
-      key = omega (arith, (number_most (map shown_object i.objects.rows) c.args.object.0 a.made).1, length-map i.objects.rows shown_object, k.listed.objects_within, k.listed.key_count);
+      idle = idle_there c.args.who c.in-Some.waiter at a.none k.covered;
+      key = omega (arith, (number_most (map shown_object i.objects.rows) c.args.object.0 a.made).1, length-map i.objects.rows shown_object, k.sized.objects_within, k.listed.key_count);
       room = omega (arith, c.len.ensures.limited, k.listed.listed_slots, k.covered.barrier_slots);
       rising = c.len.ensures.rising;
     }

@@ -1,20 +1,27 @@
-use Rattle.std.proofs.Common.{nat_lt, find, ap, ◌∙◌}
-use Rattle.cancel_wait.specs.Covers.{covered_of}
+use Rattle.std.proofs.Common.{◌&&◌, None, Some, sym, ap, ap₂, ◌∙◌}
+use Rattle.tp_model.specs.Laws.Entries.{is_among}
 use Rattle.live_world.specs.Waiting.{held_by}
-use Rattle.live_world.proofs.Seeking.{covered_is, never_starved, seeking_first, seeks}
+use Rattle.live_world.proofs.Covered.{nowhere}
+use Rattle.live_world.proofs.Progress.{covered_is}
+use Rattle.live_world.proofs.Starving.{first_is_kept, starved_where}
 use Rattle.live_world.proofs.LiveWorld.holds_starved.Goals as goal
 
-pub returns-then-room-ge4 : goal.returns-then-room-ge4
-returns-then-room-ge4 c = never_starved c.args.self.now.world c.args.room (held_by c.args.self.now.world c.args.who) c.if-room-ge4.true
+pub unreachable-requires : goal.unreachable-requires
+unreachable-requires c =
+    first_is_kept c.self.inside c.args.self.now c.args.who c.args.first c.self.view_is c.self.invariant c.requires.first (sym c.find.ensures ∙ nowhere c.find.result c.in_default.not-Some)
 
-pub loop-next-init : goal.loop-next-init
-loop-next-init c = seeking_first c.args.self.now.world c.args.room (held_by c.args.self.now.world c.args.who) (covered_of c.self.inside.barriers c.args.waiter) c.least-next.result (covered_is c.self.inside c.args.self.now c.args.who c.args.waiter c.self.view_is c.self.invariant c.requires) c.least-next.ensures.rises c.least-next.ensures.value
+pub returns-in-None : goal.returns-in-None
+returns-in-None c =
+    starved_where c.self.inside c.args.self.now c.args.who c.args.first c.self.view_is c.self.invariant c.requires.first c.args.room c.in-Some.held None (sym c.find.ensures ∙ c.in-Some.is) (sym c.in-None.is ∙ c.first_pending.ensures)
+
+pub returns-else-is_starved : goal.returns-else-is_starved
+returns-else-is_starved c =
+    c.if-is_starved.false
+    ∙ ap (λ b. b && is_among c.in-Some-first_pending.callback.number (held_by c.args.self.now.world c.args.who)) (sym c.if-is_starved.false ∙ c.is_starved.ensures)
+    ∙ starved_where c.self.inside c.args.self.now c.args.who c.args.first c.self.view_is c.self.invariant c.requires.first c.args.room c.in-Some.held (Some c.in-Some-first_pending.callback) (sym c.find.ensures ∙ c.in-Some.is) (sym c.in-Some-first_pending.is ∙ c.first_pending.ensures)
 
 pub returns-then-is_starved : goal.returns-then-is_starved
-returns-then-is_starved c = (seeks c.args.self.now.world c.args.room (held_by c.args.self.now.world c.args.who) c.in-Some.number c.loop-next.next c.in-Some.is c.loop-next.invariant).here c.is_starved.result c.is_starved.ensures c.if-is_starved.true
-
-pub loop-next-smaller : goal.loop-next-smaller
-loop-next-smaller c = (seeks c.args.self.now.world c.args.room (held_by c.args.self.now.world c.args.who) c.in-Some.number c.loop-next.next c.in-Some.is c.loop-next.invariant).later c.after-next.result (c.after-next.ensures ∙ ap (find (λ n. nat_lt c.in-Some.number n)) (covered_is c.self.inside c.args.self.now c.args.who c.args.waiter c.self.view_is c.self.invariant c.requires))
-
-pub loop-next-preserved : goal.loop-next-preserved
-loop-next-preserved c = (seeks c.args.self.now.world c.args.room (held_by c.args.self.now.world c.args.who) c.in-Some.number c.loop-next.next c.in-Some.is c.loop-next.invariant).goes_on c.after-next.result c.is_starved.result (c.after-next.ensures ∙ ap (find (λ n. nat_lt c.in-Some.number n)) (covered_is c.self.inside c.args.self.now c.args.who c.args.waiter c.self.view_is c.self.invariant c.requires)) c.is_starved.ensures c.if-is_starved.false
+returns-then-is_starved c =
+    c.covers.ensures
+    ∙ ap₂ (λ b ns. b && is_among c.in-Some-first_pending.callback.number ns) (sym c.if-is_starved.true ∙ c.is_starved.ensures) (covered_is c.self.inside c.args.self.now c.args.who c.args.waiter c.self.view_is c.self.invariant c.requires.at)
+    ∙ starved_where c.self.inside c.args.self.now c.args.who c.args.first c.self.view_is c.self.invariant c.requires.first c.args.room c.in-Some.held (Some c.in-Some-first_pending.callback) (sym c.find.ensures ∙ c.in-Some.is) (sym c.in-Some-first_pending.is ∙ c.first_pending.ensures)

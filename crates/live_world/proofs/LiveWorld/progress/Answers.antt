@@ -1,8 +1,8 @@
-use Rattle.std.proofs.Common.{cond, None, Some, sym, ap, ◌∙◌}
+use Rattle.std.proofs.Common.{cond, slice_get, None, Some, sym, ap, ◌∙◌}
 use Rattle.live_world.specs.declared.waits.Progress.TheVariants.{Starved, Holds}
 use Rattle.cancel_wait.specs.Covers.{covered_of}
 use Rattle.live_world.proofs.Covered.{at_place}
-use Rattle.live_world.proofs.Seeking.{covered_is, not_begun, begun_free, begun_holds, begun_is, stranger}
+use Rattle.live_world.proofs.Progress.{covered_is, not_begun, begun_free, begun_holds, begun_is, stranger}
 use Rattle.live_world.proofs.LiveWorld.progress.Goals as goal
 
 pub returns-in_default : goal.returns-in_default
@@ -16,6 +16,10 @@ returns-then-not-is_begun c = not_begun c.args.self.now.world c.args.room c.args
 pub returns-in-None : goal.returns-in-None
 returns-in-None c =
     begun_free c.args.self.now.world c.args.room c.args.who (covered_of c.self.inside.barriers c.in-Some.waiter) c.least.result (sym (begun_is c.self.inside c.args.self.now c.args.who c.in-Some.waiter c.is_begun.result c.self.view_is c.self.invariant (at_place c.self.inside c.args.self.now c.args.who c.waiter.result (Some c.in-Some.waiter) c.self.view_is c.waiter.ensures c.in-Some.is) c.is_begun.ensures) ∙ c.if-not-is_begun.false) (covered_is c.self.inside c.args.self.now c.args.who c.in-Some.waiter c.self.view_is c.self.invariant (sym c.waiter.ensures ∙ c.in-Some.is)) c.least.ensures.value c.in-None.is
+
+pub holds_starved-requires-clause-first : goal.holds_starved-requires-clause-first
+holds_starved-requires-clause-first c =
+    ap (λ ns. slice_get ns 0) (sym (covered_is c.self.inside c.args.self.now c.args.who c.in-Some.waiter c.self.view_is c.self.invariant (sym c.waiter.ensures ∙ c.in-Some.is))) ∙ sym c.least.ensures.value ∙ c.in-Some-least.is
 
 pub returns-else-holds_starved : goal.returns-else-holds_starved
 returns-else-holds_starved c =

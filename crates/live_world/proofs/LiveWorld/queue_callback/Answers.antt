@@ -1,4 +1,4 @@
-use Rattle.std.proofs.Common.{◌≡◌, ◌+◌, ◌<◌, ◌≤◌, length, sym, ap, ◌∙◌, subst, arith, filter, ltb-false}
+use Rattle.std.proofs.Common.{◌≡◌, ◌+◌, ◌<◌, ◌≤◌, Bool, length, sym, ap, ◌∙◌, subst, arith, filter, ltb-false}
 use Rattle.std.proofs.lemmas.List.Elements.{All-from_recursion}
 use Rattle.tp_base.specs.declared.plans.Change.TheVariants as change
 use Rattle.tp_base.specs.declared.rows.CallbackRow.{CallbackRow}
@@ -8,12 +8,16 @@ use Rattle.tp_model.specs.Support.Remembered.{lives}
 use Rattle.tp_model.proofs.Lists.{length_filter_le}
 use Rattle.tp_model.proofs.Callbacks.{over_not_pending}
 use Rattle.live_world.specs.Live.{Live}
-use Rattle.live_world.specs.Invariant.{waits}
+use Rattle.live_world.specs.Invariant.{AreListed, waits}
+use Rattle.live_world.specs.Parts.{is_tied, shown_object}
+use Rattle.live_world.proofs.ObjectsMade.{object_made}
 use Rattle.live_world.specs.View.{shown, IsLiveWorld}
 use Rattle.live_world.specs.declared.LiveWorld.TheInside.{Inside}
 use Rattle.live_world.proofs.Entries.{AreBelow, below_fresh}
 use Rattle.live_world.proofs.Queued.{number_free}
-use Rattle.keyed_lists.specs.Keyed.{Entry}
+use Rattle.std.specs.List.{All}
+use Rattle.std.proofs.lemmas.List.{length-map}
+use Rattle.keyed_lists.specs.Keyed.{Keyed, Entry}
 use Rattle.live_world.proofs.Listed.{listed_few, listed_below}
 use Rattle.live_world.proofs.Moving.{queued_by}
 use Rattle.live_world.proofs.LiveWorld.queue_callback.Goals as goal
@@ -23,6 +27,7 @@ record IsNew (i : Inside) (c : CallbackRow) : Type 0 where
   -- its number is above all that are kept
   above : AreBelow c.number i.callbacks.rows
   room : length i.callbacks.rows + 1 ≤ i.limits.slots
+  object : c.object.0 ≤ length i.objects.rows
 
 is_new : (i : Inside) (l : Live) (c : CallbackRow) → shown i ≡ l → IsLiveWorld i → IsAllowed (l.made + 1) l.world (change.QueueCallback c) → IsNew i c
 is_new i l c is k allowed =
@@ -31,6 +36,7 @@ is_new i l c is k allowed =
     record {
       above = subst (λ n. AreBelow n i.callbacks.rows) (sym a.number) (below_fresh 1 (i.made + 1) i.callbacks.rows k.sound.numbers);
       room = omega (arith, fits, ap length k.alive.live);
+      object = omega (arith, object_made (shown i).world.objects c a.object, length-map i.objects.rows shown_object);
     }
 
 pub push-requires-clause-last : goal.push-requires-clause-last
@@ -59,23 +65,32 @@ push-requires-2-clause-free c pool =
     number_free c.args.callback.number pool (is_new c.self.inside c.args.self.now c.args.callback c.self.view_is c.self.invariant c.requires.allowed).above c.self.invariant.queued
 
 -- and as many are listed for objects at most
-pub add-requires-clause-room : goal.add-requires-clause-room
-add-requires-clause-room c =
-    let k = c.self.invariant in
-    omega (arith, listed_few k.listed, (is_new c.self.inside c.args.self.now c.args.callback c.self.view_is k c.requires.allowed).room, k.listed.listed_slots)
+record MayList (i : Inside) (c : CallbackRow) (lists : Keyed) : Type 0 where
+  key : c.object.0 < lists.keys
+  room : length lists.entries < lists.slots
+  last : All (λ (e : Entry). e.number < c.number) lists.entries
 
-pub add-requires-clause-last : goal.add-requires-clause-last
-add-requires-clause-last c =
-    let i = c.self.inside in
-    All-from_recursion (λ (e : Entry). e.number < c.args.callback.number) i.outstanding.entries
-    (listed_below c.args.callback.number (is_new i c.args.self.now c.args.callback c.self.view_is c.self.invariant c.requires.allowed).above c.self.invariant.listed)
+may_list : (i : Inside) (l : Live) (c : CallbackRow) (test : CallbackRow → Bool) (lists : Keyed) → shown i ≡ l → IsLiveWorld i → IsAllowed (l.made + 1) l.world (change.QueueCallback c) → AreListed i.limits test i.callbacks.rows lists → MayList i c lists
+may_list i l c test lists is k allowed listed =
+    let new = is_new i l c is k allowed in
+    record {
+      key = omega (arith, new.object, k.sized.objects_within, listed.key_count);
+      room = omega (arith, listed_few listed, new.room, listed.listed_slots);
+      last = All-from_recursion (λ (e : Entry). e.number < c.number) lists.entries (listed_below c.number new.above listed);
+    }
+
+pub add-requires : goal.add-requires
+add-requires c = let may = may_list c.self.inside c.args.self.now c.args.callback is_tied c.self.inside.outstanding c.self.view_is c.self.invariant c.requires.allowed c.self.invariant.listed in record { key = may.key; room = may.room; last = may.last }
+
+pub add-requires-2 : goal.add-requires-2
+add-requires-2 c = let may = may_list c.self.inside c.args.self.now c.args.callback waits c.self.inside.pending c.self.view_is c.self.invariant c.requires.allowed c.self.invariant.pending in record { key = may.key; room = may.room; last = may.last }
 
 pub invariant_of-self : goal.invariant_of-self
 invariant_of-self c =
     let placed = c.push-2.ensures ∙ ap (λ p. with_queue c.self.inside.queues c.args.callback.pool.0 (with_entry (entry p c.args.callback.number) (queue_of c.self.inside.queues c.args.callback.pool.0))) c.priority_byte.ensures in
-    (queued_by c.self.inside c.args.self.now c.args.callback c.push.new.self c.push-2.new.self c.add.new.self c.self.view_is c.self.invariant c.requires.allowed c.push.ensures placed c.add.ensures).keeps
+    (queued_by c.self.inside c.args.self.now c.args.callback c.push.new.self c.push-2.new.self c.add.new.self c.add-2.new.self c.self.view_is c.self.invariant c.requires.allowed c.push.ensures placed c.add.ensures c.add-2.ensures).keeps
 
 pub returns : goal.returns
 returns c =
     let placed = c.push-2.ensures ∙ ap (λ p. with_queue c.self.inside.queues c.args.callback.pool.0 (with_entry (entry p c.args.callback.number) (queue_of c.self.inside.queues c.args.callback.pool.0))) c.priority_byte.ensures in
-    (queued_by c.self.inside c.args.self.now c.args.callback c.push.new.self c.push-2.new.self c.add.new.self c.self.view_is c.self.invariant c.requires.allowed c.push.ensures placed c.add.ensures).becomes
+    (queued_by c.self.inside c.args.self.now c.args.callback c.push.new.self c.push-2.new.self c.add.new.self c.add-2.new.self c.self.view_is c.self.invariant c.requires.allowed c.push.ensures placed c.add.ensures c.add-2.ensures).becomes

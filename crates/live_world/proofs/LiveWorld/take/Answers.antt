@@ -11,7 +11,7 @@ take-requires-clause-a_callback c =
     omega (arith, (found_bounds c.args.callback.number 1 (c.self.inside.made + 1) c.args.callback c.self.inside.callbacks.rows c.self.invariant.sound.numbers found).0)
 
 pub invariant_of-self : goal.invariant_of-self
-invariant_of-self c = (taken_by c.self.inside c.args.self.now c.args.by c.args.callback c.take.new.self c.replace-was_there.new.self c.remove-was_pending.new.self c.self.view_is c.self.invariant c.requires c.take.ensures c.replace-was_there.ensures.after c.remove-was_pending.ensures.after).keeps
+invariant_of-self c = (taken_by c.self.inside c.args.self.now c.args.by c.args.callback c.take.new.self c.replace-was_there.new.self c.remove-was_pending.new.self c.remove-was_listed.new.self c.self.view_is c.self.invariant c.requires c.take.ensures c.replace-was_there.ensures.after c.remove-was_pending.ensures.after c.remove-was_listed.ensures.after).keeps
 
 pub returns : goal.returns
-returns c = (taken_by c.self.inside c.args.self.now c.args.by c.args.callback c.take.new.self c.replace-was_there.new.self c.remove-was_pending.new.self c.self.view_is c.self.invariant c.requires c.take.ensures c.replace-was_there.ensures.after c.remove-was_pending.ensures.after).becomes
+returns c = (taken_by c.self.inside c.args.self.now c.args.by c.args.callback c.take.new.self c.replace-was_there.new.self c.remove-was_pending.new.self c.remove-was_listed.new.self c.self.view_is c.self.invariant c.requires c.take.ensures c.replace-was_there.ensures.after c.remove-was_pending.ensures.after c.remove-was_listed.ensures.after).becomes

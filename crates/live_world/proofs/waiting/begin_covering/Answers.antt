@@ -1,7 +1,7 @@
-use Rattle.std.proofs.Common.{◌≡◌, ◌<◌, [], length, is_some, unwrap_or, sym, ap, subst, arith}
-use Rattle.std.specs.List.{All}
-use Rattle.std.proofs.lemmas.List.Elements.{All-from_recursion}
+use Rattle.std.proofs.Common.{◌≡◌, ◌<◌, ◌∙◌, [], length, is_some, unwrap_or, sym, ap, subst, arith}
 use Rattle.cancel_wait.specs.Covers.{covered_of}
+use Rattle.cancel_wait.specs.Rising.{contains_number}
+use Rattle.cancel_wait.proofs.Contained.{greatest_absent}
 use Rattle.live_world.specs.Waiting.{numbers_of}
 use Rattle.live_world.proofs.Walks.{rest}
 use Rattle.live_world.proofs.Numbers.{itself, AtNumber, at_number, covering_first, covering_next, has_covered}
@@ -23,8 +23,8 @@ cover-requires-clause-begun c = ap is_some (has_covered c.args.barriers.now c.lo
 pub cover-requires-clause-room : goal.cover-requires-clause-room
 cover-requires-clause-room c = omega (arith, ap length (covered_here (goal.at.cover-requires-clause-room c).In-Some), (here (goal.at.cover-requires-clause-room c).In-Some).fewer, c.requires.room, ap (λ b. b.slots) (here (goal.at.cover-requires-clause-room c).In-Some).covers)
 
-pub cover-requires-clause-above : goal.cover-requires-clause-above
-cover-requires-clause-above c = subst (All (λ n. n < c.in-Some.number)) (sym (covered_here (goal.at.cover-requires-clause-above c).In-Some)) (All-from_recursion (λ n. n < c.in-Some.number) (here (goal.at.cover-requires-clause-above c).In-Some).so_far (here (goal.at.cover-requires-clause-above c).In-Some).below)
+pub cover-requires-clause-free : goal.cover-requires-clause-free
+cover-requires-clause-free c = ap (contains_number c.in-Some.number) (covered_here (goal.at.cover-requires-clause-free c).In-Some) ∙ greatest_absent c.in-Some.number _ (here (goal.at.cover-requires-clause-free c).In-Some).below
 
 pub after-next-requires : goal.after-next-requires
 after-next-requires c = (here (goal.at.after-next-requires c).In-Some).there

@@ -1,4 +1,4 @@
--- What a wait holds, gone along.
+-- How far a wait has come.
 use Rattle.std.proofs.Common.{◌≡◌, ℕ, ◌+◌, ◌<◌, ◌≤◌, Bool, true, false, cond, not, ◌&&◌, ◌||◌, ◌==◌, List, [], ◌∷◌, length, nat_lt, slice_get, Option, Some, None, is_some, is_none, refl, sym, ap, ap₂, ◌∙◌, subst, arith, find, option_map, unwrap_or, le-ltb}
 use Rattle.std.specs.List.{list_any}
 use Rattle.std.specs.List.Sorted.{IsStrictlyIncreasing}
@@ -32,56 +32,6 @@ covered_is i l who place is k at =
     known None = refl
     known (Some b) = refl
 
-pub increasing_rises : (ns : List ℕ) → IsStrictlyIncreasing ns → Rises itself 0 ns
-increasing_rises ns up = rises_pairs itself 0 ns (all_least itself ns) (AllPairs-from_increasing ns up)
-
--- it has room to be run
-pub never_starved : (w : World) (room : ℕ) (ns : List ℕ) → 4 ≤ room → false ≡ holds_starved w room ns
-never_starved w room [] enough = refl
-never_starved w room (n ∷ ns) enough = ap₂ (λ a b. a || b) (sym (one (callback_of w n))) (never_starved w room ns enough)
-  where
-    one : (o : Option CallbackRow) → option_map_or (is_starved w room) o false ≡ false
-    one None = refl
-    one (Some c) = ap₂ (λ a b. is_pending c.status && (a || (b && (attached w c.pool.0 == 0)))) (le-ltb room 2 (omega (arith, enough))) (le-ltb room 4 enough) ∙ and_false (is_pending c.status)
-
--- none of those before the next is starved
-pub record Seeking (w : World) (room : ℕ) (ns : List ℕ) (next : Option ℕ) : Type 0 where
-  pub none_before : holds_starved w room (rest itself ns next) ≡ holds_starved w room ns
-  pub among : IsAmong itself ns next
-  pub rises : Rises itself 0 ns
-
-pub seeking_first : (w : World) (room : ℕ) (ns has : List ℕ) (next : Option ℕ) → has ≡ ns → IsStrictlyIncreasing has → next ≡ slice_get has 0 → Seeking w room ns next
-seeking_first w room ns has next same up is =
-    let rises : Rises itself 0 ns = subst (Rises itself 0) same (increasing_rises has up) in
-    let first : next ≡ slice_get ns 0 = is ∙ ap (λ xs. slice_get xs 0) same in
-    record {
-      none_before = ap (λ o. holds_starved w room (rest itself ns o)) first ∙ ap (holds_starved w room) (rest_first itself 0 ns rises);
-      among = subst (IsAmong itself ns) (sym first) (first_among itself ns);
-      rises = rises;
-    }
-
-pub record Seeks (w : World) (room : ℕ) (ns : List ℕ) (number : ℕ) (next : Option ℕ) : Type 0 where
-  pub here : (starved : Bool) → starved ≡ option_map_or (is_starved w room) (callback_of w number) false → starved ≡ true → true ≡ holds_starved w room ns
-  pub later : (after : Option ℕ) → after ≡ find (λ n. nat_lt number n) ns → length (rest itself ns after) < length (rest itself ns next)
-  pub goes_on : (after : Option ℕ) (starved : Bool) → after ≡ find (λ n. nat_lt number n) ns → starved ≡ option_map_or (is_starved w room) (callback_of w number) false → starved ≡ false → Seeking w room ns after
-
-pub seeks : (w : World) (room : ℕ) (ns : List ℕ) (number : ℕ) (next : Option ℕ) → next ≡ Some number → Seeking w room ns next → Seeks w room ns number next
-seeks w room ns number next is k =
-    let after_it : Option ℕ = find (λ n. nat_lt number n) ns in
-    let step : rest itself ns next ≡ number ∷ rest itself ns after_it = ap (rest itself ns) is ∙ rest_next itself 0 ns number k.rises (subst (IsAmong itself ns) is k.among) in
-    let all : (option_map_or (is_starved w room) (callback_of w number) false || holds_starved w room (rest itself ns after_it)) ≡ holds_starved w room ns = sym (ap (holds_starved w room) step) ∙ k.none_before in
-    record {
-      here = λ starved says yes. ap (λ b. b || holds_starved w room (rest itself ns after_it)) (sym yes ∙ says) ∙ all;
-      later = λ after found. omega (arith, ap length step, ap (λ o. length (rest itself ns o)) found);
-      goes_on = λ after starved found says no. record {
-        none_before = ap (λ o. holds_starved w room (rest itself ns o)) found ∙ ap (λ b. b || holds_starved w room (rest itself ns after_it)) (sym no ∙ says) ∙ all;
-        among = subst (IsAmong itself ns) (sym found) (found_among itself 0 (λ n. nat_lt number n) ns k.rises);
-        rises = k.rises;
-      };
-    }
-
--- ---- how far a wait has come
-
 -- the actor has begun no wait
 pub not_begun : (w : World) (room : ℕ) (who : Who) → list_any (λ (b : BegunWait). is_same_actor b.actor who) w.waits ≡ false → NotBegun ≡ progress_of w room who
 not_begun w room who none = sym (ap (progress_in w room) (none_found (λ (b : BegunWait). is_same_actor b.actor who) w.waits none))
@@ -110,7 +60,7 @@ begun_holds w room who has first number some same is at = of_list (held_by w who
     of_list (n ∷ ns) e = let same_number : number ≡ n = cc in ap (λ m. cond (holds_starved w room (n ∷ ns)) Starved (Holds m)) same_number
 
 pub begun_is : (i : Inside) (l : Live) (who : Who) (place : ℕ) (begun : Bool) → shown i ≡ l → IsLiveWorld i → place_of i.limits who ≡ Some place → begun ≡ is_some (barrier_of i.barriers place) → begun ≡ list_any (λ (b : BegunWait). is_same_actor b.actor who) l.world.waits
-begun_is i l who place begun is k at says = says ∙ begun_there (i.made + 1) who place at k.covered ∙ ap (λ (x : Live). list_any (λ (b : BegunWait). is_same_actor b.actor who) x.world.waits) is
+begun_is i l who place begun is k at says = says ∙ begun_there who place at k.covered ∙ ap (λ (x : Live). list_any (λ (b : BegunWait). is_same_actor b.actor who) x.world.waits) is
 
 pub stranger : (i : Inside) (l : Live) (who : Who) → shown i ≡ l → IsLiveWorld i → place_of i.limits who ≡ None → list_any (λ (b : BegunWait). is_same_actor b.actor who) l.world.waits ≡ false
-stranger i l who is k nowhere = ap (λ (x : Live). list_any (λ (b : BegunWait). is_same_actor b.actor who) x.world.waits) (sym is) ∙ no_stranger i.limits i.waits.waits (i.made + 1) who nowhere k.covered.waits_kept
+stranger i l who is k nowhere = ap (λ (x : Live). list_any (λ (b : BegunWait). is_same_actor b.actor who) x.world.waits) (sym is) ∙ no_stranger i.limits i.waits.waits who nowhere k.covered.waits_kept

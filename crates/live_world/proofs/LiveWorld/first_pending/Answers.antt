@@ -1,0 +1,28 @@
+use Rattle.std.proofs.Common.{◌+◌, length, map, slice_get, refl, ap, ◌∙◌, arith}
+use Rattle.live_world.specs.Live.{Live}
+use Rattle.live_world.specs.Parts.{is_tied, shown_object}
+use Rattle.live_world.specs.Invariant.{waits}
+use Rattle.live_world.specs.Waiting.{is_pending_for, pending_of}
+use Rattle.std.proofs.lemmas.List.{length-map}
+use Rattle.live_world.proofs.Along.{first_row, no_row, none_beyond}
+use Rattle.live_world.proofs.ObjectsMade.{objects_made}
+use Rattle.live_world.proofs.LiveWorld.first_pending.Goals as goal
+
+pub returns-then-object-self : goal.returns-then-object-self
+returns-then-object-self c =
+    let i = c.self.inside in
+    none_beyond (length (map shown_object i.objects.rows)) c.args.object waits (is_pending_for c.args.object) (λ _. refl) i.callbacks.rows (omega (arith, length-map i.objects.rows shown_object, c.self.invariant.sized.objects_within, c.if-object-self.true)) (objects_made (map shown_object i.objects.rows) i.callbacks.rows c.self.invariant.sound.callback_objects)
+    ∙ ap (λ (l : Live). slice_get (pending_of l.world c.args.object) 0) c.self.view_is
+
+pub returns-in-Some : goal.returns-in-Some
+returns-in-Some c =
+    let i = c.self.inside in
+    c.find.ensures
+    ∙ first_row (i.made + 1) i.callbacks.rows c.args.object waits (is_pending_for c.args.object) (λ _. refl) i.pending.entries c.self.invariant.pending.listed c.first.result c.first.ensures c.in-Some.number c.self.invariant.sound.numbers c.in-Some.is
+    ∙ ap (λ (l : Live). slice_get (pending_of l.world c.args.object) 0) c.self.view_is
+
+pub returns-in-None : goal.returns-in-None
+returns-in-None c =
+    let i = c.self.inside in
+    no_row (i.made + 1) i.callbacks.rows c.args.object waits (is_pending_for c.args.object) (λ _. refl) i.pending.entries c.self.invariant.pending.listed c.first.result c.first.ensures c.in-None.is
+    ∙ ap (λ (l : Live). slice_get (pending_of l.world c.args.object) 0) c.self.view_is
