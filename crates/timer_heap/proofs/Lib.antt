@@ -1,0 +1,4 @@
+pub mod Kept
+pub mod Order
+pub mod Placed
+pub mod Told
