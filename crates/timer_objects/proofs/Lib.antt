@@ -1,0 +1,4 @@
+pub mod Expiry
+pub mod Kept
+pub mod NextDue
+pub mod Shown

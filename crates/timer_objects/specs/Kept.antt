@@ -1,0 +1,29 @@
+-- What timer objects keep between calls.
+use Rattle.std.specs.Prelude.{◌≡◌, ℕ, ◌+◌, ◌<◌, ◌^◌, Bool, true, false, List, All, length, map, slice_index_or}
+use Rattle.tp_base.specs.declared.rows.TimerSetting.{TimerSetting}
+use Rattle.timer_heap.specs.declared.Entry.{Entry}
+use Rattle.timer_heap.specs.Dues.{Dues}
+use Rattle.timer_objects.specs.declared.Pace.{Pace}
+
+abbrev pub pace_of : List Pace → ℕ → Pace
+pace_of paces key = slice_index_or paces key (record { period = 0; window = 0 })
+
+-- the setting of the object that has this key
+abbrev pub setting_of : List Pace → Entry → TimerSetting
+setting_of paces e = record {
+  object = record { 0 = e.key + 1 };
+  due = e.due;
+  period = (pace_of paces e.key).period;
+  window = (pace_of paces e.key).window;
+}
+
+abbrev pub settings_of : List Pace → List Entry → List TimerSetting
+settings_of paces entries = map (setting_of paces) entries
+
+-- there is a place for each number, no object 0, a key for each object, and only objects have due times
+pub record IsKept (there : List Bool) (dues : Dues) (paces : List Pace) : Type 0 where
+  pub places : length there ≡ dues.keys + 1
+  pub paced : length paces ≡ dues.keys
+  pub none_0 : slice_index_or there 0 false ≡ false
+  pub alive : All (λ e. slice_index_or there (e.key + 1) false ≡ true) dues.entries
+  pub fits : dues.keys < 2 ^ 32
