@@ -1,5 +1,5 @@
 -- What a wait that begins covers, what it cancels, and what the parts show then.
-use Rattle.std.proofs.Common.{◌≡◌, ℕ, ◌+◌, ◌<◌, Bool, true, false, cond, not, ◌&&◌, ◌||◌, ◌==◌, List, [], ◌∷◌, ◌++◌, length, map, Some, refl, sym, ap, ap₂, ◌∙◌, subst, arith, filter, find, eq-eqb, ne_eqb}
+use Rattle.std.proofs.Common.{◌≡◌, ℕ, ◌+◌, Bool, true, false, cond, not, ◌&&◌, ◌||◌, ◌==◌, List, [], ◌∷◌, ◌++◌, length, map, Some, refl, sym, ap, ap₂, ◌∙◌, subst, arith, filter, find, eq-eqb, ne_eqb}
 use Rattle.std.specs.List.{AllByRecursion}
 use Rattle.std.specs.Option.{option_map_or}
 use Rattle.std.proofs.lemmas.List.{length-map}
@@ -31,7 +31,6 @@ use Rattle.live_world.specs.View.{shown, IsLiveWorld}
 use Rattle.live_world.specs.Invariant.{AreCovered, waits, waits_or_runs}
 use Rattle.live_world.specs.Waiting.{numbers_of}
 use Rattle.live_world.proofs.Lists.{filter_all, all_pass}
-use Rattle.live_world.proofs.Entries.{AreBelow, below_fresh}
 use Rattle.live_world.proofs.Along.{number_of, numbers_shown}
 use Rattle.live_world.proofs.Cancelled.{none_where}
 use Rattle.live_world.proofs.Covered.{covered_begun}
@@ -202,6 +201,7 @@ begun_by i l who object cancel place barriers begun is k may settled at barriers
       tallied = k.tallied;
       listed = k.listed;
       pending = k.pending;
+      timed = k.timed;
       covered = subst (λ x. AreCovered i.limits cs begun.waits x) (sym (barriers_now ∙ ap (λ ns. with_wait i.barriers place (Some ns)) numbers))
           (subst (λ bs. AreCovered i.limits cs bs (with_wait i.barriers place (Some b.covered))) (sym waits_now)
           (covered_begun place b at may_here.none held tt k.covered));

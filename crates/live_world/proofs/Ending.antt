@@ -44,6 +44,7 @@ ended i l who how place barriers waits is k allowed at barriers_now waits_now =
       tallied = k.tallied;
       listed = k.listed;
       pending = k.pending;
+      timed = k.timed;
       covered = subst (λ b. AreCovered i.limits i.callbacks.rows waits.waits b) (sym barriers_now)
           (subst (λ bs. AreCovered i.limits i.callbacks.rows bs (with_wait i.barriers place None)) (sym waits_now) (covered_ended place who at k.covered));
     })

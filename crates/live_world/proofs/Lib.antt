@@ -11,7 +11,6 @@ pub mod Using
 pub mod Opening
 pub mod Making
 pub mod Ending
-pub mod Firings
 pub mod Walks
 pub mod Numbers
 pub mod Along
@@ -20,3 +19,5 @@ pub mod Beginnings
 pub mod ObjectsMade
 pub mod Starving
 pub mod Progress
+pub mod Firings
+pub mod Timed

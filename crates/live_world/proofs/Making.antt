@@ -1,23 +1,28 @@
 -- What the parts show after an object is made and after one is released.
-use Rattle.std.proofs.Common.{◌≡◌, ℕ, ◌+◌, ◌-◌, ◌<◌, ◌≤◌, Bool, true, false, cond, not, ◌==◌, [], ◌∷◌, ◌++◌, length, map, slice_get, slice_set, Option, Some, None, refl, sym, ap, ap₂, ◌∙◌, subst, arith, option_map, length-append, length-set}
+use Rattle.std.proofs.Common.{◌≡◌, ℕ, ◌+◌, ◌-◌, ◌<◌, ◌≤◌, Bool, true, false, cond, not, ◌==◌, List, [], ◌∷◌, ◌++◌, length, map, slice_get, slice_set, Option, Some, None, refl, sym, ap, ap₂, ◌∙◌, subst, arith, option_map, length-append, length-set}
 use Rattle.std.specs.Option.{option_map_or}
 use Rattle.std.proofs.lemmas.List.{map-append, map-set, length-map}
 use Rattle.std.proofs.lemmas.Option.{slice_get-map}
 use Rattle.tp_base.specs.declared.ids.ObjectId.{ObjectId}
 use Rattle.tp_base.specs.declared.plans.Change.TheVariants as change
 use Rattle.tp_base.specs.declared.rows.ObjectRow.{ObjectRow}
-use Rattle.tp_base.specs.declared.rows.CallbackRow.{CallbackRow}
 use Rattle.handle_table.specs.Table.{Table, Marked, numbered as numbered_row, is_live as is_live_row, with_row, with_released}
+use Rattle.tp_base.specs.declared.calls.Kind.TheVariants.{Timer}
+use Rattle.tp_base.specs.declared.rows.TimerSetting.{TimerSetting}
+use Rattle.tp_base.specs.Timers.{without_setting}
+use Rattle.tp_model.specs.Conditions.{is_same_kind}
 use Rattle.tp_model.specs.Counts.{numbered}
 use Rattle.tp_model.specs.Changes.{changed, release_object}
 use Rattle.tp_model.specs.Support.Allowed.{IsAllowed}
-use Rattle.tp_model.proofs.Lists.{all_along}
 use Rattle.live_world.specs.declared.objects.Object.{Object}
 use Rattle.live_world.specs.declared.LiveWorld.TheInside.{Inside}
 use Rattle.live_world.specs.Live.{Live, moved}
-use Rattle.live_world.specs.Parts.{shown_object}
+use Rattle.live_world.specs.Parts.{shown_object, world_of}
+use Rattle.timer_objects.specs.Settings.{Timers}
 use Rattle.live_world.specs.View.{shown, IsLiveWorld}
-use Rattle.live_world.specs.Invariant.{AreSized, AreListed}
+use Rattle.live_world.specs.Invariant.{AreSized}
+use Rattle.tp_model.proofs.Refusals.{numbered_some}
+use Rattle.live_world.proofs.Timed.{with_timer, without_timer, same_settings, timed_created, timed_released}
 use Rattle.live_world.proofs.Moving.{After, Becomes, moved_by}
 
 -- another table of the same limit
@@ -35,17 +40,21 @@ sized_objects i objects same within k =
       client_count = k.sized.client_count;
     }
 
-pub created : (i : Inside) (l : Live) (row : ObjectRow) (objects : Table Object) → shown i ≡ l → IsLiveWorld i → IsAllowed (l.made + 1) l.world (change.CreateObject row)
-    → objects ≡ with_row i.objects (record { kind = row.kind; routine = row.routine; context = row.context; env = row.env }) → Becomes (record i { objects = objects }) (moved l (change.CreateObject row))
-created i l row objects is k allowed now =
-    moved_by i (record i { objects = objects }) l (change.CreateObject row) is k allowed (omega arith) (λ a.
+pub created : (i : Inside) (l : Live) (row : ObjectRow) (objects : Table Object) (timers : Timers) → shown i ≡ l → IsLiveWorld i → IsAllowed (l.made + 1) l.world (change.CreateObject row)
+    → objects ≡ with_row i.objects (record { kind = row.kind; routine = row.routine; context = row.context; env = row.env })
+    → timers ≡ cond (is_same_kind row.kind Timer) (with_timer i.timers (length i.objects.rows + 1)) i.timers → Becomes (record i { objects = objects; timers = timers }) (moved l (change.CreateObject row))
+created i l row objects timers is k allowed now timers_now =
+    moved_by i (record i { objects = objects; timers = timers }) l (change.CreateObject row) is k allowed (omega arith) (λ a.
     let object : Object = record { kind = row.kind; routine = row.routine; context = row.context; env = row.env } in
     let longer : length (with_row i.objects object).rows ≡ length i.objects.rows + 1 = length-append i.objects.rows _ in
     let fewer : length i.objects.rows < i.limits.objects = subst (λ n. n < i.limits.objects) (length-map i.objects.rows shown_object) a.room in
     let marked : shown_object (record { row = object; released = false }) ≡ row = ap (λ b. record row { released = b }) (sym a.unreleased) in
-    subst (λ (t : Table Object). After (record i { objects = t }) (changed (shown i).world (change.CreateObject row))) (sym now)
+    let here : Timers = cond (is_same_kind row.kind Timer) (with_timer i.timers (length i.objects.rows + 1)) i.timers in
+    subst (λ (t : Table Object). After (record i { objects = t; timers = timers }) (changed (shown i).world (change.CreateObject row))) (sym now)
+    (subst (λ (t : Timers). After (record i { objects = with_row i.objects object; timers = t }) (changed (shown i).world (change.CreateObject row))) (sym timers_now)
     (record {
-      shows = ap₂ (λ cs os. record (shown i).world { callbacks = cs; objects = os }) (sym k.alive.live) (map-append shown_object i.objects.rows _ ∙ ap (λ (o : ObjectRow). map shown_object i.objects.rows ++ o ∷ []) marked);
+      shows = ap (λ (ss : List TimerSetting). record (world_of i.limits i.pools (with_row i.objects object) i.callbacks.rows i.clients.items i.waits.waits ss i.clock) { settings = ss }) (same_settings i.timers (length i.objects.rows + 1) (is_same_kind row.kind Timer))
+          ∙ ap₂ (λ cs os. record (shown i).world { callbacks = cs; objects = os }) (sym k.alive.live) (map-append shown_object i.objects.rows _ ∙ ap (λ (o : ObjectRow). map shown_object i.objects.rows ++ o ∷ []) marked);
       sized = sized_objects i (with_row i.objects object) refl (omega (arith, longer, fewer)) k;
       alive = k.alive;
       queued = k.queued;
@@ -53,7 +62,8 @@ created i l row objects is k allowed now =
       listed = k.listed;
       pending = k.pending;
       covered = k.covered;
-    }))
+      timed = timed_created i object fewer k;
+    })))
 
 -- the row here behind a row of the world
 record IsObjectBehind (objects : Table Object) (number : ℕ) (row : ObjectRow) : Type 0 where
@@ -72,10 +82,11 @@ object_behind objects number row is = known (numbered_row objects number) refl (
     known None e h = let none : None ≡ Some row = sym (ap (option_map shown_object) e) ∙ h in absurd cc
     known (Some m) e h = let some : Some (shown_object m) ≡ Some row = sym (ap (option_map shown_object) e) ∙ h in record { marked = m; stands = e; shows = cc }
 
-pub released : (i : Inside) (l : Live) (object : ObjectId) (live : Bool) (objects : Table Object) → shown i ≡ l → IsLiveWorld i → IsAllowed (l.made + 1) l.world (change.ReleaseObject object)
-    → live ≡ is_live_row i.objects object.0 → (live ≡ true → objects ≡ with_released i.objects object.0) → Becomes (record i { objects = objects }) (moved l (change.ReleaseObject object))
-released i l object live objects is k allowed was now =
-    moved_by i (record i { objects = objects }) l (change.ReleaseObject object) is k allowed (omega arith) (λ a.
+pub released : (i : Inside) (l : Live) (object : ObjectId) (live : Bool) (objects : Table Object) (timers : Timers) → shown i ≡ l → IsLiveWorld i → IsAllowed (l.made + 1) l.world (change.ReleaseObject object)
+    → live ≡ is_live_row i.objects object.0 → (live ≡ true → objects ≡ with_released i.objects object.0)
+    → timers ≡ without_timer i.timers object → Becomes (record i { objects = objects; timers = timers }) (moved l (change.ReleaseObject object))
+released i l object live objects timers is k allowed was now timers_now =
+    moved_by i (record i { objects = objects; timers = timers }) l (change.ReleaseObject object) is k allowed (omega arith) (λ a.
     let b = object_behind i.objects object.0 a.row a.stands in
     let unreleased : b.marked.released ≡ false = ap (λ (o : ObjectRow). o.released) b.shows ∙ a.unreleased in
     let lives : live ≡ true = was ∙ ap (λ o. option_map_or (λ (m : Marked Object). not m.released) o false) b.stands ∙ ap not unreleased in
@@ -86,10 +97,11 @@ released i l object live objects is k allowed was now =
     let as_long : length there.rows ≡ length i.objects.rows = length-set i.objects.rows (object.0 - 1) marked in
     let rows_now : map shown_object there.rows ≡ slice_set (shown i).world.objects (object.0 - 1) (record a.row { released = true })
     = map-set shown_object i.objects.rows (object.0 - 1) marked ∙ ap (λ (o : ObjectRow). slice_set (shown i).world.objects (object.0 - 1) (record o { released = true })) b.shows in
-    subst (λ (t : Table Object). After (record i { objects = t }) (changed (shown i).world (change.ReleaseObject object))) (sym becomes)
-    (subst (λ w. After (record i { objects = there }) w) (sym (ap (release_object (shown i).world object.0) a.stands))
+    subst (λ (t : Table Object). After (record i { objects = t; timers = timers }) (changed (shown i).world (change.ReleaseObject object))) (sym becomes)
+    (subst (λ (t : Timers). After (record i { objects = there; timers = t }) (changed (shown i).world (change.ReleaseObject object))) (sym timers_now)
+    (subst (λ w. After (record i { objects = there; timers = without_timer i.timers object }) w) (sym (ap (release_object (shown i).world object) a.stands))
     (record {
-      shows = ap₂ (λ cs os. record (shown i).world { callbacks = cs; objects = os }) (sym k.alive.live) rows_now;
+      shows = ap₂ (λ cs os. record (shown i).world { callbacks = cs; objects = os; settings = without_setting object i.timers.settings }) (sym k.alive.live) rows_now;
       sized = sized_objects i there refl (omega (arith, as_long, k.sized.objects_within)) k;
       alive = k.alive;
       queued = k.queued;
@@ -97,4 +109,5 @@ released i l object live objects is k allowed was now =
       listed = k.listed;
       pending = k.pending;
       covered = k.covered;
-    })))
+      timed = timed_released i object marked (numbered_some (shown i).world.objects object.0 a.row a.stands).1 refl k;
+    }))))

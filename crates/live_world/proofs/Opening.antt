@@ -1,20 +1,24 @@
 -- The parts of a world that is opened.
-use Rattle.std.proofs.Common.{◌≡◌, ℕ, Bool, suc, zero, ◌+◌, Option, None, false, List, [], ◌∷◌, length, map, get_or, replicate, refl, sym, ap, ap₂, ◌∙◌, subst, arith, sum_by}
+use Rattle.std.proofs.Common.{◌≡◌, ℕ, Bool, suc, zero, ◌+◌, None, true, false, cond, not, ◌&&◌, ◌==◌, slice_get, ◌-◌, List, [], ◌∷◌, length, map, get_or, replicate, refl, sym, ap, ap₂, ◌∙◌, subst, arith, sum_by}
 use Rattle.tp_base.specs.declared.limits.Limits.{Limits}
 use Rattle.tp_base.specs.declared.rows.ClientRow.{ClientRow}
 use Rattle.tp_base.specs.Ranges.{AreLimitsInRange}
 use Rattle.callback_rows.specs.LiveCallbacks.{LiveCallbacks}
-use Rattle.handle_table.specs.Table.{Table}
+use Rattle.handle_table.specs.Table.{Table, Marked}
+use Rattle.timer_objects.specs.Settings.{Timers}
+use Rattle.tp_base.specs.declared.calls.Kind.TheVariants.{Timer}
+use Rattle.std.specs.Option.{option_map_or}
 use Rattle.prio_queue.specs.Pending.{Pending, Entry}
 use Rattle.pool_rows.specs.Pools.{Pools, made_pool}
 use Rattle.pool_rows.specs.Workers.{runs_in, runs_long_in, unattached as unattached_row}
 use Rattle.tp_model.specs.World.{World, BegunWait, opening, unattached, unfinished}
+use Rattle.tp_model.specs.Conditions.{is_same_kind}
 use Rattle.tp_model.specs.Support.Sound.{IsSound}
 use Rattle.tp_model.specs.Support.Remembered.{forget}
 use Rattle.tp_model.proofs.Preserving.{opening_sound}
 use Rattle.live_world.specs.declared.objects.Object.{Object}
 use Rattle.live_world.specs.Parts.{world_of, shown_worker, is_tied}
-use Rattle.live_world.specs.Invariant.{AreSized, AreLive, AreQueued, AreTallied, AreListed, AreCovered, IsHome, IsMarked, waits}
+use Rattle.live_world.specs.Invariant.{AreSized, AreLive, AreQueued, AreTallied, AreListed, AreCovered, AreTimed, IsHome, IsMarked, waits}
 use Rattle.live_world.specs.View.{shown}
 use Rattle.live_world.specs.declared.LiveWorld.TheInside.{Inside}
 use Rattle.live_world.proofs.Moving.{Becomes}
@@ -24,19 +28,14 @@ use Rattle.tp_base.specs.declared.rows.CallbackRow.{CallbackRow}
 use Rattle.tp_base.specs.declared.rows.WorkerRow.{WorkerRow}
 use Rattle.live_world.proofs.Lists.{filter_none, map_replicate, length_replicate, all_replicate}
 
-no_entries : (n pool : ℕ) → get_or {A = List Entry} (replicate n []) pool [] ≡ []
-no_entries zero pool = refl
-no_entries (suc n) zero = refl
-no_entries (suc n) (suc pool) = no_entries n pool
+get_replicate : {X : Type 0} (d : X) (n place : ℕ) → get_or (replicate n d) place d ≡ d
+get_replicate d zero place = refl
+get_replicate d (suc n) zero = refl
+get_replicate d (suc n) (suc place) = get_replicate d n place
 
 none_held : (n : ℕ) → sum_by {X = List Entry} length (replicate n []) ≡ 0
 none_held zero = refl
 none_held (suc n) = none_held n
-
-none_begun : (n place : ℕ) → get_or {A = Option (List ℕ)} (replicate n None) place None ≡ None
-none_begun zero place = refl
-none_begun (suc n) zero = refl
-none_begun (suc n) (suc place) = none_begun n place
 
 abbrev pub opened_pools : Limits → Pools
 opened_pools limits = record { limit = limits.pools; pools = made_pool limits.workers ∷ []; workers = replicate limits.workers unattached_row }
@@ -57,6 +56,9 @@ abbrev pub opened_barriers : Limits → Covers
 opened_barriers limits = record { slots = limits.slots; waits = replicate (limits.clients + limits.workers) None }
 
 -- each part as it is opened
+abbrev pub opened_timers : Limits → Timers
+opened_timers limits = record { limit = limits.objects; there = replicate (limits.objects + 1) false; settings = [] }
+
 pub record IsOpened (i : Inside) : Type 0 where
   pub in_range : AreLimitsInRange i.limits
   pub pools : i.pools ≡ opened_pools i.limits
@@ -66,6 +68,8 @@ pub record IsOpened (i : Inside) : Type 0 where
   pub outstanding : i.outstanding ≡ opened_lists i.limits
   pub pending : i.pending ≡ opened_lists i.limits
   pub barriers : i.barriers ≡ opened_barriers i.limits
+  pub timers : i.timers ≡ opened_timers i.limits
+  pub clock : i.clock ≡ 0
   pub clients : i.clients.items ≡ replicate i.limits.clients unfinished
   pub waits : i.waits.waits ≡ []
   pub made : i.made ≡ 0
@@ -92,7 +96,7 @@ queued_opened limits =
     record {
       queue_slots = refl;
       queue_count = length_replicate [] limits.pools;
-      queued = λ pool. no_entries limits.pools pool;
+      queued = λ pool. get_replicate [] limits.pools pool;
       held_all = none_held limits.pools;
     }
 
@@ -108,12 +112,20 @@ tallied_opened limits =
 listed_opened : (limits : Limits) (test : CallbackRow → Bool) → AreListed limits test [] (opened_lists limits)
 listed_opened limits test = record { key_count = refl; listed_slots = refl; listed = refl }
 
+timed_opened : (limits : Limits) → AreTimed limits (opened_objects limits) (opened_timers limits)
+timed_opened limits =
+    record {
+      timer_limit = refl;
+      places = length_replicate false (limits.objects + 1);
+      there = λ number. get_replicate false (limits.objects + 1) number ∙ elim (number == 0) as (λ b. false ≡ option_map_or (λ (m : Marked Object). not m.released && is_same_kind m.row.kind Timer) (cond b None (slice_get [] (number - 1))) false) [ true ↦ refl | false ↦ refl ];
+    }
+
 covered_opened : (limits : Limits) → AreCovered limits [] [] (opened_barriers limits)
 covered_opened limits =
     record {
       waiters = length_replicate None (limits.clients + limits.workers);
       barrier_slots = refl;
-      covered = λ who place at. none_begun (limits.clients + limits.workers) place;
+      covered = λ who place at. get_replicate None (limits.clients + limits.workers) place;
       waits_kept = tt;
     }
 
@@ -124,9 +136,10 @@ opened i o =
     let shown_workers : map shown_worker (replicate limits.workers unattached_row) ≡ replicate limits.workers unattached = map_replicate shown_worker unattached_row limits.workers in
     let rows : i.callbacks.rows ≡ [] = ap (λ (c : LiveCallbacks). c.rows) o.callbacks in
     let world_now : (shown i).world ≡ opening limits =
-    ap₂ (λ (p : Pools) (t : Table Object). world_of limits p t i.callbacks.rows i.clients.items i.waits.waits) o.pools o.objects
-    ∙ ap₂ (λ (cs : List CallbackRow) (cl : List ClientRow). world_of limits (opened_pools limits) (opened_objects limits) cs cl i.waits.waits) rows o.clients
-    ∙ ap₂ (λ (bs : List BegunWait) (ws : List WorkerRow). record (opening limits) { waits = bs; workers = ws }) o.waits shown_workers in
+    ap₂ (λ (p : Pools) (t : Table Object). world_of limits p t i.callbacks.rows i.clients.items i.waits.waits i.timers.settings i.clock) o.pools o.objects
+    ∙ ap₂ (λ (cs : List CallbackRow) (cl : List ClientRow). world_of limits (opened_pools limits) (opened_objects limits) cs cl i.waits.waits i.timers.settings i.clock) rows o.clients
+    ∙ ap₂ (λ (bs : List BegunWait) (ws : List WorkerRow). record (opening limits) { waits = bs; workers = ws; settings = i.timers.settings; now = i.clock }) o.waits shown_workers
+    ∙ ap₂ (λ (t : Timers) (n : ℕ). record (opening limits) { settings = t.settings; now = n }) o.timers o.clock in
     record {
       keeps = record {
         sized = both (λ p t. AreSized limits p t i.clients.items) o.pools o.objects (subst (λ cl. AreSized limits (opened_pools limits) (opened_objects limits) cl) (sym o.clients) (sized_opened limits o.in_range));
@@ -135,6 +148,7 @@ opened i o =
         tallied = both (λ cs ws. AreTallied cs ws) rows (ap (λ (p : Pools). p.workers) o.pools) (tallied_opened limits);
         listed = both (λ cs k. AreListed limits is_tied cs k) rows o.outstanding (listed_opened limits is_tied);
         pending = both (λ cs k. AreListed limits waits cs k) rows o.pending (listed_opened limits waits);
+        timed = subst (λ n. AreTimed limits i.objects n) (sym o.timers) (subst (λ t. AreTimed limits t (opened_timers limits)) (sym o.objects) (timed_opened limits));
         covered = both (λ cs b. AreCovered limits cs i.waits.waits b) rows o.barriers (subst (λ bs. AreCovered limits [] bs (opened_barriers limits)) (sym o.waits) (covered_opened limits));
         sound = both (λ w n. IsSound (n + 1) w) world_now o.made (opening_sound limits);
       };

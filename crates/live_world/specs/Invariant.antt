@@ -16,11 +16,12 @@ use Rattle.cancel_wait.specs.Covers.{Covers, wait_of}
 use Rattle.pool_rows.specs.Pools.{Pools}
 use Rattle.pool_rows.specs.Workers.{runs_in, runs_long_in}
 use Rattle.pool_rows.specs.declared.WorkerRow.{WorkerRow}
+use Rattle.timer_objects.specs.Settings.{Timers, is_there}
 use Rattle.tp_model.specs.Counts.{has_number, is_pending, is_running, is_running_in, is_running_long_in}
 use Rattle.tp_model.specs.World.{BegunWait}
 use Rattle.tp_model.specs.Support.Allowed.{IsObjectTarget}
 use Rattle.tp_model.specs.Support.Remembered.{lives}
-use Rattle.live_world.specs.Parts.{entry_of, queue_among, tied_entry, held_among, wait_among, place_of}
+use Rattle.live_world.specs.Parts.{entry_of, queue_among, tied_entry, held_among, wait_among, place_of, is_timer}
 use Rattle.live_world.specs.declared.objects.Object.{Object}
 
 abbrev pub waits : CallbackRow → Bool
@@ -88,3 +89,9 @@ pub record AreCovered (limits : Limits) (callbacks : List CallbackRow) (waits : 
   pub barrier_slots : barriers.slots ≡ limits.slots
   pub covered : (who : Who) (place : ℕ) → place_of limits who ≡ Some place → wait_of barriers place ≡ option_map (held_among callbacks) (wait_among waits who)
   pub waits_kept : AllByRecursion (IsWaitKept limits) waits
+
+-- the timers that are there are the objects that are timers and aren't released
+pub record AreTimed (limits : Limits) (objects : Table Object) (timers : Timers) : Type 0 where
+  pub timer_limit : timers.limit ≡ limits.objects
+  pub places : length timers.there ≡ timers.limit + 1
+  pub there : (number : ℕ) → is_there timers number ≡ is_timer objects number

@@ -1,5 +1,5 @@
 -- What a live world is seen as, and what it is after a change.
-use Rattle.std.specs.Prelude.{ℕ, ◌+◌, List, Bool, true, if◌then◌else◌}
+use Rattle.std.specs.Prelude.{◌≡◌, ℕ, ◌+◌, List, length, Bool, true, if◌then◌else◌}
 use Rattle.tp_base.specs.declared.ids.ObjectId.{ObjectId}
 use Rattle.tp_base.specs.declared.rows.WaitTarget.TheVariants.{Object}
 use Rattle.tp_base.specs.declared.answers.TakeResult.TheVariants.{Plain}
@@ -9,6 +9,7 @@ use Rattle.tp_base.specs.declared.plans.Change.TheVariants as change
 use Rattle.tp_base.specs.declared.rows.TimerSetting.{TimerSetting}
 use Rattle.tp_model.specs.Sources.{new_callback, object_row, count_fired}
 use Rattle.tp_model.specs.World.{World}
+use Rattle.tp_model.specs.Support.Sound.{IsMade}
 use Rattle.tp_model.specs.Changes.{changed, with_callback}
 use Rattle.tp_base.specs.declared.rows.CallbackRow.{CallbackRow}
 use Rattle.tp_model.specs.Counts.{is_pending}
@@ -48,10 +49,26 @@ at_time l now = became l (record l.world { now = now })
 abbrev pub with_settings : Live → List TimerSetting → Live
 with_settings l settings = became l (record l.world { settings = settings })
 
+-- how many callbacks are still to be made of what is due now
+abbrev pub count_left : Live → ℕ
+count_left l = count_fired l.world (Advance l.world.now)
+
 -- the next callback of an object
 abbrev pub next_of_object : Live → ObjectId → Live
 next_of_object l object = moved l (change.QueueCallback (new_callback (l.made + 1) object (object_row l.world.objects object) Plain))
 
 -- all that is due now makes its callbacks
 abbrev pub expired_all : Live → Live
-expired_all l = moved l (change.Fire (Advance l.world.now) (l.made + 1) (count_fired l.world (Advance l.world.now)))
+expired_all l = moved l (change.Fire (Advance l.world.now) (l.made + 1) (count_left l))
+
+-- nothing was due
+pub record IsOver (old new : Live) : Type 0 where
+  pub same : new ≡ old
+  pub done : expired_all old ≡ old
+
+-- the timer of this object expired: with its callback, what is left leads to where all of it led
+pub record Expires (old new : Live) (object : ObjectId) : Type 0 where
+  pub onwards : expired_all (next_of_object new object) ≡ expired_all old
+  pub fewer : count_left (next_of_object new object) + 1 ≡ count_left old
+  pub made : IsMade (length old.world.objects) object.0
+  pub after : (settings : List TimerSetting) × (new ≡ with_settings old settings)

@@ -1,5 +1,5 @@
 -- The world that the parts of an engine show.
-use Rattle.std.specs.Prelude.{ℕ, ◌+◌, ◌-◌, ◌==◌, ◌&&◌, Bool, false, nat_le, List, [], ◌++◌, map, if◌then◌else◌, Option, None, Some}
+use Rattle.std.specs.Prelude.{ℕ, ◌+◌, ◌-◌, ◌==◌, ◌&&◌, Bool, false, not, nat_le, List, [], ◌++◌, map, if◌then◌else◌, Option, None, Some}
 use Rattle.std.specs.List.{filter, find}
 use Rattle.std.specs.Option.{option_map_or}
 use Rattle.tp_base.specs.declared.ids.Who.{Who}
@@ -14,13 +14,15 @@ use Rattle.tp_base.specs.declared.rows.ObjectRow.{ObjectRow}
 use Rattle.tp_base.specs.declared.rows.WorkerRow.{WorkerRow}
 use Rattle.tp_base.specs.declared.rows.ClientRow.{ClientRow}
 use Rattle.tp_base.specs.declared.rows.CallbackRow.{CallbackRow}
-use Rattle.handle_table.specs.Table.{Table, Marked}
+use Rattle.tp_base.specs.declared.rows.TimerSetting.{TimerSetting}
+use Rattle.tp_base.specs.declared.calls.Kind.TheVariants.{Timer}
+use Rattle.handle_table.specs.Table.{Table, Marked, numbered as numbered_row}
 use Rattle.prio_queue.specs.Pending.{Entry, entry}
 use Rattle.pool_rows.specs.Pools.{Pools}
 use Rattle.pool_rows.specs.declared.WorkerRow as kept
 use Rattle.tp_model.specs.World.{World, BegunWait}
 use Rattle.tp_model.specs.Counts.{has_number, is_pending_in, is_high, is_normal, is_low}
-use Rattle.tp_model.specs.Conditions.{is_same_actor}
+use Rattle.tp_model.specs.Conditions.{is_same_actor, is_same_kind}
 use Rattle.tp_model.specs.Waits.{is_held_for, is_outstanding_for}
 use Rattle.live_world.specs.declared.objects.Object as made
 
@@ -41,22 +43,26 @@ abbrev pub entry_of : CallbackRow → Entry
 entry_of c = entry (priority_byte c.priority) c.number
 
 -- what there are no calls for yet is empty
-abbrev pub world_of : Limits → Pools → Table made.Object → List CallbackRow → List ClientRow → List BegunWait → World
-world_of limits pools objects callbacks clients waits = record {
+abbrev pub world_of : Limits → Pools → Table made.Object → List CallbackRow → List ClientRow → List BegunWait → List TimerSetting → ℕ → World
+world_of limits pools objects callbacks clients waits settings now = record {
   limits = limits;
   pools = pools.pools;
   groups = [];
   objects = map shown_object objects.rows;
   callbacks = callbacks;
   kernels = [];
-  settings = [];
+  settings = settings;
   armings = [];
   workers = map shown_worker pools.workers;
   clients = clients;
   waits = waits;
-  now = 0;
+  now = now;
   given_up = 0;
 }
+
+-- the object of this number is a timer that isn't released
+abbrev pub is_timer : Table made.Object → ℕ → Bool
+is_timer objects number = option_map_or (λ (m : Marked made.Object). not m.released && is_same_kind m.row.kind Timer) (numbered_row objects number) false
 
 -- the queue of a pool, of the callbacks alone
 abbrev pub waiting_among : List CallbackRow → ℕ → (Priority → Bool) → List CallbackRow

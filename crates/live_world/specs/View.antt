@@ -2,13 +2,13 @@
 use Rattle.std.specs.Prelude.{◌+◌}
 use Rattle.tp_model.specs.Support.Sound.{IsSound}
 use Rattle.live_world.specs.Live.{Live}
-use Rattle.live_world.specs.Invariant.{AreSized, AreLive, AreQueued, AreTallied, AreListed, AreCovered, waits}
+use Rattle.live_world.specs.Invariant.{AreSized, AreLive, AreQueued, AreTallied, AreListed, AreCovered, AreTimed, waits}
 use Rattle.live_world.specs.Parts.{world_of, is_tied}
 use Rattle.live_world.specs.declared.LiveWorld.TheInside.{Inside}
 
 abbrev pub shown : Inside → Live
 shown a = record {
-  world = world_of a.limits a.pools a.objects a.callbacks.rows a.clients.items a.waits.waits;
+  world = world_of a.limits a.pools a.objects a.callbacks.rows a.clients.items a.waits.waits a.timers.settings a.clock;
   made = a.made;
 }
 
@@ -20,4 +20,5 @@ pub record IsLiveWorld (a : Inside) : Type 0 where
   pub listed : AreListed a.limits is_tied a.callbacks.rows a.outstanding
   pub pending : AreListed a.limits waits a.callbacks.rows a.pending
   pub covered : AreCovered a.limits a.callbacks.rows a.waits.waits a.barriers
+  pub timed : AreTimed a.limits a.objects a.timers
   pub sound : IsSound (a.made + 1) (shown a).world

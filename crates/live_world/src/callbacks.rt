@@ -1,12 +1,38 @@
-//! Callbacks that wait for a worker.
+//! Callbacks: a new one, and those that wait for a worker.
 
 ghost use Rattle.std.specs.Prelude.{◌≡◌, ◌+◌, ◌^◌, ◌<◌};
 ghost use Rattle.tp_model.specs.Counts.{next};
 ghost use Rattle.tp_model.specs.Conditions.{lacks_slots_for};
+ghost use Rattle.tp_model.specs.Sources.{new_callback as new_callback_of};
 
 use crate::LiveWorld;
-use tp_base::ids::PoolId;
-use tp_base::rows::CallbackRow;
+use tp_base::answers::TakeResult;
+use tp_base::ids::{ObjectId, PoolId};
+use tp_base::rows::{CallbackRow, ObjectRow, Status};
+
+/// A callback of an object, as the object's environment was when the object was made. It waits for a
+/// worker.
+pub fn new_callback(
+    number: u64,
+    object: ObjectId,
+    row: &ObjectRow,
+    told: TakeResult,
+) -> CallbackRow
+    ensures { result ≡ new_callback_of number object row.now told }
+{
+    CallbackRow {
+        number,
+        object,
+        routine: row.routine,
+        context: row.context,
+        pool: row.env.pool,
+        group: row.env.group,
+        priority: row.env.priority,
+        long: row.env.long,
+        result: told,
+        status: Status::Pending,
+    }
+}
 
 impl LiveWorld {
     /// The callback of a pool that is taken next, if one is pending.
@@ -30,10 +56,10 @@ impl LiveWorld {
         self.made + 1
     }
 
-    /// Whether there is no place for one more callback.
-    pub fn lacks_slot(&self) -> bool
-        ensures { result ≡ lacks_slots_for self.now.world 1 }
+    /// Whether there is no place for so many more callbacks.
+    pub fn lacks_slots(&self, count: u32) -> bool
+        ensures { result ≡ lacks_slots_for self.now.world count }
     {
-        self.limits.slots <= self.callbacks.len()
+        self.limits.slots - self.callbacks.len() < count
     }
 }

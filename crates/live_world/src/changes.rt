@@ -1,7 +1,7 @@
 //! The changes of a live world: here alone its parts change, so that what each index and counter is
 //! for stays true.
 
-ghost use Rattle.std.specs.Prelude.{◌≡◌, ◌+◌, ◌^◌, ◌<◌, [], filter, true, Some};
+ghost use Rattle.std.specs.Prelude.{◌≡◌, ◌+◌, ◌^◌, ◌<◌, ◌≤◌, [], filter, true, Some};
 ghost use Rattle.tp_model.specs.Counts.{callback_of, is_pending as is_pending_by};
 ghost use Rattle.tp_model.specs.Changes.{with_callback, loosened as loosened_by, begin_wait};
 ghost use Rattle.tp_model.specs.Waits.{cancelled, is_cancelled_by};
@@ -11,10 +11,10 @@ ghost use Rattle.live_world.specs.Live.{moved, became, without_callback, without
 
 use crate::LiveWorld;
 use crate::begun::Begins;
-use crate::objects::Object;
+use crate::objects::{Object, is_same_kind};
 use crate::waiting::begin_covering;
 use crate::waits::is_pending;
-use tp_base::calls::Priority;
+use tp_base::calls::{Kind, Priority};
 use tp_base::ids::{ObjectId, PoolId, Who};
 use tp_base::plans::{Busy, Change, Idle, Mark, PoolChange, WaitEnd};
 use tp_base::rows::{CallbackRow, ClientRow, ObjectRow, Slots, Status, WaitTarget};
@@ -55,15 +55,17 @@ impl LiveWorld {
     /// Makes a change that the world allows. It takes no memory.
     pub fn apply(&mut self, change: Change)
         requires allowed { IsAllowed (self.old.made + 1) self.old.world change }
-        requires young { self.old.made < 2 ^ 63 }
+        requires young { self.old.made + 65536 ≤ 2 ^ 63 }
         ensures { self.new ≡ moved self.old change }
     {
         match change {
+            Change::Keep => self.is_reachable(),
             Change::CreatePool => self.create_pool(),
             Change::ChangePool { pool, how } => self.change_pool(pool, how),
             Change::CreateObject(row) => self.create_object(row),
             Change::ReleaseObject { object } => self.release_object(object),
             Change::QueueCallback(callback) => self.queue_callback(callback),
+            Change::Fire { trigger, .. } => self.fire(trigger),
             Change::Attach { worker, pool } => self.attach(worker, pool),
             Change::Detach(by) => self.detach(by),
             Change::Take { by, callback } => self.take(by, callback),
@@ -113,22 +115,25 @@ impl LiveWorld {
             context: row.context,
             env: row.env,
         };
-        match self.objects.add(object) {
-            Ok(_) => {}
-            Err(_) => unreachable!(),
+        let Ok(number) = self.objects.add(object) else {
+            unreachable!()
+        };
+        if is_same_kind(row.kind, Kind::Timer) {
+            self.timers.create(ObjectId(number));
         }
     }
 
-    // Releases an object. What is outstanding for it is left as it is.
+    // Releases an object. What is outstanding for it is left as it is, and a timer is unset.
     fn release_object(&mut self, object: ObjectId)
         requires { IsAllowed (self.old.made + 1) self.old.world (Change.ReleaseObject object) }
         ensures { self.new ≡ moved self.old (Change.ReleaseObject object) }
     {
         let _was_live = self.objects.release(object.0);
+        let _was_timer = self.timers.close(object);
     }
 
     // Makes a callback that waits for a worker.
-    fn queue_callback(&mut self, callback: CallbackRow)
+    pub(crate) fn queue_callback(&mut self, callback: CallbackRow)
         requires allowed { IsAllowed (self.old.made + 1) self.old.world (Change.QueueCallback callback) }
         requires young { self.old.made < 2 ^ 63 }
         ensures { self.new ≡ moved self.old (Change.QueueCallback callback) }

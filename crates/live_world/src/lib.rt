@@ -27,16 +27,19 @@ use pool_rows::PoolRows;
 use prio_queue::Queues;
 use std::alloc::{AllocError, Global};
 use std::marker::Model;
+use timer_objects::TimerObjects;
 use tp_base::limits::Limits;
 use tp_base::rows::ClientRow;
 
 pub mod actors;
 mod begun;
-mod callbacks;
+pub mod callbacks;
 mod changes;
+mod firing;
 mod objects;
 pub mod outstanding;
 mod pools;
+pub mod timers;
 mod waiting;
 pub mod waits;
 
@@ -56,6 +59,9 @@ pub struct LiveWorld {
     barriers: Barriers,
     waits: BegunWaits,
     clients: Vec<ClientRow>,
+    // The timers, and those that are set.
+    timers: TimerObjects,
+    clock: u64,
     made: u64,
 }
 
@@ -88,6 +94,7 @@ impl LiveWorld {
         let pending = KeyedLists::open(alloc, limits.objects + 1, limits.slots)?;
         let barriers = Barriers::open(alloc, limits.clients + limits.workers, limits.slots)?;
         let clients = actors::open_clients(alloc, limits.clients)?;
+        let timers = TimerObjects::open(alloc, limits.objects)?;
         Ok(LiveWorld {
             limits,
             pools,
@@ -99,6 +106,8 @@ impl LiveWorld {
             barriers,
             waits: BegunWaits::none(),
             clients,
+            timers,
+            clock: 0,
             made: 0,
         })
     }

@@ -43,7 +43,7 @@ fn found_row(found: Found<'_, Object>) -> Option<ObjectRow>
     }
 }
 
-fn is_same_kind(first: Kind, second: Kind) -> bool
+pub(crate) fn is_same_kind(first: Kind, second: Kind) -> bool
     ensures { result ≡ is_same_kind_of first second }
 {
     matches!(

@@ -1,11 +1,11 @@
 -- The settings that entries and paces show.
-use Rattle.std.proofs.Common.{◌≡◌, ◌≢◌, ◌==◌, ◌+◌, ◌<◌, ◌≤◌, ℕ, suc, Bool, true, false, not, List, [], ◌∷◌, Option, None, Some, map, filter, length, set, get_or, leb-true, nat_lt, refl, sym, ap, ◌∙◌, arith, ⊎_elim}
+use Rattle.std.proofs.Common.{◌≡◌, ◌≢◌, ◌==◌, ◌+◌, ◌<◌, ◌≤◌, ℕ, suc, Bool, true, false, not, List, [], ◌∷◌, Option, None, Some, filter, length, set, get_or, leb-true, nat_lt, refl, sym, ap, ◌∙◌, arith, ⊎_elim, eqb-true}
 use Rattle.std.specs.Prelude.{is_some}
 use Rattle.std.specs.List.{All, AllPairs}
 use Rattle.std.proofs.lemmas.Bool.{le-leb}
 use Rattle.std.proofs.lemmas.Bool.Decides.{nat_tests}
 use Rattle.std.proofs.lemmas.List.{get_or-map, length-map, get_or-set_same, get_or-set_other}
-use Rattle.std.proofs.lemmas.List.Elements.{All-map, All-tail}
+use Rattle.std.proofs.lemmas.List.Elements.{All-tail}
 use Rattle.std.proofs.lemmas.Map.Views.{any-filter_same}
 use Rattle.tp_base.specs.declared.ids.ObjectId.{ObjectId}
 use Rattle.tp_base.specs.declared.rows.TimerSetting.{TimerSetting}
@@ -59,6 +59,15 @@ module _ (paces : List Pace) where
       (λ (here : (x.key == key) ≡ true). rw (same_test x.key key object.0 is, here) (shown_without key object xs is))
       (λ (other : (x.key == key) ≡ false). rw (same_test x.key key object.0 is, other) (ap (λ ss. setting_of paces x ∷ ss) (shown_without key object xs is)))
       (true_or_false (x.key == key))
+
+  -- an object that isn't there isn't set
+  pub absent_without : (there : List Bool) (object : ObjectId) (es : List Entry) → get_or there object.0 false ≡ false → All (λ e. get_or there (e.key + 1) false ≡ true) es → without_setting object (settings_of paces es) ≡ settings_of paces es
+  absent_without there object [] absent alive = refl
+  absent_without there object (x ∷ xs) absent alive =
+      ⊎_elim
+      (λ (here : ((x.key + 1) == object.0) ≡ true). let both : false ≡ true = sym absent ∙ ap (λ n. get_or there n false) (sym (eqb-true (x.key + 1) object.0 here)) ∙ alive 0 x (omega arith) in absurd cc)
+      (λ (other : ((x.key + 1) == object.0) ≡ false). rw other (ap (λ ss. setting_of paces x ∷ ss) (absent_without there object xs absent (All-tail (λ e. get_or there (e.key + 1) false ≡ true) x xs alive))))
+      (true_or_false ((x.key + 1) == object.0))
 
   pub shown_due : (now : ℕ) (es : List Entry) → length (timers.expired now (settings_of paces es)) ≡ length (filter (dues.is_due now) es)
   shown_due now [] = refl

@@ -113,6 +113,7 @@ impl TimerObjects {
         ensures alive { All (λ s. is_there self.now s.object.0 ≡ true) self.now.settings }
         ensures least { All (λ s. 1 ≤ s.object.0) self.now.settings }
         ensures most { All (λ s. s.object.0 ≤ self.now.limit) self.now.settings }
+        ensures places { length self.now.there ≡ self.now.limit + 1 }
     {
         self.dues.len()
     }
@@ -127,13 +128,27 @@ impl TimerObjects {
         self.there[object.0 as usize] = true;
     }
 
-    /// Strikes out an object. If it is set, that ends.
-    pub fn close(&mut self, object: ObjectId)
-        requires { is_there self.old object.0 ≡ true }
-        ensures { self.new ≡ record self.old { there = slice_set self.old.there object.0 false; settings = without_setting object self.old.settings } }
+    /// Whether there is an object of this number.
+    pub fn is_there(&self, object: ObjectId) -> bool
+        ensures { result ≡ is_there self.now object.0 }
     {
+        self.there
+            .get(object.0 as usize)
+            .copied()
+            .unwrap_or(false)
+    }
+
+    /// Strikes out an object, and says whether there was one. If it is set, that ends.
+    pub fn close(&mut self, object: ObjectId) -> bool
+        ensures was { result ≡ is_there self.old object.0 }
+        ensures after { self.new ≡ record self.old { there = slice_set self.old.there object.0 false; settings = without_setting object self.old.settings } }
+    {
+        if !self.is_there(object) {
+            return false;
+        }
         self.dues.unset(key_of(object));
         self.there[object.0 as usize] = false;
+        true
     }
 
     /// Sets a timer, as SetThreadpoolTimer does: its old setting ends, and with a due time a new one

@@ -15,7 +15,8 @@ use Rattle.tp_base.specs.Timers.{with_setting, without_setting, set_again, set_a
 use Rattle.tp_model.specs.World.{World}
 use Rattle.tp_model.specs.Counts.{numbered, is_running}
 use Rattle.tp_model.specs.Sources.{Sources, Job, firing, sources_of, rows_of, object_row, no_object, plain_job}
-use Rattle.tp_model.specs.Support.Allowed.{IsReady}
+use Rattle.tp_model.specs.Support.Allowed.{IsReady, IsTimer}
+use Rattle.tp_model.specs.Support.Sound.{IsMade}
 use Rattle.tp_model.specs.Support.Moves.{AreNew, numbers_of, waiting_of}
 use Rattle.tp_model.proofs.Lists.{all_filter, all_get}
 use Rattle.tp_model.proofs.Refusals.{numbered_some, made}
@@ -50,10 +51,6 @@ running_appended cs objects fresh jobs =
     filter-append runs cs (rows_of objects fresh jobs) ∙ ap (λ rs. filter runs cs ++ rs) (still_rows objects fresh jobs) ∙ append-nil (filter runs cs)
 
 -- ---- what is made of objects that were made
-
--- a number of an object that was made
-abbrev pub IsMade : ℕ → ℕ → Type 0
-IsMade objects object = (1 ≤ object) × (object ≤ objects)
 
 pub made_stands : (objects : List ObjectRow) (object : ObjectId) → IsMade (length objects) object.0 → numbered objects object.0 ≡ Some (object_row objects object)
 made_stands objects object made =
@@ -113,10 +110,13 @@ abbrev pub IsTriggerMade : ℕ → Trigger → Type 0
 IsTriggerMade n (SetTimer object due period window) = IsMade n object.0
 IsTriggerMade n (Advance now) = Unit {0}
 
-pub ready_made : (w : World) (trigger : Trigger) → IsReady w trigger → IsTriggerMade (length w.objects) trigger
-ready_made w (SetTimer object due period window) ready =
+pub timer_made : (w : World) (object : ObjectId) → IsTimer w object → IsMade (length w.objects) object.0
+timer_made w object ready =
     let at = numbered_some w.objects object.0 ready.row ready.stands in
     (at.1, omega (arith, at.1, made w.objects (object.0 - 1) (ap is_some at.0)))
+
+pub ready_made : (w : World) (trigger : Trigger) → IsReady w trigger → IsTriggerMade (length w.objects) trigger
+ready_made w (SetTimer object due period window) ready = timer_made w object ready
 ready_made w (Advance now) ready = tt
 
 pub fired_settings : (n : ℕ) (trigger : Trigger) (s : Sources) → IsTriggerMade n trigger → AreOf (IsMade n) s.settings → AreOf (IsMade n) (firing trigger s).sources.settings

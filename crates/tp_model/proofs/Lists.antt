@@ -1,5 +1,5 @@
 -- What filters, searches and changes of rows leave of each other.
-use Rattle.std.proofs.Common.{◌≡◌, ℕ, suc, zero, ◌+◌, ◌<◌, ◌≤◌, Bool, true, false, cond, ◌||◌, List, [], ◌∷◌, ◌++◌, length, map, slice_get, slice_set, Some, refl, sym, ap, ◌∙◌, subst, arith, filter, find}
+use Rattle.std.proofs.Common.{◌≡◌, ◌≢◌, ℕ, suc, zero, ◌+◌, ◌<◌, ◌≤◌, Bool, true, false, cond, ◌||◌, List, [], ◌∷◌, ◌++◌, length, map, slice_get, slice_set, Some, refl, sym, ap, ◌∙◌, subst, arith, filter, find}
 use Rattle.std.specs.List.{AllByRecursion, list_any}
 
 -- a filter by p sees nothing of a filter by what p implies
@@ -156,3 +156,16 @@ any_filter_none {X} test p (x ∷ xs) none =
         | false ↦ any_filter_none test p xs h
       ]
     ] none refl
+
+-- a row put in the place of another
+pub get_set : {X : Type 0} (xs : List X) (n : ℕ) (old new : X) → slice_get xs n ≡ Some old → slice_get (slice_set xs n new) n ≡ Some new
+get_set [] n old new e = absurd cc
+get_set (x ∷ xs) zero old new e = refl
+get_set (x ∷ xs) (suc n) old new e = get_set xs n old new e
+
+pub get_set_other : {X : Type 0} (xs : List X) (n k : ℕ) (new : X) → n ≢ k → slice_get (slice_set xs n new) k ≡ slice_get xs k
+get_set_other [] n k new apart = refl
+get_set_other (x ∷ xs) zero zero new apart = absurd (apart refl)
+get_set_other (x ∷ xs) zero (suc k) new apart = refl
+get_set_other (x ∷ xs) (suc n) zero new apart = refl
+get_set_other (x ∷ xs) (suc n) (suc k) new apart = get_set_other xs n k new (λ e. apart (ap suc e))

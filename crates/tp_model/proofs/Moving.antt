@@ -1,5 +1,5 @@
 -- Each change moves callbacks, workers and pools as its entry tells.
-use Rattle.std.proofs.Common.{◌≡◌, ◌≢◌, ℕ, suc, zero, ◌<◌, Bool, true, false, cond, ◌==◌, max, List, [], ◌∷◌, ◌++◌, length, slice_get, slice_set, get_or, Option, Some, None, refl, sym, ap, ◌∙◌, subst, eqb-true, eq-eqb, filter, find, not, ap₂, ◌&&◌}
+use Rattle.std.proofs.Common.{◌≡◌, ℕ, suc, zero, ◌<◌, Bool, true, false, cond, ◌==◌, max, List, [], ◌∷◌, ◌++◌, length, slice_get, slice_set, get_or, Option, Some, None, refl, sym, ap, ◌∙◌, subst, eqb-true, eq-eqb, filter, find, not, ap₂, ◌&&◌}
 use Rattle.tp_base.specs.declared.rows.CallbackRow.{CallbackRow}
 use Rattle.tp_base.specs.declared.ids.Who.TheVariants.{Worker}
 use Rattle.std.specs.Option.{option_map_or}
@@ -37,6 +37,7 @@ use Rattle.tp_model.specs.Support.Told.{Told, deed_by, nothing, silent, maxima_b
 use Rattle.tp_model.specs.Support.Moves.{Move, Stay, Mark as Marking, Attach, Detach, Take, Return, Moves, Leads, AreNew, maximum_at, is_new, numbers_of, Loosen, Cancel, WaitsMove, Keep, Begin, End}
 use Rattle.tp_model.proofs.Firing.{numbers_rows, waiting_rows, new_rows}
 use Rattle.tp_model.proofs.Cancelling.{cancelled_pending, cancelled_found_out, among_numbers}
+use Rattle.tp_model.proofs.Lists.{get_set, get_set_other}
 use Rattle.tp_model.proofs.Refusals.{false_true}
 
 -- ---- pools
@@ -49,18 +50,6 @@ maximum_appended limits [] zero = refl
 maximum_appended limits [] (suc pool) = refl
 maximum_appended limits (p ∷ pools) zero = refl
 maximum_appended limits (p ∷ pools) (suc pool) = maximum_appended limits pools pool
-
-get_set : {X : Type 0} (xs : List X) (n : ℕ) (old new : X) → slice_get xs n ≡ Some old → slice_get (slice_set xs n new) n ≡ Some new
-get_set [] n old new e = absurd cc
-get_set (x ∷ xs) zero old new e = refl
-get_set (x ∷ xs) (suc n) old new e = get_set xs n old new e
-
-get_set_other : {X : Type 0} (xs : List X) (n k : ℕ) (new : X) → n ≢ k → slice_get (slice_set xs n new) k ≡ slice_get xs k
-get_set_other [] n k new apart = refl
-get_set_other (x ∷ xs) zero zero new apart = absurd (apart refl)
-get_set_other (x ∷ xs) zero (suc k) new apart = refl
-get_set_other (x ∷ xs) (suc n) zero new apart = refl
-get_set_other (x ∷ xs) (suc n) (suc k) new apart = get_set_other xs n k new (λ e. apart (ap suc e))
 
 -- the maxima after a row was put in another's place, where its maximum is f of the one before
 maximum_put : (pools : List PoolRow) (n pool d : ℕ) (old new : PoolRow) (f : ℕ → ℕ) → slice_get pools n ≡ Some old → new.maximum ≡ f old.maximum

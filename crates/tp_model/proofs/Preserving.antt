@@ -25,16 +25,16 @@ use Rattle.tp_model.specs.Conditions.{is_same_actor, is_in_wait}
 use Rattle.tp_base.specs.declared.ids.ObjectId.{ObjectId}
 use Rattle.tp_base.specs.declared.plans.Trigger.{Trigger}
 use Rattle.tp_base.specs.declared.rows.TimerSetting.{TimerSetting}
-use Rattle.tp_base.specs.Timers.{without_setting}
+use Rattle.tp_base.specs.Timers.{without_setting, clock_end}
 use Rattle.std.proofs.lemmas.List.{append_assoc, append-nil}
 use Rattle.tp_model.specs.Sources.{Job, Firing, firing, sources_of, rows_of, new_callback, object_row, fired, count_fired}
 use Rattle.tp_model.specs.Support.Allowed.{IsReady}
-use Rattle.tp_model.proofs.Firing.{IsMade, AreOf, AreJobsMade, IsTriggerMade, row_of_made, made_stands, ready_made, fired_settings, fired_jobs, fired_clock}
+use Rattle.tp_model.proofs.Firing.{AreOf, AreJobsMade, IsTriggerMade, row_of_made, made_stands, ready_made, fired_settings, fired_jobs, fired_clock}
 use Rattle.tp_model.specs.World.{World, BegunWait, opening, unattached, new_pool}
 use Rattle.tp_model.specs.Counts.{numbered, has_number, is_pending, is_running}
 use Rattle.tp_model.specs.Changes.{with_new_pool, with_pool, with_object, with_new_callback, with_callback, with_worker, with_client, replaced, change_pool, pool_after, taken, loosened, marked, returned, no_actions, finished, release_object, new_wait, begin_wait, without_wait, changed}
 use Rattle.tp_model.specs.Laws.Once.{is_left}
-use Rattle.tp_model.specs.Support.Sound.{IsSound, IsRising, RunsOn, IsWorkerSound, AreWorkersSound, AreApart, HasObject, IsCallbackSound, IsWaitSound, is_left_of}
+use Rattle.tp_model.specs.Support.Sound.{IsSound, IsMade, IsRising, RunsOn, IsWorkerSound, AreWorkersSound, AreApart, HasObject, IsCallbackSound, IsWaitSound, is_left_of}
 use Rattle.tp_model.specs.Support.Allowed.{IsAllowed, IsTargetMade, news}
 use Rattle.tp_model.proofs.Lists.{all_along, all_below, find_all, set_kept, slice_get_append, all_append, all_map, all_get, all_set, all_filter, any_filter_none}
 use Rattle.tp_model.proofs.Cancelling.{IsPendingTest, cancelled_pending, cancelled_if, cancelled_number, running_passed, find_uncancelled}
@@ -444,12 +444,10 @@ sound_rows fresh w (j ∷ js) made s =
     subst (λ (cs : List CallbackRow). IsSound (fresh + length (j ∷ js)) (record w { callbacks = cs })) (append_assoc w.callbacks (c ∷ []) (rows_of w.objects (fresh + 1) js))
     (subst (λ n. IsSound n (record w { callbacks = (w.callbacks ++ c ∷ []) ++ rows_of w.objects (fresh + 1) js })) (omega arith) more)
 
-sound_fired : (fresh : ℕ) (w : World) (trigger : Trigger) → IsReady w trigger → IsSound fresh w → IsSound (fresh + length (firing trigger (sources_of w)).jobs) (fired w fresh (firing trigger (sources_of w)))
-sound_fired fresh w trigger ready s =
-    let f : Firing = firing trigger (sources_of w) in
-    let here : IsTriggerMade (length w.objects) trigger = ready_made w trigger ready in
-    sound_rows fresh (record w { settings = f.sources.settings; now = f.sources.now }) f.jobs (fired_jobs (length w.objects) trigger (sources_of w) here s.timers)
-    (record {
+-- other timers are set, and the clock is at another moment
+pub sound_sources : (fresh : ℕ) (w : World) (settings : List TimerSetting) (now : ℕ) → AreOf (IsMade (length w.objects)) settings → now ≤ clock_end → IsSound fresh w → IsSound fresh (record w { settings = settings; now = now })
+sound_sources fresh w settings now made within s =
+    record {
       numbers = s.numbers;
       workers = s.workers;
       object_pools = s.object_pools;
@@ -457,9 +455,16 @@ sound_fired fresh w trigger ready s =
       waits = s.waits;
       callback_objects = s.callback_objects;
       callback_pools = s.callback_pools;
-      timers = fired_settings (length w.objects) trigger (sources_of w) here s.timers;
-      clock = fired_clock w trigger ready s.clock;
-    })
+      timers = made;
+      clock = within;
+    }
+
+sound_fired : (fresh : ℕ) (w : World) (trigger : Trigger) → IsReady w trigger → IsSound fresh w → IsSound (fresh + length (firing trigger (sources_of w)).jobs) (fired w fresh (firing trigger (sources_of w)))
+sound_fired fresh w trigger ready s =
+    let f : Firing = firing trigger (sources_of w) in
+    let here : IsTriggerMade (length w.objects) trigger = ready_made w trigger ready in
+    sound_rows fresh (record w { settings = f.sources.settings; now = f.sources.now }) f.jobs (fired_jobs (length w.objects) trigger (sources_of w) here s.timers)
+    (sound_sources fresh w f.sources.settings f.sources.now (fired_settings (length w.objects) trigger (sources_of w) here s.timers) (fired_clock w trigger ready s.clock) s)
 
 -- ---- each change
 

@@ -79,6 +79,10 @@ abbrev pub AreApart : List BegunWait → Type 0
 AreApart [] = Unit {0}
 AreApart (b ∷ bs) = (list_any (λ (c : BegunWait). is_same_actor c.actor b.actor) bs ≡ false) × AreApart bs
 
+-- a number of one of so many things
+abbrev pub IsMade : ℕ → ℕ → Type 0
+IsMade count number = (1 ≤ number) × (number ≤ count)
+
 -- with the number that the next callback gets
 pub record IsSound (fresh : ℕ) (w : World) : Type 0 where
   pub numbers : IsRising 1 fresh w.callbacks
@@ -86,7 +90,7 @@ pub record IsSound (fresh : ℕ) (w : World) : Type 0 where
   pub object_pools : AllByRecursion (λ (o : ObjectRow). o.env.pool.0 < length w.pools) w.objects
   pub apart : AreApart w.waits
   -- a timer that is set was made
-  pub timers : AllByRecursion (λ (s : TimerSetting). (1 ≤ s.object.0) × (s.object.0 ≤ length w.objects)) w.settings
+  pub timers : AllByRecursion (λ (s : TimerSetting). IsMade (length w.objects) s.object.0) w.settings
   pub clock : w.now ≤ clock_end
   pub waits : AllByRecursion (IsWaitSound fresh w.callbacks) w.waits
   pub callback_pools : AllByRecursion (λ (c : CallbackRow). c.pool.0 < length w.pools) w.callbacks

@@ -18,6 +18,8 @@ parts c = record {
   barriers = c.in_ok-barriers.barriers;
   waits = c.none.result;
   clients = c.in_ok-clients.clients;
+  timers = c.in_ok-timers.timers;
+  clock = 0;
   made = 0;
 }
 
@@ -34,6 +36,8 @@ opened_here c =
       pending = c.in_ok-pending.ensures;
       barriers = ap₂ (λ n ws. record { slots = n; waits = ws }) c.in_ok-barriers.ensures.slots c.in_ok-barriers.ensures.waits;
       clients = c.in_ok-clients.ensures;
+      timers = c.in_ok-timers.ensures;
+      clock = refl;
       waits = c.none.ensures;
       made = refl;
     })
