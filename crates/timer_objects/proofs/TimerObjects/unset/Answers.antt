@@ -1,4 +1,4 @@
-use Rattle.std.proofs.Common.{refl, sym, ◌∙◌}
+use Rattle.std.proofs.Common.{refl, ◌∙◌}
 use Rattle.timer_objects.proofs.Kept.{kept_unset}
 use Rattle.timer_objects.proofs.Shown.{shown_set, shown_without}
 use Rattle.timer_objects.proofs.TimerObjects.unset.Goals as goal
