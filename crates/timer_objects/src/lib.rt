@@ -249,9 +249,9 @@ impl TimerObjects {
         ensures done { IfNone result (after_expiry now self.new.settings ≡ self.new.settings) }
     {
         let (due, key) = self.dues.pop_due(now)?;
-        let period = self.paces[key as usize].period;
-        if period > 0 {
-            self.dues.set(key, next_due(due, period, now));
+        let pace = self.paces[key as usize];
+        if pace.period > 0 {
+            self.dues.set(key, next_due(due, pace.period, now));
         }
         Some((due, ObjectId(key + 1)))
     }

@@ -5,7 +5,7 @@ use Rattle.timer_objects.proofs.Expiry.{none_expired, none_changed, fired_first,
 use Rattle.timer_objects.proofs.Kept.{kept_popped, kept_set, first_alive, first_within, first_pace}
 use Rattle.timer_objects.proofs.Shown.{popped, shown_none, shown_first, shown_gone, shown_back, shown_in_order}
 use Rattle.timer_objects.proofs.TimerObjects.expire.Goals as goal
-use Rattle.timer_objects.proofs.TimerObjects.expire.Goals.{then-period-gt0, else-period-gt0}
+use Rattle.timer_objects.proofs.TimerObjects.expire.Goals.{then-pace-gt0, else-pace-gt0}
 
 -- nothing is due
 
@@ -23,8 +23,8 @@ returns-in_err-due-clause-done c =
 
 -- the first timer expires
 
-pub index-requires : goal.index-requires
-index-requires c =
+pub index-pace-requires : goal.index-pace-requires
+index-pace-requires c =
     omega (arith, c.self.invariant.paced, first_within _ _ _ _ _ _ c.self.invariant c.in_ok-due.ensures.distinct (sym c.in_ok-due.ensures.first))
 
 pub set-requires : goal.set-requires
@@ -35,25 +35,25 @@ pub overflow_add-result : goal.overflow_add-result
 overflow_add-result c =
     omega (arith, c.self.invariant.fits, first_within _ _ _ _ _ _ c.self.invariant c.in_ok-due.ensures.distinct (sym c.in_ok-due.ensures.first))
 
-pub invariant_of-self-then-period-gt0 : goal.invariant_of-self-then-period-gt0
-invariant_of-self-then-period-gt0 c =
+pub invariant_of-self-then-pace-gt0 : goal.invariant_of-self-then-pace-gt0
+invariant_of-self-then-pace-gt0 c =
     kept_set _ _ _ (kept_popped _ _ _ _ _ c.self.invariant c.pop_due.ensures.after) _ _ _ _
     (first_alive _ _ _ _ _ _ c.self.invariant c.in_ok-due.ensures.distinct (sym c.in_ok-due.ensures.first))
     c.set.ensures refl
 
-pub invariant_of-self-else-period-gt0 : goal.invariant_of-self-else-period-gt0
-invariant_of-self-else-period-gt0 c = kept_popped _ _ _ _ _ c.self.invariant c.pop_due.ensures.after
+pub invariant_of-self-else-pace-gt0 : goal.invariant_of-self-else-pace-gt0
+invariant_of-self-else-pace-gt0 c = kept_popped _ _ _ _ _ c.self.invariant c.pop_due.ensures.after
 
-after : (c : goal.Joined-period-gt0) → ◌≡◌ {A = Timers} c.if-period-gt0.self (record c.args.self.now { settings = after_first c.args.now c.args.self.now.settings })
+after : (c : goal.Joined-pace-gt0) → ◌≡◌ {A = Timers} c.if-pace-gt0.self (record c.args.self.now { settings = after_first c.args.now c.args.self.now.settings })
 after c =
     let is = popped _ _ _ _ c.in_ok-due.ensures.distinct (sym c.in_ok-due.ensures.first) in
-    let pace = first_pace _ _ _ _ _ _ c.self.invariant c.in_ok-due.ensures.distinct (sym c.in_ok-due.ensures.first) c.index.result.now c.index.ensures in
-    elim c.if-period-gt0.branch [
-      | then-period-gt0 w ↦
-          let shown = shown_back c.self.inside.paces.items _ _ _ _ is w.next_due.result (rw pace w.if-period-gt0.true) (rw pace w.next_due.ensures.value) in
+    let pace = first_pace _ _ _ _ _ _ c.self.invariant c.in_ok-due.ensures.distinct (sym c.in_ok-due.ensures.first) c.index-pace.result.now c.index-pace.ensures in
+    elim c.if-pace-gt0.branch [
+      | then-pace-gt0 w ↦
+          let shown = shown_back c.self.inside.paces.items _ _ _ _ is w.next_due.result (rw pace w.if-pace-gt0.true) (rw pace w.next_due.ensures.value) in
           w.self-is ∙ rw (w.set.ensures, c.pop_due.ensures.after, ← c.self.view_is) (rw shown refl)
-      | else-period-gt0 w ↦
-          let shown = shown_gone c.self.inside.paces.items _ _ _ _ is (rw pace w.if-period-gt0.false) in
+      | else-pace-gt0 w ↦
+          let shown = shown_gone c.self.inside.paces.items _ _ _ _ is (rw pace w.if-pace-gt0.false) in
           w.self-is ∙ rw (c.pop_due.ensures.after, ← c.self.view_is) (rw shown refl)
     ]
 
