@@ -74,10 +74,7 @@ mod tests {
             ("-10 5", Ok((-10, 3))),
             ("9223372036854775807", Ok((9_223_372_036_854_775_807, 19))),
             ("9223372036854775808", Ok((922_337_203_685_477_580, 18))),
-            (
-                "-9223372036854775808",
-                Ok((-9_223_372_036_854_775_808, 20)),
-            ),
+            ("-9223372036854775808", Ok((-9_223_372_036_854_775_808, 20))),
             ("-9223372036854775809", Ok((-922_337_203_685_477_580, 19))),
         ];
         for (text, read) in cases {
@@ -97,7 +94,10 @@ mod tests {
         ];
         for (text, read) in cases {
             let bytes = text.as_bytes();
-            let found = further(something(read_signed(bytes)), read_word(None, "none", bytes));
+            let found = further(
+                something(read_signed(bytes)),
+                read_word(None, "none", bytes),
+            );
             assert_eq!(rt; found, read, "{text}");
         }
     }

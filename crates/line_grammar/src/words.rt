@@ -40,9 +40,7 @@ pub fn further<V: Copy>(
 }
 
 /// What a reader found, as something: the other choice is a word that stands for nothing.
-pub fn something<V: Copy>(
-    read: Result<(V, usize), usize>,
-) -> Result<(Option<V>, usize), usize>
+pub fn something<V: Copy>(read: Result<(V, usize), usize>) -> Result<(Option<V>, usize), usize>
     ensures { result ≡ something_of read }
 {
     match read {

@@ -87,8 +87,7 @@ module _ (f : Field) where
   pub lettered_spelled : (letter least most : ℕ) → form_of f ≡ form.Lettered letter least most → IsSpelled f (Led letter (Numbers least most)) (λ n. number_part f n)
   lettered_spelled letter least most e = record {
     from = λ p t b.
-        let h : IsNumberPart f least most p = subst (λ x. FitsForm x f p) e b.fits in
-        (
+        let h : IsNumberPart f least most p = subst (λ x. FitsForm x f p) e b.fits in (
           number_of p,
           record { rest = decimal (number_of p); split = b.split ∙ spelled p least most h (form.Lettered letter least most) e; behind = record { at_least = h.at_least; at_most = h.at_most; split = refl } },
           h.is,

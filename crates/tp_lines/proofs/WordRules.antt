@@ -60,40 +60,29 @@ find field text (w ∷ words) = first_of_two (both (nat_eq (rank (table_of w)) f
 abbrev keeps_rules : Word → Bool
 keeps_rules w = both (is_solid (text_of_word w)) (both (nat_le (length (text_of_word w)) 30) (nat_le (room (fields_of w) + 1) (room_of (table_of w))))
 
-rules_kept : (w : Word) → IsTrue (keeps_rules w)
-rules_kept (word.Kind kind.Work) = refl
-rules_kept (word.Kind _) = refl
-rules_kept (word.Priority priority.High) = refl
-rules_kept (word.Priority _) = refl
-rules_kept (word.Length true) = refl
-rules_kept (word.Length false) = refl
-rules_kept (word.How true) = refl
-rules_kept (word.How false) = refl
-rules_kept (word.YesNo true) = refl
-rules_kept (word.YesNo false) = refl
-rules_kept (word.Slot slot.Unasked) = refl
-rules_kept (word.Slot _) = refl
-rules_kept (word.Action action.Section) = refl
-rules_kept (word.Action _) = refl
-rules_kept _ = refl
+-- each word keeps the rules, and is the first of all in its field and with its text
+kept : (w : Word) → IsTrue (keeps_rules w) × (find (rank (table_of w)) (text_of_word w) WORDS.words ≡ Some w)
+kept (word.Kind kind.Work) = (refl, refl)
+kept (word.Kind _) = (refl, refl)
+kept (word.Priority priority.High) = (refl, refl)
+kept (word.Priority _) = (refl, refl)
+kept (word.Length true) = (refl, refl)
+kept (word.Length false) = (refl, refl)
+kept (word.How true) = (refl, refl)
+kept (word.How false) = (refl, refl)
+kept (word.YesNo true) = (refl, refl)
+kept (word.YesNo false) = (refl, refl)
+kept (word.Slot slot.Unasked) = (refl, refl)
+kept (word.Slot _) = (refl, refl)
+kept (word.Action action.Section) = (refl, refl)
+kept (word.Action _) = (refl, refl)
+kept _ = (refl, refl)
 
--- each word is the first of all in its field and with its text
+rules_kept : (w : Word) → IsTrue (keeps_rules w)
+rules_kept w = (kept w).0
+
 pub found : (w : Word) → find (rank (table_of w)) (text_of_word w) WORDS.words ≡ Some w
-found (word.Kind kind.Work) = refl
-found (word.Kind _) = refl
-found (word.Priority priority.High) = refl
-found (word.Priority _) = refl
-found (word.Length true) = refl
-found (word.Length false) = refl
-found (word.How true) = refl
-found (word.How false) = refl
-found (word.YesNo true) = refl
-found (word.YesNo false) = refl
-found (word.Slot slot.Unasked) = refl
-found (word.Slot _) = refl
-found (word.Action action.Section) = refl
-found (word.Action _) = refl
-found _ = refl
+found w = (kept w).1
 
 pub solid : (w : Word) → IsTrue (is_solid (text_of_word w))
 solid w = both_left _ _ (rules_kept w)

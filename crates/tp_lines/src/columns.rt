@@ -1,8 +1,8 @@
 //! Columns of faults in drawn lines, against a finder of places that is written apart.
 //!
 //! A pattern is the fields of a line with a space between each two. A field is its alternatives with `|`
-//! between each two. In one of these a sign stands for the numbers of a range (`range_of`), and any other
-//! byte for itself.
+//! between each two, or a name for these (`alternatives`). In one of them a sign stands for the numbers of
+//! a range (`range_of`), and any other byte for itself.
 
 use crate::parse::{LineFault, LineKind, parse_call, parse_entry};
 use std::alloc::{AllocError, Global};
@@ -15,17 +15,17 @@ fn call_patterns() -> [&'static str; 23] {
         "c&|w~ close-pool #",
         "c&|w~ set-maximum # $",
         "c&|w~ set-minimum # $",
-        "c&|w~ create work|timer r+ x@ p# high|normal|low short|long g+ q#",
-        "c&|w~ create work|timer r+ x@ p# high|normal|low short|long g0 q0",
-        "c&|w~ close work|timer #",
-        "c&|w~ submit-simple r+ x@ p# high|normal|low short|long g+ q#",
-        "c&|w~ submit-simple r+ x@ p# high|normal|low short|long g0 q0",
+        "c&|w~ create KIND r+ x@ p# PRIORITY LENGTH g+ q#",
+        "c&|w~ create KIND r+ x@ p# PRIORITY LENGTH g0 q0",
+        "c&|w~ close KIND #",
+        "c&|w~ submit-simple r+ x@ p# PRIORITY LENGTH g+ q#",
+        "c&|w~ submit-simple r+ x@ p# PRIORITY LENGTH g0 q0",
         "c&|w~ submit #",
-        "c&|w~ set-timer # none|^|-= $ $",
-        "c&|w~ set-timer-ex # none|^|-= $ $",
+        "c&|w~ set-timer # DUE $ $",
+        "c&|w~ set-timer-ex # DUE $ $",
         "c&|w~ is-timer-set #",
         "c&|w~ advance ^",
-        "c&|w~ wait work|timer # keep|cancel",
+        "c&|w~ wait KIND # HOW",
         "c&|w~ end",
         "c&|w~ attach",
         "c&|w~ detach",
@@ -56,7 +56,7 @@ fn answer_patterns() -> [&'static str; 26] {
         "attached #",
         "taken @ o# r+ x@ plain|object|timeout",
         "taken @ o# r+ x@ io $ @",
-        "returned -|done|not-owner|over-maximum -|done|not-owner|over-maximum -|done|not-owner|over-maximum -|done|not-owner|over-maximum @ #",
+        "returned SLOT SLOT SLOT SLOT @ #",
         "refused no-such|wrong-kind|released|pool-closed|group-closed|default-pool|not-worker",
         "refused not-running|still-running|in-wait|no-wait-begun|own-callback|not-started",
         "refused no-operation|not-owner|not-waitable|clock-end|object-limit|callback-limit",
@@ -66,6 +66,18 @@ fn answer_patterns() -> [&'static str; 26] {
         "refused slot-taken section|mutex|semaphore|event",
         "refused over-maximum %",
     ]
+}
+
+fn alternatives(field: &str) -> &str {
+    match field {
+        "KIND" => "work|timer",
+        "HOW" => "keep|cancel",
+        "PRIORITY" => "high|normal|low",
+        "LENGTH" => "short|long",
+        "DUE" => "none|^|-=",
+        "SLOT" => "-|done|not-owner|over-maximum",
+        _ => field,
+    }
 }
 
 fn range_of(sign: u8) -> Option<(u64, u64)> {
@@ -173,7 +185,7 @@ fn field_reach(field: &str, text: &[u8]) -> Reach {
         place: 0,
         whole: false,
     };
-    for alternative in field.split('|') {
+    for alternative in alternatives(field).split('|') {
         best = better(best, bytes_reach(alternative.as_bytes(), text));
     }
     best
@@ -283,13 +295,13 @@ fn draw_field(
 ) -> Result<(), AllocError> {
     let chosen = draws.next(7);
     let mut index: u64 = 0;
-    for alternative in field.split('|') {
+    for alternative in alternatives(field).split('|') {
         if index == chosen {
             return draw_alternative(alternative, draws, alloc, out);
         }
         index = index.saturating_add(1);
     }
-    match field.split('|').next() {
+    match alternatives(field).split('|').next() {
         Some(first) => draw_alternative(first, draws, alloc, out),
         None => Ok(()),
     }
