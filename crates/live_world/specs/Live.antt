@@ -1,13 +1,11 @@
 -- What a live world is seen as, and what it is after a change.
-use Rattle.std.specs.Prelude.{ℕ, ◌+◌, Bool, true, if◌then◌else◌}
+use Rattle.std.specs.Prelude.{ℕ, ◌+◌, Bool, true}
 use Rattle.tp_base.specs.declared.ids.ObjectId.{ObjectId}
 use Rattle.tp_base.specs.declared.rows.WaitTarget.TheVariants.{Object}
 use Rattle.tp_base.specs.declared.plans.Change.{Change}
 use Rattle.tp_model.specs.World.{World}
-use Rattle.tp_model.specs.Changes.{changed, with_callback}
-use Rattle.tp_base.specs.declared.rows.CallbackRow.{CallbackRow}
-use Rattle.tp_model.specs.Counts.{is_pending}
-use Rattle.tp_model.specs.Waits.{is_cancelled_by, cancelled, cancel_where}
+use Rattle.tp_model.specs.Changes.{changed}
+use Rattle.tp_model.specs.Waits.{is_cancelled_by, cancel_where}
 use Rattle.tp_model.specs.Support.Allowed.{news}
 use Rattle.tp_model.specs.Support.Remembered.{forget}
 
@@ -29,7 +27,3 @@ settled l object cancel = became l (record l.world { callbacks = cancel_where (i
 
 abbrev pub without_pending : Live → ObjectId → Live
 without_pending l object = settled l object true
-
--- a callback cancelled if it is pending
-abbrev pub without_callback : Live → CallbackRow → Live
-without_callback l callback = if is_pending callback.status then became l (with_callback l.world (cancelled callback)) else l
