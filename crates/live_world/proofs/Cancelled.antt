@@ -1,5 +1,5 @@
 -- Callbacks of an object that are cancelled one after another.
-use Rattle.std.proofs.Common.{◌≡◌, ℕ, ◌+◌, ◌<◌, ◌≤◌, Bool, true, false, cond, not, ◌&&◌, ◌==◌, List, [], ◌∷◌, length, slice_get, Option, Some, None, refl, sym, ap, ap₂, ◌∙◌, subst, arith, filter, find, eq-eqb, eqb-true, option_map}
+use Rattle.std.proofs.Common.{◌≡◌, ℕ, ◌<◌, Bool, true, false, cond, not, ◌&&◌, ◌==◌, List, [], ◌∷◌, length, slice_get, Some, None, refl, sym, ap, ap₂, ◌∙◌, arith, filter, find, eq-eqb}
 use Rattle.std.specs.List.{AllByRecursion}
 use Rattle.std.proofs.lemmas.List.Sums.{length-filter, count_by-le-length}
 use Rattle.tp_base.specs.declared.ids.ObjectId.{ObjectId}
@@ -9,7 +9,7 @@ use Rattle.tp_model.specs.Counts.{has_number, is_pending}
 use Rattle.tp_model.specs.Changes.{replaced, with_callback}
 use Rattle.tp_model.specs.Support.Sound.{IsRising}
 use Rattle.tp_model.specs.Support.Remembered.{lives, forget}
-use Rattle.tp_model.specs.Waits.{is_cancelled_by, cancelled, cancel_where}
+use Rattle.tp_model.specs.Waits.{cancelled, cancel_where}
 use Rattle.tp_model.proofs.Lists.{filter_filter}
 use Rattle.tp_model.proofs.Callbacks.{found_all, filter_replaced_out, over_not_pending}
 use Rattle.tp_model.proofs.Cancelling.{cancelled_pending, cancelled_if}
@@ -17,6 +17,7 @@ use Rattle.tp_model.proofs.Forgetting.{cancel_forget}
 use Rattle.tp_model.proofs.Refusals.{both}
 use Rattle.live_world.specs.Live.{Live, became, without_pending}
 use Rattle.live_world.specs.Waiting.{is_pending_for, pending_of}
+use Rattle.live_world.proofs.Lists.{none_passes, no_first}
 use Rattle.live_world.proofs.Along.{first_passes, first_by_number}
 
 pub none_where : (cs : List CallbackRow) (t : CallbackRow → Bool) → AllByRecursion (λ c. t c ≡ false) cs → cancel_where t cs ≡ cs
@@ -27,15 +28,7 @@ none_where (c ∷ cs) t all = ap₂ (λ b ds. cond b (cancelled c) c ∷ ds) all
 pub cancelling_ended : (object : ObjectId) (now : Live) → None ≡ slice_get (pending_of now.world object) 0 → forget now.world ≡ now.world → now ≡ without_pending now object
 cancelling_ended object now none living =
     ap (λ w. record { world = w; made = now.made }) (sym living)
-    ∙ ap (λ cs. became now (record now.world { callbacks = cs })) (sym (none_where now.world.callbacks (is_pending_for object) (none_passes now.world.callbacks none)))
-  where
-    none_passes : (cs : List CallbackRow) → None ≡ slice_get (filter (is_pending_for object) cs) 0 → AllByRecursion (λ c. is_pending_for object c ≡ false) cs
-    none_passes [] e = tt
-    none_passes (c ∷ cs) e =
-        elim (is_pending_for object c) as (λ b. None ≡ slice_get (cond b (c ∷ filter (is_pending_for object) cs) (filter (is_pending_for object) cs)) 0 → (b ≡ false) × AllByRecursion (λ x. is_pending_for object x ≡ false) cs) [
-          | true ↦ λ h. absurd cc
-          | false ↦ λ h. (refl, none_passes cs h)
-        ] e
+    ∙ ap (λ cs. became now (record now.world { callbacks = cs })) (sym (none_where now.world.callbacks (is_pending_for object) (none_passes (is_pending_for object) now.world.callbacks (no_first (pending_of now.world object) none))))
 
 -- the first that is pending
 pub record CancelsFirst (object : ObjectId) (now : Live) (c : CallbackRow) : Type 0 where
@@ -89,5 +82,9 @@ cancels_first object fresh now c rising first =
     shorter (y ∷ ys) e =
         let same : y ≡ c = cc in
         let gone : not (has_number c.number y) ≡ false = ap (λ (x : CallbackRow). not (x.number == c.number)) same ∙ ap not (eq-eqb c.number c.number refl) in
-        omega (arith, ap (λ b. length (cond b (y ∷ filter (λ (x : CallbackRow). not (has_number c.number x)) ys) (filter (λ (x : CallbackRow). not (has_number c.number x)) ys))) gone,
-        length-filter (λ (x : CallbackRow). not (has_number c.number x)) ys, count_by-le-length (λ (x : CallbackRow). not (has_number c.number x)) ys)
+        omega (
+          arith,
+          ap (λ b. length (cond b (y ∷ filter (λ (x : CallbackRow). not (has_number c.number x)) ys) (filter (λ (x : CallbackRow). not (has_number c.number x)) ys))) gone,
+          length-filter (λ (x : CallbackRow). not (has_number c.number x)) ys,
+          count_by-le-length (λ (x : CallbackRow). not (has_number c.number x)) ys,
+        )

@@ -21,7 +21,7 @@ use Rattle.tp_model.specs.Support.Sound.{IsRising, IsWaitSound}
 use Rattle.tp_model.specs.Support.Allowed.{IsObjectTarget}
 use Rattle.tp_model.specs.Support.Remembered.{lives}
 use Rattle.tp_model.specs.Waits.{is_outstanding_for}
-use Rattle.tp_model.proofs.Lists.{all_along, all_append, all_filter, find_all, filter_agree}
+use Rattle.tp_model.proofs.Lists.{all_append, all_filter, find_all, filter_agree}
 use Rattle.tp_model.proofs.Callbacks.{find_replaced, find_replaced_other}
 use Rattle.tp_model.proofs.Forgetting.{over_forget, over_not_outstanding}
 use Rattle.tp_model.proofs.Refusals.{made, false_true, both, neither, and_false, same_actor_is, is_own_actor}

@@ -16,7 +16,7 @@ use Rattle.tp_model.specs.Changes.{replaced}
 use Rattle.tp_model.specs.Support.Sound.{IsRising}
 use Rattle.tp_model.specs.Support.Remembered.{lives}
 use Rattle.tp_model.specs.Waits.{is_held_for}
-use Rattle.tp_model.proofs.Lists.{all_append, all_filter, all_map, filter_filter, find_all}
+use Rattle.tp_model.proofs.Lists.{all_filter, filter_filter}
 use Rattle.tp_model.proofs.Callbacks.{filter_replaced_out, found_all, over_not_pending}
 use Rattle.tp_model.proofs.Forgetting.{over_not_held}
 use Rattle.live_world.specs.Parts.{is_tied, tied_entry}

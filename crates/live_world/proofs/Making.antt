@@ -6,18 +6,16 @@ use Rattle.std.proofs.lemmas.Option.{slice_get-map}
 use Rattle.tp_base.specs.declared.ids.ObjectId.{ObjectId}
 use Rattle.tp_base.specs.declared.plans.Change.TheVariants as change
 use Rattle.tp_base.specs.declared.rows.ObjectRow.{ObjectRow}
-use Rattle.tp_base.specs.declared.rows.CallbackRow.{CallbackRow}
 use Rattle.handle_table.specs.Table.{Table, Marked, numbered as numbered_row, is_live as is_live_row, with_row, with_released}
 use Rattle.tp_model.specs.Counts.{numbered}
 use Rattle.tp_model.specs.Changes.{changed, release_object}
 use Rattle.tp_model.specs.Support.Allowed.{IsAllowed}
-use Rattle.tp_model.proofs.Lists.{all_along}
 use Rattle.live_world.specs.declared.objects.Object.{Object}
 use Rattle.live_world.specs.declared.LiveWorld.TheInside.{Inside}
 use Rattle.live_world.specs.Live.{Live, moved}
 use Rattle.live_world.specs.Parts.{shown_object}
 use Rattle.live_world.specs.View.{shown, IsLiveWorld}
-use Rattle.live_world.specs.Invariant.{AreSized, AreListed}
+use Rattle.live_world.specs.Invariant.{AreSized}
 use Rattle.live_world.proofs.Moving.{After, Becomes, moved_by}
 
 -- another table of the same limit

@@ -1,6 +1,6 @@
 -- What the parts show after each change, and that they keep their invariant.
 use Rattle.std.proofs.Common.{◌≡◌, ◌≢◌, ℕ, ◌+◌, ◌-◌, ◌<◌, ◌≤◌, Bool, true, false, cond, not, ◌&&◌, ◌||◌, ◌==◌, List, [], ◌∷◌, ◌++◌, length, map, slice_get, slice_set, Option, Some, None, refl, sym, ap, ap₂, ◌∙◌, subst, arith, filter, find, option_map, ne_eqb, length-set}
-use Rattle.std.proofs.lemmas.List.{map-set, length-map}
+use Rattle.std.proofs.lemmas.List.{map-set}
 use Rattle.std.proofs.lemmas.Option.{slice_get-map}
 use Rattle.tp_base.specs.declared.ids.PoolId.{PoolId}
 use Rattle.tp_base.specs.declared.limits.Limits.{Limits}
@@ -37,7 +37,7 @@ use Rattle.tp_model.proofs.Forgetting.{forget_sound}
 use Rattle.live_world.specs.declared.objects.Object.{Object}
 use Rattle.live_world.specs.declared.LiveWorld.TheInside.{Inside}
 use Rattle.live_world.specs.Live.{Live, moved, became}
-use Rattle.live_world.specs.Parts.{world_of, shown_worker, shown_object, is_tied, tied_entry}
+use Rattle.live_world.specs.Parts.{world_of, shown_worker, is_tied, tied_entry}
 use Rattle.live_world.specs.View.{shown, IsLiveWorld}
 use Rattle.live_world.specs.Invariant.{AreSized, AreLive, AreQueued, AreTallied, AreListed, AreCovered, IsHome, IsMarked, AreMarked, waits}
 use Rattle.live_world.proofs.Lists.{set_twice, set_there}

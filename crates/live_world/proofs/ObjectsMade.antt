@@ -1,5 +1,5 @@
 -- Objects of callbacks.
-use Rattle.std.proofs.Common.{◌≡◌, ◌-◌, ◌<◌, ◌≤◌, List, length, is_some, ap, arith, ⊎_elim}
+use Rattle.std.proofs.Common.{◌-◌, ◌<◌, ◌≤◌, List, length, is_some, ap, arith, ⊎_elim}
 use Rattle.std.specs.List.{AllByRecursion}
 use Rattle.std.proofs.lemmas.Bool.{cases_eq}
 use Rattle.tp_base.specs.declared.rows.CallbackRow.{CallbackRow}

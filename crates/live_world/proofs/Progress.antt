@@ -1,17 +1,12 @@
 -- How far a wait has come.
-use Rattle.std.proofs.Common.{◌≡◌, ℕ, ◌+◌, ◌<◌, ◌≤◌, Bool, true, false, cond, not, ◌&&◌, ◌||◌, ◌==◌, List, [], ◌∷◌, length, nat_lt, slice_get, Option, Some, None, is_some, is_none, refl, sym, ap, ap₂, ◌∙◌, subst, arith, find, option_map, unwrap_or, le-ltb}
+use Rattle.std.proofs.Common.{◌≡◌, ℕ, Bool, true, false, cond, not, List, [], ◌∷◌, slice_get, Option, Some, None, is_some, is_none, refl, sym, ap, ◌∙◌, option_map, unwrap_or}
 use Rattle.std.specs.List.{list_any}
-use Rattle.std.specs.List.Sorted.{IsStrictlyIncreasing}
 use Rattle.std.specs.Option.{option_map_or}
-use Rattle.std.proofs.lemmas.List.Kept.{AllPairs-from_increasing}
 use Rattle.tp_base.specs.declared.ids.Who.{Who}
-use Rattle.tp_base.specs.declared.rows.CallbackRow.{CallbackRow}
 use Rattle.cancel_wait.specs.Covers.{covered_of, wait_of as barrier_of}
 use Rattle.tp_model.specs.World.{World, BegunWait}
-use Rattle.tp_model.specs.Counts.{attached, callback_of, is_pending}
 use Rattle.tp_model.specs.Waits.{held, wait_of}
-use Rattle.tp_model.specs.Calls.Waits.{is_starved, holds_starved}
-use Rattle.tp_model.proofs.Refusals.{and_false}
+use Rattle.tp_model.specs.Calls.Waits.{holds_starved}
 use Rattle.live_world.specs.declared.LiveWorld.TheInside.{Inside}
 use Rattle.live_world.specs.Live.{Live}
 use Rattle.live_world.specs.Parts.{place_of}
@@ -20,8 +15,6 @@ use Rattle.live_world.specs.Waiting.{held_by, progress_with, progress_in, progre
 use Rattle.live_world.specs.declared.waits.Progress.TheVariants.{NotBegun, Free, Starved, Holds}
 use Rattle.tp_model.specs.Conditions.{is_same_actor}
 use Rattle.live_world.proofs.Covered.{not_found, none_found, begun_there, no_stranger}
-use Rattle.live_world.proofs.Walks.{Rises, rest, IsAmong, rises_pairs, all_least, rest_first, first_among, rest_next, found_among}
-use Rattle.live_world.proofs.Numbers.{itself}
 
 -- what the barrier of an actor has is what its wait holds
 pub covered_is : (i : Inside) (l : Live) (who : Who) (place : ℕ) → shown i ≡ l → IsLiveWorld i → place_of l.world.limits who ≡ Some place → covered_of i.barriers place ≡ held_by l.world who

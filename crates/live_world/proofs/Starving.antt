@@ -1,5 +1,5 @@
 -- Whether a wait holds a callback that is starved, from the first pending callback of its object.
-use Rattle.std.proofs.Common.{◌≡◌, ◌≢◌, ℕ, ◌+◌, ◌<◌, ◌≤◌, Bool, true, false, cond, ◌&&◌, ◌||◌, ◌==◌, List, [], ◌∷◌, nat_lt, slice_get, Option, Some, None, refl, sym, ap, ap₂, ◌∙◌, subst, arith, ⊎_elim, filter, find, option_map, eqb-true, eq-eqb}
+use Rattle.std.proofs.Common.{◌≡◌, ◌≢◌, ℕ, ◌+◌, ◌≤◌, Bool, true, false, cond, ◌&&◌, ◌||◌, ◌==◌, List, [], ◌∷◌, nat_lt, slice_get, Option, Some, None, refl, sym, ap, ap₂, ◌∙◌, subst, arith, ⊎_elim, filter, find, eqb-true, eq-eqb}
 use Rattle.std.specs.List.{list_any}
 use Rattle.std.specs.Option.{option_map_or}
 use Rattle.std.proofs.lemmas.Bool.{cases_eq}
@@ -21,7 +21,7 @@ use Rattle.tp_model.specs.Calls.Waits.{is_starved, holds_starved}
 use Rattle.tp_model.specs.Laws.Entries.{is_among}
 use Rattle.tp_model.specs.Laws.Once.{is_left}
 use Rattle.tp_model.specs.Support.Allowed.{IsObjectTarget}
-use Rattle.tp_model.specs.Support.Sound.{IsSound, IsRising, IsNamed, HasObject, IsCallbackSound, IsWaitSound, is_left_of, is_left_among}
+use Rattle.tp_model.specs.Support.Sound.{IsSound, IsRising, IsNamed, IsCallbackSound, IsWaitSound, is_left_of, is_left_among}
 use Rattle.tp_model.proofs.Lists.{find_all, find_kept}
 use Rattle.tp_model.proofs.Callbacks.{found_bounds, rising_filter}
 use Rattle.tp_model.proofs.Refusals.{both, false_true}

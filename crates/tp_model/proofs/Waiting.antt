@@ -1,5 +1,5 @@
 -- What is true of begun waits, as callbacks change and as waits begin.
-use Rattle.std.proofs.Common.{◌≡◌, ℕ, ◌+◌, ◌<◌, ◌≤◌, Bool, true, false, cond, not, ◌&&◌, ◌||◌, ◌==◌, List, [], ◌∷◌, ◌++◌, map, Option, Some, None, is_some, refl, sym, ap, ap₂, ◌∙◌, subst, arith, filter, find, eqb-true, eq-eqb, ne_eqb}
+use Rattle.std.proofs.Common.{◌≡◌, ℕ, ◌+◌, ◌<◌, ◌≤◌, Bool, true, false, cond, not, ◌&&◌, ◌||◌, ◌==◌, List, [], ◌∷◌, ◌++◌, map, Option, Some, None, is_some, refl, sym, ap, ap₂, ◌∙◌, arith, filter, find, eqb-true, ne_eqb}
 use Rattle.std.specs.List.{AllByRecursion}
 use Rattle.std.specs.Option.{option_map_or}
 use Rattle.tp_base.specs.declared.rows.Status.{Status}
@@ -9,7 +9,7 @@ use Rattle.tp_base.specs.declared.rows.WaitTarget.{WaitTarget}
 use Rattle.tp_base.specs.declared.rows.WaitTarget.TheVariants.{Object, Group, Kernel}
 use Rattle.tp_base.specs.declared.ids.Who.{Who}
 use Rattle.tp_model.specs.World.{World, BegunWait}
-use Rattle.tp_model.specs.Counts.{numbered, has_number, is_pending, is_running}
+use Rattle.tp_model.specs.Counts.{numbered, has_number, is_running}
 use Rattle.tp_model.specs.Changes.{replaced, new_wait}
 use Rattle.tp_model.specs.Waits.{is_of, is_held_for, is_outstanding_for, is_object_target, is_covered_by, cancelled, cancel_where, covered_of}
 use Rattle.tp_model.specs.Laws.Entries.{is_among}
@@ -17,8 +17,8 @@ use Rattle.tp_model.specs.Laws.Once.{is_left}
 use Rattle.tp_model.specs.Support.Sound.{IsRising, IsNamed, IsWaitSound, is_left_of, is_left_among}
 use Rattle.tp_model.specs.Support.Allowed.{IsTargetMade}
 use Rattle.tp_model.proofs.Callbacks.{find_replaced, find_replaced_other, rising_bound}
-use Rattle.tp_model.proofs.Cancelling.{cancelled_if, cancelled_found, find_cancelled, among_numbers}
-use Rattle.tp_model.proofs.Lists.{all_below, all_filter}
+use Rattle.tp_model.proofs.Cancelling.{cancelled_found, find_cancelled, among_numbers}
+use Rattle.tp_model.proofs.Lists.{all_below}
 use Rattle.tp_model.proofs.Refusals.{and_false, both, false_true}
 
 -- ---- other callbacks

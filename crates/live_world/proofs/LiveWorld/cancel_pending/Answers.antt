@@ -1,4 +1,4 @@
-use Rattle.std.proofs.Common.{◌+◌, None, Some, sym, ◌∙◌}
+use Rattle.std.proofs.Common.{◌+◌, sym, ◌∙◌}
 use Rattle.live_world.proofs.Cancelled.{CancelsFirst, cancelling_ended, cancels_first}
 use Rattle.live_world.proofs.Covered.{nowhere}
 use Rattle.live_world.proofs.LiveWorld.cancel_pending.Goals as goal

@@ -3,7 +3,6 @@ use Rattle.tp_base.specs.declared.rows.WaitTarget.TheVariants.{Object}
 use Rattle.tp_model.specs.Waits.{is_outstanding_for}
 use Rattle.live_world.specs.Live.{Live}
 use Rattle.live_world.specs.Parts.{is_tied, shown_object}
-use Rattle.live_world.specs.Invariant.{waits}
 use Rattle.live_world.specs.Waiting.{outstanding_of}
 use Rattle.std.proofs.lemmas.List.{length-map}
 use Rattle.live_world.proofs.Along.{outstanding_listed, first_row, no_row, none_beyond}

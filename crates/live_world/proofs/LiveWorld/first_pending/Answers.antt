@@ -1,6 +1,6 @@
 use Rattle.std.proofs.Common.{◌+◌, length, map, slice_get, refl, ap, ◌∙◌, arith}
 use Rattle.live_world.specs.Live.{Live}
-use Rattle.live_world.specs.Parts.{is_tied, shown_object}
+use Rattle.live_world.specs.Parts.{shown_object}
 use Rattle.live_world.specs.Invariant.{waits}
 use Rattle.live_world.specs.Waiting.{is_pending_for, pending_of}
 use Rattle.std.proofs.lemmas.List.{length-map}

@@ -1,4 +1,4 @@
-use Rattle.std.proofs.Common.{◌+◌, None, Some, sym, ap, ◌∙◌}
+use Rattle.std.proofs.Common.{None, Some, sym, ap, ◌∙◌}
 use Rattle.tp_model.specs.Conditions.{is_in_wait}
 use Rattle.live_world.specs.Live.{Live}
 use Rattle.live_world.proofs.Covered.{at_place, no_stranger, begun_there}
