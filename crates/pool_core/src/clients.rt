@@ -15,7 +15,7 @@ pub(crate) fn finish(world: &LiveWorld, who: Who) -> Plan
     ensures { result ≡ finish_plan world.now.world who }
 {
     let actor = world.actor(who);
-    let refusal = first_of(&[
+    let refusal = first_of!([
         (!actor.exists, Refusal::NoSuch),
         (actor.is_worker, Refusal::WrongKind),
         (actor.finished, Refusal::Released),

@@ -16,7 +16,7 @@ fn busy_refusal(world: &LiveWorld, who: Who) -> Option<Refusal>
     ensures { result ≡ first_refusal (busy_refusals world.now.world who) }
 {
     let actor = world.actor(who);
-    first_of(&[
+    first_of!([
         (!actor.exists, Refusal::NoSuch),
         (actor.finished, Refusal::Released),
         (!actor.runs, Refusal::NotRunning),

@@ -36,7 +36,7 @@ use live_world::LiveWorld;
 use plans::{plan, price};
 use std::alloc::{AllocError, Global};
 use std::marker::Model;
-use tp_base::answers::{Answer, Outcome};
+use tp_base::answers::{Answer, Outcome, Refusal};
 use tp_base::calls::Call;
 use tp_base::ids::Who;
 use tp_base::limits::Limits;
@@ -103,39 +103,38 @@ impl Engine {
         ensures in_range { IsOutcomeInRange result }
     {
         self.live.is_reachable();
-        match plan(&self.live, who, call, room) {
-            Plan::Looked(look) => Outcome::Look(look),
-            Plan::Refused(refusal) => self.enter(Answer::Refused(refusal), None, room),
-            Plan::Does { answer, change } => self.enter(answer, Some(change), room),
+        match &plan(&self.live, who, call, room) {
+            Plan::Looked(look) => Outcome::Look(*look),
+            Plan::Refused(refusal) => refuse(*refusal, room),
+            Plan::Does { answer, change } => self.enter(answer, change, room),
         }
     }
 
     // Makes a change for an answer, where the history has room for what they cost.
-    fn enter(&mut self, answer: Answer, change: Option<Change>, room: u64) -> Outcome
-        requires allowed { IfSome change (IsAllowed (self.old.made + 1) self.old.world) }
-        requires answer_in_range { IsAnswerInRange answer }
-        requires change_in_range { IfSome change IsChangeInRange }
+    #[inline(never)]
+    fn enter(&mut self, answer: &Answer, change: &Change, room: u64) -> Outcome
+        requires allowed { IsAllowed (self.old.made + 1) self.old.world change.now }
+        requires answer_in_range { IsAnswerInRange answer.now }
+        requires change_in_range { IsChangeInRange change.now }
         requires young { self.old.age < 2 ^ 47 }
-        ensures outcome { result ≡ outcome_of_entry room answer change }
-        ensures after { self.new ≡ after_entry self.old room change }
+        ensures outcome { result ≡ outcome_of_entry room answer.now (Some change.now) }
+        ensures after { self.new ≡ after_entry self.old room (Some change.now) }
         ensures in_range { IsOutcomeInRange result }
     {
-        let cost = change.map_or(1, price);
+        let cost = price(change);
         if room < cost {
             return Outcome::Full { room, cost };
         }
-        if let Some(change) = change {
-            self.apply(change);
-        }
-        Outcome::Done(answer)
+        self.apply(change);
+        Outcome::Done(*answer)
     }
 
     // Makes a change that the world allows, and counts what the history owes and the age.
-    fn apply(&mut self, change: Change)
-        requires allowed { IsAllowed (self.old.made + 1) self.old.world change }
-        requires in_range { IsChangeInRange change }
+    fn apply(&mut self, change: &Change)
+        requires allowed { IsAllowed (self.old.made + 1) self.old.world change.now }
+        requires in_range { IsChangeInRange change.now }
         requires young { self.old.age < 2 ^ 47 }
-        ensures { self.new ≡ remembered_in self.old (changed self.old.world change) }
+        ensures { self.new ≡ remembered_in self.old (changed self.old.world change.now) }
     {
         self.live.is_reachable();
         self.owed = self.owed + price(change) - 1;
@@ -156,5 +155,18 @@ impl Engine {
         ensures { result ≡ self.now.age }
     {
         self.age
+    }
+}
+
+// What a refusal comes to, where the history has room for its entry.
+fn refuse(refusal: Refusal, room: u64) -> Outcome
+    requires in_range { IsAnswerInRange (Answer.Refused refusal) }
+    ensures outcome { result ≡ outcome_of_entry room (Answer.Refused refusal) None }
+    ensures in_range { IsOutcomeInRange result }
+{
+    if room < 1 {
+        Outcome::Full { room, cost: 1 }
+    } else {
+        Outcome::Done(Answer::Refused(refusal))
     }
 }

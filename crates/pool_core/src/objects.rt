@@ -41,7 +41,7 @@ pub(crate) fn create(
     let actor = world.actor(who);
     let lacks_pool = !world.is_pool(env.pool);
     let lacks_group = !world.is_no_group_or_group(env.group);
-    let refusal = first_of(&[
+    let refusal = first_of!([
         (
             either(either(!actor.exists, lacks_pool), lacks_group),
             Refusal::NoSuch,
@@ -70,7 +70,7 @@ pub(crate) fn close_object(world: &LiveWorld, who: Who, kind: Kind, object: Obje
     ensures { result ≡ close_object_plan world.now.world who kind object }
 {
     let actor = world.actor(who);
-    let refusal = first_of(&[
+    let refusal = first_of!([
         (
             either(!actor.exists, !world.is_object(object)),
             Refusal::NoSuch,

@@ -52,8 +52,8 @@ pub(crate) fn plan(world: &LiveWorld, who: Who, call: Call, room: u64) -> Plan
 }
 
 /// The entries that a change costs: its own, and those that are owed more than before.
-pub(crate) fn price(change: Change) -> u64
-    ensures { result ≡ price_of change }
+pub(crate) fn price(change: &Change) -> u64
+    ensures { result ≡ price_of change.now }
 {
     match change {
         Change::Attach { .. } | Change::Take { .. } | Change::BeginWait { .. } => 2,

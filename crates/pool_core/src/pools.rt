@@ -17,7 +17,7 @@ pub(crate) fn create_pool(world: &LiveWorld, who: Who) -> Plan
     ensures { result ≡ create_pool_plan world.now.world who }
 {
     let actor = world.actor(who);
-    let refusal = first_of(&[
+    let refusal = first_of!([
         (!actor.exists, Refusal::NoSuch),
         (actor.finished, Refusal::Released),
         (actor.is_idle, Refusal::NotRunning),
@@ -40,7 +40,7 @@ fn pool_refusal(world: &LiveWorld, who: Who, pool: PoolId) -> Option<Refusal>
     ensures { result ≡ first_refusal (pool_refusals world.now.world who pool.0) }
 {
     let actor = world.actor(who);
-    first_of(&[
+    first_of!([
         (either(!actor.exists, !world.is_pool(pool)), Refusal::NoSuch),
         (actor.finished, Refusal::Released),
         (world.is_closed_pool(pool), Refusal::PoolClosed),

@@ -5,17 +5,14 @@ ghost use Rattle.tp_model.specs.Refusing.{first_refusal};
 
 use tp_base::answers::Refusal;
 
-/// The refusal of the first condition that holds.
-pub(crate) fn first_of(conditions: &[(bool, Refusal)]) -> Option<Refusal>
-    ensures { result ≡ first_refusal conditions.now }
-{
-    for &(holds, refusal) in conditions {
-        if holds {
-            return Some(refusal);
-        }
-    }
-    None
+// The refusal of the first condition that holds. Conditions behind it are not asked.
+macro_rules! first_of {
+    ([$(($holds:expr, $refusal:expr $(,)?)),+ $(,)?]) => {
+        $(if $holds { Some($refusal) } else)+ { None }
+    };
 }
+
+pub(crate) use first_of;
 
 /// Whether one of two conditions holds.
 pub(crate) fn either(first: bool, second: bool) -> bool

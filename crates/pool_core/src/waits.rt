@@ -26,7 +26,7 @@ pub(crate) fn begin_wait(
     ensures { result ≡ begin_wait_plan world.now.world who kind object cancel }
 {
     let actor = world.actor(who);
-    let refusal = first_of(&[
+    let refusal = first_of!([
         (
             either(!actor.exists, !world.is_object(object)),
             Refusal::NoSuch,
@@ -88,7 +88,7 @@ pub(crate) fn end(world: &LiveWorld, who: Who, room: u64) -> Plan
     ensures { result ≡ end_plan world.now.world room who }
 {
     let actor = world.actor(who);
-    let refusal = first_of(&[
+    let refusal = first_of!([
         (!actor.exists, Refusal::NoSuch),
         (actor.finished, Refusal::Released),
         (actor.is_idle, Refusal::NotRunning),

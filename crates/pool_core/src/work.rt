@@ -37,7 +37,7 @@ pub(crate) fn submit_work(world: &LiveWorld, who: Who, object: ObjectId) -> Plan
     ensures { result ≡ submit_work_plan world.now.world (world.now.made + 1) who object }
 {
     let actor = world.actor(who);
-    let refusal = first_of(&[
+    let refusal = first_of!([
         (
             either(!actor.exists, !world.is_object(object)),
             Refusal::NoSuch,
@@ -80,7 +80,7 @@ pub(crate) fn submit_simple(
     let actor = world.actor(who);
     let lacks_pool = !world.is_pool(env.pool);
     let lacks_group = !world.is_no_group_or_group(env.group);
-    let refusal = first_of(&[
+    let refusal = first_of!([
         (
             either(either(!actor.exists, lacks_pool), lacks_group),
             Refusal::NoSuch,

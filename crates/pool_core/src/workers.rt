@@ -17,7 +17,7 @@ pub(crate) fn attach(world: &LiveWorld, who: Who) -> Plan
     ensures { result ≡ attach_plan world.now.world who }
 {
     let actor = world.actor(who);
-    let refusal = first_of(&[
+    let refusal = first_of!([
         (!actor.exists, Refusal::NoSuch),
         (actor.finished, Refusal::Released),
         (!actor.is_worker, Refusal::NotWorker),
@@ -44,7 +44,7 @@ fn idle_refusal(world: &LiveWorld, who: Who) -> Option<Refusal>
     ensures { result ≡ first_refusal (idle_refusals world.now.world who) }
 {
     let actor = world.actor(who);
-    first_of(&[
+    first_of!([
         (!actor.exists, Refusal::NoSuch),
         (actor.finished, Refusal::Released),
         (!actor.is_worker, Refusal::NotWorker),
@@ -109,7 +109,7 @@ pub(crate) fn return_callback(world: &LiveWorld, who: Who) -> Plan
     ensures { result ≡ return_plan world.now.world who }
 {
     let actor = world.actor(who);
-    let refusal = first_of(&[
+    let refusal = first_of!([
         (!actor.exists, Refusal::NoSuch),
         (actor.finished, Refusal::Released),
         (!actor.is_worker, Refusal::NotWorker),
