@@ -22,12 +22,13 @@
 
 #![tactic(auto)]
 
-ghost use Rattle.std.specs.Prelude.{◌≡◌, ◌+◌, ◌^◌, ◌<◌, IfOk, IfSome};
-ghost use Rattle.tp_base.specs.Ranges.{AreLimitsInRange, IsCallInRange, IsAnswerInRange, IsOutcomeInRange};
+ghost use Rattle.std.specs.Prelude.{◌≡◌, ◌+◌, ◌^◌, ◌<◌, IfOk};
+ghost use Rattle.pool_core.specs.Entered.{outcome_of_entry};
+ghost use Rattle.tp_base.specs.Ranges.{AreLimitsInRange, IsCallInRange, IsAnswerInRange, IsOutcomeInRange, IsRefusalInRange};
 ghost use Rattle.tp_model.specs.World.{World, opening};
 ghost use Rattle.tp_model.specs.Counts.{owed};
 ghost use Rattle.tp_model.specs.Changes.{changed};
-ghost use Rattle.tp_model.specs.Support.Allowed.{IsAllowed};
+ghost use Rattle.tp_model.specs.Support.Allowed.{IsAllowed, price as price_of};
 ghost use Rattle.tp_model.specs.Support.Ranged.{IsChangeInRange};
 ghost use Rattle.tp_model.specs.Table.{step};
 ghost use Rattle.tp_model.specs.Support.Remembered.{StandsFor, Meets, remembered_in};
@@ -73,7 +74,7 @@ impl Model for Engine {
 }
 
 impl Engine {
-    ghost use Rattle.pool_core.specs.Entered.{outcome_of_entry, after_entry};
+    ghost use Rattle.pool_core.specs.Entered.{after_entry};
 
     /// Opens the engine of a machine with these limits, before its first call.
     ///
@@ -117,8 +118,8 @@ impl Engine {
         requires answer_in_range { IsAnswerInRange answer.now }
         requires change_in_range { IsChangeInRange change.now }
         requires young { self.old.age < 2 ^ 47 }
-        ensures outcome { result ≡ outcome_of_entry room answer.now (Some change.now) }
-        ensures after { self.new ≡ after_entry self.old room (Some change.now) }
+        ensures outcome { result ≡ outcome_of_entry room answer.now (price_of change.now) }
+        ensures after { self.new ≡ after_entry self.old room change.now }
         ensures in_range { IsOutcomeInRange result }
     {
         let cost = price(change);
@@ -160,8 +161,8 @@ impl Engine {
 
 // What a refusal comes to, where the history has room for its entry.
 fn refuse(refusal: Refusal, room: u64) -> Outcome
-    requires in_range { IsAnswerInRange (Answer.Refused refusal) }
-    ensures outcome { result ≡ outcome_of_entry room (Answer.Refused refusal) None }
+    requires { IsRefusalInRange refusal }
+    ensures outcome { result ≡ outcome_of_entry room (Answer.Refused refusal) 1 }
     ensures in_range { IsOutcomeInRange result }
 {
     if room < 1 {

@@ -25,12 +25,12 @@ pays i e ch same sound allowed k =
 
 pub overflow_sub-self : goal.overflow_sub-self
 overflow_sub-self c =
-    omega (arith, pays c.self.inside c.args.self.now c.args.change c.self.view_is c.is_reachable.ensures.sound c.requires.allowed c.self.invariant, c.price.ensures)
+    omega (arith, pays c.self.inside c.args.self.now c.args.change.now c.self.view_is c.is_reachable.ensures.sound c.requires.allowed c.self.invariant, c.price.ensures)
 
 pub invariant_of-self : goal.invariant_of-self
 invariant_of-self c =
     let i = c.self.inside in
-    let ch = c.args.change in
+    let ch = c.args.change.now in
     let paid_for = pays i c.args.self.now ch c.self.view_is c.is_reachable.ensures.sound c.requires.allowed c.self.invariant in
     let world_now : c.apply.new.self.world ≡ forget (changed i.live.world ch) = ap (λ (l : Live). l.world) c.apply.ensures in
     let owed_now : owed c.apply.new.self.world ≡ owed (changed i.live.world ch) = ap owed world_now ∙ owed_forget (changed i.live.world ch) in

@@ -26,8 +26,8 @@ planned i e room who call plan is same made found = ap (λ (r : Remembered). pla
 sound : (i : Inside) (e : Remembered) → remembered i ≡ e → IsSound (i.live.made + 1) i.live.world → IsSound (e.made + 1) e.world
 sound i e same s = subst (λ (r : Remembered). IsSound (r.made + 1) r.world) same s
 
-pub enter-requires-in-Does-clause-allowed : goal.enter-requires-in-Does-clause-allowed
-enter-requires-in-Does-clause-allowed c =
+pub enter-requires-clause-allowed : goal.enter-requires-clause-allowed
+enter-requires-clause-allowed c =
     let e = c.args.self.now in
     (plan_allowed (e.made + 1) c.args.room e.world c.args.who c.args.call c.in-Does.answer c.in-Does.change (sound c.self.inside e c.self.view_is c.is_reachable.ensures.sound)
     (planned c.self.inside e c.args.room c.args.who c.args.call c.plan.result _ c.self.view_is c.plan.ensures.plan c.in-Does.is)).allowed
@@ -39,16 +39,16 @@ returns-in-Looked-clause-meets c w stands =
 
 pub returns-in-Refused-clause-meets : goal.returns-in-Refused-clause-meets
 returns-in-Refused-clause-meets c w stands =
-    meets_refused c.args.self.now w c.args.room c.args.who c.args.call c.enter.new.self c.in-Refused.refusal c.enter.result
+    meets_refused c.args.self.now w c.args.room c.args.who c.args.call c.in-Refused.refusal c.refuse.result
     (planned c.self.inside c.args.self.now c.args.room c.args.who c.args.call c.plan.result _ c.self.view_is c.plan.ensures.plan c.in-Refused.is)
-    c.enter.ensures.outcome c.enter.ensures.after stands
+    c.refuse.ensures.outcome stands
 
 pub returns-in-Does-clause-meets : goal.returns-in-Does-clause-meets
 returns-in-Does-clause-meets c w stands =
-    meets_done c.args.self.now w c.args.room c.args.who c.args.call c.enter-in-Does.new.self c.in-Does.answer c.in-Does.change c.enter-in-Does.result
+    meets_done c.args.self.now w c.args.room c.args.who c.args.call c.enter.new.self c.in-Does.answer c.in-Does.change c.enter.result
     (sound c.self.inside c.args.self.now c.self.view_is c.is_reachable.ensures.sound)
     (planned c.self.inside c.args.self.now c.args.room c.args.who c.args.call c.plan.result _ c.self.view_is c.plan.ensures.plan c.in-Does.is)
-    c.enter-in-Does.ensures.outcome c.enter-in-Does.ensures.after stands
+    c.enter.ensures.outcome c.enter.ensures.after stands
 
 -- ---- ranges
 
@@ -65,17 +65,17 @@ returns-in-Looked-clause-in_range c =
     ranged c.self.inside c.args.self.now c.args.room c.args.who c.args.call c.plan.result _ c.self.view_is c.self.invariant c.requires.young c.is_reachable.ensures.sound c.is_reachable.ensures.bounded c.requires.in_range c.plan.ensures.wide
     c.plan.ensures.plan c.in-Looked.is
 
-pub enter-requires-clause-answer_in_range : goal.enter-requires-clause-answer_in_range
-enter-requires-clause-answer_in_range c =
+pub refuse-requires : goal.refuse-requires
+refuse-requires c =
     ranged c.self.inside c.args.self.now c.args.room c.args.who c.args.call c.plan.result _ c.self.view_is c.self.invariant c.requires.young c.is_reachable.ensures.sound c.is_reachable.ensures.bounded c.requires.in_range c.plan.ensures.wide
     c.plan.ensures.plan c.in-Refused.is
 
-pub enter-requires-in-Does-clause-answer_in_range : goal.enter-requires-in-Does-clause-answer_in_range
-enter-requires-in-Does-clause-answer_in_range c =
+pub enter-requires-clause-answer_in_range : goal.enter-requires-clause-answer_in_range
+enter-requires-clause-answer_in_range c =
     (ranged c.self.inside c.args.self.now c.args.room c.args.who c.args.call c.plan.result _ c.self.view_is c.self.invariant c.requires.young c.is_reachable.ensures.sound c.is_reachable.ensures.bounded c.requires.in_range c.plan.ensures.wide
     c.plan.ensures.plan c.in-Does.is).0
 
-pub enter-requires-in-Does-clause-change_in_range : goal.enter-requires-in-Does-clause-change_in_range
-enter-requires-in-Does-clause-change_in_range c =
+pub enter-requires-clause-change_in_range : goal.enter-requires-clause-change_in_range
+enter-requires-clause-change_in_range c =
     (ranged c.self.inside c.args.self.now c.args.room c.args.who c.args.call c.plan.result _ c.self.view_is c.self.invariant c.requires.young c.is_reachable.ensures.sound c.is_reachable.ensures.bounded c.requires.in_range c.plan.ensures.wide
     c.plan.ensures.plan c.in-Does.is).1
