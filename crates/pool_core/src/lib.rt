@@ -33,6 +33,7 @@ ghost use Rattle.tp_model.specs.Support.Ranged.{IsChangeInRange};
 ghost use Rattle.tp_model.specs.Table.{step};
 ghost use Rattle.tp_model.specs.Support.Remembered.{StandsFor, Meets, remembered_in};
 
+use decisions::{Decision, Effect};
 use live_world::LiveWorld;
 use plans::{plan, price};
 use std::alloc::{AllocError, Global};
@@ -41,9 +42,10 @@ use tp_base::answers::{Answer, Outcome, Refusal};
 use tp_base::calls::Call;
 use tp_base::ids::Who;
 use tp_base::limits::Limits;
-use tp_base::plans::{Change, Plan};
+use tp_base::plans::Change;
 
 mod clients;
+mod decisions;
 mod in_callback;
 mod objects;
 mod plans;
@@ -104,10 +106,14 @@ impl Engine {
         ensures in_range { IsOutcomeInRange result }
     {
         self.live.is_reachable();
-        match &plan(&self.live, who, call, room) {
-            Plan::Looked(look) => Outcome::Look(*look),
-            Plan::Refused(refusal) => refuse(*refusal, room),
-            Plan::Does { answer, change } => self.enter(answer, change, room),
+        let mut effect = Effect {
+            answer: Answer::Done,
+            change: Change::CreatePool,
+        };
+        match plan(&self.live, who, call, room, &mut effect) {
+            Decision::Looked(look) => Outcome::Look(look),
+            Decision::Refused(refusal) => refuse(refusal, room),
+            Decision::Accepted => self.enter(&effect.answer, &effect.change, room),
         }
     }
 

@@ -1,15 +1,17 @@
 //! Calls on objects of all kinds: `CreateThreadpoolWork` and `CloseThreadpoolWork`, and their like for
 //! timers, waits and I/O.
 
+ghost use Rattle.pool_core.specs.Decided.{decided};
 ghost use Rattle.std.specs.Prelude.{◌≡◌, ◌^◌, ◌<◌};
 ghost use Rattle.tp_model.specs.Calls.Objects.{new_object as new_object_of, create_plan, close_object_plan};
 
+use crate::decisions::{Decision, Effect};
 use crate::refusals::{either, first_of};
 use live_world::LiveWorld;
 use tp_base::answers::{Answer, Refusal};
 use tp_base::calls::{Environ, Kind};
 use tp_base::ids::{ObjectId, RoutineId, Who};
-use tp_base::plans::{Change, Plan};
+use tp_base::plans::Change;
 use tp_base::rows::ObjectRow;
 
 /// An object that was just made.
@@ -34,8 +36,9 @@ pub(crate) fn create(
     routine: RoutineId,
     context: u64,
     env: Environ,
-) -> Plan
-    ensures plan { result ≡ create_plan world.now.world who kind routine context env }
+    effect: &mut Effect,
+) -> Decision
+    ensures plan { decided result effect.new ≡ create_plan world.now.world who kind routine context env }
     ensures wide { context < 2 ^ 64 }
 {
     let actor = world.actor(who);
@@ -54,20 +57,26 @@ pub(crate) fn create(
         (world.lacks_object(), Refusal::ObjectLimit),
     ]);
     if let Some(refusal) = refusal {
-        return Plan::Refused(refusal);
+        return Decision::Refused(refusal);
     }
-    Plan::Does {
-        answer: Answer::Made {
+    effect.accept(
+        Answer::Made {
             number: world.next_object(),
         },
-        change: Change::CreateObject(new_object(kind, routine, context, env)),
-    }
+        Change::CreateObject(new_object(kind, routine, context, env)),
+    )
 }
 
 /// Releases an object. It is freed once none of its callbacks is outstanding.
 #[tactic(auto, unfolding(tp_model::specs::Calls::Objects::close_object_plan))]
-pub(crate) fn close_object(world: &LiveWorld, who: Who, kind: Kind, object: ObjectId) -> Plan
-    ensures { result ≡ close_object_plan world.now.world who kind object }
+pub(crate) fn close_object(
+    world: &LiveWorld,
+    who: Who,
+    kind: Kind,
+    object: ObjectId,
+    effect: &mut Effect,
+) -> Decision
+    ensures { decided result effect.new ≡ close_object_plan world.now.world who kind object }
 {
     let actor = world.actor(who);
     let refusal = first_of!([
@@ -84,12 +93,12 @@ pub(crate) fn close_object(world: &LiveWorld, who: Who, kind: Kind, object: Obje
         (actor.in_wait, Refusal::InWait),
     ]);
     if let Some(refusal) = refusal {
-        return Plan::Refused(refusal);
+        return Decision::Refused(refusal);
     }
-    Plan::Does {
-        answer: Answer::Closed {
+    effect.accept(
+        Answer::Closed {
             later: world.is_outstanding(object),
         },
-        change: Change::ReleaseObject { object },
-    }
+        Change::ReleaseObject { object },
+    )
 }

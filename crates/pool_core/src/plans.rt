@@ -1,53 +1,63 @@
 //! What each call comes to, and what a change costs.
 
+ghost use Rattle.pool_core.specs.Decided.{decided};
 ghost use Rattle.std.specs.Prelude.{◌≡◌, ◌+◌, ◌^◌, ◌<◌};
 ghost use Rattle.tp_model.specs.Support.Allowed.{price as price_of};
 ghost use Rattle.tp_model.specs.Support.Ranged.{IsWide};
 ghost use Rattle.tp_model.specs.Table.{plan_at};
 
+use crate::decisions::{Decision, Effect};
 use crate::{clients, in_callback, objects, pools, waits, work, workers};
 use live_world::LiveWorld;
 use tp_base::calls::Call;
 use tp_base::ids::Who;
-use tp_base::plans::{Change, Plan};
+use tp_base::plans::Change;
 
 /// What a call comes to, where the history has room for so many entries. It changes nothing.
-pub(crate) fn plan(world: &LiveWorld, who: Who, call: Call, room: u64) -> Plan
+pub(crate) fn plan(
+    world: &LiveWorld,
+    who: Who,
+    call: Call,
+    room: u64,
+    effect: &mut Effect,
+) -> Decision
     requires { world.now.made < 2 ^ 63 }
-    ensures plan { result ≡ plan_at world.now.world (world.now.made + 1) room who call }
+    ensures plan { decided result effect.new ≡ plan_at world.now.world (world.now.made + 1) room who call }
     ensures wide { IsWide call }
 {
     match call {
-        Call::CreatePool => pools::create_pool(world, who),
-        Call::ClosePool { pool } => pools::close_pool(world, who, pool),
-        Call::SetMaximum { pool, value } => pools::set_maximum(world, who, pool, value),
-        Call::SetMinimum { pool, value } => pools::set_minimum(world, who, pool, value),
+        Call::CreatePool => pools::create_pool(world, who, effect),
+        Call::ClosePool { pool } => pools::close_pool(world, who, pool, effect),
+        Call::SetMaximum { pool, value } => pools::set_maximum(world, who, pool, value, effect),
+        Call::SetMinimum { pool, value } => pools::set_minimum(world, who, pool, value, effect),
         Call::Create {
             kind,
             routine,
             context,
             env,
-        } => objects::create(world, who, kind, routine, context, env),
-        Call::CloseObject { kind, object } => objects::close_object(world, who, kind, object),
+        } => objects::create(world, who, kind, routine, context, env, effect),
+        Call::CloseObject { kind, object } => objects::close_object(
+            world, who, kind, object, effect,
+        ),
         Call::SubmitSimple {
             routine,
             context,
             env,
-        } => work::submit_simple(world, who, routine, context, env),
-        Call::SubmitWork { object } => work::submit_work(world, who, object),
+        } => work::submit_simple(world, who, routine, context, env, effect),
+        Call::SubmitWork { object } => work::submit_work(world, who, object, effect),
         Call::BeginWait {
             kind,
             object,
             cancel,
-        } => waits::begin_wait(world, who, kind, object, cancel),
-        Call::End => waits::end(world, who, room),
-        Call::Attach => workers::attach(world, who),
-        Call::Detach => workers::detach(world, who),
-        Call::Take => workers::take(world, who),
-        Call::Return => workers::return_callback(world, who),
-        Call::MayRunLong => in_callback::may_run_long(world, who),
-        Call::Disassociate => in_callback::disassociate(world, who),
-        Call::Finish => clients::finish(world, who),
+        } => waits::begin_wait(world, who, kind, object, cancel, effect),
+        Call::End => waits::end(world, who, room, effect),
+        Call::Attach => workers::attach(world, who, effect),
+        Call::Detach => workers::detach(world, who, effect),
+        Call::Take => workers::take(world, who, effect),
+        Call::Return => workers::return_callback(world, who, effect),
+        Call::MayRunLong => in_callback::may_run_long(world, who, effect),
+        Call::Disassociate => in_callback::disassociate(world, who, effect),
+        Call::Finish => clients::finish(world, who, effect),
     }
 }
 

@@ -1,15 +1,17 @@
 //! Calls that make callbacks at once: `SubmitThreadpoolWork` and `TrySubmitThreadpoolCallback`.
 
+ghost use Rattle.pool_core.specs.Decided.{decided};
 ghost use Rattle.std.specs.Prelude.{◌≡◌, ◌+◌, ◌^◌, ◌<◌};
 ghost use Rattle.tp_model.specs.Calls.Work.{new_callback as new_callback_of, submit_work_plan, submit_simple_plan};
 
+use crate::decisions::{Decision, Effect};
 use crate::objects::new_object;
 use crate::refusals::{either, first_of};
 use live_world::LiveWorld;
 use tp_base::answers::{Answer, Refusal, TakeResult};
 use tp_base::calls::{Environ, Kind};
 use tp_base::ids::{ObjectId, RoutineId, Who};
-use tp_base::plans::{Change, Plan};
+use tp_base::plans::Change;
 use tp_base::rows::{CallbackRow, ObjectRow, Status};
 
 // A callback of an object, as the object's environment was when the object was made.
@@ -32,9 +34,14 @@ fn new_callback(number: u64, object: ObjectId, row: ObjectRow, told: TakeResult)
 
 /// Makes a callback of a work object.
 #[tactic(auto, unfolding(tp_model::specs::Calls::Work::submit_work_plan))]
-pub(crate) fn submit_work(world: &LiveWorld, who: Who, object: ObjectId) -> Plan
+pub(crate) fn submit_work(
+    world: &LiveWorld,
+    who: Who,
+    object: ObjectId,
+    effect: &mut Effect,
+) -> Decision
     requires { world.now.made < 2 ^ 63 }
-    ensures { result ≡ submit_work_plan world.now.world (world.now.made + 1) who object }
+    ensures { decided result effect.new ≡ submit_work_plan world.now.world (world.now.made + 1) who object }
 {
     let actor = world.actor(who);
     let refusal = first_of!([
@@ -52,16 +59,16 @@ pub(crate) fn submit_work(world: &LiveWorld, who: Who, object: ObjectId) -> Plan
         (world.lacks_slot(), Refusal::CallbackLimit),
     ]);
     if let Some(refusal) = refusal {
-        return Plan::Refused(refusal);
+        return Decision::Refused(refusal);
     }
     let Some(row) = world.object(object) else {
-        return Plan::Refused(Refusal::NoSuch);
+        return Decision::Refused(Refusal::NoSuch);
     };
     let first = world.next_number();
-    Plan::Does {
-        answer: Answer::Queued { first, count: 1 },
-        change: Change::QueueCallback(new_callback(first, object, row, TakeResult::Plain)),
-    }
+    effect.accept(
+        Answer::Queued { first, count: 1 },
+        Change::QueueCallback(new_callback(first, object, row, TakeResult::Plain)),
+    )
 }
 
 /// Makes a callback without an object.
@@ -72,9 +79,10 @@ pub(crate) fn submit_simple(
     routine: RoutineId,
     context: u64,
     env: Environ,
-) -> Plan
+    effect: &mut Effect,
+) -> Decision
     requires { world.now.made < 2 ^ 63 }
-    ensures plan { result ≡ submit_simple_plan world.now.world (world.now.made + 1) who routine context env }
+    ensures plan { decided result effect.new ≡ submit_simple_plan world.now.world (world.now.made + 1) who routine context env }
     ensures wide { context < 2 ^ 64 }
 {
     let actor = world.actor(who);
@@ -93,12 +101,12 @@ pub(crate) fn submit_simple(
         (world.lacks_slot(), Refusal::CallbackLimit),
     ]);
     if let Some(refusal) = refusal {
-        return Plan::Refused(refusal);
+        return Decision::Refused(refusal);
     }
     let first = world.next_number();
     let object = new_object(Kind::Work, routine, context, env);
-    Plan::Does {
-        answer: Answer::Queued { first, count: 1 },
-        change: Change::QueueCallback(new_callback(first, ObjectId(0), object, TakeResult::Plain)),
-    }
+    effect.accept(
+        Answer::Queued { first, count: 1 },
+        Change::QueueCallback(new_callback(first, ObjectId(0), object, TakeResult::Plain)),
+    )
 }
