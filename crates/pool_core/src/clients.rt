@@ -4,7 +4,7 @@ ghost use Rattle.pool_core.specs.Decided.{decided};
 ghost use Rattle.std.specs.Prelude.{◌≡◌};
 ghost use Rattle.tp_model.specs.Calls.Clients.{finish_plan};
 
-use crate::decisions::{Decision, Effect};
+use crate::decisions::{Decision, accept};
 use crate::refusals::first_of;
 use live_world::LiveWorld;
 use tp_base::answers::{Answer, Refusal};
@@ -13,8 +13,8 @@ use tp_base::plans::Change;
 
 /// A client makes no further call.
 #[tactic(auto, unfolding(tp_model::specs::Calls::Clients::finish_plan))]
-pub(crate) fn finish(world: &LiveWorld, who: Who, effect: &mut Effect) -> Decision
-    ensures { decided result effect.new ≡ finish_plan world.now.world who }
+pub(crate) fn finish(world: &LiveWorld, who: Who, change: &mut Change) -> Decision
+    ensures { decided result change.new ≡ finish_plan world.now.world who }
 {
     let actor = world.actor(who);
     let refusal = first_of!([
@@ -27,7 +27,7 @@ pub(crate) fn finish(world: &LiveWorld, who: Who, effect: &mut Effect) -> Decisi
         return Decision::Refused(refusal);
     }
     match who {
-        Who::Client(client) => effect.accept(Answer::Done, Change::Finish { client }),
+        Who::Client(client) => accept(change, Answer::Done, Change::Finish { client }),
         Who::Worker(_) => Decision::Refused(Refusal::WrongKind),
     }
 }

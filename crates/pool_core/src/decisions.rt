@@ -1,6 +1,7 @@
-//! What is decided of a call, and what an accepted one does.
+//! What is decided of a call.
 //!
-//! A plan is these two, kept apart: the effect is large, and is written only where the call is accepted.
+//! A plan is a decision and, for an accepted call, a change. The two are kept apart, since a change is large:
+//! it is written only where a call is accepted, and read where it stands.
 
 ghost use Rattle.std.specs.Prelude.{◌≡◌};
 
@@ -14,27 +15,16 @@ pub(crate) enum Decision {
     Refused(Refusal),
     /// Nothing happens yet.
     Looked(Look),
-    /// It has the effect that was written down.
-    Accepted,
+    /// It has this answer, and makes the change that was written down.
+    Accepted(Answer),
 }
 
-/// The answer of an accepted call, and how it changes the world.
-#[derive(Clone, Copy)]
-pub(crate) struct Effect {
-    pub answer: Answer,
-    pub change: Change,
-}
-
-impl Effect {
-    /// Writes down the effect of a call that is accepted.
-    #[inline(always)]
-    pub(crate) fn accept(&mut self, answer: Answer, change: Change) -> Decision
-        ensures accepted { result ≡ Decision.Accepted }
-        ensures answer { self.new.answer ≡ answer }
-        ensures change { self.new.change ≡ change }
-    {
-        self.answer = answer;
-        self.change = change;
-        Decision::Accepted
-    }
+/// Accepts a call with this answer, and writes down the change that it makes.
+#[inline(always)]
+pub(crate) fn accept(change: &mut Change, answer: Answer, made: Change) -> Decision
+    ensures decision { result ≡ Decision.Accepted answer }
+    ensures change { change.new ≡ made }
+{
+    *change = made;
+    Decision::Accepted(answer)
 }

@@ -6,7 +6,7 @@ ghost use Rattle.std.specs.Prelude.{◌≡◌};
 ghost use Rattle.tp_model.specs.Refusing.{first_refusal};
 ghost use Rattle.tp_model.specs.Calls.InCallback.{busy_refusals, may_run_long_plan, disassociate_plan};
 
-use crate::decisions::{Decision, Effect};
+use crate::decisions::{Decision, accept};
 use crate::refusals::first_of;
 use live_world::LiveWorld;
 use tp_base::answers::{Answer, Refusal};
@@ -28,8 +28,8 @@ fn busy_refusal(world: &LiveWorld, who: Who) -> Option<Refusal>
 
 /// A running callback may run long.
 #[tactic(auto, unfolding(tp_model::specs::Calls::InCallback::may_run_long_plan))]
-pub(crate) fn may_run_long(world: &LiveWorld, who: Who, effect: &mut Effect) -> Decision
-    ensures { decided result effect.new ≡ may_run_long_plan world.now.world who }
+pub(crate) fn may_run_long(world: &LiveWorld, who: Who, change: &mut Change) -> Decision
+    ensures { decided result change.new ≡ may_run_long_plan world.now.world who }
 {
     if let Some(refusal) = busy_refusal(world, who) {
         return Decision::Refused(refusal);
@@ -37,7 +37,8 @@ pub(crate) fn may_run_long(world: &LiveWorld, who: Who, effect: &mut Effect) -> 
     let Some(by) = world.busy(who) else {
         return Decision::Refused(Refusal::NotRunning);
     };
-    effect.accept(
+    accept(
+        change,
         Answer::Flag {
             value: world.has_spare(by.callback.pool),
         },
@@ -50,8 +51,8 @@ pub(crate) fn may_run_long(world: &LiveWorld, who: Who, effect: &mut Effect) -> 
 
 /// A running callback is no longer waited for.
 #[tactic(auto, unfolding(tp_model::specs::Calls::InCallback::disassociate_plan))]
-pub(crate) fn disassociate(world: &LiveWorld, who: Who, effect: &mut Effect) -> Decision
-    ensures { decided result effect.new ≡ disassociate_plan world.now.world who }
+pub(crate) fn disassociate(world: &LiveWorld, who: Who, change: &mut Change) -> Decision
+    ensures { decided result change.new ≡ disassociate_plan world.now.world who }
 {
     if let Some(refusal) = busy_refusal(world, who) {
         return Decision::Refused(refusal);
@@ -59,7 +60,8 @@ pub(crate) fn disassociate(world: &LiveWorld, who: Who, effect: &mut Effect) -> 
     let Some(by) = world.busy(who) else {
         return Decision::Refused(Refusal::NotRunning);
     };
-    effect.accept(
+    accept(
+        change,
         Answer::Done,
         Change::Mark {
             by,

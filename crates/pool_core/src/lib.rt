@@ -33,7 +33,7 @@ ghost use Rattle.tp_model.specs.Support.Ranged.{IsChangeInRange};
 ghost use Rattle.tp_model.specs.Table.{step};
 ghost use Rattle.tp_model.specs.Support.Remembered.{StandsFor, Meets, remembered_in};
 
-use decisions::{Decision, Effect};
+use decisions::Decision;
 use live_world::LiveWorld;
 use plans::{plan, price};
 use std::alloc::{AllocError, Global};
@@ -106,25 +106,22 @@ impl Engine {
         ensures in_range { IsOutcomeInRange result }
     {
         self.live.is_reachable();
-        let mut effect = Effect {
-            answer: Answer::Done,
-            change: Change::CreatePool,
-        };
-        match plan(&self.live, who, call, room, &mut effect) {
+        let mut change = Change::CreatePool;
+        match plan(&self.live, who, call, room, &mut change) {
             Decision::Looked(look) => Outcome::Look(look),
             Decision::Refused(refusal) => refuse(refusal, room),
-            Decision::Accepted => self.enter(&effect.answer, &effect.change, room),
+            Decision::Accepted(answer) => self.enter(answer, &change, room),
         }
     }
 
     // Makes a change for an answer, where the history has room for what they cost.
-    #[inline(never)]
-    fn enter(&mut self, answer: &Answer, change: &Change, room: u64) -> Outcome
+    #[inline(always)]
+    fn enter(&mut self, answer: Answer, change: &Change, room: u64) -> Outcome
         requires allowed { IsAllowed (self.old.made + 1) self.old.world change.now }
-        requires answer_in_range { IsAnswerInRange answer.now }
+        requires answer_in_range { IsAnswerInRange answer }
         requires change_in_range { IsChangeInRange change.now }
         requires young { self.old.age < 2 ^ 47 }
-        ensures outcome { result ≡ outcome_of_entry room answer.now (price_of change.now) }
+        ensures outcome { result ≡ outcome_of_entry room answer (price_of change.now) }
         ensures after { self.new ≡ after_entry self.old room change.now }
         ensures in_range { IsOutcomeInRange result }
     {
@@ -133,10 +130,11 @@ impl Engine {
             return Outcome::Full { room, cost };
         }
         self.apply(change);
-        Outcome::Done(*answer)
+        Outcome::Done(answer)
     }
 
     // Makes a change that the world allows, and counts what the history owes and the age.
+    #[inline(never)]
     fn apply(&mut self, change: &Change)
         requires allowed { IsAllowed (self.old.made + 1) self.old.world change.now }
         requires in_range { IsChangeInRange change.now }
@@ -166,6 +164,7 @@ impl Engine {
 }
 
 // What a refusal comes to, where the history has room for its entry.
+#[inline(always)]
 fn refuse(refusal: Refusal, room: u64) -> Outcome
     requires { IsRefusalInRange refusal }
     ensures outcome { result ≡ outcome_of_entry room (Answer.Refused refusal) 1 }

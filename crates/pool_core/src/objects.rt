@@ -5,7 +5,7 @@ ghost use Rattle.pool_core.specs.Decided.{decided};
 ghost use Rattle.std.specs.Prelude.{◌≡◌, ◌^◌, ◌<◌};
 ghost use Rattle.tp_model.specs.Calls.Objects.{new_object as new_object_of, create_plan, close_object_plan};
 
-use crate::decisions::{Decision, Effect};
+use crate::decisions::{Decision, accept};
 use crate::refusals::{either, first_of};
 use live_world::LiveWorld;
 use tp_base::answers::{Answer, Refusal};
@@ -36,9 +36,9 @@ pub(crate) fn create(
     routine: RoutineId,
     context: u64,
     env: Environ,
-    effect: &mut Effect,
+    change: &mut Change,
 ) -> Decision
-    ensures plan { decided result effect.new ≡ create_plan world.now.world who kind routine context env }
+    ensures plan { decided result change.new ≡ create_plan world.now.world who kind routine context env }
     ensures wide { context < 2 ^ 64 }
 {
     let actor = world.actor(who);
@@ -59,7 +59,8 @@ pub(crate) fn create(
     if let Some(refusal) = refusal {
         return Decision::Refused(refusal);
     }
-    effect.accept(
+    accept(
+        change,
         Answer::Made {
             number: world.next_object(),
         },
@@ -74,9 +75,9 @@ pub(crate) fn close_object(
     who: Who,
     kind: Kind,
     object: ObjectId,
-    effect: &mut Effect,
+    change: &mut Change,
 ) -> Decision
-    ensures { decided result effect.new ≡ close_object_plan world.now.world who kind object }
+    ensures { decided result change.new ≡ close_object_plan world.now.world who kind object }
 {
     let actor = world.actor(who);
     let refusal = first_of!([
@@ -95,7 +96,8 @@ pub(crate) fn close_object(
     if let Some(refusal) = refusal {
         return Decision::Refused(refusal);
     }
-    effect.accept(
+    accept(
+        change,
         Answer::Closed {
             later: world.is_outstanding(object),
         },

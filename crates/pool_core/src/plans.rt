@@ -6,7 +6,7 @@ ghost use Rattle.tp_model.specs.Support.Allowed.{price as price_of};
 ghost use Rattle.tp_model.specs.Support.Ranged.{IsWide};
 ghost use Rattle.tp_model.specs.Table.{plan_at};
 
-use crate::decisions::{Decision, Effect};
+use crate::decisions::Decision;
 use crate::{clients, in_callback, objects, pools, waits, work, workers};
 use live_world::LiveWorld;
 use tp_base::calls::Call;
@@ -19,45 +19,45 @@ pub(crate) fn plan(
     who: Who,
     call: Call,
     room: u64,
-    effect: &mut Effect,
+    change: &mut Change,
 ) -> Decision
     requires { world.now.made < 2 ^ 63 }
-    ensures plan { decided result effect.new ≡ plan_at world.now.world (world.now.made + 1) room who call }
+    ensures plan { decided result change.new ≡ plan_at world.now.world (world.now.made + 1) room who call }
     ensures wide { IsWide call }
 {
     match call {
-        Call::CreatePool => pools::create_pool(world, who, effect),
-        Call::ClosePool { pool } => pools::close_pool(world, who, pool, effect),
-        Call::SetMaximum { pool, value } => pools::set_maximum(world, who, pool, value, effect),
-        Call::SetMinimum { pool, value } => pools::set_minimum(world, who, pool, value, effect),
+        Call::CreatePool => pools::create_pool(world, who, change),
+        Call::ClosePool { pool } => pools::close_pool(world, who, pool, change),
+        Call::SetMaximum { pool, value } => pools::set_maximum(world, who, pool, value, change),
+        Call::SetMinimum { pool, value } => pools::set_minimum(world, who, pool, value, change),
         Call::Create {
             kind,
             routine,
             context,
             env,
-        } => objects::create(world, who, kind, routine, context, env, effect),
+        } => objects::create(world, who, kind, routine, context, env, change),
         Call::CloseObject { kind, object } => objects::close_object(
-            world, who, kind, object, effect,
+            world, who, kind, object, change,
         ),
         Call::SubmitSimple {
             routine,
             context,
             env,
-        } => work::submit_simple(world, who, routine, context, env, effect),
-        Call::SubmitWork { object } => work::submit_work(world, who, object, effect),
+        } => work::submit_simple(world, who, routine, context, env, change),
+        Call::SubmitWork { object } => work::submit_work(world, who, object, change),
         Call::BeginWait {
             kind,
             object,
             cancel,
-        } => waits::begin_wait(world, who, kind, object, cancel, effect),
-        Call::End => waits::end(world, who, room, effect),
-        Call::Attach => workers::attach(world, who, effect),
-        Call::Detach => workers::detach(world, who, effect),
-        Call::Take => workers::take(world, who, effect),
-        Call::Return => workers::return_callback(world, who, effect),
-        Call::MayRunLong => in_callback::may_run_long(world, who, effect),
-        Call::Disassociate => in_callback::disassociate(world, who, effect),
-        Call::Finish => clients::finish(world, who, effect),
+        } => waits::begin_wait(world, who, kind, object, cancel, change),
+        Call::End => waits::end(world, who, room, change),
+        Call::Attach => workers::attach(world, who, change),
+        Call::Detach => workers::detach(world, who, change),
+        Call::Take => workers::take(world, who, change),
+        Call::Return => workers::return_callback(world, who, change),
+        Call::MayRunLong => in_callback::may_run_long(world, who, change),
+        Call::Disassociate => in_callback::disassociate(world, who, change),
+        Call::Finish => clients::finish(world, who, change),
     }
 }
 

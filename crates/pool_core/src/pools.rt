@@ -6,7 +6,7 @@ ghost use Rattle.std.specs.Prelude.{◌≡◌};
 ghost use Rattle.tp_model.specs.Refusing.{first_refusal};
 ghost use Rattle.tp_model.specs.Calls.Pools.{pool_refusals, create_pool_plan, close_pool_plan, set_maximum_plan, set_minimum_plan};
 
-use crate::decisions::{Decision, Effect};
+use crate::decisions::{Decision, accept};
 use crate::refusals::{either, first_of};
 use live_world::LiveWorld;
 use tp_base::answers::{Answer, Refusal};
@@ -15,8 +15,8 @@ use tp_base::plans::{Change, PoolChange};
 
 /// Makes a pool.
 #[tactic(auto, unfolding(tp_model::specs::Calls::Pools::create_pool_plan))]
-pub(crate) fn create_pool(world: &LiveWorld, who: Who, effect: &mut Effect) -> Decision
-    ensures { decided result effect.new ≡ create_pool_plan world.now.world who }
+pub(crate) fn create_pool(world: &LiveWorld, who: Who, change: &mut Change) -> Decision
+    ensures { decided result change.new ≡ create_pool_plan world.now.world who }
 {
     let actor = world.actor(who);
     let refusal = first_of!([
@@ -29,7 +29,8 @@ pub(crate) fn create_pool(world: &LiveWorld, who: Who, effect: &mut Effect) -> D
     if let Some(refusal) = refusal {
         return Decision::Refused(refusal);
     }
-    effect.accept(
+    accept(
+        change,
         Answer::Made {
             number: world.next_pool(),
         },
@@ -54,12 +55,13 @@ fn pool_refusal(world: &LiveWorld, who: Who, pool: PoolId) -> Option<Refusal>
 
 /// Closes a pool.
 #[tactic(auto, unfolding(tp_model::specs::Calls::Pools::close_pool_plan))]
-pub(crate) fn close_pool(world: &LiveWorld, who: Who, pool: PoolId, effect: &mut Effect) -> Decision
-    ensures { decided result effect.new ≡ close_pool_plan world.now.world who pool }
+pub(crate) fn close_pool(world: &LiveWorld, who: Who, pool: PoolId, change: &mut Change) -> Decision
+    ensures { decided result change.new ≡ close_pool_plan world.now.world who pool }
 {
     match pool_refusal(world, who, pool) {
         Some(refusal) => Decision::Refused(refusal),
-        None => effect.accept(
+        None => accept(
+            change,
             Answer::Closed {
                 later: world.is_used(pool),
             },
@@ -78,13 +80,14 @@ pub(crate) fn set_maximum(
     who: Who,
     pool: PoolId,
     value: u32,
-    effect: &mut Effect,
+    change: &mut Change,
 ) -> Decision
-    ensures { decided result effect.new ≡ set_maximum_plan world.now.world who pool value }
+    ensures { decided result change.new ≡ set_maximum_plan world.now.world who pool value }
 {
     match pool_refusal(world, who, pool) {
         Some(refusal) => Decision::Refused(refusal),
-        None => effect.accept(
+        None => accept(
+            change,
             Answer::Done,
             Change::ChangePool {
                 pool,
@@ -101,13 +104,14 @@ pub(crate) fn set_minimum(
     who: Who,
     pool: PoolId,
     value: u32,
-    effect: &mut Effect,
+    change: &mut Change,
 ) -> Decision
-    ensures { decided result effect.new ≡ set_minimum_plan world.now.world who pool value }
+    ensures { decided result change.new ≡ set_minimum_plan world.now.world who pool value }
 {
     match pool_refusal(world, who, pool) {
         Some(refusal) => Decision::Refused(refusal),
-        None => effect.accept(
+        None => accept(
+            change,
             Answer::Done,
             Change::ChangePool {
                 pool,

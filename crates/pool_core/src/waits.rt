@@ -6,7 +6,7 @@ ghost use Rattle.std.specs.Prelude.{◌≡◌};
 ghost use Rattle.tp_model.specs.Calls.Waits.{begin_wait_plan, end_plan};
 ghost use Rattle.pool_core.specs.Ending.{end_at as end_at_of};
 
-use crate::decisions::{Decision, Effect};
+use crate::decisions::{Decision, accept};
 use crate::refusals::{either, first_of};
 use live_world::LiveWorld;
 use live_world::waits::Progress;
@@ -24,9 +24,9 @@ pub(crate) fn begin_wait(
     kind: Kind,
     object: ObjectId,
     cancel: bool,
-    effect: &mut Effect,
+    change: &mut Change,
 ) -> Decision
-    ensures { decided result effect.new ≡ begin_wait_plan world.now.world who kind object cancel }
+    ensures { decided result change.new ≡ begin_wait_plan world.now.world who kind object cancel }
 {
     let actor = world.actor(who);
     let refusal = first_of!([
@@ -47,7 +47,8 @@ pub(crate) fn begin_wait(
         return Decision::Refused(refusal);
     }
     let counts = world.wait_counts(object, cancel);
-    effect.accept(
+    accept(
+        change,
         Answer::Begun {
             covered: counts.covered,
             cancelled: counts.cancelled,
@@ -61,19 +62,21 @@ pub(crate) fn begin_wait(
 }
 
 // What End comes to, as far as the actor's wait has come.
-fn end_at(who: Who, progress: Progress, effect: &mut Effect) -> Decision
-    ensures { decided result effect.new ≡ end_at_of who progress }
+fn end_at(who: Who, progress: Progress, change: &mut Change) -> Decision
+    ensures { decided result change.new ≡ end_at_of who progress }
 {
     match progress {
         Progress::NotBegun => Decision::Refused(Refusal::NoWaitBegun),
-        Progress::Free => effect.accept(
+        Progress::Free => accept(
+            change,
             Answer::Ended,
             Change::EndWait {
                 who,
                 how: WaitEnd::Free,
             },
         ),
-        Progress::Starved => effect.accept(
+        Progress::Starved => accept(
+            change,
             Answer::Exhausted,
             Change::EndWait {
                 who,
@@ -87,8 +90,8 @@ fn end_at(who: Who, progress: Progress, effect: &mut Effect) -> Decision
 /// Ends the wait that the actor has begun, if nothing is left to wait for, or if what is left can't
 /// be run in the room of the history.
 #[tactic(auto, using(crate::proofs::Ending::ends_at), unfolding(tp_model::specs::Calls::Waits::end_plan))]
-pub(crate) fn end(world: &LiveWorld, who: Who, room: u64, effect: &mut Effect) -> Decision
-    ensures { decided result effect.new ≡ end_plan world.now.world room who }
+pub(crate) fn end(world: &LiveWorld, who: Who, room: u64, change: &mut Change) -> Decision
+    ensures { decided result change.new ≡ end_plan world.now.world room who }
 {
     let actor = world.actor(who);
     let refusal = first_of!([
@@ -100,5 +103,5 @@ pub(crate) fn end(world: &LiveWorld, who: Who, room: u64, effect: &mut Effect) -
     if let Some(refusal) = refusal {
         return Decision::Refused(refusal);
     }
-    end_at(who, world.progress(who, room), effect)
+    end_at(who, world.progress(who, room), change)
 }

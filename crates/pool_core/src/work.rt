@@ -4,7 +4,7 @@ ghost use Rattle.pool_core.specs.Decided.{decided};
 ghost use Rattle.std.specs.Prelude.{◌≡◌, ◌+◌, ◌^◌, ◌<◌};
 ghost use Rattle.tp_model.specs.Calls.Work.{new_callback as new_callback_of, submit_work_plan, submit_simple_plan};
 
-use crate::decisions::{Decision, Effect};
+use crate::decisions::{Decision, accept};
 use crate::objects::new_object;
 use crate::refusals::{either, first_of};
 use live_world::LiveWorld;
@@ -38,10 +38,10 @@ pub(crate) fn submit_work(
     world: &LiveWorld,
     who: Who,
     object: ObjectId,
-    effect: &mut Effect,
+    change: &mut Change,
 ) -> Decision
     requires { world.now.made < 2 ^ 63 }
-    ensures { decided result effect.new ≡ submit_work_plan world.now.world (world.now.made + 1) who object }
+    ensures { decided result change.new ≡ submit_work_plan world.now.world (world.now.made + 1) who object }
 {
     let actor = world.actor(who);
     let refusal = first_of!([
@@ -65,7 +65,8 @@ pub(crate) fn submit_work(
         return Decision::Refused(Refusal::NoSuch);
     };
     let first = world.next_number();
-    effect.accept(
+    accept(
+        change,
         Answer::Queued { first, count: 1 },
         Change::QueueCallback(new_callback(first, object, row, TakeResult::Plain)),
     )
@@ -79,10 +80,10 @@ pub(crate) fn submit_simple(
     routine: RoutineId,
     context: u64,
     env: Environ,
-    effect: &mut Effect,
+    change: &mut Change,
 ) -> Decision
     requires { world.now.made < 2 ^ 63 }
-    ensures plan { decided result effect.new ≡ submit_simple_plan world.now.world (world.now.made + 1) who routine context env }
+    ensures plan { decided result change.new ≡ submit_simple_plan world.now.world (world.now.made + 1) who routine context env }
     ensures wide { context < 2 ^ 64 }
 {
     let actor = world.actor(who);
@@ -105,7 +106,8 @@ pub(crate) fn submit_simple(
     }
     let first = world.next_number();
     let object = new_object(Kind::Work, routine, context, env);
-    effect.accept(
+    accept(
+        change,
         Answer::Queued { first, count: 1 },
         Change::QueueCallback(new_callback(first, ObjectId(0), object, TakeResult::Plain)),
     )

@@ -6,7 +6,7 @@ ghost use Rattle.std.specs.Prelude.{◌≡◌};
 ghost use Rattle.tp_model.specs.Refusing.{first_refusal};
 ghost use Rattle.tp_model.specs.Calls.Workers.{idle_refusals, attach_plan, detach_plan, take_plan, return_plan};
 
-use crate::decisions::{Decision, Effect};
+use crate::decisions::{Decision, accept};
 use crate::refusals::first_of;
 use live_world::LiveWorld;
 use tp_base::answers::{Answer, Look, Refusal, SlotWord};
@@ -15,8 +15,8 @@ use tp_base::plans::Change;
 
 /// A worker joins a pool that needs one.
 #[tactic(auto, unfolding(tp_model::specs::Calls::Workers::attach_plan))]
-pub(crate) fn attach(world: &LiveWorld, who: Who, effect: &mut Effect) -> Decision
-    ensures { decided result effect.new ≡ attach_plan world.now.world who }
+pub(crate) fn attach(world: &LiveWorld, who: Who, change: &mut Change) -> Decision
+    ensures { decided result change.new ≡ attach_plan world.now.world who }
 {
     let actor = world.actor(who);
     let refusal = first_of!([
@@ -30,7 +30,8 @@ pub(crate) fn attach(world: &LiveWorld, who: Who, effect: &mut Effect) -> Decisi
         return Decision::Refused(refusal);
     }
     match (who, world.pool_to_join()) {
-        (Who::Worker(worker), Some(pool)) => effect.accept(
+        (Who::Worker(worker), Some(pool)) => accept(
+            change,
             Answer::Attached { pool: PoolId(pool) },
             Change::Attach {
                 worker,
@@ -57,8 +58,8 @@ fn idle_refusal(world: &LiveWorld, who: Who) -> Option<Refusal>
 
 /// A worker leaves its pool.
 #[tactic(auto, unfolding(tp_model::specs::Calls::Workers::detach_plan))]
-pub(crate) fn detach(world: &LiveWorld, who: Who, effect: &mut Effect) -> Decision
-    ensures { decided result effect.new ≡ detach_plan world.now.world who }
+pub(crate) fn detach(world: &LiveWorld, who: Who, change: &mut Change) -> Decision
+    ensures { decided result change.new ≡ detach_plan world.now.world who }
 {
     if let Some(refusal) = idle_refusal(world, who) {
         return Decision::Refused(refusal);
@@ -69,13 +70,13 @@ pub(crate) fn detach(world: &LiveWorld, who: Who, effect: &mut Effect) -> Decisi
     if !world.may_leave(by.pool) {
         return Decision::Looked(Look::Stay);
     }
-    effect.accept(Answer::Done, Change::Detach(by))
+    accept(change, Answer::Done, Change::Detach(by))
 }
 
 /// A worker begins the next callback of its pool.
 #[tactic(auto, unfolding(tp_model::specs::Calls::Workers::take_plan))]
-pub(crate) fn take(world: &LiveWorld, who: Who, effect: &mut Effect) -> Decision
-    ensures { decided result effect.new ≡ take_plan world.now.world who }
+pub(crate) fn take(world: &LiveWorld, who: Who, change: &mut Change) -> Decision
+    ensures { decided result change.new ≡ take_plan world.now.world who }
 {
     if let Some(refusal) = idle_refusal(world, who) {
         return Decision::Refused(refusal);
@@ -90,7 +91,8 @@ pub(crate) fn take(world: &LiveWorld, who: Who, effect: &mut Effect) -> Decision
     if world.maximum(by.pool) <= running {
         return Decision::Looked(Look::AtMaximum { running });
     }
-    effect.accept(
+    accept(
+        change,
         Answer::Taken {
             callback: callback.number,
             object: callback.object,
@@ -104,8 +106,8 @@ pub(crate) fn take(world: &LiveWorld, who: Who, effect: &mut Effect) -> Decision
 
 /// A worker's callback returns.
 #[tactic(auto, unfolding(tp_model::specs::Calls::Workers::return_plan))]
-pub(crate) fn return_callback(world: &LiveWorld, who: Who, effect: &mut Effect) -> Decision
-    ensures { decided result effect.new ≡ return_plan world.now.world who }
+pub(crate) fn return_callback(world: &LiveWorld, who: Who, change: &mut Change) -> Decision
+    ensures { decided result change.new ≡ return_plan world.now.world who }
 {
     let actor = world.actor(who);
     let refusal = first_of!([
@@ -121,7 +123,8 @@ pub(crate) fn return_callback(world: &LiveWorld, who: Who, effect: &mut Effect) 
     let Some(by) = world.busy(who) else {
         return Decision::Refused(Refusal::NotRunning);
     };
-    effect.accept(
+    accept(
+        change,
         Answer::Returned {
             section: SlotWord::Unasked,
             mutex: SlotWord::Unasked,
