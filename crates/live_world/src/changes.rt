@@ -52,12 +52,12 @@ fn loosened(status: Status) -> Status
 
 impl LiveWorld {
     /// Makes a change that the world allows. It takes no memory.
-    pub fn apply(&mut self, change: Change)
-        requires allowed { IsAllowed (self.old.made + 1) self.old.world change }
+    pub fn apply(&mut self, change: &Change)
+        requires allowed { IsAllowed (self.old.made + 1) self.old.world change.now }
         requires young { self.old.made + 65536 ≤ 2 ^ 63 }
-        ensures { self.new ≡ moved self.old change }
+        ensures { self.new ≡ moved self.old change.now }
     {
-        match change {
+        match *change {
             Change::Keep => self.is_reachable(),
             Change::CreatePool => self.create_pool(),
             Change::ChangePool { pool, how } => self.change_pool(pool, how),

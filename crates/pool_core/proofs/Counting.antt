@@ -1,46 +1,36 @@
 -- What a change adds to the counts of an engine, and what they are at first.
-use Rattle.std.proofs.Common.{◌≡◌, ℕ, suc, zero, ◌≤◌, Bool, true, false, not, cond, ◌∷◌, length, replicate, refl, ap, ◌∙◌, arith, filter, is_some}
+use Rattle.std.proofs.Common.{◌≡◌, ℕ, suc, zero, ◌+◌, ◌≤◌, Bool, true, false, not, cond, ◌∷◌, length, replicate, refl, ap, ◌∙◌, arith, ltb-false, filter, is_some}
 use Rattle.tp_base.specs.declared.limits.Limits.{Limits}
 use Rattle.tp_base.specs.declared.plans.Change.{Change}
 use Rattle.tp_base.specs.declared.plans.Change.TheVariants as change
 use Rattle.tp_base.specs.declared.rows.ClientRow.{ClientRow}
 use Rattle.tp_base.specs.declared.rows.WorkerRow.{WorkerRow}
-use Rattle.tp_model.specs.World.{opening, unattached, unfinished}
-use Rattle.tp_model.specs.Counts.{owed}
-use Rattle.tp_model.specs.Support.Allowed.{price, news}
+use Rattle.tp_model.specs.World.{World, opening, unattached, unfinished}
+use Rattle.tp_model.specs.Counts.{slots, owed}
+use Rattle.tp_model.specs.Support.Allowed.{IsAllowed, price, news}
 use Rattle.tp_model.specs.Support.Remembered.{forget}
 
--- a change makes few callbacks
-pub news_most : (ch : Change) → news ch ≤ 65536
-news_most change.CreatePool = omega arith
-news_most (change.ChangePool pool how) = omega arith
-news_most (change.CreateObject row) = omega arith
-news_most (change.ReleaseObject object) = omega arith
-news_most (change.QueueCallback callback) = omega arith
-news_most (change.Attach worker pool) = omega arith
-news_most (change.Detach by) = omega arith
-news_most (change.Take by callback) = omega arith
-news_most (change.Mark by mark) = omega arith
-news_most (change.Return by) = omega arith
-news_most (change.BeginWait who target cancel) = omega arith
-news_most (change.EndWait who how) = omega arith
-news_most (change.Finish client) = omega arith
+-- a change makes no more callbacks than have their places, and costs little
+pub record AreFew (ch : Change) : Type 0 where
+  pub made : news ch ≤ 65536
+  pub cost : price ch ≤ 65537
 
--- and costs little
-pub price_most : (ch : Change) → price ch ≤ 65537
-price_most change.CreatePool = omega arith
-price_most (change.ChangePool pool how) = omega arith
-price_most (change.CreateObject row) = omega arith
-price_most (change.ReleaseObject object) = omega arith
-price_most (change.QueueCallback callback) = omega arith
-price_most (change.Attach worker pool) = omega arith
-price_most (change.Detach by) = omega arith
-price_most (change.Take by callback) = omega arith
-price_most (change.Mark by mark) = omega arith
-price_most (change.Return by) = omega arith
-price_most (change.BeginWait who target cancel) = omega arith
-price_most (change.EndWait who how) = omega arith
-price_most (change.Finish client) = omega arith
+pub few : (fresh : ℕ) (w : World) (ch : Change) → w.limits.slots ≤ 65535 → IsAllowed fresh w ch → AreFew ch
+few fresh w (change.Fire trigger first count) most a = record { made = omega (arith, ltb-false w.limits.slots (slots w + count) a.room, most); cost = omega arith }
+few fresh w change.Keep most a = record { made = omega arith; cost = omega arith }
+few fresh w change.CreatePool most a = record { made = omega arith; cost = omega arith }
+few fresh w (change.ChangePool pool how) most a = record { made = omega arith; cost = omega arith }
+few fresh w (change.CreateObject row) most a = record { made = omega arith; cost = omega arith }
+few fresh w (change.ReleaseObject object) most a = record { made = omega arith; cost = omega arith }
+few fresh w (change.QueueCallback callback) most a = record { made = omega arith; cost = omega arith }
+few fresh w (change.Attach worker pool) most a = record { made = omega arith; cost = omega arith }
+few fresh w (change.Detach by) most a = record { made = omega arith; cost = omega arith }
+few fresh w (change.Take by callback) most a = record { made = omega arith; cost = omega arith }
+few fresh w (change.Mark by mark) most a = record { made = omega arith; cost = omega arith }
+few fresh w (change.Return by) most a = record { made = omega arith; cost = omega arith }
+few fresh w (change.BeginWait who target cancel) most a = record { made = omega arith; cost = omega arith }
+few fresh w (change.EndWait who how) most a = record { made = omega arith; cost = omega arith }
+few fresh w (change.Finish client) most a = record { made = omega arith; cost = omega arith }
 
 none_pass : {X : Type 0} (p : X → Bool) (x : X) → p x ≡ false → (n : ℕ) → length (filter p (replicate n x)) ≡ 0
 none_pass p x out zero = refl

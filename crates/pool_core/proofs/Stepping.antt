@@ -1,5 +1,5 @@
 -- What an engine does by the plan of a call meets the step.
-use Rattle.std.proofs.Common.{◌≡◌, ℕ, ◌+◌, true, false, cond, nat_lt, None, Some, refl, sym, ◌∙◌, subst, ltb-false}
+use Rattle.std.proofs.Common.{◌≡◌, ℕ, ◌+◌, true, false, cond, nat_lt, refl, sym, ◌∙◌, subst, ltb-false}
 use Rattle.std.proofs.lemmas.Bool.{ltb-true}
 use Rattle.tp_base.specs.declared.ids.Who.{Who}
 use Rattle.tp_base.specs.declared.calls.Call.{Call}
@@ -11,32 +11,32 @@ use Rattle.tp_base.specs.declared.answers.Outcome.{Outcome}
 use Rattle.tp_base.specs.declared.answers.Outcome.TheVariants as outcome
 use Rattle.tp_base.specs.declared.plans.Change.{Change}
 use Rattle.tp_base.specs.declared.plans.Plan.TheVariants as plan
+use Rattle.tp_model.specs.Changes.{changed}
 use Rattle.tp_model.specs.World.{World}
 use Rattle.tp_model.specs.Step.{Full, Refused, unless_full, outcome_of}
 use Rattle.tp_model.specs.Table.{step, plan_at}
 use Rattle.tp_model.specs.Support.Allowed.{price}
 use Rattle.tp_model.specs.Support.Sound.{IsSound}
-use Rattle.tp_model.specs.Support.Remembered.{Remembered, StandsFor, Meets}
+use Rattle.tp_model.specs.Support.Remembered.{Remembered, StandsFor, Meets, remembered_in}
 use Rattle.tp_model.proofs.Steps.{goes_refused, goes_looked, goes_full, goes_done}
 use Rattle.tp_model.proofs.Meeting.{meets}
-use Rattle.pool_core.specs.Entered.{entered, outcome_of_entry, after_entry}
+use Rattle.pool_core.specs.Entered.{outcome_of_entry, after_entry}
 
 module _ (e : Remembered) (w : World) (room : ℕ) (who : Who) (call : Call) where
   pub meets_looked : (look : Look) → plan_at e.world (e.made + 1) room who call ≡ plan.Looked look → StandsFor e w → Meets e e w (step w room who call) (outcome.Look look)
   meets_looked look is stands = meets e e w room who call (outcome.Look look) (goes_looked e room who call look (outcome.Look look) is refl) stands
 
-  pub meets_refused : (new : Remembered) (refusal : Refusal) (told : Outcome) → plan_at e.world (e.made + 1) room who call ≡ plan.Refused refusal
-      → told ≡ outcome_of_entry room (answer.Refused refusal) None → new ≡ after_entry e room None → StandsFor e w → Meets e new w (step w room who call) told
-  meets_refused new refusal told is tells keeps stands =
-      let says : outcome_of_entry room (answer.Refused refusal) None ≡ outcome_of (unless_full room 1 (Refused refusal))
+  pub meets_refused : (refusal : Refusal) (told : Outcome) → plan_at e.world (e.made + 1) room who call ≡ plan.Refused refusal
+      → told ≡ outcome_of_entry room (answer.Refused refusal) 1 → StandsFor e w → Meets e e w (step w room who call) told
+  meets_refused refusal told is tells stands =
+      let says : outcome_of_entry room (answer.Refused refusal) 1 ≡ outcome_of (unless_full room 1 (Refused refusal))
       = elim (nat_lt room 1) as (λ b. cond b (outcome.Full room 1) (outcome.Done (answer.Refused refusal)) ≡ outcome_of (cond b (Full room 1) (Refused refusal))) [ true ↦ refl | false ↦ refl ] in
-      let same : after_entry e room None ≡ e = elim (nat_lt room 1) as (λ b. cond b e e ≡ e) [ true ↦ refl | false ↦ refl ] in
-      subst (λ x. Meets e x w (step w room who call) told) (sym (keeps ∙ same)) (meets e e w room who call told (goes_refused e room who call refusal told is (tells ∙ says)) stands)
+      meets e e w room who call told (goes_refused e room who call refusal told is (tells ∙ says)) stands
 
   pub meets_done : (new : Remembered) (answer : Answer) (change : Change) (told : Outcome) → IsSound (e.made + 1) e.world → plan_at e.world (e.made + 1) room who call ≡ plan.Does answer change
-      → told ≡ outcome_of_entry room answer (Some change) → new ≡ after_entry e room (Some change) → StandsFor e w → Meets e new w (step w room who call) told
+      → told ≡ outcome_of_entry room answer (price change) → new ≡ after_entry e room change → StandsFor e w → Meets e new w (step w room who call) told
   meets_done new answer change told sound is =
-      elim (nat_lt room (price change)) as (λ b. nat_lt room (price change) ≡ b → told ≡ cond b (outcome.Full room (price change)) (outcome.Done answer) → new ≡ cond b e (entered e (Some change)) → StandsFor e w → Meets e new w (step w room who call) told) [
+      elim (nat_lt room (price change)) as (λ b. nat_lt room (price change) ≡ b → told ≡ cond b (outcome.Full room (price change)) (outcome.Done answer) → new ≡ cond b e (remembered_in e (changed e.world change)) → StandsFor e w → Meets e new w (step w room who call) told) [
         | true ↦ λ short tells keeps stands.
             subst (λ x. Meets e x w (step w room who call) told) (sym keeps)
             (meets e e w room who call told (goes_full e room who call answer change told sound is (ltb-true room (price change) short) tells) stands)

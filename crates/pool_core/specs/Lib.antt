@@ -1,3 +1,4 @@
 pub mod Ending
+pub mod Decided
 pub mod Entered
 pub mod View

@@ -1,22 +1,24 @@
 //! Calls of a running callback on itself: `CallbackMayRunLong` and
 //! `DisassociateCurrentThreadFromCallback`.
 
+ghost use Rattle.pool_core.specs.Decided.{decided};
 ghost use Rattle.std.specs.Prelude.{◌≡◌};
 ghost use Rattle.tp_model.specs.Refusing.{first_refusal};
 ghost use Rattle.tp_model.specs.Calls.InCallback.{busy_refusals, may_run_long_plan, disassociate_plan};
 
+use crate::decisions::{Decision, accept};
 use crate::refusals::first_of;
 use live_world::LiveWorld;
 use tp_base::answers::{Answer, Refusal};
 use tp_base::ids::Who;
-use tp_base::plans::{Change, Mark, Plan};
+use tp_base::plans::{Change, Mark};
 
 // Of an actor that must run a callback.
 fn busy_refusal(world: &LiveWorld, who: Who) -> Option<Refusal>
     ensures { result ≡ first_refusal (busy_refusals world.now.world who) }
 {
     let actor = world.actor(who);
-    first_of(&[
+    first_of!([
         (!actor.exists, Refusal::NoSuch),
         (actor.finished, Refusal::Released),
         (!actor.runs, Refusal::NotRunning),
@@ -26,42 +28,44 @@ fn busy_refusal(world: &LiveWorld, who: Who) -> Option<Refusal>
 
 /// A running callback may run long.
 #[tactic(auto, unfolding(tp_model::specs::Calls::InCallback::may_run_long_plan))]
-pub(crate) fn may_run_long(world: &LiveWorld, who: Who) -> Plan
-    ensures { result ≡ may_run_long_plan world.now.world who }
+pub(crate) fn may_run_long(world: &LiveWorld, who: Who, change: &mut Change) -> Decision
+    ensures { decided result change.new ≡ may_run_long_plan world.now.world who }
 {
     if let Some(refusal) = busy_refusal(world, who) {
-        return Plan::Refused(refusal);
+        return Decision::Refused(refusal);
     }
     let Some(by) = world.busy(who) else {
-        return Plan::Refused(Refusal::NotRunning);
+        return Decision::Refused(Refusal::NotRunning);
     };
-    Plan::Does {
-        answer: Answer::Flag {
+    accept(
+        change,
+        Answer::Flag {
             value: world.has_spare(by.callback.pool),
         },
-        change: Change::Mark {
+        Change::Mark {
             by,
             mark: Mark::Long,
         },
-    }
+    )
 }
 
 /// A running callback is no longer waited for.
 #[tactic(auto, unfolding(tp_model::specs::Calls::InCallback::disassociate_plan))]
-pub(crate) fn disassociate(world: &LiveWorld, who: Who) -> Plan
-    ensures { result ≡ disassociate_plan world.now.world who }
+pub(crate) fn disassociate(world: &LiveWorld, who: Who, change: &mut Change) -> Decision
+    ensures { decided result change.new ≡ disassociate_plan world.now.world who }
 {
     if let Some(refusal) = busy_refusal(world, who) {
-        return Plan::Refused(refusal);
+        return Decision::Refused(refusal);
     }
     let Some(by) = world.busy(who) else {
-        return Plan::Refused(Refusal::NotRunning);
+        return Decision::Refused(Refusal::NotRunning);
     };
-    Plan::Does {
-        answer: Answer::Done,
-        change: Change::Mark {
+    accept(
+        change,
+        Answer::Done,
+        Change::Mark {
             by,
             mark: Mark::Loose,
         },
-    }
+    )
 }

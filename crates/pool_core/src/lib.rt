@@ -22,32 +22,36 @@
 
 #![tactic(auto)]
 
-ghost use Rattle.std.specs.Prelude.{◌≡◌, ◌+◌, ◌^◌, ◌<◌, IfOk, IfSome};
-ghost use Rattle.tp_base.specs.Ranges.{AreLimitsInRange, IsCallInRange, IsAnswerInRange, IsOutcomeInRange};
+ghost use Rattle.std.specs.Prelude.{◌≡◌, ◌+◌, ◌^◌, ◌<◌, IfOk};
+ghost use Rattle.pool_core.specs.Entered.{outcome_of_entry};
+ghost use Rattle.tp_base.specs.Ranges.{AreLimitsInRange, IsCallInRange, IsAnswerInRange, IsOutcomeInRange, IsRefusalInRange};
 ghost use Rattle.tp_model.specs.World.{World, opening};
 ghost use Rattle.tp_model.specs.Counts.{owed};
 ghost use Rattle.tp_model.specs.Changes.{changed};
-ghost use Rattle.tp_model.specs.Support.Allowed.{IsAllowed};
+ghost use Rattle.tp_model.specs.Support.Allowed.{IsAllowed, price as price_of};
 ghost use Rattle.tp_model.specs.Support.Ranged.{IsChangeInRange};
 ghost use Rattle.tp_model.specs.Table.{step};
 ghost use Rattle.tp_model.specs.Support.Remembered.{StandsFor, Meets, remembered_in};
 
+use decisions::Decision;
 use live_world::LiveWorld;
 use plans::{plan, price};
 use std::alloc::{AllocError, Global};
 use std::marker::Model;
-use tp_base::answers::{Answer, Outcome};
+use tp_base::answers::{Answer, Outcome, Refusal};
 use tp_base::calls::Call;
 use tp_base::ids::Who;
 use tp_base::limits::Limits;
-use tp_base::plans::{Change, Plan};
+use tp_base::plans::Change;
 
 mod clients;
+mod decisions;
 mod in_callback;
 mod objects;
 mod plans;
 mod pools;
 mod refusals;
+mod timers;
 mod waits;
 mod work;
 mod workers;
@@ -73,7 +77,7 @@ impl Model for Engine {
 }
 
 impl Engine {
-    ghost use Rattle.pool_core.specs.Entered.{outcome_of_entry, after_entry};
+    ghost use Rattle.pool_core.specs.Entered.{after_entry};
 
     /// Opens the engine of a machine with these limits, before its first call.
     ///
@@ -103,39 +107,40 @@ impl Engine {
         ensures in_range { IsOutcomeInRange result }
     {
         self.live.is_reachable();
-        match plan(&self.live, who, call, room) {
-            Plan::Looked(look) => Outcome::Look(look),
-            Plan::Refused(refusal) => self.enter(Answer::Refused(refusal), None, room),
-            Plan::Does { answer, change } => self.enter(answer, Some(change), room),
+        let mut change = Change::Keep;
+        match plan(&self.live, who, call, room, &mut change) {
+            Decision::Looked(look) => Outcome::Look(look),
+            Decision::Refused(refusal) => refuse(refusal, room),
+            Decision::Accepted(answer) => self.enter(answer, &change, room),
         }
     }
 
     // Makes a change for an answer, where the history has room for what they cost.
-    fn enter(&mut self, answer: Answer, change: Option<Change>, room: u64) -> Outcome
-        requires allowed { IfSome change (IsAllowed (self.old.made + 1) self.old.world) }
+    #[inline(always)]
+    fn enter(&mut self, answer: Answer, change: &Change, room: u64) -> Outcome
+        requires allowed { IsAllowed (self.old.made + 1) self.old.world change.now }
         requires answer_in_range { IsAnswerInRange answer }
-        requires change_in_range { IfSome change IsChangeInRange }
+        requires change_in_range { IsChangeInRange change.now }
         requires young { self.old.age < 2 ^ 47 }
-        ensures outcome { result ≡ outcome_of_entry room answer change }
-        ensures after { self.new ≡ after_entry self.old room change }
+        ensures outcome { result ≡ outcome_of_entry room answer (price_of change.now) }
+        ensures after { self.new ≡ after_entry self.old room change.now }
         ensures in_range { IsOutcomeInRange result }
     {
-        let cost = change.map_or(1, price);
+        let cost = price(change);
         if room < cost {
             return Outcome::Full { room, cost };
         }
-        if let Some(change) = change {
-            self.apply(change);
-        }
+        self.apply(change);
         Outcome::Done(answer)
     }
 
     // Makes a change that the world allows, and counts what the history owes and the age.
-    fn apply(&mut self, change: Change)
-        requires allowed { IsAllowed (self.old.made + 1) self.old.world change }
-        requires in_range { IsChangeInRange change }
+    #[inline(never)]
+    fn apply(&mut self, change: &Change)
+        requires allowed { IsAllowed (self.old.made + 1) self.old.world change.now }
+        requires in_range { IsChangeInRange change.now }
         requires young { self.old.age < 2 ^ 47 }
-        ensures { self.new ≡ remembered_in self.old (changed self.old.world change) }
+        ensures { self.new ≡ remembered_in self.old (changed self.old.world change.now) }
     {
         self.live.is_reachable();
         self.owed = self.owed + price(change) - 1;
@@ -156,5 +161,19 @@ impl Engine {
         ensures { result ≡ self.now.age }
     {
         self.age
+    }
+}
+
+// What a refusal comes to, where the history has room for its entry.
+#[inline(always)]
+fn refuse(refusal: Refusal, room: u64) -> Outcome
+    requires { IsRefusalInRange refusal }
+    ensures outcome { result ≡ outcome_of_entry room (Answer.Refused refusal) 1 }
+    ensures in_range { IsOutcomeInRange result }
+{
+    if room < 1 {
+        Outcome::Full { room, cost: 1 }
+    } else {
+        Outcome::Done(Answer::Refused(refusal))
     }
 }

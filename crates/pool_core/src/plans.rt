@@ -1,68 +1,92 @@
 //! What each call comes to, and what a change costs.
 
+ghost use Rattle.pool_core.specs.Decided.{decided};
 ghost use Rattle.std.specs.Prelude.{◌≡◌, ◌+◌, ◌^◌, ◌<◌};
 ghost use Rattle.tp_model.specs.Support.Allowed.{price as price_of};
-ghost use Rattle.tp_model.specs.Support.Ranged.{IsWide};
 ghost use Rattle.tp_model.specs.Table.{plan_at};
 
-use crate::{clients, in_callback, objects, pools, waits, work, workers};
+use crate::decisions::Decision;
+use crate::{clients, in_callback, objects, pools, timers, waits, work, workers};
 use live_world::LiveWorld;
 use tp_base::calls::Call;
 use tp_base::ids::Who;
-use tp_base::plans::{Change, Plan};
+use tp_base::plans::Change;
 
 /// What a call comes to, where the history has room for so many entries. It changes nothing.
-pub(crate) fn plan(world: &LiveWorld, who: Who, call: Call, room: u64) -> Plan
+pub(crate) fn plan(
+    world: &LiveWorld,
+    who: Who,
+    call: Call,
+    room: u64,
+    change: &mut Change,
+) -> Decision
     requires { world.now.made < 2 ^ 63 }
-    ensures plan { result ≡ plan_at world.now.world (world.now.made + 1) room who call }
-    ensures wide { IsWide call }
+    ensures { decided result change.new ≡ plan_at world.now.world (world.now.made + 1) room who call }
 {
     match call {
-        Call::CreatePool => pools::create_pool(world, who),
-        Call::ClosePool { pool } => pools::close_pool(world, who, pool),
-        Call::SetMaximum { pool, value } => pools::set_maximum(world, who, pool, value),
-        Call::SetMinimum { pool, value } => pools::set_minimum(world, who, pool, value),
+        Call::CreatePool => pools::create_pool(world, who, change),
+        Call::ClosePool { pool } => pools::close_pool(world, who, pool, change),
+        Call::SetMaximum { pool, value } => pools::set_maximum(world, who, pool, value, change),
+        Call::SetMinimum { pool, value } => pools::set_minimum(world, who, pool, value, change),
         Call::Create {
             kind,
             routine,
             context,
             env,
-        } => objects::create(world, who, kind, routine, context, env),
-        Call::CloseObject { kind, object } => objects::close_object(world, who, kind, object),
+        } => objects::create(world, who, kind, routine, context, env, change),
+        Call::CloseObject { kind, object } => objects::close_object(
+            world, who, kind, object, change,
+        ),
         Call::SubmitSimple {
             routine,
             context,
             env,
-        } => work::submit_simple(world, who, routine, context, env),
-        Call::SubmitWork { object } => work::submit_work(world, who, object),
+        } => work::submit_simple(world, who, routine, context, env, change),
+        Call::SubmitWork { object } => work::submit_work(world, who, object, change),
+        Call::SetTimer {
+            object,
+            due,
+            period,
+            window,
+        } => timers::set_timer(world, who, object, due, period, window, change),
+        Call::SetTimerEx {
+            object,
+            due,
+            period,
+            window,
+        } => timers::set_timer_ex(world, who, object, due, period, window, change),
+        Call::IsTimerSet { object } => timers::is_timer_set(world, who, object, change),
+        Call::Advance { ticks } => timers::advance(world, who, ticks, change),
         Call::BeginWait {
             kind,
             object,
             cancel,
-        } => waits::begin_wait(world, who, kind, object, cancel),
-        Call::End => waits::end(world, who, room),
-        Call::Attach => workers::attach(world, who),
-        Call::Detach => workers::detach(world, who),
-        Call::Take => workers::take(world, who),
-        Call::Return => workers::return_callback(world, who),
-        Call::MayRunLong => in_callback::may_run_long(world, who),
-        Call::Disassociate => in_callback::disassociate(world, who),
-        Call::Finish => clients::finish(world, who),
+        } => waits::begin_wait(world, who, kind, object, cancel, change),
+        Call::End => waits::end(world, who, room, change),
+        Call::Attach => workers::attach(world, who, change),
+        Call::Detach => workers::detach(world, who, change),
+        Call::Take => workers::take(world, who, change),
+        Call::Return => workers::return_callback(world, who, change),
+        Call::MayRunLong => in_callback::may_run_long(world, who, change),
+        Call::Disassociate => in_callback::disassociate(world, who, change),
+        Call::Finish => clients::finish(world, who, change),
     }
 }
 
 /// The entries that a change costs: its own, and those that are owed more than before.
-pub(crate) fn price(change: Change) -> u64
-    ensures { result ≡ price_of change }
+pub(crate) fn price(change: &Change) -> u64
+    ensures { result ≡ price_of change.now }
 {
     match change {
         Change::Attach { .. } | Change::Take { .. } | Change::BeginWait { .. } => 2,
         Change::Detach(_) | Change::Return(_) | Change::EndWait { .. } | Change::Finish { .. } => 0,
-        Change::CreatePool
+        Change::Keep
+        | Change::CreatePool
         | Change::ChangePool { .. }
         | Change::CreateObject(_)
         | Change::ReleaseObject { .. }
         | Change::QueueCallback(_)
+        | Change::Fire { .. }
         | Change::Mark { .. } => 1,
     }
 }

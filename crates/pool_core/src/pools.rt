@@ -1,23 +1,25 @@
 //! Calls on pools: `CreateThreadpool`, `CloseThreadpool`, `SetThreadpoolThreadMaximum` and
 //! `SetThreadpoolThreadMinimum`.
 
+ghost use Rattle.pool_core.specs.Decided.{decided};
 ghost use Rattle.std.specs.Prelude.{◌≡◌};
 ghost use Rattle.tp_model.specs.Refusing.{first_refusal};
 ghost use Rattle.tp_model.specs.Calls.Pools.{pool_refusals, create_pool_plan, close_pool_plan, set_maximum_plan, set_minimum_plan};
 
+use crate::decisions::{Decision, accept};
 use crate::refusals::{either, first_of};
 use live_world::LiveWorld;
 use tp_base::answers::{Answer, Refusal};
 use tp_base::ids::{PoolId, Who};
-use tp_base::plans::{Change, Plan, PoolChange};
+use tp_base::plans::{Change, PoolChange};
 
 /// Makes a pool.
 #[tactic(auto, unfolding(tp_model::specs::Calls::Pools::create_pool_plan))]
-pub(crate) fn create_pool(world: &LiveWorld, who: Who) -> Plan
-    ensures { result ≡ create_pool_plan world.now.world who }
+pub(crate) fn create_pool(world: &LiveWorld, who: Who, change: &mut Change) -> Decision
+    ensures { decided result change.new ≡ create_pool_plan world.now.world who }
 {
     let actor = world.actor(who);
-    let refusal = first_of(&[
+    let refusal = first_of!([
         (!actor.exists, Refusal::NoSuch),
         (actor.finished, Refusal::Released),
         (actor.is_idle, Refusal::NotRunning),
@@ -25,14 +27,15 @@ pub(crate) fn create_pool(world: &LiveWorld, who: Who) -> Plan
         (world.lacks_pool(), Refusal::ObjectLimit),
     ]);
     if let Some(refusal) = refusal {
-        return Plan::Refused(refusal);
+        return Decision::Refused(refusal);
     }
-    Plan::Does {
-        answer: Answer::Made {
+    accept(
+        change,
+        Answer::Made {
             number: world.next_pool(),
         },
-        change: Change::CreatePool,
-    }
+        Change::CreatePool,
+    )
 }
 
 // A pool that is closed or the default pool can't be closed or changed.
@@ -40,7 +43,7 @@ fn pool_refusal(world: &LiveWorld, who: Who, pool: PoolId) -> Option<Refusal>
     ensures { result ≡ first_refusal (pool_refusals world.now.world who pool.0) }
 {
     let actor = world.actor(who);
-    first_of(&[
+    first_of!([
         (either(!actor.exists, !world.is_pool(pool)), Refusal::NoSuch),
         (actor.finished, Refusal::Released),
         (world.is_closed_pool(pool), Refusal::PoolClosed),
@@ -52,53 +55,68 @@ fn pool_refusal(world: &LiveWorld, who: Who, pool: PoolId) -> Option<Refusal>
 
 /// Closes a pool.
 #[tactic(auto, unfolding(tp_model::specs::Calls::Pools::close_pool_plan))]
-pub(crate) fn close_pool(world: &LiveWorld, who: Who, pool: PoolId) -> Plan
-    ensures { result ≡ close_pool_plan world.now.world who pool }
+pub(crate) fn close_pool(world: &LiveWorld, who: Who, pool: PoolId, change: &mut Change) -> Decision
+    ensures { decided result change.new ≡ close_pool_plan world.now.world who pool }
 {
     match pool_refusal(world, who, pool) {
-        Some(refusal) => Plan::Refused(refusal),
-        None => Plan::Does {
-            answer: Answer::Closed {
+        Some(refusal) => Decision::Refused(refusal),
+        None => accept(
+            change,
+            Answer::Closed {
                 later: world.is_used(pool),
             },
-            change: Change::ChangePool {
+            Change::ChangePool {
                 pool,
                 how: PoolChange::Close,
             },
-        },
+        ),
     }
 }
 
 /// Sets how many callbacks of a pool may run at once.
 #[tactic(auto, unfolding(tp_model::specs::Calls::Pools::set_maximum_plan))]
-pub(crate) fn set_maximum(world: &LiveWorld, who: Who, pool: PoolId, value: u32) -> Plan
-    ensures { result ≡ set_maximum_plan world.now.world who pool value }
+pub(crate) fn set_maximum(
+    world: &LiveWorld,
+    who: Who,
+    pool: PoolId,
+    value: u32,
+    change: &mut Change,
+) -> Decision
+    ensures { decided result change.new ≡ set_maximum_plan world.now.world who pool value }
 {
     match pool_refusal(world, who, pool) {
-        Some(refusal) => Plan::Refused(refusal),
-        None => Plan::Does {
-            answer: Answer::Done,
-            change: Change::ChangePool {
+        Some(refusal) => Decision::Refused(refusal),
+        None => accept(
+            change,
+            Answer::Done,
+            Change::ChangePool {
                 pool,
                 how: PoolChange::Maximum(value),
             },
-        },
+        ),
     }
 }
 
 /// Sets how many workers a pool keeps.
 #[tactic(auto, unfolding(tp_model::specs::Calls::Pools::set_minimum_plan))]
-pub(crate) fn set_minimum(world: &LiveWorld, who: Who, pool: PoolId, value: u32) -> Plan
-    ensures { result ≡ set_minimum_plan world.now.world who pool value }
+pub(crate) fn set_minimum(
+    world: &LiveWorld,
+    who: Who,
+    pool: PoolId,
+    value: u32,
+    change: &mut Change,
+) -> Decision
+    ensures { decided result change.new ≡ set_minimum_plan world.now.world who pool value }
 {
     match pool_refusal(world, who, pool) {
-        Some(refusal) => Plan::Refused(refusal),
-        None => Plan::Does {
-            answer: Answer::Done,
-            change: Change::ChangePool {
+        Some(refusal) => Decision::Refused(refusal),
+        None => accept(
+            change,
+            Answer::Done,
+            Change::ChangePool {
                 pool,
                 how: PoolChange::Minimum(value),
             },
-        },
+        ),
     }
 }

@@ -5,17 +5,47 @@ ghost use Rattle.tp_model.specs.Refusing.{first_refusal};
 
 use tp_base::answers::Refusal;
 
-/// The refusal of the first condition that holds.
-pub(crate) fn first_of(conditions: &[(bool, Refusal)]) -> Option<Refusal>
-    ensures { result ≡ first_refusal conditions.now }
-{
-    for &(holds, refusal) in conditions {
-        if holds {
-            return Some(refusal);
-        }
-    }
-    None
+// The refusal of the first condition that holds. Conditions behind it are not asked.
+macro_rules! first_of {
+    ([$(($holds:expr, $refusal:expr $(,)?)),+ $(,)?]) => {
+        $(if $holds { Some($refusal) } else)+ { None }
+    };
 }
+
+// The same of a call on an object of a kind, whose own conditions follow those that all such calls share.
+macro_rules! object_refusal {
+    ($world:ident, $who:ident, $kind:expr, $object:ident, [$($own:tt),* $(,)?]) => {{
+        let actor = $world.actor($who);
+        first_of!([
+            (either(!actor.exists, !$world.is_object($object)), Refusal::NoSuch),
+            (!$world.is_object_of($kind, $object), Refusal::WrongKind),
+            (either(actor.finished, $world.is_released($object)), Refusal::Released),
+            (actor.is_idle, Refusal::NotRunning),
+            (actor.in_wait, Refusal::InWait),
+            $($own),*
+        ])
+    }};
+}
+
+// And of a call with an environment.
+macro_rules! environ_refusal {
+    ($world:ident, $who:ident, $env:ident, [$($own:tt),* $(,)?]) => {{
+        let actor = $world.actor($who);
+        let lacks_pool = !$world.is_pool($env.pool);
+        let lacks_group = !$world.is_no_group_or_group($env.group);
+        first_of!([
+            (either(either(!actor.exists, lacks_pool), lacks_group), Refusal::NoSuch),
+            (actor.finished, Refusal::Released),
+            ($world.is_closed_pool($env.pool), Refusal::PoolClosed),
+            ($world.is_closed_group($env.group), Refusal::GroupClosed),
+            (actor.is_idle, Refusal::NotRunning),
+            (actor.in_wait, Refusal::InWait),
+            $($own),*
+        ])
+    }};
+}
+
+pub(crate) use {environ_refusal, first_of, object_refusal};
 
 /// Whether one of two conditions holds.
 pub(crate) fn either(first: bool, second: bool) -> bool

@@ -1,17 +1,19 @@
 //! Waits for callbacks: `WaitForThreadpoolWorkCallbacks` and its like for the other kinds. BeginWait is
 //! the entry of the function, and End its return.
 
+ghost use Rattle.pool_core.specs.Decided.{decided};
 ghost use Rattle.std.specs.Prelude.{◌≡◌};
 ghost use Rattle.tp_model.specs.Calls.Waits.{begin_wait_plan, end_plan};
 ghost use Rattle.pool_core.specs.Ending.{end_at as end_at_of};
 
-use crate::refusals::{either, first_of};
+use crate::decisions::{Decision, accept};
+use crate::refusals::{either, first_of, object_refusal};
 use live_world::LiveWorld;
 use live_world::waits::Progress;
 use tp_base::answers::{Answer, Look, Refusal};
 use tp_base::calls::Kind;
 use tp_base::ids::{ObjectId, Who};
-use tp_base::plans::{Change, Plan, WaitEnd};
+use tp_base::plans::{Change, WaitEnd};
 use tp_base::rows::WaitTarget;
 
 /// Begins a wait for the callbacks of an object, those that are pending cancelled or not.
@@ -22,80 +24,76 @@ pub(crate) fn begin_wait(
     kind: Kind,
     object: ObjectId,
     cancel: bool,
-) -> Plan
-    ensures { result ≡ begin_wait_plan world.now.world who kind object cancel }
+    change: &mut Change,
+) -> Decision
+    ensures { decided result change.new ≡ begin_wait_plan world.now.world who kind object cancel }
 {
-    let actor = world.actor(who);
-    let refusal = first_of(&[
-        (
-            either(!actor.exists, !world.is_object(object)),
-            Refusal::NoSuch,
-        ),
-        (!world.is_object_of(kind, object), Refusal::WrongKind),
-        (
-            either(actor.finished, world.is_released(object)),
-            Refusal::Released,
-        ),
-        (actor.is_idle, Refusal::NotRunning),
-        (actor.in_wait, Refusal::InWait),
-        (world.runs_own(who, object), Refusal::OwnCallback),
-    ]);
+    let refusal = object_refusal!(
+        world,
+        who,
+        kind,
+        object,
+        [(world.runs_own(who, object), Refusal::OwnCallback)]
+    );
     if let Some(refusal) = refusal {
-        return Plan::Refused(refusal);
+        return Decision::Refused(refusal);
     }
     let counts = world.wait_counts(object, cancel);
-    Plan::Does {
-        answer: Answer::Begun {
+    accept(
+        change,
+        Answer::Begun {
             covered: counts.covered,
             cancelled: counts.cancelled,
         },
-        change: Change::BeginWait {
+        Change::BeginWait {
             who,
             target: WaitTarget::Object(object),
             cancel,
         },
-    }
+    )
 }
 
 // What End comes to, as far as the actor's wait has come.
-fn end_at(who: Who, progress: Progress) -> Plan
-    ensures { result ≡ end_at_of who progress }
+fn end_at(who: Who, progress: Progress, change: &mut Change) -> Decision
+    ensures { decided result change.new ≡ end_at_of who progress }
 {
     match progress {
-        Progress::NotBegun => Plan::Refused(Refusal::NoWaitBegun),
-        Progress::Free => Plan::Does {
-            answer: Answer::Ended,
-            change: Change::EndWait {
+        Progress::NotBegun => Decision::Refused(Refusal::NoWaitBegun),
+        Progress::Free => accept(
+            change,
+            Answer::Ended,
+            Change::EndWait {
                 who,
                 how: WaitEnd::Free,
             },
-        },
-        Progress::Starved => Plan::Does {
-            answer: Answer::Exhausted,
-            change: Change::EndWait {
+        ),
+        Progress::Starved => accept(
+            change,
+            Answer::Exhausted,
+            Change::EndWait {
                 who,
                 how: WaitEnd::Exhausted,
             },
-        },
-        Progress::Holds { callback } => Plan::Looked(Look::NotYet { callback }),
+        ),
+        Progress::Holds { callback } => Decision::Looked(Look::NotYet { callback }),
     }
 }
 
 /// Ends the wait that the actor has begun, if nothing is left to wait for, or if what is left can't
 /// be run in the room of the history.
 #[tactic(auto, using(crate::proofs::Ending::ends_at), unfolding(tp_model::specs::Calls::Waits::end_plan))]
-pub(crate) fn end(world: &LiveWorld, who: Who, room: u64) -> Plan
-    ensures { result ≡ end_plan world.now.world room who }
+pub(crate) fn end(world: &LiveWorld, who: Who, room: u64, change: &mut Change) -> Decision
+    ensures { decided result change.new ≡ end_plan world.now.world room who }
 {
     let actor = world.actor(who);
-    let refusal = first_of(&[
+    let refusal = first_of!([
         (!actor.exists, Refusal::NoSuch),
         (actor.finished, Refusal::Released),
         (actor.is_idle, Refusal::NotRunning),
         (world.has_no_wait(who), Refusal::NoWaitBegun),
     ]);
     if let Some(refusal) = refusal {
-        return Plan::Refused(refusal);
+        return Decision::Refused(refusal);
     }
-    end_at(who, world.progress(who, room))
+    end_at(who, world.progress(who, room), change)
 }

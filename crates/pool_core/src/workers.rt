@@ -1,23 +1,25 @@
 //! Calls of workers: they join a pool that needs one, take its callbacks, return from them, and
 //! leave.
 
+ghost use Rattle.pool_core.specs.Decided.{decided};
 ghost use Rattle.std.specs.Prelude.{◌≡◌};
 ghost use Rattle.tp_model.specs.Refusing.{first_refusal};
 ghost use Rattle.tp_model.specs.Calls.Workers.{idle_refusals, attach_plan, detach_plan, take_plan, return_plan};
 
+use crate::decisions::{Decision, accept};
 use crate::refusals::first_of;
 use live_world::LiveWorld;
 use tp_base::answers::{Answer, Look, Refusal, SlotWord};
 use tp_base::ids::{PoolId, Who};
-use tp_base::plans::{Change, Plan};
+use tp_base::plans::Change;
 
 /// A worker joins a pool that needs one.
 #[tactic(auto, unfolding(tp_model::specs::Calls::Workers::attach_plan))]
-pub(crate) fn attach(world: &LiveWorld, who: Who) -> Plan
-    ensures { result ≡ attach_plan world.now.world who }
+pub(crate) fn attach(world: &LiveWorld, who: Who, change: &mut Change) -> Decision
+    ensures { decided result change.new ≡ attach_plan world.now.world who }
 {
     let actor = world.actor(who);
-    let refusal = first_of(&[
+    let refusal = first_of!([
         (!actor.exists, Refusal::NoSuch),
         (actor.finished, Refusal::Released),
         (!actor.is_worker, Refusal::NotWorker),
@@ -25,17 +27,18 @@ pub(crate) fn attach(world: &LiveWorld, who: Who) -> Plan
         (actor.is_attached, Refusal::AlreadyAttached),
     ]);
     if let Some(refusal) = refusal {
-        return Plan::Refused(refusal);
+        return Decision::Refused(refusal);
     }
     match (who, world.pool_to_join()) {
-        (Who::Worker(worker), Some(pool)) => Plan::Does {
-            answer: Answer::Attached { pool: PoolId(pool) },
-            change: Change::Attach {
+        (Who::Worker(worker), Some(pool)) => accept(
+            change,
+            Answer::Attached { pool: PoolId(pool) },
+            Change::Attach {
                 worker,
                 pool: PoolId(pool),
             },
-        },
-        _ => Plan::Looked(Look::NoNeed),
+        ),
+        _ => Decision::Looked(Look::NoNeed),
     }
 }
 
@@ -44,7 +47,7 @@ fn idle_refusal(world: &LiveWorld, who: Who) -> Option<Refusal>
     ensures { result ≡ first_refusal (idle_refusals world.now.world who) }
 {
     let actor = world.actor(who);
-    first_of(&[
+    first_of!([
         (!actor.exists, Refusal::NoSuch),
         (actor.finished, Refusal::Released),
         (!actor.is_worker, Refusal::NotWorker),
@@ -55,61 +58,59 @@ fn idle_refusal(world: &LiveWorld, who: Who) -> Option<Refusal>
 
 /// A worker leaves its pool.
 #[tactic(auto, unfolding(tp_model::specs::Calls::Workers::detach_plan))]
-pub(crate) fn detach(world: &LiveWorld, who: Who) -> Plan
-    ensures { result ≡ detach_plan world.now.world who }
+pub(crate) fn detach(world: &LiveWorld, who: Who, change: &mut Change) -> Decision
+    ensures { decided result change.new ≡ detach_plan world.now.world who }
 {
     if let Some(refusal) = idle_refusal(world, who) {
-        return Plan::Refused(refusal);
+        return Decision::Refused(refusal);
     }
     let Some(by) = world.idle(who) else {
-        return Plan::Refused(Refusal::NotAttached);
+        return Decision::Refused(Refusal::NotAttached);
     };
     if !world.may_leave(by.pool) {
-        return Plan::Looked(Look::Stay);
+        return Decision::Looked(Look::Stay);
     }
-    Plan::Does {
-        answer: Answer::Done,
-        change: Change::Detach(by),
-    }
+    accept(change, Answer::Done, Change::Detach(by))
 }
 
 /// A worker begins the next callback of its pool.
 #[tactic(auto, unfolding(tp_model::specs::Calls::Workers::take_plan))]
-pub(crate) fn take(world: &LiveWorld, who: Who) -> Plan
-    ensures { result ≡ take_plan world.now.world who }
+pub(crate) fn take(world: &LiveWorld, who: Who, change: &mut Change) -> Decision
+    ensures { decided result change.new ≡ take_plan world.now.world who }
 {
     if let Some(refusal) = idle_refusal(world, who) {
-        return Plan::Refused(refusal);
+        return Decision::Refused(refusal);
     }
     let Some(by) = world.idle(who) else {
-        return Plan::Refused(Refusal::NotAttached);
+        return Decision::Refused(Refusal::NotAttached);
     };
     let Some(callback) = world.next(by.pool) else {
-        return Plan::Looked(Look::Empty);
+        return Decision::Looked(Look::Empty);
     };
     let running = world.running(by.pool);
     if world.maximum(by.pool) <= running {
-        return Plan::Looked(Look::AtMaximum { running });
+        return Decision::Looked(Look::AtMaximum { running });
     }
-    Plan::Does {
-        answer: Answer::Taken {
+    accept(
+        change,
+        Answer::Taken {
             callback: callback.number,
             object: callback.object,
             routine: callback.routine,
             context: callback.context,
             result: callback.result,
         },
-        change: Change::Take { by, callback },
-    }
+        Change::Take { by, callback },
+    )
 }
 
 /// A worker's callback returns.
 #[tactic(auto, unfolding(tp_model::specs::Calls::Workers::return_plan))]
-pub(crate) fn return_callback(world: &LiveWorld, who: Who) -> Plan
-    ensures { result ≡ return_plan world.now.world who }
+pub(crate) fn return_callback(world: &LiveWorld, who: Who, change: &mut Change) -> Decision
+    ensures { decided result change.new ≡ return_plan world.now.world who }
 {
     let actor = world.actor(who);
-    let refusal = first_of(&[
+    let refusal = first_of!([
         (!actor.exists, Refusal::NoSuch),
         (actor.finished, Refusal::Released),
         (!actor.is_worker, Refusal::NotWorker),
@@ -117,13 +118,14 @@ pub(crate) fn return_callback(world: &LiveWorld, who: Who) -> Plan
         (actor.in_wait, Refusal::InWait),
     ]);
     if let Some(refusal) = refusal {
-        return Plan::Refused(refusal);
+        return Decision::Refused(refusal);
     }
     let Some(by) = world.busy(who) else {
-        return Plan::Refused(Refusal::NotRunning);
+        return Decision::Refused(Refusal::NotRunning);
     };
-    Plan::Does {
-        answer: Answer::Returned {
+    accept(
+        change,
+        Answer::Returned {
             section: SlotWord::Unasked,
             mutex: SlotWord::Unasked,
             semaphore: SlotWord::Unasked,
@@ -131,6 +133,6 @@ pub(crate) fn return_callback(world: &LiveWorld, who: Who) -> Plan
             first: 0,
             count: 0,
         },
-        change: Change::Return(by),
-    }
+        Change::Return(by),
+    )
 }

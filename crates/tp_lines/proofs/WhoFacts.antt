@@ -1,9 +1,10 @@
 -- Actors, and the lines of calls.
-use Rattle.std.proofs.Common.{◌≡◌, ℕ, ◌+◌, List, [], ◌∷◌, ◌++◌, drop, refl, sym, ap, ◌∙◌, subst, arith, inl, inr, Bool, true, false}
+use Rattle.std.proofs.Common.{◌≡◌, ℕ, ◌+◌, List, [], ◌∷◌, ◌++◌, length, take, drop, refl, sym, ap, ◌∙◌, subst, arith, inl, inr, Bool, true, false}
 use Rattle.std.specs.Prelude.{Result, Ok, Err, decimal, nat_lt, if◌then◌else◌}
 use Rattle.std.proofs.lemmas.Bool.{ltb-true, ltb-false}
-use Rattle.std.proofs.lemmas.List.{append-nil}
-use Rattle.line_grammar.specs.Language.{AnyOf, IsRead, IsReadTo, IsStuck}
+use Rattle.std.proofs.lemmas.List.{append-nil, length-drop}
+use Rattle.std.proofs.Math.Seq.{take-add}
+use Rattle.line_grammar.specs.Language.{AnyOf, IsFront, IsRead, IsReadTo, IsStuck}
 use Rattle.line_grammar.specs.Numbers.{Numbers}
 use Rattle.line_grammar.specs.Parts.{Led, IsPair, Pairs, IsPart}
 use Rattle.line_grammar.specs.Words.{Either, further_of}
@@ -163,6 +164,19 @@ pub line_read : (text : List ℕ) (who : Who) (n : ℕ) → IsReadTo WhoTexts te
 line_read text who n first rest e c m read =
     read_same (Pairs WhoTexts (λ w. CallTexts)) CallLines lines_to lines_back text (Ok ((who, c), n + m))
     (pairs_read 32 WhoTexts (λ w. CallTexts) who_part (λ w. calls_tail) text who n first c m (subst (λ l. IsReadTo CallTexts l c m) e read))
+
+pub line_front : (text : List ℕ) (who : Who) (n : ℕ) → IsReadTo WhoTexts text who n → (rest : List ℕ) → rest ≡ drop n text
+    → (c : Call) (m : ℕ) → IsFront CallTexts rest c m → IsFront CallLines text (who, c) (n + m)
+line_front text who n first rest e c m front = record {
+  within = omega (arith, first.within, front.within, ap length e, length-drop n text);
+  text_of = line_to who c (take (n + m) text) (record {
+    front = take n text;
+    back = take m (drop n text);
+    split = take-add n m text;
+    first = first.text_of;
+    second = subst (λ l. CallTexts c (take m l)) e front.text_of;
+  });
+}
 
 pub lines_part : IsPart 32 CallLines
 lines_part = part_renamed 32 (Pairs WhoTexts (λ w. CallTexts)) CallLines (λ p. p) (λ p t a. (p, lines_back p t a, refl))

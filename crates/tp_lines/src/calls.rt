@@ -101,8 +101,8 @@ fn environ_at(parts: &Parts, index: usize) -> Environ
     }
 }
 
-// Reads a call with the space before it.
-fn read_call(text: &[u8]) -> Result<(Call, usize), usize>
+/// Reads a call with the space before it.
+pub(crate) fn read_call(text: &[u8]) -> Result<(Call, usize), usize>
     ensures { IsRead CallTexts text.now result }
 {
     let mut parts = Parts::new();
@@ -115,8 +115,8 @@ fn read_call(text: &[u8]) -> Result<(Call, usize), usize>
     }
 }
 
-// Reads an actor.
-fn read_who(text: &[u8]) -> Result<(Who, usize), usize>
+/// Reads an actor.
+pub(crate) fn read_who(text: &[u8]) -> Result<(Who, usize), usize>
     ensures { IsRead WhoTexts text.now result }
 {
     match behind(b'w', text) {

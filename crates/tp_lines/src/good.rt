@@ -8,8 +8,8 @@ ghost use Rattle.line_grammar.specs.Traces.{IsAhead};
 ghost use Rattle.tp_lines.specs.Answers.{EntryLines};
 ghost use Rattle.tp_lines.specs.Calls.{CallLines};
 
-use crate::calls::read_call_line;
 use crate::entries::read_entry;
+use crate::fronts::front_line;
 use line_grammar::words::behind;
 use tp_base::answers::Entry;
 use tp_base::calls::Call;
@@ -17,10 +17,11 @@ use tp_base::ids::Who;
 
 /// Reads the line of a call that the text begins with, and tells how many bytes it has, its line feed
 /// included. `None` says nothing of the text. No memory is taken.
+#[inline(always)]
 pub fn read_good_call(text: &[u8]) -> Option<((Who, Call), usize)>
     ensures { IfSome result (λ read. IsAhead CallLines text.now read.0 read.1) }
 {
-    let Ok((line, size)) = read_call_line(text) else {
+    let Some((line, size)) = front_line(text) else {
         return None;
     };
     let (_, rest) = text.split_at(size);

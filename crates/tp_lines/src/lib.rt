@@ -25,6 +25,7 @@ pub mod calls;
 #[cfg(test)]
 mod columns;
 pub mod entries;
+mod fronts;
 pub mod good;
 mod line;
 pub mod parse;

@@ -51,8 +51,10 @@ impl Line {
         requires { length self.old + 1 ≤ 256 }
         ensures { self.new ≡ byte ∷ self.old }
     {
-        self.start -= 1;
-        self.bytes[self.start] = byte;
+        // The place is kept last, so that the next byte needs no load of it.
+        let start = self.start - 1;
+        self.bytes[start] = byte;
+        self.start = start;
     }
 
     /// Puts a text before the others.

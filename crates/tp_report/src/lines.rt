@@ -52,6 +52,7 @@ pub fn read_header_line(text: &[u8]) -> Result<(Header, usize), usize>
 }
 
 /// Reads the line of a call.
+#[inline(always)]
 pub fn read_call(text: &[u8]) -> Result<((Who, Call), usize), usize>
     ensures { IsRead (Ended CallLines) text.now result }
 {

@@ -77,8 +77,7 @@ fn play(alloc: Global, bytes: &[u8], clients: u32) -> Result<Played, TextFault>
         match read_call(rest) {
             Err(place) => return Err(fault_behind(lines, place)),
             Ok(((who, call), size)) => {
-                let outcome = book.step(who, call);
-                print_line(&outcome, &mut text)?;
+                print_line(&book.step(who, call), &mut text)?;
                 greatest = greater_client(greatest, who);
                 lines += 1;
                 (_, rest) = rest.split_at(size);

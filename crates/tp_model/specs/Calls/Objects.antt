@@ -1,5 +1,5 @@
 -- Calls on objects of all kinds: CreateThreadpoolWork and CloseThreadpoolWork, and their like for the other kinds.
-use Rattle.std.specs.Prelude.{ℕ, ◌+◌, Bool, not, ◌||◌, nat_le, nat_lt, List, [], ◌∷◌, length}
+use Rattle.std.specs.Prelude.{ℕ, ◌+◌, Bool, not, ◌||◌, nat_le, nat_lt, List, [], ◌∷◌, ◌++◌, length}
 use Rattle.tp_base.specs.declared.ids.Who.{Who}
 use Rattle.tp_base.specs.declared.ids.ObjectId.{ObjectId}
 use Rattle.tp_base.specs.declared.ids.RoutineId.{RoutineId}
@@ -16,20 +16,12 @@ use Rattle.tp_model.specs.World.{World}
 use Rattle.tp_model.specs.Conditions.{is_actor, is_finished, is_without_callback, is_in_wait, is_pool, is_closed_pool, is_no_group_or_group, is_closed_group}
 use Rattle.tp_model.specs.Waits.{count_outstanding}
 use Rattle.tp_model.specs.Sources.{new_object}
-use Rattle.tp_model.specs.Refusing.{first_refusal, unless_refused, object_refusals}
+use Rattle.tp_model.specs.Refusing.{first_refusal, unless_refused, object_refusals, environ_refusals}
 
 -- ---- Create: CreateThreadpoolWork and its like
 
 abbrev pub create_refusals : World → Who → Environ → List (Bool × Refusal)
-create_refusals w who env =
-    (not (is_actor w who) || not (is_pool w env.pool.0) || not (is_no_group_or_group w env.group.0), NoSuch)
-    ∷ (is_finished w who, Released)
-    ∷ (is_closed_pool w env.pool.0, PoolClosed)
-    ∷ (is_closed_group w env.group.0, GroupClosed)
-    ∷ (is_without_callback w who, NotRunning)
-    ∷ (is_in_wait w who, InWait)
-    ∷ (nat_le w.limits.objects (length w.objects), ObjectLimit)
-    ∷ []
+create_refusals w who env = environ_refusals w who env ++ (nat_le w.limits.objects (length w.objects), ObjectLimit) ∷ []
 
 unfoldable pub create_plan : World → Who → Kind → RoutineId → ℕ → Environ → Plan
 create_plan w who kind routine context env =

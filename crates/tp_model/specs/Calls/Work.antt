@@ -18,7 +18,7 @@ use Rattle.tp_model.specs.World.{World}
 use Rattle.tp_model.specs.Counts.{numbered}
 use Rattle.tp_model.specs.Conditions.{is_actor, is_finished, is_without_callback, is_in_wait, is_pool, is_closed_pool, is_no_group_or_group, is_closed_group, lacks_slots_for}
 use Rattle.tp_model.specs.Sources.{new_object, new_callback}
-use Rattle.tp_model.specs.Refusing.{first_refusal, unless_refused, object_refusals}
+use Rattle.tp_model.specs.Refusing.{first_refusal, unless_refused, object_refusals, environ_refusals}
 
 -- ---- SubmitWork: SubmitThreadpoolWork
 
@@ -37,15 +37,7 @@ submit_work_plan w fresh who object =
 -- ---- SubmitSimple: TrySubmitThreadpoolCallback
 
 abbrev pub submit_simple_refusals : World → Who → Environ → List (Bool × Refusal)
-submit_simple_refusals w who env =
-    (not (is_actor w who) || not (is_pool w env.pool.0) || not (is_no_group_or_group w env.group.0), NoSuch)
-    ∷ (is_finished w who, Released)
-    ∷ (is_closed_pool w env.pool.0, PoolClosed)
-    ∷ (is_closed_group w env.group.0, GroupClosed)
-    ∷ (is_without_callback w who, NotRunning)
-    ∷ (is_in_wait w who, InWait)
-    ∷ (lacks_slots_for w 1, CallbackLimit)
-    ∷ []
+submit_simple_refusals w who env = environ_refusals w who env ++ (lacks_slots_for w 1, CallbackLimit) ∷ []
 
 -- a callback without an object
 abbrev pub simple_callback : ℕ → RoutineId → ℕ → Environ → CallbackRow

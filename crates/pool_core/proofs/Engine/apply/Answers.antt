@@ -1,18 +1,19 @@
-use Rattle.std.proofs.Common.{◌≡◌, ◌+◌, sym, ap, ◌∙◌, subst, arith}
+use Rattle.std.proofs.Common.{◌≡◌, ◌+◌, ◌-◌, length, sym, ap, ◌∙◌, subst, arith}
 use Rattle.tp_base.specs.declared.plans.Change.{Change}
 use Rattle.tp_model.specs.Counts.{owed}
 use Rattle.tp_model.specs.Changes.{changed}
-use Rattle.tp_model.specs.Support.Allowed.{IsAllowed, price}
+use Rattle.tp_model.specs.Support.Allowed.{IsAllowed, price, news}
 use Rattle.tp_model.specs.Support.Ranged.{AreRowsInRange}
 use Rattle.tp_model.specs.Support.Sound.{IsSound}
-use Rattle.tp_model.specs.Support.Remembered.{Remembered, forget}
+use Rattle.tp_model.specs.Support.Remembered.{Remembered, forget, remembered_in}
 use Rattle.tp_model.proofs.Costs.{paid}
+use Rattle.tp_model.proofs.Growing.{grows}
 use Rattle.tp_model.proofs.Forgetting.{owed_forget}
 use Rattle.tp_model.proofs.Ranging.{changed_rows, forget_rows}
 use Rattle.live_world.specs.Live.{Live}
 use Rattle.pool_core.specs.View.{remembered, IsEngine}
 use Rattle.pool_core.specs.declared.Engine.TheInside.{Inside}
-use Rattle.pool_core.proofs.Counting.{news_most, price_most}
+use Rattle.pool_core.proofs.Counting.{few}
 use Rattle.pool_core.proofs.Engine.apply.Goals as goal
 
 allowed_here : (i : Inside) (e : Remembered) (ch : Change) → remembered i ≡ e → IsAllowed (e.made + 1) e.world ch → IsAllowed (i.live.made + 1) i.live.world ch
@@ -25,19 +26,31 @@ pays i e ch same sound allowed k =
 
 pub overflow_sub-self : goal.overflow_sub-self
 overflow_sub-self c =
-    omega (arith, pays c.self.inside c.args.self.now c.args.change c.self.view_is c.is_reachable.ensures.sound c.requires.allowed c.self.invariant, c.price.ensures)
+    omega (arith, pays c.self.inside c.args.self.now c.args.change.now c.self.view_is c.is_reachable.ensures.sound c.requires.allowed c.self.invariant, c.price.ensures)
 
 pub invariant_of-self : goal.invariant_of-self
 invariant_of-self c =
     let i = c.self.inside in
-    let ch = c.args.change in
+    let ch = c.args.change.now in
     let paid_for = pays i c.args.self.now ch c.self.view_is c.is_reachable.ensures.sound c.requires.allowed c.self.invariant in
     let world_now : c.apply.new.self.world ≡ forget (changed i.live.world ch) = ap (λ (l : Live). l.world) c.apply.ensures in
     let owed_now : owed c.apply.new.self.world ≡ owed (changed i.live.world ch) = ap owed world_now ∙ owed_forget (changed i.live.world ch) in
+    let few_here = few (i.live.made + 1) i.live.world ch c.is_reachable.ensures.bounded.limits.slots_most (allowed_here i c.args.self.now ch c.self.view_is c.requires.allowed) in
     record {
       owes = omega (arith, paid_for, c.price.ensures, owed_now);
-      few_made = omega (arith, ap (λ (l : Live). l.made) c.apply.ensures, news_most ch, c.self.invariant.few_made);
-      few_owed = omega (arith, c.price.ensures, price_most ch, c.self.invariant.few_owed);
+      few_made = omega (arith, ap (λ (l : Live). l.made) c.apply.ensures, few_here.made, c.self.invariant.few_made);
+      few_owed = omega (arith, c.price.ensures, few_here.cost, c.self.invariant.few_owed);
       rows = subst AreRowsInRange (sym world_now) (forget_rows (changed i.live.world ch)
-          (changed_rows (i.live.made + 1) i.live.world ch (allowed_here i c.args.self.now ch c.self.view_is c.requires.allowed) c.requires.in_range c.self.invariant.rows));
+          (changed_rows (i.live.made + 1) i.live.world ch c.is_reachable.ensures.sound (allowed_here i c.args.self.now ch c.self.view_is c.requires.allowed) c.requires.in_range c.self.invariant.rows));
     }
+
+pub returns : goal.returns
+returns c =
+    let i = c.self.inside in
+    let ch = c.args.change.now in
+    let after = changed i.live.world ch in
+    let more = grows (i.live.made + 1) i.live.world ch (allowed_here i c.args.self.now ch c.self.view_is c.requires.allowed) in
+    let counted : news ch ≡ length after.callbacks - length i.live.world.callbacks = omega (arith, more) in
+    ap (λ (l : Live). record { world = l.world; made = l.made; age = i.age + 1 }) c.apply.ensures
+    ∙ ap (λ n. record { world = forget after; made = i.live.made + n; age = i.age + 1 }) counted
+    ∙ ap (λ (r : Remembered). remembered_in r (changed r.world ch)) c.self.view_is

@@ -1,81 +1,83 @@
-use Rattle.std.proofs.Common.{◌≡◌, ℕ, ◌+◌, ◌<◌, ◌^◌, sym, ap, ◌∙◌, subst, arith}
+use Rattle.std.proofs.Common.{◌≡◌, ℕ, ◌+◌, ◌<◌, ◌≤◌, ◌^◌, sym, ap, ◌∙◌, subst, arith}
 use Rattle.tp_base.specs.declared.ids.Who.{Who}
 use Rattle.tp_base.specs.declared.calls.Call.{Call}
-use Rattle.tp_base.specs.declared.plans.Plan.{Plan}
+use Rattle.tp_base.specs.declared.plans.Change.{Change}
 use Rattle.tp_base.specs.Ranges.{IsCallInRange}
 use Rattle.std.proofs.lemmas.List.Sums.{length-filter, count_by-le-length}
 use Rattle.tp_base.specs.declared.rows.CallbackRow.{CallbackRow}
 use Rattle.tp_model.specs.Counts.{is_live}
 use Rattle.tp_model.specs.Table.{plan_at}
-use Rattle.tp_model.specs.Support.Ranged.{IsWide, IsPlanInRange}
+use Rattle.tp_model.specs.Support.Ranged.{IsPlanInRange}
 use Rattle.tp_model.specs.Support.Sound.{IsSound}
 use Rattle.tp_model.specs.Support.Remembered.{Remembered}
 use Rattle.tp_model.proofs.Steps.{plan_allowed}
 use Rattle.tp_model.proofs.Calls.{plan_ranged}
 use Rattle.live_world.specs.Bounds.{IsBounded}
+use Rattle.pool_core.specs.Decided.{decided}
+use Rattle.pool_core.specs.declared.decisions.Decision.{Decision}
 use Rattle.pool_core.specs.View.{remembered, IsEngine}
 use Rattle.pool_core.specs.declared.Engine.TheInside.{Inside}
 use Rattle.pool_core.proofs.Stepping.{meets_looked, meets_refused, meets_done}
 use Rattle.pool_core.proofs.Engine.step.Goals as goal
 
 -- the plan is that of what the engine remembers
-planned : (i : Inside) (e : Remembered) (room : ℕ) (who : Who) (call : Call) (plan is : Plan) → remembered i ≡ e → plan ≡ plan_at i.live.world (i.live.made + 1) room who call → plan ≡ is → plan_at e.world (e.made + 1) room who call ≡ is
-planned i e room who call plan is same made found = ap (λ (r : Remembered). plan_at r.world (r.made + 1) room who call) (sym same) ∙ sym made ∙ found
+planned : (i : Inside) (e : Remembered) (room : ℕ) (who : Who) (call : Call) (change : Change) (decision is : Decision) → remembered i ≡ e → decided decision change ≡ plan_at i.live.world (i.live.made + 1) room who call → decision ≡ is → plan_at e.world (e.made + 1) room who call ≡ decided is change
+planned i e room who call change decision is same made found = ap (λ (r : Remembered). plan_at r.world (r.made + 1) room who call) (sym same) ∙ sym made ∙ ap (λ d. decided d change) found
 
 -- which can be reached
 sound : (i : Inside) (e : Remembered) → remembered i ≡ e → IsSound (i.live.made + 1) i.live.world → IsSound (e.made + 1) e.world
 sound i e same s = subst (λ (r : Remembered). IsSound (r.made + 1) r.world) same s
 
-pub enter-requires-in-Does-clause-allowed : goal.enter-requires-in-Does-clause-allowed
-enter-requires-in-Does-clause-allowed c =
+pub enter-requires-clause-allowed : goal.enter-requires-clause-allowed
+enter-requires-clause-allowed c =
     let e = c.args.self.now in
-    (plan_allowed (e.made + 1) c.args.room e.world c.args.who c.args.call c.in-Does.answer c.in-Does.change (sound c.self.inside e c.self.view_is c.is_reachable.ensures.sound)
-    (planned c.self.inside e c.args.room c.args.who c.args.call c.plan.result _ c.self.view_is c.plan.ensures.plan c.in-Does.is)).allowed
+    (plan_allowed (e.made + 1) c.args.room e.world c.args.who c.args.call c.in-Accepted.answer c.plan.new.change (sound c.self.inside e c.self.view_is c.is_reachable.ensures.sound)
+    (planned c.self.inside e c.args.room c.args.who c.args.call c.plan.new.change c.plan.result _ c.self.view_is c.plan.ensures c.in-Accepted.is)).allowed
 
 pub returns-in-Looked-clause-meets : goal.returns-in-Looked-clause-meets
 returns-in-Looked-clause-meets c w stands =
     meets_looked c.args.self.now w c.args.room c.args.who c.args.call c.in-Looked.look
-    (planned c.self.inside c.args.self.now c.args.room c.args.who c.args.call c.plan.result _ c.self.view_is c.plan.ensures.plan c.in-Looked.is) stands
+    (planned c.self.inside c.args.self.now c.args.room c.args.who c.args.call c.plan.new.change c.plan.result _ c.self.view_is c.plan.ensures c.in-Looked.is) stands
 
 pub returns-in-Refused-clause-meets : goal.returns-in-Refused-clause-meets
 returns-in-Refused-clause-meets c w stands =
-    meets_refused c.args.self.now w c.args.room c.args.who c.args.call c.enter.new.self c.in-Refused.refusal c.enter.result
-    (planned c.self.inside c.args.self.now c.args.room c.args.who c.args.call c.plan.result _ c.self.view_is c.plan.ensures.plan c.in-Refused.is)
-    c.enter.ensures.outcome c.enter.ensures.after stands
+    meets_refused c.args.self.now w c.args.room c.args.who c.args.call c.in-Refused.refusal c.refuse.result
+    (planned c.self.inside c.args.self.now c.args.room c.args.who c.args.call c.plan.new.change c.plan.result _ c.self.view_is c.plan.ensures c.in-Refused.is)
+    c.refuse.ensures.outcome stands
 
-pub returns-in-Does-clause-meets : goal.returns-in-Does-clause-meets
-returns-in-Does-clause-meets c w stands =
-    meets_done c.args.self.now w c.args.room c.args.who c.args.call c.enter-in-Does.new.self c.in-Does.answer c.in-Does.change c.enter-in-Does.result
+pub returns-in-Accepted-clause-meets : goal.returns-in-Accepted-clause-meets
+returns-in-Accepted-clause-meets c w stands =
+    meets_done c.args.self.now w c.args.room c.args.who c.args.call c.enter.new.self c.in-Accepted.answer c.plan.new.change c.enter.result
     (sound c.self.inside c.args.self.now c.self.view_is c.is_reachable.ensures.sound)
-    (planned c.self.inside c.args.self.now c.args.room c.args.who c.args.call c.plan.result _ c.self.view_is c.plan.ensures.plan c.in-Does.is)
-    c.enter-in-Does.ensures.outcome c.enter-in-Does.ensures.after stands
+    (planned c.self.inside c.args.self.now c.args.room c.args.who c.args.call c.plan.new.change c.plan.result _ c.self.view_is c.plan.ensures c.in-Accepted.is)
+    c.enter.ensures.outcome c.enter.ensures.after stands
 
 -- ---- ranges
 
 -- the plan's numbers are in range
-ranged : (i : Inside) (e : Remembered) (room : ℕ) (who : Who) (call : Call) (plan is : Plan) → remembered i ≡ e → IsEngine i → e.age < 2 ^ 47 → IsSound (i.live.made + 1) i.live.world → IsBounded i.live.world → IsCallInRange call → IsWide call
-    → plan ≡ plan_at i.live.world (i.live.made + 1) room who call → plan ≡ is → IsPlanInRange is
-ranged i e room who call plan is same k young s b in_range wide made found =
-    let few : i.live.made + 1 < 2 ^ 64 = omega (arith, k.few_made, young, ap (λ (r : Remembered). r.age) same) in
-    subst IsPlanInRange (sym made ∙ found)
-    (plan_ranged (i.live.made + 1) i.live.world few s (record { limits = b.limits; pools_least = b.pools_least; pools_most = b.pools_most; slots_most = omega (arith, b.slots_most, length-filter (λ (c : CallbackRow). is_live c.status) i.live.world.callbacks, count_by-le-length (λ (c : CallbackRow). is_live c.status) i.live.world.callbacks); running_most = b.running_most; rows = k.rows }) room who call in_range wide)
+ranged : (i : Inside) (e : Remembered) (room : ℕ) (who : Who) (call : Call) (change : Change) (decision is : Decision) → remembered i ≡ e → IsEngine i → e.age < 2 ^ 47 → IsSound (i.live.made + 1) i.live.world → IsBounded i.live.world → IsCallInRange call
+    → decided decision change ≡ plan_at i.live.world (i.live.made + 1) room who call → decision ≡ is → IsPlanInRange (decided is change)
+ranged i e room who call change decision is same k young s b in_range made found =
+    let few : i.live.made + 1 + 65536 ≤ 2 ^ 64 = omega (arith, k.few_made, young, ap (λ (r : Remembered). r.age) same) in
+    subst IsPlanInRange (sym made ∙ ap (λ d. decided d change) found)
+    (plan_ranged (i.live.made + 1) i.live.world few s (record { limits = b.limits; pools_least = b.pools_least; pools_most = b.pools_most; slots_most = omega (arith, b.slots_most, length-filter (λ (c : CallbackRow). is_live c.status) i.live.world.callbacks, count_by-le-length (λ (c : CallbackRow). is_live c.status) i.live.world.callbacks); running_most = b.running_most; rows = k.rows }) room who call in_range)
 
 pub returns-in-Looked-clause-in_range : goal.returns-in-Looked-clause-in_range
 returns-in-Looked-clause-in_range c =
-    ranged c.self.inside c.args.self.now c.args.room c.args.who c.args.call c.plan.result _ c.self.view_is c.self.invariant c.requires.young c.is_reachable.ensures.sound c.is_reachable.ensures.bounded c.requires.in_range c.plan.ensures.wide
-    c.plan.ensures.plan c.in-Looked.is
+    ranged c.self.inside c.args.self.now c.args.room c.args.who c.args.call c.plan.new.change c.plan.result _ c.self.view_is c.self.invariant c.requires.young c.is_reachable.ensures.sound c.is_reachable.ensures.bounded c.requires.in_range
+    c.plan.ensures c.in-Looked.is
+
+pub refuse-requires : goal.refuse-requires
+refuse-requires c =
+    ranged c.self.inside c.args.self.now c.args.room c.args.who c.args.call c.plan.new.change c.plan.result _ c.self.view_is c.self.invariant c.requires.young c.is_reachable.ensures.sound c.is_reachable.ensures.bounded c.requires.in_range
+    c.plan.ensures c.in-Refused.is
 
 pub enter-requires-clause-answer_in_range : goal.enter-requires-clause-answer_in_range
 enter-requires-clause-answer_in_range c =
-    ranged c.self.inside c.args.self.now c.args.room c.args.who c.args.call c.plan.result _ c.self.view_is c.self.invariant c.requires.young c.is_reachable.ensures.sound c.is_reachable.ensures.bounded c.requires.in_range c.plan.ensures.wide
-    c.plan.ensures.plan c.in-Refused.is
+    (ranged c.self.inside c.args.self.now c.args.room c.args.who c.args.call c.plan.new.change c.plan.result _ c.self.view_is c.self.invariant c.requires.young c.is_reachable.ensures.sound c.is_reachable.ensures.bounded c.requires.in_range
+    c.plan.ensures c.in-Accepted.is).0
 
-pub enter-requires-in-Does-clause-answer_in_range : goal.enter-requires-in-Does-clause-answer_in_range
-enter-requires-in-Does-clause-answer_in_range c =
-    (ranged c.self.inside c.args.self.now c.args.room c.args.who c.args.call c.plan.result _ c.self.view_is c.self.invariant c.requires.young c.is_reachable.ensures.sound c.is_reachable.ensures.bounded c.requires.in_range c.plan.ensures.wide
-    c.plan.ensures.plan c.in-Does.is).0
-
-pub enter-requires-in-Does-clause-change_in_range : goal.enter-requires-in-Does-clause-change_in_range
-enter-requires-in-Does-clause-change_in_range c =
-    (ranged c.self.inside c.args.self.now c.args.room c.args.who c.args.call c.plan.result _ c.self.view_is c.self.invariant c.requires.young c.is_reachable.ensures.sound c.is_reachable.ensures.bounded c.requires.in_range c.plan.ensures.wide
-    c.plan.ensures.plan c.in-Does.is).1
+pub enter-requires-clause-change_in_range : goal.enter-requires-clause-change_in_range
+enter-requires-clause-change_in_range c =
+    (ranged c.self.inside c.args.self.now c.args.room c.args.who c.args.call c.plan.new.change c.plan.result _ c.self.view_is c.self.invariant c.requires.young c.is_reachable.ensures.sound c.is_reachable.ensures.bounded c.requires.in_range
+    c.plan.ensures c.in-Accepted.is).1

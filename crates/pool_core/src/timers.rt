@@ -1,0 +1,185 @@
+//! Calls on timers and the clock: `SetThreadpoolTimer`, `SetThreadpoolTimerEx` and
+//! `IsThreadpoolTimerSet`; and time passes.
+
+ghost use Rattle.pool_core.specs.Decided.{decided};
+ghost use Rattle.std.specs.Prelude.{◌≡◌, ◌+◌, ◌^◌, ◌<◌, ◌≤◌, nat_lt};
+ghost use Rattle.tp_base.specs.Timers.{clock_end};
+ghost use Rattle.tp_model.specs.Calls.Timers.{first_of as first_of_count, set_timer_plan, set_timer_ex_plan, is_timer_set_plan, advance_plan};
+
+use crate::decisions::{Decision, accept};
+use crate::refusals::{either, first_of, object_refusal};
+use live_world::LiveWorld;
+use tp_base::answers::{Answer, Refusal};
+use tp_base::calls::{CLOCK_END, Kind};
+use tp_base::ids::{ObjectId, Who};
+use tp_base::plans::{Change, Trigger};
+
+// The first number of so many callbacks, or 0 where there are none.
+fn first_number(next: u64, count: u32) -> u64
+    ensures { result ≡ first_of_count next count }
+{
+    if count == 0 { 0 } else { next }
+}
+
+/// Sets a timer, or unsets it. One that is due at once makes a callback.
+#[tactic(auto, unfolding(tp_model::specs::Calls::Timers::set_timer_plan))]
+pub(crate) fn set_timer(
+    world: &LiveWorld,
+    who: Who,
+    object: ObjectId,
+    due: Option<i64>,
+    period: u32,
+    window: u32,
+    change: &mut Change,
+) -> Decision
+    requires { world.now.made < 2 ^ 63 }
+    ensures { decided result change.new ≡ set_timer_plan world.now.world (world.now.made + 1) who object due period window }
+{
+    let trigger = Trigger::SetTimer {
+        object,
+        due,
+        period,
+        window,
+    };
+    let count = world.count_fired(&trigger);
+    let refusal = object_refusal!(
+        world,
+        who,
+        Kind::Timer,
+        object,
+        [(world.lacks_slots(count), Refusal::CallbackLimit)]
+    );
+    if let Some(refusal) = refusal {
+        return Decision::Refused(refusal);
+    }
+    let next = world.next_number();
+    accept(
+        change,
+        Answer::Queued {
+            first: first_number(next, count),
+            count,
+        },
+        Change::Fire {
+            trigger,
+            first: next,
+            count,
+        },
+    )
+}
+
+/// Sets a timer, or unsets it, and tells whether that ended a setting.
+#[tactic(auto, unfolding(tp_model::specs::Calls::Timers::set_timer_ex_plan))]
+pub(crate) fn set_timer_ex(
+    world: &LiveWorld,
+    who: Who,
+    object: ObjectId,
+    due: Option<i64>,
+    period: u32,
+    window: u32,
+    change: &mut Change,
+) -> Decision
+    requires { world.now.made < 2 ^ 63 }
+    ensures { decided result change.new ≡ set_timer_ex_plan world.now.world (world.now.made + 1) who object due period window }
+{
+    let trigger = Trigger::SetTimer {
+        object,
+        due,
+        period,
+        window,
+    };
+    let count = world.count_fired(&trigger);
+    let refusal = object_refusal!(
+        world,
+        who,
+        Kind::Timer,
+        object,
+        [(world.lacks_slots(count), Refusal::CallbackLimit)]
+    );
+    if let Some(refusal) = refusal {
+        return Decision::Refused(refusal);
+    }
+    let next = world.next_number();
+    accept(
+        change,
+        Answer::WasSet {
+            was: world.is_timer_set(object),
+            first: first_number(next, count),
+            count,
+        },
+        Change::Fire {
+            trigger,
+            first: next,
+            count,
+        },
+    )
+}
+
+/// Tells whether a timer is set.
+#[tactic(auto, unfolding(tp_model::specs::Calls::Timers::is_timer_set_plan))]
+pub(crate) fn is_timer_set(
+    world: &LiveWorld,
+    who: Who,
+    object: ObjectId,
+    change: &mut Change,
+) -> Decision
+    ensures { decided result change.new ≡ is_timer_set_plan world.now.world who object }
+{
+    let refusal = object_refusal!(world, who, Kind::Timer, object, []);
+    if let Some(refusal) = refusal {
+        return Decision::Refused(refusal);
+    }
+    accept(
+        change,
+        Answer::Flag {
+            value: world.is_timer_set(object),
+        },
+        Change::Keep,
+    )
+}
+
+// Whether the clock would pass its end.
+fn passes_end(now: u64, ticks: u64) -> bool
+    requires { now ≤ clock_end }
+    ensures { result ≡ nat_lt clock_end (now + ticks) }
+{
+    CLOCK_END - now < ticks
+}
+
+/// The clock goes on by so many units of 100 ns. Each timer that is due then makes a callback.
+#[tactic(auto, unfolding(tp_model::specs::Calls::Timers::advance_plan))]
+pub(crate) fn advance(world: &LiveWorld, who: Who, ticks: u64, change: &mut Change) -> Decision
+    requires { world.now.made < 2 ^ 63 }
+    ensures { decided result change.new ≡ advance_plan world.now.world (world.now.made + 1) who ticks }
+{
+    let actor = world.actor(who);
+    let refusal = first_of!([
+        (!actor.exists, Refusal::NoSuch),
+        (actor.finished, Refusal::Released),
+        (actor.is_idle, Refusal::NotRunning),
+        (actor.in_wait, Refusal::InWait),
+        (passes_end(world.now(), ticks), Refusal::ClockEnd),
+    ]);
+    if let Some(refusal) = refusal {
+        return Decision::Refused(refusal);
+    }
+    let now = world.now() + ticks;
+    let trigger = Trigger::Advance { now };
+    let count = world.count_fired(&trigger);
+    if world.lacks_slots(count) {
+        return Decision::Refused(Refusal::CallbackLimit);
+    }
+    let next = world.next_number();
+    accept(
+        change,
+        Answer::Advanced {
+            now,
+            first: first_number(next, count),
+            count,
+        },
+        Change::Fire {
+            trigger,
+            first: next,
+            count,
+        },
+    )
+}
