@@ -7,7 +7,7 @@ use Rattle.line_grammar.specs.Words.{lacks}
 use Rattle.line_grammar.proofs.NumberFacts.{signed_first, signed_lacks, signed_unique}
 use Rattle.line_grammar.proofs.WordFacts.{optional_part, solid_lacks}
 use Rattle.tp_lines.specs.Choices.{DueTexts}
-use Rattle.tp_lines.specs.Parts.{IsDueInRange}
+use Rattle.tp_base.specs.Ranges.{IsDueInRange}
 use Rattle.tp_lines.specs.Words.{text_of_due}
 
 pub due_written : (due : Option ℤ) (t : List ℕ) → DueTexts due t → IsDueInRange due × (t ≡ text_of_due due)

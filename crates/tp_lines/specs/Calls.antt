@@ -1,5 +1,5 @@
 -- The rows of calls, and the lines of calls.
-use Rattle.std.specs.Prelude.{◌≡◌, ℕ, ◌+◌, ◌<◌, ◌≤◌, ◌^◌, List, [], ◌∷◌, ◌++◌, Option, Some, None}
+use Rattle.std.specs.Prelude.{◌≡◌, ℕ, ◌+◌, ◌≤◌, List, [], ◌∷◌, ◌++◌, Option, Some, None}
 use Rattle.tp_base.specs.declared.calls.Call.{Call}
 use Rattle.tp_base.specs.declared.calls.Call.TheVariants as call
 use Rattle.tp_base.specs.declared.calls.Environ.{Environ}
@@ -11,7 +11,7 @@ use Rattle.tp_lines.specs.declared.parts.Part.TheVariants as part
 use Rattle.tp_lines.specs.declared.words.Field.TheVariants as field
 use Rattle.tp_lines.specs.declared.words.Word.{Word}
 use Rattle.tp_lines.specs.declared.words.Word.TheVariants as word
-use Rattle.tp_lines.specs.Parts.{AreFit, IsDueInRange, parts_of, row_text}
+use Rattle.tp_lines.specs.Parts.{AreFit, parts_of, row_text}
 use Rattle.tp_lines.specs.Rows.{RowTexts}
 use Rattle.tp_lines.specs.Shapes.{table_of_kind}
 use Rattle.tp_lines.specs.Values.{part_at, small_of, large_of, due_of, kind_of, priority_of, length_of, how_of}
@@ -60,16 +60,10 @@ FitsCall made = AreFit (field.Call ∷ []) (parts_of (row_of made))
 abbrev pub IsBuilt : Kind → Type 0
 IsBuilt kind = table_of_kind kind ≡ field.Kind
 
--- what besides the ranges of its identities a call needs so that a line can have it: its other numbers are of 32
--- and 64 bits, and its kind is built
+-- what besides the ranges of its numbers a call needs so that a line can have it: its kind is built
 abbrev pub IsReadable : Call → Type 0
-IsReadable (call.SetMaximum pool value) = value < 2 ^ 32
-IsReadable (call.SetMinimum pool value) = value < 2 ^ 32
-IsReadable (call.Create kind routine context env) = IsBuilt kind × (context < 2 ^ 64)
+IsReadable (call.Create kind routine context env) = IsBuilt kind
 IsReadable (call.CloseObject kind object) = IsBuilt kind
-IsReadable (call.SubmitSimple routine context env) = context < 2 ^ 64
-IsReadable (call.SetTimer object due period window) = IsDueInRange due × (period < 2 ^ 32) × (window < 2 ^ 32)
-IsReadable (call.SetTimerEx object due period window) = IsDueInRange due × (period < 2 ^ 32) × (window < 2 ^ 32)
 IsReadable (call.BeginWait kind object cancel) = IsBuilt kind
 IsReadable _ = Unit {0}
 

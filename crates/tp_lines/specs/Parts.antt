@@ -1,6 +1,6 @@
 -- The parts of a line: what each holds, and its text.
-use Rattle.std.specs.Prelude.{◌≡◌, ℕ, ◌+◌, ◌≤◌, ℤ, FitsSigned, Option, Some, None, List, [], ◌∷◌, ◌++◌, decimal, nat_eq, if◌then◌else◌}
-use Rattle.std.specs.Int.{w64}
+use Rattle.std.specs.Prelude.{◌≡◌, ℕ, ◌+◌, ◌≤◌, List, [], ◌∷◌, ◌++◌, decimal, nat_eq, if◌then◌else◌}
+use Rattle.tp_base.specs.Ranges.{IsDueInRange}
 use Rattle.tp_lines.specs.declared.parts.Form.{Form}
 use Rattle.tp_lines.specs.declared.parts.Form.TheVariants as form
 use Rattle.tp_lines.specs.declared.parts.Part.{Part}
@@ -105,11 +105,6 @@ pub record IsNumberPart (field : Field) (least most : ℕ) (held : Part) : Type 
   pub is : held ≡ number_part field (number_of held)
   pub at_least : least ≤ number_of held
   pub at_most : number_of held ≤ most
-
--- a due time is of 64 bits
-abbrev pub IsDueInRange : Option ℤ → Type 0
-IsDueInRange None = Unit {0}
-IsDueInRange (Some due) = FitsSigned w64 due
 
 -- the part is a due time
 pub record IsDuePart (held : Part) : Type 0 where
