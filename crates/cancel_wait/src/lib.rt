@@ -17,11 +17,11 @@
 //! barriers.finish(0);
 //! ```
 //!
-//! What a call costs: `cover`, `covers`, `left_one`, `after` and `left` find a number or its place by halving,
-//! and a number that comes or leaves moves the numbers before it or those behind it, whichever are
-//! fewer: none where the number is above all that the wait covers. `left` goes over the waiters that
-//! have begun a wait, and no others. `begin` and `finish` find their waiter among those by halving;
-//! `finish` drops what is left of its wait.
+//! What a call costs: `cover`, `covers`, `left_one`, `after` and `left` find a number or its place by
+//! halving, and a number that comes or leaves moves the numbers before it or those behind it,
+//! whichever are fewer: none where the number is above all that the wait covers. `left` goes over the
+//! waiters that have begun a wait, and no others. `begin` and `finish` find their waiter among those
+//! by halving; `finish` drops what is left of its wait.
 
 #![tactic(auto)]
 

@@ -71,6 +71,20 @@ none_up cs t is = known (find t cs) refl is
 pub found_row : (fresh : ℕ) (cs : List CallbackRow) (p : CallbackRow → Bool) (c : CallbackRow) → IsRising 1 fresh cs → find (has_number c.number) (filter p cs) ≡ Some c → find (has_number c.number) cs ≡ Some c
 found_row fresh cs p c rising found = looked_up fresh cs p (has_number c.number) c.number rising (ap (option_map number_of) found) ∙ found
 
+-- the first of what passes has passed
+pub first_passes : {X : Type 0} (p : X → Bool) (x : X) (xs : List X) → slice_get (filter p xs) 0 ≡ Some x → p x ≡ true
+first_passes p x [] e = absurd cc
+first_passes p x (y ∷ ys) e =
+    elim (p y) as (λ b. p y ≡ b → slice_get (cond b (y ∷ filter p ys) (filter p ys)) 0 ≡ Some x → p x ≡ true) [
+      | true ↦ λ here h. let same : y ≡ x = cc in ap p (sym same) ∙ here
+      | false ↦ λ _ h. first_passes p x ys h
+    ] refl e
+
+-- and is found by its number
+pub first_by_number : (fresh : ℕ) (cs : List CallbackRow) (p : CallbackRow → Bool) (c : CallbackRow) → IsRising 1 fresh cs → slice_get (filter p cs) 0 ≡ Some c → find (has_number c.number) cs ≡ Some c
+first_by_number fresh cs p c rising first =
+    looked_up fresh cs p (λ _. true) c.number rising (ap (option_map number_of) (first_found (filter p cs) ∙ first)) ∙ first_found (filter p cs) ∙ first
+
 -- ---- the lists of objects
 
 and_swap : (a b : Bool) → (a && b) ≡ (b && a)

@@ -30,7 +30,7 @@ use Rattle.live_world.specs.Parts.{place_of, is_held_among, held_among}
 use Rattle.live_world.specs.View.{shown, IsLiveWorld}
 use Rattle.live_world.specs.Invariant.{AreCovered, waits, waits_or_runs}
 use Rattle.live_world.specs.Waiting.{numbers_of}
-use Rattle.live_world.proofs.Lists.{filter_all, all_pass}
+use Rattle.live_world.proofs.Lists.{filter_all, all_pass, none_passes}
 use Rattle.live_world.proofs.Along.{number_of, numbers_shown}
 use Rattle.live_world.proofs.Cancelled.{none_where}
 use Rattle.live_world.proofs.Covered.{covered_begun}
@@ -41,14 +41,6 @@ and_true true = refl
 and_true false = refl
 
 -- ---- what a wait covers
-
-pub none_passes : (p : CallbackRow → Bool) (cs : List CallbackRow) → filter p cs ≡ [] → AllByRecursion (λ c. p c ≡ false) cs
-none_passes p [] e = tt
-none_passes p (c ∷ cs) e =
-    elim (p c) as (λ b. p c ≡ b → cond b (c ∷ filter p cs) (filter p cs) ≡ [] → (b ≡ false) × AllByRecursion (λ x. p x ≡ false) cs) [
-      | true ↦ λ _ h. absurd cc
-      | false ↦ λ is h. (refl, none_passes p cs h)
-    ] refl e
 
 -- a callback that waits or runs, and isn't cancelled
 covers_one : (object : ObjectId) (cancel b : Bool) (s : Status) → (is_pending s || is_running s) ≡ true → (cancel && (is_pending s && b)) ≡ false → ((b && is_held_for (Object object) s) && (is_running s || not (cancel && true))) ≡ (b && is_held_for (Object object) s)

@@ -31,6 +31,19 @@ all_pass p (x ∷ xs) =
       | false ↦ λ _. all_pass p xs
     ] refl
 
+-- where a filter leaves nothing, none passes
+pub none_passes : {X : Type 0} (p : X → Bool) (xs : List X) → filter p xs ≡ [] → AllByRecursion (λ x. p x ≡ false) xs
+none_passes p [] e = tt
+none_passes p (x ∷ xs) e =
+    elim (p x) as (λ b. cond b (x ∷ filter p xs) (filter p xs) ≡ [] → (b ≡ false) × AllByRecursion (λ y. p y ≡ false) xs) [
+      | true ↦ λ h. absurd cc
+      | false ↦ λ h. (refl, none_passes p xs h)
+    ] e
+
+pub no_first : {X : Type 0} (xs : List X) → None ≡ slice_get xs 0 → xs ≡ []
+no_first [] e = refl
+no_first (x ∷ xs) e = absurd cc
+
 pub one_more : {X : Type 0} (p : X → Bool) (xs : List X) (x : X) → p x ≡ true → length (filter p (xs ++ x ∷ [])) ≡ length (filter p xs) + 1
 one_more p xs x e =
     ap length (filter-append p xs (x ∷ [])) ∙ length-append (filter p xs) (filter p (x ∷ [])) ∙ ap (λ b. length (filter p xs) + length (cond b (x ∷ []) [])) e

@@ -1,5 +1,5 @@
 -- Whether a wait holds a callback that is starved, from the first pending callback of its object.
-use Rattle.std.proofs.Common.{◌≡◌, ◌≢◌, ℕ, ◌+◌, ◌≤◌, Bool, true, false, cond, ◌&&◌, ◌||◌, ◌==◌, List, [], ◌∷◌, nat_lt, slice_get, Option, Some, None, refl, sym, ap, ap₂, ◌∙◌, subst, arith, ⊎_elim, filter, find, option_map, eqb-true, eq-eqb}
+use Rattle.std.proofs.Common.{◌≡◌, ◌≢◌, ℕ, ◌+◌, ◌≤◌, Bool, true, false, cond, ◌&&◌, ◌||◌, ◌==◌, List, [], ◌∷◌, nat_lt, slice_get, Option, Some, None, refl, sym, ap, ap₂, ◌∙◌, subst, arith, ⊎_elim, filter, find, eqb-true, eq-eqb}
 use Rattle.std.specs.List.{list_any}
 use Rattle.std.specs.Option.{option_map_or}
 use Rattle.std.proofs.lemmas.Bool.{cases_eq}
@@ -30,19 +30,10 @@ use Rattle.live_world.specs.Live.{Live}
 use Rattle.live_world.specs.View.{shown, IsLiveWorld}
 use Rattle.live_world.specs.Invariant.{IsWaitKept}
 use Rattle.live_world.specs.Waiting.{held_by, is_pending_for, pending_of}
-use Rattle.live_world.proofs.Along.{number_of, looked_up, first_found}
+use Rattle.live_world.proofs.Along.{first_passes, first_by_number}
 use Rattle.live_world.proofs.Listed.{pending_tied}
 
 -- ---- of a list
-
--- the first of what passes has passed
-first_passes : {X : Type 0} (p : X → Bool) (x : X) (xs : List X) → slice_get (filter p xs) 0 ≡ Some x → p x ≡ true
-first_passes p x [] e = absurd cc
-first_passes p x (y ∷ ys) e =
-    elim (p y) as (λ b. p y ≡ b → slice_get (cond b (y ∷ filter p ys) (filter p ys)) 0 ≡ Some x → p x ≡ true) [
-      | true ↦ λ here h. let same : y ≡ x = cc in ap p (sym same) ∙ here
-      | false ↦ λ _ h. first_passes p x ys h
-    ] refl e
 
 any_among : (f : ℕ → Bool) (n : ℕ) (ns : List ℕ) → is_among n ns ≡ true → f n ≡ true → list_any f ns ≡ true
 any_among f n [] among passes = absurd (false_true among)
@@ -125,8 +116,7 @@ module _ (w : World) (fresh room : ℕ) (sound : IsSound fresh w) (b : BegunWait
 
   -- the first pending callback of the object is found by its number, and it is pending
   first_found_row : (c : CallbackRow) → slice_get (pending_of w object) 0 ≡ Some c → find (has_number c.number) w.callbacks ≡ Some c
-  first_found_row c first =
-      looked_up fresh w.callbacks (is_pending_for object) (λ _. true) c.number sound.numbers (ap (option_map number_of) (first_found (pending_of w object) ∙ first)) ∙ first_found (pending_of w object) ∙ first
+  first_found_row c first = first_by_number fresh w.callbacks (is_pending_for object) c sound.numbers first
 
   -- it tells of all
   told : (c : CallbackRow) → slice_get (pending_of w object) 0 ≡ Some c → tells c ≡ true → holds_starved w room (held w b) ≡ true

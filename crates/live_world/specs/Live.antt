@@ -1,5 +1,5 @@
 -- What a live world is seen as, and what it is after a change.
-use Rattle.std.specs.Prelude.{◌≡◌, ℕ, ◌+◌, List, length, Bool, true, if◌then◌else◌}
+use Rattle.std.specs.Prelude.{◌≡◌, ℕ, ◌+◌, List, length, Bool, true}
 use Rattle.tp_base.specs.declared.ids.ObjectId.{ObjectId}
 use Rattle.tp_base.specs.declared.rows.WaitTarget.TheVariants.{Object}
 use Rattle.tp_base.specs.declared.answers.TakeResult.TheVariants.{Plain}
@@ -10,10 +10,8 @@ use Rattle.tp_base.specs.declared.rows.TimerSetting.{TimerSetting}
 use Rattle.tp_model.specs.Sources.{new_callback, object_row, count_fired}
 use Rattle.tp_model.specs.World.{World}
 use Rattle.tp_model.specs.Support.Sound.{IsMade}
-use Rattle.tp_model.specs.Changes.{changed, with_callback}
-use Rattle.tp_base.specs.declared.rows.CallbackRow.{CallbackRow}
-use Rattle.tp_model.specs.Counts.{is_pending}
-use Rattle.tp_model.specs.Waits.{is_cancelled_by, cancelled, cancel_where}
+use Rattle.tp_model.specs.Changes.{changed}
+use Rattle.tp_model.specs.Waits.{is_cancelled_by, cancel_where}
 use Rattle.tp_model.specs.Support.Allowed.{news}
 use Rattle.tp_model.specs.Support.Remembered.{forget}
 
@@ -35,10 +33,6 @@ settled l object cancel = became l (record l.world { callbacks = cancel_where (i
 
 abbrev pub without_pending : Live → ObjectId → Live
 without_pending l object = settled l object true
-
--- a callback cancelled if it is pending
-abbrev pub without_callback : Live → CallbackRow → Live
-without_callback l callback = if is_pending callback.status then became l (with_callback l.world (cancelled callback)) else l
 
 -- ---- time
 

@@ -7,13 +7,12 @@ ghost use Rattle.tp_model.specs.Changes.{with_callback, loosened as loosened_by,
 ghost use Rattle.tp_model.specs.Waits.{cancelled, is_cancelled_by};
 ghost use Rattle.tp_model.specs.Support.Allowed.{IsAllowed, MayBegin};
 ghost use Rattle.live_world.specs.Parts.{priority_byte as priority_byte_of};
-ghost use Rattle.live_world.specs.Live.{moved, became, without_callback, without_pending, settled};
+ghost use Rattle.live_world.specs.Live.{moved, became, without_pending, settled};
 
 use crate::LiveWorld;
 use crate::begun::Begins;
 use crate::objects::{Object, is_same_kind};
 use crate::waiting::begin_covering;
-use crate::waits::is_pending;
 use tp_base::calls::{Kind, Priority};
 use tp_base::ids::{ObjectId, PoolId, Who};
 use tp_base::plans::{Busy, Change, Idle, Mark, PoolChange, WaitEnd};
@@ -247,26 +246,13 @@ impl LiveWorld {
         self.barriers.left(callback.number);
     }
 
-    // Cancels a callback if it is pending.
-    fn cancel_if_pending(&mut self, callback: CallbackRow)
-        requires { callback_of self.old.world callback.number ≡ Some callback }
-        ensures { self.new ≡ without_callback self.old callback }
-    {
-        if is_pending(&callback) {
-            self.cancel_callback(callback);
-        }
-    }
-
-    // Cancels what is pending of an object, along what is outstanding for it.
+    // Cancels what is pending of an object, the first of it each time.
     fn cancel_pending(&mut self, object: ObjectId)
         ensures { self.new ≡ without_pending self.old object }
     {
-        self.is_reachable();
-        let mut next = self.first_outstanding(object);
-        while let Some(callback) = next {
+        while let Some(callback) = self.first_pending(object) {
             self.is_reachable();
-            next = self.next_outstanding(&callback);
-            self.cancel_if_pending(callback);
+            self.cancel_callback(callback);
         }
         self.is_reachable();
     }

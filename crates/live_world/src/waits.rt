@@ -77,8 +77,7 @@ impl LiveWorld {
     fn is_starved(&self, callback: &CallbackRow, room: u64) -> bool
         ensures { result ≡ is_starved self.now.world room callback.now }
     {
-        is_pending(callback)
-            && (room < 2 || (room < 4 && self.tally(callback.pool).attached == 0))
+        is_pending(callback) && (room < 2 || (room < 4 && self.tally(callback.pool).attached == 0))
     }
 
     // Whether the actor's wait, of which this is the first held callback, holds one that is starved. Of

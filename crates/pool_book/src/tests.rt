@@ -7,6 +7,24 @@ use tp_base::answers::{Answer, Look, Refusal, SlotWord, TakeResult};
 use tp_base::calls::{Environ, Kind, Priority};
 use tp_base::ids::{GroupId, ObjectId, PoolId, RoutineId};
 
+// Makes a work object of the default pool.
+const CREATE: Call = Call::Create {
+    kind: Kind::Work,
+    routine: RoutineId(1),
+    context: 0,
+    env: Environ {
+        pool: PoolId(0),
+        group: GroupId(0),
+        cancel: RoutineId(0),
+        priority: Priority::Normal,
+        long: false,
+    },
+};
+
+const SUBMIT: Call = Call::SubmitWork {
+    object: ObjectId(1),
+};
+
 // A book of so many clients and two workers.
 fn book_of(alloc: Global, clients: u32, capacity: u32) -> Result<Book, AllocError>
     requires { clients ≤ 16 }
@@ -72,26 +90,13 @@ fn room_is_none_where_more_is_owed(rt: HostRuntime) -> Result<(), Fail> {
 fn a_full_history_takes_what_it_is_owed(rt: HostRuntime) -> Result<(), Fail> {
     let mut book = book_of(rt.alloc(), 8, 16)?;
     let object = ObjectId(1);
-    let submit = Call::SubmitWork { object };
-    let create = Call::Create {
-        kind: Kind::Work,
-        routine: RoutineId(1),
-        context: 0,
-        env: Environ {
-            pool: PoolId(0),
-            group: GroupId(0),
-            cancel: RoutineId(0),
-            priority: Priority::Normal,
-            long: false,
-        },
-    };
     for (who, call, outcome) in [
         (
             Who::Client(8),
-            create,
+            CREATE,
             Outcome::Done(Answer::Made { number: 1 }),
         ),
-        (Who::Client(8), submit, queued(1)),
+        (Who::Client(8), SUBMIT, queued(1)),
         (
             Who::Worker(1),
             Call::Attach,
@@ -108,14 +113,14 @@ fn a_full_history_takes_what_it_is_owed(rt: HostRuntime) -> Result<(), Fail> {
                 result: TakeResult::Plain,
             }),
         ),
-        (Who::Client(8), submit, queued(2)),
+        (Who::Client(8), SUBMIT, queued(2)),
         (
             Who::Worker(2),
             Call::Attach,
             Outcome::Full { room: 1, cost: 2 },
         ),
-        (Who::Client(8), submit, queued(3)),
-        (Who::Client(8), submit, Outcome::Full { room: 0, cost: 1 }),
+        (Who::Client(8), SUBMIT, queued(3)),
+        (Who::Client(8), SUBMIT, Outcome::Full { room: 0, cost: 1 }),
         (
             Who::Worker(1),
             Call::Return,
@@ -138,6 +143,72 @@ fn a_full_history_takes_what_it_is_owed(rt: HostRuntime) -> Result<(), Fail> {
     }
     assert_eq!(rt; book.len(), 7);
     Ok(())
+}
+
+/// A pending callback takes two entries to be run, and two more where its pool has no worker.
+#[test]
+fn a_wait_is_over_where_its_callback_has_no_room(rt: HostRuntime) -> Result<(), Fail> {
+    let not_yet = Outcome::Look(Look::NotYet { callback: 1 });
+    let exhausted = Outcome::Done(Answer::Exhausted);
+    for (attaches, capacity, room, outcome) in [
+        (false, 9, 4, not_yet),
+        (false, 8, 3, exhausted),
+        (false, 7, 2, exhausted),
+        (true, 10, 3, not_yet),
+        (true, 9, 2, not_yet),
+        (true, 8, 1, exhausted),
+    ] {
+        let mut book = book_of(rt.alloc(), 1, capacity)?;
+        let client = Who::Client(1);
+        book.step(client, CREATE);
+        book.step(client, SUBMIT);
+        if attaches {
+            book.step(Who::Worker(1), Call::Attach);
+        }
+        book.step(client, wait(false));
+        assert_eq!(rt; book.room(), room);
+        assert_eq!(rt; book.step(client, Call::End), outcome);
+    }
+    Ok(())
+}
+
+/// A wait holds a callback that runs, and the pending one behind it if it cancels none. A later one it
+/// doesn't hold.
+#[test]
+fn a_wait_is_over_only_for_what_it_holds(rt: HostRuntime) -> Result<(), Fail> {
+    let not_yet = Outcome::Look(Look::NotYet { callback: 1 });
+    let exhausted = Outcome::Done(Answer::Exhausted);
+    for (cancel, capacity, room, outcome) in [
+        (false, 15, 3, not_yet),
+        (false, 14, 2, not_yet),
+        (false, 13, 1, exhausted),
+        (true, 13, 1, not_yet),
+    ] {
+        let mut book = book_of(rt.alloc(), 2, capacity)?;
+        let worker = Who::Worker(1);
+        for (who, call) in [
+            (Who::Client(1), CREATE),
+            (Who::Client(1), SUBMIT),
+            (worker, Call::Attach),
+            (worker, Call::Take),
+            (Who::Client(1), SUBMIT),
+            (Who::Client(1), wait(cancel)),
+            (Who::Client(2), SUBMIT),
+        ] {
+            book.step(who, call);
+        }
+        assert_eq!(rt; book.room(), room);
+        assert_eq!(rt; book.step(Who::Client(1), Call::End), outcome);
+    }
+    Ok(())
+}
+
+fn wait(cancel: bool) -> Call {
+    Call::BeginWait {
+        kind: Kind::Work,
+        object: ObjectId(1),
+        cancel,
+    }
 }
 
 fn queued(first: u64) -> Outcome {

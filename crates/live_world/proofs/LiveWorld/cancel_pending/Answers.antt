@@ -1,25 +1,24 @@
-use Rattle.std.proofs.Common.{◌+◌, subst}
-use Rattle.live_world.proofs.Cancelled.{Cancelling, cancelling_first, cancelling_ended, cancels_one, goes_on}
+use Rattle.std.proofs.Common.{◌+◌, sym, ◌∙◌}
+use Rattle.live_world.proofs.Cancelled.{CancelsFirst, cancelling_ended, cancels_first}
+use Rattle.live_world.proofs.Covered.{nowhere}
 use Rattle.live_world.proofs.LiveWorld.cancel_pending.Goals as goal
+use Rattle.live_world.proofs.LiveWorld.cancel_pending.Goals.{After-is_reachable}
 
-pub loop-next-init : goal.loop-next-init
-loop-next-init c = cancelling_first c.args.object (c.args.self.now.made + 1) c.args.self.now c.first_outstanding-next.result c.is_reachable.ensures.sound.numbers c.first_outstanding-next.ensures
+first : (c : After-is_reachable) → CancelsFirst c.args.object c.loop-callback.self c.in-Some.callback
+first c = cancels_first c.args.object (c.loop-callback.self.made + 1) c.loop-callback.self c.in-Some.callback c.is_reachable.ensures.sound.numbers (sym c.first_pending.ensures ∙ c.in-Some.is)
 
-pub next_outstanding-next-requires : goal.next_outstanding-next-requires
-next_outstanding-next-requires c =
-    (cancels_one c.args.object (c.loop-next.self.made + 1) c.args.self.now c.loop-next.self c.in-Some.callback c.is_reachable-in-Some.ensures.sound.numbers (subst (Cancelling c.args.object c.args.self.now c.loop-next.self) c.in-Some.is c.loop-next.invariant)).there
+pub cancel_callback-requires-clause-found : goal.cancel_callback-requires-clause-found
+cancel_callback-requires-clause-found c = (first (goal.at.cancel_callback-requires-clause-found c).After-is_reachable).found
 
-pub cancel_if_pending-requires : goal.cancel_if_pending-requires
-cancel_if_pending-requires c =
-    (cancels_one c.args.object (c.loop-next.self.made + 1) c.args.self.now c.loop-next.self c.in-Some.callback c.is_reachable-in-Some.ensures.sound.numbers (subst (Cancelling c.args.object c.args.self.now c.loop-next.self) c.in-Some.is c.loop-next.invariant)).found
+pub cancel_callback-requires-clause-pending : goal.cancel_callback-requires-clause-pending
+cancel_callback-requires-clause-pending c = (first (goal.at.cancel_callback-requires-clause-pending c).After-is_reachable).pends
 
-pub loop-next-smaller : goal.loop-next-smaller
-loop-next-smaller c =
-    (goes_on c.args.object (c.loop-next.self.made + 1) c.args.self.now c.loop-next.self c.cancel_if_pending.new.self c.in-Some.callback c.loop-next.next c.next_outstanding-next.result c.is_reachable-in-Some.ensures.sound.numbers c.in-Some.is c.loop-next.invariant c.next_outstanding-next.ensures c.cancel_if_pending.ensures).smaller
+pub loop-callback-smaller : goal.loop-callback-smaller
+loop-callback-smaller c = (first (goal.at.loop-callback-smaller c).After-is_reachable).fewer c.cancel_callback.new.self c.cancel_callback.ensures
 
-pub loop-next-preserved : goal.loop-next-preserved
-loop-next-preserved c =
-    (goes_on c.args.object (c.loop-next.self.made + 1) c.args.self.now c.loop-next.self c.cancel_if_pending.new.self c.in-Some.callback c.loop-next.next c.next_outstanding-next.result c.is_reachable-in-Some.ensures.sound.numbers c.in-Some.is c.loop-next.invariant c.next_outstanding-next.ensures c.cancel_if_pending.ensures).holds
+pub loop-callback-preserved : goal.loop-callback-preserved
+loop-callback-preserved c = (first (goal.at.loop-callback-preserved c).After-is_reachable).leads c.cancel_callback.new.self c.cancel_callback.ensures ∙ c.loop-callback.invariant
 
 pub returns : goal.returns
-returns c = cancelling_ended c.args.object c.args.self.now c.loop-next.self c.loop-next.next c.in_default.is c.is_reachable-2.ensures.living c.loop-next.invariant
+returns c =
+    cancelling_ended c.args.object c.loop-callback.self (sym (nowhere c.first_pending.result c.in_default.not-Some) ∙ c.first_pending.ensures) c.is_reachable-2.ensures.living ∙ c.loop-callback.invariant
