@@ -132,10 +132,7 @@ impl TimerObjects {
     pub fn is_there(&self, object: ObjectId) -> bool
         ensures { result ≡ is_there self.now object.0 }
     {
-        self.there
-            .get(object.0 as usize)
-            .copied()
-            .unwrap_or(false)
+        self.there.get(object.0 as usize).copied().unwrap_or(false)
     }
 
     /// Strikes out an object, and says whether there was one. If it is set, that ends.

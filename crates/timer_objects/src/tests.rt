@@ -43,8 +43,12 @@ fn timers_expire_in_order(rt: HostRuntime) -> Result<(), Fail> {
         (timers.expire(20_130), timers.count_due(30_130)),
         (None, 1)
     );
-    timers.close(b);
-    assert_eq!(rt; (timers.is_set(b), timers.len()), (false, 0));
+    assert!(rt; timers.close(b));
+    assert_eq!(rt;
+        (timers.is_there(b), timers.is_set(b), timers.len()),
+        (false, false, 0)
+    );
+    assert_eq!(rt; (timers.close(b), timers.is_there(a)), (false, true));
     Ok(())
 }
 

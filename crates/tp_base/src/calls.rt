@@ -175,9 +175,8 @@ fn is_in_range(call: Call) -> bool
         | Call::IsTimerSet { object }
         | Call::BeginWait { object, .. } => object.0 <= 65_535,
         Call::Advance { ticks } => ticks <= CLOCK_END,
-        Call::ClosePool { pool }
-        | Call::SetMaximum { pool, .. }
-        | Call::SetMinimum { pool, .. } => pool.0 <= 65_535,
+        Call::ClosePool { pool } | Call::SetMaximum { pool, .. } | Call::SetMinimum { pool, .. } =>
+            pool.0 <= 65_535,
         Call::CreatePool
         | Call::Attach
         | Call::Detach

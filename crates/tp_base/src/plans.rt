@@ -58,7 +58,9 @@ pub enum Trigger {
         window: u32,
     },
     /// The clock comes to this moment. Each timer that is due then makes a callback.
-    Advance { now: u64 },
+    Advance {
+        now: u64,
+    },
 }
 
 /// How a world changes by an accepted call.
