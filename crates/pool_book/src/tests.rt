@@ -1,4 +1,5 @@
 ghost use Rattle.std.specs.Prelude.{◌≤◌};
+ghost use Rattle.tp_base.specs.Ranges.{IsCallInRange};
 
 use super::*;
 use std::alloc::Global;
@@ -203,7 +204,9 @@ fn a_wait_is_over_only_for_what_it_holds(rt: HostRuntime) -> Result<(), Fail> {
     Ok(())
 }
 
-fn wait(cancel: bool) -> Call {
+fn wait(cancel: bool) -> Call
+    ensures { IsCallInRange result }
+{
     Call::BeginWait {
         kind: Kind::Work,
         object: ObjectId(1),

@@ -54,10 +54,11 @@ pub record HasObject (objects : List ObjectRow) (c : CallbackRow) : Type 0 where
 abbrev pub IsCallbackSound : List ObjectRow → CallbackRow → Type 0
 IsCallbackSound objects c = c.object.0 ≢ 0 → HasObject objects c
 
--- the callback of this number is of the target, and may still be run
+-- a callback of the target that may still be run
 abbrev pub is_left_of : WaitTarget → CallbackRow → Bool
 is_left_of target c = is_of target c && is_left c.status
 
+-- the callback of this number is one
 abbrev pub is_left_among : List CallbackRow → WaitTarget → ℕ → Bool
 is_left_among callbacks target number = option_map_or (is_left_of target) (find (has_number number) callbacks) false
 
