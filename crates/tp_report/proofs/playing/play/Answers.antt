@@ -35,8 +35,8 @@ pub loop-rest-preserved : goal.loop-rest-preserved
 loop-rest-preserved c =
     let l = c.loop-rest in
     rw c.split_at.ensures.back
-    (played_next c.args.clients c.args.bytes.now l.book l.text.items l.greatest l.lines l.rest.now l.invariant c.step-outcome.new.self (c.in-Ok.who, c.in-Ok.call) c.in-Ok.size c.greater_client-greatest.result c.step-outcome.result
-    c.print_line.new.text.items c.in-Ok.ensures c.step-outcome.ensures.first c.in_ok-print_line-in-Ok.ensures c.greater_client-greatest.ensures)
+    (played_next c.args.clients c.args.bytes.now l.book l.text.items l.greatest l.lines l.rest.now l.invariant c.step.new.self (c.in-Ok.who, c.in-Ok.call) c.in-Ok.size c.greater_client-greatest.result c.step.result
+    c.print_line.new.text.items c.in-Ok.ensures c.step.ensures.first c.in_ok-print_line-in-Ok.ensures c.greater_client-greatest.ensures)
 
 pub returns-clause-ok : goal.returns-clause-ok
 returns-clause-ok c =
