@@ -20,7 +20,7 @@ use tp_base::answers::Outcome;
 use tp_base::calls::Call;
 use tp_base::ids::Who;
 use tp_lines::good::read_good_call;
-use tp_lines::print::print_outcome;
+use tp_lines::print::{print_answer, print_full, print_look};
 
 /// How many entries the history of a trace has room for.
 const CAPACITY: u32 = 65_536;
@@ -100,15 +100,11 @@ fn play_call(book: &mut Book, who: Who, call: Call, text: &mut Vec<u8>) -> Resul
     ensures first { IsFirstOf book.old book.new who call (outcome_behind book.old who call) }
     ensures printed { OnOk result (text.new.items ≡ text.old.items ++ (text_of_outcome (outcome_behind book.old who call) ++ 10 ∷ [])) }
 {
-    let outcome = book.step(who, call);
-    print_line(&outcome, text)
-}
-
-// Appends the line of an outcome.
-fn print_line(outcome: &Outcome, text: &mut Vec<u8>) -> Result<(), AllocError>
-    ensures { OnOk result (text.new.items ≡ text.old.items ++ (text_of_outcome outcome.now ++ 10 ∷ [])) }
-{
-    print_outcome(outcome, text)?;
+    match book.step(who, call) {
+        Outcome::Done(answer) => print_answer(&answer, text)?,
+        Outcome::Look(look) => print_look(&look, text)?,
+        Outcome::Full { room, cost } => print_full(room, cost, text)?,
+    }
     text.push(b'\n')?;
     Ok(())
 }
