@@ -2,9 +2,9 @@
 //!
 //! What is found stands at the front of the text. Where nothing is found, it may stand there all the same.
 
-ghost use Rattle.std.specs.Prelude.{◌≡◌, [], IfSome};
+ghost use Rattle.std.specs.Prelude.{◌≡◌, ◌<◌, ◌≤◌, ◌+◌, [], IfSome, length, slice_index};
 ghost use Rattle.line_grammar.specs.Language.{IsFront};
-ghost use Rattle.tp_lines.specs.Calls.{CallLines, CallTexts, FitsCall, row_of};
+ghost use Rattle.tp_lines.specs.Calls.{CallLines, CallTexts, FitsCall, WhoTexts, row_of};
 
 use crate::calls::{read_call, read_who};
 use crate::words::{Word, word_text};
@@ -18,13 +18,44 @@ use tp_base::ids::{ObjectId, Who};
 pub(crate) fn front_line(text: &[u8]) -> Option<((Who, Call), usize)>
     ensures { IfSome result (λ read. IsFront CallLines text.now read.0 read.1) }
 {
-    let Ok((who, size)) = read_who(text) else {
+    let Some((who, size)) = front_who(text) else {
         return None;
     };
     let (_, rest) = text.split_at(size);
     match front_call(rest) {
         Some((call, more)) => Some(((who, call), size + more)),
         None => None,
+    }
+}
+
+// An actor. Most have one digit.
+#[inline(always)]
+fn front_who(text: &[u8]) -> Option<(Who, usize)>
+    ensures { IfSome result (λ read. IsFront WhoTexts text.now read.0 read.1) }
+{
+    if let Some(rest) = behind(b'w', text) {
+        if let Some(number) = lone_digit(rest) {
+            return Some((Who::Worker(number), 2));
+        }
+    } else if let Some(rest) = behind(b'c', text) {
+        if let Some(number) = lone_digit(rest) {
+            return Some((Who::Client(number), 2));
+        }
+    }
+    match read_who(text) {
+        Ok(read) => Some(read),
+        Err(_) => None,
+    }
+}
+
+// The number of the digit that the text begins with, if a space stands behind it and it isn't 0.
+#[inline(always)]
+fn lone_digit(text: &[u8]) -> Option<u32>
+    ensures { IfSome result (λ number. (0 < length text.now) × (1 ≤ number) × (number < 10) × (slice_index text.now 0 ≡ 48 + number)) }
+{
+    match text {
+        [digit @ b'1'..=b'9', b' ', ..] => Some(u32::from(*digit - b'0')),
+        _ => None,
     }
 }
 

@@ -2,7 +2,9 @@
 
 ghost use Rattle.std.specs.Prelude.{◌≡◌, ◌≤◌, ◌<◌, ◌-◌, ◌^◌, ◌++◌, ◌∷◌, [], List, IfErr, IfOk, OnOk, length, max};
 ghost use Rattle.line_grammar.specs.Traces.{IsTraceFault};
-ghost use Rattle.tp_base.specs.declared.calls.Call.{Call};
+ghost use Rattle.pool_book.specs.Recordings.{IsFirstOf, outcome_behind};
+ghost use Rattle.tp_base.specs.declared.calls.Call.{Call as Made};
+ghost use Rattle.tp_base.specs.Ranges.{IsCallInRange};
 ghost use Rattle.tp_base.specs.declared.ids.Who.{Who as Actor};
 ghost use Rattle.tp_lines.specs.Answers.{text_of_outcome};
 ghost use Rattle.tp_lines.specs.Faults.{IsLine};
@@ -15,9 +17,10 @@ use crate::lines::read_call;
 use pool_book::{Book, program_limits};
 use std::alloc::{AllocError, Global};
 use tp_base::answers::Outcome;
+use tp_base::calls::Call;
 use tp_base::ids::Who;
 use tp_lines::good::read_good_call;
-use tp_lines::print::print_outcome;
+use tp_lines::print::{print_answer, print_full, print_look};
 
 /// How many entries the history of a trace has room for.
 const CAPACITY: u32 = 65_536;
@@ -36,7 +39,7 @@ const FRONT: usize = 65_536;
 pub fn trace(alloc: Global, bytes: &[u8]) -> Result<Vec<u8>, TextFault>
     requires { length bytes.now < 2 ^ 32 - 1 }
     ensures ok { IfOk result (λ text. IsOutput bytes.now text.items) }
-    ensures only { (calls : List (Actor × Call)) → IsTraceOf bytes.now calls → IsOrNoMemory (IsOutputOf calls) result }
+    ensures only { (calls : List (Actor × Made)) → IsTraceOf bytes.now calls → IsOrNoMemory (IsOutputOf calls) result }
     ensures err { IfErr result (λ fault. IsPlace (IsTraceFault IsLine bytes.now) fault) }
 {
     let guess = guess_clients(bytes);
@@ -65,7 +68,7 @@ fn play(alloc: Global, bytes: &[u8], clients: u32) -> Result<Played, TextFault>
     requires clients { clients ≤ 16 }
     ensures ok { IfOk result (λ played. IsPlayed clients bytes.now played) }
     ensures most { IfOk result (λ played. played.clients ≤ 16) }
-    ensures only { (calls : List (Actor × Call)) → IsTraceOf bytes.now calls → IsOrNoMemory (IsPlayedOf clients calls) result }
+    ensures only { (calls : List (Actor × Made)) → IsTraceOf bytes.now calls → IsOrNoMemory (IsPlayedOf clients calls) result }
     ensures err { IfErr result (λ fault. IsPlace (IsTraceFault IsLine bytes.now) fault) }
 {
     let mut book = Book::open(alloc, program_limits(clients, WORKERS), CAPACITY)?;
@@ -77,7 +80,7 @@ fn play(alloc: Global, bytes: &[u8], clients: u32) -> Result<Played, TextFault>
         match read_call(rest) {
             Err(place) => return Err(fault_behind(lines, place)),
             Ok(((who, call), size)) => {
-                print_line(&book.step(who, call), &mut text)?;
+                play_call(&mut book, who, call, &mut text)?;
                 greatest = greater_client(greatest, who);
                 lines += 1;
                 (_, rest) = rest.split_at(size);
@@ -90,11 +93,18 @@ fn play(alloc: Global, bytes: &[u8], clients: u32) -> Result<Played, TextFault>
     })
 }
 
-// Appends the line of an outcome.
-fn print_line(outcome: &Outcome, text: &mut Vec<u8>) -> Result<(), AllocError>
-    ensures { OnOk result (text.new.items ≡ text.old.items ++ (text_of_outcome outcome.now ++ 10 ∷ [])) }
+// Makes a call, and appends the line of its outcome. On want of memory the call was made.
+#[inline(always)]
+fn play_call(book: &mut Book, who: Who, call: Call, text: &mut Vec<u8>) -> Result<(), AllocError>
+    requires { IsCallInRange call }
+    ensures first { IsFirstOf book.old book.new who call (outcome_behind book.old who call) }
+    ensures printed { OnOk result (text.new.items ≡ text.old.items ++ (text_of_outcome (outcome_behind book.old who call) ++ 10 ∷ [])) }
 {
-    print_outcome(outcome, text)?;
+    match book.step(who, call) {
+        Outcome::Done(answer) => print_answer(&answer, text)?,
+        Outcome::Look(look) => print_look(&look, text)?,
+        Outcome::Full { room, cost } => print_full(room, cost, text)?,
+    }
     text.push(b'\n')?;
     Ok(())
 }

@@ -4,6 +4,7 @@ use Rattle.line_grammar.specs.Traces.{IsTraceFault}
 use Rattle.tp_lines.specs.Faults.{IsLine}
 use Rattle.tp_report.specs.Faults.{IsPlace}
 use Rattle.tp_report.proofs.Traced.{played_none, played_few, played_next, played_fault, played_no, played_all, played_only}
+use Rattle.pool_book.specs.Recordings.{outcome_behind}
 use Rattle.tp_report.proofs.playing.play.Goals as goal
 
 pub loop-rest-init : goal.loop-rest-init
@@ -35,8 +36,8 @@ pub loop-rest-preserved : goal.loop-rest-preserved
 loop-rest-preserved c =
     let l = c.loop-rest in
     rw c.split_at.ensures.back
-    (played_next c.args.clients c.args.bytes.now l.book l.text.items l.greatest l.lines l.rest.now l.invariant c.step-outcome.new.self (c.in-Ok.who, c.in-Ok.call) c.in-Ok.size c.greater_client-greatest.result c.step-outcome.result
-    c.print_line.new.text.items c.in-Ok.ensures c.step-outcome.ensures.first c.in_ok-print_line-in-Ok.ensures c.greater_client-greatest.ensures)
+    (played_next c.args.clients c.args.bytes.now l.book l.text.items l.greatest l.lines l.rest.now l.invariant c.play_call.new.book (c.in-Ok.who, c.in-Ok.call) c.in-Ok.size c.greater_client-greatest.result (outcome_behind l.book c.in-Ok.who c.in-Ok.call)
+    c.play_call.new.text.items c.in-Ok.ensures c.play_call.ensures.first c.in_ok-play_call-in-Ok.ensures.printed c.greater_client-greatest.ensures)
 
 pub returns-clause-ok : goal.returns-clause-ok
 returns-clause-ok c =
