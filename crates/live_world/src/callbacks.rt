@@ -12,12 +12,7 @@ use tp_base::rows::{CallbackRow, ObjectRow, Status};
 
 /// A callback of an object, as the object's environment was when the object was made. It waits for a
 /// worker.
-pub fn new_callback(
-    number: u64,
-    object: ObjectId,
-    row: &ObjectRow,
-    told: TakeResult,
-) -> CallbackRow
+pub fn new_callback(number: u64, object: ObjectId, row: &ObjectRow, told: TakeResult) -> CallbackRow
     ensures { result ≡ new_callback_of number object row.now told }
 {
     CallbackRow {

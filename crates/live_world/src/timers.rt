@@ -41,13 +41,7 @@ impl LiveWorld {
         ensures { result ≡ count_fired self.now.world trigger.now }
     {
         match trigger {
-            Trigger::SetTimer { due, .. } => {
-                if self.expires_at_once(*due) {
-                    1
-                } else {
-                    0
-                }
-            }
+            Trigger::SetTimer { due, .. } => { if self.expires_at_once(*due) { 1 } else { 0 } }
             Trigger::Advance { now } => self.timers.count_due(*now),
         }
     }

@@ -45,7 +45,9 @@ macro_rules! environ_refusal {
     }};
 }
 
-pub(crate) use {environ_refusal, first_of, object_refusal};
+pub(crate) use environ_refusal;
+pub(crate) use first_of;
+pub(crate) use object_refusal;
 
 /// Whether one of two conditions holds.
 pub(crate) fn either(first: bool, second: bool) -> bool
