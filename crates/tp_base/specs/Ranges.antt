@@ -3,7 +3,7 @@ use Rattle.std.specs.Prelude.{◌≡◌, ℕ, ℤ, ◌<◌, ◌≤◌, ◌^◌, 
 use Rattle.std.specs.Int.{w64}
 use Rattle.tp_base.specs.declared.limits.Limits.{Limits}
 use Rattle.tp_base.specs.declared.calls.Call.{Call}
-use Rattle.tp_base.specs.declared.calls.Call.TheVariants.{ClosePool, SetMaximum, SetMinimum, Create, CloseObject, SubmitSimple, SubmitWork, SetTimer, SetTimerEx, IsTimerSet, Advance, BeginWait}
+use Rattle.tp_base.specs.declared.calls.Call.TheVariants.{ClosePool, SetMaximum, SetMinimum, Create, CloseObject, SubmitSimple, SubmitWork, SetTimer, SetTimerEx, IsTimerSet, Advance, BeginWait, BeginAcquire, CreateSemaphore, SetEvent, ResetEvent, ReleaseSemaphore, ReleaseLock}
 use Rattle.tp_base.specs.declared.calls.Environ.{Environ}
 use Rattle.tp_base.specs.declared.answers.Answer.{Answer}
 use Rattle.tp_base.specs.declared.answers.Answer.TheVariants as answer
@@ -50,6 +50,10 @@ IsDueInRange (Some due) = FitsSigned w64 due
 abbrev pub IsSettingInRange : Option ℤ → ℕ → ℕ → Type 0
 IsSettingInRange due period window = IsDueInRange due × (period < 2 ^ 32) × (window < 2 ^ 32)
 
+-- the greatest count of a semaphore
+abbrev pub count_most : ℕ
+count_most = 2147483647
+
 -- the numbers of a call are those that a line can have
 abbrev pub IsCallInRange : Call → Type 0
 IsCallInRange (Create kind routine context env) = IsRoutineInRange routine.0 × IsEnvironInRange env × (context < 2 ^ 64)
@@ -61,6 +65,12 @@ IsCallInRange (SetTimerEx object due period window) = (object.0 ≤ 65535) × Is
 IsCallInRange (IsTimerSet object) = object.0 ≤ 65535
 IsCallInRange (Advance ticks) = ticks ≤ clock_end
 IsCallInRange (BeginWait kind object cancel) = object.0 ≤ 65535
+IsCallInRange (BeginAcquire kernel) = kernel.0 ≤ 65535
+IsCallInRange (CreateSemaphore initial maximum) = (initial ≤ count_most) × (maximum ≤ count_most)
+IsCallInRange (SetEvent kernel) = kernel.0 ≤ 65535
+IsCallInRange (ResetEvent kernel) = kernel.0 ≤ 65535
+IsCallInRange (ReleaseSemaphore kernel count) = (kernel.0 ≤ 65535) × (1 ≤ count) × (count ≤ count_most)
+IsCallInRange (ReleaseLock lock kernel) = kernel.0 ≤ 65535
 IsCallInRange (ClosePool pool) = pool.0 ≤ 65535
 IsCallInRange (SetMaximum pool value) = (pool.0 ≤ 65535) × (value < 2 ^ 32)
 IsCallInRange (SetMinimum pool value) = (pool.0 ≤ 65535) × (value < 2 ^ 32)
@@ -73,7 +83,7 @@ IsResultInRange _ = Unit {0}
 abbrev pub IsRefusalInRange : Refusal → Type 0
 IsRefusalInRange (refusal.HasMembers object) = object.0 ≤ 65535
 IsRefusalInRange (refusal.OperationsOutstanding io) = io.0 ≤ 65535
-IsRefusalInRange (refusal.OverMaximum count) = count ≤ 2147483647
+IsRefusalInRange (refusal.OverMaximum count) = count ≤ count_most
 IsRefusalInRange _ = Unit {0}
 
 -- the numbers of an answer are those that a line can have
@@ -87,7 +97,7 @@ IsAnswerInRange (answer.Notice object routine context cleanup) = (object.0 ≤ 6
 IsAnswerInRange (answer.Started callback) = callback < 2 ^ 64
 IsAnswerInRange (answer.Operation callback) = callback < 2 ^ 64
 IsAnswerInRange (answer.Cancelled callback) = callback < 2 ^ 64
-IsAnswerInRange (answer.Count previous first count) = (previous ≤ 2147483647) × (first < 2 ^ 64) × (count ≤ 65535)
+IsAnswerInRange (answer.Count previous first count) = (previous ≤ count_most) × (first < 2 ^ 64) × (count ≤ 65535)
 IsAnswerInRange (answer.Advanced now first count) = (now ≤ clock_end) × (first < 2 ^ 64) × (count ≤ 65535)
 IsAnswerInRange (answer.Attached pool) = pool.0 ≤ 65535
 IsAnswerInRange (answer.Taken callback object routine context result) =

@@ -3,7 +3,10 @@
 ghost use Rattle.std.specs.Prelude.{◌↔◌, IsTrue};
 ghost use Rattle.tp_base.specs.Ranges.{IsCallInRange, IsEnvironInRange, IsRoutineInRange};
 
-use crate::ids::{GroupId, ObjectId, PoolId, RoutineId};
+use crate::ids::{GroupId, KernelId, ObjectId, PoolId, RoutineId};
+
+/// The greatest count of a semaphore, and the greatest maximum that one can have.
+pub const COUNT_MOST: u32 = 2_147_483_647;
 
 /// The last moment of the clock, which counts units of 100 ns from 0.
 pub const CLOCK_END: u64 = 9_223_372_036_854_775_807;
@@ -36,6 +39,15 @@ pub struct Environ {
     pub priority: Priority,
     /// Callbacks are expected to run long (`SetThreadpoolCallbackRunsLong`).
     pub long: bool,
+}
+
+/// The kind of a lock. Both belong to one actor at a time, who may take them again.
+#[derive(Clone, Copy, Debug, PartialEq)]
+pub enum Lock {
+    /// A mutex, as `CreateMutex` makes.
+    Mutex,
+    /// A critical section, as `InitializeCriticalSection` makes.
+    Section,
 }
 
 /// A call of one actor.
@@ -111,9 +123,51 @@ pub enum Call {
         object: ObjectId,
         cancel: bool,
     },
+    /// Begins a wait for a kernel object, which is taken when the wait ends: `WaitForSingleObject`,
+    /// and for a section `EnterCriticalSection`.
+    BeginAcquire {
+        kernel: KernelId,
+    },
     /// Ends the wait that the actor has begun, if nothing is left to wait for: the return of the
     /// function that began it.
     End,
+    /// Makes an event, which a manual one stays until it is reset, while one that isn't is reset as
+    /// it is taken: `CreateEvent`.
+    CreateEvent {
+        manual: bool,
+        signalled: bool,
+    },
+    /// Makes a semaphore: `CreateSemaphore`. The maximum is at least 1 and at least the initial
+    /// count.
+    CreateSemaphore {
+        initial: u32,
+        maximum: u32,
+    },
+    /// Makes a lock, free or taken once by the actor: `CreateMutex`, and for a section
+    /// `InitializeCriticalSection`.
+    CreateLock {
+        lock: Lock,
+        owned: bool,
+    },
+    /// Makes an event signalled: `SetEvent`.
+    SetEvent {
+        kernel: KernelId,
+    },
+    /// Makes an event not signalled: `ResetEvent`.
+    ResetEvent {
+        kernel: KernelId,
+    },
+    /// Raises the count of a semaphore, by 1 to 2,147,483,647: `ReleaseSemaphore`.
+    ReleaseSemaphore {
+        kernel: KernelId,
+        count: u32,
+    },
+    /// Gives back one taking of a lock that the actor owns: `ReleaseMutex`, and for a section
+    /// `LeaveCriticalSection`.
+    ReleaseLock {
+        lock: Lock,
+        kernel: KernelId,
+    },
     /// An unattached worker joins a pool that needs one.
     Attach,
     /// An idle worker leaves its pool, if it isn't wanted there.
@@ -175,6 +229,16 @@ fn is_in_range(call: Call) -> bool
         | Call::IsTimerSet { object }
         | Call::BeginWait { object, .. } => object.0 <= 65_535,
         Call::Advance { ticks } => ticks <= CLOCK_END,
+        Call::CreateSemaphore { initial, maximum } => {
+            initial <= COUNT_MOST && maximum <= COUNT_MOST
+        }
+        Call::BeginAcquire { kernel }
+        | Call::SetEvent { kernel }
+        | Call::ResetEvent { kernel }
+        | Call::ReleaseLock { kernel, .. } => kernel.0 <= 65_535,
+        Call::ReleaseSemaphore { kernel, count } => {
+            kernel.0 <= 65_535 && 1 <= count && count <= COUNT_MOST
+        }
         Call::ClosePool { pool } | Call::SetMaximum { pool, .. } | Call::SetMinimum { pool, .. } =>
             pool.0 <= 65_535,
         Call::CreatePool
@@ -185,6 +249,8 @@ fn is_in_range(call: Call) -> bool
         | Call::MayRunLong
         | Call::Disassociate
         | Call::End
+        | Call::CreateEvent { .. }
+        | Call::CreateLock { .. }
         | Call::Finish => true,
     }
 }

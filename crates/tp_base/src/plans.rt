@@ -1,8 +1,8 @@
 //! What a call comes to, as data: a refusal, a look, or an answer with the change that goes with it.
 
 use crate::answers::{Answer, Look, Refusal};
-use crate::ids::{ObjectId, PoolId, Who};
-use crate::rows::{CallbackRow, ObjectRow, WaitTarget};
+use crate::ids::{KernelId, ObjectId, PoolId, Who};
+use crate::rows::{CallbackRow, KernelState, ObjectRow, WaitTarget};
 
 /// A worker that is attached to a pool and runs nothing.
 #[derive(Clone, Copy)]
@@ -41,10 +41,23 @@ pub enum Mark {
 /// How a begun wait ends.
 #[derive(Clone, Copy)]
 pub enum WaitEnd {
-    /// Nothing that it covers is outstanding any more.
+    /// Nothing that it covers is outstanding any more; a wait for a kernel object takes it.
     Free,
     /// Something that it covers is pending, and the history has no room for it to be run.
     Exhausted,
+}
+
+/// How a kernel object changes.
+#[derive(Clone, Copy)]
+pub enum KernelChange {
+    /// An event becomes signalled.
+    Set,
+    /// An event is no longer signalled.
+    Reset,
+    /// The count of a semaphore rises by so much.
+    Raise(u32),
+    /// Its owner gives back one taking of a lock, which is free after the last.
+    Leave,
 }
 
 /// What makes callbacks pending by time.
@@ -87,6 +100,12 @@ pub enum Change {
         first: u64,
         count: u32,
     },
+    /// A further kernel object.
+    CreateKernel(KernelState),
+    ChangeKernel {
+        kernel: KernelId,
+        how: KernelChange,
+    },
     /// A worker joins a pool.
     Attach {
         worker: u32,
@@ -106,7 +125,7 @@ pub enum Change {
     /// The callback that a worker runs returns.
     Return(Busy),
     /// An actor begins a wait, which covers what is then outstanding; with `cancel` what is pending
-    /// is cancelled first.
+    /// is cancelled first. A wait for a kernel object covers nothing.
     BeginWait {
         who: Who,
         target: WaitTarget,
