@@ -15,7 +15,8 @@ use Rattle.cancel_wait.specs.Rising.{all_but}
 use Rattle.cancel_wait.specs.Covers.{Covers, wait_of, with_wait}
 use Rattle.tp_model.specs.World.{BegunWait}
 use Rattle.tp_model.specs.Counts.{has_number, numbered}
-use Rattle.tp_model.specs.Conditions.{is_actor, is_same_actor}
+use Rattle.tp_base.specs.Actors.{is_same_actor}
+use Rattle.tp_model.specs.Conditions.{is_actor}
 use Rattle.tp_model.specs.Changes.{replaced}
 use Rattle.tp_model.specs.Support.Sound.{IsRising, IsWaitSound}
 use Rattle.tp_model.specs.Support.Allowed.{IsObjectTarget}

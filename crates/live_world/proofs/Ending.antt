@@ -6,7 +6,7 @@ use Rattle.tp_base.specs.declared.plans.WaitEnd.{WaitEnd}
 use Rattle.tp_base.specs.declared.plans.Change.TheVariants as change
 use Rattle.cancel_wait.specs.Covers.{Covers, wait_of, with_wait}
 use Rattle.tp_model.specs.World.{BegunWait}
-use Rattle.tp_model.specs.Conditions.{is_same_actor}
+use Rattle.tp_base.specs.Actors.{is_same_actor}
 use Rattle.tp_model.specs.Support.Allowed.{IsAllowed, MayEnd}
 use Rattle.live_world.specs.declared.begun.BegunWaits.{BegunWaits}
 use Rattle.live_world.specs.declared.LiveWorld.TheInside.{Inside}

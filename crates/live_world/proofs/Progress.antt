@@ -13,7 +13,7 @@ use Rattle.live_world.specs.Parts.{place_of}
 use Rattle.live_world.specs.View.{shown, IsLiveWorld}
 use Rattle.live_world.specs.Waiting.{held_by, progress_with, progress_in, progress_of}
 use Rattle.live_world.specs.declared.waits.Progress.TheVariants.{NotBegun, Free, Starved, Holds}
-use Rattle.tp_model.specs.Conditions.{is_same_actor}
+use Rattle.tp_base.specs.Actors.{is_same_actor}
 use Rattle.live_world.proofs.Covered.{not_found, none_found, begun_there, no_stranger}
 
 -- what the barrier of an actor has is what its wait holds

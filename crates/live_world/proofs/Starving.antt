@@ -16,7 +16,7 @@ use Rattle.tp_base.specs.declared.rows.WaitTarget.TheVariants.{Object, Group, Ke
 use Rattle.tp_model.specs.World.{World, BegunWait}
 use Rattle.tp_model.specs.Counts.{numbered, has_number, attached, callback_of, is_pending}
 use Rattle.tp_model.specs.Waits.{is_held_for, is_outstanding_for, is_held, held, wait_of}
-use Rattle.tp_model.specs.Conditions.{is_same_actor}
+use Rattle.tp_base.specs.Actors.{is_same_actor}
 use Rattle.tp_model.specs.Calls.Waits.{is_starved, holds_starved}
 use Rattle.tp_model.specs.Laws.Entries.{is_among}
 use Rattle.tp_model.specs.Laws.Once.{is_left}

@@ -22,7 +22,8 @@ use Rattle.pool_rows.specs.Pools.{Pools}
 use Rattle.pool_rows.specs.declared.WorkerRow as kept
 use Rattle.tp_model.specs.World.{World, BegunWait}
 use Rattle.tp_model.specs.Counts.{has_number, is_pending_in, is_high, is_normal, is_low}
-use Rattle.tp_model.specs.Conditions.{is_same_actor, is_same_kind}
+use Rattle.tp_base.specs.Actors.{is_same_actor}
+use Rattle.tp_model.specs.Conditions.{is_same_kind}
 use Rattle.tp_model.specs.Waits.{is_held_for, is_outstanding_for}
 use Rattle.live_world.specs.declared.objects.Object as made
 

@@ -4,7 +4,7 @@ ghost use Rattle.std.specs.Prelude.{◌≡◌, List, [], ◌∷◌, ◌++◌, no
 ghost use Rattle.std.specs.List.{filter};
 ghost use Rattle.std.specs.Borrow.{ftrue};
 ghost use Rattle.tp_model.specs.World.{BegunWait};
-ghost use Rattle.tp_model.specs.Conditions.{is_same_actor};
+ghost use Rattle.tp_base.specs.Actors.{is_same_actor};
 ghost use Rattle.tp_model.specs.Changes.{new_wait};
 
 use callback_rows::CallbackRows;

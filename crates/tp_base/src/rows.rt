@@ -110,12 +110,11 @@ pub struct TimerSetting {
     pub window: u32,
 }
 
-/// A wait object that is armed.
+/// A wait object that is armed, and on which kernel object.
 #[derive(Clone, Copy)]
 pub struct Arming {
     pub object: ObjectId,
     pub kernel: KernelId,
-    pub timeout: Option<u64>,
 }
 
 /// A worker thread: its pool, if it is attached, and the number of the callback that it runs.

@@ -16,7 +16,7 @@ use Rattle.tp_base.specs.declared.answers.Entry.{Entry}
 use Rattle.tp_base.specs.declared.limits.Limits.{Limits}
 use Rattle.tp_model.specs.World.{World, opening, unattached}
 use Rattle.tp_model.specs.Counts.{numbered, is_running, is_running_in, is_attached_to, running}
-use Rattle.tp_model.specs.Conditions.{is_same_actor}
+use Rattle.tp_base.specs.Actors.{is_same_actor}
 use Rattle.tp_model.specs.Changes.{replaced, taken as taken_row, returned}
 use Rattle.tp_model.specs.Support.Sound.{IsSound, IsWorkerSound, AreWorkersSound}
 use Rattle.tp_model.specs.Laws.Entries.{is_taken, is_returned, attached_by, taken_by, is_by, run_after, pool_after, is_within_run, last_pool, maximum_after, told_maximum}

@@ -28,7 +28,8 @@ use Rattle.tp_model.specs.Sources.{Job, firing, sources_of, rows_of}
 use Rattle.tp_model.specs.World.{World, new_pool, unattached, BegunWait}
 use Rattle.tp_model.specs.Counts.{is_pending, numbered, has_number}
 use Rattle.tp_model.specs.Changes.{change_pool, pool_after, with_pool, marked, changed, replaced, loosened, release_object, new_wait, without_wait}
-use Rattle.tp_model.specs.Conditions.{is_in_wait, is_same_actor}
+use Rattle.tp_base.specs.Actors.{is_same_actor}
+use Rattle.tp_model.specs.Conditions.{is_in_wait}
 use Rattle.tp_model.specs.Waits.{is_of, is_cancelled_by, cancel_where, is_covered_by, wait_of}
 use Rattle.tp_model.specs.Support.Sound.{IsSound}
 use Rattle.tp_model.specs.Support.Allowed.{IsAllowed, IsMadeBy, Runs, MayEnd, IsObjectTarget}

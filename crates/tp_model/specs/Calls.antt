@@ -5,6 +5,7 @@ pub mod Objects
 pub mod Work
 pub mod Workers
 pub mod InCallback
+pub mod Kernels
 pub mod Timers
 pub mod Waits
 pub mod Clients

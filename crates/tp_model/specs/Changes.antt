@@ -10,20 +10,26 @@ use Rattle.tp_base.specs.declared.plans.PoolChange.TheVariants.{Close, Maximum, 
 use Rattle.tp_base.specs.declared.rows.Slots.{Slots}
 use Rattle.tp_base.specs.declared.rows.Status.{Status}
 use Rattle.tp_base.specs.declared.rows.Status.TheVariants.{Running, Returned}
+use Rattle.tp_base.specs.declared.plans.WaitEnd.{WaitEnd}
+use Rattle.tp_base.specs.declared.plans.WaitEnd.TheVariants.{Free, Exhausted}
+use Rattle.tp_base.specs.declared.rows.KernelRow.{KernelRow}
 use Rattle.tp_base.specs.declared.rows.PoolRow.{PoolRow}
 use Rattle.tp_base.specs.declared.rows.ObjectRow.{ObjectRow}
 use Rattle.tp_base.specs.declared.rows.CallbackRow.{CallbackRow}
 use Rattle.tp_base.specs.declared.rows.WorkerRow.{WorkerRow}
 use Rattle.tp_base.specs.declared.rows.ClientRow.{ClientRow}
 use Rattle.tp_base.specs.declared.rows.WaitTarget.{WaitTarget}
+use Rattle.tp_base.specs.declared.rows.WaitTarget.TheVariants.{Object, Group, Kernel}
 use Rattle.tp_base.specs.declared.ids.Who.{Who}
 use Rattle.tp_base.specs.declared.ids.ObjectId.{ObjectId}
 use Rattle.tp_base.specs.Timers.{without_setting}
 use Rattle.tp_model.specs.World.{World, BegunWait, new_pool, unattached}
 use Rattle.tp_model.specs.Counts.{numbered, has_number}
-use Rattle.tp_model.specs.Conditions.{is_same_actor}
+use Rattle.tp_base.specs.Actors.{is_same_actor}
+use Rattle.tp_base.specs.Kernels.{taken_by, state_after}
+use Rattle.tp_model.specs.Kernels.{new_kernel, kernel_changed}
 use Rattle.tp_model.specs.Sources.{sources_of, firing, fired}
-use Rattle.tp_model.specs.Waits.{is_cancelled_by, cancel_where, covered_of}
+use Rattle.tp_model.specs.Waits.{is_cancelled_by, cancel_where, covered_of, wait_of}
 
 -- ---- one list of a world
 
@@ -108,6 +114,20 @@ begin_wait w who target cancel kept = record w { callbacks = kept; waits = w.wai
 abbrev pub without_wait : World → Who → World
 without_wait w who = record w { waits = filter (λ (b : BegunWait). not (is_same_actor b.actor who)) w.waits }
 
+-- an actor that waits for a kernel object takes it as its wait ends
+abbrev pub kernels_taken : World → Who → WaitTarget → List KernelRow
+kernels_taken w who (Object object) = w.kernels
+kernels_taken w who (Group group) = w.kernels
+kernels_taken w who (Kernel kernel) = kernel_changed (taken_by who) w.kernels kernel.0
+
+abbrev pub kernels_left : World → Who → WaitEnd → Option BegunWait → List KernelRow
+kernels_left w who Exhausted wait = w.kernels
+kernels_left w who Free None = w.kernels
+kernels_left w who Free (Some b) = kernels_taken w who b.target
+
+abbrev pub end_wait : World → Who → WaitEnd → World
+end_wait w who how = record (without_wait w who) { kernels = kernels_left w who how (wait_of w who) }
+
 -- ---- each change
 
 abbrev pub changed : World → Change → World
@@ -118,6 +138,8 @@ changed w (change.CreateObject row) = with_object w row
 changed w (change.ReleaseObject object) = release_object w object (numbered w.objects object.0)
 changed w (change.QueueCallback callback) = with_new_callback w callback
 changed w (change.Fire trigger first count) = fired w first (firing trigger (sources_of w))
+changed w (change.CreateKernel state) = record w { kernels = w.kernels ++ new_kernel state ∷ [] }
+changed w (change.ChangeKernel kernel how) = record w { kernels = kernel_changed (state_after how) w.kernels kernel.0 }
 changed w (change.Attach worker pool) = with_worker w worker (record { pool = Some pool; callback = None })
 changed w (change.Detach by) = with_worker w by.worker unattached
 changed w (change.Take by callback) =
@@ -126,5 +148,5 @@ changed w (change.Mark by mark) = with_callback w (marked mark by.callback)
 changed w (change.Return by) =
     with_worker (with_callback w (returned by.callback)) by.worker (record { pool = Some by.pool; callback = None })
 changed w (change.BeginWait who target cancel) = begin_wait w who target cancel (cancel_where (is_cancelled_by target cancel) w.callbacks)
-changed w (change.EndWait who how) = without_wait w who
+changed w (change.EndWait who how) = end_wait w who how
 changed w (change.Finish client) = with_client w client finished

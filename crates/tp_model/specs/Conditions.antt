@@ -4,6 +4,7 @@ use Rattle.std.specs.List.{list_any}
 use Rattle.std.specs.Option.{option_map_or}
 use Rattle.tp_base.specs.declared.ids.Who.{Who}
 use Rattle.tp_base.specs.declared.ids.Who.TheVariants.{Client, Worker}
+use Rattle.tp_base.specs.Actors.{is_same_actor}
 use Rattle.tp_base.specs.declared.calls.Kind.{Kind}
 use Rattle.tp_base.specs.declared.calls.Kind.TheVariants.{Work, Timer, Wait, Io}
 use Rattle.tp_base.specs.declared.rows.PoolRow.{PoolRow}
@@ -74,11 +75,6 @@ busy_in w worker (Some row) = busy_row w worker row.pool row.callback
 abbrev pub busy_of : World → Who → Option Busy
 busy_of w (Client number) = None
 busy_of w (Worker number) = busy_in w number (numbered w.workers number)
-
-abbrev pub is_same_actor : Who → Who → Bool
-is_same_actor (Client a) (Client b) = a == b
-is_same_actor (Worker a) (Worker b) = a == b
-is_same_actor _ _ = false
 
 abbrev pub is_in_wait : World → Who → Bool
 is_in_wait w who = list_any (λ (b : BegunWait). is_same_actor b.actor who) w.waits

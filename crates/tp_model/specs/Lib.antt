@@ -3,6 +3,7 @@ pub mod Changes
 pub mod Conditions
 pub mod Counts
 pub mod History
+pub mod Kernels
 pub mod Laws
 pub mod Next
 pub mod Refusing

@@ -10,7 +10,7 @@ use Rattle.tp_base.specs.declared.rows.WaitTarget.{WaitTarget}
 use Rattle.tp_base.specs.declared.rows.WaitTarget.TheVariants.{Object, Group, Kernel}
 use Rattle.tp_model.specs.World.{World, BegunWait}
 use Rattle.tp_model.specs.Counts.{callback_of, is_pending, is_running}
-use Rattle.tp_model.specs.Conditions.{is_same_actor}
+use Rattle.tp_base.specs.Actors.{is_same_actor}
 
 -- the callback is of what the wait is for
 abbrev pub is_of : WaitTarget → CallbackRow → Bool

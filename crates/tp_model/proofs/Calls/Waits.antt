@@ -20,7 +20,8 @@ use Rattle.tp_base.specs.declared.rows.WaitTarget.TheVariants.{Object}
 use Rattle.tp_base.specs.Ranges.{IsAnswerInRange}
 use Rattle.tp_model.specs.World.{World, BegunWait}
 use Rattle.tp_model.specs.Counts.{has_number, attached, callback_of}
-use Rattle.tp_model.specs.Conditions.{is_actor, is_finished, is_object, is_released, is_same_actor, is_associated, is_in_wait, is_object_of, is_without_callback}
+use Rattle.tp_base.specs.Actors.{is_same_actor}
+use Rattle.tp_model.specs.Conditions.{is_actor, is_finished, is_object, is_released, is_associated, is_in_wait, is_object_of, is_without_callback}
 use Rattle.tp_model.specs.Refusing.{first_refusal, unless_refused}
 use Rattle.tp_model.specs.Calls.Waits.{begin_wait_refusals, begin_wait_plan, end_refusals, end_held, end_wait, end_plan, holds_starved, count_covered, count_cancelled_by, is_starved}
 use Rattle.tp_model.specs.Waits.{wait_of, held, is_outstanding_for, is_cancelled_by, cancelled, cancel_where, is_covered_by, covered_of, is_held}

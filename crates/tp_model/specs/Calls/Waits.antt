@@ -1,13 +1,15 @@
--- Waits for callbacks: WaitForThreadpoolWorkCallbacks and its like for the other kinds. BeginWait is the entry of the
--- function, and End its return.
+-- Waits for callbacks: WaitForThreadpoolWorkCallbacks and its like for the other kinds; and for kernel objects:
+-- WaitForSingleObject and EnterCriticalSection. BeginWait and BeginAcquire are the entry of the function, and End its
+-- return.
 use Rattle.std.specs.Prelude.{ℕ, Bool, false, not, ◌||◌, ◌&&◌, ◌==◌, nat_lt, List, [], ◌∷◌, ◌++◌, length, if◌then◌else◌, is_none, Option, None, Some}
 use Rattle.std.specs.List.{filter, list_any}
 use Rattle.std.specs.Option.{option_map_or}
 use Rattle.tp_base.specs.declared.ids.Who.{Who}
+use Rattle.tp_base.specs.declared.ids.KernelId.{KernelId}
 use Rattle.tp_base.specs.declared.ids.ObjectId.{ObjectId}
 use Rattle.tp_base.specs.declared.calls.Kind.{Kind}
 use Rattle.tp_base.specs.declared.answers.Refusal.{Refusal}
-use Rattle.tp_base.specs.declared.answers.Refusal.TheVariants.{NoSuch, Released, NotRunning, NoWaitBegun, OwnCallback}
+use Rattle.tp_base.specs.declared.answers.Refusal.TheVariants.{NoSuch, Released, NotRunning, InWait, NoWaitBegun, OwnCallback}
 use Rattle.tp_base.specs.declared.answers.Answer.TheVariants as answer
 use Rattle.tp_base.specs.declared.answers.Look.TheVariants as look
 use Rattle.tp_base.specs.declared.plans.WaitEnd.TheVariants.{Free, Exhausted}
@@ -15,11 +17,13 @@ use Rattle.tp_base.specs.declared.plans.Plan.{Plan}
 use Rattle.tp_base.specs.declared.plans.Plan.TheVariants.{Refused, Looked, Does}
 use Rattle.tp_base.specs.declared.plans.Change.TheVariants as change
 use Rattle.tp_base.specs.declared.rows.WaitTarget.{WaitTarget}
-use Rattle.tp_base.specs.declared.rows.WaitTarget.TheVariants.{Object}
+use Rattle.tp_base.specs.declared.rows.WaitTarget.TheVariants.{Object, Group, Kernel}
 use Rattle.tp_base.specs.declared.rows.CallbackRow.{CallbackRow}
 use Rattle.tp_model.specs.World.{World, BegunWait}
 use Rattle.tp_model.specs.Counts.{attached, callback_of, is_pending}
-use Rattle.tp_model.specs.Conditions.{is_actor, is_finished, is_without_callback, runs_own}
+use Rattle.tp_model.specs.Conditions.{is_actor, is_finished, is_without_callback, is_in_wait, runs_own}
+use Rattle.tp_base.specs.Kernels.{may_take}
+use Rattle.tp_model.specs.Kernels.{is_kernel, is_kernel_that}
 use Rattle.tp_model.specs.Waits.{is_cancelled_by, cancel_where, covered_of, wait_of, held}
 use Rattle.tp_model.specs.Refusing.{first_refusal, unless_refused, object_refusals}
 
@@ -39,6 +43,20 @@ unfoldable pub begin_wait_plan : World → Who → Kind → ObjectId → Bool �
 begin_wait_plan w who kind object cancel =
     unless_refused (first_refusal (begin_wait_refusals w who kind object.0))
     (Does (answer.Begun (count_covered w (Object object) cancel) (count_cancelled_by w (Object object) cancel)) (change.BeginWait who (Object object) cancel))
+
+-- ---- BeginAcquire
+
+abbrev pub begin_acquire_refusals : World → Who → ℕ → List (Bool × Refusal)
+begin_acquire_refusals w who kernel =
+    (not (is_actor w who) || not (is_kernel w kernel), NoSuch)
+    ∷ (is_finished w who, Released)
+    ∷ (is_without_callback w who, NotRunning)
+    ∷ (is_in_wait w who, InWait)
+    ∷ []
+
+unfoldable pub begin_acquire_plan : World → Who → KernelId → Plan
+begin_acquire_plan w who kernel =
+    unless_refused (first_refusal (begin_acquire_refusals w who kernel.0)) (Does answer.Done (change.BeginWait who (Kernel kernel) false))
 
 -- ---- End
 
@@ -65,9 +83,19 @@ end_held w room who (number ∷ numbers) =
     then Does answer.Exhausted (change.EndWait who Exhausted)
     else Looked (look.NotYet number)
 
+-- the kernel object is taken, as soon as the actor may take it
+abbrev pub end_acquire : World → Who → KernelId → Plan
+end_acquire w who kernel =
+    if is_kernel_that (may_take who) w kernel.0 then Does answer.Ended (change.EndWait who Free) else Looked (look.NotYetKernel kernel)
+
+abbrev pub end_for : World → ℕ → Who → BegunWait → WaitTarget → Plan
+end_for w room who b (Object object) = end_held w room who (held w b)
+end_for w room who b (Group group) = end_held w room who (held w b)
+end_for w room who b (Kernel kernel) = end_acquire w who kernel
+
 abbrev pub end_wait : World → ℕ → Who → Option BegunWait → Plan
 end_wait w room who None = Refused NoWaitBegun
-end_wait w room who (Some b) = end_held w room who (held w b)
+end_wait w room who (Some b) = end_for w room who b b.target
 
 unfoldable pub end_plan : World → ℕ → Who → Plan
 end_plan w room who = unless_refused (first_refusal (end_refusals w who)) (end_wait w room who (wait_of w who))

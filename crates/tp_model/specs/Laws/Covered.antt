@@ -4,7 +4,7 @@ use Rattle.std.specs.List.{find, list_any}
 use Rattle.tp_base.specs.declared.ids.Who.{Who}
 use Rattle.tp_base.specs.declared.answers.Answer.TheVariants.{Ended}
 use Rattle.tp_base.specs.declared.answers.Entry.{Entry}
-use Rattle.tp_model.specs.Conditions.{is_same_actor}
+use Rattle.tp_base.specs.Actors.{is_same_actor}
 use Rattle.tp_model.specs.Laws.Entries.{Run, Begins, begins_by, is_among, is_ending, is_loosened, is_returned, numbers_made, numbers_queued, run_by}
 
 -- the entry ends the actor's wait

@@ -6,7 +6,13 @@ use Rattle.tp_base.specs.declared.ids.ObjectId.{ObjectId}
 use Rattle.tp_base.specs.declared.ids.PoolId.{PoolId}
 use Rattle.tp_base.specs.declared.plans.WaitEnd.{WaitEnd}
 use Rattle.tp_base.specs.declared.rows.WaitTarget.{WaitTarget}
-use Rattle.tp_base.specs.declared.rows.WaitTarget.TheVariants.{Object}
+use Rattle.tp_base.specs.declared.rows.WaitTarget.TheVariants.{Object, Group, Kernel}
+use Rattle.tp_base.specs.declared.rows.KernelState.{KernelState}
+use Rattle.tp_base.specs.declared.rows.KernelState.TheVariants as state
+use Rattle.tp_base.specs.declared.rows.KernelRow.{KernelRow}
+use Rattle.tp_base.specs.declared.plans.KernelChange.{KernelChange}
+use Rattle.tp_base.specs.declared.plans.KernelChange.TheVariants as kernel
+use Rattle.tp_base.specs.declared.ids.KernelId.{KernelId}
 use Rattle.tp_base.specs.declared.plans.WaitEnd.TheVariants.{Free}
 use Rattle.tp_base.specs.declared.plans.Idle.{Idle}
 use Rattle.tp_base.specs.declared.plans.Busy.{Busy}
@@ -20,6 +26,8 @@ use Rattle.tp_base.specs.declared.rows.Status.TheVariants.{Running}
 use Rattle.tp_base.specs.declared.rows.ObjectRow.{ObjectRow}
 use Rattle.tp_base.specs.declared.rows.CallbackRow.{CallbackRow}
 use Rattle.tp_base.specs.Timers.{clock_end}
+use Rattle.tp_base.specs.Kernels.{may_take, is_event, is_semaphore, passes_by, takings_of}
+use Rattle.tp_model.specs.Kernels.{is_kernel, is_kernel_that}
 use Rattle.tp_model.specs.Sources.{count_fired}
 use Rattle.tp_model.specs.World.{World, BegunWait, unattached, unfinished}
 use Rattle.tp_model.specs.Counts.{numbered, callback_of, is_pending, maximum, running}
@@ -96,27 +104,55 @@ pub record IsUnreleased (w : World) (object : ObjectId) : Type 0 where
   pub stands : numbered w.objects object.0 ≡ Some row
   pub unreleased : row.released ≡ false
 
-abbrev pub IsObjectTarget : WaitTarget → Type 0
-IsObjectTarget (Object object) = Unit {0}
-IsObjectTarget _ = ⊥
+-- a kernel object that has its place; a lock is taken by who makes it, or by nobody
+pub record IsNewKernel (w : World) (state : KernelState) : Type 0 where
+  pub room : length w.kernels < w.limits.kernels
+  pub takings : takings_of state ≤ 1
+
+-- the kernel object is of the change's kind; a semaphore's count stays within its maximum
+abbrev pub Suits : KernelChange → KernelState → Type 0
+Suits kernel.Set state = is_event state ≡ true
+Suits kernel.Reset state = is_event state ≡ true
+Suits (kernel.Raise more) state = (is_semaphore state ≡ true) × (passes_by more state ≡ false)
+Suits kernel.Leave (state.Mutex owner takings) = Unit {0}
+Suits kernel.Leave (state.Section owner takings) = Unit {0}
+Suits kernel.Leave _ = ⊥
+
+pub record MayChange (w : World) (object : KernelId) (how : KernelChange) : Type 0 where
+  pub row : KernelRow
+  pub stands : numbered w.kernels object.0 ≡ Some row
+  pub suits : Suits how row.state
+
+-- no wait is for a group yet
+abbrev pub IsTarget : WaitTarget → Type 0
+IsTarget (Group group) = ⊥
+IsTarget _ = Unit {0}
 
 abbrev pub IsTargetMade : World → WaitTarget → Type 0
 IsTargetMade w (Object object) = is_object w object.0 ≡ true
-IsTargetMade w _ = ⊥
+IsTargetMade w (Group group) = ⊥
+IsTargetMade w (Kernel kernel) = is_kernel w kernel.0 ≡ true
 
--- an actor that has no wait begun, and an object to wait for
+-- what a wait is for may be taken by the actor, if it is a kernel object
+abbrev pub IsTakeable : World → Who → WaitTarget → Type 0
+IsTakeable w who (Kernel kernel) = is_kernel_that (may_take who) w kernel.0 ≡ true
+IsTakeable w who _ = Unit {0}
+
+-- an actor that has no wait begun, and something to wait for
 pub record MayBegin (w : World) (who : Who) (target : WaitTarget) : Type 0 where
   pub actor : is_actor w who ≡ true
   pub none : is_in_wait w who ≡ false
-  pub object : IsObjectTarget target
+  pub object : IsTarget target
   pub made : IsTargetMade w target
 
--- the wait that the actor has begun; it ends freely where nothing that it covers is outstanding any more
+-- the wait that the actor has begun; it ends freely where nothing that it covers is outstanding any more, and the actor
+-- may take the kernel object that it is for
 pub record MayEnd (w : World) (who : Who) (how : WaitEnd) : Type 0 where
   pub wait : BegunWait
   pub begun : wait_of w who ≡ Some wait
   pub unnoticed : wait.notices ≡ []
   pub free : how ≡ Free → held w wait ≡ []
+  pub takes : how ≡ Free → IsTakeable w who wait.target
 
 -- with the number that the next callback gets
 abbrev pub IsAllowed : ℕ → World → Change → Type 0
@@ -127,6 +163,8 @@ IsAllowed fresh w (change.CreateObject row) = IsNewObject w row
 IsAllowed fresh w (change.ReleaseObject object) = IsUnreleased w object
 IsAllowed fresh w (change.QueueCallback callback) = IsNewCallback fresh w callback
 IsAllowed fresh w (change.Fire trigger first count) = MayFire fresh w trigger first count
+IsAllowed fresh w (change.CreateKernel state) = IsNewKernel w state
+IsAllowed fresh w (change.ChangeKernel object how) = MayChange w object how
 IsAllowed fresh w (change.Attach worker pool) = MayAttach w worker pool
 IsAllowed fresh w (change.Detach by) = Idles w by
 IsAllowed fresh w (change.Take by callback) = MayTake w by callback

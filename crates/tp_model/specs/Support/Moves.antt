@@ -14,7 +14,8 @@ use Rattle.tp_base.specs.declared.rows.CallbackRow.{CallbackRow}
 use Rattle.tp_base.specs.declared.rows.WorkerRow.{WorkerRow}
 use Rattle.tp_model.specs.World.{World, BegunWait}
 use Rattle.tp_model.specs.Counts.{numbered, has_number, is_pending, running, maximum}
-use Rattle.tp_model.specs.Conditions.{is_in_wait, is_same_actor}
+use Rattle.tp_base.specs.Actors.{is_same_actor}
+use Rattle.tp_model.specs.Conditions.{is_in_wait}
 use Rattle.tp_model.specs.Waits.{cancel_where, is_covered_by, is_of, held, wait_of}
 use Rattle.tp_model.specs.Changes.{replaced, taken, returned}
 use Rattle.tp_model.specs.Laws.Entries.{Run, Begins, begins_by, is_among, is_ending, is_freeing, made_by, queued_by, maximum_after}

@@ -1,7 +1,10 @@
 -- The numbers of a world are in the ranges of lines, and so are those of every answer and look.
 use Rattle.std.specs.Prelude.{ℕ, ◌<◌, ◌≤◌, ◌+◌, ◌^◌, length, filter}
 use Rattle.std.specs.List.{AllByRecursion}
-use Rattle.tp_base.specs.Ranges.{AreLimitsInRange, IsRoutineInRange, IsResultInRange, IsRefusalInRange, IsAnswerInRange, IsLookInRange}
+use Rattle.tp_base.specs.declared.rows.KernelState.{KernelState}
+use Rattle.tp_base.specs.declared.rows.KernelState.TheVariants.{Semaphore}
+use Rattle.tp_base.specs.declared.rows.KernelRow.{KernelRow}
+use Rattle.tp_base.specs.Ranges.{count_most, AreLimitsInRange, IsRoutineInRange, IsResultInRange, IsRefusalInRange, IsAnswerInRange, IsLookInRange}
 use Rattle.tp_base.specs.declared.plans.Trigger.{Trigger}
 use Rattle.tp_base.specs.declared.plans.Trigger.TheVariants.{SetTimer, Advance}
 use Rattle.tp_base.specs.declared.plans.Change.{Change}
@@ -11,6 +14,7 @@ use Rattle.tp_base.specs.declared.plans.Plan.TheVariants.{Refused, Looked, Does}
 use Rattle.tp_base.specs.declared.rows.ObjectRow.{ObjectRow}
 use Rattle.tp_base.specs.declared.rows.CallbackRow.{CallbackRow}
 use Rattle.tp_base.specs.declared.rows.TimerSetting.{TimerSetting}
+use Rattle.tp_base.specs.Kernels.{takings_of}
 use Rattle.tp_model.specs.World.{World}
 use Rattle.tp_model.specs.Counts.{running, is_live}
 
@@ -25,10 +29,20 @@ pub record IsCallbackInRange (c : CallbackRow) : Type 0 where
   pub context : c.context < 2 ^ 64
   pub result : IsResultInRange c.result
 
+-- a semaphore's count is within its maximum, and that in range
+abbrev pub IsStateInRange : KernelState → Type 0
+IsStateInRange (Semaphore count maximum) = (count ≤ maximum) × (maximum ≤ count_most)
+IsStateInRange _ = Unit {0}
+
+-- no lock is taken more often than this
+abbrev pub AreTakenAtMost : ℕ → World → Type 0
+AreTakenAtMost most w = AllByRecursion (λ (k : KernelRow). takings_of k.state ≤ most) w.kernels
+
 -- the rows of a world, which each change keeps in range that brings none that isn't
 pub record AreRowsInRange (w : World) : Type 0 where
   pub objects : AllByRecursion IsObjectInRange w.objects
   pub callbacks : AllByRecursion IsCallbackInRange w.callbacks
+  pub kernels : AllByRecursion (λ (k : KernelRow). IsStateInRange k.state) w.kernels
   pub timers : AllByRecursion (λ (s : TimerSetting). s.object.0 ≤ 65535) w.settings
 
 abbrev pub IsTriggerInRange : Trigger → Type 0
@@ -39,6 +53,7 @@ abbrev pub IsChangeInRange : Change → Type 0
 IsChangeInRange (change.CreateObject row) = IsObjectInRange row
 IsChangeInRange (change.QueueCallback callback) = IsCallbackInRange callback
 IsChangeInRange (change.Fire trigger first count) = IsTriggerInRange trigger × (first + count ≤ 2 ^ 64)
+IsChangeInRange (change.CreateKernel state) = IsStateInRange state
 IsChangeInRange _ = Unit {0}
 
 -- all of a world that the numbers of answers and looks come from
@@ -46,6 +61,7 @@ pub record IsRanged (w : World) : Type 0 where
   pub limits : AreLimitsInRange w.limits
   pub pools_least : 1 ≤ length w.pools
   pub pools_most : length w.pools ≤ w.limits.pools
+  pub kernels_most : length w.kernels ≤ w.limits.kernels
   pub slots_most : length (filter (λ c. is_live c.status) w.callbacks) ≤ w.limits.slots
   pub running_most : (pool : ℕ) → running w pool ≤ 65535
   pub rows : AreRowsInRange w

@@ -14,7 +14,7 @@ use Rattle.tp_base.specs.declared.rows.WaitTarget.{WaitTarget}
 use Rattle.tp_base.specs.declared.rows.WaitTarget.TheVariants.{Object}
 use Rattle.tp_model.specs.World.{World, BegunWait}
 use Rattle.tp_model.specs.Counts.{numbered, has_number}
-use Rattle.tp_model.specs.Conditions.{is_same_actor}
+use Rattle.tp_base.specs.Actors.{is_same_actor}
 use Rattle.tp_model.specs.Waits.{is_of}
 use Rattle.tp_model.specs.Laws.Entries.{is_among}
 use Rattle.tp_model.specs.Laws.Once.{is_left}

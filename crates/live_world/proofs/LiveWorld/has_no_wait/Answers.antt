@@ -1,6 +1,6 @@
 use Rattle.std.proofs.Common.{not, ap, ◌∙◌}
 use Rattle.tp_model.specs.World.{BegunWait}
-use Rattle.tp_model.specs.Conditions.{is_same_actor}
+use Rattle.tp_base.specs.Actors.{is_same_actor}
 use Rattle.live_world.proofs.Covered.{not_found}
 use Rattle.live_world.proofs.LiveWorld.has_no_wait.Goals as goal
 
