@@ -3,7 +3,7 @@ use Rattle.std.specs.Prelude.{◌≡◌, ℕ, ℤ, ◌<◌, ◌≤◌, ◌^◌, 
 use Rattle.std.specs.Int.{w64}
 use Rattle.tp_base.specs.declared.limits.Limits.{Limits}
 use Rattle.tp_base.specs.declared.calls.Call.{Call}
-use Rattle.tp_base.specs.declared.calls.Call.TheVariants.{ClosePool, SetMaximum, SetMinimum, Create, CloseObject, SubmitSimple, SubmitWork, SetTimer, SetTimerEx, IsTimerSet, Advance, BeginWait, BeginAcquire, CreateSemaphore, SetEvent, ResetEvent, ReleaseSemaphore, ReleaseLock}
+use Rattle.tp_base.specs.declared.calls.Call.TheVariants.{ClosePool, SetMaximum, SetMinimum, Create, CloseObject, SubmitSimple, SubmitWork, SetTimer, SetTimerEx, IsTimerSet, Advance, BeginWait, BeginAcquire, CreateSemaphore, SetEvent, ResetEvent, ReleaseSemaphore, ReleaseLock, OnReturn}
 use Rattle.tp_base.specs.declared.calls.Environ.{Environ}
 use Rattle.tp_base.specs.declared.answers.Answer.{Answer}
 use Rattle.tp_base.specs.declared.answers.Answer.TheVariants as answer
@@ -70,6 +70,7 @@ IsCallInRange (CreateSemaphore initial maximum) = (initial ≤ count_most) × (m
 IsCallInRange (SetEvent kernel) = kernel.0 ≤ 65535
 IsCallInRange (ResetEvent kernel) = kernel.0 ≤ 65535
 IsCallInRange (ReleaseSemaphore kernel count) = (kernel.0 ≤ 65535) × (1 ≤ count) × (count ≤ count_most)
+IsCallInRange (OnReturn kind kernel count) = (kernel.0 ≤ 65535) × (1 ≤ count) × (count ≤ count_most)
 IsCallInRange (ReleaseLock lock kernel) = kernel.0 ≤ 65535
 IsCallInRange (ClosePool pool) = pool.0 ≤ 65535
 IsCallInRange (SetMaximum pool value) = (pool.0 ≤ 65535) × (value < 2 ^ 32)

@@ -3,6 +3,7 @@
 ghost use Rattle.std.specs.Prelude.{◌↔◌, IsTrue};
 ghost use Rattle.tp_base.specs.Ranges.{IsCallInRange, IsEnvironInRange, IsRoutineInRange};
 
+use crate::answers::ActionKind;
 use crate::ids::{GroupId, KernelId, ObjectId, PoolId, RoutineId};
 
 /// The greatest count of a semaphore, and the greatest maximum that one can have.
@@ -180,6 +181,16 @@ pub enum Call {
     MayRunLong,
     /// A running callback is no longer waited for: `DisassociateCurrentThreadFromCallback`.
     Disassociate,
+    /// A running callback leaves something to its return, at most one of each kind:
+    /// `LeaveCriticalSectionWhenCallbackReturns`, `ReleaseMutexWhenCallbackReturns`,
+    /// `ReleaseSemaphoreWhenCallbackReturns`, `SetEventWhenCallbackReturns`.
+    OnReturn {
+        kind: ActionKind,
+        kernel: KernelId,
+        /// By how much a semaphore's count rises, 1 to 2,147,483,647. It has no effect for the other
+        /// kinds.
+        count: u32,
+    },
     /// A client makes no further call.
     Finish,
 }
@@ -236,7 +247,7 @@ fn is_in_range(call: Call) -> bool
         | Call::SetEvent { kernel }
         | Call::ResetEvent { kernel }
         | Call::ReleaseLock { kernel, .. } => kernel.0 <= 65_535,
-        Call::ReleaseSemaphore { kernel, count } => {
+        Call::ReleaseSemaphore { kernel, count } | Call::OnReturn { kernel, count, .. } => {
             kernel.0 <= 65_535 && 1 <= count && count <= COUNT_MOST
         }
         Call::ClosePool { pool } | Call::SetMaximum { pool, .. } | Call::SetMinimum { pool, .. } =>

@@ -1,8 +1,8 @@
 //! What a call comes to, as data: a refusal, a look, or an answer with the change that goes with it.
 
-use crate::answers::{Answer, Look, Refusal};
+use crate::answers::{ActionKind, Answer, Look, Refusal, SlotWord};
 use crate::ids::{KernelId, ObjectId, PoolId, Who};
-use crate::rows::{CallbackRow, KernelState, ObjectRow, WaitTarget};
+use crate::rows::{Action, CallbackRow, KernelState, ObjectRow, WaitTarget};
 
 /// A worker that is attached to a pool and runs nothing.
 #[derive(Clone, Copy)]
@@ -36,6 +36,17 @@ pub enum Mark {
     Long,
     /// No wait for its object is for it any more.
     Loose,
+    /// Something is to be done when it returns.
+    Asks { kind: ActionKind, action: Action },
+}
+
+/// What becomes of the actions that a callback asked for, as it returns.
+#[derive(Clone, Copy)]
+pub struct ActionWords {
+    pub section: SlotWord,
+    pub mutex: SlotWord,
+    pub semaphore: SlotWord,
+    pub event: SlotWord,
 }
 
 /// How a begun wait ends.
@@ -122,8 +133,12 @@ pub enum Change {
         by: Busy,
         mark: Mark,
     },
-    /// The callback that a worker runs returns.
-    Return(Busy),
+    /// The callback that a worker runs returns, and the actions that it asked for are performed or
+    /// left out.
+    Return {
+        by: Busy,
+        words: ActionWords,
+    },
     /// An actor begins a wait, which covers what is then outstanding; with `cancel` what is pending
     /// is cancelled first. A wait for a kernel object covers nothing.
     BeginWait {

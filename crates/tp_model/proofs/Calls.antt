@@ -2,7 +2,7 @@
 use Rattle.std.proofs.Common.{◌≡◌, ℕ, ◌+◌, ◌≤◌, ◌^◌, arith}
 use Rattle.tp_base.specs.declared.ids.Who.{Who}
 use Rattle.tp_base.specs.declared.calls.Call.{Call}
-use Rattle.tp_base.specs.declared.calls.Call.TheVariants.{CreatePool, ClosePool, SetMaximum, SetMinimum, Create, CloseObject, SubmitSimple, SubmitWork, SetTimer, SetTimerEx, IsTimerSet, Advance, BeginWait, BeginAcquire, End, CreateEvent, CreateSemaphore, CreateLock, SetEvent, ResetEvent, ReleaseSemaphore, ReleaseLock, Attach, Detach, Take, Return, MayRunLong, Disassociate, Finish}
+use Rattle.tp_base.specs.declared.calls.Call.TheVariants.{CreatePool, ClosePool, SetMaximum, SetMinimum, Create, CloseObject, SubmitSimple, SubmitWork, SetTimer, SetTimerEx, IsTimerSet, Advance, BeginWait, BeginAcquire, End, CreateEvent, CreateSemaphore, CreateLock, SetEvent, ResetEvent, ReleaseSemaphore, ReleaseLock, Attach, Detach, Take, Return, MayRunLong, Disassociate, OnReturn, Finish}
 use Rattle.tp_base.specs.Ranges.{IsCallInRange}
 use Rattle.tp_model.specs.World.{World}
 use Rattle.tp_model.specs.Table.{plan_at}
@@ -23,7 +23,7 @@ use Pools.{create_pool_safe, create_pool_forget, create_pool_ranged, close_pool_
 use Objects.{create_safe, create_forget, create_ranged, close_object_safe, close_object_forget, close_object_ranged}
 use Work.{submit_work_safe, submit_work_forget, submit_work_ranged, submit_simple_safe, submit_simple_forget, submit_simple_ranged}
 use Workers.{attach_safe, attach_forget, attach_ranged, detach_safe, detach_forget, detach_ranged, take_safe, take_forget, take_ranged, return_safe, return_forget, return_ranged}
-use InCallback.{may_run_long_safe, may_run_long_forget, may_run_long_ranged, disassociate_safe, disassociate_forget, disassociate_ranged}
+use InCallback.{may_run_long_safe, may_run_long_forget, may_run_long_ranged, disassociate_safe, disassociate_forget, disassociate_ranged, on_return_safe, on_return_forget, on_return_ranged}
 use Timers.{set_timer_safe, set_timer_forget, set_timer_ranged, set_timer_ex_safe, set_timer_ex_forget, set_timer_ex_ranged, is_timer_set_safe, is_timer_set_forget, is_timer_set_ranged, advance_safe, advance_forget, advance_ranged}
 use Kernels.{create_event_safe, create_event_forget, create_event_ranged, create_semaphore_safe, create_semaphore_forget, create_semaphore_ranged, create_lock_safe, create_lock_forget, create_lock_ranged, set_event_safe, set_event_forget, set_event_ranged, reset_event_safe, reset_event_forget, reset_event_ranged, release_semaphore_safe, release_semaphore_forget, release_semaphore_ranged, release_lock_safe, release_lock_forget, release_lock_ranged}
 use Waits.{begin_wait_safe, begin_wait_forget, begin_wait_ranged, begin_acquire_safe, begin_acquire_forget, begin_acquire_ranged, end_safe, end_forget, end_ranged}
@@ -59,6 +59,7 @@ plan_safe fresh room w who Take s = take_safe fresh w who s
 plan_safe fresh room w who Return s = return_safe fresh w who s
 plan_safe fresh room w who MayRunLong s = may_run_long_safe fresh w who s
 plan_safe fresh room w who Disassociate s = disassociate_safe fresh w who s
+plan_safe fresh room w who (OnReturn kind kernel count) s = on_return_safe fresh w who kind kernel count s
 plan_safe fresh room w who Finish s = finish_safe fresh w who
 
 -- a world without the callbacks that are over has the same plan
@@ -91,6 +92,7 @@ plan_forget fresh room w who Take s = take_forget w who
 plan_forget fresh room w who Return s = return_forget fresh w who s
 plan_forget fresh room w who MayRunLong s = may_run_long_forget fresh w who s
 plan_forget fresh room w who Disassociate s = disassociate_forget fresh w who s
+plan_forget fresh room w who (OnReturn kind kernel count) s = on_return_forget fresh w who kind kernel count s
 plan_forget fresh room w who Finish s = finish_forget w who
 
 -- the numbers of the plan are in range
@@ -124,4 +126,5 @@ module _ (fresh : ℕ) (w : World) (few : fresh + 65536 ≤ 2 ^ 64) (s : IsSound
   plan_ranged room who Return c = return_ranged w who
   plan_ranged room who MayRunLong c = may_run_long_ranged w who
   plan_ranged room who Disassociate c = disassociate_ranged w who
+  plan_ranged room who (OnReturn kind kernel count) c = on_return_ranged w who kind kernel count
   plan_ranged room who Finish c = finish_ranged w who

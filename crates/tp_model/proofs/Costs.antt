@@ -5,7 +5,10 @@ use Rattle.tp_base.specs.declared.ids.PoolId.{PoolId}
 use Rattle.tp_base.specs.declared.plans.Change.{Change}
 use Rattle.tp_base.specs.declared.plans.Change.TheVariants as change
 use Rattle.tp_base.specs.declared.plans.Mark.{Mark}
-use Rattle.tp_base.specs.declared.plans.Mark.TheVariants.{Long, Loose}
+use Rattle.tp_base.specs.declared.plans.Mark.TheVariants.{Long, Loose, Asks}
+use Rattle.tp_base.specs.declared.answers.ActionKind.{ActionKind}
+use Rattle.tp_base.specs.declared.rows.Action.{Action}
+use Rattle.tp_model.specs.Actions.{asking}
 use Rattle.tp_base.specs.declared.plans.PoolChange.{PoolChange}
 use Rattle.tp_base.specs.declared.ids.Who.{Who}
 use Rattle.tp_base.specs.declared.rows.PoolRow.{PoolRow}
@@ -120,9 +123,14 @@ loosened_runs : (s : Status) → is_running (loosened s) ≡ is_running s
 loosened_runs (Running worker associated slots) = refl
 loosened_runs _ = refl
 
+asking_runs : (kind : ActionKind) (action : Action) (s : Status) → is_running (asking kind action s) ≡ is_running s
+asking_runs kind action (Running worker associated slots) = refl
+asking_runs kind action _ = refl
+
 owed_marked : (fresh : ℕ) (w : World) (mark : Mark) (c : CallbackRow) → IsSound fresh w → find (has_number c.number) w.callbacks ≡ Some c → owed (with_callback w (marked mark c)) ≡ owed w
 owed_marked fresh w Long c s found = owed_same fresh w (marked Long c) c s found refl
 owed_marked fresh w Loose c s found = owed_same fresh w (marked Loose c) c s found (loosened_runs c.status)
+owed_marked fresh w (Asks kind action) c s found = owed_same fresh w (marked (Asks kind action) c) c s found (asking_runs kind action c.status)
 
 owed_release : (w : World) (object : ObjectId) (row : Option ObjectRow) → owed (release_object w object row) ≡ owed w
 owed_release w object None = refl
@@ -190,9 +198,9 @@ paid fresh w (change.Detach by) s a =
     = owed_worker w by.worker (record { pool = Some by.pool; callback = None }) unattached a in
     omega (arith, changed)
 paid fresh w (change.Take by c) s a = omega (arith, owed_taken fresh w by.worker (record { pool = Some by.pool; callback = None }) by.pool c s a.idles refl a.found a.pending)
-paid fresh w (change.Mark by mark) s a = omega (arith, owed_marked fresh w mark by.callback s a.found)
-paid fresh w (change.Return by) s a =
-    omega (arith, owed_returned fresh w by.worker (record { pool = Some by.pool; callback = Some by.callback.number }) by.callback s a.stands a.found (ap is_running a.running))
+paid fresh w (change.Mark by mark) s a = omega (arith, owed_marked fresh w mark by.callback s a.runs.found)
+paid fresh w (change.Return by words) s a =
+    omega (arith, owed_returned fresh w by.worker (record { pool = Some by.pool; callback = Some by.callback.number }) by.callback s a.runs.stands a.runs.found (ap is_running a.runs.running))
 paid fresh w (change.BeginWait who target cancel) s a = omega (arith, owed_begin_wait fresh w who target cancel s a.none a.made)
 paid fresh w (change.EndWait who how) s a = omega (arith, owed_end_wait fresh w who a.wait s a.begun)
 paid fresh w (change.Finish client) s a = omega (arith, owed_finished w client unfinished a refl)

@@ -1,5 +1,5 @@
 -- What becomes of one callback, whatever the move.
-use Rattle.std.proofs.Common.{◌≡◌, ℕ, Bool, true, false, cond, List, Option, Some, None, refl, sym, ap, ◌∙◌, find, ◌⊎◌, inl, inr, eqb-true, subst}
+use Rattle.std.proofs.Common.{◌≡◌, ◌&&◌, not, ℕ, Bool, true, false, cond, List, Option, Some, None, refl, sym, ap, ◌∙◌, find, ◌⊎◌, inl, inr, eqb-true, subst}
 use Rattle.tp_model.specs.Support.Told.{Deed}
 use Rattle.tp_model.specs.Laws.Entries.{Run, run_by}
 use Rattle.tp_base.specs.declared.answers.Entry.{Entry}
@@ -14,11 +14,11 @@ use Rattle.tp_model.specs.Counts.{has_number, is_pending}
 use Rattle.tp_model.specs.Changes.{replaced, taken, returned}
 use Rattle.tp_model.specs.Waits.{is_held_for, cancelled, cancel_where}
 use Rattle.tp_model.specs.Laws.Once.{is_left}
-use Rattle.tp_model.specs.Support.Moves.{Move, Stay, Mark, Attach, Detach, Take, Return, Loosen, Cancel, Moves, run_of}
+use Rattle.tp_model.specs.Support.Moves.{asked_slots, Move, Stay, Mark, Attach, Detach, Take, Return, Amend, Cancel, Moves, run_of}
 use Rattle.tp_model.proofs.Cancelling.{cancelled_found, find_cancelled}
 use Rattle.tp_model.proofs.Callbacks.{find_replaced, find_replaced_other}
 use Rattle.tp_model.proofs.Places.{find_either}
-use Rattle.tp_model.proofs.Refusals.{false_true}
+use Rattle.tp_model.proofs.Refusals.{both, false_true}
 
 -- its operation is announced or under way
 abbrev pub is_operating : Status → Bool
@@ -116,15 +116,15 @@ move_was w entry kept staff n c (Take m) found =
     (ap (find (has_number n)) (sym m.callbacks) ∙ found)
 move_was w entry kept staff n c (Return m) found =
     replaced_found w n (returned m.callback) m.callback c m.found refl (follows_over m.callback.status Returned (λ target. refl) refl refl) (ap (find (has_number n)) (sym m.callbacks) ∙ found)
-move_was w entry kept staff n c (Loosen m) found =
-    replaced_found w n (record m.callback { status = Running m.worker false m.slots }) m.callback c m.found refl
-    (record { held = λ target h. loose_held target h; left = λ h. absurd (false_true h); operating = λ h. absurd (false_true h) })
+move_was w entry kept staff n c (Amend m) found =
+    replaced_found w n (record m.callback { status = Running m.worker (m.associated && not m.loose) (asked_slots m.asks m.slots) }) m.callback c m.found refl
+    (record { held = λ target h. still_held target h; left = λ h. absurd (false_true h); operating = λ h. absurd (false_true h) })
     (ap (find (has_number n)) (sym m.callbacks) ∙ found)
   where
-    loose_held : (target : WaitTarget) → is_held_for target (Running m.worker false m.slots) ≡ true → is_held_for target m.callback.status ≡ true
-    loose_held (Object object) h = absurd (false_true h)
-    loose_held (Group group) h = ap (is_held_for (Group group)) m.running
-    loose_held (Kernel kernel) h = absurd (false_true h)
+    still_held : (target : WaitTarget) → is_held_for target (Running m.worker (m.associated && not m.loose) (asked_slots m.asks m.slots)) ≡ true → is_held_for target m.callback.status ≡ true
+    still_held (Object object) h = ap (is_held_for (Object object)) m.running ∙ (both m.associated (not m.loose) h).0
+    still_held (Group group) h = ap (is_held_for (Group group)) m.running
+    still_held (Kernel kernel) h = absurd (false_true h)
 move_was w entry kept staff n c (Cancel m) found = cancelled_was w n m.test c (ap (find (has_number n)) (sym m.callbacks) ∙ found)
 
 -- and what was not there is new
@@ -152,5 +152,5 @@ taken_from w entry kept staff run (Mark m) e = absurd (let h = sym (ap (λ (d : 
 taken_from w entry kept staff run (Attach m) e = absurd (let h = sym (ap (λ (d : Deed). d.run) m.tells) ∙ e in cc)
 taken_from w entry kept staff run (Detach m) e = absurd (let h = sym (ap (λ (d : Deed). d.run) m.tells) ∙ e in cc)
 taken_from w entry kept staff run (Return m) e = absurd (let h = sym (ap (λ (d : Deed). d.run) m.tells) ∙ e in cc)
-taken_from w entry kept staff run (Loosen m) e = absurd (let h = sym (ap (λ (d : Deed). d.run) m.tells) ∙ e in cc)
+taken_from w entry kept staff run (Amend m) e = absurd (let h = sym (ap (λ (d : Deed). d.run) m.tells) ∙ e in cc)
 taken_from w entry kept staff run (Cancel m) e = absurd (let h = sym (ap (λ (d : Deed). d.run) m.tells) ∙ e in cc)

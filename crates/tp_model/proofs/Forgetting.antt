@@ -8,7 +8,7 @@ use Rattle.tp_base.specs.declared.ids.PoolId.{PoolId}
 use Rattle.tp_base.specs.declared.calls.Priority.{Priority}
 use Rattle.tp_base.specs.declared.plans.Busy.{Busy}
 use Rattle.tp_base.specs.declared.plans.Mark.{Mark}
-use Rattle.tp_base.specs.declared.plans.Mark.TheVariants.{Long, Loose}
+use Rattle.tp_base.specs.declared.plans.Mark.TheVariants.{Long, Loose, Asks}
 use Rattle.tp_base.specs.declared.plans.PoolChange.{PoolChange}
 use Rattle.tp_base.specs.declared.plans.Change.{Change}
 use Rattle.tp_base.specs.declared.plans.Change.TheVariants as change
@@ -31,6 +31,7 @@ use Rattle.tp_model.specs.Refusing.{first_refusal, unless_refused}
 use Rattle.tp_model.specs.Changes.{with_new_pool, with_object, with_worker, with_client, change_pool, pool_after, with_pool, replaced, taken, marked, returned, finished, changed, release_object, without_wait, end_wait, kernels_taken, kernels_left}
 use Rattle.tp_base.specs.declared.plans.WaitEnd.{WaitEnd}
 use Rattle.tp_base.specs.declared.plans.WaitEnd.TheVariants.{Free, Exhausted}
+use Rattle.tp_model.specs.Actions.{slots_of, performed}
 use Rattle.tp_model.specs.Waits.{is_of, is_held_for, is_outstanding_for, count_outstanding, is_cancelled_by, cancelled, cancel_where, is_object_target, is_covered_by, covered_of, wait_of}
 use Rattle.tp_model.specs.Support.Sound.{IsSound, IsWorkerSound, AreWorkersSound, RunsOn, IsRising, IsCallbackSound, is_left_of}
 use Rattle.tp_model.specs.Support.Allowed.{IsAllowed}
@@ -225,6 +226,7 @@ replaced_forget fresh w r c s same found living =
 marked_forget : (fresh : ℕ) (w : World) (mark : Mark) (c : CallbackRow) → IsSound fresh w → find (has_number c.number) w.callbacks ≡ Some c → lives c ≡ true → filter lives (replaced (marked mark c) (filter lives w.callbacks)) ≡ filter lives (replaced (marked mark c) w.callbacks)
 marked_forget fresh w Long c s found living = replaced_forget fresh w (marked Long c) c s refl found living
 marked_forget fresh w Loose c s found living = replaced_forget fresh w (marked Loose c) c s refl found living
+marked_forget fresh w (Asks kind action) c s found living = replaced_forget fresh w (marked (Asks kind action) c) c s refl found living
 
 -- callbacks appended
 appended_forget : (w : World) (cs : List CallbackRow) → forget (record w { callbacks = filter lives w.callbacks ++ cs }) ≡ forget (record w { callbacks = w.callbacks ++ cs })
@@ -265,10 +267,10 @@ changed_forget fresh w (change.Take by c) s a =
     (replaced_forget fresh w r c s refl a.found (pending_lives c.status a.pending))
 changed_forget fresh w (change.Mark by mark) s a =
     let r : CallbackRow = marked mark by.callback in
-    as_live w (replaced r (filter lives w.callbacks)) (replaced r w.callbacks) (marked_forget fresh w mark by.callback s a.found (ap is_live a.running))
-changed_forget fresh w (change.Return by) s a =
+    as_live w (replaced r (filter lives w.callbacks)) (replaced r w.callbacks) (marked_forget fresh w mark by.callback s a.runs.found (ap is_live a.runs.running))
+changed_forget fresh w (change.Return by words) s a =
     let r : CallbackRow = returned by.callback in
-    as_live (with_worker w by.worker (record { pool = Some by.pool; callback = None })) (replaced r (filter lives w.callbacks)) (replaced r w.callbacks)
+    as_live (record (with_worker w by.worker (record { pool = Some by.pool; callback = None })) { kernels = performed words (slots_of by.callback.status) w.kernels }) (replaced r (filter lives w.callbacks)) (replaced r w.callbacks)
     (filter_replaced_out lives r (filter lives w.callbacks) refl ∙ ap (filter (λ (x : CallbackRow). not (has_number by.callback.number x))) (live_again w.callbacks) ∙ sym (filter_replaced_out lives r w.callbacks refl))
 changed_forget fresh w (change.BeginWait who target cancel) s a =
     ap₂ (λ cs covered. record w { callbacks = cs; waits = w.waits ++ (record { actor = who; target = target; covered = covered; notices = []; cleanup = 0 }) ∷ [] })

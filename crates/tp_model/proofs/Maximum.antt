@@ -1,5 +1,5 @@
 -- The law Maximum: what the entries so far tell of workers and pools is what the world says.
-use Rattle.std.proofs.Common.{◌≡◌, ◌≢◌, ℕ, suc, zero, ◌+◌, ◌-◌, ◌<◌, ◌≤◌, Bool, true, false, cond, not, ◌&&◌, ◌||◌, ◌==◌, List, [], ◌∷◌, ◌++◌, length, replicate, Option, Some, None, is_some, slice_get, slice_set, refl, sym, ap, ◌∙◌, subst, arith, filter, ne_eqb, eq-eqb, length-append, length-set}
+use Rattle.std.proofs.Common.{◌≡◌, option_map, ◌≢◌, ℕ, suc, zero, ◌+◌, ◌-◌, ◌<◌, ◌≤◌, Bool, true, false, cond, not, ◌&&◌, ◌||◌, ◌==◌, List, [], ◌∷◌, ◌++◌, length, replicate, Option, Some, None, is_some, slice_get, slice_set, refl, sym, ap, ◌∙◌, subst, arith, filter, ne_eqb, eq-eqb, length-append, length-set}
 use Rattle.std.specs.List.{range_with_len}
 use Rattle.std.specs.Option.{option_map_or, option_or}
 use Rattle.std.proofs.lemmas.List.{length-replicate}
@@ -22,7 +22,7 @@ use Rattle.tp_model.specs.Support.Sound.{IsSound, IsWorkerSound, AreWorkersSound
 use Rattle.tp_model.specs.Laws.Entries.{is_taken, is_returned, attached_by, taken_by, is_by, run_after, pool_after, is_within_run, last_pool, maximum_after, told_maximum}
 use Rattle.tp_model.specs.Laws.Maximum.{runs_in, count_running, TakesBelowMaximum}
 use Rattle.tp_model.specs.Support.Told.{Deed, deed_by, nothing}
-use Rattle.tp_model.specs.Support.Moves.{Move, Stay, Mark, Attach, Detach, Take, Return, Moves, AreNew, is_new, Leads, IsFree, maximum_at, put, Loosen, Cancel}
+use Rattle.tp_model.specs.Support.Moves.{Asking, asked_slots, Move, Stay, Mark, Attach, Detach, Take, Return, Moves, AreNew, is_new, Leads, IsFree, maximum_at, put, Amend, Cancel}
 use Rattle.tp_model.proofs.Lists.{length_filter_set}
 use Rattle.tp_model.specs.Waits.{cancel_where}
 use Rattle.tp_model.proofs.Cancelling.{count_uncancelled}
@@ -241,10 +241,10 @@ module _ (limits : Limits) (before : List Entry) (w : World) (entry : Entry) (ke
       as_many pool =
           let alike : one_if (is_running_in pool m.new) ≡ one_if (is_running_in pool m.old) = ap (λ b. one_if (is_running b && (m.new.pool.0 == pool))) m.status ∙ ap (λ (p : PoolId). one_if (is_running m.old.status && (p.0 == pool))) m.pool in
           omega (arith, length_filter_replaced (is_running_in pool) m.new m.old 1 (length w.callbacks + 1) w.callbacks s.numbers m.found, alike)
-  staffed_on (Loosen m) = staffed_same (record nothing { loosened = true }) m.tells refl refl refl m.workers (λ pool. running_callbacks (replaced d w.callbacks) m.callbacks pool ∙ as_many pool)
+  staffed_on (Amend m) = staffed_same (record nothing { loosened = m.loose; asked = option_map (λ (a : Asking). a.kind) m.asks }) m.tells refl refl refl m.workers (λ pool. running_callbacks (replaced d w.callbacks) m.callbacks pool ∙ as_many pool)
     where
       d : CallbackRow
-      d = record m.callback { status = Running m.worker false m.slots }
+      d = record m.callback { status = Running m.worker (m.associated && not m.loose) (asked_slots m.asks m.slots) }
 
       as_many : (pool : ℕ) → length (filter (is_running_in pool) (replaced d w.callbacks)) ≡ length (filter (is_running_in pool) w.callbacks)
       as_many pool =
@@ -364,7 +364,7 @@ module _ (limits : Limits) (before : List Entry) (w : World) (entry : Entry) (af
   takes_by kept staff (Mark m) worker pool by takes home = absurd (false_true (sym (ap (λ (t : Deed). is_some t.taken) m.tells) ∙ takes))
   takes_by kept staff (Attach m) worker pool by takes home = absurd (false_true (sym (ap (λ (t : Deed). is_some t.taken) m.tells) ∙ takes))
   takes_by kept staff (Detach m) worker pool by takes home = absurd (false_true (sym (ap (λ (t : Deed). is_some t.taken) m.tells) ∙ takes))
-  takes_by kept staff (Loosen m) worker pool by takes home = absurd (false_true (sym (ap (λ (t : Deed). is_some t.taken) m.tells) ∙ takes))
+  takes_by kept staff (Amend m) worker pool by takes home = absurd (false_true (sym (ap (λ (t : Deed). is_some t.taken) m.tells) ∙ takes))
   takes_by kept staff (Cancel m) worker pool by takes home = absurd (false_true (sym (ap (λ (t : Deed). is_some t.taken) m.tells) ∙ takes))
   takes_by kept staff (Return m) worker pool by takes home = absurd (false_true (sym (ap (λ (t : Deed). is_some t.taken) m.tells) ∙ takes))
 

@@ -1,12 +1,15 @@
 -- Each change moves callbacks, workers and pools as its entry tells.
-use Rattle.std.proofs.Common.{◌≡◌, ℕ, suc, zero, ◌<◌, Bool, true, false, cond, ◌==◌, max, List, [], ◌∷◌, ◌++◌, length, slice_get, slice_set, get_or, Option, Some, None, refl, sym, ap, ◌∙◌, subst, eqb-true, eq-eqb, filter, find, not, ap₂, ◌&&◌}
+use Rattle.std.proofs.Common.{◌≡◌, option_map, ℕ, suc, zero, ◌<◌, Bool, true, false, cond, ◌==◌, max, List, [], ◌∷◌, ◌++◌, length, slice_get, slice_set, get_or, Option, Some, None, refl, sym, ap, ◌∙◌, subst, eqb-true, eq-eqb, filter, find, not, ap₂, ◌&&◌}
 use Rattle.tp_base.specs.declared.rows.CallbackRow.{CallbackRow}
 use Rattle.tp_base.specs.declared.ids.Who.TheVariants.{Worker}
 use Rattle.std.specs.Option.{option_map_or}
 use Rattle.std.proofs.lemmas.Option.{slice_get-get_or}
 use Rattle.std.proofs.lemmas.List.{append-nil}
 use Rattle.tp_base.specs.declared.plans.Mark.{Mark}
-use Rattle.tp_base.specs.declared.plans.Mark.TheVariants.{Long, Loose}
+use Rattle.tp_base.specs.declared.plans.Mark.TheVariants.{Long, Loose, Asks}
+use Rattle.tp_base.specs.Actions.{filled, word, is_unasked}
+use Rattle.tp_model.specs.Actions.{asking, words_of}
+use Rattle.tp_model.proofs.Actions.{words_unasked}
 use Rattle.tp_base.specs.declared.plans.PoolChange.{PoolChange}
 use Rattle.tp_base.specs.declared.plans.PoolChange.TheVariants.{Close, Maximum, Minimum}
 use Rattle.tp_base.specs.declared.plans.Busy.{Busy}
@@ -21,7 +24,7 @@ use Rattle.tp_base.specs.declared.rows.WaitTarget.{WaitTarget}
 use Rattle.tp_base.specs.declared.rows.WaitTarget.TheVariants.{Object, Group, Kernel}
 use Rattle.tp_base.specs.declared.rows.PoolRow.{PoolRow}
 use Rattle.tp_base.specs.declared.rows.Status.{Status}
-use Rattle.tp_base.specs.declared.rows.Status.TheVariants.{Pending}
+use Rattle.tp_base.specs.declared.rows.Status.TheVariants.{Running, Pending}
 use Rattle.std.specs.List.{range_with_len}
 use Rattle.tp_base.specs.declared.ids.ObjectId.{ObjectId}
 use Rattle.tp_model.specs.Sources.{Job, firing, sources_of, rows_of}
@@ -32,14 +35,14 @@ use Rattle.tp_base.specs.Actors.{is_same_actor}
 use Rattle.tp_model.specs.Conditions.{is_in_wait}
 use Rattle.tp_model.specs.Waits.{is_of, is_cancelled_by, cancel_where, is_covered_by, wait_of}
 use Rattle.tp_model.specs.Support.Sound.{IsSound}
-use Rattle.tp_model.specs.Support.Allowed.{IsAllowed, IsMadeBy, Runs, MayEnd, IsTarget}
+use Rattle.tp_model.specs.Support.Allowed.{IsAllowed, IsMadeBy, Runs, MayMark, MayEnd, IsTarget}
 use Rattle.tp_model.specs.Laws.Entries.{made_by, queued_by, begins_by, is_ending}
 use Rattle.tp_model.specs.Support.Told.{Told, deed_by, nothing, silent, maxima_by, told, told_by, is_free}
-use Rattle.tp_model.specs.Support.Moves.{Move, Stay, Mark as Marking, Attach, Detach, Take, Return, Moves, Leads, AreNew, maximum_at, is_new, numbers_of, Loosen, Cancel, WaitsMove, Keep, Begin, End}
+use Rattle.tp_model.specs.Support.Moves.{Move, Stay, Mark as Marking, Attach, Detach, Take, Return, Moves, Leads, AreNew, maximum_at, is_new, numbers_of, Amend, Asking, IsFreeFor, asked_slots, Cancel, WaitsMove, Keep, Begin, End}
 use Rattle.tp_model.proofs.Firing.{numbers_rows, waiting_rows, new_rows}
 use Rattle.tp_model.proofs.Cancelling.{cancelled_pending, cancelled_found_out, among_numbers}
 use Rattle.tp_model.proofs.Lists.{find_more, get_set, get_set_other}
-use Rattle.tp_model.proofs.Refusals.{false_true}
+use Rattle.tp_model.proofs.Refusals.{false_true, and_false, and_true}
 
 -- ---- pools
 
@@ -97,7 +100,8 @@ maxima_changed fresh w (change.Detach by) a pool = refl
 maxima_changed fresh w (change.Take by c) a pool = refl
 maxima_changed fresh w (change.Mark by Long) a pool = refl
 maxima_changed fresh w (change.Mark by Loose) a pool = refl
-maxima_changed fresh w (change.Return by) a pool = refl
+maxima_changed fresh w (change.Mark by (Asks kind action)) a pool = refl
+maxima_changed fresh w (change.Return by words) a pool = refl
 maxima_changed fresh w (change.BeginWait who target cancel) a pool = refl
 maxima_changed fresh w (change.EndWait who how) a pool = refl
 maxima_changed fresh w (change.Finish client) a pool = refl
@@ -119,24 +123,41 @@ module _ (fresh : ℕ) (w : World) (entry : Entry) where
   pool_moves pool how None made queued tells = unmade w made queued (Stay (record { tells = tells; callbacks = refl; workers = refl }))
   pool_moves pool how (Some row) made queued tells = unmade (with_pool w pool (pool_after how row)) made queued (Stay (record { tells = tells; callbacks = refl; workers = refl }))
 
-  mark_moves : (by : Busy) (mark : Mark) → Runs w by → entry.who ≡ Worker by.worker → told_by entry ≡ told fresh w (change.Mark by mark) → Moves fresh w entry (changed w (change.Mark by mark))
-  mark_moves by Long runs actor tells =
-      unmade (changed w (change.Mark by Long)) (ap (λ (t : Told). t.made) tells) (ap (λ (t : Told). t.queued) tells)
-      (Marking (record { old = by.callback; new = marked Long by.callback; tells = ap (λ (t : Told). t.deed) tells; found = runs.found; status = refl; object = refl; pool = refl; callbacks = refl; workers = refl }))
-  mark_moves by Loose runs actor tells =
-      unmade (changed w (change.Mark by Loose)) (ap (λ (t : Told). t.made) tells) (ap (λ (t : Told). t.queued) tells)
-      (Loosen (record {
+  -- a running callback with another status
+  amends : (by : Busy) (runs : Runs w by) → entry.who ≡ Worker by.worker → (loose : Bool) (asks : Option Asking) → IsFreeFor asks runs.slots → (new : CallbackRow) → deed_by entry ≡ record nothing { loosened = loose; asked = option_map (λ (a : Asking). a.kind) asks }
+      → new.status ≡ Running by.worker (runs.associated && not loose) (asked_slots asks runs.slots) → Move w entry (replaced (record by.callback { status = new.status }) w.callbacks) w.workers
+  amends by runs actor loose asks free new tells is =
+      Amend (record {
         worker = by.worker;
+        row = record { pool = Some by.pool; callback = Some by.callback.number };
         callback = by.callback;
         associated = runs.associated;
         slots = runs.slots;
+        loose = loose;
+        asks = asks;
         by = actor;
-        tells = ap (λ (t : Told). t.deed) tells;
+        stands = runs.stands;
+        busy = refl;
+        tells = tells;
         found = runs.found;
         running = runs.running;
-        callbacks = ap (λ s. replaced (record by.callback { status = loosened s }) w.callbacks) runs.running;
+        free = free;
+        callbacks = ap (λ s. replaced (record by.callback { status = s }) w.callbacks) is;
         workers = refl;
-      }))
+      })
+
+  mark_moves : (by : Busy) (mark : Mark) → MayMark w by mark → entry.who ≡ Worker by.worker → told_by entry ≡ told fresh w (change.Mark by mark) → Moves fresh w entry (changed w (change.Mark by mark))
+  mark_moves by Long may actor tells =
+      unmade (changed w (change.Mark by Long)) (ap (λ (t : Told). t.made) tells) (ap (λ (t : Told). t.queued) tells)
+      (Marking (record { old = by.callback; new = marked Long by.callback; tells = ap (λ (t : Told). t.deed) tells; found = may.runs.found; status = refl; object = refl; pool = refl; callbacks = refl; workers = refl }))
+  mark_moves by Loose may actor tells =
+      unmade (changed w (change.Mark by Loose)) (ap (λ (t : Told). t.made) tells) (ap (λ (t : Told). t.queued) tells)
+      (amends by may.runs actor true None tt (record by.callback { status = loosened by.callback.status }) (ap (λ (t : Told). t.deed) tells)
+      (ap loosened may.runs.running ∙ ap (λ b. Running by.worker b may.runs.slots) (sym (and_false may.runs.associated))))
+  mark_moves by (Asks kind action) may actor tells =
+      unmade (changed w (change.Mark by (Asks kind action))) (ap (λ (t : Told). t.made) tells) (ap (λ (t : Told). t.queued) tells)
+      (amends by may.runs actor false (Some (record { kind = kind; action = action })) may.unasked (record by.callback { status = asking kind action by.callback.status }) (ap (λ (t : Told). t.deed) tells)
+      (ap (asking kind action) may.runs.running ∙ ap (λ b. Running by.worker b (filled kind action may.runs.slots)) (sym (and_true may.runs.associated))))
 
   release_moves : (object : ObjectId) (row : Option ObjectRow) → told_by entry ≡ silent → Moves fresh w entry (release_object w object row)
   release_moves object None tells = still w tells refl refl
@@ -201,23 +222,25 @@ module _ (fresh : ℕ) (w : World) (entry : Entry) where
         workers = refl;
       }))
   change_moves (change.Mark at mark) a by tells = mark_moves at mark a by tells
-  change_moves (change.Return at) a by tells =
-      unmade (changed w (change.Return at)) (ap (λ (t : Told). t.made) tells) (ap (λ (t : Told). t.queued) tells)
+  change_moves (change.Return at words) a by tells =
+      unmade (changed w (change.Return at words)) (ap (λ (t : Told). t.made) tells) (ap (λ (t : Told). t.queued) tells)
       (Return (record {
         worker = at.worker;
         row = record { pool = Some at.pool; callback = Some at.callback.number };
         pool = at.pool;
         callback = at.callback;
         by = by;
-        stands = a.stands;
+        stands = a.runs.stands;
         busy = refl;
         home = refl;
+        words = words;
         tells = ap (λ (t : Told). t.deed) tells;
-        found = a.found;
-        associated = a.associated;
-        slots = a.slots;
-        running = a.running;
-        pool_same = a.home;
+        found = a.runs.found;
+        associated = a.runs.associated;
+        slots = a.runs.slots;
+        running = a.runs.running;
+        pool_same = a.runs.home;
+        unasked = λ kind. ap (λ ws. is_unasked (word kind ws)) a.told ∙ words_unasked w (Worker at.worker) a.runs.slots kind;
         callbacks = refl;
         workers = refl;
       }))
@@ -311,6 +334,7 @@ module _ (fresh : ℕ) (w : World) (entry : Entry) where
       of_row (Some row) none unending = Keep (record { begins = none; ends = unending; stay = λ who wait found. found })
   change_waits (change.Mark at Long) s a by tells = waits_same (change.Mark at Long) refl refl tells refl
   change_waits (change.Mark at Loose) s a by tells = waits_same (change.Mark at Loose) refl refl tells refl
+  change_waits (change.Mark at (Asks kind action)) s a by tells = waits_same (change.Mark at (Asks kind action)) refl refl tells refl
   change_waits change.Keep s a by tells = waits_same change.Keep refl refl tells refl
   change_waits (change.Fire trigger first count) s a by tells = waits_same (change.Fire trigger first count) refl refl tells refl
   change_waits change.CreatePool s a by tells = waits_same change.CreatePool refl refl tells refl
@@ -321,7 +345,7 @@ module _ (fresh : ℕ) (w : World) (entry : Entry) where
   change_waits (change.Attach worker pool) s a by tells = waits_same (change.Attach worker pool) refl refl tells refl
   change_waits (change.Detach at) s a by tells = waits_same (change.Detach at) refl refl tells refl
   change_waits (change.Take at c) s a by tells = waits_same (change.Take at c) refl refl tells refl
-  change_waits (change.Return at) s a by tells = waits_same (change.Return at) refl refl tells refl
+  change_waits (change.Return at words) s a by tells = waits_same (change.Return at words) refl refl tells refl
   change_waits (change.Finish client) s a by tells = waits_same (change.Finish client) refl refl tells refl
 
   pub change_leads : (ch : Change) → IsSound fresh w → IsAllowed fresh w ch → IsMadeBy entry.who ch → told_by entry ≡ told fresh w ch → Leads fresh w entry (changed w ch)

@@ -1,5 +1,5 @@
 -- The law Once: what the entries so far tell of each callback is what its status says.
-use Rattle.std.proofs.Common.{◌≡◌, ℕ, suc, zero, ◌+◌, ◌<◌, ◌≤◌, Bool, true, false, cond, not, ◌||◌, ◌==◌, List, [], ◌∷◌, ◌++◌, length, Option, Some, None, is_some, slice_get, get_or, refl, sym, ap, ◌∙◌, append_assoc, subst, arith, filter, find, ◌⊎◌, inl, inr, eqb-true, length-append, lt-ltb}
+use Rattle.std.proofs.Common.{◌≡◌, option_map, ◌&&◌, ℕ, suc, zero, ◌+◌, ◌<◌, ◌≤◌, Bool, true, false, cond, not, ◌||◌, ◌==◌, List, [], ◌∷◌, ◌++◌, length, Option, Some, None, is_some, slice_get, get_or, refl, sym, ap, ◌∙◌, append_assoc, subst, arith, filter, find, ◌⊎◌, inl, inr, eqb-true, length-append, lt-ltb}
 use Rattle.std.specs.List.{All, cons_option, list_any, range_with_len, flat_map, filter_map, position, position_or_len, prefix_len}
 use Rattle.std.specs.Option.{option_to_list}
 use Rattle.std.proofs.lemmas.List.{append-nil, length-map}
@@ -22,7 +22,7 @@ use Rattle.tp_model.specs.Support.Sound.{IsRising}
 use Rattle.tp_model.specs.Laws.Entries.{Run, is_among, times, numbers_made, numbers_queued, numbers_taken, numbers_cancelled, count_cancelled, made_by, queued_by, taken_by, cancelled_by, cancelled_count}
 use Rattle.tp_model.specs.Laws.Once.{is_left, left, TakesReady, TakesUncancelled}
 use Rattle.tp_model.specs.Support.Told.{Deed, deed_by, nothing}
-use Rattle.tp_model.specs.Support.Moves.{Move, Stay, Mark, Attach, Detach, Take, Return, Moves, run_of, AreNew, is_new, numbers_of, waiting_of, Loosen, Cancel}
+use Rattle.tp_model.specs.Support.Moves.{Asking, asked_slots, Move, Stay, Mark, Attach, Detach, Take, Return, Moves, run_of, AreNew, is_new, numbers_of, waiting_of, Amend, Cancel}
 use Rattle.tp_model.specs.Waits.{cancelled as cancelled_row, cancel_where}
 use Rattle.tp_model.proofs.Cancelling.{IsPendingTest, cancelled_if, cancelled_found, length_cancelled, find_cancelled, count_uncancelled, count_cancelled as count_dropped}
 use Rattle.tp_model.proofs.Callbacks.{find_appended, find_replaced, find_replaced_other, length_replaced, length_filter_replaced, kept_found}
@@ -350,11 +350,11 @@ move_agrees made queued taken cancelled count fresh w entry kept staff rising a 
         (agrees_taken made queued taken cancelled count w.callbacks fresh m.callback d rising m.found (Some (run_of m.callback)) a m.waits refl refl refl)
     of_move (Return m) =
         let d : CallbackRow = returned m.callback in
-        to (record nothing { returned = true }) (replaced d w.callbacks) m.tells m.callbacks
+        to (record nothing { returned = true; words = Some m.words }) (replaced d w.callbacks) m.tells m.callbacks
         (agrees_marked made queued taken cancelled count w.callbacks fresh m.callback d rising m.found a (sym (ap has_begun m.running)) (sym (ap is_cancelled m.running)) (λ e. absurd (false_true e)))
-    of_move (Loosen m) =
-        let d : CallbackRow = record m.callback { status = Running m.worker false m.slots } in
-        to (record nothing { loosened = true }) (replaced d w.callbacks) m.tells m.callbacks
+    of_move (Amend m) =
+        let d : CallbackRow = record m.callback { status = Running m.worker (m.associated && not m.loose) (asked_slots m.asks m.slots) } in
+        to (record nothing { loosened = m.loose; asked = option_map (λ (a : Asking). a.kind) m.asks }) (replaced d w.callbacks) m.tells m.callbacks
         (agrees_marked made queued taken cancelled count w.callbacks fresh m.callback d rising m.found a (sym (ap has_begun m.running)) (sym (ap is_cancelled m.running)) (λ e. absurd (false_true e)))
     of_move (Cancel m) =
         to (record nothing { count = length (filter m.test w.callbacks) }) (cancel_where m.test w.callbacks) m.tells m.callbacks
@@ -368,7 +368,7 @@ move_as_many w entry kept staff (Attach m) = ap length m.callbacks
 move_as_many w entry kept staff (Detach m) = ap length m.callbacks
 move_as_many w entry kept staff (Take m) = ap length m.callbacks ∙ length_replaced (taken_row m.callback m.worker) w.callbacks
 move_as_many w entry kept staff (Return m) = ap length m.callbacks ∙ length_replaced (returned m.callback) w.callbacks
-move_as_many w entry kept staff (Loosen m) = ap length m.callbacks ∙ length_replaced (record m.callback { status = Running m.worker false m.slots }) w.callbacks
+move_as_many w entry kept staff (Amend m) = ap length m.callbacks ∙ length_replaced (record m.callback { status = Running m.worker (m.associated && not m.loose) (asked_slots m.asks m.slots) }) w.callbacks
 move_as_many w entry kept staff (Cancel m) = ap length m.callbacks ∙ length_cancelled m.test w.callbacks
 
 -- the callbacks that are made, one by one
@@ -447,7 +447,7 @@ taken_waits w entry kept staff n (Mark m) e = absurd (let h = sym (ap (λ (t : D
 taken_waits w entry kept staff n (Attach m) e = absurd (let h = sym (ap (λ (t : Deed). t.taken) m.tells) ∙ e in cc)
 taken_waits w entry kept staff n (Detach m) e = absurd (let h = sym (ap (λ (t : Deed). t.taken) m.tells) ∙ e in cc)
 taken_waits w entry kept staff n (Return m) e = absurd (let h = sym (ap (λ (t : Deed). t.taken) m.tells) ∙ e in cc)
-taken_waits w entry kept staff n (Loosen m) e = absurd (let h = sym (ap (λ (t : Deed). t.taken) m.tells) ∙ e in cc)
+taken_waits w entry kept staff n (Amend m) e = absurd (let h = sym (ap (λ (t : Deed). t.taken) m.tells) ∙ e in cc)
 taken_waits w entry kept staff n (Cancel m) e = absurd (let h = sym (ap (λ (t : Deed). t.taken) m.tells) ∙ e in cc)
 
 -- a first place that passes is within the list

@@ -7,7 +7,8 @@ use Rattle.tp_base.specs.declared.limits.Limits.{Limits}
 use Rattle.tp_base.specs.declared.plans.Change.{Change}
 use Rattle.tp_base.specs.declared.plans.Change.TheVariants as change
 use Rattle.tp_base.specs.declared.plans.Mark.{Mark}
-use Rattle.tp_base.specs.declared.plans.Mark.TheVariants.{Long, Loose}
+use Rattle.tp_base.specs.declared.plans.Mark.TheVariants.{Long, Loose, Asks}
+use Rattle.tp_base.specs.Actions.{filled}
 use Rattle.tp_base.specs.declared.plans.PoolChange.{PoolChange}
 use Rattle.tp_base.specs.declared.rows.Slots.{Slots}
 use Rattle.tp_base.specs.declared.rows.Status.{Status}
@@ -33,9 +34,10 @@ use Rattle.tp_model.specs.Support.Allowed.{IsReady}
 use Rattle.tp_model.proofs.Firing.{AreOf, AreJobsMade, IsTriggerMade, row_of_made, made_stands, ready_made, fired_settings, fired_jobs, fired_clock}
 use Rattle.tp_model.specs.World.{World, BegunWait, opening, unattached, new_pool}
 use Rattle.tp_model.specs.Counts.{numbered, has_number, is_pending, is_running}
-use Rattle.tp_model.specs.Changes.{with_new_pool, with_pool, with_object, with_new_callback, with_callback, with_worker, with_client, replaced, change_pool, pool_after, taken, loosened, marked, returned, no_actions, finished, release_object, new_wait, begin_wait, without_wait, end_wait, kernels_left, changed}
+use Rattle.tp_model.specs.Changes.{with_new_pool, with_pool, with_object, with_new_callback, with_callback, with_worker, with_client, replaced, change_pool, pool_after, taken, loosened, marked, returned, finished, release_object, new_wait, begin_wait, without_wait, end_wait, kernels_left, changed}
 use Rattle.tp_base.specs.declared.rows.KernelRow.{KernelRow}
 use Rattle.tp_base.specs.Kernels.{state_after}
+use Rattle.tp_model.specs.Actions.{no_actions, asking, slots_of, performed}
 use Rattle.tp_model.specs.Kernels.{new_kernel, kernel_changed}
 use Rattle.tp_model.specs.Laws.Once.{is_left}
 use Rattle.tp_model.specs.Support.Sound.{IsSound, IsMade, IsRising, RunsOn, IsWorkerSound, AreWorkersSound, AreApart, HasObject, IsCallbackSound, IsWaitSound, is_left_of}
@@ -318,6 +320,12 @@ pub sound_cancelled : (fresh : ℕ) (w : World) (c : CallbackRow) → find (has_
 sound_cancelled fresh w c found pends s =
     sound_same fresh w (cancelled c) c refl refl refl (λ worker associated slots e. absurd (false_true (sym (ap is_pending e) ∙ pends))) (λ target left. absurd (false_true (sym (and_false (is_of target (cancelled c))) ∙ left))) found s
 
+-- a row with another status that may be run where that of before may
+left_same : (c : CallbackRow) (status : Status) → is_left status ≡ is_left c.status → (target : WaitTarget) → is_left_of target (record c { status = status }) ≡ true → is_left_of target c ≡ true
+left_same c status same (Object object) left = ap (λ b. (c.object.0 == object.0) && b) (sym same) ∙ left
+left_same c status same (Group group) left = ap (λ b. (c.group.0 == group.0) && b) (sym same) ∙ left
+left_same c status same (Kernel kernel) left = left
+
 -- what a callback says of itself leaves it running where it ran
 pub sound_marked : (fresh : ℕ) (w : World) (mark : Mark) (c : CallbackRow) → find (has_number c.number) w.callbacks ≡ Some c → IsSound fresh w → IsSound fresh (with_callback w (marked mark c))
 sound_marked fresh w Long c found s = sound_same fresh w (marked Long c) c refl refl refl (λ worker associated slots e. (associated, slots, e)) (λ target left. same_left target left) found s
@@ -337,9 +345,17 @@ sound_marked fresh w Loose c found s = sound_same fresh w (marked Loose c) c ref
     still Cancelled = refl
 
     same_left : (target : WaitTarget) → is_left_of target (marked Loose c) ≡ true → is_left_of target c ≡ true
-    same_left (Object object) left = ap (λ b. (c.object.0 == object.0) && b) (sym (still c.status)) ∙ left
-    same_left (Group group) left = ap (λ b. (c.group.0 == group.0) && b) (sym (still c.status)) ∙ left
-    same_left (Kernel kernel) left = left
+    same_left = left_same c (loosened c.status) (still c.status)
+sound_marked fresh w (Asks kind action) c found s =
+    sound_same fresh w (marked (Asks kind action) c) c refl refl refl (λ worker associated slots e. (associated, filled kind action slots, ap (asking kind action) e)) (λ target left. left_same c (asking kind action c.status) (still c.status) target left) found s
+  where
+    still : (status : Status) → is_left (asking kind action status) ≡ is_left status
+    still Expected = refl
+    still Issued = refl
+    still Pending = refl
+    still (Running worker associated slots) = refl
+    still Returned = refl
+    still Cancelled = refl
 
 -- an object is released
 sound_release : (fresh : ℕ) (w : World) (object : ObjectId) (row : Option ObjectRow) → numbered w.objects object.0 ≡ row → IsSound fresh w → IsSound fresh (release_object w object row)
@@ -512,12 +528,14 @@ changed_sound fresh w (change.Attach worker pool) s a = none_made fresh (changed
 changed_sound fresh w (change.Detach by) s a = none_made fresh (changed w (change.Detach by)) (sound_free_worker fresh w by.worker unattached refl s)
 changed_sound fresh w (change.Take by c) s a =
     none_made fresh (changed w (change.Take by c)) (sound_taken fresh w by.worker by.pool c (numbered_some w.workers by.worker (record { pool = Some by.pool; callback = None }) a.idles).1 a.found a.pending a.home s)
-changed_sound fresh w (change.Mark by mark) s a = none_made fresh (changed w (change.Mark by mark)) (sound_marked fresh w mark by.callback a.found s)
-changed_sound fresh w (change.Return by) s a =
-    none_made fresh (changed w (change.Return by))
+changed_sound fresh w (change.Mark by mark) s a = none_made fresh (changed w (change.Mark by mark)) (sound_marked fresh w mark by.callback a.runs.found s)
+changed_sound fresh w (change.Return by words) s a =
+    let runs = a.runs in
+    none_made fresh (changed w (change.Return by words))
+    (sound_kernels fresh (with_worker (with_callback w (returned by.callback)) by.worker (record { pool = Some by.pool; callback = None })) (performed words (slots_of by.callback.status) w.kernels)
     (sound_returned fresh w by.worker (record { pool = Some by.pool; callback = None }) by.pool by.callback
-    (numbered_some w.workers by.worker (record { pool = Some by.pool; callback = Some by.callback.number }) a.stands).1 refl
-    (record { callback = by.callback; associated = a.associated; slots = a.slots; found = a.found; runs = a.running; at_home = a.home }) a.found s)
+    (numbered_some w.workers by.worker (record { pool = Some by.pool; callback = Some by.callback.number }) runs.stands).1 refl
+    (record { callback = by.callback; associated = runs.associated; slots = runs.slots; found = runs.found; runs = runs.running; at_home = runs.home }) runs.found s))
 changed_sound fresh w (change.BeginWait who target cancel) s a = none_made fresh (changed w (change.BeginWait who target cancel)) (sound_begin_wait fresh w who target cancel a.none a.made s)
 changed_sound fresh w (change.EndWait who how) s a = none_made fresh (end_wait w who how) (sound_kernels fresh (without_wait w who) (kernels_left w who how (wait_of w who)) (sound_end_wait fresh w who s))
 changed_sound fresh w (change.Finish client) s a = none_made fresh (changed w (change.Finish client)) (sound_client fresh w client finished s)

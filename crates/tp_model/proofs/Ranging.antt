@@ -1,5 +1,5 @@
 -- From what it follows that the numbers of a plan are in range; and each change keeps those of the rows.
-use Rattle.std.proofs.Common.{◌≡◌, ℕ, ◌+◌, ◌-◌, ◌<◌, ◌≤◌, ◌^◌, Bool, true, false, cond, not, ◌==◌, List, [], ◌∷◌, length, map, arith, slice_get, Option, Some, None, refl, sym, subst, find, ◌++◌, ◌∙◌}
+use Rattle.std.proofs.Common.{◌≡◌, ℕ, ◌+◌, ◌-◌, ◌<◌, ◌≤◌, ◌^◌, Bool, true, false, cond, not, ◌==◌, List, [], ◌∷◌, length, map, arith, slice_get, Option, Some, None, refl, sym, subst, ap, find, ◌++◌, ◌∙◌}
 use Rattle.std.specs.List.{AllByRecursion}
 use Rattle.tp_base.specs.Ranges.{IsRoutineInRange, IsRefusalInRange, IsResultInRange}
 use Rattle.tp_base.specs.declared.ids.Who.{Who}
@@ -8,7 +8,7 @@ use Rattle.tp_base.specs.declared.ids.RoutineId.{RoutineId}
 use Rattle.tp_base.specs.declared.answers.Refusal.{Refusal}
 use Rattle.tp_base.specs.declared.plans.Busy.{Busy}
 use Rattle.tp_base.specs.declared.plans.Mark.{Mark}
-use Rattle.tp_base.specs.declared.plans.Mark.TheVariants.{Long, Loose}
+use Rattle.tp_base.specs.declared.plans.Mark.TheVariants.{Long, Loose, Asks}
 use Rattle.tp_base.specs.declared.plans.PoolChange.{PoolChange}
 use Rattle.tp_base.specs.declared.plans.Change.{Change}
 use Rattle.tp_base.specs.declared.plans.Change.TheVariants as change
@@ -40,6 +40,9 @@ use Rattle.tp_model.specs.Refusing.{first_refusal, unless_refused}
 use Rattle.tp_model.specs.Support.Allowed.{IsAllowed, Suits}
 use Rattle.tp_model.specs.Support.Ranged.{IsStateInRange, IsTargetInRange, IsObjectInRange, IsCallbackInRange, AreRowsInRange, IsTriggerInRange, IsChangeInRange, IsPlanInRange}
 use Rattle.tp_model.specs.Support.Remembered.{lives, forget}
+use Rattle.tp_base.specs.declared.ids.Who.TheVariants.{Worker}
+use Rattle.tp_model.specs.Actions.{slots_of, words_of}
+use Rattle.tp_model.proofs.Actions.{ranged_performed}
 use Rattle.tp_model.proofs.Kernels.{all_changed, state_ranged, taken_ranged}
 use Rattle.tp_model.proofs.Lists.{all_append, all_appended, all_filter, all_get, all_map, find_all, all_set}
 use Rattle.tp_model.proofs.Refusals.{NoneHolds, none_holds, numbered_some}
@@ -70,6 +73,8 @@ pool_rows w pool how (Some row) rows = record { objects = rows.objects; callback
 mark_rows : (w : World) (mark : Mark) (c : CallbackRow) → find (has_number c.number) w.callbacks ≡ Some c → AreRowsInRange w → AllByRecursion IsCallbackInRange (replaced (marked mark c) w.callbacks)
 mark_rows w Long c found rows = put_row (marked Long c) w.callbacks (same_numbers (marked Long c) c refl refl refl refl refl (found_row c w.callbacks found rows.callbacks)) rows.callbacks
 mark_rows w Loose c found rows = put_row (marked Loose c) w.callbacks (same_numbers (marked Loose c) c refl refl refl refl refl (found_row c w.callbacks found rows.callbacks)) rows.callbacks
+mark_rows w (Asks kind action) c found rows =
+    put_row (marked (Asks kind action) c) w.callbacks (same_numbers (marked (Asks kind action) c) c refl refl refl refl refl (found_row c w.callbacks found rows.callbacks)) rows.callbacks
 
 release_rows : (w : World) (object : ObjectId) (row : Option ObjectRow) → numbered w.objects object.0 ≡ row → AreRowsInRange w → AreRowsInRange (release_object w object row)
 release_rows w object None is rows = rows
@@ -142,9 +147,15 @@ changed_rows fresh w (change.Attach worker pool) s a r rows = record { objects =
 changed_rows fresh w (change.Detach by) s a r rows = record { objects = rows.objects; callbacks = rows.callbacks; timers = rows.timers; kernels = rows.kernels; waits = rows.waits }
 changed_rows fresh w (change.Take by c) s a r rows =
     record { objects = rows.objects; callbacks = put_row (taken c by.worker) w.callbacks (same_numbers (taken c by.worker) c refl refl refl refl refl (found_row c w.callbacks a.found rows.callbacks)) rows.callbacks; timers = rows.timers; kernels = rows.kernels; waits = rows.waits }
-changed_rows fresh w (change.Mark by mark) s a r rows = record { objects = rows.objects; callbacks = mark_rows w mark by.callback a.found rows; timers = rows.timers; kernels = rows.kernels; waits = rows.waits }
-changed_rows fresh w (change.Return by) s a r rows =
-    record { objects = rows.objects; callbacks = put_row (returned by.callback) w.callbacks (same_numbers (returned by.callback) by.callback refl refl refl refl refl (found_row by.callback w.callbacks a.found rows.callbacks)) rows.callbacks; timers = rows.timers; kernels = rows.kernels; waits = rows.waits }
+changed_rows fresh w (change.Mark by mark) s a r rows = record { objects = rows.objects; callbacks = mark_rows w mark by.callback a.runs.found rows; timers = rows.timers; kernels = rows.kernels; waits = rows.waits }
+changed_rows fresh w (change.Return by words) s a r rows =
+    record {
+      objects = rows.objects;
+      callbacks = put_row (returned by.callback) w.callbacks (same_numbers (returned by.callback) by.callback refl refl refl refl refl (found_row by.callback w.callbacks a.runs.found rows.callbacks)) rows.callbacks;
+      timers = rows.timers;
+      kernels = ranged_performed w (Worker by.worker) (slots_of by.callback.status) words (a.told ∙ ap (λ s. words_of w (Worker by.worker) (slots_of s)) (sym a.runs.running)) rows.kernels;
+      waits = rows.waits;
+    }
 changed_rows fresh w (change.BeginWait who target cancel) s a r rows =
     record {
       objects = rows.objects;

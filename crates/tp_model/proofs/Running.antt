@@ -1,5 +1,5 @@
 -- Each callback that was taken and has not returned is run by its worker.
-use Rattle.std.proofs.Common.{◌≡◌, ℕ, Bool, true, false, ◌&&◌, ◌||◌, List, [], ◌∷◌, ◌++◌, Some, refl, sym, ap, ◌∙◌, subst, find, eqb-true, ap₂}
+use Rattle.std.proofs.Common.{◌≡◌, not, ℕ, Bool, true, false, ◌&&◌, ◌||◌, List, [], ◌∷◌, ◌++◌, Some, refl, sym, ap, ◌∙◌, subst, find, eqb-true, ap₂}
 use Rattle.tp_base.specs.Actors.{is_same_actor}
 use Rattle.std.proofs.lemmas.List.Folds.{list_any-append}
 use Rattle.std.specs.List.{list_any}
@@ -12,11 +12,12 @@ use Rattle.tp_base.specs.declared.rows.CallbackRow.{CallbackRow}
 use Rattle.tp_base.specs.declared.rows.WorkerRow.{WorkerRow}
 use Rattle.tp_model.specs.World.{World}
 use Rattle.tp_model.specs.Counts.{has_number, is_running}
-use Rattle.tp_model.specs.Changes.{replaced, taken as taken_row, returned, no_actions}
+use Rattle.tp_model.specs.Changes.{replaced, taken as taken_row, returned}
+use Rattle.tp_model.specs.Actions.{no_actions}
 use Rattle.tp_model.specs.Laws.Entries.{Run, run_by}
 use Rattle.tp_model.specs.Laws.Covered.{returns, loosens}
 use Rattle.tp_model.specs.Support.Told.{Deed}
-use Rattle.tp_model.specs.Support.Moves.{Move, Stay, Mark, Attach, Detach, Take, Return, Loosen, Cancel, Moves, run_of}
+use Rattle.tp_model.specs.Support.Moves.{asked_slots, Move, Stay, Mark, Attach, Detach, Take, Return, Amend, Cancel, Moves, run_of}
 use Rattle.tp_model.proofs.Cancelling.{running_passed, find_uncancelled}
 use Rattle.tp_model.proofs.Callbacks.{find_replaced, find_replaced_other, pending_not_running}
 use Rattle.tp_model.proofs.Places.{LastPlace, Here, Earlier, last_place, any_last, find_front}
@@ -107,32 +108,35 @@ module _ (w : World) (entry : Entry) (kept : List CallbackRow) (staff : List Wor
       let worker : m.worker ≡ f.worker = same_worker m.worker f.worker m.associated f.associated m.slots f.slots (sym m.running ∙ ap (λ (x : CallbackRow). x.status) same ∙ f.status) in
       let own : entry.who ≡ who = m.by ∙ ap (λ k. Worker k) worker ∙ sym f.by in
       absurd (false_true (sym quiet ∙ ap₂ (λ a b. a && b) (ap (λ x. is_same_actor x who) own ∙ is_own_actor who) (ap (λ (d : Deed). d.returned) m.tells)))))
-  kept_running (Loosen m) =
+  kept_running (Amend m) =
       subst (λ cs. IsRunning cs who run (loose || (loosens who entry || false))) (sym m.callbacks)
-      (apart (record m.callback { status = Running m.worker false m.slots }) (λ e.
+      (apart amended (λ e.
       let is : m.callback.number ≡ run.number = eqb-true m.callback.number run.number e in
       let same : m.callback ≡ f.row = same_row run.number m.callback.number f.row m.callback w.callbacks is f.found m.found in
-      let worker : m.worker ≡ f.worker = same_worker m.worker f.worker m.associated f.associated m.slots f.slots (sym m.running ∙ ap (λ (x : CallbackRow). x.status) same ∙ f.status) in
+      let was : Running f.worker f.associated f.slots ≡ Running m.worker m.associated m.slots = sym f.status ∙ sym (ap (λ (x : CallbackRow). x.status) same) ∙ m.running in
+      let worker : m.worker ≡ f.worker = same_worker m.worker f.worker m.associated f.associated m.slots f.slots (sym was) in
+      let tie : f.associated ≡ m.associated = cc in
       let own : entry.who ≡ who = m.by ∙ ap (λ k. Worker k) worker ∙ sym f.by in
-      let loosened : loosens who entry ≡ true = ap₂ (λ a b. a && b) (ap (λ x. is_same_actor x who) own ∙ is_own_actor who) (ap (λ (d : Deed). d.loosened) m.tells) in
+      let loosened : loosens who entry ≡ m.loose = ap₂ (λ a b. a && b) (ap (λ x. is_same_actor x who) own ∙ is_own_actor who) (ap (λ (d : Deed). d.loosened) m.tells) in
       record {
         worker = f.worker;
         by = f.by;
-        row = record m.callback { status = Running m.worker false m.slots };
-        found = ap (λ k. find (has_number k) (replaced (record m.callback { status = Running m.worker false m.slots }) w.callbacks)) (sym is) ∙ find_replaced (record m.callback { status = Running m.worker false m.slots }) m.callback w.callbacks m.found;
+        row = amended;
+        found = ap (λ k. find (has_number k) (replaced amended w.callbacks)) (sym is) ∙ find_replaced amended m.callback w.callbacks m.found;
         object = ap (λ (x : CallbackRow). x.object) same ∙ f.object;
-        associated = false;
-        slots = m.slots;
-        status = ap (λ k. Running k false m.slots) worker;
-        tied = λ h. absurd (not_quiet (ap (λ b. loose || (b || false)) (sym loosened) ∙ h));
+        associated = m.associated && not m.loose;
+        slots = asked_slots m.asks m.slots;
+        status = ap (λ k. Running k (m.associated && not m.loose) (asked_slots m.asks m.slots)) worker;
+        tied = λ h. ap₂ (λ a b. a && not b) (sym tie ∙ f.tied (was_tied h)) (sym loosened ∙ not_loosened loose (loosens who entry) h);
       }))
     where
-      not_quiet : (loose || true) ≡ false → ⊥
-      not_quiet h = always loose h
-        where
-          always : (b : Bool) → (b || true) ≡ false → ⊥
-          always true e = false_true (sym e)
-          always false e = false_true (sym e)
+      amended : CallbackRow
+      amended = record m.callback { status = Running m.worker (m.associated && not m.loose) (asked_slots m.asks m.slots) }
+
+      not_loosened : (a b : Bool) → (a || (b || false)) ≡ false → b ≡ false
+      not_loosened false false e = refl
+      not_loosened false true e = absurd (false_true (sym e))
+      not_loosened true b e = absurd (false_true (sym e))
 
 -- a callback that is taken runs
 taken_runs : (w : World) (entry : Entry) (kept : List CallbackRow) (staff : List WorkerRow) (run : Run) → Move w entry kept staff → run_by entry.answer ≡ Some run → IsRunning kept entry.who run false
@@ -156,7 +160,7 @@ taken_runs w entry kept staff run (Mark m) e = absurd (let h = sym (ap (λ (d : 
 taken_runs w entry kept staff run (Attach m) e = absurd (let h = sym (ap (λ (d : Deed). d.run) m.tells) ∙ e in cc)
 taken_runs w entry kept staff run (Detach m) e = absurd (let h = sym (ap (λ (d : Deed). d.run) m.tells) ∙ e in cc)
 taken_runs w entry kept staff run (Return m) e = absurd (let h = sym (ap (λ (d : Deed). d.run) m.tells) ∙ e in cc)
-taken_runs w entry kept staff run (Loosen m) e = absurd (let h = sym (ap (λ (d : Deed). d.run) m.tells) ∙ e in cc)
+taken_runs w entry kept staff run (Amend m) e = absurd (let h = sym (ap (λ (d : Deed). d.run) m.tells) ∙ e in cc)
 taken_runs w entry kept staff run (Cancel m) e = absurd (let h = sym (ap (λ (d : Deed). d.run) m.tells) ∙ e in cc)
 
 pub runs_on_more : (fresh : ℕ) (before : List Entry) (w : World) (x : Entry) (after : World) → AreRunning before w → Moves fresh w x after → AreRunning (before ++ x ∷ []) after

@@ -4,10 +4,11 @@ use Rattle.std.specs.List.{filter}
 use Rattle.tp_base.specs.declared.plans.Change.{Change}
 use Rattle.tp_base.specs.declared.plans.Change.TheVariants as change
 use Rattle.tp_base.specs.declared.plans.Mark.{Mark}
-use Rattle.tp_base.specs.declared.plans.Mark.TheVariants.{Long, Loose}
+use Rattle.tp_base.specs.declared.plans.Mark.TheVariants.{Long, Loose, Asks}
 use Rattle.tp_base.specs.declared.plans.PoolChange.{PoolChange}
 use Rattle.tp_base.specs.declared.plans.PoolChange.TheVariants.{Close, Maximum, Minimum}
-use Rattle.tp_base.specs.declared.rows.Slots.{Slots}
+use Rattle.tp_base.specs.declared.plans.Busy.{Busy}
+use Rattle.tp_base.specs.declared.plans.ActionWords.{ActionWords}
 use Rattle.tp_base.specs.declared.rows.Status.{Status}
 use Rattle.tp_base.specs.declared.rows.Status.TheVariants.{Running, Returned}
 use Rattle.tp_base.specs.declared.plans.WaitEnd.{WaitEnd}
@@ -27,6 +28,7 @@ use Rattle.tp_model.specs.World.{World, BegunWait, new_pool, unattached}
 use Rattle.tp_model.specs.Counts.{numbered, has_number}
 use Rattle.tp_base.specs.Actors.{is_same_actor}
 use Rattle.tp_base.specs.Kernels.{taken_by, state_after}
+use Rattle.tp_model.specs.Actions.{no_actions, slots_of, asking, performed}
 use Rattle.tp_model.specs.Kernels.{new_kernel, kernel_changed}
 use Rattle.tp_model.specs.Sources.{sources_of, firing, fired}
 use Rattle.tp_model.specs.Waits.{is_cancelled_by, cancel_where, covered_of, wait_of}
@@ -81,10 +83,6 @@ release_object w object (Some row) = record w {
   settings = without_setting object w.settings;
 }
 
--- no action on return is asked for
-abbrev pub no_actions : Slots
-no_actions = record { section = None; mutex = None; semaphore = None; event = None }
-
 abbrev pub taken : CallbackRow → ℕ → CallbackRow
 taken c worker = record c { status = Running worker true no_actions }
 
@@ -95,12 +93,19 @@ loosened status = status
 abbrev pub marked : Mark → CallbackRow → CallbackRow
 marked Long c = record c { long = true }
 marked Loose c = record c { status = loosened c.status }
+marked (Asks kind action) c = record c { status = asking kind action c.status }
 
 abbrev pub returned : CallbackRow → CallbackRow
 returned c = record c { status = Returned }
 
 abbrev pub finished : ClientRow
 finished = record { finished = true }
+
+abbrev pub return_callback : World → Busy → ActionWords → World
+return_callback w by words =
+    record (with_worker (with_callback w (returned by.callback)) by.worker (record { pool = Some by.pool; callback = None })) {
+      kernels = performed words (slots_of by.callback.status) w.kernels;
+    }
 
 -- ---- waits
 
@@ -145,8 +150,7 @@ changed w (change.Detach by) = with_worker w by.worker unattached
 changed w (change.Take by callback) =
     with_worker (with_callback w (taken callback by.worker)) by.worker (record { pool = Some by.pool; callback = Some callback.number })
 changed w (change.Mark by mark) = with_callback w (marked mark by.callback)
-changed w (change.Return by) =
-    with_worker (with_callback w (returned by.callback)) by.worker (record { pool = Some by.pool; callback = None })
+changed w (change.Return by words) = return_callback w by words
 changed w (change.BeginWait who target cancel) = begin_wait w who target cancel (cancel_where (is_cancelled_by target cancel) w.callbacks)
 changed w (change.EndWait who how) = end_wait w who how
 changed w (change.Finish client) = with_client w client finished

@@ -1,3 +1,4 @@
+pub mod Actions
 pub mod Calls
 pub mod Changes
 pub mod Conditions

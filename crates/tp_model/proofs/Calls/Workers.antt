@@ -19,6 +19,7 @@ use Rattle.tp_model.specs.Counts.{numbered, is_pending, maximum, running, next, 
 use Rattle.tp_model.specs.Conditions.{is_actor, is_attached, runs_callback, idle_of}
 use Rattle.tp_model.specs.Refusing.{first_refusal, unless_refused}
 use Rattle.tp_model.specs.Calls.Workers.{attach_refusals, attach_to, attach_plan, pool_to_join, idle_refusals, may_leave, detach, detach_plan, take_callback, take, take_plan, return_refusals, return, return_plan, another_in_need}
+use Rattle.tp_model.specs.Actions.{slots_of, words_of}
 use Rattle.tp_model.specs.Support.Sound.{IsSound}
 use Rattle.tp_model.specs.Support.Safe.{IsSafe}
 use Rattle.tp_model.specs.Support.Remembered.{forget}
@@ -182,12 +183,18 @@ take_ranged fresh w who s g = ranged_unless (idle_refusals w who) _ _ (takes (id
 
 pub return_safe : (fresh : ℕ) (w : World) (who : Who) → IsSound fresh w → IsSafe fresh w who Return (return_plan w who)
 unfolding return_plan
-return_safe fresh w who s = in_callback_safe fresh w who Return (return_refusals w who) return s tt (λ _ b. record { allowed = b.runs; made_by = b.actor; accepted = refl; tells = refl })
+return_safe fresh w who s = in_callback_safe fresh w who Return (return_refusals w who) (return w who) s tt (λ by b.
+    record {
+      allowed = record { runs = b.runs; told = ap₂ (λ a s. words_of w a (slots_of s)) b.actor b.runs.running };
+      made_by = b.actor;
+      accepted = refl;
+      tells = refl;
+    })
 
 pub return_forget : (fresh : ℕ) (w : World) (who : Who) → IsSound fresh w → return_plan (forget w) who ≡ return_plan w who
 unfolding return_plan
-return_forget fresh w who s = in_callback_forget fresh w who (return_refusals w who) return s
+return_forget fresh w who s = in_callback_forget fresh w who (return_refusals w who) (return w who) s
 
 pub return_ranged : (w : World) (who : Who) → IsPlanInRange (return_plan w who)
 unfolding return_plan
-return_ranged w who = in_callback_ranged w who (return_refusals w who) return _ tt (λ _. ((omega arith, omega arith), tt))
+return_ranged w who = in_callback_ranged w who (return_refusals w who) (return w who) _ tt (λ _. ((omega arith, omega arith), tt))

@@ -6,16 +6,17 @@ use Rattle.tp_base.specs.declared.ids.Who.{Who}
 use Rattle.tp_base.specs.declared.ids.Who.TheVariants.{Worker}
 use Rattle.tp_base.specs.declared.answers.Refusal.{Refusal}
 use Rattle.tp_base.specs.declared.answers.Refusal.TheVariants.{NoSuch, Released, NotWorker, NotRunning, StillRunning, InWait, NotAttached, AlreadyAttached}
-use Rattle.tp_base.specs.declared.answers.SlotWord.TheVariants.{Unasked}
 use Rattle.tp_base.specs.declared.answers.Answer.TheVariants as answer
 use Rattle.tp_base.specs.declared.answers.Look.TheVariants as look
 use Rattle.tp_base.specs.declared.plans.Idle.{Idle}
 use Rattle.tp_base.specs.declared.plans.Busy.{Busy}
+use Rattle.tp_base.specs.declared.plans.ActionWords.{ActionWords}
 use Rattle.tp_base.specs.declared.plans.Plan.{Plan}
 use Rattle.tp_base.specs.declared.plans.Plan.TheVariants.{Refused, Looked, Does}
 use Rattle.tp_base.specs.declared.plans.Change.TheVariants as change
 use Rattle.tp_base.specs.declared.rows.CallbackRow.{CallbackRow}
 use Rattle.tp_model.specs.World.{World}
+use Rattle.tp_model.specs.Actions.{slots_of, words_of}
 use Rattle.tp_model.specs.Counts.{attached, available, is_below_minimum, is_in_need, least_pool, maximum, minimum, next, pending, running}
 use Rattle.tp_model.specs.Conditions.{is_worker, is_actor, is_finished, is_attached, is_in_wait, runs_callback, idle_of, busy_of}
 use Rattle.tp_model.specs.Refusing.{first_refusal, unless_refused}
@@ -99,10 +100,14 @@ return_refusals w who =
     ∷ (is_in_wait w who, InWait)
     ∷ []
 
--- no call asks for an action on return yet
-abbrev pub return : Option Busy → Plan
-return None = Refused NotRunning
-return (Some by) = Does (answer.Returned Unasked Unasked Unasked Unasked 0 0) (change.Return by)
+-- its actions on return are performed, those of locks where the worker owns them, and that of a semaphore where its count
+-- stays within its maximum
+abbrev pub returning : Busy → ActionWords → Plan
+returning by words = Does (answer.Returned words.section words.mutex words.semaphore words.event 0 0) (change.Return by words)
+
+abbrev pub return : World → Who → Option Busy → Plan
+return w who None = Refused NotRunning
+return w who (Some by) = returning by (words_of w who (slots_of by.callback.status))
 
 unfoldable pub return_plan : World → Who → Plan
-return_plan w who = unless_refused (first_refusal (return_refusals w who)) (return (busy_of w who))
+return_plan w who = unless_refused (first_refusal (return_refusals w who)) (return w who (busy_of w who))

@@ -5,7 +5,9 @@ use Rattle.std.specs.List.{filter, list_any, position, range_with_len, flat_map,
 use Rattle.tp_base.specs.declared.ids.Who.TheVariants.{Worker}
 use Rattle.tp_base.specs.declared.ids.ObjectId.{ObjectId}
 use Rattle.tp_base.specs.declared.calls.Call.{Call}
-use Rattle.tp_base.specs.declared.calls.Call.TheVariants.{Return, SetMaximum, SetMinimum, BeginWait, End, Disassociate}
+use Rattle.tp_base.specs.declared.calls.Call.TheVariants.{OnReturn, Return, SetMaximum, SetMinimum, BeginWait, End, Disassociate}
+use Rattle.tp_base.specs.declared.answers.ActionKind.{ActionKind}
+use Rattle.tp_base.specs.declared.plans.ActionWords.{ActionWords}
 use Rattle.tp_base.specs.declared.answers.Answer.{Answer}
 use Rattle.tp_base.specs.declared.answers.Answer.TheVariants.{Queued, WasSet, Count, Advanced, Returned, Started, Cancelled, Closing, Begun, Attached, Taken, Ended, Exhausted, Stalled}
 use Rattle.tp_base.specs.declared.answers.Entry.{Entry}
@@ -124,6 +126,21 @@ pool_after worker pool entry = if is_by worker entry then option_or (attached_by
 -- the pool that the worker's last answer Attached names
 abbrev pub last_pool : List Entry → ℕ → Option ℕ
 last_pool history worker = fold (pool_after worker) None history
+
+-- ---- actions on return
+
+abbrev pub asked_call : Call → Option ActionKind
+asked_call (OnReturn kind kernel count) = Some kind
+asked_call _ = None
+
+-- the kind of action that an accepted OnReturn asks for
+abbrev pub asked_by : Entry → Option ActionKind
+asked_by entry = if is_refusal entry.answer then None else asked_call entry.call
+
+-- what the answer of a Return says of the actions
+abbrev pub words_by : Answer → Option ActionWords
+words_by (Returned section mutex semaphore event first count) = Some (record { section = section; mutex = mutex; semaphore = semaphore; event = event })
+words_by _ = None
 
 -- ---- pools
 

@@ -15,6 +15,11 @@ use Rattle.tp_base.specs.declared.plans.KernelChange.TheVariants as kernel
 use Rattle.tp_base.specs.declared.ids.KernelId.{KernelId}
 use Rattle.tp_base.specs.declared.plans.WaitEnd.TheVariants.{Free}
 use Rattle.tp_base.specs.declared.plans.Idle.{Idle}
+use Rattle.tp_base.specs.declared.plans.ActionWords.{ActionWords}
+use Rattle.tp_base.specs.declared.plans.Mark.{Mark}
+use Rattle.tp_base.specs.declared.plans.Mark.TheVariants.{Asks}
+use Rattle.tp_base.specs.Actions.{slot}
+use Rattle.tp_model.specs.Actions.{words_of}
 use Rattle.tp_base.specs.declared.plans.Busy.{Busy}
 use Rattle.tp_base.specs.declared.calls.Kind.TheVariants.{Timer}
 use Rattle.tp_base.specs.declared.plans.Trigger.{Trigger}
@@ -98,6 +103,20 @@ pub record Runs (w : World) (by : Busy) : Type 0 where
   pub running : by.callback.status ≡ Running by.worker associated slots
   pub home : by.callback.pool ≡ by.pool
 
+-- an action of a kind is asked for once
+abbrev pub IsUnasked : Mark → Slots → Type 0
+IsUnasked (Asks kind action) slots = slot kind slots ≡ None
+IsUnasked _ slots = Unit {0}
+
+pub record MayMark (w : World) (by : Busy) (mark : Mark) : Type 0 where
+  pub runs : Runs w by
+  pub unasked : IsUnasked mark runs.slots
+
+-- what becomes of the actions is by what their kernel objects are at
+pub record MayReturn (w : World) (by : Busy) (words : ActionWords) : Type 0 where
+  pub runs : Runs w by
+  pub told : words ≡ words_of w (Worker by.worker) runs.slots
+
 -- an object that is not released
 pub record IsUnreleased (w : World) (object : ObjectId) : Type 0 where
   pub row : ObjectRow
@@ -168,8 +187,8 @@ IsAllowed fresh w (change.ChangeKernel object how) = MayChange w object how
 IsAllowed fresh w (change.Attach worker pool) = MayAttach w worker pool
 IsAllowed fresh w (change.Detach by) = Idles w by
 IsAllowed fresh w (change.Take by callback) = MayTake w by callback
-IsAllowed fresh w (change.Mark by mark) = Runs w by
-IsAllowed fresh w (change.Return by) = Runs w by
+IsAllowed fresh w (change.Mark by mark) = MayMark w by mark
+IsAllowed fresh w (change.Return by words) = MayReturn w by words
 IsAllowed fresh w (change.BeginWait who target cancel) = MayBegin w who target
 IsAllowed fresh w (change.EndWait who how) = MayEnd w who how
 IsAllowed fresh w (change.Finish client) = numbered w.clients client ≡ Some unfinished
@@ -181,7 +200,7 @@ price (change.Take by callback) = 2
 price (change.BeginWait who target cancel) = 2
 price (change.EndWait who how) = 0
 price (change.Detach by) = 0
-price (change.Return by) = 0
+price (change.Return by words) = 0
 price (change.Finish client) = 0
 price _ = 1
 
@@ -197,7 +216,7 @@ IsMadeBy who (change.Attach worker pool) = who ≡ Worker worker
 IsMadeBy who (change.Detach by) = who ≡ Worker by.worker
 IsMadeBy who (change.Take by callback) = who ≡ Worker by.worker
 IsMadeBy who (change.Mark by mark) = who ≡ Worker by.worker
-IsMadeBy who (change.Return by) = who ≡ Worker by.worker
+IsMadeBy who (change.Return by words) = who ≡ Worker by.worker
 IsMadeBy who (change.BeginWait actor target cancel) = who ≡ actor
 IsMadeBy who (change.EndWait actor how) = who ≡ actor
 IsMadeBy who (change.Finish client) = who ≡ Client client

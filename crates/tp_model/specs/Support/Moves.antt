@@ -1,10 +1,14 @@
 -- How an accepted call moves callbacks and workers: one thing becomes of those that there are, and some are made.
-use Rattle.std.specs.Prelude.{◌≡◌, ℕ, ◌+◌, ◌-◌, ◌<◌, Bool, true, false, List, [], ◌∷◌, ◌++◌, map, slice_get, slice_set, None, Some, not, length}
+use Rattle.std.specs.Prelude.{◌≡◌, ℕ, ◌+◌, ◌-◌, ◌<◌, Bool, true, false, List, [], ◌∷◌, ◌++◌, map, slice_get, slice_set, ◌&&◌, is_none, option_map, Option, None, Some, not, length}
 use Rattle.std.specs.List.{filter, find}
 use Rattle.std.specs.Option.{option_map_or}
 use Rattle.tp_base.specs.declared.ids.Who.{Who}
 use Rattle.tp_base.specs.declared.ids.Who.TheVariants.{Worker}
 use Rattle.tp_base.specs.declared.ids.PoolId.{PoolId}
+use Rattle.tp_base.specs.declared.answers.ActionKind.{ActionKind}
+use Rattle.tp_base.specs.declared.plans.ActionWords.{ActionWords}
+use Rattle.tp_base.specs.declared.rows.Action.{Action}
+use Rattle.tp_base.specs.Actions.{slot, filled, word, is_unasked}
 use Rattle.tp_base.specs.declared.answers.Entry.{Entry}
 use Rattle.tp_base.specs.declared.rows.Status.{Status}
 use Rattle.tp_base.specs.declared.rows.Slots.{Slots}
@@ -97,26 +101,47 @@ pub record Returns (w : World) (entry : Entry) (kept : List CallbackRow) (staff 
   pub stands : numbered w.workers worker ≡ Some row
   pub busy : row.callback ≡ Some callback.number
   pub home : row.pool ≡ Some pool
-  pub tells : deed_by entry ≡ record nothing { returned = true }
+  pub words : ActionWords
+  pub tells : deed_by entry ≡ record nothing { returned = true; words = Some words }
   pub found : find (has_number callback.number) w.callbacks ≡ Some callback
   pub associated : Bool
   pub slots : Slots
   pub running : callback.status ≡ Running worker associated slots
   pub pool_same : callback.pool ≡ pool
+  pub unasked : (kind : ActionKind) → is_unasked (word kind words) ≡ is_none (slot kind slots)
   pub callbacks : kept ≡ replaced (returned callback) w.callbacks
   pub workers : staff ≡ put w worker (record row { callback = None })
 
--- a running callback is no longer waited for
-pub record Loosens (w : World) (entry : Entry) (kept : List CallbackRow) (staff : List WorkerRow) : Type 0 where
+-- an action on return that is asked for
+pub record Asking : Type 0 where
+  pub kind : ActionKind
+  pub action : Action
+
+abbrev pub asked_slots : Option Asking → Slots → Slots
+asked_slots None slots = slots
+asked_slots (Some asking) slots = filled asking.kind asking.action slots
+
+abbrev pub IsFreeFor : Option Asking → Slots → Type 0
+IsFreeFor None slots = Unit {0}
+IsFreeFor (Some asking) slots = slot asking.kind slots ≡ None
+
+-- a running callback is no longer waited for, or asks for an action on return
+pub record Amends (w : World) (entry : Entry) (kept : List CallbackRow) (staff : List WorkerRow) : Type 0 where
   pub worker : ℕ
+  pub row : WorkerRow
   pub callback : CallbackRow
   pub associated : Bool
   pub slots : Slots
+  pub loose : Bool
+  pub asks : Option Asking
   pub by : entry.who ≡ Worker worker
-  pub tells : deed_by entry ≡ record nothing { loosened = true }
+  pub stands : numbered w.workers worker ≡ Some row
+  pub busy : row.callback ≡ Some callback.number
+  pub tells : deed_by entry ≡ record nothing { loosened = loose; asked = option_map (λ (a : Asking). a.kind) asks }
   pub found : find (has_number callback.number) w.callbacks ≡ Some callback
   pub running : callback.status ≡ Running worker associated slots
-  pub callbacks : kept ≡ replaced (record callback { status = Running worker false slots }) w.callbacks
+  pub free : IsFreeFor asks slots
+  pub callbacks : kept ≡ replaced (record callback { status = Running worker (associated && not loose) (asked_slots asks slots) }) w.callbacks
   pub workers : staff ≡ w.workers
 
 -- the pending callbacks that pass a test are cancelled
@@ -134,7 +159,7 @@ pub data Move (w : World) (entry : Entry) (kept : List CallbackRow) (staff : Lis
   Detach : Detaches w entry kept staff → Move w entry kept staff
   Take : Takes w entry kept staff → Move w entry kept staff
   Return : Returns w entry kept staff → Move w entry kept staff
-  Loosen : Loosens w entry kept staff → Move w entry kept staff
+  Amend : Amends w entry kept staff → Move w entry kept staff
   Cancel : Cancels w entry kept staff → Move w entry kept staff
 
 -- ---- callbacks that are made

@@ -2,7 +2,9 @@
 use Rattle.std.specs.Prelude.{ℕ, Bool, true, false, max, List, [], ◌∷◌, length, ◌==◌, if◌then◌else◌, Option, None, Some}
 use Rattle.tp_base.specs.declared.answers.Entry.{Entry}
 use Rattle.std.specs.List.{filter, range_with_len}
-use Rattle.tp_base.specs.declared.plans.Mark.TheVariants.{Loose}
+use Rattle.tp_base.specs.declared.plans.Mark.TheVariants.{Loose, Asks}
+use Rattle.tp_base.specs.declared.answers.ActionKind.{ActionKind}
+use Rattle.tp_base.specs.declared.plans.ActionWords.{ActionWords}
 use Rattle.tp_base.specs.declared.plans.WaitEnd.{WaitEnd}
 use Rattle.tp_base.specs.declared.plans.WaitEnd.TheVariants.{Free, Exhausted}
 use Rattle.tp_base.specs.declared.rows.WaitTarget.{WaitTarget}
@@ -13,7 +15,7 @@ use Rattle.tp_base.specs.declared.plans.Change.{Change}
 use Rattle.tp_base.specs.declared.plans.Change.TheVariants as change
 use Rattle.tp_model.specs.World.{World}
 use Rattle.tp_model.specs.Waits.{is_cancelled_by}
-use Rattle.tp_model.specs.Laws.Entries.{Run, Begins, begins_by, is_ending, is_freeing, is_loosened, made_by, queued_by, taken_by, run_by, cancelled_by, cancelled_count, attached_by, is_returned, maximum_after}
+use Rattle.tp_model.specs.Laws.Entries.{Run, Begins, begins_by, is_ending, is_freeing, is_loosened, asked_by, words_by, made_by, queued_by, taken_by, run_by, cancelled_by, cancelled_count, attached_by, is_returned, maximum_after}
 
 -- of callbacks that were there before, and of the worker
 pub record Deed : Type 0 where
@@ -24,6 +26,8 @@ pub record Deed : Type 0 where
   pub attached : Option ℕ
   pub returned : Bool
   pub loosened : Bool
+  pub asked : Option ActionKind
+  pub words : Option ActionWords
 
 abbrev pub deed_by : Entry → Deed
 deed_by entry = record {
@@ -34,10 +38,12 @@ deed_by entry = record {
   attached = attached_by entry.answer;
   returned = is_returned entry;
   loosened = is_loosened entry;
+  asked = asked_by entry;
+  words = words_by entry.answer;
 }
 
 abbrev pub nothing : Deed
-nothing = record { taken = None; run = None; cancelled = None; count = 0; attached = None; returned = false; loosened = false }
+nothing = record { taken = None; run = None; cancelled = None; count = 0; attached = None; returned = false; loosened = false; asked = None; words = None }
 
 pub record Told : Type 0 where
   pub made : List ℕ
@@ -85,8 +91,9 @@ told fresh w (change.Attach worker pool) = record silent { deed = record nothing
 told fresh w (change.Take by callback) =
     record silent { deed = record nothing { taken = Some callback.number; run = Some (record { number = callback.number; object = callback.object }) } }
 told fresh w (change.Mark by Loose) = record silent { deed = record nothing { loosened = true } }
+told fresh w (change.Mark by (Asks kind action)) = record silent { deed = record nothing { asked = Some kind } }
 told fresh w (change.BeginWait who target cancel) =
     record silent { deed = record nothing { count = length (filter (is_cancelled_by target cancel) w.callbacks) }; begun = begins_of target cancel }
 told fresh w (change.EndWait who how) = record silent { ending = true; freeing = is_free how }
-told fresh w (change.Return by) = record silent { deed = record nothing { returned = true } }
+told fresh w (change.Return by words) = record silent { deed = record nothing { returned = true; words = Some words } }
 told fresh w _ = silent
