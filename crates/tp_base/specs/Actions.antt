@@ -17,6 +17,13 @@ use Rattle.tp_base.specs.declared.calls.Lock.TheVariants as lock
 
 -- ---- what is asked for
 
+abbrev pub is_same_action : ActionKind → ActionKind → Bool
+is_same_action Section Section = true
+is_same_action Mutex Mutex = true
+is_same_action Semaphore Semaphore = true
+is_same_action Event Event = true
+is_same_action _ _ = false
+
 abbrev pub slot : ActionKind → Slots → Option Action
 slot Section slots = slots.section
 slot Mutex slots = slots.mutex

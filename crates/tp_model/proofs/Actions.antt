@@ -52,18 +52,21 @@ is_that test kernels kernel = option_map_or (λ (k : KernelRow). test k.state) (
 
 -- a test that no change of this kind alters is as it was of all of them
 that_kept : (test : KernelState → Bool) (f : KernelState → KernelState) → ((s : KernelState) → test (f s) ≡ test s) → (kernels : List KernelRow) (changed kernel : ℕ) → is_that test (kernel_changed f kernels changed) kernel ≡ is_that test kernels kernel
-that_kept test f same kernels changed zero = refl
-that_kept test f same kernels changed (suc kernel) = of_row (numbered kernels changed) refl
+that_kept test f same kernels changed kernel = of_row (numbered kernels changed) refl
   where
     at : ℕ
-    at = suc kernel - 1
+    at = kernel - 1
 
     seen : Option KernelRow → Bool
     seen o = option_map_or (λ (k : KernelRow). test k.state) o false
 
-    of_row : (row : Option KernelRow) → numbered kernels changed ≡ row → is_that test (with_row f kernels changed row) (suc kernel) ≡ is_that test kernels (suc kernel)
+    unless_none : (b : Bool) (o p : Option KernelRow) → seen o ≡ seen p → seen (cond b None o) ≡ seen (cond b None p)
+    unless_none true o p e = refl
+    unless_none false o p e = e
+
+    of_row : (row : Option KernelRow) → numbered kernels changed ≡ row → is_that test (with_row f kernels changed row) kernel ≡ is_that test kernels kernel
     of_row None is = refl
-    of_row (Some row) is = of_place (changed - 1 == at) refl
+    of_row (Some row) is = unless_none (kernel == 0) (slice_get (slice_set kernels (changed - 1) new) at) (slice_get kernels at) (of_place (changed - 1 == at) refl)
       where
         new : KernelRow
         new = record row { state = f row.state }

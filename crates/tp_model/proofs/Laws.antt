@@ -1,5 +1,5 @@
 -- Every legal history keeps the laws.
-use Rattle.std.proofs.Common.{◌≡◌, ℕ, List, [], ◌∷◌, ◌++◌, refl, sym, subst, find, Some, true, ◌==◌, cond, Bool, false, None, ap₂, ◌∙◌, ◌||◌, ap, append_assoc}
+use Rattle.std.proofs.Common.{◌≡◌, ℕ, List, [], ◌∷◌, ◌++◌, refl, sym, subst, find, Some, true, ◌==◌, cond, Bool, false, None, ap₂, ◌∙◌, ◌||◌, ap, append_assoc, append-nil, ◌≤◌}
 use Rattle.tp_model.proofs.First.{next_first}
 use Rattle.tp_model.specs.Next.{IsNextOrNone}
 use Rattle.tp_model.specs.Waits.{is_held_for}
@@ -13,7 +13,7 @@ use Rattle.tp_model.proofs.Promising.{AreReady, are_ready_more, Promises, promis
 use Rattle.tp_model.specs.Laws.Covered.{AreCovered, is_spoken_of, end_in, ends, IsCovered, AllLetGo, returns, loosens, NoneTakes}
 use Rattle.tp_model.proofs.Running.{runs_on_more, AreRunning, IsRunning}
 use Rattle.tp_model.proofs.Places.{no_place, any_either, find_behind}
-use Rattle.tp_model.specs.Laws.Entries.{Run, run_by, Begins, is_among, numbers_queued, numbers_made, begins_by}
+use Rattle.tp_model.specs.Laws.Entries.{Run, run_by, Begins, is_among, is_taken, numbers_queued, numbers_made, begins_by}
 use Rattle.tp_base.specs.declared.answers.Entry.{Entry}
 use Rattle.tp_base.specs.declared.limits.Limits.{Limits}
 use Rattle.tp_base.specs.declared.answers.Answer.TheVariants as answer
@@ -22,6 +22,9 @@ use Rattle.tp_model.specs.World.{World, opening}
 use Rattle.tp_model.specs.History.{IsLegal, after, led_to}
 use Rattle.tp_model.specs.Support.Sound.{IsSound}
 use Rattle.tp_model.specs.Laws.{KeepsLaws}
+use Rattle.tp_model.specs.Laws.Actions.{AreActions, count_asked}
+use Rattle.tp_base.specs.declared.answers.ActionKind.{ActionKind}
+use Rattle.tp_model.proofs.Acting.{AreActing, are_acting_more, return_tells, at_most_one}
 use Rattle.tp_model.specs.Laws.Once.{AreOnce}
 use Rattle.tp_model.specs.Laws.Maximum.{IsWithinMaximum}
 use Rattle.tp_model.proofs.Preserving.{opening_sound}
@@ -37,6 +40,7 @@ pub record Holds (limits : Limits) (history : List Entry) (w : World) : Type 0 w
   pub runs : AreRunning history w
   pub ready : AreReady history w
   pub promises : Promises history w
+  pub acting : AreActing history w
 
 -- before an entry that takes a callback, the callback is pending
 record TakesPending (limits : Limits) (before : List Entry) (entry : Entry) (run : Run) : Type 0 where
@@ -56,6 +60,7 @@ opening_holds limits =
       runs = λ earlier later entry run split. absurd (no_place earlier entry later split);
       ready = record { ready = λ n c among found. absurd cc };
       promises = λ before between begin b split. absurd (no_place before begin between split);
+      acting = λ before between taken split. absurd (no_place before taken between split);
     }
 
 keeps : (limits : Limits) → IsKept (Holds limits)
@@ -68,6 +73,7 @@ keeps limits before w left entry h told =
       runs = runs_on_more (fresh_in w) before w entry (led_to w entry) h.runs on.leads.moves;
       ready = are_ready_more before w entry (led_to w entry) h.sound.numbers h.agrees h.ready on.leads;
       promises = promises_more before w entry (led_to w entry) h.sound.numbers h.agrees h.ready on.leads h.promises;
+      acting = are_acting_more (fresh_in w) before w entry (led_to w entry) on.leads.moves h.acting;
     }
 
 module _ (limits : Limits) (capacity : ℕ) (history : List Entry) (legal : IsLegal limits capacity history) where
@@ -178,8 +184,25 @@ module _ (limits : Limits) (capacity : ℕ) (history : List Entry) (legal : IsLe
               let unleft = promised.cut cancels run.number from.row from.found (spoken_row run.number from.row run refl from.object spoken) in
               false_true (sym unleft ∙ pending_left from.row.status from.waits))
 
+  pub are_actions : AreActions history
+  are_actions =
+      record {
+        once = once;
+        told = λ before between later taken return kind split takes quiet returned.
+            let r = at_entry (before ++ taken ∷ between) later return split in
+            return_tells (fresh_in r.world) (before ++ taken ∷ between) r.world return (led_to r.world return) (leads_on (before ++ taken ∷ between) return r).leads.moves taken.who between kind
+            (r.holds.acting before between taken refl takes quiet) returned;
+      }
+    where
+      once : (before between later : List Entry) (taken : Entry) (kind : ActionKind) → (before ++ taken ∷ between) ++ later ≡ history → is_taken taken ≡ true → list_any (returns taken.who) between ≡ false → count_asked taken.who kind between ≤ 1
+      once before between [] taken kind split takes quiet =
+          at_most_one (after limits history) taken.who between kind (at_end.acting before between taken (sym (append-nil (before ++ taken ∷ between)) ∙ split) takes quiet)
+      once before between (next_one ∷ later) taken kind split takes quiet =
+          let r = at_entry (before ++ taken ∷ between) later next_one split in
+          at_most_one r.world taken.who between kind (r.holds.acting before between taken refl takes quiet)
+
   pub keeps_laws : KeepsLaws limits history
-  keeps_laws = record { once = are_once; maximum = is_within_maximum; covered = are_covered }
+  keeps_laws = record { once = are_once; maximum = is_within_maximum; covered = are_covered; actions = are_actions }
 
   -- what a pool's worker takes next comes first of what is pending there
   pub next_is_first : (pool : ℕ) → IsNextOrNone (after limits history) pool (next (after limits history) pool)

@@ -1,3 +1,4 @@
+pub mod Acting
 pub mod Actions
 pub mod Actors
 pub mod Callbacks

@@ -47,10 +47,10 @@ goes_on : (cs ds : List CallbackRow) (who : Who) (run : Run) (loose after : Bool
 goes_on cs ds who run loose after f quiet found =
     record { worker = f.worker; by = f.by; row = f.row; found = found; object = f.object; associated = f.associated; slots = f.slots; status = f.status; tied = λ e. f.tied (quiet e) }
 
-same_row : (n m : ℕ) (x y : CallbackRow) (cs : List CallbackRow) → m ≡ n → find (has_number n) cs ≡ Some x → find (has_number m) cs ≡ Some y → y ≡ x
+pub same_row : (n m : ℕ) (x y : CallbackRow) (cs : List CallbackRow) → m ≡ n → find (has_number n) cs ≡ Some x → find (has_number m) cs ≡ Some y → y ≡ x
 same_row n m x y cs e fx fy = let both_found : Some y ≡ Some x = sym fy ∙ ap (λ k. find (has_number k) cs) e ∙ fx in cc
 
-same_worker : (m n : ℕ) (a b : Bool) (s t : Slots) → Running m a s ≡ Running n b t → m ≡ n
+pub same_worker : (m n : ℕ) (a b : Bool) (s t : Slots) → Running m a s ≡ Running n b t → m ≡ n
 same_worker m n a b s t e = cc
 
 module _ (w : World) (entry : Entry) (kept : List CallbackRow) (staff : List WorkerRow) (who : Who) (run : Run) (loose : Bool) (f : IsRunning w.callbacks who run loose) (quiet : returns who entry ≡ false) where

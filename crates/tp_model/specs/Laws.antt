@@ -6,11 +6,14 @@ pub mod Entries
 pub mod Once
 pub mod Maximum
 pub mod Covered
+pub mod Actions
 use Once.{AreOnce}
 use Maximum.{IsWithinMaximum}
 use Covered.{AreCovered}
+use Actions.{AreActions}
 
 pub record KeepsLaws (limits : Limits) (history : List Entry) : Type 0 where
   pub once : AreOnce limits history
   pub maximum : IsWithinMaximum limits history
   pub covered : AreCovered history
+  pub actions : AreActions history
