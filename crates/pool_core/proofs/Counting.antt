@@ -23,6 +23,8 @@ few fresh w (change.ChangePool pool how) most a = record { made = omega arith; c
 few fresh w (change.CreateObject row) most a = record { made = omega arith; cost = omega arith }
 few fresh w (change.ReleaseObject object) most a = record { made = omega arith; cost = omega arith }
 few fresh w (change.QueueCallback callback) most a = record { made = omega arith; cost = omega arith }
+few fresh w (change.CreateKernel state) most a = record { made = omega arith; cost = omega arith }
+few fresh w (change.ChangeKernel kernel how) most a = record { made = omega arith; cost = omega arith }
 few fresh w (change.Attach worker pool) most a = record { made = omega arith; cost = omega arith }
 few fresh w (change.Detach by) most a = record { made = omega arith; cost = omega arith }
 few fresh w (change.Take by callback) most a = record { made = omega arith; cost = omega arith }

@@ -4,23 +4,30 @@ use Rattle.tp_base.specs.declared.ids.Who.{Who}
 use Rattle.tp_base.specs.declared.answers.Answer.TheVariants as answer
 use Rattle.tp_base.specs.declared.answers.Look.TheVariants as look
 use Rattle.tp_base.specs.declared.plans.WaitEnd.TheVariants as how
+use Rattle.tp_base.specs.declared.rows.WaitTarget.{WaitTarget}
+use Rattle.tp_base.specs.declared.rows.WaitTarget.TheVariants.{Object, Group, Kernel}
 use Rattle.tp_base.specs.declared.plans.Plan.TheVariants.{Looked, Does}
 use Rattle.tp_base.specs.declared.plans.Change.TheVariants as change
 use Rattle.live_world.specs.declared.waits.Progress.TheVariants.{Starved, Holds}
 use Rattle.tp_model.specs.World.{World, BegunWait}
 use Rattle.tp_model.specs.Waits.{held, wait_of}
-use Rattle.tp_model.specs.Calls.Waits.{holds_starved, end_held, end_wait}
-use Rattle.live_world.specs.Waiting.{progress_with, progress_in, progress_of}
+use Rattle.tp_model.specs.Calls.Waits.{holds_starved, end_held, end_for, end_wait}
+use Rattle.live_world.specs.Waiting.{progress_with, progress_for, progress_in, progress_of}
 use Rattle.pool_core.specs.Ending.{end_at}
 
-with_held : (w : World) (room : ℕ) (who : Who) (numbers : List ℕ) → end_at who (progress_with w room numbers) ≡ end_held w room who numbers
+with_held : (w : World) (room : ℕ) (who : Who) (numbers : List ℕ) → end_at w who (progress_with w room numbers) ≡ end_held w room who numbers
 with_held w room who [] = refl
 with_held w room who (n ∷ ns) =
-    elim (holds_starved w room (n ∷ ns)) as (λ b. end_at who (cond b Starved (Holds n)) ≡ cond b (Does answer.Exhausted (change.EndWait who how.Exhausted)) (Looked (look.NotYet n))) [ true ↦ refl | false ↦ refl ]
+    elim (holds_starved w room (n ∷ ns)) as (λ b. end_at w who (cond b Starved (Holds n)) ≡ cond b (Does answer.Exhausted (change.EndWait who how.Exhausted)) (Looked (look.NotYet n))) [ true ↦ refl | false ↦ refl ]
 
-pub ends_at : (w : World) (room : ℕ) (who : Who) → end_at who (progress_of w room who) ≡ end_wait w room who (wait_of w who)
+pub ends_at : (w : World) (room : ℕ) (who : Who) → end_at w who (progress_of w room who) ≡ end_wait w room who (wait_of w who)
 ends_at w room who = known (wait_of w who)
   where
-    known : (o : Option BegunWait) → end_at who (progress_in w room o) ≡ end_wait w room who o
+    for_target : (b : BegunWait) (target : WaitTarget) → end_at w who (progress_for w room b target) ≡ end_for w room who b target
+    for_target b (Object object) = with_held w room who (held w b)
+    for_target b (Group group) = with_held w room who (held w b)
+    for_target b (Kernel kernel) = refl
+
+    known : (o : Option BegunWait) → end_at w who (progress_in w room o) ≡ end_wait w room who o
     known None = refl
-    known (Some b) = with_held w room who (held w b)
+    known (Some b) = for_target b b.target

@@ -10,6 +10,24 @@
 //! engine.age()                                           // 1: one call was accepted
 //! ```
 //!
+//! | Calls | Win32 functions that they stand for |
+//! |---|---|
+//! | `CreatePool`, `ClosePool` | `CreateThreadpool`, `CloseThreadpool` |
+//! | `SetMaximum`, `SetMinimum` | `SetThreadpoolThreadMaximum`, `SetThreadpoolThreadMinimum` |
+//! | `Create`, `CloseObject` | `CreateThreadpoolWork`, `CloseThreadpoolWork`, and those for timers |
+//! | `SubmitWork`, `SubmitSimple` | `SubmitThreadpoolWork`, `TrySubmitThreadpoolCallback` |
+//! | `SetTimer`, `SetTimerEx` | `SetThreadpoolTimer`, `SetThreadpoolTimerEx` |
+//! | `IsTimerSet` | `IsThreadpoolTimerSet` |
+//! | `BeginWait`, then `End` | `WaitForThreadpoolWorkCallbacks`, and that for timers |
+//! | `CreateEvent`, `SetEvent`, `ResetEvent` | those of these names |
+//! | `CreateSemaphore`, `ReleaseSemaphore` | those of these names |
+//! | `CreateLock`, `ReleaseLock` | `CreateMutex`, `ReleaseMutex`, `InitializeCriticalSection`, `LeaveCriticalSection` |
+//! | `BeginAcquire`, then `End` | `WaitForSingleObject`, `EnterCriticalSection` |
+//! | `MayRunLong` | `CallbackMayRunLong` |
+//! | `Disassociate` | `DisassociateCurrentThreadFromCallback` |
+//! | `Attach`, `Detach`, `Take`, `Return` | none: what the threads of a pool do |
+//! | `Advance`, `Finish` | none: time passes, and a client has no more to do |
+//!
 //! `open` takes all memory; `step` makes a call of an actor; `owed` is the number of entries for
 //! which the history must keep room; `age` is the number of steps that were accepted. What an
 //! engine remembers is a world without the callbacks that are over (`Remembered` of `tp_model`):
@@ -47,6 +65,7 @@ use tp_base::plans::Change;
 mod clients;
 mod decisions;
 mod in_callback;
+mod kernels;
 mod objects;
 mod plans;
 mod pools;

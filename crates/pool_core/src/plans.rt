@@ -6,7 +6,7 @@ ghost use Rattle.tp_model.specs.Support.Allowed.{price as price_of};
 ghost use Rattle.tp_model.specs.Table.{plan_at};
 
 use crate::decisions::Decision;
-use crate::{clients, in_callback, objects, pools, timers, waits, work, workers};
+use crate::{clients, in_callback, kernels, objects, pools, timers, waits, work, workers};
 use live_world::LiveWorld;
 use tp_base::calls::Call;
 use tp_base::ids::Who;
@@ -62,7 +62,21 @@ pub(crate) fn plan(
             object,
             cancel,
         } => waits::begin_wait(world, who, kind, object, cancel, change),
+        Call::BeginAcquire { kernel } => waits::begin_acquire(world, who, kernel, change),
         Call::End => waits::end(world, who, room, change),
+        Call::CreateEvent { manual, signalled } => kernels::create_event(
+            world, who, manual, signalled, change,
+        ),
+        Call::CreateSemaphore { initial, maximum } => kernels::create_semaphore(
+            world, who, initial, maximum, change,
+        ),
+        Call::CreateLock { lock, owned } => kernels::create_lock(world, who, lock, owned, change),
+        Call::SetEvent { kernel } => kernels::set_event(world, who, kernel, change),
+        Call::ResetEvent { kernel } => kernels::reset_event(world, who, kernel, change),
+        Call::ReleaseSemaphore { kernel, count } => kernels::release_semaphore(
+            world, who, kernel, count, change,
+        ),
+        Call::ReleaseLock { lock, kernel } => kernels::release_lock(world, who, lock, kernel, change),
         Call::Attach => workers::attach(world, who, change),
         Call::Detach => workers::detach(world, who, change),
         Call::Take => workers::take(world, who, change),
@@ -87,6 +101,8 @@ pub(crate) fn price(change: &Change) -> u64
         | Change::ReleaseObject { .. }
         | Change::QueueCallback(_)
         | Change::Fire { .. }
+        | Change::CreateKernel(_)
+        | Change::ChangeKernel { .. }
         | Change::Mark { .. } => 1,
     }
 }

@@ -1,9 +1,10 @@
-//! Waits for callbacks: `WaitForThreadpoolWorkCallbacks` and its like for the other kinds. BeginWait is
-//! the entry of the function, and End its return.
+//! Waits for callbacks: `WaitForThreadpoolWorkCallbacks` and its like for the other kinds; and for kernel
+//! objects: `WaitForSingleObject` and `EnterCriticalSection`. BeginWait and BeginAcquire are the entry of
+//! the function, and End its return.
 
 ghost use Rattle.pool_core.specs.Decided.{decided};
 ghost use Rattle.std.specs.Prelude.{◌≡◌};
-ghost use Rattle.tp_model.specs.Calls.Waits.{begin_wait_plan, end_plan};
+ghost use Rattle.tp_model.specs.Calls.Waits.{begin_wait_plan, begin_acquire_plan, end_plan};
 ghost use Rattle.pool_core.specs.Ending.{end_at as end_at_of};
 
 use crate::decisions::{Decision, accept};
@@ -12,7 +13,7 @@ use live_world::LiveWorld;
 use live_world::waits::Progress;
 use tp_base::answers::{Answer, Look, Refusal};
 use tp_base::calls::Kind;
-use tp_base::ids::{ObjectId, Who};
+use tp_base::ids::{KernelId, ObjectId, Who};
 use tp_base::plans::{Change, WaitEnd};
 use tp_base::rows::WaitTarget;
 
@@ -53,20 +54,59 @@ pub(crate) fn begin_wait(
     )
 }
 
+/// Begins a wait for a kernel object, which is taken as the wait ends.
+#[tactic(auto, unfolding(tp_model::specs::Calls::Waits::begin_acquire_plan))]
+pub(crate) fn begin_acquire(
+    world: &LiveWorld,
+    who: Who,
+    kernel: KernelId,
+    change: &mut Change,
+) -> Decision
+    ensures { decided result change.new ≡ begin_acquire_plan world.now.world who kernel }
+{
+    let actor = world.actor(who);
+    let refusal = first_of!([
+        (either(!actor.exists, !world.is_kernel(kernel)), Refusal::NoSuch),
+        (actor.finished, Refusal::Released),
+        (actor.is_idle, Refusal::NotRunning),
+        (actor.in_wait, Refusal::InWait),
+    ]);
+    if let Some(refusal) = refusal {
+        return Decision::Refused(refusal);
+    }
+    accept(
+        change,
+        Answer::Done,
+        Change::BeginWait {
+            who,
+            target: WaitTarget::Kernel(kernel),
+            cancel: false,
+        },
+    )
+}
+
+// The actor's wait is over.
+fn end_freely(who: Who, change: &mut Change) -> Decision
+    ensures decision { result ≡ Decision.Accepted Answer.Ended }
+    ensures change { change.new ≡ Change.EndWait who WaitEnd.Free }
+{
+    accept(
+        change,
+        Answer::Ended,
+        Change::EndWait {
+            who,
+            how: WaitEnd::Free,
+        },
+    )
+}
+
 // What End comes to, as far as the actor's wait has come.
-fn end_at(who: Who, progress: Progress, change: &mut Change) -> Decision
-    ensures { decided result change.new ≡ end_at_of who progress }
+fn end_at(world: &LiveWorld, who: Who, progress: Progress, change: &mut Change) -> Decision
+    ensures { decided result change.new ≡ end_at_of world.now.world who progress }
 {
     match progress {
         Progress::NotBegun => Decision::Refused(Refusal::NoWaitBegun),
-        Progress::Free => accept(
-            change,
-            Answer::Ended,
-            Change::EndWait {
-                who,
-                how: WaitEnd::Free,
-            },
-        ),
+        Progress::Free => end_freely(who, change),
         Progress::Starved => accept(
             change,
             Answer::Exhausted,
@@ -76,11 +116,13 @@ fn end_at(who: Who, progress: Progress, change: &mut Change) -> Decision
             },
         ),
         Progress::Holds { callback } => Decision::Looked(Look::NotYet { callback }),
+        Progress::Acquires { kernel } if world.may_take(who, kernel) => end_freely(who, change),
+        Progress::Acquires { kernel } => Decision::Looked(Look::NotYetKernel { kernel }),
     }
 }
 
 /// Ends the wait that the actor has begun, if nothing is left to wait for, or if what is left can't
-/// be run in the room of the history.
+/// be run in the room of the history. One for a kernel object ends as soon as the actor may take it.
 #[tactic(auto, using(crate::proofs::Ending::ends_at), unfolding(tp_model::specs::Calls::Waits::end_plan))]
 pub(crate) fn end(world: &LiveWorld, who: Who, room: u64, change: &mut Change) -> Decision
     ensures { decided result change.new ≡ end_plan world.now.world room who }
@@ -95,5 +137,5 @@ pub(crate) fn end(world: &LiveWorld, who: Who, room: u64, change: &mut Change) -
     if let Some(refusal) = refusal {
         return Decision::Refused(refusal);
     }
-    end_at(who, world.progress(who, room), change)
+    end_at(world, who, world.progress(who, room), change)
 }

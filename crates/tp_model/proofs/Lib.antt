@@ -28,6 +28,7 @@ pub mod Ranging
 pub mod Refusals
 pub mod Running
 pub mod Steps
+pub mod Takings
 mod TimerExamples
 mod WaitExamples
 pub mod Waiting

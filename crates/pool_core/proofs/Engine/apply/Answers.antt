@@ -3,13 +3,14 @@ use Rattle.tp_base.specs.declared.plans.Change.{Change}
 use Rattle.tp_model.specs.Counts.{owed}
 use Rattle.tp_model.specs.Changes.{changed}
 use Rattle.tp_model.specs.Support.Allowed.{IsAllowed, price, news}
-use Rattle.tp_model.specs.Support.Ranged.{AreRowsInRange}
+use Rattle.tp_model.specs.Support.Ranged.{AreRowsInRange, AreTakenAtMost}
 use Rattle.tp_model.specs.Support.Sound.{IsSound}
 use Rattle.tp_model.specs.Support.Remembered.{Remembered, forget, remembered_in}
 use Rattle.tp_model.proofs.Costs.{paid}
 use Rattle.tp_model.proofs.Growing.{grows}
 use Rattle.tp_model.proofs.Forgetting.{owed_forget}
 use Rattle.tp_model.proofs.Ranging.{changed_rows, forget_rows}
+use Rattle.tp_model.proofs.Takings.{taken_more}
 use Rattle.live_world.specs.Live.{Live}
 use Rattle.pool_core.specs.View.{remembered, IsEngine}
 use Rattle.pool_core.specs.declared.Engine.TheInside.{Inside}
@@ -42,6 +43,7 @@ invariant_of-self c =
       few_owed = omega (arith, c.price.ensures, few_here.cost, c.self.invariant.few_owed);
       rows = subst AreRowsInRange (sym world_now) (forget_rows (changed i.live.world ch)
           (changed_rows (i.live.made + 1) i.live.world ch c.is_reachable.ensures.sound (allowed_here i c.args.self.now ch c.self.view_is c.requires.allowed) c.requires.in_range c.self.invariant.rows));
+      takings = subst (AreTakenAtMost (i.age + 1)) (sym world_now) (taken_more (i.live.made + 1) i.age i.live.world ch (allowed_here i c.args.self.now ch c.self.view_is c.requires.allowed) c.self.invariant.takings);
     }
 
 pub returns : goal.returns

@@ -1,0 +1,254 @@
+//! Calls on events, semaphores, mutexes and critical sections: `CreateEvent`, `CreateSemaphore`,
+//! `CreateMutex` and `InitializeCriticalSection`, `SetEvent`, `ResetEvent`, `ReleaseSemaphore`,
+//! `ReleaseMutex` and `LeaveCriticalSection`.
+
+ghost use Rattle.pool_core.specs.Decided.{decided};
+ghost use Rattle.std.specs.Prelude.{◌≡◌, ◌+◌, length};
+ghost use Rattle.tp_base.specs.Kernels.{lock_made as lock_made_of};
+ghost use Rattle.tp_model.specs.Calls.Kernels.{create_event_plan, create_semaphore_plan, create_lock_plan, set_event_plan, reset_event_plan, release_semaphore_plan, release_lock_plan};
+
+use crate::decisions::{Decision, accept};
+use crate::refusals::{either, first_of};
+use live_world::LiveWorld;
+use tp_base::answers::{Answer, Refusal};
+use tp_base::calls::Lock;
+use tp_base::ids::{KernelId, Who};
+use tp_base::plans::{Change, KernelChange};
+use tp_base::rows::KernelState;
+
+// Of a call that makes a kernel object, whose own conditions stand before the limit.
+macro_rules! new_kernel_refusal {
+    ($world:ident, $who:ident, [$($own:tt),* $(,)?]) => {{
+        let actor = $world.actor($who);
+        first_of!([
+            (!actor.exists, Refusal::NoSuch),
+            (actor.finished, Refusal::Released),
+            (actor.is_idle, Refusal::NotRunning),
+            (actor.in_wait, Refusal::InWait),
+            $($own,)*
+            ($world.lacks_kernel(), Refusal::ObjectLimit),
+        ])
+    }};
+}
+
+// Of a call on a kernel object, which is of the call's kind or not; its own conditions follow.
+macro_rules! kernel_refusal {
+    ($world:ident, $who:ident, $kernel:ident, $of_kind:expr, [$($own:tt),* $(,)?]) => {{
+        let actor = $world.actor($who);
+        first_of!([
+            (either(!actor.exists, !$world.is_kernel($kernel)), Refusal::NoSuch),
+            (!$of_kind, Refusal::WrongKind),
+            (actor.finished, Refusal::Released),
+            (actor.is_idle, Refusal::NotRunning),
+            (actor.in_wait, Refusal::InWait),
+            $($own),*
+        ])
+    }};
+}
+
+// Makes a kernel object of this state.
+fn accept_new(world: &LiveWorld, state: KernelState, change: &mut Change) -> Decision
+    ensures decision { result ≡ Decision.Accepted (Answer.Made (length world.now.world.kernels + 1)) }
+    ensures change { change.new ≡ Change.CreateKernel state }
+{
+    accept(
+        change,
+        Answer::Made {
+            number: world.next_kernel(),
+        },
+        Change::CreateKernel(state),
+    )
+}
+
+/// Makes an event.
+#[tactic(auto, unfolding(tp_model::specs::Calls::Kernels::create_event_plan))]
+pub(crate) fn create_event(
+    world: &LiveWorld,
+    who: Who,
+    manual: bool,
+    signalled: bool,
+    change: &mut Change,
+) -> Decision
+    ensures { decided result change.new ≡ create_event_plan world.now.world who manual signalled }
+{
+    match new_kernel_refusal!(world, who, []) {
+        Some(refusal) => Decision::Refused(refusal),
+        None => accept_new(world, KernelState::Event { manual, signalled }, change),
+    }
+}
+
+/// Makes a semaphore of this count, which is at most its maximum.
+#[tactic(auto, unfolding(tp_model::specs::Calls::Kernels::create_semaphore_plan))]
+pub(crate) fn create_semaphore(
+    world: &LiveWorld,
+    who: Who,
+    initial: u32,
+    maximum: u32,
+    change: &mut Change,
+) -> Decision
+    ensures { decided result change.new ≡ create_semaphore_plan world.now.world who initial maximum }
+{
+    let refusal = new_kernel_refusal!(
+        world,
+        who,
+        [(
+            either(maximum < initial, maximum == 0),
+            Refusal::OverMaximum { count: initial },
+        )]
+    );
+    if let Some(refusal) = refusal {
+        return Decision::Refused(refusal);
+    }
+    accept_new(
+        world,
+        KernelState::Semaphore {
+            count: initial,
+            maximum,
+        },
+        change,
+    )
+}
+
+// A lock as it is made, free or taken once by who makes it.
+fn lock_made(lock: Lock, who: Who, owned: bool) -> KernelState
+    ensures { result ≡ lock_made_of lock who owned }
+{
+    let (owner, takings) = if owned { (Some(who), 1) } else { (None, 0) };
+    match lock {
+        Lock::Mutex => KernelState::Mutex { owner, takings },
+        Lock::Section => KernelState::Section { owner, takings },
+    }
+}
+
+/// Makes a mutex or a critical section.
+#[tactic(auto, unfolding(tp_model::specs::Calls::Kernels::create_lock_plan))]
+pub(crate) fn create_lock(
+    world: &LiveWorld,
+    who: Who,
+    lock: Lock,
+    owned: bool,
+    change: &mut Change,
+) -> Decision
+    ensures { decided result change.new ≡ create_lock_plan world.now.world who lock owned }
+{
+    match new_kernel_refusal!(world, who, []) {
+        Some(refusal) => Decision::Refused(refusal),
+        None => accept_new(world, lock_made(lock, who, owned), change),
+    }
+}
+
+/// An event is signalled. Who waits for it takes it as its wait ends.
+#[tactic(auto, unfolding(tp_model::specs::Calls::Kernels::set_event_plan))]
+pub(crate) fn set_event(
+    world: &LiveWorld,
+    who: Who,
+    kernel: KernelId,
+    change: &mut Change,
+) -> Decision
+    ensures { decided result change.new ≡ set_event_plan world.now.world who kernel }
+{
+    match kernel_refusal!(world, who, kernel, world.is_event(kernel), []) {
+        Some(refusal) => Decision::Refused(refusal),
+        None => accept(
+            change,
+            Answer::Queued { first: 0, count: 0 },
+            Change::ChangeKernel {
+                kernel,
+                how: KernelChange::Set,
+            },
+        ),
+    }
+}
+
+/// An event is no longer signalled.
+#[tactic(auto, unfolding(tp_model::specs::Calls::Kernels::reset_event_plan))]
+pub(crate) fn reset_event(
+    world: &LiveWorld,
+    who: Who,
+    kernel: KernelId,
+    change: &mut Change,
+) -> Decision
+    ensures { decided result change.new ≡ reset_event_plan world.now.world who kernel }
+{
+    match kernel_refusal!(world, who, kernel, world.is_event(kernel), []) {
+        Some(refusal) => Decision::Refused(refusal),
+        None => accept(
+            change,
+            Answer::Done,
+            Change::ChangeKernel {
+                kernel,
+                how: KernelChange::Reset,
+            },
+        ),
+    }
+}
+
+/// Raises the count of a semaphore, and tells what it was before.
+#[tactic(auto, unfolding(tp_model::specs::Calls::Kernels::release_semaphore_plan))]
+pub(crate) fn release_semaphore(
+    world: &LiveWorld,
+    who: Who,
+    kernel: KernelId,
+    more: u32,
+    change: &mut Change,
+) -> Decision
+    ensures { decided result change.new ≡ release_semaphore_plan world.now.world who kernel more }
+{
+    let previous = world.count_at(kernel);
+    let refusal = kernel_refusal!(
+        world,
+        who,
+        kernel,
+        world.is_semaphore(kernel),
+        [(
+            world.passes_by(more, kernel),
+            Refusal::OverMaximum { count: previous },
+        )]
+    );
+    if let Some(refusal) = refusal {
+        return Decision::Refused(refusal);
+    }
+    accept(
+        change,
+        Answer::Count {
+            previous,
+            first: 0,
+            count: 0,
+        },
+        Change::ChangeKernel {
+            kernel,
+            how: KernelChange::Raise(more),
+        },
+    )
+}
+
+/// Gives back one taking of a mutex or a critical section that the actor owns.
+#[tactic(auto, unfolding(tp_model::specs::Calls::Kernels::release_lock_plan))]
+pub(crate) fn release_lock(
+    world: &LiveWorld,
+    who: Who,
+    lock: Lock,
+    kernel: KernelId,
+    change: &mut Change,
+) -> Decision
+    ensures { decided result change.new ≡ release_lock_plan world.now.world who lock kernel }
+{
+    let refusal = kernel_refusal!(
+        world,
+        who,
+        kernel,
+        world.is_lock(lock, kernel),
+        [(!world.owns(who, kernel), Refusal::NotOwner)]
+    );
+    if let Some(refusal) = refusal {
+        return Decision::Refused(refusal);
+    }
+    accept(
+        change,
+        Answer::Done,
+        Change::ChangeKernel {
+            kernel,
+            how: KernelChange::Leave,
+        },
+    )
+}
