@@ -1,7 +1,16 @@
 -- How often a lock is taken: no change raises that by more than one.
-use Rattle.std.proofs.Common.{◌≡◌, ℕ, ◌+◌, ◌-◌, ◌≤◌, slice_get, List, Option, None, Some, refl, arith}
+use Rattle.std.proofs.Common.{◌≡◌, Bool, true, false, cond, ℕ, ◌+◌, ◌-◌, ◌≤◌, slice_get, List, Option, None, Some, refl, arith}
 use Rattle.std.specs.List.{AllByRecursion}
 use Rattle.tp_base.specs.declared.ids.Who.{Who}
+use Rattle.tp_base.specs.declared.answers.ActionKind.{ActionKind}
+use Rattle.tp_base.specs.declared.answers.ActionKind.TheVariants.{Section, Mutex, Semaphore, Event}
+use Rattle.tp_base.specs.declared.answers.SlotWord.{SlotWord}
+use Rattle.tp_base.specs.declared.plans.ActionWords.{ActionWords}
+use Rattle.tp_base.specs.declared.rows.Action.{Action}
+use Rattle.tp_base.specs.declared.rows.Slots.{Slots}
+use Rattle.tp_base.specs.Actions.{change_asked, is_performed}
+use Rattle.tp_model.specs.Actions.{slots_of, act, perform, performed}
+use Rattle.tp_model.proofs.Kernels.{all_changed}
 use Rattle.tp_base.specs.declared.limits.Limits.{Limits}
 use Rattle.tp_base.specs.declared.plans.WaitEnd.{WaitEnd}
 use Rattle.tp_base.specs.declared.plans.WaitEnd.TheVariants.{Free, Exhausted}
@@ -9,7 +18,7 @@ use Rattle.tp_base.specs.declared.plans.KernelChange.{KernelChange}
 use Rattle.tp_base.specs.declared.plans.Change.{Change}
 use Rattle.tp_base.specs.declared.plans.Change.TheVariants as change
 use Rattle.tp_base.specs.declared.rows.KernelState.{KernelState}
-use Rattle.tp_base.specs.declared.rows.KernelState.TheVariants.{Event, Semaphore, Mutex, Section}
+use Rattle.tp_base.specs.declared.rows.KernelState.TheVariants as state
 use Rattle.tp_base.specs.declared.rows.KernelRow.{KernelRow}
 use Rattle.tp_base.specs.declared.rows.ObjectRow.{ObjectRow}
 use Rattle.tp_base.specs.declared.rows.PoolRow.{PoolRow}
@@ -32,10 +41,10 @@ abbrev AreAtMost : ℕ → List KernelRow → Type 0
 AreAtMost most kernels = AllByRecursion (λ (k : KernelRow). takings_of k.state ≤ most) kernels
 
 taken_once_more : (who : Who) (s : KernelState) → takings_of (taken_by who s) ≤ takings_of s + 1
-taken_once_more who (Event manual signalled) = omega arith
-taken_once_more who (Semaphore count maximum) = omega arith
-taken_once_more who (Mutex owner takings) = omega arith
-taken_once_more who (Section owner takings) = omega arith
+taken_once_more who (state.Event manual signalled) = omega arith
+taken_once_more who (state.Semaphore count maximum) = omega arith
+taken_once_more who (state.Mutex owner takings) = omega arith
+taken_once_more who (state.Section owner takings) = omega arith
 
 taken_no_more : (how : KernelChange) (s : KernelState) → takings_of (state_after how s) ≤ takings_of s + 1
 taken_no_more how s = grind arith
@@ -62,6 +71,22 @@ wait_left most w who Free (Some b) all = target b.target
     target (Group group) = most_raised most (most + 1) (omega arith) w.kernels all
     target (Kernel kernel) = row_changed (taken_by who) (taken_once_more who) most w.kernels kernel.0 (numbered w.kernels kernel.0) refl all
 
+-- actions on return give locks back
+taken_less : (how : KernelChange) (s : KernelState) → takings_of (state_after how s) ≤ takings_of s
+taken_less how s = grind arith
+
+act_keeps : (most : ℕ) (kind : ActionKind) (action : Option Action) (kernels : List KernelRow) → AreAtMost most kernels → AreAtMost most (act kind action kernels)
+act_keeps most kind None kernels all = all
+act_keeps most kind (Some a) kernels all = all_changed (λ s. takings_of s ≤ most) (state_after (change_asked kind a.count)) kernels a.kernel.0 (λ row _ h. omega (arith, h, taken_less (change_asked kind a.count) row.state)) all
+
+perform_keeps : (most : ℕ) (kind : ActionKind) (word : SlotWord) (action : Option Action) (kernels : List KernelRow) → AreAtMost most kernels → AreAtMost most (perform kind word action kernels)
+perform_keeps most kind word action kernels all = elim (is_performed word) as (λ b. AreAtMost most (cond b (act kind action kernels) kernels)) [ true ↦ act_keeps most kind action kernels all | false ↦ all ]
+
+performed_keeps : (most : ℕ) (words : ActionWords) (slots : Slots) (kernels : List KernelRow) → AreAtMost most kernels → AreAtMost most (performed words slots kernels)
+performed_keeps most words slots kernels all =
+    perform_keeps most Event words.event slots.event _ (perform_keeps most Semaphore words.semaphore slots.semaphore _
+    (perform_keeps most Mutex words.mutex slots.mutex _ (perform_keeps most Section words.section slots.section kernels all)))
+
 pub taken_up_to : (most higher : ℕ) (w : World) → most ≤ higher → AreTakenAtMost most w → AreTakenAtMost higher w
 taken_up_to most higher w below all = most_raised most higher below w.kernels all
 
@@ -80,6 +105,7 @@ taken_more fresh most w (change.ReleaseObject object) a all = with_object (numbe
     with_object : (row : Option ObjectRow) → AreTakenAtMost (most + 1) (release_object w object row)
     with_object None = taken_up_to most (most + 1) w (omega arith) all
     with_object (Some row) = taken_up_to most (most + 1) w (omega arith) all
+taken_more fresh most w (change.Return by words) a all = most_raised most (most + 1) (omega arith) _ (performed_keeps most words (slots_of by.callback.status) w.kernels all)
 taken_more fresh most w ch a all = taken_up_to most (most + 1) w (omega arith) all
 
 -- at first there is none
