@@ -5,11 +5,18 @@ ghost use Rattle.tp_base.specs.Kernels.{is_event as is_event_by, is_semaphore as
 ghost use Rattle.tp_model.specs.Counts.{numbered};
 ghost use Rattle.tp_model.specs.Kernels.{is_kernel, is_kernel_that, count_at};
 
+ghost use Rattle.tp_base.specs.Actions.{is_for as is_for_by, may_raise as may_raise_by, may_perform as may_perform_by, slot as slot_of};
+ghost use Rattle.tp_model.specs.Actions.{slots_of as slots_of_status, word_of, words_of};
+ghost use Rattle.tp_model.specs.Calls.InCallback.{has_asked};
+
 use crate::LiveWorld;
+use crate::changes::NO_ACTIONS;
 use kernel_events::states;
+use tp_base::answers::{ActionKind, SlotWord};
 use tp_base::calls::Lock;
 use tp_base::ids::{KernelId, Who};
-use tp_base::rows::KernelState;
+use tp_base::plans::ActionWords;
+use tp_base::rows::{Action, KernelState, Slots, Status};
 
 impl LiveWorld {
     /// The state of a kernel object, if one of this number was made.
@@ -109,5 +116,102 @@ impl LiveWorld {
         ensures { result ≡ nat_le self.now.world.limits.kernels (length self.now.world.kernels) }
     {
         self.limits.kernels <= self.kernels.len()
+    }
+
+    /// Whether the kernel object of this number is of the kind that an action on return is for.
+    pub fn is_for(&self, kind: ActionKind, kernel: KernelId) -> bool
+        ensures { result ≡ is_kernel_that (is_for_by kind) self.now.world kernel.0 }
+    {
+        match kind {
+            ActionKind::Section => self.is_lock(Lock::Section, kernel),
+            ActionKind::Mutex => self.is_lock(Lock::Mutex, kernel),
+            ActionKind::Semaphore => self.is_semaphore(kernel),
+            ActionKind::Event => self.is_event(kernel),
+        }
+    }
+
+    // Whether the count of the semaphore of this number stays within its maximum with so much more.
+    fn may_raise(&self, more: u32, kernel: KernelId) -> bool
+        ensures { result ≡ is_kernel_that (may_raise_by more) self.now.world kernel.0 }
+    {
+        match self.kernel(kernel) {
+            Some(KernelState::Semaphore { count, maximum }) => {
+                count as u64 + more as u64 <= maximum as u64
+            }
+            _ => false,
+        }
+    }
+
+    // Whether the actor may perform an action of this kind now.
+    fn may_perform(&self, who: Who, kind: ActionKind, action: Action) -> bool
+        ensures { result ≡ is_kernel_that (may_perform_by who kind action.count) self.now.world action.kernel.0 }
+    {
+        match kind {
+            ActionKind::Section | ActionKind::Mutex => self.owns(who, action.kernel),
+            ActionKind::Semaphore => self.may_raise(action.count, action.kernel),
+            ActionKind::Event => self.is_event(action.kernel),
+        }
+    }
+
+    // What becomes of an action of this kind, if one was asked for.
+    fn word(&self, who: Who, kind: ActionKind, action: Option<Action>) -> SlotWord
+        ensures { result ≡ word_of self.now.world who kind action }
+    {
+        let Some(action) = action else {
+            return SlotWord::Unasked;
+        };
+        if self.may_perform(who, kind, action) {
+            return SlotWord::Performed;
+        }
+        match kind {
+            ActionKind::Semaphore => SlotWord::OverMaximum,
+            ActionKind::Section | ActionKind::Mutex | ActionKind::Event => SlotWord::NotOwner,
+        }
+    }
+
+    /// What becomes of the actions that a callback of this status asked for, if the actor returns
+    /// from it now.
+    pub fn words(&self, who: Who, status: &Status) -> ActionWords
+        ensures { result ≡ words_of self.now.world who (slots_of_status status.now) }
+    {
+        let slots = slots_of(*status);
+        ActionWords {
+            section: self.word(who, ActionKind::Section, slots.section),
+            mutex: self.word(who, ActionKind::Mutex, slots.mutex),
+            semaphore: self.word(who, ActionKind::Semaphore, slots.semaphore),
+            event: self.word(who, ActionKind::Event, slots.event),
+        }
+    }
+
+    /// Whether the callback that the actor runs has asked for an action of this kind.
+    pub fn has_asked(&self, who: Who, kind: ActionKind) -> bool
+        ensures { result ≡ has_asked self.now.world who kind }
+    {
+        match self.busy(who) {
+            None => false,
+            Some(by) => slot(kind, &slots_of(by.callback.status)).is_some(),
+        }
+    }
+}
+
+// The actions that a callback of this status has asked for.
+pub(crate) fn slots_of(status: Status) -> Slots
+    ensures { result ≡ slots_of_status status }
+{
+    match status {
+        Status::Running { slots, .. } => slots,
+        _ => NO_ACTIONS,
+    }
+}
+
+// The action of a kind that was asked for.
+fn slot(kind: ActionKind, slots: &Slots) -> Option<Action>
+    ensures { result ≡ slot_of kind slots.now }
+{
+    match kind {
+        ActionKind::Section => slots.section,
+        ActionKind::Mutex => slots.mutex,
+        ActionKind::Semaphore => slots.semaphore,
+        ActionKind::Event => slots.event,
     }
 }

@@ -1,17 +1,20 @@
-//! Calls of a running callback on itself: `CallbackMayRunLong` and
-//! `DisassociateCurrentThreadFromCallback`.
+//! Calls of a running callback on itself: `CallbackMayRunLong`,
+//! `DisassociateCurrentThreadFromCallback`, and the four functions that leave something to its
+//! return: `LeaveCriticalSectionWhenCallbackReturns`, `ReleaseMutexWhenCallbackReturns`,
+//! `ReleaseSemaphoreWhenCallbackReturns` and `SetEventWhenCallbackReturns`.
 
 ghost use Rattle.pool_core.specs.Decided.{decided};
 ghost use Rattle.std.specs.Prelude.{◌≡◌};
 ghost use Rattle.tp_model.specs.Refusing.{first_refusal};
-ghost use Rattle.tp_model.specs.Calls.InCallback.{busy_refusals, may_run_long_plan, disassociate_plan};
+ghost use Rattle.tp_model.specs.Calls.InCallback.{busy_refusals, may_run_long_plan, disassociate_plan, on_return_plan};
 
 use crate::decisions::{Decision, accept};
-use crate::refusals::first_of;
+use crate::refusals::{either, first_of};
 use live_world::LiveWorld;
-use tp_base::answers::{Answer, Refusal};
-use tp_base::ids::Who;
+use tp_base::answers::{ActionKind, Answer, Refusal};
+use tp_base::ids::{KernelId, Who};
 use tp_base::plans::{Change, Mark};
+use tp_base::rows::Action;
 
 // Of an actor that must run a callback.
 fn busy_refusal(world: &LiveWorld, who: Who) -> Option<Refusal>
@@ -66,6 +69,46 @@ pub(crate) fn disassociate(world: &LiveWorld, who: Who, change: &mut Change) -> 
         Change::Mark {
             by,
             mark: Mark::Loose,
+        },
+    )
+}
+
+/// A running callback leaves something to its return.
+#[tactic(auto, unfolding(tp_model::specs::Calls::InCallback::on_return_plan))]
+pub(crate) fn on_return(
+    world: &LiveWorld,
+    who: Who,
+    kind: ActionKind,
+    kernel: KernelId,
+    count: u32,
+    change: &mut Change,
+) -> Decision
+    ensures { decided result change.new ≡ on_return_plan world.now.world who kind kernel count }
+{
+    let actor = world.actor(who);
+    let refusal = first_of!([
+        (either(!actor.exists, !world.is_kernel(kernel)), Refusal::NoSuch),
+        (!world.is_for(kind, kernel), Refusal::WrongKind),
+        (actor.finished, Refusal::Released),
+        (!actor.runs, Refusal::NotRunning),
+        (actor.in_wait, Refusal::InWait),
+        (world.has_asked(who, kind), Refusal::SlotTaken { kind }),
+    ]);
+    if let Some(refusal) = refusal {
+        return Decision::Refused(refusal);
+    }
+    let Some(by) = world.busy(who) else {
+        return Decision::Refused(Refusal::NotRunning);
+    };
+    accept(
+        change,
+        Answer::Done,
+        Change::Mark {
+            by,
+            mark: Mark::Asks {
+                kind,
+                action: Action { kernel, count },
+            },
         },
     )
 }

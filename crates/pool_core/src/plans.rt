@@ -83,6 +83,11 @@ pub(crate) fn plan(
         Call::Return => workers::return_callback(world, who, change),
         Call::MayRunLong => in_callback::may_run_long(world, who, change),
         Call::Disassociate => in_callback::disassociate(world, who, change),
+        Call::OnReturn {
+            kind,
+            kernel,
+            count,
+        } => in_callback::on_return(world, who, kind, kernel, count, change),
         Call::Finish => clients::finish(world, who, change),
     }
 }
@@ -93,7 +98,7 @@ pub(crate) fn price(change: &Change) -> u64
 {
     match change {
         Change::Attach { .. } | Change::Take { .. } | Change::BeginWait { .. } => 2,
-        Change::Detach(_) | Change::Return(_) | Change::EndWait { .. } | Change::Finish { .. } => 0,
+        Change::Detach(_) | Change::Return { .. } | Change::EndWait { .. } | Change::Finish { .. } => 0,
         Change::Keep
         | Change::CreatePool
         | Change::ChangePool { .. }

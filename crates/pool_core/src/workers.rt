@@ -123,16 +123,17 @@ pub(crate) fn return_callback(world: &LiveWorld, who: Who, change: &mut Change) 
     let Some(by) = world.busy(who) else {
         return Decision::Refused(Refusal::NotRunning);
     };
+    let words = world.words(who, &by.callback.status);
     accept(
         change,
         Answer::Returned {
-            section: SlotWord::Unasked,
-            mutex: SlotWord::Unasked,
-            semaphore: SlotWord::Unasked,
-            event: SlotWord::Unasked,
+            section: words.section,
+            mutex: words.mutex,
+            semaphore: words.semaphore,
+            event: words.event,
             first: 0,
             count: 0,
         },
-        Change::Return(by),
+        Change::Return { by, words },
     )
 }
