@@ -23,9 +23,10 @@
 #![tactic(auto)]
 
 ghost use Rattle.std.specs.Prelude.{◌≡◌, ◌+◌, ◌<◌, ◌≤◌, ◌^◌, ◌++◌, ◌∷◌, [], All, IfOk, IfSome, IsSome, false, length, true};
-ghost use Rattle.tp_base.specs.Kernels.{may_take, state_after, taken_by, takings_of};
-ghost use Rattle.kernel_events.specs.Kernels.{HasDistinctObjects, Suits, first_on, is_armed, new_row, next_released, numbered, release_to, rows_with, state_of, without};
+ghost use Rattle.tp_base.specs.Kernels.{may_take, state_after as after_change, taken_by as after_taking, takings_of};
+ghost use Rattle.kernel_events.specs.Kernels.{HasDistinctObjects, Suits, new_row, numbered, rows_with, state_of};
 
+use states::{state_after, taken_by};
 use std::alloc::{AllocError, Global};
 use std::marker::Model;
 use tp_base::ids::{KernelId, ObjectId, Who};
@@ -39,7 +40,19 @@ pub mod states;
 pub struct KernelTable {
     limit: u32,
     rows: Vec<KernelRow>,
-    armings: Armings,
+    objects: u32,
+}
+
+impl Model for KernelTable {
+    ghost use Rattle.std.specs.Prelude.{[]};
+    ghost use Rattle.kernel_events.specs.Kernels.{Kernels};
+    ghost use Rattle.kernel_events.specs.Kept.{IsKept};
+
+    ghost Value = { Kernels };
+
+    ghost view = { λ a. record { limit = a.limit; objects = a.objects; rows = a.rows.items; armed = [] } };
+
+    ghost invariant = { IsKept };
 }
 
 impl KernelTable {
@@ -50,6 +63,11 @@ impl KernelTable {
     pub fn open(alloc: Global, limit: u32, objects: u32) -> Result<KernelTable, AllocError>
         ensures { IfOk result (λ kernels. kernels ≡ record { limit = limit; objects = objects; rows = []; armed = [] }) }
     {
+        Ok(KernelTable {
+            limit,
+            rows: Vec::with_capacity(alloc, limit as usize)?,
+            objects,
+        })
     }
 
     /// How many kernel objects were made. There are never more than the limit, and no wait object is
@@ -62,6 +80,7 @@ impl KernelTable {
         ensures most { All (λ a. a.object.0 ≤ self.now.objects) self.now.armed }
         ensures made { All (λ a. IsSome (numbered self.now.rows a.kernel.0)) self.now.armed }
     {
+        self.rows.len() as u32
     }
 
     /// Makes a kernel object in this state. Its number is the next one.
@@ -69,12 +88,18 @@ impl KernelTable {
         requires { length self.old.rows < self.old.limit }
         ensures { self.new ≡ record self.old { rows = self.old.rows ++ new_row state ∷ [] } }
     {
+        self.rows.push_reserved(KernelRow { state });
     }
 
     /// What the kernel object of this number is at, or None where it was never made.
     pub fn get(&self, kernel: KernelId) -> Option<KernelState>
         ensures { result ≡ state_of self.now kernel.0 }
     {
+        if kernel.0 == 0 {
+            return None;
+        }
+        let row = self.rows.get(kernel.0 as usize - 1)?;
+        Some(row.state)
     }
 
     /// Changes a kernel object: SetEvent, ResetEvent, ReleaseSemaphore, ReleaseMutex and
@@ -82,8 +107,10 @@ impl KernelTable {
     pub fn change(&mut self, kernel: KernelId, how: KernelChange)
         requires made { IsSome (numbered self.old.rows kernel.0) }
         requires suits { IfSome (numbered self.old.rows kernel.0) (λ row. Suits how row.state) }
-        ensures { self.new ≡ record self.old { rows = rows_with (state_after how) self.old.rows kernel.0 } }
+        ensures { self.new ≡ record self.old { rows = rows_with (after_change how) self.old.rows kernel.0 } }
     {
+        let row = &mut self.rows[kernel.0 as usize - 1];
+        row.state = state_after(how, row.state);
     }
 
     /// An actor takes a kernel object, as the end of WaitForSingleObject or EnterCriticalSection.
@@ -91,46 +118,9 @@ impl KernelTable {
         requires made { IsSome (numbered self.old.rows kernel.0) }
         requires allowed { IfSome (numbered self.old.rows kernel.0) (λ row. may_take who row.state ≡ true) }
         requires few { IfSome (numbered self.old.rows kernel.0) (λ row. takings_of row.state + 1 < 2 ^ 64) }
-        ensures { self.new ≡ record self.old { rows = rows_with (taken_by who) self.old.rows kernel.0 } }
+        ensures { self.new ≡ record self.old { rows = rows_with (after_taking who) self.old.rows kernel.0 } }
     {
-    }
-
-    /// Arms a wait object that isn't armed on a kernel object, behind all others: SetThreadpoolWait.
-    pub fn arm(&mut self, object: ObjectId, kernel: KernelId)
-        requires made { IsSome (numbered self.old.rows kernel.0) }
-        requires least { 1 ≤ object.0 }
-        requires most { object.0 ≤ self.old.objects }
-        requires free { is_armed object.0 self.old.armed ≡ false }
-        ensures { self.new ≡ record self.old { armed = self.old.armed ++ record { object = object; kernel = kernel } ∷ [] } }
-    {
-    }
-
-    /// Disarms a wait object, and says whether it was armed. Where it wasn't, nothing changes.
-    pub fn disarm(&mut self, object: ObjectId) -> bool
-        ensures was { result ≡ is_armed object.0 self.old.armed }
-        ensures after { self.new ≡ record self.old { armed = without object.0 self.old.armed } }
-    {
-    }
-
-    /// Whether a wait object is armed.
-    pub fn is_armed(&self, object: ObjectId) -> bool
-        ensures { result ≡ is_armed object.0 self.now.armed }
-    {
-    }
-
-    /// The wait object that was armed earliest on this kernel object, or None where none is armed on
-    /// it.
-    pub fn first_armed(&self, kernel: KernelId) -> Option<ObjectId>
-        ensures { result ≡ first_on kernel.0 self.now.armed }
-    {
-    }
-
-    /// Lets a kernel object that is signalled release the wait object that was armed earliest on it:
-    /// that is disarmed, and takes the kernel object once. None exactly where the kernel object isn't
-    /// signalled, or no wait object is armed on it, and then nothing changes.
-    pub fn next_released(&mut self, kernel: KernelId) -> Option<ObjectId>
-        ensures released { result ≡ next_released kernel.0 self.old }
-        ensures after { self.new ≡ release_to kernel.0 self.old (next_released kernel.0 self.old) }
-    {
+        let row = &mut self.rows[kernel.0 as usize - 1];
+        row.state = taken_by(who, row.state);
     }
 }
