@@ -13,13 +13,14 @@ use Rattle.tp_lines.specs.declared.words.Word.{Word}
 use Rattle.tp_lines.specs.declared.words.Word.TheVariants as word
 use Rattle.tp_lines.specs.Parts.{AreFit, Fits, FitsForm, IsWordPart, after, form_of, instead_of, number_of, number_part}
 use Rattle.tp_lines.specs.Shapes.{fields_of, table_of}
-use Rattle.tp_lines.specs.Values.{part_at, small_of, large_of, due_of, word_of, kind_of, priority_of, length_of, how_of, flag_of, slot_of, action_of}
+use Rattle.tp_lines.specs.Values.{part_at, small_of, large_of, due_of, word_of, kind_of, priority_of, length_of, how_of, reset_of, signal_of, lock_of, owner_of, flag_of, slot_of, action_of}
 
 -- the part of a field, told from a part that stands there
 abbrev pub field_part : Field → Part → Part
 field_part field.Short p = part.Short (small_of p)
 field_part field.Made p = part.Made (small_of p)
 field_part field.Level p = part.Level (small_of p)
+field_part field.Units p = part.Units (small_of p)
 field_part field.Small p = part.Small (small_of p)
 field_part field.Large p = part.Large (large_of p)
 field_part field.Time p = part.Time (large_of p)
@@ -36,6 +37,10 @@ field_part field.Kind p = part.Word (word.Kind (kind_of p))
 field_part field.Priority p = part.Word (word.Priority (priority_of p))
 field_part field.Length p = part.Word (word.Length (length_of p))
 field_part field.How p = part.Word (word.How (how_of p))
+field_part field.Reset p = part.Word (word.Reset (reset_of p))
+field_part field.Signal p = part.Word (word.Signal (signal_of p))
+field_part field.Lock p = part.Word (word.Lock (lock_of p))
+field_part field.Owner p = part.Word (word.Owner (owner_of p))
 field_part field.Flag p = part.Word (word.YesNo (flag_of p))
 field_part field.Slot p = part.Word (word.Slot (slot_of p))
 field_part field.Action p = part.Word (word.Action (action_of p))

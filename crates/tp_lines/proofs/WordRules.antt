@@ -6,6 +6,7 @@ use Rattle.line_grammar.specs.Words.{is_solid}
 use Rattle.tp_base.specs.declared.answers.ActionKind.TheVariants as action
 use Rattle.tp_base.specs.declared.answers.SlotWord.TheVariants as slot
 use Rattle.tp_base.specs.declared.calls.Kind.TheVariants as kind
+use Rattle.tp_base.specs.declared.calls.Lock.TheVariants as lock
 use Rattle.tp_base.specs.declared.calls.Priority.TheVariants as priority
 use Rattle.tp_lines.specs.declared.words.Field.{Field}
 use Rattle.tp_lines.specs.declared.words.Field.TheVariants as field
@@ -45,6 +46,10 @@ rank field.Flag = 12
 rank field.Slot = 13
 rank field.Action = 14
 rank field.How = 15
+rank field.Reset = 16
+rank field.Signal = 17
+rank field.Lock = 18
+rank field.Owner = 19
 rank _ = 0
 
 abbrev pub first_of_two : Bool → Word → Option Word → Option Word
@@ -70,6 +75,14 @@ kept (word.Length true) = (refl, refl)
 kept (word.Length false) = (refl, refl)
 kept (word.How true) = (refl, refl)
 kept (word.How false) = (refl, refl)
+kept (word.Reset true) = (refl, refl)
+kept (word.Reset false) = (refl, refl)
+kept (word.Signal true) = (refl, refl)
+kept (word.Signal false) = (refl, refl)
+kept (word.Lock lock.Mutex) = (refl, refl)
+kept (word.Lock _) = (refl, refl)
+kept (word.Owner true) = (refl, refl)
+kept (word.Owner false) = (refl, refl)
 kept (word.YesNo true) = (refl, refl)
 kept (word.YesNo false) = (refl, refl)
 kept (word.Slot slot.Unasked) = (refl, refl)

@@ -14,7 +14,7 @@ use Rattle.tp_lines.specs.declared.words.Word.TheVariants as word
 use Rattle.tp_lines.specs.Parts.{AreFit, parts_of, row_text}
 use Rattle.tp_lines.specs.Rows.{RowTexts}
 use Rattle.tp_lines.specs.Shapes.{table_of_kind}
-use Rattle.tp_lines.specs.Values.{part_at, small_of, large_of, due_of, kind_of, priority_of, length_of, how_of}
+use Rattle.tp_lines.specs.Values.{part_at, small_of, large_of, due_of, kind_of, priority_of, length_of, how_of, reset_of, signal_of, lock_of, owner_of}
 use Rattle.tp_lines.specs.Words.{text_of_who}
 
 abbrev pub environ_parts : Environ → List Part
@@ -35,7 +35,15 @@ row_of (call.SetTimerEx object due period window) = (word.SetTimerEx, part.Short
 row_of (call.IsTimerSet object) = (word.IsTimerSet, part.Short object.0 ∷ [])
 row_of (call.Advance ticks) = (word.Advance, part.Time ticks ∷ [])
 row_of (call.BeginWait kind object cancel) = (word.BeginWait, part.Word (word.Kind kind) ∷ part.Short object.0 ∷ part.Word (word.How cancel) ∷ [])
+row_of (call.BeginAcquire kernel) = (word.BeginAcquire, part.Short kernel.0 ∷ [])
 row_of call.End = (word.End, [])
+row_of (call.CreateEvent manual signalled) = (word.CreateEvent, part.Word (word.Reset manual) ∷ part.Word (word.Signal signalled) ∷ [])
+row_of (call.CreateSemaphore initial maximum) = (word.CreateSemaphore, part.Level initial ∷ part.Level maximum ∷ [])
+row_of (call.CreateLock lock owned) = (word.CreateLock, part.Word (word.Lock lock) ∷ part.Word (word.Owner owned) ∷ [])
+row_of (call.SetEvent kernel) = (word.SetEvent, part.Short kernel.0 ∷ [])
+row_of (call.ResetEvent kernel) = (word.ResetEvent, part.Short kernel.0 ∷ [])
+row_of (call.ReleaseSemaphore kernel count) = (word.ReleaseSemaphore, part.Short kernel.0 ∷ part.Units count ∷ [])
+row_of (call.ReleaseLock lock kernel) = (word.ReleaseLock, part.Word (word.Lock lock) ∷ part.Short kernel.0 ∷ [])
 row_of call.Attach = (word.Attach, [])
 row_of call.Detach = (word.Detach, [])
 row_of call.Take = (word.Take, [])
@@ -112,7 +120,15 @@ call_at word.SetTimerEx parts = Some (call.SetTimerEx (record { 0 = small_of (pa
 call_at word.IsTimerSet parts = Some (call.IsTimerSet (record { 0 = small_of (part_at parts 1) }))
 call_at word.Advance parts = Some (call.Advance (large_of (part_at parts 1)))
 call_at word.BeginWait parts = Some (call.BeginWait (kind_of (part_at parts 1)) (record { 0 = small_of (part_at parts 2) }) (how_of (part_at parts 3)))
+call_at word.BeginAcquire parts = Some (call.BeginAcquire (record { 0 = small_of (part_at parts 1) }))
 call_at word.End parts = Some call.End
+call_at word.CreateEvent parts = Some (call.CreateEvent (reset_of (part_at parts 1)) (signal_of (part_at parts 2)))
+call_at word.CreateSemaphore parts = Some (call.CreateSemaphore (small_of (part_at parts 1)) (small_of (part_at parts 2)))
+call_at word.CreateLock parts = Some (call.CreateLock (lock_of (part_at parts 1)) (owner_of (part_at parts 2)))
+call_at word.SetEvent parts = Some (call.SetEvent (record { 0 = small_of (part_at parts 1) }))
+call_at word.ResetEvent parts = Some (call.ResetEvent (record { 0 = small_of (part_at parts 1) }))
+call_at word.ReleaseSemaphore parts = Some (call.ReleaseSemaphore (record { 0 = small_of (part_at parts 1) }) (small_of (part_at parts 2)))
+call_at word.ReleaseLock parts = Some (call.ReleaseLock (lock_of (part_at parts 1)) (record { 0 = small_of (part_at parts 2) }))
 call_at word.Attach parts = Some call.Attach
 call_at word.Detach parts = Some call.Detach
 call_at word.Take parts = Some call.Take

@@ -6,6 +6,7 @@ use Rattle.line_grammar.specs.Words.{Optional}
 use Rattle.tp_base.specs.declared.answers.ActionKind.TheVariants as action
 use Rattle.tp_base.specs.declared.answers.SlotWord.TheVariants as slot
 use Rattle.tp_base.specs.declared.calls.Kind.TheVariants as kind
+use Rattle.tp_base.specs.declared.calls.Lock.TheVariants as lock
 use Rattle.tp_base.specs.declared.calls.Priority.TheVariants as priority
 use Rattle.tp_lines.specs.declared.parts.Part.{Part}
 use Rattle.tp_lines.specs.declared.words.Field.{Field}
@@ -52,6 +53,10 @@ default_word field.Unbuilt = word.Kind kind.Wait
 default_word field.Priority = word.Priority priority.Normal
 default_word field.Length = word.Length false
 default_word field.How = word.How false
+default_word field.Reset = word.Reset false
+default_word field.Signal = word.Signal false
+default_word field.Lock = word.Lock lock.Mutex
+default_word field.Owner = word.Owner false
 default_word field.Flag = word.YesNo false
 default_word field.Slot = word.Slot slot.Unasked
 default_word field.Action = word.Action action.Event

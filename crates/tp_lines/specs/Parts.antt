@@ -17,6 +17,7 @@ abbrev pub text_of_part : Part → List ℕ
 text_of_part (part.Short number) = decimal number
 text_of_part (part.Made number) = decimal number
 text_of_part (part.Level count) = decimal count
+text_of_part (part.Units count) = decimal count
 text_of_part (part.Small number) = decimal number
 text_of_part (part.Large number) = decimal number
 text_of_part (part.Time time) = decimal time
@@ -47,6 +48,7 @@ abbrev pub form_of : Field → Form
 form_of field.Short = form.Number 0 65535
 form_of field.Made = form.Number 1 65535
 form_of field.Level = form.Number 0 2147483647
+form_of field.Units = form.Number 1 2147483647
 form_of field.Small = form.Number 0 4294967295
 form_of field.Large = form.Number 0 18446744073709551615
 form_of field.Time = form.Number 0 9223372036854775807
@@ -71,6 +73,7 @@ abbrev pub number_part : Field → ℕ → Part
 number_part field.Short number = part.Short number
 number_part field.Made number = part.Made number
 number_part field.Level number = part.Level number
+number_part field.Units number = part.Units number
 number_part field.Small number = part.Small number
 number_part field.Large number = part.Large number
 number_part field.Time number = part.Time number
@@ -88,6 +91,7 @@ abbrev pub number_of : Part → ℕ
 number_of (part.Short number) = number
 number_of (part.Made number) = number
 number_of (part.Level number) = number
+number_of (part.Units number) = number
 number_of (part.Small number) = number
 number_of (part.Large number) = number
 number_of (part.Time number) = number

@@ -6,7 +6,7 @@ use Rattle.tp_lines.specs.declared.words.Field.{Field}
 use Rattle.tp_lines.specs.declared.words.Field.TheVariants as field
 use Rattle.tp_lines.specs.declared.words.Word.{Word}
 use Rattle.tp_lines.specs.declared.words.Word.TheVariants as word
-use Rattle.tp_lines.specs.Words.{text_of_kind, text_of_priority, text_of_long, text_of_how, text_of_flag, text_of_slot, text_of_action}
+use Rattle.tp_lines.specs.Words.{text_of_kind, text_of_priority, text_of_long, text_of_how, text_of_reset, text_of_signal, text_of_lock, text_of_owner, text_of_flag, text_of_slot, text_of_action}
 
 pub record Shape : Type 0 where
   pub table : Field
@@ -33,7 +33,15 @@ shape_of word.SetTimerEx = record { table = field.Call; text = codes "set-timer-
 shape_of word.IsTimerSet = record { table = field.Call; text = codes "is-timer-set"; fields = field.Short ∷ [] }
 shape_of word.Advance = record { table = field.Call; text = codes "advance"; fields = field.Time ∷ [] }
 shape_of word.BeginWait = record { table = field.Call; text = codes "wait"; fields = field.Kind ∷ field.Short ∷ field.How ∷ [] }
+shape_of word.BeginAcquire = record { table = field.Call; text = codes "acquire"; fields = field.Short ∷ [] }
 shape_of word.End = record { table = field.Call; text = codes "end"; fields = [] }
+shape_of word.CreateEvent = record { table = field.Call; text = codes "create-event"; fields = field.Reset ∷ field.Signal ∷ [] }
+shape_of word.CreateSemaphore = record { table = field.Call; text = codes "create-semaphore"; fields = field.Level ∷ field.Level ∷ [] }
+shape_of word.CreateLock = record { table = field.Call; text = codes "create-lock"; fields = field.Lock ∷ field.Owner ∷ [] }
+shape_of word.SetEvent = record { table = field.Call; text = codes "set-event"; fields = field.Short ∷ [] }
+shape_of word.ResetEvent = record { table = field.Call; text = codes "reset-event"; fields = field.Short ∷ [] }
+shape_of word.ReleaseSemaphore = record { table = field.Call; text = codes "release-semaphore"; fields = field.Short ∷ field.Units ∷ [] }
+shape_of word.ReleaseLock = record { table = field.Call; text = codes "release-lock"; fields = field.Lock ∷ field.Short ∷ [] }
 shape_of word.Attach = record { table = field.Call; text = codes "attach"; fields = [] }
 shape_of word.Detach = record { table = field.Call; text = codes "detach"; fields = [] }
 shape_of word.Take = record { table = field.Call; text = codes "take"; fields = [] }
@@ -105,6 +113,10 @@ shape_of (word.Kind kind) = record { table = table_of_kind kind; text = text_of_
 shape_of (word.Priority priority) = record { table = field.Priority; text = text_of_priority priority; fields = [] }
 shape_of (word.Length long) = record { table = field.Length; text = text_of_long long; fields = [] }
 shape_of (word.How cancel) = record { table = field.How; text = text_of_how cancel; fields = [] }
+shape_of (word.Reset manual) = record { table = field.Reset; text = text_of_reset manual; fields = [] }
+shape_of (word.Signal signalled) = record { table = field.Signal; text = text_of_signal signalled; fields = [] }
+shape_of (word.Lock lock) = record { table = field.Lock; text = text_of_lock lock; fields = [] }
+shape_of (word.Owner owned) = record { table = field.Owner; text = text_of_owner owned; fields = [] }
 shape_of (word.YesNo flag) = record { table = field.Flag; text = text_of_flag flag; fields = [] }
 shape_of (word.Slot slot) = record { table = field.Slot; text = text_of_slot slot; fields = [] }
 shape_of (word.Action action) = record { table = field.Action; text = text_of_action action; fields = [] }

@@ -6,6 +6,8 @@ use Rattle.tp_base.specs.declared.answers.SlotWord.{SlotWord}
 use Rattle.tp_base.specs.declared.answers.SlotWord.TheVariants.{Unasked}
 use Rattle.tp_base.specs.declared.calls.Kind.{Kind}
 use Rattle.tp_base.specs.declared.calls.Kind.TheVariants.{Work}
+use Rattle.tp_base.specs.declared.calls.Lock.{Lock}
+use Rattle.tp_base.specs.declared.calls.Lock.TheVariants.{Mutex}
 use Rattle.tp_base.specs.declared.calls.Priority.{Priority}
 use Rattle.tp_base.specs.declared.calls.Priority.TheVariants.{Normal}
 use Rattle.tp_lines.specs.declared.parts.Part.{Part}
@@ -21,6 +23,7 @@ abbrev pub small_of : Part → ℕ
 small_of (part.Short number) = number
 small_of (part.Made number) = number
 small_of (part.Level number) = number
+small_of (part.Units number) = number
 small_of (part.Small number) = number
 small_of (part.Routine number) = number
 small_of (part.Origin number) = number
@@ -61,6 +64,25 @@ length_of _ = false
 abbrev pub how_of : Part → Bool
 how_of (part.Word (word.How cancel)) = cancel
 how_of _ = false
+
+-- whether an event is reset by hand
+abbrev pub reset_of : Part → Bool
+reset_of (part.Word (word.Reset manual)) = manual
+reset_of _ = false
+
+-- whether an event is signalled
+abbrev pub signal_of : Part → Bool
+signal_of (part.Word (word.Signal signalled)) = signalled
+signal_of _ = false
+
+abbrev pub lock_of : Part → Lock
+lock_of (part.Word (word.Lock lock)) = lock
+lock_of _ = Mutex
+
+-- whether somebody owns a lock
+abbrev pub owner_of : Part → Bool
+owner_of (part.Word (word.Owner owned)) = owned
+owner_of _ = false
 
 abbrev pub flag_of : Part → Bool
 flag_of (part.Word (word.YesNo flag)) = flag

@@ -7,6 +7,8 @@ use Rattle.tp_base.specs.declared.answers.SlotWord.{SlotWord}
 use Rattle.tp_base.specs.declared.answers.SlotWord.TheVariants.{Unasked, Performed, NotOwner, OverMaximum}
 use Rattle.tp_base.specs.declared.calls.Kind.{Kind}
 use Rattle.tp_base.specs.declared.calls.Kind.TheVariants.{Work, Timer, Wait, Io}
+use Rattle.tp_base.specs.declared.calls.Lock.{Lock}
+use Rattle.tp_base.specs.declared.calls.Lock.TheVariants as lock
 use Rattle.tp_base.specs.declared.calls.Priority.{Priority}
 use Rattle.tp_base.specs.declared.calls.Priority.TheVariants.{High, Normal, Low}
 use Rattle.tp_base.specs.declared.ids.Who.{Who}
@@ -32,6 +34,25 @@ text_of_long false = codes "short"
 abbrev pub text_of_how : Bool → List ℕ
 text_of_how true = codes "cancel"
 text_of_how false = codes "keep"
+
+-- whether an event is reset by hand
+abbrev pub text_of_reset : Bool → List ℕ
+text_of_reset true = codes "manual"
+text_of_reset false = codes "auto"
+
+-- whether an event is signalled
+abbrev pub text_of_signal : Bool → List ℕ
+text_of_signal true = codes "set"
+text_of_signal false = codes "clear"
+
+abbrev pub text_of_lock : Lock → List ℕ
+text_of_lock lock.Mutex = codes "mutex"
+text_of_lock lock.Section = codes "section"
+
+-- whether somebody owns a lock
+abbrev pub text_of_owner : Bool → List ℕ
+text_of_owner true = codes "owned"
+text_of_owner false = codes "free"
 
 abbrev pub text_of_flag : Bool → List ℕ
 text_of_flag true = codes "yes"

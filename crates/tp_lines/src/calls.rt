@@ -14,7 +14,7 @@ use crate::words::{Field, Word};
 use line_grammar::numbers::read_prefixed;
 use line_grammar::words::behind;
 use tp_base::calls::{Call, Environ};
-use tp_base::ids::{GroupId, ObjectId, PoolId, RoutineId, Who};
+use tp_base::ids::{GroupId, KernelId, ObjectId, PoolId, RoutineId, Who};
 
 /// The call of a row, where its word is one of a call.
 fn call_at(word: Word, parts: &Parts) -> Option<Call>
@@ -74,7 +74,36 @@ fn call_at(word: Word, parts: &Parts) -> Option<Call>
             object: ObjectId(parts.at(2).small()),
             cancel: parts.at(3).cancels(),
         },
+        Word::BeginAcquire => Call::BeginAcquire {
+            kernel: KernelId(parts.at(1).small()),
+        },
         Word::End => Call::End,
+        Word::CreateEvent => Call::CreateEvent {
+            manual: parts.at(1).manual(),
+            signalled: parts.at(2).signalled(),
+        },
+        Word::CreateSemaphore => Call::CreateSemaphore {
+            initial: parts.at(1).small(),
+            maximum: parts.at(2).small(),
+        },
+        Word::CreateLock => Call::CreateLock {
+            lock: parts.at(1).lock(),
+            owned: parts.at(2).owned(),
+        },
+        Word::SetEvent => Call::SetEvent {
+            kernel: KernelId(parts.at(1).small()),
+        },
+        Word::ResetEvent => Call::ResetEvent {
+            kernel: KernelId(parts.at(1).small()),
+        },
+        Word::ReleaseSemaphore => Call::ReleaseSemaphore {
+            kernel: KernelId(parts.at(1).small()),
+            count: parts.at(2).small(),
+        },
+        Word::ReleaseLock => Call::ReleaseLock {
+            lock: parts.at(1).lock(),
+            kernel: KernelId(parts.at(2).small()),
+        },
         Word::Attach => Call::Attach,
         Word::Detach => Call::Detach,
         Word::Take => Call::Take,
@@ -246,7 +275,31 @@ pub fn put_call(call: &Call, line: &mut Line)
         } => {
             parts!(line; first(Word::BeginWait) word(Word::Kind(*kind)) number(u64::from(object.0)) word(Word::How(*cancel)));
         }
+        Call::BeginAcquire { kernel } => {
+            parts!(line; first(Word::BeginAcquire) number(u64::from(kernel.0)));
+        }
         Call::End => line.first(Word::End),
+        Call::CreateEvent { manual, signalled } => {
+            parts!(line; first(Word::CreateEvent) word(Word::Reset(*manual)) word(Word::Signal(*signalled)));
+        }
+        Call::CreateSemaphore { initial, maximum } => {
+            parts!(line; first(Word::CreateSemaphore) number(u64::from(*initial)) number(u64::from(*maximum)));
+        }
+        Call::CreateLock { lock, owned } => {
+            parts!(line; first(Word::CreateLock) word(Word::Lock(*lock)) word(Word::Owner(*owned)));
+        }
+        Call::SetEvent { kernel } => {
+            parts!(line; first(Word::SetEvent) number(u64::from(kernel.0)));
+        }
+        Call::ResetEvent { kernel } => {
+            parts!(line; first(Word::ResetEvent) number(u64::from(kernel.0)));
+        }
+        Call::ReleaseSemaphore { kernel, count } => {
+            parts!(line; first(Word::ReleaseSemaphore) number(u64::from(kernel.0)) number(u64::from(*count)));
+        }
+        Call::ReleaseLock { lock, kernel } => {
+            parts!(line; first(Word::ReleaseLock) word(Word::Lock(*lock)) number(u64::from(kernel.0)));
+        }
         Call::Attach => line.first(Word::Attach),
         Call::Detach => line.first(Word::Detach),
         Call::Take => line.first(Word::Take),

@@ -9,7 +9,7 @@ use std::alloc::{AllocError, Global};
 use std::process::Abort;
 use std::test::Fail;
 
-fn call_patterns() -> [&'static str; 23] {
+fn call_patterns() -> [&'static str; 31] {
     [
         "c&|w~ create-pool",
         "c&|w~ close-pool #",
@@ -26,7 +26,15 @@ fn call_patterns() -> [&'static str; 23] {
         "c&|w~ is-timer-set #",
         "c&|w~ advance ^",
         "c&|w~ wait KIND # HOW",
+        "c&|w~ acquire #",
         "c&|w~ end",
+        "c&|w~ create-event RESET SIGNAL",
+        "c&|w~ create-semaphore % %",
+        "c&|w~ create-lock LOCK OWNER",
+        "c&|w~ set-event #",
+        "c&|w~ reset-event #",
+        "c&|w~ release-semaphore # *",
+        "c&|w~ release-lock LOCK #",
         "c&|w~ attach",
         "c&|w~ detach",
         "c&|w~ take",
@@ -74,6 +82,10 @@ fn alternatives(field: &str) -> &str {
         "HOW" => "keep|cancel",
         "PRIORITY" => "high|normal|low",
         "LENGTH" => "short|long",
+        "RESET" => "manual|auto",
+        "SIGNAL" => "set|clear",
+        "LOCK" => "mutex|section",
+        "OWNER" => "free|owned",
         "DUE" => "none|^|-=",
         "SLOT" => "-|done|not-owner|over-maximum",
         _ => field,
@@ -85,6 +97,7 @@ fn range_of(sign: u8) -> Option<(u64, u64)> {
         b'#' => Some((0, 65_535)),
         b'+' => Some((1, 65_535)),
         b'%' => Some((0, 2_147_483_647)),
+        b'*' => Some((1, 2_147_483_647)),
         b'$' => Some((0, 4_294_967_295)),
         b'@' => Some((0, u64::MAX)),
         b'^' => Some((0, 9_223_372_036_854_775_807)),

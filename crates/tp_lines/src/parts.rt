@@ -7,14 +7,14 @@ ghost use Rattle.tp_lines.specs.declared.words.Word.{Word};
 ghost use Rattle.tp_lines.specs.Choices.{BodyTexts, ChoiceTexts, DueTexts, Met, PartTexts, default_word};
 ghost use Rattle.tp_lines.specs.Parts.{after, form_of, instead_of, most_of, number_part};
 ghost use Rattle.tp_lines.specs.Shapes.{table_of};
-ghost use Rattle.tp_lines.specs.Values.{action_of, due_of, flag_of, how_of, kind_of, large_of, length_of, part_at, priority_of, slot_of, small_of, word_of};
+ghost use Rattle.tp_lines.specs.Values.{action_of, due_of, flag_of, how_of, kind_of, large_of, length_of, lock_of, owner_of, part_at, priority_of, reset_of, signal_of, slot_of, small_of, word_of};
 
-use crate::words::{Field, WORDS, Word, fields_of, find_word, table_of, word_text};
+use crate::words::{Field, WORDS, Word, fields_of, find_word, stands_in, word_text};
 use line_grammar::numbers::{read_number, read_prefixed, read_signed};
 use line_grammar::words::{behind, further, read_bytes, something, word_size};
 use std::marker::Model;
 use tp_base::answers::{ActionKind, SlotWord};
-use tp_base::calls::{Kind, Priority};
+use tp_base::calls::{Kind, Lock, Priority};
 
 /// What stands in one field of a line.
 #[derive(Clone, Copy)]
@@ -22,6 +22,7 @@ pub enum Part {
     Short(u32),
     Made(u32),
     Level(u32),
+    Units(u32),
     Small(u32),
     Large(u64),
     Time(u64),
@@ -60,6 +61,7 @@ impl Part {
             Part::Short(number)
             | Part::Made(number)
             | Part::Level(number)
+            | Part::Units(number)
             | Part::Small(number)
             | Part::Routine(number)
             | Part::Origin(number)
@@ -139,6 +141,46 @@ impl Part {
     {
         match self {
             Part::Word(Word::How(cancel)) => cancel,
+            _ => false,
+        }
+    }
+
+    /// Whether an event is reset by hand, or false where this doesn't say.
+    pub fn manual(self) -> bool
+        ensures { result ≡ reset_of self }
+    {
+        match self {
+            Part::Word(Word::Reset(manual)) => manual,
+            _ => false,
+        }
+    }
+
+    /// Whether an event is signalled, or false where this doesn't say.
+    pub fn signalled(self) -> bool
+        ensures { result ≡ signal_of self }
+    {
+        match self {
+            Part::Word(Word::Signal(signalled)) => signalled,
+            _ => false,
+        }
+    }
+
+    /// The kind of a lock, or Mutex where this is none.
+    pub fn lock(self) -> Lock
+        ensures { result ≡ lock_of self }
+    {
+        match self {
+            Part::Word(Word::Lock(lock)) => lock,
+            _ => Lock::Mutex,
+        }
+    }
+
+    /// Whether somebody owns a lock, or false where this doesn't say.
+    pub fn owned(self) -> bool
+        ensures { result ≡ owner_of self }
+    {
+        match self {
+            Part::Word(Word::Owner(owned)) => owned,
             _ => false,
         }
     }
@@ -228,6 +270,7 @@ pub fn form_of(field: Field) -> Form
         Field::Short => number(0, ID_MOST),
         Field::Made => number(1, ID_MOST),
         Field::Level => number(0, 2_147_483_647),
+        Field::Units => number(1, 2_147_483_647),
         Field::Small => number(0, 4_294_967_295),
         Field::Large => number(0, u64::MAX),
         Field::Time => number(0, 9_223_372_036_854_775_807),
@@ -269,6 +312,7 @@ pub fn number_part(field: Field, number: u64) -> Part
         Field::Short => Part::Short(number as u32),
         Field::Made => Part::Made(number as u32),
         Field::Level => Part::Level(number as u32),
+        Field::Units => Part::Units(number as u32),
         Field::Small => Part::Small(number as u32),
         Field::Time => Part::Time(number),
         Field::Routine => Part::Routine(number as u32),
@@ -321,13 +365,6 @@ fn furthest_among(field: Field, words: &[Word], text: &[u8]) -> Result<(Word, us
     best
 }
 
-// Whether the word stands in the field.
-fn stands_in(word: Word, field: Field) -> bool
-    ensures { IsTrue result ↔ (table_of word ≡ field) }
-{
-    table_of(word) == field
-}
-
 // Of the best so far and the word, if it stands in the field, what goes further along with the text.
 fn with_word(
     field: Field,
@@ -361,6 +398,10 @@ fn default_word(field: Field) -> Word
         Field::Priority => Word::Priority(Priority::Normal),
         Field::Length => Word::Length(false),
         Field::How => Word::How(false),
+        Field::Reset => Word::Reset(false),
+        Field::Signal => Word::Signal(false),
+        Field::Lock => Word::Lock(Lock::Mutex),
+        Field::Owner => Word::Owner(false),
         Field::Flag => Word::YesNo(false),
         Field::Slot => Word::Slot(SlotWord::Unasked),
         Field::Action => Word::Action(ActionKind::Event),

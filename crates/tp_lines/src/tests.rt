@@ -7,7 +7,7 @@ use std::alloc::{AllocError, Global};
 use std::process::Abort;
 use std::test::Fail;
 use tp_base::answers::{ActionKind, Answer, Entry, Look, Outcome, Refusal, SlotWord, TakeResult};
-use tp_base::calls::{Call, Environ, Kind, Priority};
+use tp_base::calls::{Call, Environ, Kind, Lock, Priority};
 use tp_base::ids::{GroupId, KernelId, ObjectId, PoolId, RoutineId, Who};
 
 // The text is no line of a call, and this is its fault.
@@ -255,6 +255,73 @@ fn faults_of_due_times(rt: HostRuntime) {
     }
 }
 
+#[test]
+fn faults_of_kernel_objects(rt: HostRuntime) {
+    let cases = [
+        ("c1 create-event", 16, LineKind::Unfinished),
+        ("c1 create-event manuel set", 21, LineKind::Unexpected),
+        ("c1 create-event set", 17, LineKind::Unexpected),
+        ("c1 create-event auto", 21, LineKind::Unfinished),
+        ("c1 create-event auto manual", 22, LineKind::Unexpected),
+        ("c1 create-event auto setting", 25, LineKind::Unexpected),
+        ("c1 create-event manual clear 1", 29, LineKind::Unexpected),
+        ("c1 create-events", 16, LineKind::Unexpected),
+        ("c1 create-sem", 14, LineKind::Unfinished),
+        ("c1 create-semaphore -1 1", 21, LineKind::Unexpected),
+        ("c1 create-semaphore 1", 22, LineKind::Unfinished),
+        ("c1 create-semaphore 2147483648 1", 30, LineKind::Unexpected),
+        ("c1 create-semaphore 0 2147483648", 32, LineKind::Unexpected),
+        ("c1 create-semaphore 0 00", 24, LineKind::Unexpected),
+        ("c1 create-lock", 15, LineKind::Unfinished),
+        ("c1 create-lock free", 16, LineKind::Unexpected),
+        ("c1 create-lock event free", 16, LineKind::Unexpected),
+        ("c1 create-lock mutex", 21, LineKind::Unfinished),
+        ("c1 create-lock mutex owner", 26, LineKind::Unexpected),
+        ("c1 create-lock section freed", 28, LineKind::Unexpected),
+        ("c1 create mutex", 11, LineKind::Unexpected),
+    ];
+    for (text, column, kind) in cases {
+        check_call_fault(&rt, text, LineFault { column, kind });
+    }
+}
+
+#[test]
+fn faults_of_sets_and_releases(rt: HostRuntime) {
+    let cases = [
+        ("c1 ac", 6, LineKind::Unfinished),
+        ("c1 acquire", 11, LineKind::Unfinished),
+        ("c1 acquire k1", 12, LineKind::Unexpected),
+        ("c1 acquire 65536", 16, LineKind::Unexpected),
+        ("c1 acquire 1 1", 13, LineKind::Unexpected),
+        ("c1 set-e", 9, LineKind::Unfinished),
+        ("c1 set-event 65536", 18, LineKind::Unexpected),
+        ("c1 set-event 01", 15, LineKind::Unexpected),
+        ("c1 set-events 1", 13, LineKind::Unexpected),
+        ("c1 re", 6, LineKind::Unfinished),
+        ("c1 reset-event", 15, LineKind::Unfinished),
+        ("c1 reset-event 65536", 20, LineKind::Unexpected),
+        ("c1 release-", 12, LineKind::Unfinished),
+        ("c1 release 1", 11, LineKind::Unexpected),
+        ("c1 release-mutex 1", 12, LineKind::Unexpected),
+        ("c1 release-semaphore 1", 23, LineKind::Unfinished),
+        ("c1 release-semaphore 1 0", 24, LineKind::Unexpected),
+        ("c1 release-semaphore 1 -1", 24, LineKind::Unexpected),
+        ("c1 release-semaphore 65536 1", 26, LineKind::Unexpected),
+        (
+            "c1 release-semaphore 1 2147483648",
+            33,
+            LineKind::Unexpected,
+        ),
+        ("c1 release-lock 1 mutex", 17, LineKind::Unexpected),
+        ("c1 release-lock mutex", 22, LineKind::Unfinished),
+        ("c1 release-lock section 65536", 29, LineKind::Unexpected),
+        ("c1 release-lock semaphore 1", 19, LineKind::Unexpected),
+    ];
+    for (text, column, kind) in cases {
+        check_call_fault(&rt, text, LineFault { column, kind });
+    }
+}
+
 // The text is read as this call, and printed again in an entry.
 fn check_call(
     rt: &impl Abort,
@@ -452,6 +519,96 @@ fn calls_of_timers_there_and_back(rt: HostRuntime) -> Result<(), Fail> {
     ];
     for (text, call) in cases {
         check_call(&rt, rt.alloc(), text, Who::Client(1), call)?;
+    }
+    Ok(())
+}
+
+fn create_event(manual: bool, signalled: bool) -> Call {
+    Call::CreateEvent { manual, signalled }
+}
+
+fn create_semaphore(initial: u32, maximum: u32) -> Call {
+    Call::CreateSemaphore { initial, maximum }
+}
+
+fn create_lock(lock: Lock, owned: bool) -> Call {
+    Call::CreateLock { lock, owned }
+}
+
+#[test]
+fn creations_of_kernel_objects_there_and_back(rt: HostRuntime) -> Result<(), Fail> {
+    let most = 2_147_483_647;
+    let cases = [
+        ("c1 create-event manual set", create_event(true, true)),
+        ("c1 create-event manual clear", create_event(true, false)),
+        ("c1 create-event auto set", create_event(false, true)),
+        ("c1 create-event auto clear", create_event(false, false)),
+        ("c1 create-semaphore 0 1", create_semaphore(0, 1)),
+        ("c1 create-semaphore 1 0", create_semaphore(1, 0)),
+        (
+            "c1 create-semaphore 0 2147483647",
+            create_semaphore(0, most),
+        ),
+        (
+            "c1 create-semaphore 2147483647 0",
+            create_semaphore(most, 0),
+        ),
+        ("c1 create-lock mutex free", create_lock(Lock::Mutex, false)),
+        ("c1 create-lock mutex owned", create_lock(Lock::Mutex, true)),
+        (
+            "c1 create-lock section free",
+            create_lock(Lock::Section, false),
+        ),
+        (
+            "c1 create-lock section owned",
+            create_lock(Lock::Section, true),
+        ),
+    ];
+    for (text, call) in cases {
+        check_call(&rt, rt.alloc(), text, Who::Client(1), call)?;
+    }
+    Ok(())
+}
+
+fn release_semaphore(kernel: u32, count: u32) -> Call {
+    Call::ReleaseSemaphore {
+        kernel: KernelId(kernel),
+        count,
+    }
+}
+
+fn release_lock(lock: Lock, kernel: u32) -> Call {
+    Call::ReleaseLock {
+        lock,
+        kernel: KernelId(kernel),
+    }
+}
+
+#[test]
+fn calls_of_kernel_objects_there_and_back(rt: HostRuntime) -> Result<(), Fail> {
+    let first = KernelId(0);
+    let last = KernelId(65_535);
+    let cases = [
+        ("w2 acquire 0", Call::BeginAcquire { kernel: first }),
+        ("w2 acquire 65535", Call::BeginAcquire { kernel: last }),
+        ("w2 set-event 0", Call::SetEvent { kernel: first }),
+        ("w2 set-event 65535", Call::SetEvent { kernel: last }),
+        ("w2 reset-event 0", Call::ResetEvent { kernel: first }),
+        ("w2 reset-event 65535", Call::ResetEvent { kernel: last }),
+        ("w2 release-semaphore 0 1", release_semaphore(0, 1)),
+        ("w2 release-semaphore 7 12", release_semaphore(7, 12)),
+        (
+            "w2 release-semaphore 65535 2147483647",
+            release_semaphore(65_535, 2_147_483_647),
+        ),
+        ("w2 release-lock mutex 0", release_lock(Lock::Mutex, 0)),
+        (
+            "w2 release-lock section 65535",
+            release_lock(Lock::Section, 65_535),
+        ),
+    ];
+    for (text, call) in cases {
+        check_call(&rt, rt.alloc(), text, Who::Worker(2), call)?;
     }
     Ok(())
 }
@@ -723,6 +880,16 @@ fn entries_there_and_back(rt: HostRuntime) -> Result<(), Fail> {
         (
             "w7 return -> refused slot-taken semaphore",
             Answer::Refused(held),
+        ),
+        (
+            "w7 return -> refused not-owner",
+            Answer::Refused(Refusal::NotOwner),
+        ),
+        (
+            "w7 return -> refused over-maximum 2147483647",
+            Answer::Refused(Refusal::OverMaximum {
+                count: 2_147_483_647,
+            }),
         ),
         (
             "w7 return -> refused already-attached",

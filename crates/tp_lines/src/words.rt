@@ -1,10 +1,10 @@
 //! The words of lines: their texts, and the fields behind them.
 
-ghost use Rattle.std.specs.Prelude.{◌≡◌, IfSome};
+ghost use Rattle.std.specs.Prelude.{◌≡◌, ◌↔◌, IfSome, IsTrue};
 ghost use Rattle.tp_lines.specs.Shapes.{fields_of, table_of, text_of_word};
 
 use tp_base::answers::{ActionKind, SlotWord};
-use tp_base::calls::{Kind, Priority};
+use tp_base::calls::{Kind, Lock, Priority};
 
 /// What one field of a line holds, by the signs of the grammar.
 #[derive(Clone, Copy, PartialEq)]
@@ -15,6 +15,8 @@ pub enum Field {
     Made,
     /// The count of a semaphore, from 0 to 2,147,483,647.
     Level,
+    /// By how much the count of a semaphore is raised, from 1 to 2,147,483,647.
+    Units,
     /// A number of 32 bits.
     Small,
     /// A number of 64 bits, as of a callback.
@@ -60,6 +62,14 @@ pub enum Field {
     Length,
     /// Whether a wait cancels what is pending: `cancel` or `keep`.
     How,
+    /// How an event is reset: `manual` or `auto`.
+    Reset,
+    /// Whether an event is signalled: `set` or `clear`.
+    Signal,
+    /// A kind of locks.
+    Lock,
+    /// Whether somebody owns a lock: `owned` or `free`.
+    Owner,
     /// `yes` or `no`.
     Flag,
     /// What became of an action on return.
@@ -84,7 +94,15 @@ pub enum Word {
     IsTimerSet,
     Advance,
     BeginWait,
+    BeginAcquire,
     End,
+    CreateEvent,
+    CreateSemaphore,
+    CreateLock,
+    SetEvent,
+    ResetEvent,
+    ReleaseSemaphore,
+    ReleaseLock,
     Attach,
     Detach,
     Take,
@@ -156,6 +174,10 @@ pub enum Word {
     Priority(Priority),
     Length(bool),
     How(bool),
+    Reset(bool),
+    Signal(bool),
+    Lock(Lock),
+    Owner(bool),
     YesNo(bool),
     Slot(SlotWord),
     Action(ActionKind),
@@ -180,7 +202,15 @@ macro_rules! words {
                 (Word::IsTimerSet) b"is-timer-set" [Short];
                 (Word::Advance) b"advance" [Time];
                 (Word::BeginWait) b"wait" [Kind Short How];
+                (Word::BeginAcquire) b"acquire" [Short];
                 (Word::End) b"end" [];
+                (Word::CreateEvent) b"create-event" [Reset Signal];
+                (Word::CreateSemaphore) b"create-semaphore" [Level Level];
+                (Word::CreateLock) b"create-lock" [Lock Owner];
+                (Word::SetEvent) b"set-event" [Short];
+                (Word::ResetEvent) b"reset-event" [Short];
+                (Word::ReleaseSemaphore) b"release-semaphore" [Short Units];
+                (Word::ReleaseLock) b"release-lock" [Lock Short];
                 (Word::Attach) b"attach" [];
                 (Word::Detach) b"detach" [];
                 (Word::Take) b"take" [];
@@ -282,6 +312,22 @@ macro_rules! words {
                 (Word::How(true)) b"cancel" [];
                 (Word::How(false)) b"keep" [];
             }
+            Reset {
+                (Word::Reset(true)) b"manual" [];
+                (Word::Reset(false)) b"auto" [];
+            }
+            Signal {
+                (Word::Signal(true)) b"set" [];
+                (Word::Signal(false)) b"clear" [];
+            }
+            Lock {
+                (Word::Lock(Lock::Mutex)) b"mutex" [];
+                (Word::Lock(Lock::Section)) b"section" [];
+            }
+            Owner {
+                (Word::Owner(true)) b"owned" [];
+                (Word::Owner(false)) b"free" [];
+            }
             Flag {
                 (Word::YesNo(true)) b"yes" [];
                 (Word::YesNo(false)) b"no" [];
@@ -332,6 +378,10 @@ macro_rules! word_by_text {
     (Priority $given:expr; Priority { $($words:tt)+ } $($others:tt)*) => { among!($given; $($words)+) };
     (Length $given:expr; Length { $($words:tt)+ } $($others:tt)*) => { among!($given; $($words)+) };
     (How $given:expr; How { $($words:tt)+ } $($others:tt)*) => { among!($given; $($words)+) };
+    (Reset $given:expr; Reset { $($words:tt)+ } $($others:tt)*) => { among!($given; $($words)+) };
+    (Signal $given:expr; Signal { $($words:tt)+ } $($others:tt)*) => { among!($given; $($words)+) };
+    (Lock $given:expr; Lock { $($words:tt)+ } $($others:tt)*) => { among!($given; $($words)+) };
+    (Owner $given:expr; Owner { $($words:tt)+ } $($others:tt)*) => { among!($given; $($words)+) };
     (Flag $given:expr; Flag { $($words:tt)+ } $($others:tt)*) => { among!($given; $($words)+) };
     (Slot $given:expr; Slot { $($words:tt)+ } $($others:tt)*) => { among!($given; $($words)+) };
     (Action $given:expr; Action { $($words:tt)+ } $($others:tt)*) => { among!($given; $($words)+) };
@@ -355,7 +405,7 @@ macro_rules! all_words {
 /// All words.
 #[derive(Clone, Copy)]
 pub struct WordList {
-    pub words: [Word; 102],
+    pub words: [Word; 118],
 }
 
 pub const WORDS: WordList = WordList {
@@ -374,6 +424,13 @@ pub fn table_of(word: Word) -> Field
     ensures { result ≡ table_of word }
 {
     words!(table_by_word, word)
+}
+
+/// Whether the word stands in the field.
+pub fn stands_in(word: Word, field: Field) -> bool
+    ensures { IsTrue result ↔ (table_of word ≡ field) }
+{
+    table_of(word) == field
 }
 
 /// The fields behind a word.
@@ -422,6 +479,10 @@ fn guess_choice(table: Field, text: &[u8]) -> Option<Word> {
         Field::Priority => words!(word_by_text, Priority text),
         Field::Length => words!(word_by_text, Length text),
         Field::How => words!(word_by_text, How text),
+        Field::Reset => words!(word_by_text, Reset text),
+        Field::Signal => words!(word_by_text, Signal text),
+        Field::Lock => words!(word_by_text, Lock text),
+        Field::Owner => words!(word_by_text, Owner text),
         Field::Flag => words!(word_by_text, Flag text),
         Field::Slot => words!(word_by_text, Slot text),
         Field::Action => words!(word_by_text, Action text),
@@ -434,7 +495,7 @@ pub fn find_word(table: Field, text: &[u8]) -> Option<Word>
     ensures { IfSome result (λ word. (table_of word ≡ table) × (text.now ≡ text_of_word word)) }
 {
     let word = guess_word(table, text)?;
-    if table_of(word) == table && word_text(word) == text {
+    if stands_in(word, table) && word_text(word) == text {
         Some(word)
     } else {
         None
