@@ -5,8 +5,8 @@ use super::*;
 use std::alloc::Global;
 use std::test::Fail;
 use tp_base::answers::{Answer, Look, Refusal, SlotWord, TakeResult};
-use tp_base::calls::{Environ, Kind, Priority};
-use tp_base::ids::{GroupId, ObjectId, PoolId, RoutineId};
+use tp_base::calls::{Environ, Kind, Lock, Priority};
+use tp_base::ids::{GroupId, KernelId, ObjectId, PoolId, RoutineId};
 
 // Makes a work object of the default pool.
 const CREATE: Call = Call::Create {
@@ -204,6 +204,103 @@ fn a_wait_is_over_only_for_what_it_holds(rt: HostRuntime) -> Result<(), Fail> {
     Ok(())
 }
 
+/// Who waits for an event, a semaphore or a mutex takes it as its wait ends, and no sooner.
+#[test]
+fn kernel_objects_are_taken_as_a_wait_ends(rt: HostRuntime) -> Result<(), Fail> {
+    let mut book = book_of(rt.alloc(), 2, 40)?;
+    let (first, second) = (Who::Client(1), Who::Client(2));
+    let (event, semaphore, mutex) = (KernelId(1), KernelId(2), KernelId(3));
+    let done = Outcome::Done(Answer::Done);
+    let ended = Outcome::Done(Answer::Ended);
+    let signalled = Outcome::Done(Answer::Queued { first: 0, count: 0 });
+    let leaves = Call::ReleaseLock {
+        lock: Lock::Mutex,
+        kernel: mutex,
+    };
+    for (who, call, outcome) in [
+        (
+            first,
+            Call::CreateEvent {
+                manual: false,
+                signalled: false,
+            },
+            made(1),
+        ),
+        (
+            first,
+            Call::CreateSemaphore {
+                initial: 1,
+                maximum: 2,
+            },
+            made(2),
+        ),
+        (
+            first,
+            Call::CreateLock {
+                lock: Lock::Mutex,
+                owned: true,
+            },
+            made(3),
+        ),
+        (second, Call::BeginAcquire { kernel: event }, done),
+        (second, Call::End, not_yet(event)),
+        (
+            second,
+            Call::SetEvent { kernel: event },
+            refused(Refusal::InWait),
+        ),
+        (first, Call::SetEvent { kernel: event }, signalled),
+        (second, Call::End, ended),
+        // It is reset as it is taken.
+        (first, Call::BeginAcquire { kernel: event }, done),
+        (first, Call::End, not_yet(event)),
+        (second, Call::SetEvent { kernel: event }, signalled),
+        (second, Call::ResetEvent { kernel: event }, done),
+        (first, Call::End, not_yet(event)),
+        (second, Call::SetEvent { kernel: event }, signalled),
+        (first, Call::End, ended),
+        (
+            second,
+            Call::ReleaseSemaphore {
+                kernel: semaphore,
+                count: 1,
+            },
+            Outcome::Done(Answer::Count {
+                previous: 1,
+                first: 0,
+                count: 0,
+            }),
+        ),
+        (
+            second,
+            Call::ReleaseSemaphore {
+                kernel: semaphore,
+                count: 1,
+            },
+            refused(Refusal::OverMaximum { count: 2 }),
+        ),
+        (
+            second,
+            Call::ResetEvent { kernel: semaphore },
+            refused(Refusal::WrongKind),
+        ),
+        (second, leaves, refused(Refusal::NotOwner)),
+        (second, Call::BeginAcquire { kernel: mutex }, done),
+        (second, Call::End, not_yet(mutex)),
+        // Its owner takes it once more, and so gives it back twice.
+        (first, Call::BeginAcquire { kernel: mutex }, done),
+        (first, Call::End, ended),
+        (first, leaves, done),
+        (second, Call::End, not_yet(mutex)),
+        (first, leaves, done),
+        (second, Call::End, ended),
+        (first, leaves, refused(Refusal::NotOwner)),
+    ] {
+        assert_eq!(rt; book.step(who, call), outcome);
+    }
+    Ok(())
+}
+
 fn wait(cancel: bool) -> Call
     ensures { IsCallInRange result }
 {
@@ -216,4 +313,16 @@ fn wait(cancel: bool) -> Call
 
 fn queued(first: u64) -> Outcome {
     Outcome::Done(Answer::Queued { first, count: 1 })
+}
+
+fn made(number: u32) -> Outcome {
+    Outcome::Done(Answer::Made { number })
+}
+
+fn refused(refusal: Refusal) -> Outcome {
+    Outcome::Done(Answer::Refused(refusal))
+}
+
+fn not_yet(kernel: KernelId) -> Outcome {
+    Outcome::Look(Look::NotYetKernel { kernel })
 }
