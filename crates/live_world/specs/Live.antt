@@ -6,6 +6,7 @@ use Rattle.tp_base.specs.declared.answers.TakeResult.TheVariants.{Plain}
 use Rattle.tp_base.specs.declared.plans.Trigger.TheVariants.{Advance}
 use Rattle.tp_base.specs.declared.plans.Change.{Change}
 use Rattle.tp_base.specs.declared.plans.Change.TheVariants as change
+use Rattle.tp_base.specs.declared.rows.KernelRow.{KernelRow}
 use Rattle.tp_base.specs.declared.rows.TimerSetting.{TimerSetting}
 use Rattle.tp_model.specs.Sources.{new_callback, object_row, count_fired}
 use Rattle.tp_model.specs.World.{World}
@@ -33,6 +34,10 @@ settled l object cancel = became l (record l.world { callbacks = cancel_where (i
 
 abbrev pub without_pending : Live → ObjectId → Live
 without_pending l object = settled l object true
+
+-- other states of the kernel objects
+abbrev pub with_kernels : Live → List KernelRow → Live
+with_kernels l kernels = record l { world = record l.world { kernels = kernels } }
 
 -- ---- time
 

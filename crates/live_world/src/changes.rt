@@ -3,23 +3,28 @@
 
 ghost use Rattle.std.specs.Prelude.{◌≡◌, ◌+◌, ◌^◌, ◌<◌, ◌≤◌, [], filter, true, Some};
 ghost use Rattle.tp_model.specs.Counts.{callback_of, is_pending as is_pending_by};
-ghost use Rattle.tp_model.specs.Changes.{with_callback, loosened as loosened_by, begin_wait};
+ghost use Rattle.tp_base.specs.Actions.{filled as filled_by};
+ghost use Rattle.tp_model.specs.Actions.{asking as asking_by, perform};
+ghost use Rattle.tp_model.specs.Changes.{with_callback, without_run, loosened as loosened_by, begin_wait};
 ghost use Rattle.tp_model.specs.Waits.{cancelled, is_cancelled_by};
-ghost use Rattle.tp_model.specs.Support.Allowed.{IsAllowed, MayBegin};
+ghost use Rattle.tp_model.specs.Support.Allowed.{IsAllowed, MayBegin, Runs};
 ghost use Rattle.tp_model.specs.Support.Ranged.{AreTakenAtMost};
 ghost use Rattle.live_world.specs.Parts.{priority_byte as priority_byte_of};
-ghost use Rattle.live_world.specs.Live.{moved, became, without_pending, settled};
+ghost use Rattle.live_world.specs.Live.{moved, became, with_kernels, without_pending, settled};
+ghost use Rattle.live_world.specs.Performing.{MayPerform};
 
 use crate::LiveWorld;
 use crate::begun::Begins;
+use crate::kernels::slots_of;
 use crate::objects::{Object, is_same_kind};
 use crate::waiting::begin_covering;
+use tp_base::answers::{ActionKind, SlotWord};
 use tp_base::calls::{Kind, Priority};
 use tp_base::ids::{KernelId, ObjectId, PoolId, Who};
-use tp_base::plans::{Busy, Change, Idle, KernelChange, Mark, PoolChange, WaitEnd};
-use tp_base::rows::{CallbackRow, ClientRow, KernelState, ObjectRow, Slots, Status, WaitTarget};
+use tp_base::plans::{ActionWords, Busy, Change, Idle, KernelChange, Mark, PoolChange, WaitEnd};
+use tp_base::rows::{Action, CallbackRow, ClientRow, KernelState, ObjectRow, Slots, Status, WaitTarget};
 
-const NO_ACTIONS: Slots = Slots {
+pub(crate) const NO_ACTIONS: Slots = Slots {
     section: None,
     mutex: None,
     semaphore: None,
@@ -51,6 +56,49 @@ fn loosened(status: Status) -> Status
     }
 }
 
+// A running callback that has asked for one more action.
+fn asking(kind: ActionKind, action: Action, status: Status) -> Status
+    ensures { result ≡ asking_by kind action status }
+{
+    match status {
+        Status::Running {
+            worker,
+            associated,
+            slots,
+        } => Status::Running {
+            worker,
+            associated,
+            slots: filled(kind, action, slots),
+        },
+        _ => status,
+    }
+}
+
+// The actions that are asked for, and one more.
+fn filled(kind: ActionKind, action: Action, slots: Slots) -> Slots
+    ensures { result ≡ filled_by kind action slots }
+{
+    let action = Some(action);
+    match kind {
+        ActionKind::Section => Slots {
+            section: action,
+            ..slots
+        },
+        ActionKind::Mutex => Slots {
+            mutex: action,
+            ..slots
+        },
+        ActionKind::Semaphore => Slots {
+            semaphore: action,
+            ..slots
+        },
+        ActionKind::Event => Slots {
+            event: action,
+            ..slots
+        },
+    }
+}
+
 impl LiveWorld {
     /// Makes a change that the world allows. It takes no memory.
     pub fn apply(&mut self, change: &Change)
@@ -73,7 +121,7 @@ impl LiveWorld {
             Change::Detach(by) => self.detach(by),
             Change::Take { by, callback } => self.take(by, callback),
             Change::Mark { by, mark } => self.mark(by, mark),
-            Change::Return(by) => self.return_callback(by),
+            Change::Return { by, words } => self.return_callback(by, words),
             Change::BeginWait {
                 who,
                 target,
@@ -211,6 +259,7 @@ impl LiveWorld {
         match mark {
             Mark::Long => self.mark_long(by),
             Mark::Loose => self.mark_loose(by),
+            Mark::Asks { kind, action } => self.mark_asks(by, kind, action),
         }
     }
 
@@ -242,10 +291,53 @@ impl LiveWorld {
         self.barriers.left(number);
     }
 
+    // Notes that a running callback asks for an action on its return.
+    fn mark_asks(&mut self, by: Busy, kind: ActionKind, action: Action)
+        requires { IsAllowed (self.old.made + 1) self.old.world (Change.Mark by (Mark.Asks kind action)) }
+        ensures { self.new ≡ moved self.old (Change.Mark by (Mark.Asks kind action)) }
+    {
+        let asking = CallbackRow {
+            status: asking(kind, action, by.callback.status),
+            ..by.callback
+        };
+        let _was_there = self.callbacks.replace(asking);
+    }
+
+    // Performs an action, if its word says so.
+    fn perform(&mut self, kind: ActionKind, word: SlotWord, action: Option<Action>)
+        requires { MayPerform self.old.world kind word action }
+        ensures { self.new ≡ with_kernels self.old (perform kind word action self.old.world.kernels) }
+    {
+        self.is_reachable();
+        if let (SlotWord::Performed, Some(action)) = (word, action) {
+            self.kernels.change(
+                action.kernel,
+                match kind {
+                    ActionKind::Section | ActionKind::Mutex => KernelChange::Leave,
+                    ActionKind::Semaphore => KernelChange::Raise(action.count),
+                    ActionKind::Event => KernelChange::Set,
+                },
+            );
+        }
+    }
+
+    // A worker's callback returns: the actions that it asked for are performed as their words say.
+    fn return_callback(&mut self, by: Busy, words: ActionWords)
+        requires { IsAllowed (self.old.made + 1) self.old.world (Change.Return by words) }
+        ensures { self.new ≡ moved self.old (Change.Return by words) }
+    {
+        self.end_callback(by);
+        let slots = slots_of(by.callback.status);
+        self.perform(ActionKind::Section, words.section, slots.section);
+        self.perform(ActionKind::Mutex, words.mutex, slots.mutex);
+        self.perform(ActionKind::Semaphore, words.semaphore, slots.semaphore);
+        self.perform(ActionKind::Event, words.event, slots.event);
+    }
+
     // Ends the callback that a worker runs. The worker stays attached.
-    fn return_callback(&mut self, by: Busy)
-        requires { IsAllowed (self.old.made + 1) self.old.world (Change.Return by) }
-        ensures { self.new ≡ moved self.old (Change.Return by) }
+    fn end_callback(&mut self, by: Busy)
+        requires { Runs self.old.world by }
+        ensures { self.new ≡ became self.old (without_run self.old.world by) }
     {
         let _was_there = self.callbacks.remove(by.callback.number);
         let _was_outstanding = self.outstanding.remove(by.callback.number);

@@ -101,11 +101,12 @@ returned c = record c { status = Returned }
 abbrev pub finished : ClientRow
 finished = record { finished = true }
 
+-- the callback that a worker runs returned; the worker stays attached
+abbrev pub without_run : World → Busy → World
+without_run w by = with_worker (with_callback w (returned by.callback)) by.worker (record { pool = Some by.pool; callback = None })
+
 abbrev pub return_callback : World → Busy → ActionWords → World
-return_callback w by words =
-    record (with_worker (with_callback w (returned by.callback)) by.worker (record { pool = Some by.pool; callback = None })) {
-      kernels = performed words (slots_of by.callback.status) w.kernels;
-    }
+return_callback w by words = record (without_run w by) { kernels = performed words (slots_of by.callback.status) w.kernels }
 
 -- ---- waits
 
