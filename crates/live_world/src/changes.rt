@@ -12,6 +12,7 @@ ghost use Rattle.live_world.specs.Live.{moved, became, without_pending, settled}
 
 use crate::LiveWorld;
 use crate::begun::Begins;
+use crate::kernels::end_acquire;
 use crate::objects::{Object, is_same_kind};
 use crate::waiting::begin_covering;
 use tp_base::calls::{Kind, Priority};
@@ -350,9 +351,7 @@ impl LiveWorld {
             unreachable!()
         };
         self.barriers.finish(waiter);
-        if let (WaitEnd::Free, Some(kernel)) = (how, self.wanted[waiter as usize]) {
-            self.kernels.take(who, kernel);
-        }
+        end_acquire(&mut self.kernels, who, how, self.wanted[waiter as usize]);
         self.wanted[waiter as usize] = None;
         self.waits = self.waits.without(&who);
     }
