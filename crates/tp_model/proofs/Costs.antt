@@ -182,6 +182,8 @@ paid fresh w (change.ReleaseObject object) s a = omega (arith, owed_release w ob
 paid fresh w (change.QueueCallback c) s a = omega (arith, owed_new_callback w c (pending_not_running c.status a.pending))
 paid fresh w (change.Fire trigger first count) s a =
     omega (arith, ap length (running_appended w.callbacks w.objects first (firing trigger (sources_of w)).jobs))
+paid fresh w (change.CreateKernel state) s a = omega arith
+paid fresh w (change.ChangeKernel kernel how) s a = omega arith
 paid fresh w (change.Attach worker pool) s a = omega (arith, owed_attached w worker unattached pool a.stands refl)
 paid fresh w (change.Detach by) s a =
     let changed : owed (with_worker w by.worker unattached) + one_if (has_pool (record { pool = Some by.pool; callback = None })) ≡ owed w + one_if (has_pool unattached)

@@ -1,6 +1,10 @@
 -- What an entry of a legal history leads to, and what is kept along a history.
 use Rattle.std.proofs.Common.{◌≡◌, ℕ, ◌+◌, true, false, cond, List, [], ◌∷◌, ◌++◌, length, nat_lt, Some, refl, sym, ap, ◌∙◌, append_assoc, subst, arith, ap₂, Option, None}
 use Rattle.std.proofs.lemmas.List.{append-nil}
+use Rattle.tp_base.specs.declared.rows.WaitTarget.{WaitTarget}
+use Rattle.tp_base.specs.declared.rows.WaitTarget.TheVariants.{Object, Group, Kernel}
+use Rattle.tp_base.specs.Kernels.{may_take}
+use Rattle.tp_model.specs.Kernels.{is_kernel_that}
 use Rattle.tp_base.specs.declared.ids.Who.{Who}
 use Rattle.tp_base.specs.declared.calls.Call.{Call}
 use Rattle.tp_base.specs.declared.calls.Call.TheVariants.{CreatePool, End}
@@ -22,7 +26,7 @@ use Rattle.tp_model.specs.Support.Safe.{IsSafeChange}
 use Rattle.tp_model.specs.Laws.Entries.{is_return_call, is_disassociate_call, is_end_call}
 use Rattle.tp_model.specs.Refusing.{first_refusal, unless_refused}
 use Rattle.tp_model.specs.Waits.{wait_of, held}
-use Rattle.tp_model.specs.Calls.Waits.{end_refusals, end_held, end_wait, end_plan, holds_starved}
+use Rattle.tp_model.specs.Calls.Waits.{end_refusals, end_for, end_held, end_wait, end_plan, holds_starved}
 use Rattle.tp_base.specs.declared.answers.Look.TheVariants as look
 use Rattle.tp_base.specs.declared.plans.WaitEnd.TheVariants as how
 use Rattle.tp_base.specs.declared.plans.Change.TheVariants as changes
@@ -55,7 +59,7 @@ refused_leads w who call refusal =
         queued = refl;
         callbacks = sym (append-nil w.callbacks);
       };
-      waits = Keep (record { begins = refl; ends = and_false (is_end_call call); waits = refl });
+      waits = Keep (record { begins = refl; ends = and_false (is_end_call call); stay = λ other wait found. found });
       limits = refl;
       maxima = λ pool. refl;
     }
@@ -81,7 +85,16 @@ told_end w left who a ch is = of_refusal (first_refusal (end_refusals w who)) is
 
     of_wait : (b : Option BegunWait) → end_wait w left who b ≡ plans.Does a ch → wait_end who a ≡ Some ch
     of_wait None e = absurd cc
-    of_wait (Some b) e = of_held (held w b) e
+    of_wait (Some b) e = of_target b.target e
+      where
+        of_target : (t : WaitTarget) → end_for w left who b t ≡ plans.Does a ch → wait_end who a ≡ Some ch
+        of_target (Object object) h = of_held (held w b) h
+        of_target (Group group) h = of_held (held w b) h
+        of_target (Kernel kernel) h =
+            elim (is_kernel_that (may_take who) w kernel.0) as (λ t. cond t (plans.Does answer.Ended (changes.EndWait who how.Free)) (plans.Looked (look.NotYetKernel kernel)) ≡ plans.Does a ch → wait_end who a ≡ Some ch) [
+              | true ↦ λ g. told_as answer.Ended (changes.EndWait who how.Free) refl g
+              | false ↦ λ g. absurd cc
+            ] h
 
     of_refusal : (r : Option Refusal) → unless_refused r (end_wait w left who (wait_of w who)) ≡ plans.Does a ch → wait_end who a ≡ Some ch
     of_refusal (Some refusal) e = absurd cc

@@ -17,18 +17,21 @@ use Rattle.tp_base.specs.declared.answers.Refusal.{Refusal}
 use Rattle.tp_base.specs.declared.rows.Status.{Status}
 use Rattle.tp_base.specs.declared.rows.Status.TheVariants.{Expected, Issued, Pending, Running, Returned, Cancelled}
 use Rattle.tp_base.specs.declared.rows.WaitTarget.{WaitTarget}
+use Rattle.tp_base.specs.declared.rows.WaitTarget.TheVariants.{Object, Group, Kernel}
 use Rattle.tp_base.specs.declared.rows.PoolRow.{PoolRow}
 use Rattle.tp_base.specs.declared.rows.ObjectRow.{ObjectRow}
 use Rattle.tp_base.specs.declared.rows.CallbackRow.{CallbackRow}
 use Rattle.tp_base.specs.declared.rows.WorkerRow.{WorkerRow}
 use Rattle.tp_base.specs.declared.ids.ObjectId.{ObjectId}
 use Rattle.tp_model.specs.Sources.{Firing, firing, sources_of, rows_of}
-use Rattle.tp_model.specs.World.{World}
+use Rattle.tp_model.specs.World.{World, BegunWait}
 use Rattle.tp_model.specs.Counts.{numbered, has_number, is_live, is_running, is_pending_in, is_running_in, is_running_long_in, is_high, is_normal, is_low, waiting, queue, next, pending, running, running_long, slots, owed, is_in_need, is_below_minimum}
 use Rattle.tp_model.specs.Conditions.{busy_row, busy_in, busy_of}
 use Rattle.tp_model.specs.Refusing.{first_refusal, unless_refused}
-use Rattle.tp_model.specs.Changes.{with_new_pool, with_object, with_worker, with_client, change_pool, pool_after, with_pool, replaced, taken, marked, returned, finished, changed, release_object, without_wait}
-use Rattle.tp_model.specs.Waits.{is_of, is_held_for, is_outstanding_for, count_outstanding, is_cancelled_by, cancelled, cancel_where, is_object_target, is_covered_by, covered_of}
+use Rattle.tp_model.specs.Changes.{with_new_pool, with_object, with_worker, with_client, change_pool, pool_after, with_pool, replaced, taken, marked, returned, finished, changed, release_object, without_wait, end_wait, kernels_taken, kernels_left}
+use Rattle.tp_base.specs.declared.plans.WaitEnd.{WaitEnd}
+use Rattle.tp_base.specs.declared.plans.WaitEnd.TheVariants.{Free, Exhausted}
+use Rattle.tp_model.specs.Waits.{is_of, is_held_for, is_outstanding_for, count_outstanding, is_cancelled_by, cancelled, cancel_where, is_object_target, is_covered_by, covered_of, wait_of}
 use Rattle.tp_model.specs.Support.Sound.{IsSound, IsWorkerSound, AreWorkersSound, RunsOn, IsRising, IsCallbackSound, is_left_of}
 use Rattle.tp_model.specs.Support.Allowed.{IsAllowed}
 use Rattle.tp_model.specs.Support.Remembered.{lives, forget}
@@ -229,6 +232,19 @@ appended_forget w cs =
     as_live w (filter lives w.callbacks ++ cs) (w.callbacks ++ cs)
     (filter-append lives (filter lives w.callbacks) cs ∙ ap (λ t. t ++ filter lives cs) (live_again w.callbacks) ∙ sym (filter-append lives w.callbacks cs))
 
+wait_forget : (w : World) (who : Who) (how : WaitEnd) → forget (end_wait (forget w) who how) ≡ forget (end_wait w who how)
+wait_forget w who Exhausted = live_forgotten (end_wait w who Exhausted)
+wait_forget w who Free = of_wait (wait_of w who)
+  where
+    of_target : (t : WaitTarget) → forget (record (without_wait (forget w) who) { kernels = kernels_taken (forget w) who t }) ≡ forget (record (without_wait w who) { kernels = kernels_taken w who t })
+    of_target (Object object) = live_forgotten (without_wait w who)
+    of_target (Group group) = live_forgotten (without_wait w who)
+    of_target (Kernel kernel) = live_forgotten (record (without_wait w who) { kernels = kernels_taken w who (Kernel kernel) })
+
+    of_wait : (b : Option BegunWait) → forget (record (without_wait (forget w) who) { kernels = kernels_left (forget w) who Free b }) ≡ forget (record (without_wait w who) { kernels = kernels_left w who Free b })
+    of_wait None = live_forgotten (without_wait w who)
+    of_wait (Some b) = of_target b.target
+
 pub changed_forget : (fresh : ℕ) (w : World) (ch : Change) → IsSound fresh w → IsAllowed fresh w ch → forget (changed (forget w) ch) ≡ forget (changed w ch)
 changed_forget fresh w change.Keep s a = live_forgotten w
 changed_forget fresh w change.CreatePool s a = live_forgotten (with_new_pool w)
@@ -239,6 +255,8 @@ changed_forget fresh w (change.QueueCallback c) s a = appended_forget w (c ∷ [
 changed_forget fresh w (change.Fire trigger first count) s a =
     let f : Firing = firing trigger (sources_of w) in
     appended_forget (record w { settings = f.sources.settings; now = f.sources.now }) (rows_of w.objects first f.jobs)
+changed_forget fresh w (change.CreateKernel state) s a = live_forgotten (changed w (change.CreateKernel state))
+changed_forget fresh w (change.ChangeKernel kernel how) s a = live_forgotten (changed w (change.ChangeKernel kernel how))
 changed_forget fresh w (change.Attach worker pool) s a = live_forgotten (changed w (change.Attach worker pool))
 changed_forget fresh w (change.Detach by) s a = live_forgotten (changed w (change.Detach by))
 changed_forget fresh w (change.Take by c) s a =
@@ -255,5 +273,5 @@ changed_forget fresh w (change.Return by) s a =
 changed_forget fresh w (change.BeginWait who target cancel) s a =
     ap₂ (λ cs covered. record w { callbacks = cs; waits = w.waits ++ (record { actor = who; target = target; covered = covered; notices = []; cleanup = 0 }) ∷ [] })
     (cancel_forget lives (is_cancelled_by target cancel) (cancelled_pending target cancel) (λ c e. e) w.callbacks) (covered_forget w target cancel)
-changed_forget fresh w (change.EndWait who how) s a = live_forgotten (without_wait w who)
+changed_forget fresh w (change.EndWait who how) s a = wait_forget w who how
 changed_forget fresh w (change.Finish client) s a = live_forgotten (with_client w client finished)

@@ -34,6 +34,8 @@ grows fresh w (change.QueueCallback c) a = length-append w.callbacks (c ∷ [])
 grows fresh w (change.Fire trigger first count) a =
     let jobs : List Job = (firing trigger (sources_of w)).jobs in
     omega (arith, length-append w.callbacks (rows_of w.objects first jobs), length_rows w.objects first jobs, a.counted)
+grows fresh w (change.CreateKernel state) a = omega arith
+grows fresh w (change.ChangeKernel kernel how) a = omega arith
 grows fresh w (change.Attach worker pool) a = omega arith
 grows fresh w (change.Detach by) a = omega arith
 grows fresh w (change.Take by c) a = omega (arith, length_replaced (taken c by.worker) w.callbacks)

@@ -11,6 +11,7 @@ pub mod First
 pub mod Forgetting
 pub mod Growing
 mod LawExamples
+pub mod Kernels
 pub mod Laws
 pub mod Lists
 pub mod Maximum

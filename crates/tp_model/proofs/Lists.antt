@@ -1,4 +1,6 @@
 -- What filters, searches and changes of rows leave of each other.
+use Rattle.std.specs.Option.{option_or}
+use Rattle.std.proofs.lemmas.List.Folds.{find-append}
 use Rattle.std.proofs.Common.{◌≡◌, ◌≢◌, ℕ, suc, zero, ◌+◌, ◌<◌, ◌≤◌, Bool, true, false, cond, ◌||◌, List, [], ◌∷◌, ◌++◌, length, map, slice_get, slice_set, Some, refl, sym, ap, ◌∙◌, subst, arith, filter, find}
 use Rattle.std.specs.List.{AllByRecursion, list_any}
 
@@ -44,6 +46,10 @@ find_all {X} P p c (x ∷ xs) all e =
       | true ↦ λ found. let same : x ≡ c = cc in subst P same all.0
       | false ↦ λ found. find_all P p c xs all.1 found
     ] e
+
+-- what is found is found in a longer list
+pub find_more : {X : Type 0} (p : X → Bool) (c : X) (xs ys : List X) → find p xs ≡ Some c → find p (xs ++ ys) ≡ Some c
+find_more p c xs ys found = find-append p xs ys ∙ ap (λ o. option_or o (find p ys)) found
 
 -- tests that agree find the same
 pub find_agree : {X : Type 0} (p q : X → Bool) → ((x : X) → p x ≡ q x) → (xs : List X) → find p xs ≡ find q xs

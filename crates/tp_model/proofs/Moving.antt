@@ -27,18 +27,18 @@ use Rattle.tp_base.specs.declared.ids.ObjectId.{ObjectId}
 use Rattle.tp_model.specs.Sources.{Job, firing, sources_of, rows_of}
 use Rattle.tp_model.specs.World.{World, new_pool, unattached, BegunWait}
 use Rattle.tp_model.specs.Counts.{is_pending, numbered, has_number}
-use Rattle.tp_model.specs.Changes.{change_pool, pool_after, with_pool, marked, changed, replaced, loosened, release_object, new_wait, without_wait}
+use Rattle.tp_model.specs.Changes.{change_pool, pool_after, with_pool, marked, changed, replaced, loosened, release_object, new_wait, end_wait}
 use Rattle.tp_base.specs.Actors.{is_same_actor}
 use Rattle.tp_model.specs.Conditions.{is_in_wait}
 use Rattle.tp_model.specs.Waits.{is_of, is_cancelled_by, cancel_where, is_covered_by, wait_of}
 use Rattle.tp_model.specs.Support.Sound.{IsSound}
-use Rattle.tp_model.specs.Support.Allowed.{IsAllowed, IsMadeBy, Runs, MayEnd, IsObjectTarget}
+use Rattle.tp_model.specs.Support.Allowed.{IsAllowed, IsMadeBy, Runs, MayEnd, IsTarget}
 use Rattle.tp_model.specs.Laws.Entries.{made_by, queued_by, begins_by, is_ending}
 use Rattle.tp_model.specs.Support.Told.{Told, deed_by, nothing, silent, maxima_by, told, told_by, is_free}
 use Rattle.tp_model.specs.Support.Moves.{Move, Stay, Mark as Marking, Attach, Detach, Take, Return, Moves, Leads, AreNew, maximum_at, is_new, numbers_of, Loosen, Cancel, WaitsMove, Keep, Begin, End}
 use Rattle.tp_model.proofs.Firing.{numbers_rows, waiting_rows, new_rows}
 use Rattle.tp_model.proofs.Cancelling.{cancelled_pending, cancelled_found_out, among_numbers}
-use Rattle.tp_model.proofs.Lists.{get_set, get_set_other}
+use Rattle.tp_model.proofs.Lists.{find_more, get_set, get_set_other}
 use Rattle.tp_model.proofs.Refusals.{false_true}
 
 -- ---- pools
@@ -90,6 +90,8 @@ maxima_changed fresh w (change.ChangePool pool how) a other = maxima_put w pool.
 maxima_changed fresh w (change.CreateObject row) a pool = refl
 maxima_changed fresh w (change.ReleaseObject object) a pool = released_maxima w object (numbered w.objects object.0) pool
 maxima_changed fresh w (change.QueueCallback c) a pool = refl
+maxima_changed fresh w (change.CreateKernel state) a pool = refl
+maxima_changed fresh w (change.ChangeKernel kernel how) a pool = refl
 maxima_changed fresh w (change.Attach worker at) a pool = refl
 maxima_changed fresh w (change.Detach by) a pool = refl
 maxima_changed fresh w (change.Take by c) a pool = refl
@@ -174,6 +176,8 @@ module _ (fresh : ℕ) (w : World) (entry : Entry) where
         queued = ap (λ (t : Told). t.queued) tells ∙ told_range ∙ sym (waiting_rows w.objects first jobs);
         callbacks = refl;
       }
+  change_moves (change.CreateKernel state) a by tells = still (changed w (change.CreateKernel state)) tells refl refl
+  change_moves (change.ChangeKernel kernel how) a by tells = still (changed w (change.ChangeKernel kernel how)) tells refl refl
   change_moves (change.Attach worker pool) a by tells =
       unmade (changed w (change.Attach worker pool)) (ap (λ (t : Told). t.made) tells) (ap (λ (t : Told). t.queued) tells)
       (Attach (record { worker = worker; pool = pool; actor = record { row = unattached; by = by; stands = a.stands; free = refl }; tells = ap (λ (t : Told). t.deed) tells; callbacks = refl; workers = refl }))
@@ -221,7 +225,7 @@ module _ (fresh : ℕ) (w : World) (entry : Entry) where
       unmade (changed w (change.BeginWait who target cancel)) (ap (λ (t : Told). t.made) tells) (ap (λ (t : Told). t.queued) tells)
       (Cancel (record { test = is_cancelled_by target cancel; tells = ap (λ (t : Told). t.deed) tells; waits = cancelled_pending target cancel; callbacks = refl; workers = refl }))
   change_moves (change.EndWait who how) a by tells =
-      unmade (without_wait w who) (ap (λ (t : Told). t.made) tells) (ap (λ (t : Told). t.queued) tells) (Stay (record { tells = ap (λ (t : Told). t.deed) tells; callbacks = refl; workers = refl }))
+      unmade (end_wait w who how) (ap (λ (t : Told). t.made) tells) (ap (λ (t : Told). t.queued) tells) (Stay (record { tells = ap (λ (t : Told). t.deed) tells; callbacks = refl; workers = refl }))
   change_moves (change.Finish client) a by tells = still (changed w (change.Finish client)) tells refl refl
 
   limits_same : (ch : Change) → (changed w ch).limits ≡ w.limits
@@ -241,12 +245,17 @@ module _ (fresh : ℕ) (w : World) (entry : Entry) where
 
   -- no change but two touches them
   waits_same : (ch : Change) → (told fresh w ch).begun ≡ None → (told fresh w ch).ending ≡ false → told_by entry ≡ told fresh w ch → (changed w ch).waits ≡ w.waits → WaitsMove w entry (changed w ch)
-  waits_same ch none still tells same = Keep (record { begins = ap (λ (t : Told). t.begun) tells ∙ none; ends = ap (λ (t : Told). t.ending) tells ∙ still; waits = same })
+  waits_same ch none still tells same = Keep (record { begins = ap (λ (t : Told). t.begun) tells ∙ none; ends = ap (λ (t : Told). t.ending) tells ∙ still; stay = λ who wait found. ap (λ bs. find (λ (b : BegunWait). is_same_actor b.actor who) bs) same ∙ found })
 
-  begin_moves : (who : Who) (target : WaitTarget) (cancel : Bool) → IsSound fresh w → is_in_wait w who ≡ false → entry.who ≡ who → told_by entry ≡ told fresh w (change.BeginWait who target cancel) → IsObjectTarget target
+  begin_moves : (who : Who) (target : WaitTarget) (cancel : Bool) → IsSound fresh w → is_in_wait w who ≡ false → entry.who ≡ who → told_by entry ≡ told fresh w (change.BeginWait who target cancel) → IsTarget target
       → WaitsMove w entry (changed w (change.BeginWait who target cancel))
   begin_moves who (Group group) cancel s none by tells is = absurd is
-  begin_moves who (Kernel kernel) cancel s none by tells is = absurd is
+  begin_moves who (Kernel kernel) cancel s none by tells is =
+      Keep (record {
+        begins = ap (λ (t : Told). t.begun) tells;
+        ends = ap (λ (t : Told). t.ending) tells;
+        stay = λ other wait found. find_more (λ (b : BegunWait). is_same_actor b.actor other) wait w.waits (new_wait who (Kernel kernel) cancel (cancel_where (is_cancelled_by (Kernel kernel) cancel) w.callbacks) ∷ []) found;
+      })
   begin_moves who (Object object) cancel s none by tells is =
       let kept : List CallbackRow = cancel_where (is_cancelled_by (Object object) cancel) w.callbacks in
       Begin (record {
@@ -272,7 +281,7 @@ module _ (fresh : ℕ) (w : World) (entry : Entry) where
           known false e = e
           known true e = absurd (none_left (is_cancelled_by target with_cancel) (cancelled_found_out (is_cancelled_by target with_cancel) (cancelled_pending target with_cancel) n w.callbacks c found) (ap₂ (λ a b. a && (b && is_of target c)) on e ∙ of))
 
-  end_moves : (who : Who) (how : WaitEnd) → MayEnd w who how → entry.who ≡ who → told_by entry ≡ told fresh w (change.EndWait who how) → WaitsMove w entry (without_wait w who)
+  end_moves : (who : Who) (how : WaitEnd) → MayEnd w who how → entry.who ≡ who → told_by entry ≡ told fresh w (change.EndWait who how) → WaitsMove w entry (end_wait w who how)
   end_moves who how a by tells =
       End (record {
         wait = a.wait;
@@ -293,13 +302,13 @@ module _ (fresh : ℕ) (w : World) (entry : Entry) where
   change_waits (change.ChangePool pool how) s a by tells = of_row (slice_get w.pools pool.0) (ap (λ (t : Told). t.begun) tells) (ap (λ (t : Told). t.ending) tells)
     where
       of_row : (row : Option PoolRow) → begins_by entry ≡ None → is_ending entry ≡ false → WaitsMove w entry (change_pool w pool.0 how row)
-      of_row None none unending = Keep (record { begins = none; ends = unending; waits = refl })
-      of_row (Some row) none unending = Keep (record { begins = none; ends = unending; waits = refl })
+      of_row None none unending = Keep (record { begins = none; ends = unending; stay = λ who wait found. found })
+      of_row (Some row) none unending = Keep (record { begins = none; ends = unending; stay = λ who wait found. found })
   change_waits (change.ReleaseObject object) s a by tells = of_row (numbered w.objects object.0) (ap (λ (t : Told). t.begun) tells) (ap (λ (t : Told). t.ending) tells)
     where
       of_row : (row : Option ObjectRow) → begins_by entry ≡ None → is_ending entry ≡ false → WaitsMove w entry (release_object w object row)
-      of_row None none unending = Keep (record { begins = none; ends = unending; waits = refl })
-      of_row (Some row) none unending = Keep (record { begins = none; ends = unending; waits = refl })
+      of_row None none unending = Keep (record { begins = none; ends = unending; stay = λ who wait found. found })
+      of_row (Some row) none unending = Keep (record { begins = none; ends = unending; stay = λ who wait found. found })
   change_waits (change.Mark at Long) s a by tells = waits_same (change.Mark at Long) refl refl tells refl
   change_waits (change.Mark at Loose) s a by tells = waits_same (change.Mark at Loose) refl refl tells refl
   change_waits change.Keep s a by tells = waits_same change.Keep refl refl tells refl
@@ -307,6 +316,8 @@ module _ (fresh : ℕ) (w : World) (entry : Entry) where
   change_waits change.CreatePool s a by tells = waits_same change.CreatePool refl refl tells refl
   change_waits (change.CreateObject row) s a by tells = waits_same (change.CreateObject row) refl refl tells refl
   change_waits (change.QueueCallback c) s a by tells = waits_same (change.QueueCallback c) refl refl tells refl
+  change_waits (change.CreateKernel state) s a by tells = waits_same (change.CreateKernel state) refl refl tells refl
+  change_waits (change.ChangeKernel kernel how) s a by tells = waits_same (change.ChangeKernel kernel how) refl refl tells refl
   change_waits (change.Attach worker pool) s a by tells = waits_same (change.Attach worker pool) refl refl tells refl
   change_waits (change.Detach at) s a by tells = waits_same (change.Detach at) refl refl tells refl
   change_waits (change.Take at c) s a by tells = waits_same (change.Take at c) refl refl tells refl

@@ -20,7 +20,7 @@ use Rattle.tp_base.specs.declared.rows.WorkerRow.{WorkerRow}
 use Rattle.tp_base.specs.declared.ids.Who.{Who}
 use Rattle.tp_base.specs.declared.rows.WaitTarget.{WaitTarget}
 use Rattle.tp_base.specs.declared.rows.WaitTarget.TheVariants.{Object, Group, Kernel}
-use Rattle.tp_model.specs.Waits.{is_of, is_cancelled_by, cancelled, cancel_where}
+use Rattle.tp_model.specs.Waits.{is_of, is_cancelled_by, cancelled, cancel_where, wait_of}
 use Rattle.tp_base.specs.Actors.{is_same_actor}
 use Rattle.tp_model.specs.Conditions.{is_in_wait}
 use Rattle.tp_base.specs.declared.ids.ObjectId.{ObjectId}
@@ -33,7 +33,10 @@ use Rattle.tp_model.specs.Support.Allowed.{IsReady}
 use Rattle.tp_model.proofs.Firing.{AreOf, AreJobsMade, IsTriggerMade, row_of_made, made_stands, ready_made, fired_settings, fired_jobs, fired_clock}
 use Rattle.tp_model.specs.World.{World, BegunWait, opening, unattached, new_pool}
 use Rattle.tp_model.specs.Counts.{numbered, has_number, is_pending, is_running}
-use Rattle.tp_model.specs.Changes.{with_new_pool, with_pool, with_object, with_new_callback, with_callback, with_worker, with_client, replaced, change_pool, pool_after, taken, loosened, marked, returned, no_actions, finished, release_object, new_wait, begin_wait, without_wait, changed}
+use Rattle.tp_model.specs.Changes.{with_new_pool, with_pool, with_object, with_new_callback, with_callback, with_worker, with_client, replaced, change_pool, pool_after, taken, loosened, marked, returned, no_actions, finished, release_object, new_wait, begin_wait, without_wait, end_wait, kernels_left, changed}
+use Rattle.tp_base.specs.declared.rows.KernelRow.{KernelRow}
+use Rattle.tp_base.specs.Kernels.{state_after}
+use Rattle.tp_model.specs.Kernels.{new_kernel, kernel_changed}
 use Rattle.tp_model.specs.Laws.Once.{is_left}
 use Rattle.tp_model.specs.Support.Sound.{IsSound, IsMade, IsRising, RunsOn, IsWorkerSound, AreWorkersSound, AreApart, HasObject, IsCallbackSound, IsWaitSound, is_left_of}
 use Rattle.tp_model.specs.Support.Allowed.{IsAllowed, IsTargetMade, news}
@@ -476,6 +479,21 @@ sound_change_pool : (fresh : ℕ) (w : World) (pool : ℕ) (how : PoolChange) (r
 sound_change_pool fresh w pool how None s = s
 sound_change_pool fresh w pool how (Some row) s = sound_pool fresh w pool (pool_after how row) s
 
+-- kernel objects change
+sound_kernels : (fresh : ℕ) (w : World) (kernels : List KernelRow) → IsSound fresh w → IsSound fresh (record w { kernels = kernels })
+sound_kernels fresh w kernels s =
+    record {
+      numbers = s.numbers;
+      workers = s.workers;
+      object_pools = s.object_pools;
+      apart = s.apart;
+      timers = s.timers;
+      clock = s.clock;
+      waits = s.waits;
+      callback_pools = s.callback_pools;
+      callback_objects = s.callback_objects;
+    }
+
 pub changed_sound : (fresh : ℕ) (w : World) (ch : Change) → IsSound fresh w → IsAllowed fresh w ch → IsSound (fresh + news ch) (changed w ch)
 changed_sound fresh w change.Keep s a = none_made fresh w s
 changed_sound fresh w change.CreatePool s a = none_made fresh (with_new_pool w) (sound_new_pool fresh w s)
@@ -488,6 +506,8 @@ changed_sound fresh w (change.Fire trigger first count) s a =
   where
     fired_sound : (first count : ℕ) → first ≡ fresh → count ≡ count_fired w trigger → IsSound (fresh + count_fired w trigger) (fired w fresh (firing trigger (sources_of w))) → IsSound (fresh + count) (fired w first (firing trigger (sources_of w)))
     fired_sound first count number counted h = subst (λ n. IsSound (fresh + n) (fired w first (firing trigger (sources_of w)))) (sym counted) (subst (λ n. IsSound (fresh + count_fired w trigger) (fired w n (firing trigger (sources_of w)))) (sym number) h)
+changed_sound fresh w (change.CreateKernel state) s a = none_made fresh (changed w (change.CreateKernel state)) (sound_kernels fresh w (w.kernels ++ new_kernel state ∷ []) s)
+changed_sound fresh w (change.ChangeKernel kernel how) s a = none_made fresh (changed w (change.ChangeKernel kernel how)) (sound_kernels fresh w (kernel_changed (state_after how) w.kernels kernel.0) s)
 changed_sound fresh w (change.Attach worker pool) s a = none_made fresh (changed w (change.Attach worker pool)) (sound_free_worker fresh w worker (record { pool = Some pool; callback = None }) refl s)
 changed_sound fresh w (change.Detach by) s a = none_made fresh (changed w (change.Detach by)) (sound_free_worker fresh w by.worker unattached refl s)
 changed_sound fresh w (change.Take by c) s a =
@@ -499,7 +519,7 @@ changed_sound fresh w (change.Return by) s a =
     (numbered_some w.workers by.worker (record { pool = Some by.pool; callback = Some by.callback.number }) a.stands).1 refl
     (record { callback = by.callback; associated = a.associated; slots = a.slots; found = a.found; runs = a.running; at_home = a.home }) a.found s)
 changed_sound fresh w (change.BeginWait who target cancel) s a = none_made fresh (changed w (change.BeginWait who target cancel)) (sound_begin_wait fresh w who target cancel a.none a.made s)
-changed_sound fresh w (change.EndWait who how) s a = none_made fresh (without_wait w who) (sound_end_wait fresh w who s)
+changed_sound fresh w (change.EndWait who how) s a = none_made fresh (end_wait w who how) (sound_kernels fresh (without_wait w who) (kernels_left w who how (wait_of w who)) (sound_end_wait fresh w who s))
 changed_sound fresh w (change.Finish client) s a = none_made fresh (changed w (change.Finish client)) (sound_client fresh w client finished s)
 
 -- and it is true of the opening world

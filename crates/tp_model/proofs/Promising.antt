@@ -21,6 +21,7 @@ use Rattle.tp_model.specs.Laws.Once.{is_left}
 use Rattle.tp_model.specs.Laws.Entries.{Run, Begins, begins_by, is_among, is_ending, is_end_call, is_last_answer, is_ended_answer, numbers_made, numbers_queued, queued_by, made_by, started_by}
 use Rattle.tp_model.specs.Laws.Covered.{ends, end_in, is_spoken_of}
 use Rattle.tp_model.specs.Support.Moves.{Leads, WaitsMove, Keep, Begin, End}
+use Rattle.tp_model.proofs.Lists.{find_more}
 use Rattle.tp_model.proofs.Callbacks.{found_bounds}
 use Rattle.tp_model.proofs.Fates.{WasRow, row_was, is_operating}
 use Rattle.tp_model.proofs.Places.{LastPlace, Here, Earlier, last_place, FoundLast, Before, Now, found_last, none_last, new_above, waiting_above, waiting_pends}
@@ -177,11 +178,6 @@ module _ (before : List Entry) (w : World) (x : Entry) (after : World) (rising :
       own : BegunWait → Bool
       own = λ (b : BegunWait). is_same_actor b.actor who
 
-      find_more : (bs cs : List BegunWait) → find own bs ≡ Some wait → find own (bs ++ cs) ≡ Some wait
-      find_more [] cs e = absurd cc
-      find_more (d ∷ bs) cs e =
-          elim (own d) as (λ b. cond b (Some d) (find own bs) ≡ Some wait → cond b (Some d) (find own (bs ++ cs)) ≡ Some wait) [ true ↦ λ h. h | false ↦ λ h. find_more bs cs h ] e
-
       find_others : (bs : List BegunWait) → is_same_actor x.who who ≡ false → find own bs ≡ Some wait → find own (filter (λ (b : BegunWait). not (is_same_actor b.actor x.who)) bs) ≡ Some wait
       find_others [] apart e = absurd cc
       find_others (d ∷ bs) apart e =
@@ -196,8 +192,8 @@ module _ (before : List Entry) (w : World) (x : Entry) (after : World) (rising :
           ] refl
 
       of_move : WaitsMove w x after → wait_of after who ≡ Some wait
-      of_move (Keep m) = ap (find own) m.waits ∙ found
-      of_move (Begin m) = ap (find own) m.waits ∙ find_more w.waits (m.wait ∷ []) found
+      of_move (Keep m) = m.stay who wait found
+      of_move (Begin m) = ap (find own) m.waits ∙ find_more own wait w.waits (m.wait ∷ []) found
       of_move (End m) = ap (find own) m.waits ∙ find_others w.waits (other (is_same_actor x.who who) refl) found
         where
           other : (b : Bool) → is_same_actor x.who who ≡ b → is_same_actor x.who who ≡ false

@@ -1,11 +1,12 @@
 -- The facts of waits for callbacks.
-use Rattle.std.proofs.Common.{◌≡◌, ℕ, ◌<◌, Bool, true, false, cond, not, ◌||◌, ◌==◌, List, [], ◌∷◌, length, Option, Some, None, refl, ap, ◌∙◌, arith, eqb-true, ◌&&◌, nat_lt, ap₂, filter, ◌≤◌, ◌^◌, subst}
+use Rattle.std.proofs.Common.{◌≡◌, ℕ, ◌<◌, Bool, true, false, cond, not, ◌||◌, ◌==◌, List, [], ◌∷◌, length, Option, Some, None, refl, ap, ◌∙◌, arith, eqb-true, ◌&&◌, nat_lt, ap₂, filter, ◌≤◌, ◌^◌, subst, sym}
 use Rattle.std.specs.Option.{option_map_or}
 use Rattle.std.proofs.lemmas.List.{length-map}
 use Rattle.tp_base.specs.declared.ids.Who.{Who}
+use Rattle.tp_base.specs.declared.ids.KernelId.{KernelId}
 use Rattle.tp_base.specs.declared.ids.ObjectId.{ObjectId}
 use Rattle.tp_base.specs.declared.calls.Kind.{Kind}
-use Rattle.tp_base.specs.declared.calls.Call.TheVariants.{BeginWait, End}
+use Rattle.tp_base.specs.declared.calls.Call.TheVariants.{BeginWait, BeginAcquire, End}
 use Rattle.tp_base.specs.declared.answers.Refusal.{Refusal}
 use Rattle.tp_base.specs.declared.answers.Answer.TheVariants as answer
 use Rattle.tp_base.specs.declared.answers.Look.TheVariants as look
@@ -16,19 +17,24 @@ use Rattle.tp_base.specs.declared.rows.CallbackRow.{CallbackRow}
 use Rattle.tp_base.specs.declared.plans.WaitEnd.TheVariants as how
 use Rattle.tp_base.specs.declared.answers.Refusal.TheVariants.{NoSuch, WrongKind, Released, NotRunning, InWait, OwnCallback}
 use Rattle.tp_base.specs.declared.rows.WaitTarget.{WaitTarget}
-use Rattle.tp_base.specs.declared.rows.WaitTarget.TheVariants.{Object}
-use Rattle.tp_base.specs.Ranges.{IsAnswerInRange}
+use Rattle.tp_base.specs.declared.rows.WaitTarget.TheVariants.{Object, Group, Kernel}
+use Rattle.tp_base.specs.Ranges.{IsCallInRange, IsAnswerInRange}
+use Rattle.tp_base.specs.Actors.{is_same_actor}
+use Rattle.tp_base.specs.Kernels.{may_take}
+use Rattle.tp_model.specs.Kernels.{is_kernel, is_kernel_that}
 use Rattle.tp_model.specs.World.{World, BegunWait}
 use Rattle.tp_model.specs.Counts.{has_number, attached, callback_of}
 use Rattle.tp_base.specs.Actors.{is_same_actor}
 use Rattle.tp_model.specs.Conditions.{is_actor, is_finished, is_object, is_released, is_associated, is_in_wait, is_object_of, is_without_callback}
 use Rattle.tp_model.specs.Refusing.{first_refusal, unless_refused}
-use Rattle.tp_model.specs.Calls.Waits.{begin_wait_refusals, begin_wait_plan, end_refusals, end_held, end_wait, end_plan, holds_starved, count_covered, count_cancelled_by, is_starved}
+use Rattle.tp_model.specs.Calls.Waits.{begin_wait_refusals, begin_wait_plan, begin_acquire_refusals, begin_acquire_plan, end_for, end_refusals, end_held, end_wait, end_plan, holds_starved, count_covered, count_cancelled_by, is_starved}
 use Rattle.tp_model.specs.Waits.{wait_of, held, is_outstanding_for, is_cancelled_by, cancelled, cancel_where, is_covered_by, covered_of, is_held}
 use Rattle.tp_model.specs.Support.Sound.{IsSound, IsWaitSound}
+use Rattle.tp_model.specs.Support.Allowed.{IsTakeable}
+use Rattle.tp_model.specs.Support.Told.{silent, nothing}
 use Rattle.tp_model.specs.Support.Safe.{IsSafe}
 use Rattle.tp_model.specs.Support.Remembered.{lives, forget}
-use Rattle.tp_model.specs.Support.Ranged.{IsCallbackInRange, IsRanged, IsPlanInRange}
+use Rattle.tp_model.specs.Support.Ranged.{IsTargetInRange, IsCallbackInRange, IsRanged, IsPlanInRange}
 use Rattle.tp_model.proofs.Lists.{find_all, filter_filter, filter_agree, length_filter_le, find_passes}
 use Rattle.tp_model.proofs.Refusals.{neither, not_false, false_true}
 use Rattle.tp_model.proofs.Callbacks.{over_not_pending}
@@ -96,7 +102,45 @@ pub begin_wait_ranged : (w : World) (who : Who) (kind : Kind) (object : ObjectId
 unfolding begin_wait_plan
 begin_wait_ranged w who kind object cancel g = ranged_unless (begin_wait_refusals w who kind object.0) _ _ (begun_ranged w (Object object) cancel g, tt)
 
+-- ---- BeginAcquire
+
+none_cancelled : (target : WaitTarget) (cs : List CallbackRow) → length (filter (is_cancelled_by target false) cs) ≡ 0
+none_cancelled target [] = refl
+none_cancelled target (c ∷ cs) = none_cancelled target cs
+
+pub begin_acquire_safe : (fresh : ℕ) (w : World) (who : Who) (kernel : KernelId) → IsSafe fresh w who (BeginAcquire kernel) (begin_acquire_plan w who kernel)
+unfolding begin_acquire_plan
+begin_acquire_safe fresh w who kernel =
+    safe_unless fresh w who (BeginAcquire kernel) (begin_acquire_refusals w who kernel.0) _ (λ none.
+    let there = neither (not (is_actor w who)) (not (is_kernel w kernel.0)) none.0 in
+    record {
+      allowed = record { actor = not_false (is_actor w who) there.0; none = none.1.1.1.0; object = tt; made = not_false (is_kernel w kernel.0) there.1 };
+      made_by = refl;
+      accepted = refl;
+      tells = ap (λ n. record silent { deed = record nothing { count = n } }) (sym (none_cancelled (Kernel kernel) w.callbacks));
+    })
+
+pub begin_acquire_forget : (w : World) (who : Who) (kernel : KernelId) → begin_acquire_plan (forget w) who kernel ≡ begin_acquire_plan w who kernel
+unfolding begin_acquire_plan
+begin_acquire_forget w who kernel = refl
+
+pub begin_acquire_ranged : (w : World) (who : Who) (kernel : KernelId) → IsCallInRange (BeginAcquire kernel) → IsPlanInRange (begin_acquire_plan w who kernel)
+unfolding begin_acquire_plan
+begin_acquire_ranged w who kernel c = ranged_unless (begin_acquire_refusals w who kernel.0) _ _ (tt, c)
+
 -- ---- End
+
+-- a wait for a kernel object holds no callback
+pub none_held : (w : World) (b : BegunWait) (kernel : KernelId) → b.target ≡ Kernel kernel → held w b ≡ []
+none_held w b kernel at = ap (λ t. filter (is_held w t) b.covered) at ∙ none b.covered
+  where
+    of_row : (o : Option CallbackRow) → option_map_or (is_outstanding_for (Kernel kernel)) o false ≡ false
+    of_row None = refl
+    of_row (Some c) = refl
+
+    none : (ns : List ℕ) → filter (is_held w (Kernel kernel)) ns ≡ []
+    none [] = refl
+    none (n ∷ ns) = ap (λ t. cond t (n ∷ filter (is_held w (Kernel kernel)) ns) (filter (is_held w (Kernel kernel)) ns)) (of_row (callback_of w n)) ∙ none ns
 
 pub end_safe : (fresh room : ℕ) (w : World) (who : Who) → IsSound fresh w → IsSafe fresh w who End (end_plan w room who)
 unfolding end_plan
@@ -105,17 +149,32 @@ end_safe fresh room w who s = safe_unless fresh w who End (end_refusals w who) _
     unnoticed : (b : BegunWait) → wait_of w who ≡ Some b → b.notices ≡ []
     unnoticed b is = (find_all (IsWaitSound fresh w.callbacks) (λ (x : BegunWait). is_same_actor x.actor who) b w.waits s.waits is).unnoticed
 
-    ends_with : (b : BegunWait) (numbers : List ℕ) → wait_of w who ≡ Some b → held w b ≡ numbers → IsSafe fresh w who End (end_held w room who numbers)
-    ends_with b [] is free = record { allowed = record { wait = b; begun = is; unnoticed = unnoticed b is; free = λ _. free }; made_by = refl; accepted = refl; tells = refl }
-    ends_with b (n ∷ ns) is left =
+    ends_with : (b : BegunWait) (numbers : List ℕ) → wait_of w who ≡ Some b → IsTakeable w who b.target → held w b ≡ numbers → IsSafe fresh w who End (end_held w room who numbers)
+    ends_with b [] is takes free = record { allowed = record { wait = b; begun = is; unnoticed = unnoticed b is; free = λ _. free; takes = λ _. takes }; made_by = refl; accepted = refl; tells = refl }
+    ends_with b (n ∷ ns) is takes left =
         elim (holds_starved w room (n ∷ ns)) as (λ t. IsSafe fresh w who End (cond t (plan.Does answer.Exhausted (change.EndWait who how.Exhausted)) (plan.Looked (look.NotYet n)))) [
-          | true ↦ record { allowed = record { wait = b; begun = is; unnoticed = unnoticed b is; free = λ e. absurd cc }; made_by = refl; accepted = refl; tells = refl }
+          | true ↦ record { allowed = record { wait = b; begun = is; unnoticed = unnoticed b is; free = λ e. absurd cc; takes = λ e. absurd cc }; made_by = refl; accepted = refl; tells = refl }
           | false ↦ tt
         ]
 
     ends : (b : Option BegunWait) → wait_of w who ≡ b → IsSafe fresh w who End (end_wait w room who b)
     ends None is = tt
-    ends (Some b) is = ends_with b (held w b) is refl
+    ends (Some b) is = of_target b.target refl
+      where
+        of_target : (t : WaitTarget) → b.target ≡ t → IsSafe fresh w who End (end_for w room who b t)
+        of_target (Object object) at = ends_with b (held w b) is (subst (IsTakeable w who) (sym at) tt) refl
+        of_target (Group group) at = ends_with b (held w b) is (subst (IsTakeable w who) (sym at) tt) refl
+        of_target (Kernel kernel) at = acquires (is_kernel_that (may_take who) w kernel.0) refl
+          where
+            acquires : (t : Bool) → is_kernel_that (may_take who) w kernel.0 ≡ t → IsSafe fresh w who End (cond t (plan.Does answer.Ended (change.EndWait who how.Free)) (plan.Looked (look.NotYetKernel kernel)))
+            acquires true may =
+                record {
+                  allowed = record { wait = b; begun = is; unnoticed = unnoticed b is; free = λ _. none_held w b kernel at; takes = λ _. subst (IsTakeable w who) (sym at) may };
+                  made_by = refl;
+                  accepted = refl;
+                  tells = refl;
+                }
+            acquires false may = tt
 
 held_forget : (fresh : ℕ) (w : World) (target : WaitTarget) (number : ℕ) → IsSound fresh w → is_held (forget w) target number ≡ is_held w target number
 held_forget fresh w target number s = over_forget (is_outstanding_for target) (over_not_outstanding target) 1 fresh number w.callbacks s.numbers
@@ -141,7 +200,12 @@ end_forget fresh room w who s = ap (unless_refused (first_refusal (end_refusals 
 
     ends : (b : Option BegunWait) → end_wait (forget w) room who b ≡ end_wait w room who b
     ends None = refl
-    ends (Some b) = ap (end_held (forget w) room who) (all_held_forget fresh w b s) ∙ ends_with (held w b)
+    ends (Some b) = of_target b.target
+      where
+        of_target : (t : WaitTarget) → end_for (forget w) room who b t ≡ end_for w room who b t
+        of_target (Object object) = ap (end_held (forget w) room who) (all_held_forget fresh w b s) ∙ ends_with (held w b)
+        of_target (Group group) = ap (end_held (forget w) room who) (all_held_forget fresh w b s) ∙ ends_with (held w b)
+        of_target (Kernel kernel) = refl
 
 -- the first of those that a wait still waits for is the number of a callback
 held_ranged : (w : World) (b : BegunWait) (number : ℕ) (numbers : List ℕ) → IsRanged w → held w b ≡ number ∷ numbers → number < 2 ^ 64
@@ -163,13 +227,19 @@ held_ranged w b number numbers g e = first (is_held w b.target) (λ k found. of_
 
 pub end_ranged : (room : ℕ) (w : World) (who : Who) → IsRanged w → IsPlanInRange (end_plan w room who)
 unfolding end_plan
-end_ranged room w who g = ranged_unless (end_refusals w who) _ _ (ends (wait_of w who))
+end_ranged room w who g = ranged_unless (end_refusals w who) _ _ (ends (wait_of w who) refl)
   where
     ends_with : (b : BegunWait) (numbers : List ℕ) → held w b ≡ numbers → IsPlanInRange (end_held w room who numbers)
     ends_with b [] is = (tt, tt)
     ends_with b (n ∷ ns) is =
         elim (holds_starved w room (n ∷ ns)) as (λ t. IsPlanInRange (cond t (plan.Does answer.Exhausted (change.EndWait who how.Exhausted)) (plan.Looked (look.NotYet n)))) [ true ↦ (tt, tt) | false ↦ held_ranged w b n ns g is ]
 
-    ends : (b : Option BegunWait) → IsPlanInRange (end_wait w room who b)
-    ends None = tt
-    ends (Some b) = ends_with b (held w b) refl
+    ends : (b : Option BegunWait) → wait_of w who ≡ b → IsPlanInRange (end_wait w room who b)
+    ends None is = tt
+    ends (Some b) is = of_target b.target (find_all (λ (x : BegunWait). IsTargetInRange x.target) (λ (x : BegunWait). is_same_actor x.actor who) b w.waits g.rows.waits is)
+      where
+        of_target : (t : WaitTarget) → IsTargetInRange t → IsPlanInRange (end_for w room who b t)
+        of_target (Object object) within = ends_with b (held w b) refl
+        of_target (Group group) within = ends_with b (held w b) refl
+        of_target (Kernel kernel) within =
+            elim (is_kernel_that (may_take who) w kernel.0) as (λ t. IsPlanInRange (cond t (plan.Does answer.Ended (change.EndWait who how.Free)) (plan.Looked (look.NotYetKernel kernel)))) [ true ↦ (tt, tt) | false ↦ within ]

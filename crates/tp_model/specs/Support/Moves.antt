@@ -2,6 +2,7 @@
 use Rattle.std.specs.Prelude.{◌≡◌, ℕ, ◌+◌, ◌-◌, ◌<◌, Bool, true, false, List, [], ◌∷◌, ◌++◌, map, slice_get, slice_set, None, Some, not, length}
 use Rattle.std.specs.List.{filter, find}
 use Rattle.std.specs.Option.{option_map_or}
+use Rattle.tp_base.specs.declared.ids.Who.{Who}
 use Rattle.tp_base.specs.declared.ids.Who.TheVariants.{Worker}
 use Rattle.tp_base.specs.declared.ids.PoolId.{PoolId}
 use Rattle.tp_base.specs.declared.answers.Entry.{Entry}
@@ -169,11 +170,11 @@ pub record Moves (fresh : ℕ) (w : World) (entry : Entry) (after : World) : Typ
 
 -- ---- waits
 
--- no wait begins or ends
+-- no wait for an object begins or ends
 pub record KeepsWaits (w : World) (entry : Entry) (after : World) : Type 0 where
   pub begins : begins_by entry ≡ None
   pub ends : is_ending entry ≡ false
-  pub waits : after.waits ≡ w.waits
+  pub stay : (who : Who) (wait : BegunWait) → wait_of w who ≡ Some wait → wait_of after who ≡ Some wait
 
 -- the actor begins a wait for what is then outstanding for an object, of which with cancel nothing is pending
 pub record BeginsWait (w : World) (entry : Entry) (after : World) : Type 0 where

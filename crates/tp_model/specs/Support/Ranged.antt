@@ -4,6 +4,8 @@ use Rattle.std.specs.List.{AllByRecursion}
 use Rattle.tp_base.specs.declared.rows.KernelState.{KernelState}
 use Rattle.tp_base.specs.declared.rows.KernelState.TheVariants.{Semaphore}
 use Rattle.tp_base.specs.declared.rows.KernelRow.{KernelRow}
+use Rattle.tp_base.specs.declared.rows.WaitTarget.{WaitTarget}
+use Rattle.tp_base.specs.declared.rows.WaitTarget.TheVariants.{Kernel}
 use Rattle.tp_base.specs.Ranges.{count_most, AreLimitsInRange, IsRoutineInRange, IsResultInRange, IsRefusalInRange, IsAnswerInRange, IsLookInRange}
 use Rattle.tp_base.specs.declared.plans.Trigger.{Trigger}
 use Rattle.tp_base.specs.declared.plans.Trigger.TheVariants.{SetTimer, Advance}
@@ -15,7 +17,7 @@ use Rattle.tp_base.specs.declared.rows.ObjectRow.{ObjectRow}
 use Rattle.tp_base.specs.declared.rows.CallbackRow.{CallbackRow}
 use Rattle.tp_base.specs.declared.rows.TimerSetting.{TimerSetting}
 use Rattle.tp_base.specs.Kernels.{takings_of}
-use Rattle.tp_model.specs.World.{World}
+use Rattle.tp_model.specs.World.{World, BegunWait}
 use Rattle.tp_model.specs.Counts.{running, is_live}
 
 pub record IsObjectInRange (o : ObjectRow) : Type 0 where
@@ -34,6 +36,11 @@ abbrev pub IsStateInRange : KernelState → Type 0
 IsStateInRange (Semaphore count maximum) = (count ≤ maximum) × (maximum ≤ count_most)
 IsStateInRange _ = Unit {0}
 
+-- what a wait is for
+abbrev pub IsTargetInRange : WaitTarget → Type 0
+IsTargetInRange (Kernel kernel) = kernel.0 ≤ 65535
+IsTargetInRange _ = Unit {0}
+
 -- no lock is taken more often than this
 abbrev pub AreTakenAtMost : ℕ → World → Type 0
 AreTakenAtMost most w = AllByRecursion (λ (k : KernelRow). takings_of k.state ≤ most) w.kernels
@@ -44,6 +51,7 @@ pub record AreRowsInRange (w : World) : Type 0 where
   pub callbacks : AllByRecursion IsCallbackInRange w.callbacks
   pub kernels : AllByRecursion (λ (k : KernelRow). IsStateInRange k.state) w.kernels
   pub timers : AllByRecursion (λ (s : TimerSetting). s.object.0 ≤ 65535) w.settings
+  pub waits : AllByRecursion (λ (b : BegunWait). IsTargetInRange b.target) w.waits
 
 abbrev pub IsTriggerInRange : Trigger → Type 0
 IsTriggerInRange (SetTimer object due period window) = object.0 ≤ 65535
@@ -54,6 +62,7 @@ IsChangeInRange (change.CreateObject row) = IsObjectInRange row
 IsChangeInRange (change.QueueCallback callback) = IsCallbackInRange callback
 IsChangeInRange (change.Fire trigger first count) = IsTriggerInRange trigger × (first + count ≤ 2 ^ 64)
 IsChangeInRange (change.CreateKernel state) = IsStateInRange state
+IsChangeInRange (change.BeginWait who target cancel) = IsTargetInRange target
 IsChangeInRange _ = Unit {0}
 
 -- all of a world that the numbers of answers and looks come from
@@ -61,7 +70,6 @@ pub record IsRanged (w : World) : Type 0 where
   pub limits : AreLimitsInRange w.limits
   pub pools_least : 1 ≤ length w.pools
   pub pools_most : length w.pools ≤ w.limits.pools
-  pub kernels_most : length w.kernels ≤ w.limits.kernels
   pub slots_most : length (filter (λ c. is_live c.status) w.callbacks) ≤ w.limits.slots
   pub running_most : (pool : ℕ) → running w pool ≤ 65535
   pub rows : AreRowsInRange w

@@ -1,0 +1,213 @@
+-- The facts of calls on kernel objects.
+use Rattle.std.proofs.Common.{◌≡◌, ℕ, ◌+◌, ◌-◌, ◌≤◌, ◌<◌, Bool, true, false, not, ◌||◌, ◌==◌, List, [], ◌∷◌, length, arith, Option, Some, None, refl, sym, ap, ◌∙◌, nat_lt}
+use Rattle.std.proofs.lemmas.Bool.{leb-false, ltb-false}
+use Rattle.std.specs.Option.{option_map_or}
+use Rattle.tp_base.specs.Ranges.{IsCallInRange, IsAnswerInRange, count_most}
+use Rattle.tp_base.specs.declared.ids.Who.{Who}
+use Rattle.tp_base.specs.declared.ids.KernelId.{KernelId}
+use Rattle.tp_base.specs.declared.calls.Call.{Call}
+use Rattle.tp_base.specs.declared.calls.Call.TheVariants.{CreateEvent, CreateSemaphore, CreateLock, SetEvent, ResetEvent, ReleaseSemaphore, ReleaseLock}
+use Rattle.tp_base.specs.declared.calls.Lock.{Lock}
+use Rattle.tp_base.specs.declared.calls.Lock.TheVariants as lock
+use Rattle.tp_base.specs.declared.answers.Refusal.{Refusal}
+use Rattle.tp_base.specs.declared.answers.Refusal.TheVariants.{NotOwner, OverMaximum}
+use Rattle.tp_base.specs.declared.answers.Answer.{Answer}
+use Rattle.tp_base.specs.declared.answers.Answer.TheVariants as answer
+use Rattle.tp_base.specs.declared.plans.KernelChange.{KernelChange}
+use Rattle.tp_base.specs.declared.plans.KernelChange.TheVariants.{Set, Reset, Raise, Leave}
+use Rattle.tp_base.specs.declared.plans.Change.TheVariants as change
+use Rattle.tp_base.specs.declared.plans.Plan.TheVariants as plan
+use Rattle.tp_base.specs.declared.rows.KernelState.{KernelState}
+use Rattle.tp_base.specs.declared.rows.KernelState.TheVariants.{Event, Semaphore, Mutex, Section}
+use Rattle.tp_base.specs.declared.rows.KernelRow.{KernelRow}
+use Rattle.tp_base.specs.Kernels.{is_event, is_semaphore, is_lock, owns, passes_by, count_of, takings_of, lock_made}
+use Rattle.tp_model.specs.World.{World}
+use Rattle.tp_model.specs.Counts.{numbered}
+use Rattle.tp_model.specs.Kernels.{is_kernel_that, count_at}
+use Rattle.tp_model.specs.History.{is_refusal}
+use Rattle.tp_model.specs.Calls.Kernels.{create_kernel_refusals, create_kernel, create_event_plan, create_semaphore_plan, create_lock_plan, kernel_refusals, change_kernel, set_event_plan, reset_event_plan, release_semaphore_plan, release_lock_plan}
+use Rattle.tp_model.specs.Support.Allowed.{Suits, MayChange}
+use Rattle.tp_model.specs.Support.Told.{told, told_by, silent}
+use Rattle.tp_model.specs.Support.Safe.{IsSafe}
+use Rattle.tp_model.specs.Support.Remembered.{forget}
+use Rattle.tp_model.specs.Support.Ranged.{IsRanged, IsPlanInRange, IsStateInRange}
+use Rattle.tp_model.proofs.Refusals.{NoneHolds, neither, not_false, false_true}
+use Rattle.tp_model.proofs.Kernels.{Stands, that_stands}
+use Rattle.tp_model.proofs.Lists.{find_all, all_get}
+use Rattle.tp_model.proofs.Refusals.{numbered_some}
+use Rattle.tp_model.proofs.Planning.{safe_unless}
+use Rattle.tp_model.proofs.Ranging.{AreBare, made_ranged, ranged_unless}
+
+-- ---- what makes one
+
+-- the entry's answer is its number
+create_safe : (fresh : ℕ) (w : World) (who : Who) (call : Call) (own : List (Bool × Refusal)) (state : KernelState)
+    → told_by (record { who = who; call = call; answer = answer.Made (length w.kernels + 1) }) ≡ silent → takings_of state ≤ 1 → (NoneHolds (create_kernel_refusals w who own) → length w.kernels < w.limits.kernels)
+    → IsSafe fresh w who call (create_kernel w who own state)
+create_safe fresh w who call own state tells takings room =
+    safe_unless fresh w who call (create_kernel_refusals w who own) _
+    (λ none. record { allowed = record { room = room none; takings = takings }; made_by = tt; accepted = refl; tells = tells })
+
+create_ranged : (w : World) (who : Who) (own : List (Bool × Refusal)) (state : KernelState) → AreBare (create_kernel_refusals w who own) → IsRanged w
+    → (NoneHolds (create_kernel_refusals w who own) → (length w.kernels < w.limits.kernels) × IsStateInRange state) → IsPlanInRange (create_kernel w who own state)
+create_ranged w who own state bare g known =
+    made_ranged (create_kernel_refusals w who own) (plan.Does (answer.Made (length w.kernels + 1)) (change.CreateKernel state)) bare
+    (λ none. ((omega arith, omega (arith, (known none).0, g.limits.kernels_most)), (known none).1))
+
+-- ---- CreateEvent
+
+pub create_event_safe : (fresh : ℕ) (w : World) (who : Who) (manual signalled : Bool) → IsSafe fresh w who (CreateEvent manual signalled) (create_event_plan w who manual signalled)
+unfolding create_event_plan
+create_event_safe fresh w who manual signalled =
+    create_safe fresh w who (CreateEvent manual signalled) [] (Event manual signalled) refl (omega arith) (λ none. leb-false w.limits.kernels (length w.kernels) none.1.1.1.1.0)
+
+pub create_event_forget : (w : World) (who : Who) (manual signalled : Bool) → create_event_plan (forget w) who manual signalled ≡ create_event_plan w who manual signalled
+unfolding create_event_plan
+create_event_forget w who manual signalled = refl
+
+pub create_event_ranged : (w : World) (who : Who) (manual signalled : Bool) → IsRanged w → IsPlanInRange (create_event_plan w who manual signalled)
+unfolding create_event_plan
+create_event_ranged w who manual signalled g = create_ranged w who [] (Event manual signalled) _ g (λ none. (leb-false w.limits.kernels (length w.kernels) none.1.1.1.1.0, tt))
+
+-- ---- CreateSemaphore
+
+pub create_semaphore_safe : (fresh : ℕ) (w : World) (who : Who) (initial most : ℕ) → IsSafe fresh w who (CreateSemaphore initial most) (create_semaphore_plan w who initial most)
+unfolding create_semaphore_plan
+create_semaphore_safe fresh w who initial most =
+    create_safe fresh w who (CreateSemaphore initial most) ((nat_lt most initial || (most == 0), OverMaximum initial) ∷ []) (Semaphore initial most) refl (omega arith)
+    (λ none. leb-false w.limits.kernels (length w.kernels) none.1.1.1.1.1.0)
+
+pub create_semaphore_forget : (w : World) (who : Who) (initial most : ℕ) → create_semaphore_plan (forget w) who initial most ≡ create_semaphore_plan w who initial most
+unfolding create_semaphore_plan
+create_semaphore_forget w who initial most = refl
+
+pub create_semaphore_ranged : (w : World) (who : Who) (initial most : ℕ) → IsRanged w → IsCallInRange (CreateSemaphore initial most) → IsPlanInRange (create_semaphore_plan w who initial most)
+unfolding create_semaphore_plan
+create_semaphore_ranged w who initial most g c =
+    create_ranged w who ((nat_lt most initial || (most == 0), OverMaximum initial) ∷ []) (Semaphore initial most) (tt, (tt, (tt, (tt, (c.0, (tt, tt)))))) g
+    (λ none. (leb-false w.limits.kernels (length w.kernels) none.1.1.1.1.1.0, (ltb-false most initial (neither (nat_lt most initial) (most == 0) none.1.1.1.1.0).0, c.1)))
+
+-- ---- CreateLock
+
+made_takings : (lock : Lock) (who : Who) (owned : Bool) → takings_of (lock_made lock who owned) ≤ 1
+made_takings lock.Mutex who true = omega arith
+made_takings lock.Mutex who false = omega arith
+made_takings lock.Section who true = omega arith
+made_takings lock.Section who false = omega arith
+
+made_state : (lock : Lock) (who : Who) (owned : Bool) → IsStateInRange (lock_made lock who owned)
+made_state lock.Mutex who true = tt
+made_state lock.Mutex who false = tt
+made_state lock.Section who true = tt
+made_state lock.Section who false = tt
+
+pub create_lock_safe : (fresh : ℕ) (w : World) (who : Who) (lock : Lock) (owned : Bool) → IsSafe fresh w who (CreateLock lock owned) (create_lock_plan w who lock owned)
+unfolding create_lock_plan
+create_lock_safe fresh w who lock owned =
+    create_safe fresh w who (CreateLock lock owned) [] (lock_made lock who owned) refl (made_takings lock who owned) (λ none. leb-false w.limits.kernels (length w.kernels) none.1.1.1.1.0)
+
+pub create_lock_forget : (w : World) (who : Who) (lock : Lock) (owned : Bool) → create_lock_plan (forget w) who lock owned ≡ create_lock_plan w who lock owned
+unfolding create_lock_plan
+create_lock_forget w who lock owned = refl
+
+pub create_lock_ranged : (w : World) (who : Who) (lock : Lock) (owned : Bool) → IsRanged w → IsPlanInRange (create_lock_plan w who lock owned)
+unfolding create_lock_plan
+create_lock_ranged w who lock owned g = create_ranged w who [] (lock_made lock who owned) _ g (λ none. (leb-false w.limits.kernels (length w.kernels) none.1.1.1.1.0, made_state lock who owned))
+
+-- ---- what changes one
+
+change_safe : (fresh : ℕ) (w : World) (who : Who) (call : Call) (kind : KernelState → Bool) (kernel : KernelId) (own : List (Bool × Refusal)) (a : Answer) (how : KernelChange) → is_refusal a ≡ false
+    → told_by (record { who = who; call = call; answer = a }) ≡ silent → ((there : Stands kind w kernel.0) → NoneHolds own → Suits how there.row.state) → IsSafe fresh w who call (change_kernel w who kind kernel own a how)
+change_safe fresh w who call kind kernel own a how accepted tells suits =
+    safe_unless fresh w who call (kernel_refusals w who kind kernel.0 own) _
+    (λ none.
+    let there : Stands kind w kernel.0 = that_stands kind w kernel.0 (not_false (is_kernel_that kind w kernel.0) none.1.0) in
+    record { allowed = record { row = there.row; stands = there.stands; suits = suits there none.1.1.1.1.1 }; made_by = tt; accepted = accepted; tells = tells })
+
+change_ranged : (w : World) (who : Who) (kind : KernelState → Bool) (kernel : KernelId) (own : List (Bool × Refusal)) (a : Answer) (how : KernelChange) → AreBare own → IsAnswerInRange a → IsPlanInRange (change_kernel w who kind kernel own a how)
+change_ranged w who kind kernel own a how bare within = ranged_unless (kernel_refusals w who kind kernel.0 own) _ (tt, (tt, (tt, (tt, (tt, bare))))) (within, tt)
+
+-- ---- SetEvent
+
+pub set_event_safe : (fresh : ℕ) (w : World) (who : Who) (kernel : KernelId) → IsSafe fresh w who (SetEvent kernel) (set_event_plan w who kernel)
+unfolding set_event_plan
+set_event_safe fresh w who kernel = change_safe fresh w who (SetEvent kernel) is_event kernel [] (answer.Queued 0 0) Set refl refl (λ there _. there.passes)
+
+pub set_event_forget : (w : World) (who : Who) (kernel : KernelId) → set_event_plan (forget w) who kernel ≡ set_event_plan w who kernel
+unfolding set_event_plan
+set_event_forget w who kernel = refl
+
+pub set_event_ranged : (w : World) (who : Who) (kernel : KernelId) → IsPlanInRange (set_event_plan w who kernel)
+unfolding set_event_plan
+set_event_ranged w who kernel = change_ranged w who is_event kernel [] (answer.Queued 0 0) Set tt (omega arith, omega arith)
+
+-- ---- ResetEvent
+
+pub reset_event_safe : (fresh : ℕ) (w : World) (who : Who) (kernel : KernelId) → IsSafe fresh w who (ResetEvent kernel) (reset_event_plan w who kernel)
+unfolding reset_event_plan
+reset_event_safe fresh w who kernel = change_safe fresh w who (ResetEvent kernel) is_event kernel [] answer.Done Reset refl refl (λ there _. there.passes)
+
+pub reset_event_forget : (w : World) (who : Who) (kernel : KernelId) → reset_event_plan (forget w) who kernel ≡ reset_event_plan w who kernel
+unfolding reset_event_plan
+reset_event_forget w who kernel = refl
+
+pub reset_event_ranged : (w : World) (who : Who) (kernel : KernelId) → IsPlanInRange (reset_event_plan w who kernel)
+unfolding reset_event_plan
+reset_event_ranged w who kernel = change_ranged w who is_event kernel [] answer.Done Reset tt tt
+
+-- ---- ReleaseSemaphore
+
+-- the count of a semaphore is in range
+count_ranged : (w : World) (kernel : ℕ) → IsRanged w → count_at w kernel ≤ count_most
+count_ranged w kernel g = of_row (numbered w.kernels kernel) refl
+  where
+    of_state : (state : KernelState) → IsStateInRange state → count_of state ≤ count_most
+    of_state (Semaphore count most) r = omega (arith, r.0, r.1)
+    of_state (Event manual signalled) r = omega arith
+    of_state (Mutex owner takings) r = omega arith
+    of_state (Section owner takings) r = omega arith
+
+    of_row : (row : Option KernelRow) → numbered w.kernels kernel ≡ row → option_map_or (λ (k : KernelRow). count_of k.state) row 0 ≤ count_most
+    of_row None is = omega arith
+    of_row (Some row) is = of_state row.state (all_get (λ (k : KernelRow). IsStateInRange k.state) w.kernels (kernel - 1) row g.rows.kernels (numbered_some w.kernels kernel row is).0)
+
+pub release_semaphore_safe : (fresh : ℕ) (w : World) (who : Who) (kernel : KernelId) (more : ℕ) → IsSafe fresh w who (ReleaseSemaphore kernel more) (release_semaphore_plan w who kernel more)
+unfolding release_semaphore_plan
+release_semaphore_safe fresh w who kernel more =
+    change_safe fresh w who (ReleaseSemaphore kernel more) is_semaphore kernel ((is_kernel_that (passes_by more) w kernel.0, OverMaximum (count_at w kernel.0)) ∷ []) (answer.Count (count_at w kernel.0) 0 0) (Raise more) refl refl
+    (λ there none. (there.passes, sym (ap (λ r. option_map_or (λ (k : KernelRow). passes_by more k.state) r false) there.stands) ∙ none.0))
+
+pub release_semaphore_forget : (w : World) (who : Who) (kernel : KernelId) (more : ℕ) → release_semaphore_plan (forget w) who kernel more ≡ release_semaphore_plan w who kernel more
+unfolding release_semaphore_plan
+release_semaphore_forget w who kernel more = refl
+
+pub release_semaphore_ranged : (w : World) (who : Who) (kernel : KernelId) (more : ℕ) → IsRanged w → IsPlanInRange (release_semaphore_plan w who kernel more)
+unfolding release_semaphore_plan
+release_semaphore_ranged w who kernel more g =
+    change_ranged w who is_semaphore kernel ((is_kernel_that (passes_by more) w kernel.0, OverMaximum (count_at w kernel.0)) ∷ []) (answer.Count (count_at w kernel.0) 0 0) (Raise more) (count_ranged w kernel.0 g, tt)
+    (count_ranged w kernel.0 g, omega arith, omega arith)
+
+-- ---- ReleaseLock
+
+lock_suits : (lock : Lock) (state : KernelState) → is_lock lock state ≡ true → Suits Leave state
+lock_suits lock.Mutex (Mutex owner takings) e = tt
+lock_suits lock.Section (Section owner takings) e = tt
+lock_suits lock.Mutex (Section owner takings) e = absurd (false_true e)
+lock_suits lock.Section (Mutex owner takings) e = absurd (false_true e)
+lock_suits lock.Mutex (Event manual signalled) e = absurd (false_true e)
+lock_suits lock.Section (Event manual signalled) e = absurd (false_true e)
+lock_suits lock.Mutex (Semaphore count most) e = absurd (false_true e)
+lock_suits lock.Section (Semaphore count most) e = absurd (false_true e)
+
+pub release_lock_safe : (fresh : ℕ) (w : World) (who : Who) (lock : Lock) (kernel : KernelId) → IsSafe fresh w who (ReleaseLock lock kernel) (release_lock_plan w who lock kernel)
+unfolding release_lock_plan
+release_lock_safe fresh w who lock kernel =
+    change_safe fresh w who (ReleaseLock lock kernel) (is_lock lock) kernel ((not (is_kernel_that (owns who) w kernel.0), NotOwner) ∷ []) answer.Done Leave refl refl (λ there _. lock_suits lock there.row.state there.passes)
+
+pub release_lock_forget : (w : World) (who : Who) (lock : Lock) (kernel : KernelId) → release_lock_plan (forget w) who lock kernel ≡ release_lock_plan w who lock kernel
+unfolding release_lock_plan
+release_lock_forget w who lock kernel = refl
+
+pub release_lock_ranged : (w : World) (who : Who) (lock : Lock) (kernel : KernelId) → IsPlanInRange (release_lock_plan w who lock kernel)
+unfolding release_lock_plan
+release_lock_ranged w who lock kernel = change_ranged w who (is_lock lock) kernel ((not (is_kernel_that (owns who) w kernel.0), NotOwner) ∷ []) answer.Done Leave (tt, tt) tt
