@@ -4,6 +4,7 @@ pub mod Invariant
 pub mod Live
 pub mod Parts
 pub mod Performing
+pub mod Taking
 pub mod Tally
 pub mod Uses
 pub mod View

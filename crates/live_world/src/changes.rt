@@ -15,7 +15,7 @@ ghost use Rattle.live_world.specs.Performing.{MayPerform};
 
 use crate::LiveWorld;
 use crate::begun::Begins;
-use crate::kernels::slots_of;
+use crate::kernels::{end_acquire, slots_of};
 use crate::objects::{Object, is_same_kind};
 use crate::waiting::begin_covering;
 use tp_base::answers::{ActionKind, SlotWord};
@@ -442,9 +442,7 @@ impl LiveWorld {
             unreachable!()
         };
         self.barriers.finish(waiter);
-        if let (WaitEnd::Free, Some(kernel)) = (how, self.wanted[waiter as usize]) {
-            self.kernels.take(who, kernel);
-        }
+        end_acquire(&mut self.kernels, who, how, self.wanted[waiter as usize]);
         self.wanted[waiter as usize] = None;
         self.waits = self.waits.without(&who);
     }

@@ -1,9 +1,11 @@
 //! Kernel objects: events, semaphores, mutexes and critical sections, and what a call asks of one.
 
-ghost use Rattle.std.specs.Prelude.{◌≡◌, ◌+◌, length, nat_le, option_map};
+ghost use Rattle.std.specs.Prelude.{◌≡◌, ◌+◌, IfSome, length, nat_le, option_map};
 ghost use Rattle.tp_base.specs.Kernels.{is_event as is_event_by, is_semaphore as is_semaphore_by, is_lock as is_lock_by, owns as owns_by, passes_by as passes_by_of, may_take as may_take_by};
+ghost use Rattle.tp_base.specs.declared.plans.WaitEnd.TheVariants.{Free};
 ghost use Rattle.tp_model.specs.Counts.{numbered};
 ghost use Rattle.tp_model.specs.Kernels.{is_kernel, is_kernel_that, count_at};
+ghost use Rattle.live_world.specs.Taking.{IsFreeFor, rows_left};
 
 ghost use Rattle.tp_base.specs.Actions.{is_for as is_for_by, may_raise as may_raise_by, may_perform as may_perform_by, slot as slot_of};
 ghost use Rattle.tp_model.specs.Actions.{slots_of as slots_of_status, word_of, words_of};
@@ -11,12 +13,29 @@ ghost use Rattle.tp_model.specs.Calls.InCallback.{has_asked};
 
 use crate::LiveWorld;
 use crate::changes::NO_ACTIONS;
-use kernel_events::states;
+use kernel_events::{KernelTable, states};
 use tp_base::answers::{ActionKind, SlotWord};
 use tp_base::calls::Lock;
 use tp_base::ids::{KernelId, Who};
-use tp_base::plans::ActionWords;
+use tp_base::plans::{ActionWords, WaitEnd};
 use tp_base::rows::{Action, KernelState, Slots, Status};
+
+// The wait of an actor ends, which was for this kernel object if one is given: it is taken, unless the
+// wait is given up.
+pub(crate) fn end_acquire(
+    kernels: &mut KernelTable,
+    who: Who,
+    how: WaitEnd,
+    wanted: Option<KernelId>,
+)
+    requires { how ≡ Free → IfSome wanted (λ kernel. IsFreeFor who kernels.old.rows kernel.0) }
+    ensures { kernels.new ≡ record kernels.old { rows = rows_left who how wanted kernels.old.rows } }
+{
+    match (how, wanted) {
+        (WaitEnd::Free, Some(kernel)) => kernels.take(who, kernel),
+        _ => {}
+    }
+}
 
 impl LiveWorld {
     /// The state of a kernel object, if one of this number was made.
