@@ -1,20 +1,22 @@
 -- What a wait that begins covers, what it cancels, and what the parts show then.
-use Rattle.std.proofs.Common.{◌≡◌, ℕ, ◌+◌, Bool, true, false, cond, not, ◌&&◌, ◌||◌, ◌==◌, List, [], ◌∷◌, ◌++◌, length, map, Some, refl, sym, ap, ap₂, ◌∙◌, subst, arith, filter, find, eq-eqb, ne_eqb}
+use Rattle.std.proofs.Common.{◌≡◌, ℕ, ◌+◌, Bool, true, false, cond, not, ◌&&◌, ◌||◌, ◌==◌, List, [], ◌∷◌, ◌++◌, length, map, slice_set, Some, refl, sym, ap, ap₂, ◌∙◌, subst, arith, filter, find, eq-eqb, ne_eqb}
 use Rattle.std.specs.List.{AllByRecursion}
 use Rattle.std.specs.Option.{option_map_or}
+use Rattle.std.specs.Vec.{with_item}
 use Rattle.std.proofs.lemmas.List.{length-map}
 use Rattle.tp_base.specs.declared.ids.Who.{Who}
 use Rattle.tp_base.specs.declared.ids.ObjectId.{ObjectId}
+use Rattle.tp_base.specs.declared.ids.KernelId.{KernelId}
 use Rattle.tp_base.specs.declared.rows.Status.{Status}
 use Rattle.tp_base.specs.declared.rows.Status.TheVariants.{Expected, Issued, Pending, Running, Returned, Cancelled}
 use Rattle.tp_base.specs.declared.rows.CallbackRow.{CallbackRow}
-use Rattle.tp_base.specs.declared.rows.WaitTarget.TheVariants.{Object}
+use Rattle.tp_base.specs.declared.rows.WaitTarget.TheVariants.{Object, Kernel}
 use Rattle.cancel_wait.specs.Covers.{Covers, with_wait}
 use Rattle.tp_model.specs.World.{World, BegunWait}
 use Rattle.tp_model.specs.Counts.{has_number, is_pending, is_running}
 use Rattle.tp_model.specs.Changes.{new_wait, begin_wait}
 use Rattle.tp_model.specs.Support.Sound.{IsSound, IsRising}
-use Rattle.tp_model.specs.Support.Allowed.{MayBegin}
+use Rattle.tp_model.specs.Support.Allowed.{IsAllowed, MayBegin}
 use Rattle.tp_base.specs.declared.plans.Change.TheVariants as change
 use Rattle.tp_model.specs.Support.Remembered.{lives, forget}
 use Rattle.tp_model.proofs.Forgetting.{over_not_covered, over_not_cancelled}
@@ -28,13 +30,14 @@ use Rattle.live_world.specs.declared.LiveWorld.TheInside.{Inside}
 use Rattle.live_world.specs.Live.{Live, moved, became, settled}
 use Rattle.live_world.specs.Parts.{place_of, is_held_among, held_among}
 use Rattle.live_world.specs.View.{shown, IsLiveWorld}
-use Rattle.live_world.specs.Invariant.{AreCovered, waits, waits_or_runs}
+use Rattle.live_world.specs.Invariant.{AreCovered, AreWanted, waits, waits_or_runs}
 use Rattle.live_world.specs.Waiting.{numbers_of}
 use Rattle.live_world.proofs.Lists.{filter_all, all_pass, none_passes}
 use Rattle.live_world.proofs.Along.{number_of, numbers_shown}
 use Rattle.live_world.proofs.Cancelled.{none_where}
 use Rattle.live_world.proofs.Covered.{covered_begun}
-use Rattle.live_world.proofs.Moving.{Becomes, became_by}
+use Rattle.live_world.proofs.Wanted.{wanted_covering, wanted_begun}
+use Rattle.live_world.proofs.Moving.{Becomes, became_by, moved_by}
 
 and_true : (b : Bool) → (b && true) ≡ b
 and_true true = refl
@@ -194,6 +197,8 @@ begun_by i l who object cancel place barriers begun is k may settled at barriers
       listed = k.listed;
       pending = k.pending;
       timed = k.timed;
+      kernels = k.kernels;
+      wanted = subst (λ bs. AreWanted i.limits bs i.wanted.items) (sym waits_now) (wanted_covering b may_here.none refl k.wanted);
       covered = subst (λ x. AreCovered i.limits cs begun.waits x) (sym (barriers_now ∙ ap (λ ns. with_wait i.barriers place (Some ns)) numbers))
           (subst (λ bs. AreCovered i.limits cs bs (with_wait i.barriers place (Some b.covered))) (sym waits_now)
           (covered_begun place b at may_here.none held tt k.covered));
@@ -235,3 +240,41 @@ pub not_settled : (l : Live) (object : ObjectId) → forget l.world ≡ l.world 
 not_settled l object living =
     ap (λ w. record { world = w; made = l.made }) (sym living)
     ∙ ap (λ cs. became l (record l.world { callbacks = cs })) (sym (none_where l.world.callbacks (is_cancelled_by (Object object) false) (none_passes (is_cancelled_by (Object object) false) l.world.callbacks (cancels_none object l.world.callbacks))))
+
+-- ---- a wait for a kernel object
+
+covers_none : (kernel : KernelId) (cancel : Bool) (cs : List CallbackRow) → covered_of (Kernel kernel) cancel cs ≡ []
+covers_none kernel cancel [] = refl
+covers_none kernel cancel (c ∷ cs) = covers_none kernel cancel cs
+
+none_cancelled : (kernel : KernelId) (cancel : Bool) (cs : List CallbackRow) → AllByRecursion (λ c. is_cancelled_by (Kernel kernel) cancel c ≡ false) cs
+none_cancelled kernel cancel [] = tt
+none_cancelled kernel cancel (c ∷ cs) = (ap (λ b. cancel && b) (and_false (is_pending c.status)) ∙ and_false cancel, none_cancelled kernel cancel cs)
+
+pub acquires : (i : Inside) (l : Live) (who : Who) (kernel : KernelId) (cancel : Bool) (place : ℕ) (barriers : Covers) (begun : BegunWaits) → shown i ≡ l → IsLiveWorld i
+    → IsAllowed (l.made + 1) l.world (change.BeginWait who (Kernel kernel) cancel) → place_of i.limits who ≡ Some place
+    → barriers ≡ with_wait i.barriers place (Some []) → begun.waits ≡ i.waits.waits ++ new_wait who (Kernel kernel) cancel i.callbacks.rows ∷ []
+    → Becomes (record i { barriers = barriers; waits = begun; wanted = with_item i.wanted place (Some kernel) }) (moved l (change.BeginWait who (Kernel kernel) cancel))
+acquires i l who kernel cancel place barriers begun is k allowed at barriers_now waits_now =
+    moved_by i (record i { barriers = barriers; waits = begun; wanted = with_item i.wanted place (Some kernel) }) l (change.BeginWait who (Kernel kernel) cancel) is k allowed (omega arith) (λ a.
+    let cs : List CallbackRow = i.callbacks.rows in
+    let w : World = (shown i).world in
+    let b : BegunWait = new_wait who (Kernel kernel) cancel cs in
+    let kept : cancel_where (is_cancelled_by (Kernel kernel) cancel) cs ≡ cs = none_where cs (is_cancelled_by (Kernel kernel) cancel) (none_cancelled kernel cancel cs) in
+    let covers : b.covered ≡ [] = covers_none kernel cancel cs in
+    let held : held_among cs b ≡ b.covered = ap (filter (is_held_among cs (Kernel kernel))) covers ∙ sym covers in
+    record {
+      shows = ap₂ (λ ds bs. record w { callbacks = ds; waits = bs }) (sym k.alive.live) waits_now ∙ ap (λ ds. forget (begin_wait w who (Kernel kernel) cancel ds)) (sym kept);
+      sized = k.sized;
+      alive = k.alive;
+      queued = k.queued;
+      tallied = k.tallied;
+      listed = k.listed;
+      pending = k.pending;
+      timed = k.timed;
+      kernels = k.kernels;
+      covered = subst (λ x. AreCovered i.limits cs begun.waits x) (sym (barriers_now ∙ ap (λ ns. with_wait i.barriers place (Some ns)) (sym covers)))
+          (subst (λ bs. AreCovered i.limits cs bs (with_wait i.barriers place (Some b.covered))) (sym waits_now)
+          (covered_begun place b at a.none held tt k.covered));
+      wanted = subst (λ bs. AreWanted i.limits bs (slice_set i.wanted.items place (Some kernel))) (sym waits_now) (wanted_begun place b at a.none k.wanted);
+    })

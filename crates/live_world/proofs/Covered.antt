@@ -1,5 +1,5 @@
 -- What begun waits hold, as callbacks change and as waits begin and end.
-use Rattle.std.proofs.Common.{◌≡◌, ◌≢◌, ℕ, suc, zero, ◌+◌, ◌-◌, ◌<◌, ◌≤◌, Bool, true, false, cond, not, ◌&&◌, ◌||◌, ◌==◌, List, [], ◌∷◌, ◌++◌, length, map, nat_le, get_or, slice_get, Option, Some, None, is_some, is_none, refl, sym, ap, ap₂, ◌∙◌, subst, arith, filter, find, option_map, eqb-true, eq-eqb, ne_eqb, length-set, get_or-set_same, get_or-set_other}
+use Rattle.std.proofs.Common.{◌≡◌, ◌≢◌, ℕ, suc, zero, ◌+◌, ◌-◌, ◌<◌, ◌≤◌, Bool, true, false, cond, not, ◌&&◌, ◌||◌, ◌==◌, List, [], ◌∷◌, ◌++◌, length, map, nat_le, get_or, slice_get, slice_set, Option, Some, None, is_some, is_none, refl, sym, ap, ap₂, ◌∙◌, subst, arith, filter, find, option_map, eqb-true, eq-eqb, ne_eqb, length-set, get_or-set_same, get_or-set_other}
 use Rattle.std.specs.List.{AllByRecursion, list_any}
 use Rattle.std.specs.Option.{option_map_or}
 use Rattle.std.proofs.lemmas.List.{length-map}
@@ -19,7 +19,7 @@ use Rattle.tp_base.specs.Actors.{is_same_actor}
 use Rattle.tp_model.specs.Conditions.{is_actor}
 use Rattle.tp_model.specs.Changes.{replaced}
 use Rattle.tp_model.specs.Support.Sound.{IsRising, IsWaitSound}
-use Rattle.tp_model.specs.Support.Allowed.{IsObjectTarget}
+use Rattle.tp_model.specs.Support.Allowed.{IsTarget}
 use Rattle.tp_model.specs.Support.Remembered.{lives}
 use Rattle.tp_model.specs.Waits.{is_outstanding_for}
 use Rattle.tp_model.proofs.Lists.{all_append, all_filter, find_all, filter_agree}
@@ -90,17 +90,17 @@ module _ {limits : Limits} {cs : List CallbackRow} {waits : List BegunWait} {bar
 -- ---- a row in place of another
 
 -- it is outstanding where the one before was
-outstanding_same : (r c : CallbackRow) → r.object ≡ c.object → is_tied r ≡ is_tied c → (target : WaitTarget) → IsObjectTarget target → is_outstanding_for target r ≡ is_outstanding_for target c
+outstanding_same : (r c : CallbackRow) → r.object ≡ c.object → is_tied r ≡ is_tied c → (target : WaitTarget) → IsTarget target → is_outstanding_for target r ≡ is_outstanding_for target c
 outstanding_same r c object tied (Object o) h =
     ap₂ (λ (x : ObjectId) (b : Bool). (x.0 == o.0) && b) object (held_alike o r.object r.status ∙ tied ∙ held_alike c.object o c.status)
 outstanding_same r c object tied (Group group) h = absurd h
-outstanding_same r c object tied (Kernel kernel) h = absurd h
+outstanding_same r c object tied (Kernel kernel) h = refl
 
 -- or for no object
-outstanding_not : (r : CallbackRow) → is_tied r ≡ false → (target : WaitTarget) → IsObjectTarget target → is_outstanding_for target r ≡ false
+outstanding_not : (r : CallbackRow) → is_tied r ≡ false → (target : WaitTarget) → IsTarget target → is_outstanding_for target r ≡ false
 outstanding_not r out (Object o) h = ap (λ b. (r.object.0 == o.0) && b) (held_alike o r.object r.status ∙ out) ∙ and_false (r.object.0 == o.0)
 outstanding_not r out (Group group) h = absurd h
-outstanding_not r out (Kernel kernel) h = absurd h
+outstanding_not r out (Kernel kernel) h = refl
 
 held_replaced : (r c : CallbackRow) (cs : List CallbackRow) (target : WaitTarget) → find (has_number r.number) cs ≡ Some c → is_outstanding_for target r ≡ is_outstanding_for target c → (n : ℕ) → is_held_among cs target n ≡ is_held_among (replaced r cs) target n
 held_replaced r c cs target found same n =
@@ -131,13 +131,13 @@ module _ {limits : Limits} {cs : List CallbackRow} {waits : List BegunWait} {bar
   pub covered_replaced : (r c : CallbackRow) → r.object ≡ c.object → is_tied r ≡ is_tied c → find (has_number r.number) cs ≡ Some c → AreCovered limits cs waits barriers → AreCovered limits (replaced r cs) waits barriers
   covered_replaced r c object tied found k =
       covered_same (IsWaitKept limits) (replaced r cs) k.waits_kept
-      (λ b kept. filter_agree (is_held_among cs b.target) (is_held_among (replaced r cs) b.target) (held_replaced r c cs b.target found (outstanding_same r c object tied b.target kept.object)) b.covered) k
+      (λ b kept. filter_agree (is_held_among cs b.target) (is_held_among (replaced r cs) b.target) (held_replaced r c cs b.target found (outstanding_same r c object tied b.target kept.target)) b.covered) k
 
   pub covered_less : (r c : CallbackRow) → is_tied r ≡ false → find (has_number r.number) cs ≡ Some c → AreCovered limits cs waits barriers
       → AreCovered limits (replaced r cs) waits (record barriers { waits = map (option_map (all_but r.number)) barriers.waits })
   covered_less r c out found k =
       covered_but r.number (replaced r cs)
-      (λ b kept. sym (held_but (is_held_among (replaced r cs) b.target) (is_held_among cs b.target) r.number b.covered (held_left r c cs b.target found (outstanding_not r out b.target kept.object)))) k
+      (λ b kept. sym (held_but (is_held_among (replaced r cs) b.target) (is_held_among cs b.target) r.number b.covered (held_left r c cs b.target found (outstanding_not r out b.target kept.target)))) k
 
   -- what is over is held by no wait
   pub covered_lives : (fresh : ℕ) → IsRising 1 fresh cs → AreCovered limits cs waits barriers → AreCovered limits (filter lives cs) waits barriers
@@ -236,6 +236,59 @@ no_stranger limits waits who nowhere all = each waits all
           | false ↦ λ _. each bs h.1
         ] refl
 
+-- the wait that an actor has begun, after one more
+pub begun_found : (b : BegunWait) (bs : List BegunWait) → list_any (λ (x : BegunWait). is_same_actor x.actor b.actor) bs ≡ false → wait_among (bs ++ b ∷ []) b.actor ≡ Some b
+begun_found b [] h = ap (λ t. cond t (Some b) None) (is_own_actor b.actor)
+begun_found b (x ∷ bs) h =
+    let parts = neither (is_same_actor x.actor b.actor) (list_any (λ (y : BegunWait). is_same_actor y.actor b.actor) bs) h in
+    ap (λ t. cond t (Some x) (wait_among (bs ++ b ∷ []) b.actor)) parts.0 ∙ begun_found b bs parts.1
+
+pub begun_elsewhere : (b : BegunWait) (other : Who) → is_same_actor b.actor other ≡ false → (bs : List BegunWait) → wait_among (bs ++ b ∷ []) other ≡ wait_among bs other
+begun_elsewhere b other e [] = ap (λ t. cond t (Some b) None) e
+begun_elsewhere b other e (x ∷ bs) = ap (λ t. cond (is_same_actor x.actor other) (Some x) t) (begun_elsewhere b other e bs)
+
+-- and after its end
+pub ended_gone : (who : Who) (bs : List BegunWait) → wait_among (filter (λ (b : BegunWait). not (is_same_actor b.actor who)) bs) who ≡ None
+ended_gone who [] = refl
+ended_gone who (x ∷ bs) =
+    elim (is_same_actor x.actor who) as (λ t. is_same_actor x.actor who ≡ t → wait_among (cond (not t) (x ∷ filter (λ (b : BegunWait). not (is_same_actor b.actor who)) bs) (filter (λ (b : BegunWait). not (is_same_actor b.actor who)) bs)) who ≡ None) [
+      | true ↦ λ _. ended_gone who bs
+      | false ↦ λ e. ap (λ t. cond t (Some x) (wait_among (filter (λ (b : BegunWait). not (is_same_actor b.actor who)) bs) who)) e ∙ ended_gone who bs
+    ] refl
+
+pub ended_elsewhere : (who other : Who) → is_same_actor who other ≡ false → (bs : List BegunWait) → wait_among (filter (λ (b : BegunWait). not (is_same_actor b.actor who)) bs) other ≡ wait_among bs other
+ended_elsewhere who other e [] = refl
+ended_elsewhere who other e (x ∷ bs) =
+    elim (is_same_actor x.actor who) as (λ t. is_same_actor x.actor who ≡ t → wait_among (cond (not t) (x ∷ filter (λ (b : BegunWait). not (is_same_actor b.actor who)) bs) (filter (λ (b : BegunWait). not (is_same_actor b.actor who)) bs)) other ≡ wait_among (x ∷ bs) other) [
+      | true ↦ λ same.
+          let apart : is_same_actor x.actor other ≡ false = ap (λ a. is_same_actor a other) (same_actor_is x.actor who same) ∙ e in
+          ended_elsewhere who other e bs ∙ sym (ap (λ t. cond t (Some x) (wait_among bs other)) apart)
+      | false ↦ λ _. ap (λ t. cond (is_same_actor x.actor other) (Some x) t) (ended_elsewhere who other e bs)
+    ] refl
+
+-- what is noted of the wait of each actor, by the actor's place
+abbrev pub IsNoted : {X : Type 0} → Limits → (Option BegunWait → Option X) → List (Option X) → List BegunWait → Type 0
+IsNoted limits f xs waits = (who : Who) (place : ℕ) → place_of limits who ≡ Some place → get_or xs place None ≡ f (wait_among waits who)
+
+-- another wait of one actor
+pub noted_set : {X : Type 0} (limits : Limits) (f : Option BegunWait → Option X) (xs : List (Option X)) (waits later : List BegunWait) (who : Who) (place : ℕ) (x : Option X)
+    → place_of limits who ≡ Some place → place < length xs → x ≡ f (wait_among later who) → ((other : Who) → is_same_actor who other ≡ false → wait_among later other ≡ wait_among waits other)
+    → IsNoted limits f xs waits → IsNoted limits f (slice_set xs place x) later
+noted_set limits f xs waits later who place x at within here others noted other p there =
+    elim (is_same_actor who other) as (λ b. is_same_actor who other ≡ b → get_or (slice_set xs place x) p None ≡ f (wait_among later other)) [
+      | true ↦ λ e.
+          let same : who ≡ other = same_actor_is who other e in
+          let same_place : place ≡ p = some_same place p (sym at ∙ ap (place_of limits) same ∙ there) in
+          subst (λ n. get_or (slice_set xs place x) n None ≡ f (wait_among later other)) same_place
+          (get_or-set_same xs place x None within ∙ here ∙ ap (λ a. f (wait_among later a)) same)
+      | false ↦ λ e.
+          let apart : p ≢ place = λ same. false_true (sym e ∙ ap (is_same_actor who) (one_place limits other who place (subst (λ n. place_of limits other ≡ Some n) same there) at) ∙ is_own_actor who) in
+          get_or-set_other xs place p x None apart ∙ noted other p there ∙ ap f (sym (others other e))
+    ] refl
+  where
+    some_same : (m n : ℕ) → Some m ≡ Some n → m ≡ n
+    some_same m n e = cc
+
 module _ {limits : Limits} {cs : List CallbackRow} {waits : List BegunWait} {barriers : Covers} where
   -- the barrier of an actor is begun where the actor has begun a wait
   pub begun_there : (who : Who) (place : ℕ) → place_of limits who ≡ Some place → AreCovered limits cs waits barriers → is_some (wait_of barriers place) ≡ list_any (λ (b : BegunWait). is_same_actor b.actor who) waits
@@ -253,70 +306,25 @@ module _ {limits : Limits} {cs : List CallbackRow} {waits : List BegunWait} {bar
       record {
         waiters = length-set barriers.waits place wait ∙ k.waiters;
         barrier_slots = k.barrier_slots;
-        covered = λ other p there. one other p there;
+        covered = noted_set limits (option_map (held_among cs)) barriers.waits waits later who place wait at (omega (arith, place_there limits who place at, k.waiters)) here others k.covered;
         waits_kept = all;
       }
-    where
-      one : (other : Who) (p : ℕ) → place_of limits other ≡ Some p → wait_of (with_wait barriers place wait) p ≡ option_map (held_among cs) (wait_among later other)
-      one other p there =
-          elim (is_same_actor who other) as (λ b. is_same_actor who other ≡ b → wait_of (with_wait barriers place wait) p ≡ option_map (held_among cs) (wait_among later other)) [
-            | true ↦ λ e.
-                let same : who ≡ other = same_actor_is who other e in
-                let same_place : place ≡ p = some_same place p (sym at ∙ ap (place_of limits) same ∙ there) in
-                subst (λ n. wait_of (with_wait barriers place wait) n ≡ option_map (held_among cs) (wait_among later other)) same_place
-                (get_or-set_same barriers.waits place wait None (omega (arith, place_there limits who place at, k.waiters)) ∙ here ∙ ap (λ a. option_map (held_among cs) (wait_among later a)) same)
-            | false ↦ λ e.
-                let apart : p ≢ place = λ same. false_true (sym e ∙ ap (is_same_actor who) (one_place limits other who place (subst (λ n. place_of limits other ≡ Some n) same there) at) ∙ is_own_actor who) in
-                get_or-set_other barriers.waits place p wait None apart ∙ k.covered other p there ∙ ap (option_map (held_among cs)) (sym (others other e))
-          ] refl
-        where
-          some_same : (m n : ℕ) → Some m ≡ Some n → m ≡ n
-          some_same m n e = cc
 
-  pub covered_begun : (place : ℕ) (b : BegunWait) → place_of limits b.actor ≡ Some place → list_any (λ (x : BegunWait). is_same_actor x.actor b.actor) waits ≡ false → held_among cs b ≡ b.covered → IsObjectTarget b.target
+  pub covered_begun : (place : ℕ) (b : BegunWait) → place_of limits b.actor ≡ Some place → list_any (λ (x : BegunWait). is_same_actor x.actor b.actor) waits ≡ false → held_among cs b ≡ b.covered → IsTarget b.target
       → AreCovered limits cs waits barriers → AreCovered limits cs (waits ++ b ∷ []) (with_wait barriers place (Some b.covered))
-  covered_begun place b at none all_held object k =
+  covered_begun place b at none all_held target k =
       covered_set b.actor place (waits ++ b ∷ []) (Some b.covered) at
-      (sym (ap (option_map (held_among cs)) (found waits none) ∙ ap (λ ns. Some ns) all_held))
-      (λ other e. elsewhere other e waits)
-      (all_append (IsWaitKept limits) waits b k.waits_kept (record { actor = ap is_some at; object = object })) k
-    where
-      found : (bs : List BegunWait) → list_any (λ (x : BegunWait). is_same_actor x.actor b.actor) bs ≡ false → wait_among (bs ++ b ∷ []) b.actor ≡ Some b
-      found [] h = ap (λ t. cond t (Some b) None) (is_own_actor b.actor)
-      found (x ∷ bs) h =
-          let parts = neither (is_same_actor x.actor b.actor) (list_any (λ (y : BegunWait). is_same_actor y.actor b.actor) bs) h in
-          ap (λ t. cond t (Some x) (wait_among (bs ++ b ∷ []) b.actor)) parts.0 ∙ found bs parts.1
-
-      elsewhere : (other : Who) → is_same_actor b.actor other ≡ false → (bs : List BegunWait) → wait_among (bs ++ b ∷ []) other ≡ wait_among bs other
-      elsewhere other e [] = ap (λ t. cond t (Some b) None) e
-      elsewhere other e (x ∷ bs) = ap (λ t. cond (is_same_actor x.actor other) (Some x) t) (elsewhere other e bs)
+      (sym (ap (option_map (held_among cs)) (begun_found b waits none) ∙ ap (λ ns. Some ns) all_held))
+      (λ other e. begun_elsewhere b other e waits)
+      (all_append (IsWaitKept limits) waits b k.waits_kept (record { actor = ap is_some at; target = target })) k
 
   pub covered_ended : (place : ℕ) (who : Who) → place_of limits who ≡ Some place → AreCovered limits cs waits barriers
       → AreCovered limits cs (filter (λ (b : BegunWait). not (is_same_actor b.actor who)) waits) (with_wait barriers place None)
   covered_ended place who at k =
       covered_set who place (filter (λ (b : BegunWait). not (is_same_actor b.actor who)) waits) None at
-      (sym (ap (option_map (held_among cs)) (gone waits)))
-      (λ other e. elsewhere other e waits)
+      (sym (ap (option_map (held_among cs)) (ended_gone who waits)))
+      (λ other e. ended_elsewhere who other e waits)
       (all_filter (IsWaitKept limits) (λ (b : BegunWait). not (is_same_actor b.actor who)) waits k.waits_kept) k
-    where
-      gone : (bs : List BegunWait) → wait_among (filter (λ (b : BegunWait). not (is_same_actor b.actor who)) bs) who ≡ None
-      gone [] = refl
-      gone (x ∷ bs) =
-          elim (is_same_actor x.actor who) as (λ t. is_same_actor x.actor who ≡ t → wait_among (cond (not t) (x ∷ filter (λ (b : BegunWait). not (is_same_actor b.actor who)) bs) (filter (λ (b : BegunWait). not (is_same_actor b.actor who)) bs)) who ≡ None) [
-            | true ↦ λ _. gone bs
-            | false ↦ λ e. ap (λ t. cond t (Some x) (wait_among (filter (λ (b : BegunWait). not (is_same_actor b.actor who)) bs) who)) e ∙ gone bs
-          ] refl
-
-      elsewhere : (other : Who) → is_same_actor who other ≡ false → (bs : List BegunWait) → wait_among (filter (λ (b : BegunWait). not (is_same_actor b.actor who)) bs) other ≡ wait_among bs other
-      elsewhere other e [] = refl
-      elsewhere other e (x ∷ bs) =
-          elim (is_same_actor x.actor who) as (λ t. is_same_actor x.actor who ≡ t → wait_among (cond (not t) (x ∷ filter (λ (b : BegunWait). not (is_same_actor b.actor who)) bs) (filter (λ (b : BegunWait). not (is_same_actor b.actor who)) bs)) other ≡ wait_among (x ∷ bs) other) [
-            | true ↦ λ same.
-                let apart : is_same_actor x.actor other ≡ false = ap (λ a. is_same_actor a other) (same_actor_is x.actor who same) ∙ e in
-                elsewhere other e bs ∙ sym (ap (λ t. cond t (Some x) (wait_among bs other)) apart)
-            | false ↦ λ _. ap (λ t. cond (is_same_actor x.actor other) (Some x) t) (elsewhere other e bs)
-          ] refl
-
 -- the barrier of an actor that has begun no wait
 pub idle_there : {limits : Limits} {cs : List CallbackRow} {waits : List BegunWait} {barriers : Covers} (who : Who) (place : ℕ) → place_of limits who ≡ Some place → list_any (λ (b : BegunWait). is_same_actor b.actor who) waits ≡ false
     → AreCovered limits cs waits barriers → wait_of barriers place ≡ None

@@ -1,20 +1,29 @@
 -- What the parts show after a wait begins and after one ends.
-use Rattle.std.proofs.Common.{◌≡◌, ℕ, ◌+◌, true, false, not, Some, None, is_some, sym, ap₂, ◌∙◌, subst, arith, filter}
+use Rattle.std.proofs.Common.{◌≡◌, ℕ, ◌+◌, true, false, not, get_or, slice_set, Option, Some, None, is_some, sym, ap, ap₂, ◌∙◌, subst, arith, filter}
 use Rattle.std.specs.List.{list_any}
 use Rattle.tp_base.specs.declared.ids.Who.{Who}
+use Rattle.tp_base.specs.declared.ids.KernelId.{KernelId}
 use Rattle.tp_base.specs.declared.plans.WaitEnd.{WaitEnd}
 use Rattle.tp_base.specs.declared.plans.Change.TheVariants as change
+use Rattle.std.specs.Vec.{with_item}
 use Rattle.cancel_wait.specs.Covers.{Covers, wait_of, with_wait}
+use Rattle.kernel_events.specs.Kernels.{Kernels}
+use Rattle.tp_model.specs.Changes.{without_wait, kernels_left}
+use Rattle.tp_model.specs.Support.Remembered.{forget}
 use Rattle.tp_model.specs.World.{BegunWait}
 use Rattle.tp_base.specs.Actors.{is_same_actor}
 use Rattle.tp_model.specs.Support.Allowed.{IsAllowed, MayEnd}
 use Rattle.live_world.specs.declared.begun.BegunWaits.{BegunWaits}
 use Rattle.live_world.specs.declared.LiveWorld.TheInside.{Inside}
 use Rattle.live_world.specs.Live.{Live, moved}
-use Rattle.live_world.specs.Parts.{place_of}
+use Rattle.live_world.specs.Parts.{place_of, wait_among, wanted_by}
+use Rattle.live_world.specs.Taking.{rows_left}
 use Rattle.live_world.specs.View.{shown, IsLiveWorld}
-use Rattle.live_world.specs.Invariant.{AreCovered}
+use Rattle.live_world.specs.Invariant.{AreCovered, AreKernels, AreWanted}
 use Rattle.live_world.proofs.Covered.{covered_ended, no_stranger, begun_there, waiting_somewhere}
+use Rattle.live_world.proofs.Wanted.{wanted_ended}
+use Rattle.live_world.proofs.Takings.{left_length, left_here}
+use Rattle.live_world.proofs.Progress.{noted_here}
 use Rattle.live_world.proofs.Moving.{Becomes, moved_by}
 
 -- an actor that has begun a wait has a place, and its barrier is begun
@@ -31,13 +40,15 @@ has_begun i l who how is k allowed =
       begun = λ place at. begun_there who place at k.covered ∙ waiting;
     }
 
-pub ended : (i : Inside) (l : Live) (who : Who) (how : WaitEnd) (place : ℕ) (barriers : Covers) (waits : BegunWaits) → shown i ≡ l → IsLiveWorld i → IsAllowed (l.made + 1) l.world (change.EndWait who how)
+ended : (i : Inside) (l : Live) (who : Who) (how : WaitEnd) (place : ℕ) (barriers : Covers) (waits : BegunWaits) (kernels : Kernels) → shown i ≡ l → IsLiveWorld i → IsAllowed (l.made + 1) l.world (change.EndWait who how)
     → place_of i.limits who ≡ Some place → barriers ≡ with_wait i.barriers place None → waits.waits ≡ filter (λ (b : BegunWait). not (is_same_actor b.actor who)) i.waits.waits
-    → Becomes (record i { barriers = barriers; waits = waits }) (moved l (change.EndWait who how))
-ended i l who how place barriers waits is k allowed at barriers_now waits_now =
-    moved_by i (record i { barriers = barriers; waits = waits }) l (change.EndWait who how) is k allowed (omega arith) (λ a.
+    → kernels ≡ record i.kernels { rows = kernels_left (shown i).world who how (wait_among i.waits.waits who) }
+    → Becomes (record i { barriers = barriers; waits = waits; wanted = with_item i.wanted place None; kernels = kernels }) (moved l (change.EndWait who how))
+ended i l who how place barriers waits kernels is k allowed at barriers_now waits_now kernels_now =
+    moved_by i (record i { barriers = barriers; waits = waits; wanted = with_item i.wanted place None; kernels = kernels }) l (change.EndWait who how) is k allowed (omega arith) (λ a.
     record {
-      shows = ap₂ (λ cs bs. record (shown i).world { callbacks = cs; waits = bs }) (sym k.alive.live) waits_now;
+      shows = ap₂ (λ cs bs. record (shown i).world { callbacks = cs; waits = bs; kernels = kernels.rows }) (sym k.alive.live) waits_now
+          ∙ ap (λ (t : Kernels). record (forget (without_wait (shown i).world who)) { kernels = t.rows }) kernels_now;
       sized = k.sized;
       alive = k.alive;
       queued = k.queued;
@@ -45,6 +56,23 @@ ended i l who how place barriers waits is k allowed at barriers_now waits_now =
       listed = k.listed;
       pending = k.pending;
       timed = k.timed;
+      kernels = subst (λ (t : Kernels). AreKernels i.limits t) (sym kernels_now)
+          (record {
+            kernel_limit = k.kernels.kernel_limit;
+            kernels_within = omega (arith, left_length (shown i).world who how (wait_among i.waits.waits who), k.kernels.kernels_within);
+            unarmed = k.kernels.unarmed;
+          });
+      wanted = subst (λ bs. AreWanted i.limits bs (slice_set i.wanted.items place None)) (sym waits_now) (wanted_ended place who at k.wanted);
       covered = subst (λ b. AreCovered i.limits i.callbacks.rows waits.waits b) (sym barriers_now)
           (subst (λ bs. AreCovered i.limits i.callbacks.rows bs (with_wait i.barriers place None)) (sym waits_now) (covered_ended place who at k.covered));
     })
+
+-- as the table tells it, of what is noted at the actor's place
+pub ended_here : (i : Inside) (l : Live) (who : Who) (how : WaitEnd) (place : ℕ) (barriers : Covers) (waits : BegunWaits) (kernels : Kernels) (read : Option KernelId) → shown i ≡ l → IsLiveWorld i → IsAllowed (l.made + 1) l.world (change.EndWait who how)
+    → place_of i.limits who ≡ Some place → barriers ≡ with_wait i.barriers place None → waits.waits ≡ filter (λ (b : BegunWait). not (is_same_actor b.actor who)) i.waits.waits
+    → read ≡ get_or i.wanted.items place read → kernels ≡ record i.kernels { rows = rows_left who how read i.kernels.rows }
+    → Becomes (record i { barriers = barriers; waits = waits; wanted = with_item i.wanted place None; kernels = kernels }) (moved l (change.EndWait who how))
+ended_here i l who how place barriers waits kernels read is k allowed at barriers_now waits_now says kernels_now =
+    let wanted : read ≡ wanted_by (wait_among i.waits.waits who) = noted_here i who place read k at says in
+    ended i l who how place barriers waits kernels is k allowed at barriers_now waits_now
+    (kernels_now ∙ ap (λ o. record i.kernels { rows = rows_left who how o i.kernels.rows }) wanted ∙ ap (λ rows. record i.kernels { rows = rows }) (left_here (shown i).world who how))

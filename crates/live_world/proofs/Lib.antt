@@ -21,3 +21,5 @@ pub mod Starving
 pub mod Progress
 pub mod Firings
 pub mod Timed
+pub mod Wanted
+pub mod Takings

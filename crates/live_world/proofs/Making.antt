@@ -53,7 +53,7 @@ created i l row objects timers is k allowed now timers_now =
     subst (λ (t : Table Object). After (record i { objects = t; timers = timers }) (changed (shown i).world (change.CreateObject row))) (sym now)
     (subst (λ (t : Timers). After (record i { objects = with_row i.objects object; timers = t }) (changed (shown i).world (change.CreateObject row))) (sym timers_now)
     (record {
-      shows = ap (λ (ss : List TimerSetting). record (world_of i.limits i.pools (with_row i.objects object) i.callbacks.rows i.clients.items i.waits.waits ss i.clock) { settings = ss }) (same_settings i.timers (length i.objects.rows + 1) (is_same_kind row.kind Timer))
+      shows = ap (λ (ss : List TimerSetting). record (world_of i.limits i.pools (with_row i.objects object) i.callbacks.rows i.kernels.rows i.clients.items i.waits.waits ss i.clock) { settings = ss }) (same_settings i.timers (length i.objects.rows + 1) (is_same_kind row.kind Timer))
           ∙ ap₂ (λ cs os. record (shown i).world { callbacks = cs; objects = os }) (sym k.alive.live) (map-append shown_object i.objects.rows _ ∙ ap (λ (o : ObjectRow). map shown_object i.objects.rows ++ o ∷ []) marked);
       sized = sized_objects i (with_row i.objects object) refl (omega (arith, longer, fewer)) k;
       alive = k.alive;
@@ -63,6 +63,8 @@ created i l row objects timers is k allowed now timers_now =
       pending = k.pending;
       covered = k.covered;
       timed = timed_created i object fewer k;
+      kernels = k.kernels;
+      wanted = k.wanted;
     })))
 
 -- the row here behind a row of the world
@@ -110,4 +112,6 @@ released i l object live objects timers is k allowed was now timers_now =
       pending = k.pending;
       covered = k.covered;
       timed = timed_released i object marked (numbered_some (shown i).world.objects object.0 a.row a.stands).1 refl k;
+      kernels = k.kernels;
+      wanted = k.wanted;
     }))))

@@ -11,6 +11,7 @@ use Rattle.tp_base.specs.declared.plans.Change.{Change}
 use Rattle.tp_base.specs.declared.plans.Change.TheVariants as change
 use Rattle.tp_base.specs.declared.rows.CallbackRow.{CallbackRow}
 use Rattle.tp_base.specs.declared.rows.TimerSetting.{TimerSetting}
+use Rattle.tp_base.specs.declared.rows.KernelRow.{KernelRow}
 use Rattle.tp_base.specs.declared.rows.WorkerRow.{WorkerRow}
 use Rattle.tp_base.specs.declared.rows.ClientRow.{ClientRow}
 use Rattle.callback_rows.specs.LiveCallbacks.{LiveCallbacks}
@@ -40,7 +41,7 @@ use Rattle.live_world.specs.declared.LiveWorld.TheInside.{Inside}
 use Rattle.live_world.specs.Live.{Live, moved, became}
 use Rattle.live_world.specs.Parts.{world_of, shown_worker, is_tied, tied_entry}
 use Rattle.live_world.specs.View.{shown, IsLiveWorld}
-use Rattle.live_world.specs.Invariant.{AreSized, AreLive, AreQueued, AreTallied, AreListed, AreCovered, AreTimed, IsHome, IsMarked, AreMarked, waits}
+use Rattle.live_world.specs.Invariant.{AreSized, AreLive, AreQueued, AreTallied, AreListed, AreCovered, AreTimed, AreKernels, AreWanted, IsHome, IsMarked, AreMarked, waits}
 use Rattle.live_world.proofs.Lists.{set_twice, set_there}
 use Rattle.live_world.proofs.Alive.{alive_more, alive_replaced, alive_less, removed_rows}
 use Rattle.live_world.proofs.Listed.{pending_tied, over_untied, over_unpending, listed_more, listed_same, listed_less, listed_lives}
@@ -61,6 +62,8 @@ pub record After (i : Inside) (v : World) : Type 0 where
   pub pending : AreListed i.limits waits i.callbacks.rows i.pending
   pub covered : AreCovered i.limits i.callbacks.rows i.waits.waits i.barriers
   pub timed : AreTimed i.limits i.objects i.timers
+  pub kernels : AreKernels i.limits i.kernels
+  pub wanted : AreWanted i.limits i.waits.waits i.wanted.items
 
 -- they keep their invariant, and show this
 pub record Becomes (i : Inside) (l : Live) : Type 0 where
@@ -79,6 +82,8 @@ became_by j v s a =
         pending = a.pending;
         covered = a.covered;
         timed = a.timed;
+        kernels = a.kernels;
+        wanted = a.wanted;
         sound = subst (λ w. IsSound (j.made + 1) w) (sym a.shows) (forget_sound (j.made + 1) v s);
       };
       becomes = ap (λ (w : World). record { world = w; made = j.made }) a.shows;
@@ -98,11 +103,11 @@ moved_by i j l ch is k allowed counts after =
     }
 
 -- callbacks and workers alone change
-shows_along : (limits : Limits) (pools : Pools) (objects : Table Object) (rows : List CallbackRow) (clients : List ClientRow) (waits : List BegunWait) (settings : List TimerSetting) (clock : ℕ) (workers : List kept.WorkerRow) (now after : List CallbackRow) (workers_after : List WorkerRow)
+shows_along : (limits : Limits) (pools : Pools) (objects : Table Object) (rows : List CallbackRow) (kernels : List KernelRow) (clients : List ClientRow) (waits : List BegunWait) (settings : List TimerSetting) (clock : ℕ) (workers : List kept.WorkerRow) (now after : List CallbackRow) (workers_after : List WorkerRow)
     → now ≡ filter lives after → map shown_worker workers ≡ workers_after
-    → world_of limits (record pools { workers = workers }) objects now clients waits settings clock ≡ forget (record (world_of limits pools objects rows clients waits settings clock) { callbacks = after; workers = workers_after })
-shows_along limits pools objects rows clients waits settings clock workers now after workers_after ec ew =
-    ap₂ (λ cs ws. record (world_of limits pools objects rows clients waits settings clock) { callbacks = cs; workers = ws }) ec ew
+    → world_of limits (record pools { workers = workers }) objects now kernels clients waits settings clock ≡ forget (record (world_of limits pools objects rows kernels clients waits settings clock) { callbacks = after; workers = workers_after })
+shows_along limits pools objects rows kernels clients waits settings clock workers now after workers_after ec ew =
+    ap₂ (λ cs ws. record (world_of limits pools objects rows kernels clients waits settings clock) { callbacks = cs; workers = ws }) ec ew
 
 set_shown : (workers : List kept.WorkerRow) (number : ℕ) (new : kept.WorkerRow) (target : WorkerRow) → shown_worker new ≡ target → map shown_worker (slice_set workers (number - 1) new) ≡ slice_set (map shown_worker workers) (number - 1) target
 set_shown workers number new target shows = map-set shown_worker workers (number - 1) new ∙ ap (λ t. slice_set (map shown_worker workers) (number - 1) t) shows
@@ -132,7 +137,7 @@ free_after : (i : Inside) (number : ℕ) (row new : kept.WorkerRow) (target : Wo
     → After (record i { pools = record i.pools { workers = slice_set i.pools.workers (number - 1) new } }) (record (shown i).world { workers = slice_set (shown i).world.workers (number - 1) target })
 free_after i number row new target k is idle none home shows =
     record {
-      shows = shows_along i.limits i.pools i.objects i.callbacks.rows i.clients.items i.waits.waits i.timers.settings i.clock (slice_set i.pools.workers (number - 1) new) i.callbacks.rows i.callbacks.rows (slice_set (shown i).world.workers (number - 1) target)
+      shows = shows_along i.limits i.pools i.objects i.callbacks.rows i.kernels.rows i.clients.items i.waits.waits i.timers.settings i.clock (slice_set i.pools.workers (number - 1) new) i.callbacks.rows i.callbacks.rows (slice_set (shown i).world.workers (number - 1) target)
           (sym k.alive.live) (set_shown i.pools.workers number new target shows);
       sized = sized_worker i.pools (number - 1) new home k.sized;
       alive = k.alive;
@@ -140,6 +145,8 @@ free_after i number row new target k is idle none home shows =
       listed = k.listed;
       pending = k.pending;
       timed = k.timed;
+      kernels = k.kernels;
+      wanted = k.wanted;
       covered = k.covered;
       tallied = tallied_free i.callbacks.rows i.pools.workers (number - 1) row new is idle none k.tallied;
     }
@@ -210,13 +217,15 @@ taken_by i l by c pools callbacks queues pending is k allowed pools_now rows_now
     (queues_now ∙ ap (λ (p : PoolId). with_queue i.queues p.0 (without_number c.number (queue_of i.queues p.0))) (sym a.home))
     refl pending_now refl
     (record {
-      shows = shows_along i.limits i.pools i.objects i.callbacks.rows i.clients.items i.waits.waits i.timers.settings i.clock (slice_set i.pools.workers (by.worker - 1) new) (replaced r i.callbacks.rows) (replaced r i.callbacks.rows) (slice_set (shown i).world.workers (by.worker - 1) target)
+      shows = shows_along i.limits i.pools i.objects i.callbacks.rows i.kernels.rows i.clients.items i.waits.waits i.timers.settings i.clock (slice_set i.pools.workers (by.worker - 1) new) (replaced r i.callbacks.rows) (replaced r i.callbacks.rows) (slice_set (shown i).world.workers (by.worker - 1) target)
           (sym alive_now.live) (set_shown i.pools.workers by.worker new target shows);
       sized = sized_worker i.pools (by.worker - 1) new (same_home i.pools (by.worker - 1) b.row new b.at_place refl k.sized) k.sized;
       alive = alive_now;
       listed = listed_same (i.made + 1) r c refl refl (sym (pending_tied c.object c.status a.pending)) k.sound.numbers a.found k.listed;
       pending = listed_less r refl k.pending;
       timed = k.timed;
+      kernels = k.kernels;
+      wanted = k.wanted;
       covered = covered_replaced r c refl (sym (pending_tied c.object c.status a.pending)) a.found k.covered;
       queued = queued_less (i.made + 1) r c (omega (arith, home, k.sized.pools_within)) a.pending refl refl k.sound.numbers a.found k.queued;
       tallied = tallied_both (i.made + 1) r c i.callbacks.rows i.pools.workers (by.worker - 1) b.row new k.sound.numbers a.found b.at_place
@@ -283,13 +292,15 @@ marked_long i l by pools callbacks is k allowed pools_now rows_now =
     (pools_now ∙ worker_changed i.pools by.worker on.row (λ w. record w { long = true }) on.at_place on.from_one)
     rows_now refl refl refl refl
     (record {
-      shows = shows_along i.limits i.pools i.objects i.callbacks.rows i.clients.items i.waits.waits i.timers.settings i.clock (slice_set i.pools.workers (by.worker - 1) new) (replaced r i.callbacks.rows) (replaced r i.callbacks.rows) (shown i).world.workers
+      shows = shows_along i.limits i.pools i.objects i.callbacks.rows i.kernels.rows i.clients.items i.waits.waits i.timers.settings i.clock (slice_set i.pools.workers (by.worker - 1) new) (replaced r i.callbacks.rows) (replaced r i.callbacks.rows) (shown i).world.workers
           (sym alive_now.live) (shows_same i.pools.workers (by.worker - 1) on.row new on.at_place refl);
       sized = sized_worker i.pools (by.worker - 1) new (same_home i.pools (by.worker - 1) on.row new on.at_place refl k.sized) k.sized;
       alive = alive_now;
       listed = listed_same (i.made + 1) r c refl refl refl k.sound.numbers a.found k.listed;
       pending = listed_same (i.made + 1) r c refl refl refl k.sound.numbers a.found k.pending;
       timed = k.timed;
+      kernels = k.kernels;
+      wanted = k.wanted;
       covered = covered_replaced r c refl refl a.found k.covered;
       queued = queued_same (i.made + 1) r c on.waits_not on.waits_not k.sound.numbers a.found k.queued;
       tallied = tallied_both (i.made + 1) r c i.callbacks.rows i.pools.workers (by.worker - 1) on.row new k.sound.numbers a.found on.at_place
@@ -325,13 +336,15 @@ returned_by i l by pools callbacks outstanding barriers is k allowed pools_now r
     (pools_now ∙ worker_changed i.pools by.worker on.row (λ w. record w { callback = 0; long = false }) on.at_place on.from_one)
     rows_now refl listed_now refl left_now
     (record {
-      shows = shows_along i.limits i.pools i.objects i.callbacks.rows i.clients.items i.waits.waits i.timers.settings i.clock (slice_set i.pools.workers (by.worker - 1) new) others (replaced r i.callbacks.rows) (slice_set (shown i).world.workers (by.worker - 1) target)
+      shows = shows_along i.limits i.pools i.objects i.callbacks.rows i.kernels.rows i.clients.items i.waits.waits i.timers.settings i.clock (slice_set i.pools.workers (by.worker - 1) new) others (replaced r i.callbacks.rows) (slice_set (shown i).world.workers (by.worker - 1) target)
           removed (set_shown i.pools.workers by.worker new target shows);
       sized = sized_worker i.pools (by.worker - 1) new (same_home i.pools (by.worker - 1) on.row new on.at_place refl k.sized) k.sized;
       alive = alive_less i.callbacks r refl k.alive;
       listed = subst (λ cs. AreListed i.limits is_tied cs (unlisted i.outstanding c.number)) (sym removed) (listed_lives over_untied (listed_less r refl k.listed));
       pending = subst (λ cs. AreListed i.limits waits cs i.pending) (sym removed) (listed_lives over_unpending (listed_same (i.made + 1) r c refl refl (sym on.waits_not) k.sound.numbers a.found k.pending));
       timed = k.timed;
+      kernels = k.kernels;
+      wanted = k.wanted;
       covered = subst (λ cs. AreCovered i.limits cs i.waits.waits (left i.barriers c.number)) (sym removed)
           (covered_lives (i.made + 1) (rising_replaced r 1 (i.made + 1) i.callbacks.rows k.sound.numbers) (covered_less r c refl a.found k.covered));
       queued = subst (λ cs. AreQueued i.limits cs i.queues) (sym removed) (queued_lives (queued_same (i.made + 1) r c on.waits_not refl k.sound.numbers a.found k.queued));
@@ -364,6 +377,8 @@ queued_by i l c callbacks queues outstanding pending is k allowed rows_now queue
       listed = listed_more c (pending_tied c.object c.status a.pending) k.listed;
       pending = listed_more c a.pending k.pending;
       timed = k.timed;
+      kernels = k.kernels;
+      wanted = k.wanted;
       covered = covered_more (i.made + 1) c a.number k.sound.waits k.covered;
       alive = alive_now;
       queued = queued_more c (omega (arith, a.home, k.sized.pools_within)) a.pending (subst (λ n. IsRising 1 n i.callbacks.rows) (sym a.number) k.sound.numbers) k.queued;
@@ -397,6 +412,8 @@ loosened_by i l by callbacks outstanding barriers is k allowed rows_now listed_n
       listed = listed_less r untied k.listed;
       pending = listed_same (i.made + 1) r c refl refl (ap is_pending runs ∙ sym on.waits_not) k.sound.numbers a.found k.pending;
       timed = k.timed;
+      kernels = k.kernels;
+      wanted = k.wanted;
       covered = covered_less r c untied a.found k.covered;
     }))
 
@@ -433,6 +450,8 @@ cancelled_by i l c callbacks queues outstanding pending barriers is k found pend
       listed = subst (λ cs. AreListed i.limits is_tied cs (unlisted i.outstanding c.number)) (sym removed) (listed_lives over_untied (listed_less r refl k.listed));
       pending = subst (λ cs. AreListed i.limits waits cs (unlisted i.pending c.number)) (sym removed) (listed_lives over_unpending (listed_less r refl k.pending));
       timed = k.timed;
+      kernels = k.kernels;
+      wanted = k.wanted;
       covered = subst (λ cs. AreCovered i.limits cs i.waits.waits (left i.barriers c.number)) (sym removed)
           (covered_lives (i.made + 1) (rising_replaced r 1 (i.made + 1) i.callbacks.rows k.sound.numbers) (covered_less r c refl found_here k.covered));
     })) in

@@ -6,6 +6,7 @@ use Rattle.tp_base.specs.Ranges.{AreLimitsInRange}
 use Rattle.callback_rows.specs.LiveCallbacks.{LiveCallbacks}
 use Rattle.handle_table.specs.Table.{Table, Marked}
 use Rattle.timer_objects.specs.Settings.{Timers}
+use Rattle.kernel_events.specs.Kernels.{Kernels}
 use Rattle.tp_base.specs.declared.calls.Kind.TheVariants.{Timer}
 use Rattle.std.specs.Option.{option_map_or}
 use Rattle.prio_queue.specs.Pending.{Pending, Entry}
@@ -18,7 +19,7 @@ use Rattle.tp_model.specs.Support.Remembered.{forget}
 use Rattle.tp_model.proofs.Preserving.{opening_sound}
 use Rattle.live_world.specs.declared.objects.Object.{Object}
 use Rattle.live_world.specs.Parts.{world_of, shown_worker, is_tied}
-use Rattle.live_world.specs.Invariant.{AreSized, AreLive, AreQueued, AreTallied, AreListed, AreCovered, AreTimed, IsHome, IsMarked, waits}
+use Rattle.live_world.specs.Invariant.{AreSized, AreLive, AreQueued, AreTallied, AreListed, AreCovered, AreTimed, AreKernels, AreWanted, IsHome, IsMarked, waits}
 use Rattle.live_world.specs.View.{shown}
 use Rattle.live_world.specs.declared.LiveWorld.TheInside.{Inside}
 use Rattle.live_world.proofs.Moving.{Becomes}
@@ -59,6 +60,9 @@ opened_barriers limits = record { slots = limits.slots; waits = replicate (limit
 abbrev pub opened_timers : Limits → Timers
 opened_timers limits = record { limit = limits.objects; there = replicate (limits.objects + 1) false; settings = [] }
 
+abbrev pub opened_kernels : Limits → Kernels
+opened_kernels limits = record { limit = limits.kernels; objects = limits.objects; rows = []; armed = [] }
+
 pub record IsOpened (i : Inside) : Type 0 where
   pub in_range : AreLimitsInRange i.limits
   pub pools : i.pools ≡ opened_pools i.limits
@@ -72,6 +76,8 @@ pub record IsOpened (i : Inside) : Type 0 where
   pub clock : i.clock ≡ 0
   pub clients : i.clients.items ≡ replicate i.limits.clients unfinished
   pub waits : i.waits.waits ≡ []
+  pub wanted : i.wanted.items ≡ replicate (i.limits.clients + i.limits.workers) None
+  pub kernels : i.kernels ≡ opened_kernels i.limits
   pub made : i.made ≡ 0
 
 both : {A B : Type 0} (P : A → B → Type 0) {a a' : A} {b b' : B} → a ≡ a' → b ≡ b' → P a' b' → P a b
@@ -129,6 +135,13 @@ covered_opened limits =
       waits_kept = tt;
     }
 
+wanted_opened : (limits : Limits) → AreWanted limits [] (replicate (limits.clients + limits.workers) None)
+wanted_opened limits =
+    record {
+      wanting = length_replicate None (limits.clients + limits.workers);
+      wants = λ who place at. get_replicate None (limits.clients + limits.workers) place;
+    }
+
 -- they keep their invariant, and show the opening world
 pub opened : (i : Inside) → IsOpened i → Becomes i (record { world = forget (opening i.limits); made = 0 })
 opened i o =
@@ -136,10 +149,11 @@ opened i o =
     let shown_workers : map shown_worker (replicate limits.workers unattached_row) ≡ replicate limits.workers unattached = map_replicate shown_worker unattached_row limits.workers in
     let rows : i.callbacks.rows ≡ [] = ap (λ (c : LiveCallbacks). c.rows) o.callbacks in
     let world_now : (shown i).world ≡ opening limits =
-    ap₂ (λ (p : Pools) (t : Table Object). world_of limits p t i.callbacks.rows i.clients.items i.waits.waits i.timers.settings i.clock) o.pools o.objects
-    ∙ ap₂ (λ (cs : List CallbackRow) (cl : List ClientRow). world_of limits (opened_pools limits) (opened_objects limits) cs cl i.waits.waits i.timers.settings i.clock) rows o.clients
-    ∙ ap₂ (λ (bs : List BegunWait) (ws : List WorkerRow). record (opening limits) { waits = bs; workers = ws; settings = i.timers.settings; now = i.clock }) o.waits shown_workers
-    ∙ ap₂ (λ (t : Timers) (n : ℕ). record (opening limits) { settings = t.settings; now = n }) o.timers o.clock in
+    ap₂ (λ (p : Pools) (t : Table Object). world_of limits p t i.callbacks.rows i.kernels.rows i.clients.items i.waits.waits i.timers.settings i.clock) o.pools o.objects
+    ∙ ap₂ (λ (cs : List CallbackRow) (cl : List ClientRow). world_of limits (opened_pools limits) (opened_objects limits) cs i.kernels.rows cl i.waits.waits i.timers.settings i.clock) rows o.clients
+    ∙ ap₂ (λ (bs : List BegunWait) (ws : List WorkerRow). record (opening limits) { kernels = i.kernels.rows; waits = bs; workers = ws; settings = i.timers.settings; now = i.clock }) o.waits shown_workers
+    ∙ ap₂ (λ (t : Timers) (n : ℕ). record (opening limits) { kernels = i.kernels.rows; settings = t.settings; now = n }) o.timers o.clock
+    ∙ ap (λ (t : Kernels). record (opening limits) { kernels = t.rows }) o.kernels in
     record {
       keeps = record {
         sized = both (λ p t. AreSized limits p t i.clients.items) o.pools o.objects (subst (λ cl. AreSized limits (opened_pools limits) (opened_objects limits) cl) (sym o.clients) (sized_opened limits o.in_range));
@@ -150,6 +164,8 @@ opened i o =
         pending = both (λ cs k. AreListed limits waits cs k) rows o.pending (listed_opened limits waits);
         timed = subst (λ n. AreTimed limits i.objects n) (sym o.timers) (subst (λ t. AreTimed limits t (opened_timers limits)) (sym o.objects) (timed_opened limits));
         covered = both (λ cs b. AreCovered limits cs i.waits.waits b) rows o.barriers (subst (λ bs. AreCovered limits [] bs (opened_barriers limits)) (sym o.waits) (covered_opened limits));
+        kernels = subst (λ (t : Kernels). AreKernels limits t) (sym o.kernels) (record { kernel_limit = refl; kernels_within = omega arith; unarmed = refl });
+        wanted = both (λ bs ks. AreWanted limits bs ks) o.waits o.wanted (wanted_opened limits);
         sound = both (λ w n. IsSound (n + 1) w) world_now o.made (opening_sound limits);
       };
       becomes = ap₂ (λ (w : World) (n : ℕ). record { world = w; made = n }) world_now o.made;

@@ -20,7 +20,7 @@ use Rattle.tp_base.specs.Actors.{is_same_actor}
 use Rattle.tp_model.specs.Calls.Waits.{is_starved, holds_starved}
 use Rattle.tp_model.specs.Laws.Entries.{is_among}
 use Rattle.tp_model.specs.Laws.Once.{is_left}
-use Rattle.tp_model.specs.Support.Allowed.{IsObjectTarget}
+use Rattle.tp_model.specs.Support.Allowed.{IsTarget}
 use Rattle.tp_model.specs.Support.Sound.{IsSound, IsRising, IsNamed, IsCallbackSound, IsWaitSound, is_left_of, is_left_among}
 use Rattle.tp_model.proofs.Lists.{find_all, find_kept}
 use Rattle.tp_model.proofs.Callbacks.{found_bounds, rising_filter}
@@ -200,11 +200,11 @@ first_held w who fresh first sound is = of_wait (wait_of w who) refl is
         }
 
 -- its row is of the object that the wait is for
-pub starved_by_first : (w : World) (who : Who) (fresh room first : ℕ) (row : CallbackRow) (pending : Option CallbackRow) → IsSound fresh w → IsFirstHeld w who fresh first → ((b : BegunWait) → wait_of w who ≡ Some b → IsObjectTarget b.target) → callback_of w first ≡ Some row → pending ≡ slice_get (pending_of w row.object) 0
+pub starved_by_first : (w : World) (who : Who) (fresh room first : ℕ) (row : CallbackRow) (pending : Option CallbackRow) → IsSound fresh w → IsFirstHeld w who fresh first → ((b : BegunWait) → wait_of w who ≡ Some b → IsTarget b.target) → callback_of w first ≡ Some row → pending ≡ slice_get (pending_of w row.object) 0
     → option_map_or (λ c. is_starved w room c && is_among c.number (held_by w who)) pending false ≡ holds_starved w room (held_by w who)
 starved_by_first w who fresh room first row pending sound h objects found is = of_target h.wait.target refl (objects h.wait h.begun)
   where
-    of_target : (t : WaitTarget) → h.wait.target ≡ t → IsObjectTarget t → option_map_or (λ c. is_starved w room c && is_among c.number (held_by w who)) pending false ≡ holds_starved w room (held_by w who)
+    of_target : (t : WaitTarget) → h.wait.target ≡ t → IsTarget t → option_map_or (λ c. is_starved w room c && is_among c.number (held_by w who)) pending false ≡ holds_starved w room (held_by w who)
     of_target (Object object) target kind =
         let passes : is_outstanding_for (Object object) row ≡ true = sym (ap (λ t. is_held w t first) target ∙ ap (λ o. option_map_or (is_outstanding_for (Object object)) o false) found) ∙ h.held_first in
         let same : row.object ≡ object = ap (λ n. record { 0 = n }) (eqb-true row.object.0 object.0 (both (row.object.0 == object.0) (is_held_for (Object object) row.status) passes).0) in
@@ -213,7 +213,7 @@ starved_by_first w who fresh room first row pending sound h objects found is = o
         ∙ first_tells w fresh room sound h.wait h.kept object target pending (is ∙ ap (λ o. slice_get (pending_of w o) 0) same)
         ∙ sym (ap (holds_starved w room) holds)
     of_target (Group group) target kind = absurd kind
-    of_target (Kernel kernel) target kind = absurd kind
+    of_target (Kernel kernel) target kind = absurd (false_true (sym (ap (λ t. is_held w t first) target ∙ ap (λ o. option_map_or (is_outstanding_for (Kernel kernel)) o false) found) ∙ h.held_first))
 
 -- ---- in terms of the parts
 
@@ -230,4 +230,4 @@ module _ (i : Inside) (l : Live) (who : Who) (first : ℕ) (is : shown i ≡ l) 
   starved_where room row pending found =
       subst (λ (x : Live). pending ≡ slice_get (pending_of x.world row.object) 0 → option_map_or (λ c. is_starved x.world room c && is_among c.number (held_by x.world who)) pending false ≡ holds_starved x.world room (held_by x.world who)) is
       (starved_by_first (shown i).world who (i.made + 1) room first row pending k.sound there
-      (λ b begun. (find_all (IsWaitKept i.limits) (λ (x : BegunWait). is_same_actor x.actor who) b i.waits.waits k.covered.waits_kept begun).object) found)
+      (λ b begun. (find_all (IsWaitKept i.limits) (λ (x : BegunWait). is_same_actor x.actor who) b i.waits.waits k.covered.waits_kept begun).target) found)

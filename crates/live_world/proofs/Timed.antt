@@ -178,6 +178,8 @@ set_anew i l timers settings is k now made =
       pending = k.pending;
       covered = k.covered;
       timed = record { timer_limit = k.timed.timer_limit; places = k.timed.places; there = k.timed.there };
+      kernels = k.kernels;
+      wanted = k.wanted;
     })) in
     record { keeps = b.keeps; becomes = b.becomes ∙ ap (λ (x : Live). with_settings x settings) is }
 
@@ -195,6 +197,8 @@ clock_set i l now is k within =
       pending = k.pending;
       covered = k.covered;
       timed = k.timed;
+      kernels = k.kernels;
+      wanted = k.wanted;
     }) in
     record { keeps = b.keeps; becomes = b.becomes ∙ ap (λ (x : Live). at_time x now) is }
 

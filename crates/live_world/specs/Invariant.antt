@@ -1,9 +1,10 @@
 -- What the parts of a live world keep between calls: each index and each counter says of the rows what it is for. Each
 -- record speaks of the parts that it ties and of no others.
-use Rattle.std.specs.Prelude.{◌≡◌, ◌≢◌, ℕ, ◌+◌, ◌<◌, ◌≤◌, Bool, true, ◌||◌, List, length, map, Some, IfSome, is_some, option_map}
+use Rattle.std.specs.Prelude.{◌≡◌, ◌≢◌, ℕ, ◌+◌, ◌<◌, ◌≤◌, Bool, true, ◌||◌, List, [], length, map, get_or, Option, None, Some, IfSome, is_some, option_map}
 use Rattle.std.specs.List.{filter, find, AllByRecursion}
 use Rattle.tp_base.specs.declared.ids.Who.{Who}
 use Rattle.tp_base.specs.declared.ids.PoolId.{PoolId}
+use Rattle.tp_base.specs.declared.ids.KernelId.{KernelId}
 use Rattle.tp_base.specs.declared.limits.Limits.{Limits}
 use Rattle.tp_base.specs.declared.rows.ClientRow.{ClientRow}
 use Rattle.tp_base.specs.declared.rows.CallbackRow.{CallbackRow}
@@ -17,11 +18,12 @@ use Rattle.pool_rows.specs.Pools.{Pools}
 use Rattle.pool_rows.specs.Workers.{runs_in, runs_long_in}
 use Rattle.pool_rows.specs.declared.WorkerRow.{WorkerRow}
 use Rattle.timer_objects.specs.Settings.{Timers, is_there}
+use Rattle.kernel_events.specs.Kernels.{Kernels}
 use Rattle.tp_model.specs.Counts.{has_number, is_pending, is_running, is_running_in, is_running_long_in}
 use Rattle.tp_model.specs.World.{BegunWait}
-use Rattle.tp_model.specs.Support.Allowed.{IsObjectTarget}
+use Rattle.tp_model.specs.Support.Allowed.{IsTarget}
 use Rattle.tp_model.specs.Support.Remembered.{lives}
-use Rattle.live_world.specs.Parts.{entry_of, queue_among, tied_entry, held_among, wait_among, place_of, is_timer}
+use Rattle.live_world.specs.Parts.{entry_of, queue_among, tied_entry, held_among, wait_among, wanted_by, place_of, is_timer}
 use Rattle.live_world.specs.declared.objects.Object.{Object}
 
 abbrev pub waits : CallbackRow → Bool
@@ -78,10 +80,10 @@ pub record AreListed (limits : Limits) (test : CallbackRow → Bool) (callbacks 
   pub listed_slots : lists.slots ≡ limits.slots
   pub listed : lists.entries ≡ map tied_entry (filter test callbacks)
 
--- an actor of the machine waits for an object's callbacks
+-- an actor of the machine waits for an object's callbacks, or for a kernel object
 pub record IsWaitKept (limits : Limits) (b : BegunWait) : Type 0 where
   pub actor : is_some (place_of limits b.actor) ≡ true
-  pub object : IsObjectTarget b.target
+  pub target : IsTarget b.target
 
 -- the barriers hold of each begun wait exactly what it still holds
 pub record AreCovered (limits : Limits) (callbacks : List CallbackRow) (waits : List BegunWait) (barriers : Covers) : Type 0 where
@@ -95,3 +97,14 @@ pub record AreTimed (limits : Limits) (objects : Table Object) (timers : Timers)
   pub timer_limit : timers.limit ≡ limits.objects
   pub places : length timers.there ≡ timers.limit + 1
   pub there : (number : ℕ) → is_there timers number ≡ is_timer objects number
+
+-- there are as many kernel objects as the limits say, or fewer, and no call arms a wait object on one yet
+pub record AreKernels (limits : Limits) (kernels : Kernels) : Type 0 where
+  pub kernel_limit : kernels.limit ≡ limits.kernels
+  pub kernels_within : length kernels.rows ≤ limits.kernels
+  pub unarmed : kernels.armed ≡ []
+
+-- it is noted of each actor for which kernel object it waits, if it waits for one
+pub record AreWanted (limits : Limits) (waits : List BegunWait) (wanted : List (Option KernelId)) : Type 0 where
+  pub wanting : length wanted ≡ limits.clients + limits.workers
+  pub wants : (who : Who) (place : ℕ) → place_of limits who ≡ Some place → get_or wanted place None ≡ wanted_by (wait_among waits who)

@@ -3,6 +3,7 @@ pub mod Bounds
 pub mod Invariant
 pub mod Live
 pub mod Parts
+pub mod Taking
 pub mod Tally
 pub mod Uses
 pub mod View

@@ -4,8 +4,9 @@ use Rattle.std.specs.List.{filter, find}
 use Rattle.std.specs.Option.{option_map_or}
 use Rattle.tp_base.specs.declared.ids.Who.{Who}
 use Rattle.tp_base.specs.declared.ids.Who.TheVariants.{Client, Worker}
+use Rattle.tp_base.specs.declared.ids.KernelId.{KernelId}
 use Rattle.tp_base.specs.declared.rows.WaitTarget.{WaitTarget}
-use Rattle.tp_base.specs.declared.rows.WaitTarget.TheVariants.{Object}
+use Rattle.tp_base.specs.declared.rows.WaitTarget.TheVariants.{Object, Group, Kernel}
 use Rattle.keyed_lists.specs.Keyed as keyed
 use Rattle.tp_base.specs.declared.limits.Limits.{Limits}
 use Rattle.tp_base.specs.declared.calls.Priority.{Priority}
@@ -15,6 +16,7 @@ use Rattle.tp_base.specs.declared.rows.WorkerRow.{WorkerRow}
 use Rattle.tp_base.specs.declared.rows.ClientRow.{ClientRow}
 use Rattle.tp_base.specs.declared.rows.CallbackRow.{CallbackRow}
 use Rattle.tp_base.specs.declared.rows.TimerSetting.{TimerSetting}
+use Rattle.tp_base.specs.declared.rows.KernelRow.{KernelRow}
 use Rattle.tp_base.specs.declared.calls.Kind.TheVariants.{Timer}
 use Rattle.handle_table.specs.Table.{Table, Marked, numbered as numbered_row}
 use Rattle.prio_queue.specs.Pending.{Entry, entry}
@@ -44,14 +46,14 @@ abbrev pub entry_of : CallbackRow → Entry
 entry_of c = entry (priority_byte c.priority) c.number
 
 -- what there are no calls for yet is empty
-abbrev pub world_of : Limits → Pools → Table made.Object → List CallbackRow → List ClientRow → List BegunWait → List TimerSetting → ℕ → World
-world_of limits pools objects callbacks clients waits settings now = record {
+abbrev pub world_of : Limits → Pools → Table made.Object → List CallbackRow → List KernelRow → List ClientRow → List BegunWait → List TimerSetting → ℕ → World
+world_of limits pools objects callbacks kernels clients waits settings now = record {
   limits = limits;
   pools = pools.pools;
   groups = [];
   objects = map shown_object objects.rows;
   callbacks = callbacks;
-  kernels = [];
+  kernels = kernels;
   settings = settings;
   armings = [];
   workers = map shown_worker pools.workers;
@@ -94,6 +96,16 @@ held_among callbacks b = filter (is_held_among callbacks b.target) b.covered
 -- the wait that an actor has begun
 abbrev pub wait_among : List BegunWait → Who → Option BegunWait
 wait_among waits who = find (λ (b : BegunWait). is_same_actor b.actor who) waits
+
+-- the kernel object that a wait is for, if it is for one
+abbrev pub kernel_in : WaitTarget → Option KernelId
+kernel_in (Object object) = None
+kernel_in (Group group) = None
+kernel_in (Kernel kernel) = Some kernel
+
+abbrev pub wanted_by : Option BegunWait → Option KernelId
+wanted_by None = None
+wanted_by (Some b) = kernel_in b.target
 
 abbrev pub place_within : ℕ → ℕ → ℕ → Option ℕ
 place_within first count number = if nat_le 1 number && nat_le number count then Some (first + (number - 1)) else None

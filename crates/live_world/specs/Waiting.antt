@@ -5,14 +5,15 @@ use Rattle.std.specs.Option.{option_map_or}
 use Rattle.tp_base.specs.declared.ids.Who.{Who}
 use Rattle.tp_base.specs.declared.ids.ObjectId.{ObjectId}
 use Rattle.tp_base.specs.declared.rows.CallbackRow.{CallbackRow}
-use Rattle.tp_base.specs.declared.rows.WaitTarget.TheVariants.{Object}
+use Rattle.tp_base.specs.declared.rows.WaitTarget.{WaitTarget}
+use Rattle.tp_base.specs.declared.rows.WaitTarget.TheVariants.{Object, Group, Kernel}
 use Rattle.keyed_lists.specs.Keyed.{Entry}
 use Rattle.tp_model.specs.World.{World, BegunWait}
 use Rattle.tp_model.specs.Counts.{is_pending}
 use Rattle.tp_model.specs.Waits.{is_outstanding_for, wait_of, held}
 use Rattle.tp_model.specs.Calls.Waits.{holds_starved}
 use Rattle.live_world.specs.declared.waits.Progress.{Progress}
-use Rattle.live_world.specs.declared.waits.Progress.TheVariants.{NotBegun, Free, Starved, Holds}
+use Rattle.live_world.specs.declared.waits.Progress.TheVariants.{NotBegun, Free, Starved, Holds, Acquires}
 
 -- by rising number
 abbrev pub outstanding_of : World → ObjectId → List CallbackRow
@@ -37,9 +38,14 @@ abbrev pub progress_with : World → ℕ → List ℕ → Progress
 progress_with w room [] = Free
 progress_with w room (number ∷ numbers) = if holds_starved w room (number ∷ numbers) then Starved else Holds number
 
+abbrev pub progress_for : World → ℕ → BegunWait → WaitTarget → Progress
+progress_for w room b (Object object) = progress_with w room (held w b)
+progress_for w room b (Group group) = progress_with w room (held w b)
+progress_for w room b (Kernel kernel) = Acquires kernel
+
 abbrev pub progress_in : World → ℕ → Option BegunWait → Progress
 progress_in w room None = NotBegun
-progress_in w room (Some b) = progress_with w room (held w b)
+progress_in w room (Some b) = progress_for w room b b.target
 
 abbrev pub progress_of : World → ℕ → Who → Progress
 progress_of w room who = progress_in w room (wait_of w who)

@@ -6,17 +6,19 @@ ghost use Rattle.tp_model.specs.Counts.{callback_of, is_pending as is_pending_by
 ghost use Rattle.tp_model.specs.Changes.{with_callback, loosened as loosened_by, begin_wait};
 ghost use Rattle.tp_model.specs.Waits.{cancelled, is_cancelled_by};
 ghost use Rattle.tp_model.specs.Support.Allowed.{IsAllowed, MayBegin};
+ghost use Rattle.tp_model.specs.Support.Ranged.{AreTakenAtMost};
 ghost use Rattle.live_world.specs.Parts.{priority_byte as priority_byte_of};
 ghost use Rattle.live_world.specs.Live.{moved, became, without_pending, settled};
 
 use crate::LiveWorld;
 use crate::begun::Begins;
+use crate::kernels::end_acquire;
 use crate::objects::{Object, is_same_kind};
 use crate::waiting::begin_covering;
 use tp_base::calls::{Kind, Priority};
-use tp_base::ids::{ObjectId, PoolId, Who};
-use tp_base::plans::{Busy, Change, Idle, Mark, PoolChange, WaitEnd};
-use tp_base::rows::{CallbackRow, ClientRow, ObjectRow, Slots, Status, WaitTarget};
+use tp_base::ids::{KernelId, ObjectId, PoolId, Who};
+use tp_base::plans::{Busy, Change, Idle, KernelChange, Mark, PoolChange, WaitEnd};
+use tp_base::rows::{CallbackRow, ClientRow, KernelState, ObjectRow, Slots, Status, WaitTarget};
 
 const NO_ACTIONS: Slots = Slots {
     section: None,
@@ -55,6 +57,7 @@ impl LiveWorld {
     pub fn apply(&mut self, change: &Change)
         requires allowed { IsAllowed (self.old.made + 1) self.old.world change.now }
         requires young { self.old.made + 65536 ≤ 2 ^ 63 }
+        requires taken { AreTakenAtMost (2 ^ 47) self.old.world }
         ensures { self.new ≡ moved self.old change.now }
     {
         match *change {
@@ -65,6 +68,8 @@ impl LiveWorld {
             Change::ReleaseObject { object } => self.release_object(object),
             Change::QueueCallback(callback) => self.queue_callback(callback),
             Change::Fire { trigger, .. } => self.fire(trigger),
+            Change::CreateKernel(state) => self.create_kernel(state),
+            Change::ChangeKernel { kernel, how } => self.change_kernel(kernel, how),
             Change::Attach { worker, pool } => self.attach(worker, pool),
             Change::Detach(by) => self.detach(by),
             Change::Take { by, callback } => self.take(by, callback),
@@ -146,6 +151,22 @@ impl LiveWorld {
         self.outstanding.add(callback.object.0, callback.number);
         self.pending.add(callback.object.0, callback.number);
         self.made += 1;
+    }
+
+    // Makes a kernel object.
+    fn create_kernel(&mut self, state: KernelState)
+        requires { IsAllowed (self.old.made + 1) self.old.world (Change.CreateKernel state) }
+        ensures { self.new ≡ moved self.old (Change.CreateKernel state) }
+    {
+        self.kernels.create(state);
+    }
+
+    // Sets or resets an event, raises the count of a semaphore, or gives back one taking of a lock.
+    fn change_kernel(&mut self, kernel: KernelId, how: KernelChange)
+        requires { IsAllowed (self.old.made + 1) self.old.world (Change.ChangeKernel kernel how) }
+        ensures { self.new ≡ moved self.old (Change.ChangeKernel kernel how) }
+    {
+        self.kernels.change(kernel, how);
     }
 
     // Attaches a worker to a pool.
@@ -287,27 +308,51 @@ impl LiveWorld {
         self.waits = self.waits.and(&begins, &self.callbacks);
     }
 
+    // Begins a wait for a kernel object, which covers nothing.
+    fn begin_acquire(&mut self, who: Who, kernel: KernelId, cancel: bool)
+        requires { IsAllowed (self.old.made + 1) self.old.world (Change.BeginWait who (WaitTarget.Kernel kernel) cancel) }
+        ensures { self.new ≡ moved self.old (Change.BeginWait who (WaitTarget.Kernel kernel) cancel) }
+    {
+        let Some(waiter) = self.waiter(who) else {
+            unreachable!()
+        };
+        self.barriers.begin(waiter);
+        self.wanted[waiter as usize] = Some(kernel);
+        let begins = Begins {
+            who,
+            target: WaitTarget::Kernel(kernel),
+            cancel,
+        };
+        self.waits = self.waits.and(&begins, &self.callbacks);
+    }
+
     // Begins a wait of an actor. With cancel, what is pending is cancelled first.
     fn begin_wait(&mut self, who: Who, target: WaitTarget, cancel: bool)
         requires { IsAllowed (self.old.made + 1) self.old.world (Change.BeginWait who target cancel) }
         ensures { self.new ≡ moved self.old (Change.BeginWait who target cancel) }
     {
-        let WaitTarget::Object(object) = target else {
-            unreachable!()
-        };
-        self.settle(object, cancel);
-        self.cover_outstanding(who, object, cancel);
+        match target {
+            WaitTarget::Object(object) => {
+                self.settle(object, cancel);
+                self.cover_outstanding(who, object, cancel);
+            }
+            WaitTarget::Group(_) => unreachable!(),
+            WaitTarget::Kernel(kernel) => self.begin_acquire(who, kernel, cancel),
+        }
     }
 
-    // Ends the wait that an actor has begun.
+    // Ends the wait that an actor has begun, which takes the kernel object that it is for.
     fn end_wait(&mut self, who: Who, how: WaitEnd)
-        requires { IsAllowed (self.old.made + 1) self.old.world (Change.EndWait who how) }
+        requires allowed { IsAllowed (self.old.made + 1) self.old.world (Change.EndWait who how) }
+        requires taken { AreTakenAtMost (2 ^ 47) self.old.world }
         ensures { self.new ≡ moved self.old (Change.EndWait who how) }
     {
         let Some(waiter) = self.waiter(who) else {
             unreachable!()
         };
         self.barriers.finish(waiter);
+        end_acquire(&mut self.kernels, who, how, self.wanted[waiter as usize]);
+        self.wanted[waiter as usize] = None;
         self.waits = self.waits.without(&who);
     }
 

@@ -3,7 +3,8 @@
 //!
 //! `open` takes all memory. The queries (`actor`, `idle`, `busy`, `object`, `next`, ..) answer the
 //! conditions and counts of the model, each by its name there, and ask nothing of the caller;
-//! `wait_counts` and `progress` say what a wait would cover and how far one has come.
+//! `wait_counts` and `progress` say what a wait would cover and how far one has come, and `kernel`
+//! and its like what an event, semaphore or lock is at.
 //! `apply` makes a change that the world allows, and is the only call that changes anything. The
 //! indexes and counters (queues, tallies, the lists of objects, what waits hold) change in `changes`
 //! alone.
@@ -21,6 +22,7 @@ use begun::BegunWaits;
 use callback_rows::CallbackRows;
 use cancel_wait::Barriers;
 use handle_table::Rows;
+use kernel_events::KernelTable;
 use keyed_lists::KeyedLists;
 use objects::Object;
 use pool_rows::PoolRows;
@@ -28,6 +30,7 @@ use prio_queue::Queues;
 use std::alloc::{AllocError, Global};
 use std::marker::Model;
 use timer_objects::TimerObjects;
+use tp_base::ids::KernelId;
 use tp_base::limits::Limits;
 use tp_base::rows::ClientRow;
 
@@ -36,6 +39,7 @@ mod begun;
 pub mod callbacks;
 mod changes;
 mod firing;
+mod kernels;
 mod objects;
 pub mod outstanding;
 mod pools;
@@ -58,9 +62,12 @@ pub struct LiveWorld {
     // What each begun wait still holds.
     barriers: Barriers,
     waits: BegunWaits,
+    // Of each actor, where its barrier stands, the kernel object that its wait is for.
+    wanted: Vec<Option<KernelId>>,
     clients: Vec<ClientRow>,
     // The timers, and those that are set.
     timers: TimerObjects,
+    kernels: KernelTable,
     clock: u64,
     made: u64,
 }
@@ -93,8 +100,10 @@ impl LiveWorld {
         let outstanding = KeyedLists::open(alloc, limits.objects + 1, limits.slots)?;
         let pending = KeyedLists::open(alloc, limits.objects + 1, limits.slots)?;
         let barriers = Barriers::open(alloc, limits.clients + limits.workers, limits.slots)?;
+        let wanted = waits::open_wanted(alloc, limits.clients + limits.workers)?;
         let clients = actors::open_clients(alloc, limits.clients)?;
         let timers = TimerObjects::open(alloc, limits.objects)?;
+        let kernels = KernelTable::open(alloc, limits.kernels, limits.objects)?;
         Ok(LiveWorld {
             limits,
             pools,
@@ -105,8 +114,10 @@ impl LiveWorld {
             pending,
             barriers,
             waits: BegunWaits::none(),
+            wanted,
             clients,
             timers,
+            kernels,
             clock: 0,
             made: 0,
         })

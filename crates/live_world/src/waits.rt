@@ -1,6 +1,6 @@
-//! The waits that actors have begun: what each still holds.
+//! The waits that actors have begun: what each still holds, or which kernel object it is for.
 
-ghost use Rattle.std.specs.Prelude.{◌≡◌, ◌+◌, ◌^◌, ◌<◌, Some, is_none, slice_get};
+ghost use Rattle.std.specs.Prelude.{◌≡◌, ◌+◌, ◌^◌, ◌<◌, IfOk, None, Some, is_none, replicate, slice_get};
 ghost use Rattle.tp_model.specs.Counts.{is_pending as is_pending_by};
 ghost use Rattle.tp_model.specs.Conditions.{is_in_wait};
 ghost use Rattle.tp_model.specs.Waits.{wait_of};
@@ -8,7 +8,8 @@ ghost use Rattle.tp_model.specs.Calls.Waits.{is_starved, holds_starved};
 ghost use Rattle.live_world.specs.Parts.{place_of, place_within as place_within_of};
 
 use crate::LiveWorld;
-use tp_base::ids::Who;
+use std::alloc::{AllocError, Global};
+use tp_base::ids::{KernelId, Who};
 use tp_base::rows::{CallbackRow, Status};
 
 /// How far a wait has come.
@@ -22,6 +23,18 @@ pub enum Progress {
     Starved,
     /// It holds callbacks, the first of which has this number.
     Holds { callback: u64 },
+    /// It is for this kernel object, and ends when the actor takes that.
+    Acquires { kernel: KernelId },
+}
+
+// Of so many actors none waits for a kernel object.
+pub(crate) fn open_wanted(
+    alloc: Global,
+    actors: u32,
+) -> Result<Vec<Option<KernelId>>, AllocError>
+    ensures { IfOk result (λ wanted. wanted.items ≡ replicate actors None) }
+{
+    vec![in alloc; None; actors as usize]
 }
 
 // Where a number stands among so many behind the first ones.
@@ -109,6 +122,9 @@ impl LiveWorld {
         };
         if !self.barriers.is_begun(waiter) {
             return Progress::NotBegun;
+        }
+        if let Some(kernel) = self.wanted[waiter as usize] {
+            return Progress::Acquires { kernel };
         }
         match self.barriers.least(waiter) {
             None => Progress::Free,

@@ -12,8 +12,8 @@ pub cover_outstanding-requires-clause-allowed : goal.cover_outstanding-requires-
 cover_outstanding-requires-clause-allowed c =
     may_settled c.args.self.now c.settle.new.self c.args.who c.in-Object.object c.args.cancel c.settle.ensures (subst (MayBegin c.args.self.now.world c.args.who) c.in-Object.is c.requires)
 
-pub returns : goal.returns
-returns c =
+pub returns-in-Object : goal.returns-in-Object
+returns-in-Object c =
     c.cover_outstanding.ensures
     ∙ begins c.args.self.now c.settle.new.self c.args.who c.in-Object.object c.args.cancel c.settle.ensures
     ∙ ap (λ t. moved c.args.self.now (change.BeginWait c.args.who t c.args.cancel)) (sym c.in-Object.is)

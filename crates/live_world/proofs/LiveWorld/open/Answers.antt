@@ -17,8 +17,10 @@ parts c = record {
   pending = c.in_ok-pending.pending;
   barriers = c.in_ok-barriers.barriers;
   waits = c.none.result;
+  wanted = c.in_ok-wanted.wanted;
   clients = c.in_ok-clients.clients;
   timers = c.in_ok-timers.timers;
+  kernels = c.in_ok-kernels.kernels;
   clock = 0;
   made = 0;
 }
@@ -39,6 +41,8 @@ opened_here c =
       timers = c.in_ok-timers.ensures;
       clock = refl;
       waits = c.none.ensures;
+      wanted = c.in_ok-wanted.ensures;
+      kernels = c.in_ok-kernels.ensures;
       made = refl;
     })
 
