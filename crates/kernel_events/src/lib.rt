@@ -1,0 +1,126 @@
+//! The events, semaphores, mutexes and critical sections of a machine, seen as a list of rows by
+//! number, and the wait objects that are armed on them, seen as one list in the order of arming.
+//!
+//! `open` takes the memory for all of them, and no other call takes any. `create` makes a kernel
+//! object, `change` and `take` change one, and `get` and `len` read. `arm` and `disarm` begin and end
+//! what SetThreadpoolWait sets, and `next_released` lets a signalled kernel object release the
+//! earliest wait that is armed on it. What may be done with a kernel object, and what becomes of it,
+//! is defined in tp_base (`specs/Kernels`); the module `states` computes it.
+//!
+//! ```text
+//! let mut kernels = KernelTable::open(alloc, 4, 8)?;      // at most four, and wait objects 1 to 8
+//! kernels.create(KernelState::Semaphore { count: 0, maximum: 2 });
+//! kernels.arm(ObjectId(5), KernelId(1));
+//! kernels.arm(ObjectId(2), KernelId(1));
+//! kernels.change(KernelId(1), KernelChange::Raise(1));
+//! kernels.next_released(KernelId(1))      // Some(ObjectId(5)), and the count is 0 again
+//! kernels.next_released(KernelId(1))      // None: it isn't signalled
+//! ```
+//!
+//! What a call costs: each looks at one kernel object, and at the neighbours of at most one armed
+//! wait.
+
+#![tactic(auto)]
+
+ghost use Rattle.std.specs.Prelude.{◌≡◌, ◌+◌, ◌<◌, ◌≤◌, ◌^◌, ◌++◌, ◌∷◌, [], All, IfOk, IfSome, IsSome, false, length, true};
+ghost use Rattle.tp_base.specs.Kernels.{may_take, state_after as after_change, taken_by as after_taking, takings_of};
+ghost use Rattle.kernel_events.specs.Kernels.{HasDistinctObjects, Suits, new_row, numbered, rows_with, state_of};
+
+use states::{state_after, taken_by};
+use std::alloc::{AllocError, Global};
+use std::marker::Model;
+use tp_base::ids::{KernelId, ObjectId, Who};
+use tp_base::plans::KernelChange;
+use tp_base::rows::{KernelRow, KernelState};
+
+pub mod states;
+
+/// The kernel objects that were made, and the wait objects that are armed on them.
+#[derive(Drop)]
+pub struct KernelTable {
+    limit: u32,
+    rows: Vec<KernelRow>,
+    objects: u32,
+}
+
+impl Model for KernelTable {
+    ghost use Rattle.std.specs.Prelude.{[]};
+    ghost use Rattle.kernel_events.specs.Kernels.{Kernels};
+    ghost use Rattle.kernel_events.specs.Kept.{IsKept};
+
+    ghost Value = { Kernels };
+
+    ghost view = { λ a. record { limit = a.limit; objects = a.objects; rows = a.rows.items; armed = [] } };
+
+    ghost invariant = { IsKept };
+}
+
+impl KernelTable {
+    /// No kernel objects, with the memory for `limit` of them, and for the arming of the wait objects
+    /// of the numbers from 1 to `objects`.
+    ///
+    /// An `AllocError` comes where that memory can't be had.
+    pub fn open(alloc: Global, limit: u32, objects: u32) -> Result<KernelTable, AllocError>
+        ensures { IfOk result (λ kernels. kernels ≡ record { limit = limit; objects = objects; rows = []; armed = [] }) }
+    {
+        Ok(KernelTable {
+            limit,
+            rows: Vec::with_capacity(alloc, limit as usize)?,
+            objects,
+        })
+    }
+
+    /// How many kernel objects were made. There are never more than the limit, and no wait object is
+    /// armed twice.
+    pub fn len(&self) -> u32
+        ensures value { result ≡ length self.now.rows }
+        ensures limited { length self.now.rows ≤ self.now.limit }
+        ensures distinct { HasDistinctObjects self.now.armed }
+        ensures least { All (λ a. 1 ≤ a.object.0) self.now.armed }
+        ensures most { All (λ a. a.object.0 ≤ self.now.objects) self.now.armed }
+        ensures made { All (λ a. IsSome (numbered self.now.rows a.kernel.0)) self.now.armed }
+    {
+        self.rows.len() as u32
+    }
+
+    /// Makes a kernel object in this state. Its number is the next one.
+    pub fn create(&mut self, state: KernelState)
+        requires { length self.old.rows < self.old.limit }
+        ensures { self.new ≡ record self.old { rows = self.old.rows ++ new_row state ∷ [] } }
+    {
+        self.rows.push_reserved(KernelRow { state });
+    }
+
+    /// What the kernel object of this number is at, or None where it was never made.
+    pub fn get(&self, kernel: KernelId) -> Option<KernelState>
+        ensures { result ≡ state_of self.now kernel.0 }
+    {
+        if kernel.0 == 0 {
+            return None;
+        }
+        let row = self.rows.get(kernel.0 as usize - 1)?;
+        Some(row.state)
+    }
+
+    /// Changes a kernel object: SetEvent, ResetEvent, ReleaseSemaphore, ReleaseMutex and
+    /// LeaveCriticalSection. A change that isn't for its kind changes nothing.
+    pub fn change(&mut self, kernel: KernelId, how: KernelChange)
+        requires made { IsSome (numbered self.old.rows kernel.0) }
+        requires suits { IfSome (numbered self.old.rows kernel.0) (λ row. Suits how row.state) }
+        ensures { self.new ≡ record self.old { rows = rows_with (after_change how) self.old.rows kernel.0 } }
+    {
+        let row = &mut self.rows[kernel.0 as usize - 1];
+        row.state = state_after(how, row.state);
+    }
+
+    /// An actor takes a kernel object, as the end of WaitForSingleObject or EnterCriticalSection.
+    pub fn take(&mut self, who: Who, kernel: KernelId)
+        requires made { IsSome (numbered self.old.rows kernel.0) }
+        requires allowed { IfSome (numbered self.old.rows kernel.0) (λ row. may_take who row.state ≡ true) }
+        requires few { IfSome (numbered self.old.rows kernel.0) (λ row. takings_of row.state + 1 < 2 ^ 64) }
+        ensures { self.new ≡ record self.old { rows = rows_with (after_taking who) self.old.rows kernel.0 } }
+    {
+        let row = &mut self.rows[kernel.0 as usize - 1];
+        row.state = taken_by(who, row.state);
+    }
+}
