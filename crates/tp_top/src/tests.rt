@@ -143,6 +143,70 @@ const A_LONG_CALLBACK_RUNS_ON_IN_A_CLOSED_POOL: &[(&str, &str)] = &[
     ("w1 take", "taken 2 o1 r1 x0 plain"),
 ];
 
+const KERNEL_OBJECTS_ARE_REFUSED_IN_ORDER: &[(&str, &str)] = &[
+    ("c1 create-event manual clear", "made 1"),
+    ("c1 create-semaphore 2 1", "refused over-maximum 2"),
+    ("c1 create-semaphore 0 0", "refused over-maximum 0"),
+    ("c1 create-semaphore 0 1", "made 2"),
+    ("c1 create-lock section owned", "made 3"),
+    ("c1 set-event 0", "refused no-such"),
+    ("c1 acquire 4", "refused no-such"),
+    ("w5 acquire 1", "refused no-such"),
+    ("c1 release-lock mutex 3", "refused wrong-kind"),
+    ("w1 set-event 2", "refused wrong-kind"),
+    ("w1 set-event 1", "refused not-running"),
+    ("c1 release-semaphore 2 2", "refused over-maximum 0"),
+    ("c2 release-lock section 3", "refused not-owner"),
+    ("c1 acquire 1", "ok"),
+    ("c1 reset-event 1", "refused in-wait"),
+    ("c1 release-lock section 3", "refused in-wait"),
+    ("c1 acquire 3", "refused in-wait"),
+    ("c2 finish", "ok"),
+    ("c2 set-event 2", "refused wrong-kind"),
+    ("c2 set-event 1", "refused released"),
+];
+
+const A_MANUAL_EVENT_IS_FOR_ALL_AND_A_SEMAPHORE_FOR_SO_MANY: &[(&str, &str)] = &[
+    ("c1 create-event manual clear", "made 1"),
+    ("c1 create-semaphore 1 2", "made 2"),
+    ("c1 acquire 1", "ok"),
+    ("c2 acquire 1", "ok"),
+    ("c1 end", "look not-yet kernel 1"),
+    ("c3 set-event 1", "queued 0 0"),
+    ("c1 end", "ended"),
+    ("c2 end", "ended"),
+    ("c1 acquire 2", "ok"),
+    ("c1 end", "ended"),
+    ("c2 acquire 2", "ok"),
+    ("c2 end", "look not-yet kernel 2"),
+    ("c1 release-semaphore 2 2", "count 0 0 0"),
+    ("c2 end", "ended"),
+    ("c1 release-semaphore 2 1", "count 1 0 0"),
+    ("c1 release-semaphore 2 1", "refused over-maximum 2"),
+];
+
+const A_LOCK_STAYS_ITS_WORKERS_WHEN_THE_CALLBACK_RETURNS: &[(&str, &str)] = &[
+    ("c1 create-lock section free", "made 1"),
+    ("c1 create work r1 x0 p0 normal short g0 q0", "made 1"),
+    ("c1 submit 1", "queued 1 1"),
+    ("w1 attach", "attached 0"),
+    ("w1 take", "taken 1 o1 r1 x0 plain"),
+    ("w1 acquire 1", "ok"),
+    ("w1 end", "ended"),
+    ("w1 acquire 1", "ok"),
+    ("w1 end", "ended"),
+    ("w1 release-lock section 1", "ok"),
+    ("w1 return", "returned - - - - 0 0"),
+    ("c1 acquire 1", "ok"),
+    ("c1 end", "look not-yet kernel 1"),
+    ("w1 release-lock section 1", "refused not-running"),
+    ("c2 submit 1", "queued 2 1"),
+    ("w1 take", "taken 2 o1 r1 x0 plain"),
+    ("w1 release-lock section 1", "ok"),
+    ("c1 end", "ended"),
+    ("w1 release-lock section 1", "refused not-owner"),
+];
+
 const HISTORY: &str = "history 1 clients 1 workers 4 events 65536\n\
     c1 create work r1 x7 p0 normal short g0 q0 -> made 1\n\
     c1 submit 1 -> queued 1 1\n\
@@ -229,6 +293,9 @@ fn plays_worked_examples(rt: HostRuntime) -> Result<(), Fail> {
         THE_BOUNDS_OF_A_POOL_MOVE_EACH_OTHER,
         POOLS_ARE_REFUSED_IN_ORDER,
         A_LONG_CALLBACK_RUNS_ON_IN_A_CLOSED_POOL,
+        KERNEL_OBJECTS_ARE_REFUSED_IN_ORDER,
+        A_MANUAL_EVENT_IS_FOR_ALL_AND_A_SEMAPHORE_FOR_SO_MANY,
+        A_LOCK_STAYS_ITS_WORKERS_WHEN_THE_CALLBACK_RETURNS,
     ] {
         let mut input = Vec::new(rt.alloc());
         let mut output = Vec::new(rt.alloc());
