@@ -1,5 +1,5 @@
 -- A wait object is armed or disarmed: all lists stay those of what is armed.
-use Rattle.std.proofs.Common.{◌≡◌, ◌≢◌, ℕ, suc, ◌+◌, ◌<◌, ◌≤◌, ◌==◌, not, Bool, true, false, List, [], ◌∷◌, ◌++◌, Option, None, Some, set, get_or, map, length, refl, sym, ap, subst, ◌∙◌, ⊎_elim, arith, eq-eqb}
+use Rattle.std.proofs.Common.{◌≡◌, ◌≢◌, ℕ, ◌<◌, ◌≤◌, not, true, false, List, [], ◌∷◌, ◌++◌, Option, None, Some, set, get_or, length, refl, sym, subst, ◌∙◌, ⊎_elim, arith, eq-eqb}
 use Rattle.std.specs.List.{All, slice_get}
 use Rattle.std.proofs.lemmas.Bool.{cases_eq, ne_eqb}
 use Rattle.std.proofs.lemmas.List.{get_or-set_other, get_or-set_same, length-set, map-append}
@@ -12,7 +12,7 @@ use Rattle.kernel_events.specs.declared.links.Ends.{Ends}
 use Rattle.kernel_events.specs.Armed.{is_armed, is_of, kernel_of, waits_on, without}
 use Rattle.kernel_events.specs.Linked.{IsBeside, IsList, IsWithin, has, others}
 use Rattle.kernel_events.specs.Walked.{AreArmed, objects_of}
-use Rattle.kernel_events.proofs.Has.{has_head, named, others_absent, true_or_false}
+use Rattle.kernel_events.proofs.Has.{named, others_absent}
 use Rattle.kernel_events.proofs.Neighbours.{before_within, behind_within, ends_inside, link_in}
 use Rattle.kernel_events.proofs.Waits.{absent_waits, armed_some, has_objects, kernel_below, kernel_with_other, kernel_with_own, kernel_without_other, kernel_without_own, object_below, objects_without, waits_apart, waits_armed, waits_has, waits_with_other, waits_with_own, waits_without}
 
@@ -41,7 +41,7 @@ module _ (on : List (Option KernelId)) (order : List Link) (all : Ends) (own : L
       within_of own e.last (λ z named_z. in_own k z (ends_inside own e (waits_on k armed) list z named_z))
 
   module _ (object : ObjectId) (kernel : KernelId) (new_order new_own : List Link) (new_all e new_e : Ends)
-    (in_ends : kernel.0 < length ends) (is : e ≡ get_or ends kernel.0 e) where
+      (in_ends : kernel.0 < length ends) (is : e ≡ get_or ends kernel.0 e) where
     own_list : IsList own e (waits_on kernel.0 armed)
     own_list = subst (λ x. IsList own x (waits_on kernel.0 armed)) (sym is) (kept.queued kernel.0 e in_ends)
 
@@ -59,9 +59,9 @@ module _ (on : List (Option KernelId)) (order : List Link) (all : Ends) (own : L
         let absent : has object.0 (objects_of armed) ≡ false = has_objects object.0 armed ∙ free in
         let none_more : (P : Arming → Type 0) → All P [] = λ P k d lt. absurd (omega arith) in
         let all_within : All (λ a. a.object.0 < length on) (armed ++ arming ∷ []) =
-                All-append (λ a. a.object.0 < length on) armed (arming ∷ []) kept.within (All-cons (λ a. a.object.0 < length on) arming [] within (none_more (λ a. a.object.0 < length on))) in
+        All-append (λ a. a.object.0 < length on) armed (arming ∷ []) kept.within (All-cons (λ a. a.object.0 < length on) arming [] within (none_more (λ a. a.object.0 < length on))) in
         let all_kernels : All (λ a. a.kernel.0 < length ends) (armed ++ arming ∷ []) =
-                All-append (λ a. a.kernel.0 < length ends) armed (arming ∷ []) kept.kernels (All-cons (λ a. a.kernel.0 < length ends) arming [] in_ends (none_more (λ a. a.kernel.0 < length ends))) in
+        All-append (λ a. a.kernel.0 < length ends) armed (arming ∷ []) kept.kernels (All-cons (λ a. a.kernel.0 < length ends) arming [] in_ends (none_more (λ a. a.kernel.0 < length ends))) in
         record {
           ordered = rw (map-append (λ (a : Arming). a.object) armed (arming ∷ [])) (order_list (objects_of armed) kept.ordered absent);
           queued = λ k d lt.
@@ -103,18 +103,20 @@ module _ (on : List (Option KernelId)) (order : List Link) (all : Ends) (own : L
     kernel_within = kernel_below armed (length ends) kept.kernels object.0 kernel told
 
     pub links_within : (link : Link) → slice_get order object.0 ≡ Some link → IsWithin order link.before × IsWithin order link.behind
-    links_within link is =
-        (within_of order link.before (λ z named_z. in_order z (before_within order all (objects_of armed) kept.ordered object there_all link is z named_z)),
-        within_of order link.behind (λ z named_z. in_order z (behind_within order all (objects_of armed) kept.ordered object there_all link is z named_z)))
+    links_within link is = (
+      within_of order link.before (λ z named_z. in_order z (before_within order all (objects_of armed) kept.ordered object there_all link is z named_z)),
+      within_of order link.behind (λ z named_z. in_order z (behind_within order all (objects_of armed) kept.ordered object there_all link is z named_z)),
+    )
 
     module _ (e : Ends) (is : e ≡ get_or ends kernel.0 e) where
       list_of : IsList own e (waits_on kernel.0 armed)
       list_of = subst (λ x. IsList own x (waits_on kernel.0 armed)) (sym is) (kept.queued kernel.0 e kernel_within)
 
       pub own_links_within : (link : Link) → slice_get own object.0 ≡ Some link → IsWithin own link.before × IsWithin own link.behind
-      own_links_within link at =
-          (within_of own link.before (λ z named_z. in_own kernel.0 z (before_within own e (waits_on kernel.0 armed) list_of object there_own link at z named_z)),
-          within_of own link.behind (λ z named_z. in_own kernel.0 z (behind_within own e (waits_on kernel.0 armed) list_of object there_own link at z named_z)))
+      own_links_within link at = (
+        within_of own link.before (λ z named_z. in_own kernel.0 z (before_within own e (waits_on kernel.0 armed) list_of object there_own link at z named_z)),
+        within_of own link.behind (λ z named_z. in_own kernel.0 z (behind_within own e (waits_on kernel.0 armed) list_of object there_own link at z named_z)),
+      )
 
       pub armed_without : (new_order new_own : List Link) (new_all new_e : Ends)
           → ((xs : List ObjectId) → IsList order all xs → has object.0 xs ≡ true → IsList new_order new_all (others object.0 xs))

@@ -8,7 +8,7 @@ use Rattle.tp_base.specs.declared.ids.ObjectId.{ObjectId}
 use Rattle.kernel_events.specs.declared.links.Link.{Link}
 use Rattle.kernel_events.specs.declared.links.Ends.{Ends}
 use Rattle.kernel_events.specs.Linked.{AreApart, AreLinked, IsBeside, IsList, first_with, has, head, last_from, last_with, link_changed, others, with_before, with_behind}
-use Rattle.kernel_events.proofs.Has.{absent_fewer, appended_apart, beside_unnamed, has_head, has_tail, last_appended, last_inside, named, or_parts, or_true, others_absent, others_apart, true_or_false}
+use Rattle.kernel_events.proofs.Has.{appended_apart, beside_unnamed, has_head, has_tail, last_appended, last_inside, named, or_parts, or_true, others_absent, others_apart, true_or_false}
 
 -- writes
 
@@ -222,11 +222,12 @@ module _ (links now : List Link) (o : ObjectId) (p n : Option ObjectId) (own : s
   rest_after b x [] before behind linked apart beside = tt
   rest_after b x (y ∷ ys) before behind linked apart beside =
       let not_b : named y.0 p ≡ false = rw before (beside_unnamed (y ∷ ys) b y.0 beside (has_head y ys)) in
-      let is_n : named y.0 n ≡ true = rw behind (eq-eqb y.0 y.0 refl) in
-      (is y.0 _ linked.0 ∙ rw (not_b, is_n, before) refl,
-      framed links now (Some y) ys linked.1 (λ z there.
-      let at = link_in links (Some y) ys linked.1 z there in
-      same_at z at.0 at.1 (rw behind (beside_unnamed ys (Some y) z apart.0 there)) (rw before (beside_unnamed (y ∷ ys) b z beside (has_tail z y ys there)))))
+      let is_n : named y.0 n ≡ true = rw behind (eq-eqb y.0 y.0 refl) in (
+        is y.0 _ linked.0 ∙ rw (not_b, is_n, before) refl,
+        framed links now (Some y) ys linked.1 (λ z there.
+            let at = link_in links (Some y) ys linked.1 z there in
+            same_at z at.0 at.1 (rw behind (beside_unnamed ys (Some y) z apart.0 there)) (rw before (beside_unnamed (y ∷ ys) b z beside (has_tail z y ys there)))),
+      )
 
   -- the link of one before it
   left_link : (b : Option ObjectId) (x : ObjectId) (xs : List ObjectId) → AreLinked links (Some x) xs → AreApart (x ∷ xs) → has o.0 xs ≡ true
@@ -234,9 +235,9 @@ module _ (links now : List Link) (o : ObjectId) (p n : Option ObjectId) (own : s
   left_link b x [] linked apart there = cc
   left_link b x (y ∷ ys) linked apart there =
       let not_n : named x.0 n ≡ false = ⊎_elim
-              (λ (is_n : named x.0 n ≡ true). let both : true ≡ false = sym (behind_inside links o p n own (Some x) (y ∷ ys) linked there x.0 is_n) ∙ apart.0 in cc)
-              (λ (other : named x.0 n ≡ false). other)
-              (true_or_false (named x.0 n)) in
+      (λ (is_n : named x.0 n ≡ true). let both : true ≡ false = sym (behind_inside links o p n own (Some x) (y ∷ ys) linked there x.0 is_n) ∙ apart.0 in cc)
+      (λ (other : named x.0 n ≡ false). other)
+      (true_or_false (named x.0 n)) in
       ⊎_elim
       (λ (same : (y.0 == o.0) ≡ true).
       let at = own_first links o p n own (Some x) y ys same linked in
@@ -244,9 +245,9 @@ module _ (links now : List Link) (o : ObjectId) (p n : Option ObjectId) (own : s
       rw (not_n, is_p, same, own_gone links o p n own y ys same apart.1.0, at.1) refl)
       (λ (other : (y.0 == o.0) ≡ false).
       let not_p : named x.0 p ≡ false = ⊎_elim
-              (λ (is_p : named x.0 p ≡ true). let both : true ≡ false = sym (before_inside links o p n own (Some y) ys linked.1 (rw other at there) x.0 is_p) ∙ apart.0 in cc)
-              (λ (no : named x.0 p ≡ false). no)
-              (true_or_false (named x.0 p)) in
+      (λ (is_p : named x.0 p ≡ true). let both : true ≡ false = sym (before_inside links o p n own (Some y) ys linked.1 (rw other at there) x.0 is_p) ∙ apart.0 in cc)
+      (λ (no : named x.0 p ≡ false). no)
+      (true_or_false (named x.0 p)) in
       rw (not_n, not_p, other) refl)
       (true_or_false (y.0 == o.0))
 

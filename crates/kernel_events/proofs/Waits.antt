@@ -1,18 +1,17 @@
 -- What is armed, on the whole and on each kernel object.
-use Rattle.std.proofs.Common.{◌≡◌, ◌≢◌, ℕ, suc, zero, ◌<◌, ◌≤◌, ◌==◌, ◌&&◌, ◌||◌, not, Bool, true, false, List, [], ◌∷◌, ◌++◌, Option, None, Some, cond, map, filter, length, get_or, refl, sym, ap, ◌∙◌, ⊎_elim, arith, eq-eqb, eqb-true}
-use Rattle.std.specs.Prelude.{find, is_some}
-use Rattle.std.specs.List.{All, AllPairs}
-use Rattle.std.specs.Option.{option_map, option_map_or}
+use Rattle.std.proofs.Common.{◌≡◌, ◌≢◌, ℕ, ◌<◌, ◌≤◌, ◌==◌, ◌||◌, true, false, List, [], ◌∷◌, ◌++◌, Option, None, Some, get_or, refl, sym, ap, ◌∙◌, ⊎_elim, arith, eq-eqb, eqb-true}
+use Rattle.std.specs.Prelude.{is_some}
+use Rattle.std.specs.List.{All}
+use Rattle.std.specs.Option.{option_map_or}
 use Rattle.std.proofs.lemmas.Bool.{ne_eqb}
 use Rattle.std.proofs.lemmas.List.Elements.{All-cons, All-head, All-tail}
 use Rattle.std.proofs.lemmas.List.Kept.{AllPairs-cons}
-use Rattle.tp_base.specs.declared.ids.ObjectId.{ObjectId}
 use Rattle.tp_base.specs.declared.ids.KernelId.{KernelId}
 use Rattle.tp_base.specs.declared.rows.Arming.{Arming}
-use Rattle.kernel_events.specs.Armed.{HasDistinctObjects, first_on, is_armed, is_of, is_on, kernel_of, waits_on, without}
+use Rattle.kernel_events.specs.Armed.{HasDistinctObjects, first_on, is_armed, kernel_of, waits_on, without}
 use Rattle.kernel_events.specs.Linked.{AreApart, has, head, others}
 use Rattle.kernel_events.specs.Walked.{objects_of}
-use Rattle.kernel_events.proofs.Has.{or_parts, or_true, true_or_false}
+use Rattle.kernel_events.proofs.Has.{or_parts, true_or_false}
 
 pub has_objects : (o : ℕ) (armed : List Arming) → has o (objects_of armed) ≡ is_armed o armed
 has_objects o [] = refl
@@ -137,9 +136,9 @@ kernel_without_other m o apart (x ∷ xs) =
     ⊎_elim
     (λ (gone : (x.object.0 == m) ≡ true).
     let not_o : (x.object.0 == o) ≡ false = ⊎_elim
-            (λ (same : (x.object.0 == o) ≡ true). absurd (apart (sym (eqb-true x.object.0 o same) ∙ eqb-true x.object.0 m gone)))
-            (λ (other : (x.object.0 == o) ≡ false). other)
-            (true_or_false (x.object.0 == o)) in
+    (λ (same : (x.object.0 == o) ≡ true). absurd (apart (sym (eqb-true x.object.0 o same) ∙ eqb-true x.object.0 m gone)))
+    (λ (other : (x.object.0 == o) ≡ false). other)
+    (true_or_false (x.object.0 == o)) in
     rw (gone, not_o) (kernel_without_other m o apart xs))
     (λ (stays : (x.object.0 == m) ≡ false).
     ⊎_elim

@@ -1,7 +1,6 @@
 -- The list of all is walked along.
-use Rattle.std.proofs.Common.{◌≡◌, ℕ, suc, zero, ◌<◌, ◌≤◌, ◌==◌, Bool, true, false, List, [], ◌∷◌, Option, None, Some, map, length, replicate, get_or, refl, sym, ap, subst, ◌∙◌, ◌-◌, ⊎_elim, arith, eqb, eqb-true}
-use Rattle.std.specs.Prelude.{unwrap_or}
-use Rattle.std.specs.List.{All, AllByRecursion, IsDistinct, list_any, slice_get}
+use Rattle.std.proofs.Common.{◌≡◌, ℕ, suc, zero, ◌<◌, ◌≤◌, ◌==◌, true, false, List, [], ◌∷◌, Option, None, Some, map, length, replicate, get_or, refl, sym, ap, subst, ◌∙◌, ◌-◌, ⊎_elim, arith, eqb, eqb-true}
+use Rattle.std.specs.List.{All, AllByRecursion, IsDistinct, list_any}
 use Rattle.std.specs.Option.{option_map_or}
 use Rattle.std.proofs.lemmas.Bool.{cases_lt}
 use Rattle.std.proofs.lemmas.List.{get_or_past, length-map, length-replicate}
@@ -13,7 +12,7 @@ use Rattle.tp_base.specs.declared.ids.KernelId.{KernelId}
 use Rattle.tp_base.specs.declared.rows.Arming.{Arming}
 use Rattle.kernel_events.specs.declared.links.Link.{Link}
 use Rattle.kernel_events.specs.declared.links.Ends.{Ends}
-use Rattle.kernel_events.specs.Armed.{Armed, kernel_of}
+use Rattle.kernel_events.specs.Armed.{Armed}
 use Rattle.kernel_events.specs.Linked.{AreApart, AreLinked, has, head}
 use Rattle.kernel_events.specs.Walked.{AreArmed, arming_at, behind_of, objects_of, walk}
 use Rattle.kernel_events.proofs.Has.{or_parts, true_or_false}
@@ -98,7 +97,7 @@ none_walked objects kernels on order own ends on_none ends_none order_length own
     let as_many : length on ≡ objects = ap length on_none ∙ length-replicate objects None in
     let all_none : All (λ (o : Option KernelId). o ≡ None) on = rw on_none (All-replicate (λ (o : Option KernelId). o ≡ None) objects None refl) in
     let no_ends : All (λ (e : Ends). e ≡ record { first = None; last = None }) ends =
-            rw ends_none (All-replicate (λ (e : Ends). e ≡ record { first = None; last = None }) kernels (record { first = None; last = None }) refl) in
+    rw ends_none (All-replicate (λ (e : Ends). e ≡ record { first = None; last = None }) kernels (record { first = None; last = None }) refl) in
     record {
       ordered = record { apart = tt; linked = tt; first = refl; last = refl };
       queued = λ k d lt. rw (no_ends k d lt) (record { apart = tt; linked = tt; first = refl; last = refl });

@@ -1,5 +1,5 @@
 -- Lists of objects, each linked with the one before it and the one behind it.
-use Rattle.std.specs.Prelude.{◌≡◌, ℕ, ◌==◌, ◌<◌, not, Bool, true, false, List, [], ◌∷◌, length, filter, Option, None, Some, slice_get, slice_set, if◌then◌else◌}
+use Rattle.std.specs.Prelude.{◌≡◌, ℕ, ◌==◌, ◌<◌, not, Bool, false, List, [], ◌∷◌, length, filter, Option, None, Some, slice_get, slice_set}
 use Rattle.std.specs.List.{list_any}
 use Rattle.std.specs.Option.{option_map_or, IfSome}
 use Rattle.tp_base.specs.declared.ids.ObjectId.{ObjectId}

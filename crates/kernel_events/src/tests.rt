@@ -9,9 +9,13 @@ use tp_base::plans::KernelChange;
 use tp_base::rows::KernelState;
 
 const CLIENT: Who = Who::Client(1);
+
 const WORKER: Who = Who::Worker(1);
+
 const EVENT: KernelId = KernelId(1);
+
 const SEMAPHORE: KernelId = KernelId(2);
+
 const LOCK: KernelId = KernelId(3);
 
 // What the state of a kernel object is, for comparison.
@@ -44,7 +48,10 @@ fn kernel_objects_are_taken(rt: HostRuntime) -> Result<(), Fail> {
         (3, true, true)
     );
     kernels.take(WORKER, EVENT);
-    assert_eq!(rt; (signalled(&kernels, EVENT), signalled(&kernels, SEMAPHORE)), (false, true));
+    assert_eq!(rt;
+        (signalled(&kernels, EVENT), signalled(&kernels, SEMAPHORE)),
+        (false, true)
+    );
     kernels.change(EVENT, KernelChange::Set);
     assert_eq!(rt; signalled(&kernels, EVENT), true);
     kernels.change(EVENT, KernelChange::Reset);
@@ -83,8 +90,14 @@ fn waits_are_released_in_order(rt: HostRuntime) -> Result<(), Fail> {
         (Some(ObjectId(4)), Some(ObjectId(1)))
     );
     assert_eq!(rt; kernels.next_released(SEMAPHORE), None);
-    assert_eq!(rt; (kernels.disarm(ObjectId(5)), kernels.disarm(ObjectId(5))), (true, false));
-    assert_eq!(rt; (kernels.is_armed(ObjectId(5)), kernels.is_armed(ObjectId(2))), (false, true));
+    assert_eq!(rt;
+        (kernels.disarm(ObjectId(5)), kernels.disarm(ObjectId(5))),
+        (true, false)
+    );
+    assert_eq!(rt;
+        (kernels.is_armed(ObjectId(5)), kernels.is_armed(ObjectId(2))),
+        (false, true)
+    );
     kernels.change(SEMAPHORE, KernelChange::Raise(3));
     assert_eq!(rt; kernels.next_released(SEMAPHORE), Some(ObjectId(4)));
     assert_eq!(rt; kernels.next_released(SEMAPHORE), Some(ObjectId(2)));
@@ -124,7 +137,10 @@ fn states_are_told_apart(rt: HostRuntime) -> Result<(), Fail> {
     };
     let section = lock_made(Lock::Section, WORKER, true);
     assert_eq!(rt; (is_event(event), is_event(semaphore)), (true, false));
-    assert_eq!(rt; (is_semaphore(semaphore), is_semaphore(section)), (true, false));
+    assert_eq!(rt;
+        (is_semaphore(semaphore), is_semaphore(section)),
+        (true, false)
+    );
     assert_eq!(rt;
         (
             is_lock(Lock::Section, section),

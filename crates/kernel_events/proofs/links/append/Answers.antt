@@ -1,6 +1,5 @@
-use Rattle.std.proofs.Common.{◌≡◌, List, None, set, refl, ap}
+use Rattle.std.proofs.Common.{refl, ap}
 use Rattle.kernel_events.specs.declared.links.Ends.{Ends}
-use Rattle.kernel_events.specs.declared.links.Link.{Link}
 use Rattle.kernel_events.proofs.Neighbours.{IsAppended, append_list, append_beside, appended_written}
 use Rattle.kernel_events.proofs.links.append.Goals as goal
 

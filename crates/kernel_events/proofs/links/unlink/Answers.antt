@@ -2,9 +2,7 @@ use Rattle.std.proofs.Common.{◌≡◌, Option, Some, refl, sym, ap, ◌∙◌}
 use Rattle.std.specs.List.{slice_get}
 use Rattle.std.specs.Option.{option_map_or}
 use Rattle.std.proofs.lemmas.Option.{slice_get_read}
-use Rattle.kernel_events.specs.declared.links.Ends.{Ends}
 use Rattle.kernel_events.specs.declared.links.Link.{Link}
-use Rattle.kernel_events.specs.Linked.{IsBeside, IsList, last_with, others}
 use Rattle.kernel_events.proofs.Neighbours.{IsUnlinked, unlink_list, unlink_beside, unlinked_written}
 use Rattle.kernel_events.proofs.links.unlink.Goals as goal
 

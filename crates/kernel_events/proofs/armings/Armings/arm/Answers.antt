@@ -1,4 +1,4 @@
-use Rattle.std.proofs.Common.{◌≡◌, ◌<◌, List, Some, ◌++◌, ◌∷◌, [], set, length, arith}
+use Rattle.std.proofs.Common.{Some, ◌++◌, ◌∷◌, [], set, length, arith}
 use Rattle.std.proofs.lemmas.List.{length-set}
 use Rattle.kernel_events.specs.Walked.{AreArmed, walk}
 use Rattle.kernel_events.proofs.Arming.{last_within, own_last_within, armed_with}

@@ -1,6 +1,6 @@
-use Rattle.std.proofs.Common.{◌≡◌, List, None, Some, set, length, refl, ap, sym, ◌∙◌, arith}
+use Rattle.std.proofs.Common.{None, set, length, refl, sym, ◌∙◌, arith}
 use Rattle.std.proofs.lemmas.List.{length-set}
-use Rattle.kernel_events.specs.Armed.{Armed, without}
+use Rattle.kernel_events.specs.Armed.{without}
 use Rattle.kernel_events.specs.Walked.{AreArmed, walk}
 use Rattle.kernel_events.proofs.Arming.{armed_without, kernel_within, links_within, own_links_within}
 use Rattle.kernel_events.proofs.Waits.{armed_some, unarmed_none, without_none}

@@ -1,4 +1,4 @@
-use Rattle.std.proofs.Common.{◌≡◌, ap, sym, ◌∙◌}
+use Rattle.std.proofs.Common.{ap, sym, ◌∙◌}
 use Rattle.kernel_events.specs.declared.links.Ends.{Ends}
 use Rattle.kernel_events.proofs.Waits.{first_head, none_on}
 use Rattle.kernel_events.proofs.armings.Armings.first_on.Goals as goal

@@ -1,5 +1,4 @@
 use Rattle.kernel_events.proofs.Waits.{distinct}
-use Rattle.kernel_events.proofs.Walking.{all_walked}
 use Rattle.kernel_events.proofs.armings.Armings.kernel_of.Goals as goal
 
 pub returns-clause-distinct : goal.returns-clause-distinct

@@ -1,6 +1,6 @@
 use Rattle.std.proofs.Common.{◌≡◌, ◌+◌, None, rules, arith, length, replicate, ap, ◌∙◌}
 use Rattle.std.proofs.lemmas.List.{length-replicate}
-use Rattle.kernel_events.proofs.Walking.{all_walked, none_walked, walked_kept}
+use Rattle.kernel_events.proofs.Walking.{none_walked, walked_kept}
 use Rattle.kernel_events.proofs.armings.Armings.open.Goals as goal
 
 nothing_on : (c : goal.In_ok-vec-4) → c.in_ok-vec.field-0.items ≡ replicate (c.args.objects + 1) None
