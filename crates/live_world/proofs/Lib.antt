@@ -18,6 +18,7 @@ pub mod Cancelled
 pub mod Beginnings
 pub mod ObjectsMade
 pub mod Starving
+pub mod Performing
 pub mod Progress
 pub mod Firings
 pub mod Timed

@@ -6,7 +6,11 @@ use Rattle.tp_base.specs.declared.ids.PoolId.{PoolId}
 use Rattle.tp_base.specs.declared.limits.Limits.{Limits}
 use Rattle.tp_base.specs.declared.plans.Idle.{Idle}
 use Rattle.tp_base.specs.declared.plans.Busy.{Busy}
-use Rattle.tp_base.specs.declared.plans.Mark.TheVariants.{Long, Loose}
+use Rattle.tp_base.specs.declared.plans.Mark.TheVariants.{Long, Loose, Asks}
+use Rattle.tp_base.specs.declared.answers.ActionKind.{ActionKind}
+use Rattle.tp_base.specs.declared.rows.Action.{Action}
+use Rattle.tp_base.specs.Actions.{filled}
+use Rattle.tp_model.specs.Actions.{asking}
 use Rattle.tp_base.specs.declared.plans.Change.{Change}
 use Rattle.tp_base.specs.declared.plans.Change.TheVariants as change
 use Rattle.tp_base.specs.declared.rows.CallbackRow.{CallbackRow}
@@ -23,22 +27,23 @@ use Rattle.pool_rows.specs.declared.WorkerRow as kept
 use Rattle.keyed_lists.specs.Keyed.{Keyed, Entry}
 use Rattle.cancel_wait.specs.Rising.{all_but}
 use Rattle.cancel_wait.specs.Covers.{Covers}
+use Rattle.kernel_events.specs.Kernels.{Kernels}
 use Rattle.tp_base.specs.declared.rows.Status.TheVariants.{Running}
 use Rattle.tp_base.specs.declared.rows.WaitTarget.TheVariants as target
 use Rattle.tp_model.specs.World.{World, BegunWait}
 use Rattle.tp_model.specs.Counts.{has_number, callback_of, is_pending, is_running, is_live}
-use Rattle.tp_model.specs.Changes.{changed, replaced, with_callback, taken, loosened, marked, returned}
+use Rattle.tp_model.specs.Changes.{changed, replaced, with_callback, taken, loosened, marked, returned, without_run}
 use Rattle.tp_model.specs.Waits.{is_held_for, cancelled}
 use Rattle.tp_model.specs.Support.Allowed.{IsAllowed, Runs, news}
 use Rattle.tp_model.specs.Support.Sound.{IsSound, IsRising}
 use Rattle.tp_model.specs.Support.Remembered.{lives, forget}
 use Rattle.tp_model.proofs.Lists.{all_set, all_get, find_all}
 use Rattle.tp_model.proofs.Callbacks.{found_bounds, find_replaced as find_here, pending_not_running, rising_replaced}
-use Rattle.tp_model.proofs.Preserving.{changed_sound, sound_cancelled}
+use Rattle.tp_model.proofs.Preserving.{changed_sound, sound_cancelled, sound_returned, sound_kernels}
 use Rattle.tp_model.proofs.Forgetting.{forget_sound}
 use Rattle.live_world.specs.declared.objects.Object.{Object}
 use Rattle.live_world.specs.declared.LiveWorld.TheInside.{Inside}
-use Rattle.live_world.specs.Live.{Live, moved, became}
+use Rattle.live_world.specs.Live.{Live, moved, became, with_kernels}
 use Rattle.live_world.specs.Parts.{world_of, shown_worker, is_tied, tied_entry}
 use Rattle.live_world.specs.View.{shown, IsLiveWorld}
 use Rattle.live_world.specs.Invariant.{AreSized, AreLive, AreQueued, AreTallied, AreListed, AreCovered, AreTimed, AreKernels, AreWanted, IsHome, IsMarked, AreMarked, waits}
@@ -281,12 +286,12 @@ pub marked_long : (i : Inside) (l : Live) (by : Busy) (pools : Pools) (callbacks
     → Becomes (record i { pools = pools; callbacks = callbacks }) (moved l (change.Mark by Long))
 marked_long i l by pools callbacks is k allowed pools_now rows_now =
     moved_by i (record i { pools = pools; callbacks = callbacks }) l (change.Mark by Long) is k allowed (omega arith) (λ a.
-    let on = is_run i by k a in
+    let on = is_run i by k a.runs in
     let c : CallbackRow = by.callback in
     let r : CallbackRow = marked Long c in
     let new : kept.WorkerRow = record on.row { long = true } in
     let rest : kept.WorkerRow = record on.row { callback = 0; long = false } in
-    let alive_now = alive_replaced i.callbacks r (ap is_live a.running) (ap (λ s. is_pending s || is_running s) a.running) k.alive in
+    let alive_now = alive_replaced i.callbacks r (ap is_live a.runs.running) (ap (λ s. is_pending s || is_running s) a.runs.running) k.alive in
     with_parts i (changed (shown i).world (change.Mark by Long)) pools (record i.pools { workers = slice_set i.pools.workers (by.worker - 1) new }) callbacks (record i.callbacks { rows = replaced r i.callbacks.rows })
     i.queues i.queues i.outstanding i.outstanding i.pending i.pending i.barriers i.barriers
     (pools_now ∙ worker_changed i.pools by.worker on.row (λ w. record w { long = true }) on.at_place on.from_one)
@@ -296,31 +301,31 @@ marked_long i l by pools callbacks is k allowed pools_now rows_now =
           (sym alive_now.live) (shows_same i.pools.workers (by.worker - 1) on.row new on.at_place refl);
       sized = sized_worker i.pools (by.worker - 1) new (same_home i.pools (by.worker - 1) on.row new on.at_place refl k.sized) k.sized;
       alive = alive_now;
-      listed = listed_same (i.made + 1) r c refl refl refl k.sound.numbers a.found k.listed;
-      pending = listed_same (i.made + 1) r c refl refl refl k.sound.numbers a.found k.pending;
+      listed = listed_same (i.made + 1) r c refl refl refl k.sound.numbers a.runs.found k.listed;
+      pending = listed_same (i.made + 1) r c refl refl refl k.sound.numbers a.runs.found k.pending;
       timed = k.timed;
       kernels = k.kernels;
       wanted = k.wanted;
-      covered = covered_replaced r c refl refl a.found k.covered;
-      queued = queued_same (i.made + 1) r c on.waits_not on.waits_not k.sound.numbers a.found k.queued;
-      tallied = tallied_both (i.made + 1) r c i.callbacks.rows i.pools.workers (by.worker - 1) on.row new k.sound.numbers a.found on.at_place
-          (busy_alike c on.row by.pool on.joined on.busy a.home on.ran on.mark)
-          (busy_alike r new by.pool on.joined on.busy a.home on.ran refl)
+      covered = covered_replaced r c refl refl a.runs.found k.covered;
+      queued = queued_same (i.made + 1) r c on.waits_not on.waits_not k.sound.numbers a.runs.found k.queued;
+      tallied = tallied_both (i.made + 1) r c i.callbacks.rows i.pools.workers (by.worker - 1) on.row new k.sound.numbers a.runs.found on.at_place
+          (busy_alike c on.row by.pool on.joined on.busy a.runs.home on.ran on.mark)
+          (busy_alike r new by.pool on.joined on.busy a.runs.home on.ran refl)
           (subst (λ ws. AreMarked (replaced r i.callbacks.rows) ws) (set_twice i.pools.workers (by.worker - 1) rest new)
           (marked_set (replaced r i.callbacks.rows) (slice_set i.pools.workers (by.worker - 1) rest) (by.worker - 1) new
-          (λ _. (r, ap (λ n. find (has_number n) (replaced r i.callbacks.rows)) on.runs ∙ find_here r c i.callbacks.rows a.found, refl))
+          (λ _. (r, ap (λ n. find (has_number n) (replaced r i.callbacks.rows)) on.runs ∙ find_here r c i.callbacks.rows a.runs.found, refl))
           (marked_apart r i.callbacks.rows (slice_set i.pools.workers (by.worker - 1) rest) (on.alone rest refl)
           (marked_set i.callbacks.rows i.pools.workers (by.worker - 1) rest (λ runs_now. absurd (runs_now refl)) k.tallied.marked)))) k.tallied;
     }))
 
 -- it returns
-pub returned_by : (i : Inside) (l : Live) (by : Busy) (pools : Pools) (callbacks : LiveCallbacks) (outstanding : Keyed) (barriers : Covers) → shown i ≡ l → IsLiveWorld i → IsAllowed (l.made + 1) l.world (change.Return by)
+pub ended_by : (i : Inside) (l : Live) (by : Busy) (pools : Pools) (callbacks : LiveCallbacks) (outstanding : Keyed) (barriers : Covers) → shown i ≡ l → IsLiveWorld i → Runs l.world by
     → pools ≡ with_kept_worker by.worker (λ w. record w { callback = 0; long = false }) i.pools
     → callbacks ≡ record i.callbacks { rows = filter (λ (x : CallbackRow). not (x.number == by.callback.number)) i.callbacks.rows }
     → outstanding ≡ unlisted i.outstanding by.callback.number → barriers ≡ left i.barriers by.callback.number
-    → Becomes (record i { pools = pools; callbacks = callbacks; outstanding = outstanding; barriers = barriers }) (moved l (change.Return by))
-returned_by i l by pools callbacks outstanding barriers is k allowed pools_now rows_now listed_now left_now =
-    moved_by i (record i { pools = pools; callbacks = callbacks; outstanding = outstanding; barriers = barriers }) l (change.Return by) is k allowed (omega arith) (λ a.
+    → Becomes (record i { pools = pools; callbacks = callbacks; outstanding = outstanding; barriers = barriers }) (became l (without_run l.world by))
+ended_by i l by pools callbacks outstanding barriers is k running pools_now rows_now listed_now left_now =
+    let a : Runs (shown i).world by = subst (λ (x : Live). Runs x.world by) (sym is) running in
     let on = is_run i by k a in
     let c : CallbackRow = by.callback in
     let r : CallbackRow = returned c in
@@ -331,7 +336,10 @@ returned_by i l by pools callbacks outstanding barriers is k allowed pools_now r
     let removed : others ≡ filter lives (replaced r i.callbacks.rows) = removed_rows i.callbacks r refl k.alive in
     let before : AreMarked i.callbacks.rows (slice_set i.pools.workers (by.worker - 1) new) = marked_set i.callbacks.rows i.pools.workers (by.worker - 1) new (λ busy. absurd (busy refl)) k.tallied.marked in
     let marks : AreMarked others (slice_set i.pools.workers (by.worker - 1) new) = marked_others c.number i.callbacks.rows (slice_set i.pools.workers (by.worker - 1) new) (on.alone new refl) before in
-    with_parts i (changed (shown i).world (change.Return by)) pools (record i.pools { workers = slice_set i.pools.workers (by.worker - 1) new }) callbacks (record i.callbacks { rows = others })
+    let v : World = without_run (shown i).world by in
+    let b = became_by (record i { pools = pools; callbacks = callbacks; outstanding = outstanding; barriers = barriers }) v
+    (sound_returned (i.made + 1) (shown i).world by.worker target by.pool c on.from_one refl (record { callback = c; associated = a.associated; slots = a.slots; found = a.found; runs = a.running; at_home = a.home }) a.found k.sound)
+    (with_parts i v pools (record i.pools { workers = slice_set i.pools.workers (by.worker - 1) new }) callbacks (record i.callbacks { rows = others })
     i.queues i.queues outstanding (unlisted i.outstanding c.number) i.pending i.pending barriers (left i.barriers c.number)
     (pools_now ∙ worker_changed i.pools by.worker on.row (λ w. record w { callback = 0; long = false }) on.at_place on.from_one)
     rows_now refl listed_now refl left_now
@@ -354,7 +362,8 @@ returned_by i l by pools callbacks outstanding barriers is k allowed pools_now r
           (busy_alike c on.row by.pool on.joined on.busy a.home on.ran on.mark)
           (idle_alike r new refl refl)
           (marked_apart r i.callbacks.rows (slice_set i.pools.workers (by.worker - 1) new) (on.alone new refl) before) k.tallied));
-    }))
+    })) in
+    record { keeps = b.keeps; becomes = b.becomes ∙ ap (λ (x : Live). became x (without_run x.world by)) is }
 
 -- ---- a callback is made
 
@@ -393,10 +402,10 @@ pub loosened_by : (i : Inside) (l : Live) (by : Busy) (callbacks : LiveCallbacks
     → Becomes (record i { callbacks = callbacks; outstanding = outstanding; barriers = barriers }) (moved l (change.Mark by Loose))
 loosened_by i l by callbacks outstanding barriers is k allowed rows_now listed_now left_now =
     moved_by i (record i { callbacks = callbacks; outstanding = outstanding; barriers = barriers }) l (change.Mark by Loose) is k allowed (omega arith) (λ a.
-    let on = is_run i by k a in
+    let on = is_run i by k a.runs in
     let c : CallbackRow = by.callback in
     let r : CallbackRow = marked Loose c in
-    let runs : r.status ≡ Running by.worker false a.slots = ap loosened a.running in
+    let runs : r.status ≡ Running by.worker false a.runs.slots = ap loosened a.runs.running in
     let untied : is_tied r ≡ false = ap (is_held_for (target.Object c.object)) runs in
     let alive_now = alive_replaced i.callbacks r (ap is_live runs) (ap (λ s. is_pending s || is_running s) runs) k.alive in
     with_parts i (changed (shown i).world (change.Mark by Loose)) i.pools i.pools callbacks (record i.callbacks { rows = replaced r i.callbacks.rows })
@@ -406,15 +415,43 @@ loosened_by i l by callbacks outstanding barriers is k allowed rows_now listed_n
       shows = ap (λ cs. record (shown i).world { callbacks = cs }) (sym alive_now.live);
       sized = k.sized;
       alive = alive_now;
-      queued = queued_same (i.made + 1) r c on.waits_not (ap is_pending runs) k.sound.numbers a.found k.queued;
-      tallied = tallied_still (i.made + 1) r c i.callbacks.rows i.pools.workers (λ p. ap (λ b. b && (c.pool.0 == p)) (ap is_running runs ∙ sym on.ran)) (λ p. ap (λ b. (b && (c.pool.0 == p)) && c.long) (ap is_running runs ∙ sym on.ran)) k.sound.numbers a.found
-          (marked_replaced r c i.callbacks.rows i.pools.workers a.found refl k.tallied.marked) k.tallied;
+      queued = queued_same (i.made + 1) r c on.waits_not (ap is_pending runs) k.sound.numbers a.runs.found k.queued;
+      tallied = tallied_still (i.made + 1) r c i.callbacks.rows i.pools.workers (λ p. ap (λ b. b && (c.pool.0 == p)) (ap is_running runs ∙ sym on.ran)) (λ p. ap (λ b. (b && (c.pool.0 == p)) && c.long) (ap is_running runs ∙ sym on.ran)) k.sound.numbers a.runs.found
+          (marked_replaced r c i.callbacks.rows i.pools.workers a.runs.found refl k.tallied.marked) k.tallied;
       listed = listed_less r untied k.listed;
-      pending = listed_same (i.made + 1) r c refl refl (ap is_pending runs ∙ sym on.waits_not) k.sound.numbers a.found k.pending;
+      pending = listed_same (i.made + 1) r c refl refl (ap is_pending runs ∙ sym on.waits_not) k.sound.numbers a.runs.found k.pending;
       timed = k.timed;
       kernels = k.kernels;
       wanted = k.wanted;
-      covered = covered_less r c untied a.found k.covered;
+      covered = covered_less r c untied a.runs.found k.covered;
+    }))
+
+-- ---- it asks for an action on return
+
+pub asked_by : (i : Inside) (l : Live) (by : Busy) (kind : ActionKind) (action : Action) (callbacks : LiveCallbacks) → shown i ≡ l → IsLiveWorld i → IsAllowed (l.made + 1) l.world (change.Mark by (Asks kind action))
+    → callbacks ≡ record i.callbacks { rows = replaced (marked (Asks kind action) by.callback) i.callbacks.rows } → Becomes (record i { callbacks = callbacks }) (moved l (change.Mark by (Asks kind action)))
+asked_by i l by kind action callbacks is k allowed rows_now =
+    moved_by i (record i { callbacks = callbacks }) l (change.Mark by (Asks kind action)) is k allowed (omega arith) (λ a.
+    let on = is_run i by k a.runs in
+    let c : CallbackRow = by.callback in
+    let r : CallbackRow = marked (Asks kind action) c in
+    let runs : r.status ≡ Running by.worker a.runs.associated (filled kind action a.runs.slots) = ap (asking kind action) a.runs.running in
+    let tied : is_tied r ≡ is_tied c = ap (is_held_for (target.Object c.object)) runs ∙ sym (ap (is_held_for (target.Object c.object)) a.runs.running) in
+    let alive_now = alive_replaced i.callbacks r (ap is_live runs) (ap (λ s. is_pending s || is_running s) runs) k.alive in
+    subst (λ x. After (record i { callbacks = x }) (changed (shown i).world (change.Mark by (Asks kind action)))) (sym rows_now)
+    (record {
+      shows = ap (λ cs. record (shown i).world { callbacks = cs }) (sym alive_now.live);
+      sized = k.sized;
+      alive = alive_now;
+      queued = queued_same (i.made + 1) r c on.waits_not (ap is_pending runs) k.sound.numbers a.runs.found k.queued;
+      tallied = tallied_still (i.made + 1) r c i.callbacks.rows i.pools.workers (λ p. ap (λ b. b && (c.pool.0 == p)) (ap is_running runs ∙ sym on.ran)) (λ p. ap (λ b. (b && (c.pool.0 == p)) && c.long) (ap is_running runs ∙ sym on.ran)) k.sound.numbers a.runs.found
+          (marked_replaced r c i.callbacks.rows i.pools.workers a.runs.found refl k.tallied.marked) k.tallied;
+      listed = listed_same (i.made + 1) r c refl refl tied k.sound.numbers a.runs.found k.listed;
+      pending = listed_same (i.made + 1) r c refl refl (ap is_pending runs ∙ sym on.waits_not) k.sound.numbers a.runs.found k.pending;
+      timed = k.timed;
+      kernels = k.kernels;
+      wanted = k.wanted;
+      covered = covered_replaced r c refl tied a.runs.found k.covered;
     }))
 
 -- ---- a pending callback is cancelled
@@ -456,3 +493,28 @@ cancelled_by i l c callbacks queues outstanding pending barriers is k found pend
           (covered_lives (i.made + 1) (rising_replaced r 1 (i.made + 1) i.callbacks.rows k.sound.numbers) (covered_less r c refl found_here k.covered));
     })) in
     record { keeps = b.keeps; becomes = b.becomes ∙ ap (λ (x : Live). became x (with_callback x.world r)) is }
+
+-- ---- kernel objects change
+
+-- one of them is at another state
+pub performed_by : (i : Inside) (l : Live) (kernels : Kernels) (rows : List KernelRow) → shown i ≡ l → IsLiveWorld i → kernels ≡ record i.kernels { rows = rows } → length rows ≡ length i.kernels.rows
+    → Becomes (record i { kernels = kernels }) (with_kernels l rows)
+performed_by i l kernels rows is k now long =
+    let w : World = (shown i).world in
+    let living : forget w ≡ w = ap (λ cs. record w { callbacks = cs }) k.alive.live in
+    let b = became_by (record i { kernels = kernels }) (record w { kernels = rows }) (sound_kernels (i.made + 1) w rows k.sound)
+    (subst (λ (x : Kernels). After (record i { kernels = x }) (record w { kernels = rows })) (sym now)
+    (record {
+      shows = sym (ap (λ (x : World). record x { kernels = rows }) living);
+      sized = k.sized;
+      alive = k.alive;
+      queued = k.queued;
+      tallied = k.tallied;
+      listed = k.listed;
+      pending = k.pending;
+      covered = k.covered;
+      timed = k.timed;
+      wanted = k.wanted;
+      kernels = record { kernel_limit = k.kernels.kernel_limit; kernels_within = omega (arith, long, k.kernels.kernels_within); unarmed = k.kernels.unarmed };
+    })) in
+    record { keeps = b.keeps; becomes = b.becomes ∙ ap (λ (x : World). record { world = record x { kernels = rows }; made = i.made }) living ∙ ap (λ (x : Live). with_kernels x rows) is }

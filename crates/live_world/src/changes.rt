@@ -3,7 +3,9 @@
 
 ghost use Rattle.std.specs.Prelude.{◌≡◌, ◌+◌, ◌^◌, ◌<◌, ◌≤◌, [], filter, true, Some};
 ghost use Rattle.tp_model.specs.Counts.{callback_of, is_pending as is_pending_by};
-ghost use Rattle.tp_base.specs.Actions.{filled as filled_by};
+ghost use Rattle.tp_base.specs.Actions.{change_asked as change_asked_by, filled as filled_by};
+ghost use Rattle.tp_base.specs.Kernels.{state_after};
+ghost use Rattle.tp_model.specs.Kernels.{is_kernel_that, kernel_changed};
 ghost use Rattle.tp_model.specs.Actions.{asking as asking_by, perform};
 ghost use Rattle.tp_model.specs.Changes.{with_callback, without_run, loosened as loosened_by, begin_wait};
 ghost use Rattle.tp_model.specs.Waits.{cancelled, is_cancelled_by};
@@ -11,7 +13,7 @@ ghost use Rattle.tp_model.specs.Support.Allowed.{IsAllowed, MayBegin, Runs};
 ghost use Rattle.tp_model.specs.Support.Ranged.{AreTakenAtMost};
 ghost use Rattle.live_world.specs.Parts.{priority_byte as priority_byte_of};
 ghost use Rattle.live_world.specs.Live.{moved, became, with_kernels, without_pending, settled};
-ghost use Rattle.live_world.specs.Performing.{MayPerform};
+ghost use Rattle.live_world.specs.Performing.{MayPerform, fits};
 
 use crate::LiveWorld;
 use crate::begun::Begins;
@@ -71,6 +73,17 @@ fn asking(kind: ActionKind, action: Action, status: Status) -> Status
             slots: filled(kind, action, slots),
         },
         _ => status,
+    }
+}
+
+// What an action on return does to its kernel object.
+fn change_asked(kind: ActionKind, count: u32) -> KernelChange
+    ensures { result ≡ change_asked_by kind count }
+{
+    match kind {
+        ActionKind::Section | ActionKind::Mutex => KernelChange::Leave,
+        ActionKind::Semaphore => KernelChange::Raise(count),
+        ActionKind::Event => KernelChange::Set,
     }
 }
 
@@ -303,21 +316,23 @@ impl LiveWorld {
         let _was_there = self.callbacks.replace(asking);
     }
 
-    // Performs an action, if its word says so.
+    // Does what an action on return asks for.
+    fn act(&mut self, kind: ActionKind, action: Action)
+        requires { is_kernel_that (fits kind action.count) self.old.world action.kernel.0 ≡ true }
+        ensures { self.new ≡ with_kernels self.old (kernel_changed (state_after (change_asked_by kind action.count)) self.old.world.kernels action.kernel.0) }
+    {
+        self.kernels
+            .change(action.kernel, change_asked(kind, action.count));
+    }
+
+    // Performs an action on return, if its word says so.
     fn perform(&mut self, kind: ActionKind, word: SlotWord, action: Option<Action>)
         requires { MayPerform self.old.world kind word action }
         ensures { self.new ≡ with_kernels self.old (perform kind word action self.old.world.kernels) }
     {
-        self.is_reachable();
-        if let (SlotWord::Performed, Some(action)) = (word, action) {
-            self.kernels.change(
-                action.kernel,
-                match kind {
-                    ActionKind::Section | ActionKind::Mutex => KernelChange::Leave,
-                    ActionKind::Semaphore => KernelChange::Raise(action.count),
-                    ActionKind::Event => KernelChange::Set,
-                },
-            );
+        match (word, action) {
+            (SlotWord::Performed, Some(action)) => self.act(kind, action),
+            _ => {}
         }
     }
 

@@ -7,7 +7,7 @@ use Rattle.tp_base.specs.declared.ids.Who.{Who}
 use Rattle.tp_base.specs.declared.answers.ActionKind.{ActionKind}
 use Rattle.tp_base.specs.declared.answers.ActionKind.TheVariants.{Section, Mutex, Semaphore, Event}
 use Rattle.tp_base.specs.declared.answers.SlotWord.{SlotWord}
-use Rattle.tp_base.specs.declared.answers.SlotWord.TheVariants.{Performed, OverMaximum}
+use Rattle.tp_base.specs.declared.answers.SlotWord.TheVariants.{Performed, OverMaximum, NotOwner}
 use Rattle.tp_base.specs.declared.plans.ActionWords.{ActionWords}
 use Rattle.tp_base.specs.declared.plans.KernelChange.{KernelChange}
 use Rattle.tp_base.specs.declared.plans.KernelChange.TheVariants.{Set, Raise, Leave}
@@ -16,7 +16,7 @@ use Rattle.tp_base.specs.declared.rows.Slots.{Slots}
 use Rattle.tp_base.specs.declared.rows.KernelState.{KernelState}
 use Rattle.tp_base.specs.declared.rows.KernelState.TheVariants as state
 use Rattle.tp_base.specs.declared.rows.KernelRow.{KernelRow}
-use Rattle.tp_base.specs.Kernels.{state_after}
+use Rattle.tp_base.specs.Kernels.{is_event, state_after}
 use Rattle.tp_base.specs.Actions.{slot, may_perform, may_raise, left_out, change_asked, word, is_unasked, is_performed}
 use Rattle.tp_model.specs.World.{World}
 use Rattle.tp_model.specs.Counts.{numbered}
@@ -47,7 +47,7 @@ words_unasked w who slots Event = word_unasked w who Event slots.event
 
 -- ---- what the actions change
 
-abbrev is_that : (KernelState → Bool) → List KernelRow → ℕ → Bool
+abbrev pub is_that : (KernelState → Bool) → List KernelRow → ℕ → Bool
 is_that test kernels kernel = option_map_or (λ (k : KernelRow). test k.state) (numbered kernels kernel) false
 
 -- a test that no change of this kind alters is as it was of all of them
@@ -107,6 +107,15 @@ still_raises more Mutex lock word (Some action) kernels kernel =
 still_raises more Semaphore lock word (Some action) kernels kernel = absurd cc
 still_raises more Event lock word (Some action) kernels kernel = absurd cc
 
+-- what was made stays there
+still_there : (kind : ActionKind) (word : SlotWord) (action : Option Action) (kernels : List KernelRow) (kernel : ℕ) → is_that (λ s. true) (perform kind word action kernels) kernel ≡ is_that (λ s. true) kernels kernel
+still_there kind word None kernels kernel = elim (is_performed word) as (λ b. is_that (λ s. true) (cond b kernels kernels) kernel ≡ is_that (λ s. true) kernels kernel) [ true ↦ refl | false ↦ refl ]
+still_there kind word (Some action) kernels kernel =
+    elim (is_performed word) as (λ b. is_that (λ s. true) (cond b (act kind (Some action) kernels) kernels) kernel ≡ is_that (λ s. true) kernels kernel) [
+      | true ↦ that_kept (λ s. true) (state_after (change_asked kind action.count)) (λ s. refl) kernels action.kernel.0 kernel
+      | false ↦ refl
+    ]
+
 -- ---- ranges
 
 ranged_act : (kind : ActionKind) (action : Option Action) (kernels : List KernelRow) → ((a : Action) → action ≡ Some a → kind ≡ Semaphore → is_that (may_raise a.count) kernels a.kernel.0 ≡ true)
@@ -162,3 +171,34 @@ ranged_performed w who slots words told all =
     ∙ raises w who slots.semaphore a is (sym (ap (λ (ws : ActionWords). is_performed ws.semaphore) told) ∙ does))
     (ranged_perform Mutex words.mutex slots.mutex left (λ a is does semaphore. absurd cc)
     (ranged_perform Section words.section slots.section w.kernels (λ a is does semaphore. absurd cc) all)))
+
+-- ---- each in its turn
+
+-- a semaphore may be raised after the locks were given back
+pub may_raise_still : (w : World) (who : Who) (words : ActionWords) (slots : Slots) → words ≡ words_of w who slots → (a : Action) → slots.semaphore ≡ Some a → is_performed words.semaphore ≡ true
+    → is_that (may_raise a.count) (perform Mutex words.mutex slots.mutex (perform Section words.section slots.section w.kernels)) a.kernel.0 ≡ true
+may_raise_still w who words slots told a is does =
+    still_raises a.count Mutex refl words.mutex slots.mutex (perform Section words.section slots.section w.kernels) a.kernel.0
+    ∙ still_raises a.count Section refl words.section slots.section w.kernels a.kernel.0
+    ∙ raises w who slots.semaphore a is (sym (ap (λ (ws : ActionWords). is_performed ws.semaphore) told) ∙ does)
+
+-- and an event is still there
+pub may_set_still : (w : World) (who : Who) (words : ActionWords) (slots : Slots) → words ≡ words_of w who slots → (a : Action) → slots.event ≡ Some a → is_performed words.event ≡ true
+    → is_that (λ s. true) (perform Semaphore words.semaphore slots.semaphore (perform Mutex words.mutex slots.mutex (perform Section words.section slots.section w.kernels))) a.kernel.0 ≡ true
+may_set_still w who words slots told a is does =
+    still_there Semaphore words.semaphore slots.semaphore (perform Mutex words.mutex slots.mutex (perform Section words.section slots.section w.kernels)) a.kernel.0
+    ∙ still_there Mutex words.mutex slots.mutex (perform Section words.section slots.section w.kernels) a.kernel.0
+    ∙ still_there Section words.section slots.section w.kernels a.kernel.0
+    ∙ there slots.event is (sym (ap (λ (ws : ActionWords). is_performed ws.event) told) ∙ does)
+  where
+    of_row : (row : Option KernelRow) → option_map_or (λ (k : KernelRow). is_event k.state) row false ≡ true → option_map_or (λ (k : KernelRow). true) row false ≡ true
+    of_row None e = e
+    of_row (Some row) e = refl
+
+    there : (action : Option Action) → action ≡ Some a → is_performed (word_of w who Event action) ≡ true → is_that (λ s. true) w.kernels a.kernel.0 ≡ true
+    there None same performs = absurd cc
+    there (Some b) same performs =
+        let same_action : b ≡ a = cc in
+        subst (λ (x : Action). is_that (λ s. true) w.kernels x.kernel.0 ≡ true) same_action
+        (of_row (numbered w.kernels b.kernel.0)
+        (elim (is_kernel_that is_event w b.kernel.0) as (λ t. is_performed (cond t Performed NotOwner) ≡ true → t ≡ true) [ true ↦ λ _. refl | false ↦ λ h. h ] performs))

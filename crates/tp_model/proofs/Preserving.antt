@@ -496,7 +496,7 @@ sound_change_pool fresh w pool how None s = s
 sound_change_pool fresh w pool how (Some row) s = sound_pool fresh w pool (pool_after how row) s
 
 -- kernel objects change
-sound_kernels : (fresh : ℕ) (w : World) (kernels : List KernelRow) → IsSound fresh w → IsSound fresh (record w { kernels = kernels })
+pub sound_kernels : (fresh : ℕ) (w : World) (kernels : List KernelRow) → IsSound fresh w → IsSound fresh (record w { kernels = kernels })
 sound_kernels fresh w kernels s =
     record {
       numbers = s.numbers;
