@@ -1,27 +1,24 @@
-use Rattle.std.proofs.Common.{rules, ◌≡◌, ◌+◌, ◌^◌, ◌<◌, ◌≤◌, [], filter, true, Some, ℕ, ◌-◌, ◌*◌, length, ◌/◌, ◌%◌, Bool, false, nat_eq, nat_lt, List, ◌∷◌, ◌++◌, slice_index_or, slice_set, bit_and, bit_or, Fits, w8, w32, w64, Bor, MutBor}
-use Rattle.tp_model.specs.Counts.{callback_of}
-use Rattle.tp_model.specs.Counts.{is_pending as is_pending_by}
-use Rattle.tp_base.specs.Actions.{change_asked as change_asked_by}
-use Rattle.tp_base.specs.Actions.{filled as filled_by}
-use Rattle.tp_base.specs.Kernels.{state_after}
-use Rattle.tp_model.specs.Kernels.{is_kernel_that, kernel_changed}
-use Rattle.tp_model.specs.Actions.{asking as asking_by}
+use Rattle.std.proofs.Common.{List, ap, ◌∙◌}
+use Rattle.tp_base.specs.declared.rows.KernelRow.{KernelRow}
+use Rattle.tp_base.specs.declared.answers.ActionKind.TheVariants.{Section, Mutex, Semaphore}
 use Rattle.tp_model.specs.Actions.{perform}
-use Rattle.tp_model.specs.Changes.{with_callback, without_run}
-use Rattle.tp_model.specs.Changes.{loosened as loosened_by}
-use Rattle.tp_model.specs.Changes.{begin_wait}
-use Rattle.tp_model.specs.Waits.{cancelled, is_cancelled_by}
-use Rattle.tp_model.specs.Support.Allowed.{IsAllowed, MayBegin, Runs}
-use Rattle.tp_model.specs.Support.Ranged.{AreTakenAtMost}
-use Rattle.live_world.specs.Parts.{priority_byte as priority_byte_of}
-use Rattle.live_world.specs.Live.{moved, became, with_kernels, without_pending, settled}
-use Rattle.live_world.specs.Performing.{MayPerform, fits}
+use Rattle.live_world.specs.Live.{Live}
+use Rattle.live_world.proofs.Performing.{raises_in_turn, sets_in_turn}
 use Rattle.live_world.proofs.LiveWorld.return_callback.Goals as goal
 
--- src/changes.rt:348:9
-pub perform-requires-3 : goal.perform-requires-3
-perform-requires-3 c = ?
+-- what each step leaves
+abbrev kernels_in : Live → List KernelRow
+kernels_in l = l.world.kernels
 
--- src/changes.rt:349:9
+pub perform-requires-3 : goal.perform-requires-3
+perform-requires-3 c =
+    raises_in_turn c.args.self.now.world c.args.by c.args.words c.requires c.perform-2.new.self.world c.slots_of-slots.result c.slots_of-slots.ensures
+    (ap kernels_in c.perform-2.ensures ∙ ap (λ (l : Live). perform Mutex c.args.words.mutex c.slots_of-slots.result.mutex l.world.kernels) c.perform.ensures
+    ∙ ap (λ (l : Live). perform Mutex c.args.words.mutex c.slots_of-slots.result.mutex (perform Section c.args.words.section c.slots_of-slots.result.section l.world.kernels)) c.end_callback.ensures)
+
 pub perform-requires-4 : goal.perform-requires-4
-perform-requires-4 c = ?
+perform-requires-4 c =
+    sets_in_turn c.args.self.now.world c.args.by c.args.words c.requires c.perform-3.new.self.world c.slots_of-slots.result c.slots_of-slots.ensures
+    (ap kernels_in c.perform-3.ensures ∙ ap (λ (l : Live). perform Semaphore c.args.words.semaphore c.slots_of-slots.result.semaphore l.world.kernels) c.perform-2.ensures
+    ∙ ap (λ (l : Live). perform Semaphore c.args.words.semaphore c.slots_of-slots.result.semaphore (perform Mutex c.args.words.mutex c.slots_of-slots.result.mutex l.world.kernels)) c.perform.ensures
+    ∙ ap (λ (l : Live). perform Semaphore c.args.words.semaphore c.slots_of-slots.result.semaphore (perform Mutex c.args.words.mutex c.slots_of-slots.result.mutex (perform Section c.args.words.section c.slots_of-slots.result.section l.world.kernels))) c.end_callback.ensures)
