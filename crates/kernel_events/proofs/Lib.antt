@@ -1,0 +1,5 @@
+pub mod Arming
+pub mod Has
+pub mod Neighbours
+pub mod Waits
+pub mod Walking

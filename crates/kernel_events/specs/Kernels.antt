@@ -1,10 +1,8 @@
 -- Kernel objects and the wait objects that are armed on them: what a contract sees of `KernelTable`. What one may do with
 -- one kernel object stands in tp_base's Kernels.
-use Rattle.std.specs.Prelude.{◌≡◌, ◌≢◌, ℕ, ◌-◌, ◌==◌, ◌&&◌, not, nat_lt, Bool, false, List, filter, find, Option, None, Some, slice_get, slice_set, if◌then◌else◌}
-use Rattle.std.specs.List.{AllPairs, list_any}
+use Rattle.std.specs.Prelude.{◌≡◌, ℕ, ◌-◌, ◌==◌, ◌&&◌, nat_lt, Bool, false, List, Option, None, Some, slice_get, slice_set, if◌then◌else◌}
 use Rattle.std.specs.Option.{option_map, option_map_or}
 use Rattle.tp_base.specs.declared.ids.ObjectId.{ObjectId}
-use Rattle.tp_base.specs.declared.ids.KernelId.{KernelId}
 use Rattle.tp_base.specs.declared.plans.KernelChange.{KernelChange}
 use Rattle.tp_base.specs.declared.plans.KernelChange.TheVariants.{Raise}
 use Rattle.tp_base.specs.declared.rows.Arming.{Arming}
@@ -12,6 +10,7 @@ use Rattle.tp_base.specs.declared.rows.KernelRow.{KernelRow}
 use Rattle.tp_base.specs.declared.rows.KernelState.{KernelState}
 use Rattle.tp_base.specs.declared.rows.KernelState.TheVariants.{Event, Semaphore}
 use Rattle.tp_base.specs.Kernels.{passes_by}
+use Rattle.kernel_events.specs.Armed.{first_on, without}
 
 -- how many can be made, the greatest number of a wait object, the kernel objects, number k at place k - 1, and the armed
 -- wait objects in the order of arming
@@ -52,29 +51,6 @@ abbrev pub taken : KernelState → KernelState
 taken (Event manual signalled) = Event manual (manual && signalled)
 taken (Semaphore count maximum) = Semaphore (count - 1) maximum
 taken state = state
-
--- the arming of a wait object
-abbrev pub is_of : ℕ → Arming → Bool
-is_of object a = a.object.0 == object
-
-abbrev pub is_armed : ℕ → List Arming → Bool
-is_armed object armed = list_any (is_of object) armed
-
--- without the arming of a wait object
-abbrev pub without : ℕ → List Arming → List Arming
-without object armed = filter (λ a. not (is_of object a)) armed
-
--- it is armed on this kernel object
-abbrev pub is_on : ℕ → Arming → Bool
-is_on kernel a = a.kernel.0 == kernel
-
--- no wait object is armed twice
-abbrev pub HasDistinctObjects : List Arming → Type 0
-HasDistinctObjects armed = AllPairs (λ a b. a.object.0 ≢ b.object.0) armed
-
--- the earliest that is armed on a kernel object
-abbrev pub first_on : ℕ → List Arming → Option ObjectId
-first_on kernel armed = option_map (λ (a : Arming). a.object) (find (is_on kernel) armed)
 
 -- a kernel object that was made and is signalled
 abbrev pub is_signalled_at : Kernels → ℕ → Bool

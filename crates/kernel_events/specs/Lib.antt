@@ -1,2 +1,5 @@
-pub mod Kernels
+pub mod Armed
 pub mod Kept
+pub mod Kernels
+pub mod Linked
+pub mod Walked

@@ -24,15 +24,19 @@
 
 ghost use Rattle.std.specs.Prelude.{◌≡◌, ◌+◌, ◌<◌, ◌≤◌, ◌^◌, ◌++◌, ◌∷◌, [], All, IfOk, IfSome, IsSome, false, length, true};
 ghost use Rattle.tp_base.specs.Kernels.{may_take, state_after as after_change, taken_by as after_taking, takings_of};
-ghost use Rattle.kernel_events.specs.Kernels.{HasDistinctObjects, Suits, new_row, numbered, rows_with, state_of};
+ghost use Rattle.kernel_events.specs.Armed.{HasDistinctObjects, first_on, is_armed, without};
+ghost use Rattle.kernel_events.specs.Kernels.{Suits, new_row, next_released, numbered, release_to, rows_with, state_of};
 
-use states::{state_after, taken_by};
+use armings::Armings;
+use states::{is_signalled, state_after, taken, taken_by};
 use std::alloc::{AllocError, Global};
 use std::marker::Model;
 use tp_base::ids::{KernelId, ObjectId, Who};
 use tp_base::plans::KernelChange;
 use tp_base::rows::{KernelRow, KernelState};
 
+mod armings;
+mod links;
 pub mod states;
 
 /// The kernel objects that were made, and the wait objects that are armed on them.
@@ -40,17 +44,16 @@ pub mod states;
 pub struct KernelTable {
     limit: u32,
     rows: Vec<KernelRow>,
-    objects: u32,
+    armings: Armings,
 }
 
 impl Model for KernelTable {
-    ghost use Rattle.std.specs.Prelude.{[]};
     ghost use Rattle.kernel_events.specs.Kernels.{Kernels};
     ghost use Rattle.kernel_events.specs.Kept.{IsKept};
 
     ghost Value = { Kernels };
 
-    ghost view = { λ a. record { limit = a.limit; objects = a.objects; rows = a.rows.items; armed = [] } };
+    ghost view = { λ a. record { limit = a.limit; objects = a.armings.objects; rows = a.rows.items; armed = a.armings.armed } };
 
     ghost invariant = { IsKept };
 }
@@ -66,19 +69,14 @@ impl KernelTable {
         Ok(KernelTable {
             limit,
             rows: Vec::with_capacity(alloc, limit as usize)?,
-            objects,
+            armings: Armings::open(alloc, limit, objects)?,
         })
     }
 
-    /// How many kernel objects were made. There are never more than the limit, and no wait object is
-    /// armed twice.
+    /// How many kernel objects were made. There are never more than the limit.
     pub fn len(&self) -> u32
         ensures value { result ≡ length self.now.rows }
         ensures limited { length self.now.rows ≤ self.now.limit }
-        ensures distinct { HasDistinctObjects self.now.armed }
-        ensures least { All (λ a. 1 ≤ a.object.0) self.now.armed }
-        ensures most { All (λ a. a.object.0 ≤ self.now.objects) self.now.armed }
-        ensures made { All (λ a. IsSome (numbered self.now.rows a.kernel.0)) self.now.armed }
     {
         self.rows.len() as u32
     }
@@ -123,4 +121,62 @@ impl KernelTable {
         let row = &mut self.rows[kernel.0 as usize - 1];
         row.state = taken_by(who, row.state);
     }
+
+    /// Arms a wait object that isn't armed on a kernel object, behind all others: SetThreadpoolWait.
+    pub fn arm(&mut self, object: ObjectId, kernel: KernelId)
+        requires made { IsSome (numbered self.old.rows kernel.0) }
+        requires least { 1 ≤ object.0 }
+        requires most { object.0 ≤ self.old.objects }
+        requires free { is_armed object.0 self.old.armed ≡ false }
+        ensures { self.new ≡ record self.old { armed = self.old.armed ++ record { object = object; kernel = kernel } ∷ [] } }
+    {
+        self.armings.arm(object, kernel);
+    }
+
+    /// Disarms a wait object, and says whether it was armed. Where it wasn't, nothing changes.
+    pub fn disarm(&mut self, object: ObjectId) -> bool
+        ensures was { result ≡ is_armed object.0 self.old.armed }
+        ensures after { self.new ≡ record self.old { armed = without object.0 self.old.armed } }
+    {
+        self.armings.disarm(object)
+    }
+
+    /// Whether a wait object is armed. None is armed twice, and each has a number from 1 to the
+    /// greatest that there can be.
+    pub fn is_armed(&self, object: ObjectId) -> bool
+        ensures value { result ≡ is_armed object.0 self.now.armed }
+        ensures distinct { HasDistinctObjects self.now.armed }
+        ensures least { All (λ a. 1 ≤ a.object.0) self.now.armed }
+        ensures most { All (λ a. a.object.0 ≤ self.now.objects) self.now.armed }
+    {
+        self.armings.kernel_of(object).is_some()
+    }
+
+    /// The wait object that was armed earliest on this kernel object, or None where none is armed on
+    /// it.
+    pub fn first_armed(&self, kernel: KernelId) -> Option<ObjectId>
+        ensures { result ≡ first_on kernel.0 self.now.armed }
+    {
+        self.armings.first_on(kernel)
+    }
+
+    /// Lets a kernel object that is signalled release the wait object that was armed earliest on it:
+    /// that is disarmed, and takes the kernel object once. None exactly where the kernel object isn't
+    /// signalled, or no wait object is armed on it, and then nothing changes.
+    pub fn next_released(&mut self, kernel: KernelId) -> Option<ObjectId>
+        ensures released { result ≡ next_released kernel.0 self.old }
+        ensures after { self.new ≡ release_to kernel.0 self.old (next_released kernel.0 self.old) }
+    {
+        let state = self.get(kernel)?;
+        if !is_signalled(state) {
+            return None;
+        }
+        let object = self.first_armed(kernel)?;
+        self.armings.disarm(object);
+        self.rows[kernel.0 as usize - 1].state = taken(state);
+        Some(object)
+    }
 }
+
+#[cfg(test)]
+mod tests;

@@ -325,6 +325,7 @@ module _ {limits : Limits} {cs : List CallbackRow} {waits : List BegunWait} {bar
       (sym (ap (option_map (held_among cs)) (ended_gone who waits)))
       (λ other e. ended_elsewhere who other e waits)
       (all_filter (IsWaitKept limits) (λ (b : BegunWait). not (is_same_actor b.actor who)) waits k.waits_kept) k
+
 -- the barrier of an actor that has begun no wait
 pub idle_there : {limits : Limits} {cs : List CallbackRow} {waits : List BegunWait} {barriers : Covers} (who : Who) (place : ℕ) → place_of limits who ≡ Some place → list_any (λ (b : BegunWait). is_same_actor b.actor who) waits ≡ false
     → AreCovered limits cs waits barriers → wait_of barriers place ≡ None

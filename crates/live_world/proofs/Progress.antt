@@ -1,5 +1,5 @@
 -- How far a wait has come.
-use Rattle.std.proofs.Common.{◌≡◌, ℕ, Bool, true, false, cond, not, List, [], ◌∷◌, slice_get, Option, Some, None, is_some, is_none, refl, sym, ap, ◌∙◌, option_map, unwrap_or, get_or, arith, ◌+◌, ◌<◌}
+use Rattle.std.proofs.Common.{◌≡◌, ℕ, Bool, true, false, cond, not, List, [], ◌∷◌, slice_get, Option, Some, None, is_some, is_none, refl, sym, ap, ◌∙◌, option_map, unwrap_or, get_or, arith}
 use Rattle.std.specs.List.{list_any}
 use Rattle.std.specs.Option.{option_map_or}
 use Rattle.std.proofs.lemmas.List.{get_or_default}

@@ -1,12 +1,10 @@
 -- The kernel objects, as they are made and changed and as waits for them end.
-use Rattle.std.proofs.Common.{◌≡◌, ℕ, ◌+◌, ◌<◌, ◌≤◌, ◌^◌, ◌-◌, true, List, [], ◌∷◌, ◌++◌, length, get_or, slice_set, Option, Some, None, IsSome, IfSome, is_some, refl, sym, ap, ap₂, ◌∙◌, subst, arith, length-append, length-set}
+use Rattle.std.proofs.Common.{◌≡◌, ℕ, ◌+◌, ◌<◌, ◌≤◌, ◌^◌, ◌-◌, true, List, length, slice_set, Option, Some, None, IfSome, is_some, refl, sym, ap, subst, arith, length-set}
 use Rattle.std.specs.Option.{option_map_or}
 use Rattle.tp_base.specs.declared.ids.Who.{Who}
 use Rattle.tp_base.specs.declared.ids.KernelId.{KernelId}
-use Rattle.tp_base.specs.declared.plans.KernelChange.{KernelChange}
 use Rattle.tp_base.specs.declared.plans.WaitEnd.{WaitEnd}
 use Rattle.tp_base.specs.declared.plans.WaitEnd.TheVariants.{Free, Exhausted}
-use Rattle.tp_base.specs.declared.plans.Change.TheVariants as change
 use Rattle.tp_base.specs.declared.rows.KernelState.{KernelState}
 use Rattle.tp_base.specs.declared.rows.KernelRow.{KernelRow}
 use Rattle.tp_base.specs.declared.rows.WaitTarget.{WaitTarget}
@@ -18,16 +16,13 @@ use Rattle.tp_model.specs.Counts.{numbered}
 use Rattle.tp_model.specs.Kernels.{with_row, kernel_changed}
 use Rattle.tp_model.specs.Waits.{wait_of}
 use Rattle.tp_model.specs.Changes.{kernels_taken, kernels_left}
-use Rattle.tp_model.specs.Support.Allowed.{IsAllowed, MayEnd, IsTakeable}
+use Rattle.tp_model.specs.Support.Allowed.{MayEnd, IsTakeable}
 use Rattle.tp_model.specs.Support.Ranged.{AreTakenAtMost}
 use Rattle.tp_model.proofs.Kernels.{that_stands}
 use Rattle.tp_model.proofs.Lists.{all_get}
 use Rattle.tp_model.proofs.Refusals.{numbered_some}
-use Rattle.live_world.specs.declared.LiveWorld.TheInside.{Inside}
-use Rattle.live_world.specs.Live.{Live}
 use Rattle.live_world.specs.Parts.{kernel_in, wanted_by}
 use Rattle.live_world.specs.Taking.{IsFreeFor, rows_left}
-use Rattle.live_world.specs.View.{shown, IsLiveWorld}
 
 -- a changed row, as the table tells it and as the model does
 pub same_rows : (f : KernelState → KernelState) (rows : List KernelRow) (kernel : ℕ) → rows_with f rows kernel ≡ kernel_changed f rows kernel

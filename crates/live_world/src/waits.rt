@@ -28,10 +28,7 @@ pub enum Progress {
 }
 
 // Of so many actors none waits for a kernel object.
-pub(crate) fn open_wanted(
-    alloc: Global,
-    actors: u32,
-) -> Result<Vec<Option<KernelId>>, AllocError>
+pub(crate) fn open_wanted(alloc: Global, actors: u32) -> Result<Vec<Option<KernelId>>, AllocError>
     ensures { IfOk result (λ wanted. wanted.items ≡ replicate actors None) }
 {
     vec![in alloc; None; actors as usize]
