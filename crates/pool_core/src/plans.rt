@@ -76,7 +76,9 @@ pub(crate) fn plan(
         Call::ReleaseSemaphore { kernel, count } => kernels::release_semaphore(
             world, who, kernel, count, change,
         ),
-        Call::ReleaseLock { lock, kernel } => kernels::release_lock(world, who, lock, kernel, change),
+        Call::ReleaseLock { lock, kernel } => kernels::release_lock(
+            world, who, lock, kernel, change,
+        ),
         Call::Attach => workers::attach(world, who, change),
         Call::Detach => workers::detach(world, who, change),
         Call::Take => workers::take(world, who, change),

@@ -66,7 +66,10 @@ pub(crate) fn begin_acquire(
 {
     let actor = world.actor(who);
     let refusal = first_of!([
-        (either(!actor.exists, !world.is_kernel(kernel)), Refusal::NoSuch),
+        (
+            either(!actor.exists, !world.is_kernel(kernel)),
+            Refusal::NoSuch
+        ),
         (actor.finished, Refusal::Released),
         (actor.is_idle, Refusal::NotRunning),
         (actor.in_wait, Refusal::InWait),
