@@ -18,7 +18,7 @@ const SEMAPHORE: KernelId = KernelId(2);
 
 const LOCK: KernelId = KernelId(3);
 
-// What the state of a kernel object is, for comparison.
+// Whether the worker may take a kernel object that was made.
 fn signalled(kernels: &KernelTable, kernel: KernelId) -> bool {
     match kernels.get(kernel) {
         Some(state) => may_take(WORKER, state),
