@@ -29,7 +29,7 @@ few fresh w (change.Attach worker pool) most a = record { made = omega arith; co
 few fresh w (change.Detach by) most a = record { made = omega arith; cost = omega arith }
 few fresh w (change.Take by callback) most a = record { made = omega arith; cost = omega arith }
 few fresh w (change.Mark by mark) most a = record { made = omega arith; cost = omega arith }
-few fresh w (change.Return by) most a = record { made = omega arith; cost = omega arith }
+few fresh w (change.Return by words) most a = record { made = omega arith; cost = omega arith }
 few fresh w (change.BeginWait who target cancel) most a = record { made = omega arith; cost = omega arith }
 few fresh w (change.EndWait who how) most a = record { made = omega arith; cost = omega arith }
 few fresh w (change.Finish client) most a = record { made = omega arith; cost = omega arith }
