@@ -14,7 +14,7 @@ use Rattle.tp_lines.specs.declared.words.Word.TheVariants as word
 use Rattle.tp_lines.specs.Parts.{AreFit, parts_of, row_text}
 use Rattle.tp_lines.specs.Rows.{RowTexts}
 use Rattle.tp_lines.specs.Shapes.{table_of_kind}
-use Rattle.tp_lines.specs.Values.{part_at, small_of, large_of, due_of, kind_of, priority_of, length_of, how_of, reset_of, signal_of, lock_of, owner_of}
+use Rattle.tp_lines.specs.Values.{part_at, small_of, large_of, due_of, kind_of, priority_of, length_of, how_of, reset_of, signal_of, lock_of, owner_of, action_of}
 use Rattle.tp_lines.specs.Words.{text_of_who}
 
 abbrev pub environ_parts : Environ → List Part
@@ -50,6 +50,7 @@ row_of call.Take = (word.Take, [])
 row_of call.Return = (word.Return, [])
 row_of call.MayRunLong = (word.MayRunLong, [])
 row_of call.Disassociate = (word.Disassociate, [])
+row_of (call.OnReturn kind kernel count) = (word.OnReturn, part.Word (word.Action kind) ∷ part.Short kernel.0 ∷ part.Units count ∷ [])
 row_of call.Finish = (word.Finish, [])
 
 -- the line of a call, without its line feed
@@ -135,5 +136,6 @@ call_at word.Take parts = Some call.Take
 call_at word.Return parts = Some call.Return
 call_at word.MayRunLong parts = Some call.MayRunLong
 call_at word.Disassociate parts = Some call.Disassociate
+call_at word.OnReturn parts = Some (call.OnReturn (action_of (part_at parts 1)) (record { 0 = small_of (part_at parts 2) }) (small_of (part_at parts 3)))
 call_at word.Finish parts = Some call.Finish
 call_at _ parts = None

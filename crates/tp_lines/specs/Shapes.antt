@@ -48,6 +48,7 @@ shape_of word.Take = record { table = field.Call; text = codes "take"; fields = 
 shape_of word.Return = record { table = field.Call; text = codes "return"; fields = [] }
 shape_of word.MayRunLong = record { table = field.Call; text = codes "may-run-long"; fields = [] }
 shape_of word.Disassociate = record { table = field.Call; text = codes "disassociate"; fields = [] }
+shape_of word.OnReturn = record { table = field.Call; text = codes "on-return"; fields = field.Action ∷ field.Short ∷ field.Units ∷ [] }
 shape_of word.Finish = record { table = field.Call; text = codes "finish"; fields = [] }
 shape_of word.Done = record { table = field.Answer; text = codes "ok"; fields = [] }
 shape_of word.Made = record { table = field.Answer; text = codes "made"; fields = field.Made ∷ [] }

@@ -110,6 +110,11 @@ fn call_at(word: Word, parts: &Parts) -> Option<Call>
         Word::Return => Call::Return,
         Word::MayRunLong => Call::MayRunLong,
         Word::Disassociate => Call::Disassociate,
+        Word::OnReturn => Call::OnReturn {
+            kind: parts.at(1).action(),
+            kernel: KernelId(parts.at(2).small()),
+            count: parts.at(3).small(),
+        },
         Word::Finish => Call::Finish,
         _ => return None,
     };
@@ -306,6 +311,13 @@ pub fn put_call(call: &Call, line: &mut Line)
         Call::Return => line.first(Word::Return),
         Call::MayRunLong => line.first(Word::MayRunLong),
         Call::Disassociate => line.first(Word::Disassociate),
+        Call::OnReturn {
+            kind,
+            kernel,
+            count,
+        } => {
+            parts!(line; first(Word::OnReturn) word(Word::Action(*kind)) number(u64::from(kernel.0)) number(u64::from(*count)));
+        }
         Call::Finish => line.first(Word::Finish),
     }
 }

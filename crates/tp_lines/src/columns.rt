@@ -9,7 +9,7 @@ use std::alloc::{AllocError, Global};
 use std::process::Abort;
 use std::test::Fail;
 
-fn call_patterns() -> [&'static str; 31] {
+fn call_patterns() -> [&'static str; 32] {
     [
         "c&|w~ create-pool",
         "c&|w~ close-pool #",
@@ -41,6 +41,7 @@ fn call_patterns() -> [&'static str; 31] {
         "c&|w~ return",
         "c&|w~ may-run-long",
         "c&|w~ disassociate",
+        "c&|w~ on-return ACTION # *",
         "c&|w~ finish",
     ]
 }
@@ -71,7 +72,7 @@ fn answer_patterns() -> [&'static str; 26] {
         "refused not-attached|already-attached",
         "refused has-members #",
         "refused operations-outstanding #",
-        "refused slot-taken section|mutex|semaphore|event",
+        "refused slot-taken ACTION",
         "refused over-maximum %",
     ]
 }
@@ -87,6 +88,7 @@ fn alternatives(field: &str) -> &str {
         "LOCK" => "mutex|section",
         "OWNER" => "free|owned",
         "DUE" => "none|^|-=",
+        "ACTION" => "section|mutex|semaphore|event",
         "SLOT" => "-|done|not-owner|over-maximum",
         _ => field,
     }

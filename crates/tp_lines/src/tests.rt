@@ -322,6 +322,42 @@ fn faults_of_sets_and_releases(rt: HostRuntime) {
     }
 }
 
+#[test]
+fn faults_of_actions_on_return(rt: HostRuntime) {
+    let cases = [
+        ("w1 o", 5, LineKind::Unfinished),
+        ("w1 on-ret", 10, LineKind::Unfinished),
+        ("w1 on return", 6, LineKind::Unexpected),
+        ("w1 on-return", 13, LineKind::Unfinished),
+        ("w1 on-returns event 1 1", 13, LineKind::Unexpected),
+        ("w1 on-return lock 1 1", 14, LineKind::Unexpected),
+        ("w1 on-return 2 semaphore 1", 14, LineKind::Unexpected),
+        ("w1 on-return set 1 1", 16, LineKind::Unexpected),
+        ("w1 on-return sem", 17, LineKind::Unfinished),
+        ("w1 on-return mutexes 1 1", 19, LineKind::Unexpected),
+        ("w1 on-return semaphore", 23, LineKind::Unfinished),
+        ("w1 on-return event k1 1", 20, LineKind::Unexpected),
+        ("w1 on-return mutex 01 1", 21, LineKind::Unexpected),
+        ("w1 on-return event 65536 1", 24, LineKind::Unexpected),
+        ("w1 on-return section 1", 23, LineKind::Unfinished),
+        ("w1 on-return section 1 0", 24, LineKind::Unexpected),
+        ("w1 on-return semaphore 1 -1", 26, LineKind::Unexpected),
+        (
+            "w1 on-return semaphore 1 2147483648",
+            35,
+            LineKind::Unexpected,
+        ),
+        (
+            "w1 on-return event 65535 2147483647 ",
+            36,
+            LineKind::Unexpected,
+        ),
+    ];
+    for (text, column, kind) in cases {
+        check_call_fault(&rt, text, LineFault { column, kind });
+    }
+}
+
 // The text is read as this call, and printed again in an entry.
 fn check_call(
     rt: &impl Abort,
@@ -613,6 +649,49 @@ fn calls_of_kernel_objects_there_and_back(rt: HostRuntime) -> Result<(), Fail> {
     Ok(())
 }
 
+fn on_return(kind: ActionKind, kernel: u32, count: u32) -> Call {
+    Call::OnReturn {
+        kind,
+        kernel: KernelId(kernel),
+        count,
+    }
+}
+
+#[test]
+fn actions_on_return_there_and_back(rt: HostRuntime) -> Result<(), Fail> {
+    let most = 2_147_483_647;
+    let cases = [
+        (
+            "w1 on-return section 0 1",
+            on_return(ActionKind::Section, 0, 1),
+        ),
+        (
+            "w1 on-return section 65535 2147483647",
+            on_return(ActionKind::Section, 65_535, most),
+        ),
+        (
+            "w1 on-return mutex 65535 1",
+            on_return(ActionKind::Mutex, 65_535, 1),
+        ),
+        (
+            "w1 on-return semaphore 2 1",
+            on_return(ActionKind::Semaphore, 2, 1),
+        ),
+        (
+            "w1 on-return semaphore 65535 2147483647",
+            on_return(ActionKind::Semaphore, 65_535, most),
+        ),
+        (
+            "w1 on-return event 7 12",
+            on_return(ActionKind::Event, 7, 12),
+        ),
+    ];
+    for (text, call) in cases {
+        check_call(&rt, rt.alloc(), text, Who::Worker(1), call)?;
+    }
+    Ok(())
+}
+
 #[test]
 fn faults_of_entries(rt: HostRuntime) {
     let cases = [
@@ -710,6 +789,49 @@ fn faults_of_entries_of_pools(rt: HostRuntime) {
         ("c1 take => ok", 9, LineKind::Unexpected),
         ("c1 take ->  ok", 12, LineKind::Unexpected),
         ("c1 take -> ok\r", 14, LineKind::Unexpected),
+    ];
+    for (text, column, kind) in cases {
+        check_entry_fault(&rt, text, LineFault { column, kind });
+    }
+}
+
+#[test]
+fn faults_of_returns(rt: HostRuntime) {
+    let cases = [
+        ("w1 return -> returned over", 27, LineKind::Unfinished),
+        ("w1 return -> returned section", 23, LineKind::Unexpected),
+        ("w1 return -> returned -- - - 0 0", 24, LineKind::Unexpected),
+        (
+            "w1 return -> returned not-owned - - - 0 0",
+            31,
+            LineKind::Unexpected,
+        ),
+        (
+            "w1 return -> returned - - - - - 0 0",
+            31,
+            LineKind::Unexpected,
+        ),
+        (
+            "w1 return -> returned - - done 0 0",
+            32,
+            LineKind::Unexpected,
+        ),
+        (
+            "w1 return -> returned - - - done 0 65536",
+            40,
+            LineKind::Unexpected,
+        ),
+        ("w1 on-return event 1 -> ok", 22, LineKind::Unexpected),
+        (
+            "w1 on-return event 1 1 -> refused slot-taken",
+            45,
+            LineKind::Unfinished,
+        ),
+        (
+            "w1 on-return event 1 1 -> refused slot-taken sections",
+            53,
+            LineKind::Unexpected,
+        ),
     ];
     for (text, column, kind) in cases {
         check_entry_fault(&rt, text, LineFault { column, kind });
@@ -898,6 +1020,65 @@ fn entries_there_and_back(rt: HostRuntime) -> Result<(), Fail> {
     ];
     for (text, answer) in cases {
         check_entry(&rt, rt.alloc(), text, answer)?;
+    }
+    Ok(())
+}
+
+// A callback that made nothing pending as it returned, by its four actions.
+fn returned(section: SlotWord, mutex: SlotWord, semaphore: SlotWord, event: SlotWord) -> Answer {
+    Answer::Returned {
+        section,
+        mutex,
+        semaphore,
+        event,
+        first: 0,
+        count: 0,
+    }
+}
+
+#[test]
+fn returns_there_and_back(rt: HostRuntime) -> Result<(), Fail> {
+    let none = SlotWord::Unasked;
+    let done = SlotWord::Performed;
+    let other = SlotWord::NotOwner;
+    let over = SlotWord::OverMaximum;
+    let cases = [
+        (
+            "w7 return -> returned - - - - 0 0",
+            returned(none, none, none, none),
+        ),
+        (
+            "w7 return -> returned done - over-maximum not-owner 0 0",
+            returned(done, none, over, other),
+        ),
+        (
+            "w7 return -> returned not-owner over-maximum - done 0 0",
+            returned(other, over, none, done),
+        ),
+        (
+            "w7 return -> returned over-maximum not-owner done - 0 0",
+            returned(over, other, done, none),
+        ),
+    ];
+    for (text, answer) in cases {
+        check_entry(&rt, rt.alloc(), text, answer)?;
+    }
+    Ok(())
+}
+
+#[test]
+fn kinds_of_taken_actions_there_and_back(rt: HostRuntime) -> Result<(), Fail> {
+    let cases = [
+        (
+            "w7 return -> refused slot-taken section",
+            ActionKind::Section,
+        ),
+        ("w7 return -> refused slot-taken mutex", ActionKind::Mutex),
+        ("w7 return -> refused slot-taken event", ActionKind::Event),
+    ];
+    for (text, kind) in cases {
+        let held = Answer::Refused(Refusal::SlotTaken { kind });
+        check_entry(&rt, rt.alloc(), text, held)?;
     }
     Ok(())
 }

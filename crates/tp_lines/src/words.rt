@@ -109,6 +109,7 @@ pub enum Word {
     Return,
     MayRunLong,
     Disassociate,
+    OnReturn,
     Finish,
     Done,
     Made,
@@ -217,6 +218,7 @@ macro_rules! words {
                 (Word::Return) b"return" [];
                 (Word::MayRunLong) b"may-run-long" [];
                 (Word::Disassociate) b"disassociate" [];
+                (Word::OnReturn) b"on-return" [Action Short Units];
                 (Word::Finish) b"finish" [];
             }
             Answer {
@@ -405,7 +407,7 @@ macro_rules! all_words {
 /// All words.
 #[derive(Clone, Copy)]
 pub struct WordList {
-    pub words: [Word; 118],
+    pub words: [Word; 119],
 }
 
 pub const WORDS: WordList = WordList {
