@@ -6,10 +6,10 @@
 //! and `after` the row that follows a number, so that a caller goes along the list by its numbers.
 //! After `push` of the rows 2, 5 and 9 and `remove(2)`, `find(2)` is None, and `after(2)` is the row 5.
 //!
-//! What a call costs: `remove` only marks a row as one that left, so that no row moves; those that
-//! left are dropped together by the `push` that finds no memory left, which is at most one push in as
-//! many as there are slots. Numbers mostly follow one another, and then the place of a number is told
-//! by its distance from the last; any other is found by halving.
+//! What a call costs: `remove` only marks a row as one that left, so that no row moves. Those that left
+//! are dropped together by a `push` that finds many of them, so that a row moves less than once for one
+//! that left. Numbers mostly follow one another, and then the place of a number is told by its distance
+//! from the last; any other is found by halving.
 
 #![tactic(auto)]
 
@@ -22,7 +22,7 @@ use tp_base::rows::CallbackRow;
 
 mod places;
 
-use places::{first_above, first_row, make_place, place_of};
+use places::{first_above, first_row, make_place, most_entries, place_of};
 
 /// The rows of the callbacks that are under way, in the order of their numbers.
 #[derive(Drop)]
@@ -101,7 +101,8 @@ impl CallbackRows {
         requires last { All (λ c. c.number < row.number) self.old.rows }
         ensures { self.new ≡ record self.old { rows = self.old.rows ++ row ∷ [] } }
     {
-        make_place(&mut self.entries, 2 * self.slots as usize, row.number);
+        let most = most_entries(self.slots, self.count);
+        make_place(&mut self.entries, most, row.number);
         self.entries.push_reserved(Entry { row, there: true });
         self.count += 1;
     }

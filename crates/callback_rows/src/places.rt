@@ -1,6 +1,6 @@
 //! The places of numbers among entries that rise by number, and the entries whose rows left.
 
-ghost use Rattle.std.specs.Prelude.{◌≡◌, ◌≢◌, ◌<◌, ◌≤◌, ◌==◌, All, IfSome, MatchOption, None, drop, find, length, slice_get, true, vec_capacity};
+ghost use Rattle.std.specs.Prelude.{◌≡◌, ◌≢◌, ◌*◌, ◌<◌, ◌≤◌, ◌==◌, All, IfSome, MatchOption, None, drop, find, length, slice_get, true, vec_capacity};
 ghost use Rattle.std.specs.Bool.{OnTrue};
 ghost use Rattle.std.specs.List.Sorted.{IsPartitionPoint};
 ghost use Rattle.callback_rows.specs.Places.{EntriesRise, IsPlaceOf, IsPlaceOfRow, rows_of};
@@ -98,6 +98,19 @@ pub(crate) fn place_of(entries: &[Entry], number: u64) -> Option<usize>
         }
         None => None,
     }
+}
+
+// How many entries there may be, where so many rows are there: few that left, so that what is there stays
+// close together, and enough of them that they are seldom dropped.
+#[inline(always)]
+pub(crate) fn most_entries(slots: u32, count: u32) -> usize
+    requires { count < slots }
+    ensures above { count < result }
+    ensures within { result ≤ 2 * slots }
+{
+    let all = 2 * slots as usize;
+    let some = 4 * count as usize + 1024;
+    if some < all { some } else { all }
 }
 
 // Whether there is memory for one more entry, and its number is above all others.

@@ -17,9 +17,9 @@
 //! ```
 //!
 //! What a call costs: `first` and `after` read one link, `add` and `remove` write at most two besides
-//! the number's own. `remove` only marks a number as one that left, so that none moves; those that left
-//! are dropped together by the `add` that finds no memory left, which is at most one in as many as
-//! there are slots. Numbers mostly follow one another, and then the place of a number is told by its
+//! the number's own. `remove` only marks a number as one that left, so that none moves. Those that left
+//! are dropped together by an `add` that finds many of them, so that a number moves less than once for
+//! one that left. Numbers mostly follow one another, and then the place of a number is told by its
 //! distance from the last; any other is found by halving.
 
 #![tactic(auto)]
@@ -32,7 +32,7 @@ use std::marker::Model;
 
 mod places;
 
-use places::{find_place, make_place, place_of, set_before, set_behind};
+use places::{find_place, make_place, most_nodes, place_of, set_before, set_behind};
 
 /// Numbers with a key each.
 #[derive(Drop)]
@@ -128,7 +128,8 @@ impl KeyedLists {
         requires last { All (λ e. e.number < number) self.old.entries }
         ensures { self.new ≡ record self.old { entries = self.old.entries ++ entry key number ∷ [] } }
     {
-        make_place(&mut self.nodes, 2 * self.slots as usize, number);
+        let most = most_nodes(self.slots, self.count);
+        make_place(&mut self.nodes, most, number);
         let mut ends = self.ends[key as usize];
         let before = ends.last;
         set_behind(&mut self.nodes, &mut ends, before, Some(number));

@@ -1,6 +1,6 @@
 //! Where numbers stand among nodes that rise by number, how links are written, and the nodes that left.
 
-ghost use Rattle.std.specs.Prelude.{◌≡◌, ◌≢◌, ℕ, ◌<◌, ◌≤◌, All, IfSome, MatchOption, length, map, true, vec_capacity};
+ghost use Rattle.std.specs.Prelude.{◌≡◌, ◌≢◌, ℕ, ◌*◌, ◌<◌, ◌≤◌, All, IfSome, MatchOption, length, map, true, vec_capacity};
 ghost use Rattle.std.specs.Bool.{OnTrue};
 ghost use Rattle.std.specs.List.Sorted.{IsPartitionPoint};
 ghost use Rattle.keyed_lists.specs.Linked.{NodesRise, living};
@@ -130,6 +130,19 @@ pub(crate) fn set_before(
         }
         None => ends.last = before,
     }
+}
+
+// How many nodes there may be, where so many numbers are there: few that left, so that what is there stays
+// close together, and enough of them that they are seldom dropped.
+#[inline(always)]
+pub(crate) fn most_nodes(slots: u32, count: u32) -> usize
+    requires { count < slots }
+    ensures above { count < result }
+    ensures within { result ≤ 2 * slots }
+{
+    let all = 2 * slots as usize;
+    let some = 4 * count as usize + 1024;
+    if some < all { some } else { all }
 }
 
 // Whether there is memory for one more node, and its number is above all others.
