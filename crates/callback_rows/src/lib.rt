@@ -9,7 +9,7 @@
 //! What a call costs: `remove` only marks a row as one that left, so that no row moves. Those that left
 //! are dropped together by a `push` that finds many of them, so that a row moves less than once for one
 //! that left. Numbers mostly follow one another, and then the place of a number is told by its distance
-//! from the last; any other is found by halving.
+//! from the last; any other is found by halving. `after` goes over those that left in between.
 
 #![tactic(auto)]
 
@@ -78,6 +78,7 @@ impl CallbackRows {
     }
 
     /// The row of the callback of this number, or None where no such callback is under way.
+    #[inline(always)]
     pub fn find(&self, number: u64) -> Option<CallbackRow>
         ensures { result ≡ find (λ c. c.number == number) self.now.rows }
     {
@@ -110,6 +111,7 @@ impl CallbackRows {
     /// Writes this row in the place of the one of its number.
     ///
     /// Answers whether there was one. Where there was none, nothing changes.
+    #[inline(always)]
     pub fn replace(&mut self, row: CallbackRow) -> bool
         ensures found { result ≡ is_some (find (λ c. c.number == row.number) self.old.rows) }
         ensures after { self.new ≡ record self.old {
@@ -128,6 +130,7 @@ impl CallbackRows {
     /// Takes out the row of the callback of this number.
     ///
     /// Answers whether there was one. Where there was none, nothing changes.
+    #[inline(always)]
     pub fn remove(&mut self, number: u64) -> bool
         ensures found { result ≡ is_some (find (λ c. c.number == number) self.old.rows) }
         ensures after { self.new ≡ record self.old { rows = filter (λ c. not (c.number == number)) self.old.rows } }
