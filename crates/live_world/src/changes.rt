@@ -52,7 +52,6 @@ fn loosened(status: Status) -> Status
 
 impl LiveWorld {
     /// Makes a change that the world allows. It takes no memory.
-    #[inline(always)]
     pub fn apply(&mut self, change: &Change)
         requires allowed { IsAllowed (self.old.made + 1) self.old.world change.now }
         requires young { self.old.made + 65536 ≤ 2 ^ 63 }
@@ -133,7 +132,6 @@ impl LiveWorld {
     }
 
     // Makes a callback that waits for a worker.
-    #[inline(always)]
     pub(crate) fn queue_callback(&mut self, callback: CallbackRow)
         requires allowed { IsAllowed (self.old.made + 1) self.old.world (Change.QueueCallback callback) }
         requires young { self.old.made < 2 ^ 63 }
@@ -167,7 +165,6 @@ impl LiveWorld {
     }
 
     // Lets a worker run a callback that waits in its pool.
-    #[inline(always)]
     fn take(&mut self, by: Idle, callback: CallbackRow)
         requires { IsAllowed (self.old.made + 1) self.old.world (Change.Take by callback) }
         ensures { self.new ≡ moved self.old (Change.Take by callback) }
@@ -226,7 +223,6 @@ impl LiveWorld {
     }
 
     // Ends the callback that a worker runs. The worker stays attached.
-    #[inline(always)]
     fn return_callback(&mut self, by: Busy)
         requires { IsAllowed (self.old.made + 1) self.old.world (Change.Return by) }
         ensures { self.new ≡ moved self.old (Change.Return by) }

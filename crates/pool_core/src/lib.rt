@@ -106,34 +106,6 @@ impl Engine {
         ensures meets { (w : World) → StandsFor self.old w → Meets self.old self.new w (step w room who call) result }
         ensures in_range { IsOutcomeInRange result }
     {
-        // The calls that a pool makes most have code of their own, in which nothing is asked about the call.
-        match call {
-            Call::SubmitWork { object } => self.make(who, Call::SubmitWork { object }, room),
-            Call::Take => self.make(who, Call::Take, room),
-            Call::Return => self.make(who, Call::Return, room),
-            _ => self.make_any(who, call, room),
-        }
-    }
-
-    // Makes a call, whichever it is.
-    #[inline(never)]
-    fn make_any(&mut self, who: Who, call: Call, room: u64) -> Outcome
-        requires in_range { IsCallInRange call }
-        requires young { self.old.age < 2 ^ 47 }
-        ensures meets { (w : World) → StandsFor self.old w → Meets self.old self.new w (step w room who call) result }
-        ensures in_range { IsOutcomeInRange result }
-    {
-        self.make(who, call, room)
-    }
-
-    // Makes a call.
-    #[inline(always)]
-    fn make(&mut self, who: Who, call: Call, room: u64) -> Outcome
-        requires in_range { IsCallInRange call }
-        requires young { self.old.age < 2 ^ 47 }
-        ensures meets { (w : World) → StandsFor self.old w → Meets self.old self.new w (step w room who call) result }
-        ensures in_range { IsOutcomeInRange result }
-    {
         self.live.is_reachable();
         let mut change = Change::Keep;
         match plan(&self.live, who, call, room, &mut change) {
@@ -163,7 +135,7 @@ impl Engine {
     }
 
     // Makes a change that the world allows, and counts what the history owes and the age.
-    #[inline(always)]
+    #[inline(never)]
     fn apply(&mut self, change: &Change)
         requires allowed { IsAllowed (self.old.made + 1) self.old.world change.now }
         requires in_range { IsChangeInRange change.now }

@@ -13,7 +13,6 @@ use tp_base::ids::Who;
 use tp_base::plans::Change;
 
 /// What a call comes to, where the history has room for so many entries. It changes nothing.
-#[inline(always)]
 pub(crate) fn plan(
     world: &LiveWorld,
     who: Who,
@@ -75,7 +74,6 @@ pub(crate) fn plan(
 }
 
 /// The entries that a change costs: its own, and those that are owed more than before.
-#[inline(always)]
 pub(crate) fn price(change: &Change) -> u64
     ensures { result ≡ price_of change.now }
 {

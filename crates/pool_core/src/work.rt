@@ -16,7 +16,6 @@ use tp_base::plans::Change;
 
 /// Makes a callback of a work object.
 #[tactic(auto, unfolding(tp_model::specs::Calls::Work::submit_work_plan))]
-#[inline(always)]
 pub(crate) fn submit_work(
     world: &LiveWorld,
     who: Who,

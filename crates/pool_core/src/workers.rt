@@ -75,7 +75,6 @@ pub(crate) fn detach(world: &LiveWorld, who: Who, change: &mut Change) -> Decisi
 
 /// A worker begins the next callback of its pool.
 #[tactic(auto, unfolding(tp_model::specs::Calls::Workers::take_plan))]
-#[inline(always)]
 pub(crate) fn take(world: &LiveWorld, who: Who, change: &mut Change) -> Decision
     ensures { decided result change.new ≡ take_plan world.now.world who }
 {
@@ -107,7 +106,6 @@ pub(crate) fn take(world: &LiveWorld, who: Who, change: &mut Change) -> Decision
 
 /// A worker's callback returns.
 #[tactic(auto, unfolding(tp_model::specs::Calls::Workers::return_plan))]
-#[inline(always)]
 pub(crate) fn return_callback(world: &LiveWorld, who: Who, change: &mut Change) -> Decision
     ensures { decided result change.new ≡ return_plan world.now.world who }
 {

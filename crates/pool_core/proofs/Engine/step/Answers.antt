@@ -18,7 +18,7 @@ use Rattle.pool_core.specs.declared.decisions.Decision.{Decision}
 use Rattle.pool_core.specs.View.{remembered, IsEngine}
 use Rattle.pool_core.specs.declared.Engine.TheInside.{Inside}
 use Rattle.pool_core.proofs.Stepping.{meets_looked, meets_refused, meets_done}
-use Rattle.pool_core.proofs.Engine.make.Goals as goal
+use Rattle.pool_core.proofs.Engine.step.Goals as goal
 
 -- the plan is that of what the engine remembers
 planned : (i : Inside) (e : Remembered) (room : ℕ) (who : Who) (call : Call) (change : Change) (decision is : Decision) → remembered i ≡ e → decided decision change ≡ plan_at i.live.world (i.live.made + 1) room who call → decision ≡ is → plan_at e.world (e.made + 1) room who call ≡ decided is change
