@@ -78,7 +78,6 @@ impl CallbackRows {
     }
 
     /// The row of the callback of this number, or None where no such callback is under way.
-    #[inline(always)]
     pub fn find(&self, number: u64) -> Option<CallbackRow>
         ensures { result ≡ find (λ c. c.number == number) self.now.rows }
     {
@@ -111,7 +110,6 @@ impl CallbackRows {
     /// Writes this row in the place of the one of its number.
     ///
     /// Answers whether there was one. Where there was none, nothing changes.
-    #[inline(always)]
     pub fn replace(&mut self, row: CallbackRow) -> bool
         ensures found { result ≡ is_some (find (λ c. c.number == row.number) self.old.rows) }
         ensures after { self.new ≡ record self.old {
@@ -130,7 +128,6 @@ impl CallbackRows {
     /// Takes out the row of the callback of this number.
     ///
     /// Answers whether there was one. Where there was none, nothing changes.
-    #[inline(always)]
     pub fn remove(&mut self, number: u64) -> bool
         ensures found { result ≡ is_some (find (λ c. c.number == number) self.old.rows) }
         ensures after { self.new ≡ record self.old { rows = filter (λ c. not (c.number == number)) self.old.rows } }

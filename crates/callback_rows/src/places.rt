@@ -109,7 +109,7 @@ pub(crate) fn most_entries(slots: u32, count: u32) -> usize
     ensures within { result ≤ 2 * slots }
 {
     let all = 2 * slots as usize;
-    let some = 4 * count as usize + 1024;
+    let some = 8 * count as usize + 2048;
     if some < all { some } else { all }
 }
 
