@@ -1,3 +1,2 @@
-mod Copied
 mod Numbers
 mod Rising

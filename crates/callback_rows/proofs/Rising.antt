@@ -1,27 +1,57 @@
--- Rows that rise by number, as a search by halving sees them.
-use Rattle.std.proofs.Common.{◌≡◌, ◌≢◌, ℕ, ◌<◌, ◌≤◌, ◌∙◌, List, length, get_or, arith, ap}
+-- Entries that rise by number, as a search by halving sees them.
+use Rattle.std.proofs.Common.{◌≡◌, ◌≢◌, ℕ, ◌<◌, ◌≤◌, ◌∙◌, ◌-◌, List, length, get_or, set, arith, ap, ⊎_elim}
 use Rattle.std.specs.List.{All}
 use Rattle.std.specs.List.Sorted.{IsNonDecreasingBy, IsPartitionPoint}
-use Rattle.std.proofs.lemmas.List.{get_or_default}
-use Rattle.tp_base.specs.declared.rows.CallbackRow.{CallbackRow}
-use Rattle.callback_rows.specs.LiveCallbacks.{IsRising}
-use Rattle.callback_rows.specs.Places.{IsPlaceOf}
+use Rattle.std.proofs.lemmas.Bool.{cases_eq, cases_lt}
+use Rattle.std.proofs.lemmas.List.{get_or_default, get_or-set_same, get_or-set_other, length-set}
+use Rattle.callback_rows.specs.declared.Entry.{Entry}
+use Rattle.callback_rows.specs.Places.{EntriesRise, IsPlaceOf}
 
 -- what rises strictly doesn't fall
-pub numbers_rise : (rows : List CallbackRow) → IsRising rows → IsNonDecreasingBy (λ (c : CallbackRow). c.number) rows
-numbers_rise rows rising i j d le within =
-    grind (arith, rising i j d, λ (same : i ≡ j). ap (λ (k : ℕ). (get_or rows k d).number) same)
+pub numbers_rise : (es : List Entry) → EntriesRise es → IsNonDecreasingBy (λ (e : Entry). e.row.number) es
+numbers_rise es rising i j d le within =
+    grind (arith, rising i j d, λ (same : i ≡ j). ap (λ (k : ℕ). (get_or es k d).row.number) same)
 
-module _ (rows : List CallbackRow) (n i : ℕ) (parted : IsPartitionPoint (λ (c : CallbackRow). c.number < n) (λ (c : CallbackRow). n ≤ c.number) rows i) where
-  -- the first row that isn't below n has that number, and the later ones are above it
-  pub place_found : IsRising rows → i < length rows → (e : CallbackRow) → (get_or rows i e).number ≡ n → IsPlaceOf rows n i
-  place_found rising within e here = record {
-    within = within;
-    here = λ d. ap (λ (c : CallbackRow). c.number) (get_or_default rows i d e within) ∙ here;
-    others = λ k d lt other same. grind (arith, parted.0 k d, rising i k d, ap (λ (c : CallbackRow). c.number) (get_or_default rows i d e within));
-  }
+-- the number stands at one place alone
+pub place_here : (es : List Entry) (n i : ℕ) → EntriesRise es → i < length es → (e : Entry) → (get_or es i e).row.number ≡ n → IsPlaceOf es n i
+place_here es n i rising within e here = record {
+  within = within;
+  here = λ d. ap (λ (x : Entry). x.row.number) (get_or_default es i d e within) ∙ here;
+  others = λ k d lt other same. grind (arith, rising i k d, rising k i d, ap (λ (x : Entry). x.row.number) (get_or_default es i d e within));
+}
 
-  -- no row has the number where the first that isn't below n has another
-  pub place_missing : IsRising rows → ((d : CallbackRow) → i < length rows → (get_or rows i d).number ≢ n) → All (λ (c : CallbackRow). c.number ≢ n) rows
-  place_missing rising other k d lt same =
-      grind (arith, parted.0 k d, parted.1 i d, rising i k d, other d, λ (at : i ≡ k). ap (λ (j : ℕ). (get_or rows j d).number) at)
+-- no entry has the number where the first that isn't below n has another
+pub place_missing : (es : List Entry) (n i : ℕ) → IsPartitionPoint (λ (e : Entry). e.row.number < n) (λ (e : Entry). n ≤ e.row.number) es i → EntriesRise es → ((d : Entry) → i < length es → (get_or es i d).row.number ≢ n) → All (λ (e : Entry). e.row.number ≢ n) es
+place_missing es n i parted rising other k d lt same =
+    grind (arith, parted.0 k d, parted.1 i d, rising i k d, other d, λ (at : i ≡ k). ap (λ (j : ℕ). (get_or es j d).row.number) at)
+
+-- another entry of the same number in its place
+pub rise_set : (es : List Entry) (n i : ℕ) (new : Entry) → EntriesRise es → IsPlaceOf es n i → new.row.number ≡ n → EntriesRise (set es i new)
+rise_set es n i new rising at same j k d lt within =
+    let inside : k < length es = omega (arith, within, length-set es i new) in
+    let old = rising j k d lt inside in
+    ⊎_elim
+    (λ (first : j ≡ i).
+    let other = get_or-set_other es i k new d (λ e. omega arith) in
+    let here = get_or-set_same es i new d at.within in
+    let was = at.here d in
+    rw (first, other, here, same) (rw (first, was) at old))
+    (λ (apart : j ≢ i).
+    let one = get_or-set_other es i j new d apart in
+    ⊎_elim
+    (λ (second : k ≡ i).
+    let here = get_or-set_same es i new d at.within in
+    let was = at.here d in
+    rw (one, second, here, same) (rw (second, was) at old))
+    (λ (other : k ≢ i). let two = get_or-set_other es i k new d other in rw (one, two) old)
+    (cases_eq k i))
+    (cases_eq j i)
+
+-- where the last is below n, all are
+pub below_last : (es : List Entry) (n : ℕ) (e : Entry) → EntriesRise es → (get_or es (length es - 1) e).row.number < n → All (λ (x : Entry). x.row.number < n) es
+below_last es n e rising below k d lt =
+    let last = ap (λ (x : Entry). x.row.number) (get_or_default es (length es - 1) d e (omega arith)) in
+    ⊎_elim
+    (λ (before : k < length es - 1). let less = rising k (length es - 1) d before (omega arith) in omega arith)
+    (λ (at : length es - 1 ≤ k). let is : k ≡ length es - 1 = omega arith in rw is (omega arith))
+    (cases_lt k (length es - 1))

@@ -1,12 +1,13 @@
 -- What a list of rows keeps between calls.
-use Rattle.std.specs.Prelude.{◌<◌, ◌≤◌, ◌^◌}
-use Rattle.std.specs.VecDeque.{deque_capacity, deque_len}
-use Rattle.callback_rows.specs.LiveCallbacks.{IsRising}
+use Rattle.std.specs.Prelude.{◌≡◌, ◌<◌, ◌≤◌, ◌*◌, ◌^◌, length, vec_len, vec_capacity}
+use Rattle.callback_rows.specs.Places.{EntriesRise, rows_of}
 use Rattle.callback_rows.specs.declared.CallbackRows.TheInside.{Inside}
 
--- the rows rise, and there is memory for one row a slot
+-- the entries rise, the rows that are there are counted, and there is memory for two entries a slot
 pub record IsReserved (a : Inside) : Type 0 where
-  pub rising : IsRising a.rows.items
+  pub rising : EntriesRise a.entries.items
+  pub counted : a.count ≡ length (rows_of a.entries.items)
   pub fits : a.slots < 2 ^ 32
-  pub limited : deque_len a.rows ≤ a.slots
-  pub reserved : a.slots ≤ deque_capacity a.rows
+  pub limited : a.count ≤ a.slots
+  pub few : vec_len a.entries ≤ 2 * a.slots
+  pub reserved : 2 * a.slots ≤ vec_capacity a.entries

@@ -1,12 +1,15 @@
 //! The callbacks that are under way, seen as a list of rows by rising number.
 //!
-//! `open` takes memory for as many rows as there are slots, and no other call takes any. A callback
-//! is made last in its series, so `push` appends its row; `replace` writes the row of a callback
-//! that moved on, and `remove` takes out one that is over. `find` gives the row of a number, and
-//! `after` the row that follows a number, so that a caller goes along the list by its numbers.
-//! The rows rise by number, so a number is found by halving. `remove` then moves the rows behind the
-//! one that leaves or those before it, whichever are fewer; no other call moves a row. After `push`
-//! of the rows 2, 5 and 9 and `remove(2)`, `find(2)` is None, and `after(2)` is the row 5.
+//! `open` takes memory for twice as many rows as there are slots, and no other call takes any. A
+//! callback is made last in its series, so `push` appends its row; `replace` writes the row of a
+//! callback that moved on, and `remove` takes out one that is over. `find` gives the row of a number,
+//! and `after` the row that follows a number, so that a caller goes along the list by its numbers.
+//! After `push` of the rows 2, 5 and 9 and `remove(2)`, `find(2)` is None, and `after(2)` is the row 5.
+//!
+//! What a call costs: `remove` only marks a row as one that left, so that no row moves. Those that left
+//! are dropped together by a `push` that finds many of them, so that a row moves less than once for one
+//! that left. Numbers mostly follow one another, and then the place of a number is told by its distance
+//! from the last; any other is found by halving. `after` goes over those that left in between.
 
 #![tactic(auto)]
 
@@ -14,19 +17,27 @@ ghost use Rattle.std.specs.Prelude.{◌≡◌, ◌<◌, ◌≤◌, ◌==◌, ◌
 ghost use Rattle.callback_rows.specs.LiveCallbacks.{IsRising};
 
 use std::alloc::{AllocError, Global};
-use std::collections::VecDeque;
 use std::marker::Model;
 use tp_base::rows::CallbackRow;
 
 mod places;
 
-use places::{first_above, place_of};
+use places::{first_above, first_row, make_place, most_entries, place_of};
 
 /// The rows of the callbacks that are under way, in the order of their numbers.
 #[derive(Drop)]
 pub struct CallbackRows {
     slots: u32,
-    rows: VecDeque<CallbackRow>,
+    // How many rows are there.
+    count: u32,
+    entries: Vec<Entry>,
+}
+
+// A row, and whether it is there. One that left stays until the memory is needed.
+#[derive(Clone, Copy)]
+struct Entry {
+    row: CallbackRow,
+    there: bool,
 }
 
 impl Model for CallbackRows {
@@ -34,9 +45,10 @@ impl Model for CallbackRows {
 
     ghost Value = { LiveCallbacks };
 
+    ghost use Rattle.callback_rows.specs.Places.{rows_of};
     ghost use Rattle.callback_rows.specs.Reserved.{IsReserved};
 
-    ghost view = { λ a. record { slots = a.slots; rows = a.rows.items } };
+    ghost view = { λ a. record { slots = a.slots; rows = rows_of a.entries.items } };
 
     ghost invariant = { IsReserved };
 }
@@ -48,8 +60,12 @@ impl CallbackRows {
     pub fn open(alloc: Global, slots: u32) -> Result<CallbackRows, AllocError>
         ensures { IfOk result (λ live. live ≡ record { slots = slots; rows = [] }) }
     {
-        let rows = VecDeque::with_capacity(alloc, slots as usize)?;
-        Ok(CallbackRows { slots, rows })
+        let entries = Vec::with_capacity(alloc, 2 * slots as usize)?;
+        Ok(CallbackRows {
+            slots,
+            count: 0,
+            entries,
+        })
     }
 
     /// How many callbacks are under way. There are never more than slots.
@@ -58,15 +74,15 @@ impl CallbackRows {
         ensures limited { length self.now.rows ≤ self.now.slots }
         ensures rising { IsRising self.now.rows }
     {
-        self.rows.len() as u32
+        self.count
     }
 
     /// The row of the callback of this number, or None where no such callback is under way.
     pub fn find(&self, number: u64) -> Option<CallbackRow>
         ensures { result ≡ find (λ c. c.number == number) self.now.rows }
     {
-        match place_of(&self.rows, number) {
-            Some(place) => Some(self.rows[place]),
+        match place_of(&self.entries, number) {
+            Some(place) => Some(self.entries[place].row),
             None => None,
         }
     }
@@ -75,8 +91,8 @@ impl CallbackRows {
     pub fn after(&self, number: u64) -> Option<CallbackRow>
         ensures { result ≡ find (λ c. nat_lt number c.number) self.now.rows }
     {
-        let place = first_above(&self.rows, number);
-        self.rows.get(place).copied()
+        let place = first_above(&self.entries, number);
+        first_row(&self.entries, place)
     }
 
     /// Appends the row of a new callback, whose number is above all the others'.
@@ -85,7 +101,10 @@ impl CallbackRows {
         requires last { All (λ c. c.number < row.number) self.old.rows }
         ensures { self.new ≡ record self.old { rows = self.old.rows ++ row ∷ [] } }
     {
-        self.rows.push_back_reserved(row);
+        let most = most_entries(self.slots, self.count);
+        make_place(&mut self.entries, most, row.number);
+        self.entries.push_reserved(Entry { row, there: true });
+        self.count += 1;
     }
 
     /// Writes this row in the place of the one of its number.
@@ -97,9 +116,9 @@ impl CallbackRows {
           rows = map (λ c. if c.number == row.number then row else c) self.old.rows;
         } }
     {
-        match place_of(&self.rows, row.number) {
+        match place_of(&self.entries, row.number) {
             Some(place) => {
-                self.rows[place] = row;
+                self.entries[place].row = row;
                 true
             }
             None => false,
@@ -113,9 +132,10 @@ impl CallbackRows {
         ensures found { result ≡ is_some (find (λ c. c.number == number) self.old.rows) }
         ensures after { self.new ≡ record self.old { rows = filter (λ c. not (c.number == number)) self.old.rows } }
     {
-        match place_of(&self.rows, number) {
+        match place_of(&self.entries, number) {
             Some(place) => {
-                let _row = self.rows.remove(place);
+                self.entries[place].there = false;
+                self.count -= 1;
                 true
             }
             None => false,

@@ -1,5 +1,5 @@
 -- A number is added behind the last of its key.
-use Rattle.std.proofs.Common.{◌≡◌, ◌≢◌, ℕ, ◌<◌, ◌≤◌, ◌==◌, ◌&&◌, ◌||◌, Bool, true, false, List, [], ◌∷◌, ◌++◌, Option, None, Some, map, length, get_or, set, if◌then◌else◌, refl, sym, ap, ◌∙◌, arith, ⊎_elim, inl, inr, ◌⊎◌}
+use Rattle.std.proofs.Common.{◌≡◌, ◌≢◌, ℕ, ◌<◌, ◌==◌, ◌&&◌, ◌||◌, Bool, true, false, List, [], ◌∷◌, ◌++◌, Option, None, Some, map, length, get_or, set, if◌then◌else◌, refl, sym, ap, ◌∙◌, arith, ⊎_elim, inl, inr, ◌⊎◌}
 use Rattle.std.specs.List.{All}
 use Rattle.std.proofs.lemmas.Bool.{cases_eq, eq-eqb, eqb-true, ne_eqb}
 use Rattle.std.proofs.lemmas.List.{map-append, length-map, length-append, length-set, get_or-map, get_or-set_same, get_or-set_other}
@@ -61,15 +61,15 @@ nodes_rise nodes rises i j d lt within =
 one_only : (P : Node → Type 0) (x : Node) → P x → All P (x ∷ [])
 one_only P x holds k d lt = let is : k ≡ 0 = omega arith in rw is holds
 
-module _ (slots capacity : ℕ) (nodes : List Node) (ends : List Ends) (key m : ℕ) (own : Ends) (kept : AreLinked slots capacity nodes ends) (within : key < length ends) (here : own ≡ get_or ends key own) (above : All (λ x. x.number < m) nodes) where
+module _ (slots : ℕ) (nodes : List Node) (ends : List Ends) (key m : ℕ) (own : Ends) (kept : AreLinked slots nodes ends) (within : key < length ends) (here : own ≡ get_or ends key own) (above : All (λ x. x.number < m) nodes) where
   abbrev S : ℕ → ℕ → Bool
   S = has (map entry_of nodes)
 
   abbrev added : List Node
-  added = map (with_behind own.last (Some m)) nodes ++ record { key = key; number = m; before = own.last; behind = None } ∷ []
+  added = map (with_behind own.last (Some m)) nodes ++ record { there = true; key = key; number = m; before = own.last; behind = None } ∷ []
 
   pub shown_added : map entry_of added ≡ map entry_of nodes ++ entry key m ∷ []
-  shown_added = map-append entry_of (map (with_behind own.last (Some m)) nodes) (record { key = key; number = m; before = own.last; behind = None } ∷ []) ∙ ap (λ es. es ++ entry key m ∷ []) (shown_behind own.last (Some m) nodes)
+  shown_added = map-append entry_of (map (with_behind own.last (Some m)) nodes) (record { there = true; key = key; number = m; before = own.last; behind = None } ∷ []) ∙ ap (λ es. es ++ entry key m ∷ []) (shown_behind own.last (Some m) nodes)
 
   abbrev T : ℕ → ℕ → Bool
   T = has (map entry_of added)
@@ -153,17 +153,17 @@ module _ (slots capacity : ℕ) (nodes : List Node) (ends : List Ends) (key m : 
   rising_added =
       nodes_rise added (rw shown_added (all_pairs_push (λ (a b : Entry). a.number < b.number) (map entry_of nodes) (entry key m) (shown_rise nodes kept.rising) (All-map (λ (e : Entry). e.number < m) entry_of nodes above)))
 
-  pub kept_added : (room : ℕ) (end : Ends) → slots ≤ room → length nodes < slots → end.first ≡ (first_with own.last (Some m) own).first → end.last ≡ Some m → AreLinked slots room added (set ends key end)
-  kept_added room end reserved free first last = record {
+  pub kept_added : (end : Ends) → length nodes < slots → end.first ≡ (first_with own.last (Some m) own).first → end.last ≡ Some m → AreLinked slots added (set ends key end)
+  kept_added end free first last = record {
     rising = rising_added;
     keyed =
-        All-append (λ x. x.key < length (set ends key end)) (map (with_behind own.last (Some m)) nodes) (record { key = key; number = m; before = own.last; behind = None } ∷ [])
+        All-append (λ x. x.key < length (set ends key end)) (map (with_behind own.last (Some m)) nodes) (record { there = true; key = key; number = m; before = own.last; behind = None } ∷ [])
         (All-map (λ x. x.key < length (set ends key end)) (with_behind own.last (Some m)) nodes (λ i d lt. omega (arith, key_behind own.last (Some m) (get_or nodes i d), kept.keyed i d lt, length-set ends key end)))
-        (one_only (λ x. x.key < length (set ends key end)) (record { key = key; number = m; before = own.last; behind = None }) (omega (arith, within, length-set ends key end)));
+        (one_only (λ x. x.key < length (set ends key end)) (record { there = true; key = key; number = m; before = own.last; behind = None }) (omega (arith, within, length-set ends key end)));
     linked =
-        All-append (IsLinked added) (map (with_behind own.last (Some m)) nodes) (record { key = key; number = m; before = own.last; behind = None } ∷ [])
+        All-append (IsLinked added) (map (with_behind own.last (Some m)) nodes) (record { there = true; key = key; number = m; before = own.last; behind = None } ∷ [])
         (All-map (IsLinked added) (with_behind own.last (Some m)) nodes (λ i d lt. node_added (get_or nodes i d) (kept.linked i d lt) (has_at nodes i d lt)))
-        (one_only (IsLinked added) (record { key = key; number = m; before = own.last; behind = None }) (record {
+        (one_only (IsLinked added) (record { there = true; key = key; number = m; before = own.last; behind = None }) (record {
           before = more_behind (S key) (T key) m (t_keeps key) t_new t_only (s_above key) own.last last_is;
           behind = more_last (S key) (T key) m (t_keeps key) t_new t_only (s_above key);
         }));
@@ -178,7 +178,6 @@ module _ (slots capacity : ℕ) (nodes : List Node) (ends : List Ends) (key m : 
           last = next_same (S k) (T k) (get_or ends k d).last None (λ n. t_other k n apart) old.last;
         }))
         (cases_eq k key);
-    limited = omega (arith, free, length-append (map (with_behind own.last (Some m)) nodes) (record { key = key; number = m; before = own.last; behind = None } ∷ []), length-map nodes (with_behind own.last (Some m)));
-    reserved = reserved;
+    limited = omega (arith, free, length-append (map (with_behind own.last (Some m)) nodes) (record { there = true; key = key; number = m; before = own.last; behind = None } ∷ []), length-map nodes (with_behind own.last (Some m)));
     fits = kept.fits;
   }

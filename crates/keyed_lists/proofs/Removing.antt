@@ -1,7 +1,7 @@
 -- A number is removed from between its neighbours.
-use Rattle.std.proofs.Common.{◌≡◌, ◌≢◌, ℕ, suc, zero, ◌<◌, ◌≤◌, ◌==◌, ◌&&◌, not, Bool, true, false, List, [], ◌∷◌, Option, None, Some, IsSome, OnSome, IfSome, map, filter, length, get_or, set, cond, if◌then◌else◌, refl, sym, ap, subst, ◌∙◌, arith, ⊎_elim}
+use Rattle.std.proofs.Common.{◌≡◌, ◌≢◌, ℕ, suc, zero, ◌<◌, ◌≤◌, ◌==◌, ◌&&◌, not, Bool, true, false, List, [], ◌∷◌, Option, None, Some, IfSome, map, filter, length, get_or, set, cond, if◌then◌else◌, refl, sym, ap, subst, ◌∙◌, arith, ⊎_elim}
 use Rattle.std.specs.Prelude.{find, is_some}
-use Rattle.std.specs.List.{All, remove}
+use Rattle.std.specs.List.{All}
 use Rattle.std.proofs.lemmas.Bool.{cases_eq, eq-eqb, ne_eqb}
 use Rattle.std.proofs.lemmas.List.{length-map, length-set, get_or-set_same, get_or-set_other}
 use Rattle.std.proofs.lemmas.List.Elements.{All-cons, All-map}
@@ -20,7 +20,7 @@ use Rattle.keyed_lists.proofs.Adding.{linked_as, key_behind, number_behind, befo
 abbrev pub others : ℕ → List Node → List Node
 others m nodes = filter (λ x. not (x.number == m)) nodes
 
-all_kept : (p : Node → Bool) (P : Node → Type 0) (nodes : List Node) → ((i : ℕ) (d : Node) → i < length nodes → p (get_or nodes i d) ≡ true → P (get_or nodes i d)) → All P (filter p nodes)
+pub all_kept : (p : Node → Bool) (P : Node → Type 0) (nodes : List Node) → ((i : ℕ) (d : Node) → i < length nodes → p (get_or nodes i d) ≡ true → P (get_or nodes i d)) → All P (filter p nodes)
 all_kept p P [] holds = λ k d lt. absurd (omega arith)
 all_kept p P (x ∷ xs) holds =
     let rest = all_kept p P xs (λ i d lt. holds (suc i) d (omega arith)) in
@@ -41,18 +41,6 @@ others_absent : (m : ℕ) (nodes : List Node) → All (λ x. x.number ≢ m) nod
 others_absent m [] absent = refl
 others_absent m (x ∷ xs) absent =
     rw (ne_eqb x.number m (absent 0 x (omega arith))) (ap (λ ys. x ∷ ys) (others_absent m xs (λ k d lt. absent (suc k) d (omega arith))))
-
-pub removed_is : (m : ℕ) (nodes : List Node) (i : ℕ) → IsPlaceOf nodes m i → remove nodes i ≡ others m nodes
-removed_is m [] i place = absurd (omega (arith, place.within))
-removed_is m (x ∷ xs) zero place =
-    rw (eq-eqb x.number m (place.here x)) (sym (others_absent m xs (λ k d lt. place.others (suc k) d (omega arith) (omega arith))))
-removed_is m (x ∷ xs) (suc i) place =
-    rw (ne_eqb x.number m (place.others 0 x (omega arith) (omega arith))) (ap (λ ys. x ∷ ys) (removed_is m xs i (place_in_rest m x xs i place)))
-
--- a removal at the place leaves the others
-pub removed_nodes : (m : ℕ) (nodes now : List Node) (i : ℕ) (got : Option Node) → IsPlaceOf nodes m i → OnSome got (now ≡ remove nodes i) → (i < length nodes → IsSome got) → now ≡ others m nodes
-removed_nodes m nodes now i (Some _) place items there = items ∙ removed_is m nodes i place
-removed_nodes m nodes now i None place items there = let none = there place.within in cc
 
 pub shown_others : (m : ℕ) (nodes : List Node) → map entry_of (others m nodes) ≡ filter (λ e. not (e.number == m)) (map entry_of nodes)
 shown_others m [] = refl
@@ -119,7 +107,7 @@ last_of_first : (b a : Option ℕ) (e : Ends) → (first_with a b e).last ≡ e.
 last_of_first b None e = refl
 last_of_first b (Some _) e = refl
 
-module _ (slots capacity : ℕ) (nodes : List Node) (ends : List Ends) (m i : ℕ) (node : Node) (own : Ends) (kept : AreLinked slots capacity nodes ends) (place : IsPlaceOf nodes m i) (is : node ≡ get_or nodes i node) (here : own ≡ get_or ends node.key own) where
+module _ (slots : ℕ) (nodes : List Node) (ends : List Ends) (m i : ℕ) (node : Node) (own : Ends) (kept : AreLinked slots nodes ends) (place : IsPlaceOf nodes m i) (is : node ≡ get_or nodes i node) (here : own ≡ get_or ends node.key own) where
   abbrev S : ℕ → ℕ → Bool
   S = has (map entry_of nodes)
 
@@ -276,8 +264,8 @@ module _ (slots capacity : ℕ) (nodes : List Node) (ends : List Ends) (m i : �
   pub others_rise : NodesRise (others m nodes)
   others_rise = AllPairs-filter (λ (a b : Node). a.number < b.number) (λ (x : Node). not (x.number == m)) nodes kept.rising
 
-  pub kept_left : (room : ℕ) (end : Ends) → slots ≤ room → end ≡ last_with node.behind node.before (first_with node.before node.behind own) → AreLinked slots room left (set ends node.key end)
-  kept_left room end reserved is_end = record {
+  pub kept_left : (end : Ends) → end ≡ last_with node.behind node.before (first_with node.before node.behind own) → AreLinked slots left (set ends node.key end)
+  kept_left end is_end = record {
     rising =
         nodes_rise left (rw shown_left (AllPairs-filter (λ (a b : Entry). a.number < b.number) (λ (e : Entry). not (e.number == m)) (map entry_of nodes) (shown_rise nodes kept.rising)));
     keyed = all_left (λ x. x.key < length (set ends node.key end)) (λ j d lt apart. omega (arith, unlinked_key (get_or nodes j d), kept.keyed j d lt, length-set ends node.key end));
@@ -294,7 +282,6 @@ module _ (slots capacity : ℕ) (nodes : List Node) (ends : List Ends) (m i : �
         }))
         (cases_eq k node.key);
     limited = omega (arith, few_left, kept.limited);
-    reserved = reserved;
     fits = kept.fits;
   }
 

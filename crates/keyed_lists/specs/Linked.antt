@@ -1,5 +1,5 @@
 -- How the numbers of a key are linked.
-use Rattle.std.specs.Prelude.{◌≡◌, ℕ, ◌<◌, ◌≤◌, ◌^◌, ◌⊎◌, Bool, true, List, Option, None, Some, All, length, map, slice_index_or}
+use Rattle.std.specs.Prelude.{◌≡◌, ℕ, ◌<◌, ◌≤◌, ◌*◌, ◌^◌, ◌⊎◌, Bool, true, List, Option, None, Some, All, filter, length, map, slice_index_or}
 use Rattle.std.specs.List.{AllPairs}
 use Rattle.keyed_lists.specs.declared.Node.{Node}
 use Rattle.keyed_lists.specs.declared.Ends.{Ends}
@@ -46,11 +46,22 @@ pub record HasEnds (nodes : List Node) (key : ℕ) (ends : Ends) : Type 0 where
 abbrev pub NodesRise : List Node → Type 0
 NodesRise nodes = AllPairs (λ a b. a.number < b.number) nodes
 
-pub record AreLinked (slots capacity : ℕ) (nodes : List Node) (ends : List Ends) : Type 0 where
+pub record AreLinked (slots : ℕ) (nodes : List Node) (ends : List Ends) : Type 0 where
   pub rising : NodesRise nodes
   pub keyed : All (λ node. node.key < length ends) nodes
   pub linked : All (IsLinked nodes) nodes
   pub ended : (key : ℕ) (d : Ends) → key < length ends → HasEnds nodes key (slice_index_or ends key d)
   pub limited : length nodes ≤ slots
-  pub reserved : slots ≤ capacity
   pub fits : slots < 2 ^ 32
+
+-- those that haven't left
+abbrev pub living : List Node → List Node
+living nodes = filter (λ node. node.there) nodes
+
+-- those that are there are linked and counted, and all rise, and are at most as many as there is memory for
+pub record AreKept (slots count capacity : ℕ) (nodes : List Node) (ends : List Ends) : Type 0 where
+  pub rising : NodesRise nodes
+  pub linked : AreLinked slots (living nodes) ends
+  pub counted : count ≡ length (living nodes)
+  pub few : length nodes ≤ 2 * slots
+  pub reserved : 2 * slots ≤ capacity

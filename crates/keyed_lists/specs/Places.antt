@@ -1,5 +1,5 @@
 -- Where the node of a number stands, and what a written link changes.
-use Rattle.std.specs.Prelude.{◌≡◌, ◌≢◌, ℕ, ◌<◌, ◌==◌, List, Option, None, Some, length, slice_index_or, if◌then◌else◌}
+use Rattle.std.specs.Prelude.{◌≡◌, ◌≢◌, ℕ, ◌<◌, ◌==◌, List, Option, None, Some, true, length, slice_index_or, if◌then◌else◌}
 use Rattle.keyed_lists.specs.declared.Node.{Node}
 use Rattle.keyed_lists.specs.declared.Ends.{Ends}
 
@@ -8,6 +8,11 @@ pub record IsPlaceOf (nodes : List Node) (number place : ℕ) : Type 0 where
   pub within : place < length nodes
   pub here : (d : Node) → (slice_index_or nodes place d).number ≡ number
   pub others : (k : ℕ) (d : Node) → k < length nodes → k ≢ place → (slice_index_or nodes k d).number ≢ number
+
+-- and it is there
+pub record IsPlaceOfLiving (nodes : List Node) (number place : ℕ) : Type 0 where
+  pub node : IsPlaceOf nodes number place
+  pub there : (d : Node) → (slice_index_or nodes place d).there ≡ true
 
 abbrev pub with_behind : Option ℕ → Option ℕ → Node → Node
 with_behind None behind node = node

@@ -16,9 +16,11 @@
 //! lists.first(2)          // Some(9)
 //! ```
 //!
-//! What a call costs: a number is found by halving. `first` and `after` read one link, `add` and
-//! `remove` write at most two besides the number's own. What leaves moves the numbers before it or
-//! those behind it, whichever are fewer.
+//! What a call costs: `first` and `after` read one link, `add` and `remove` write at most two besides
+//! the number's own. `remove` only marks a number as one that left, so that none moves. Those that left
+//! are dropped together by an `add` that finds many of them, so that a number moves less than once for
+//! one that left. Numbers mostly follow one another, and then the place of a number is told by its
+//! distance from the last; any other is found by halving.
 
 #![tactic(auto)]
 
@@ -26,24 +28,27 @@ ghost use Rattle.std.specs.Prelude.{◌≡◌, ◌<◌, ◌≤◌, ◌==◌, [],
 ghost use Rattle.keyed_lists.specs.Keyed.{IsRising, entry, first_of, has, next_of};
 
 use std::alloc::{AllocError, Global};
-use std::collections::VecDeque;
 use std::marker::Model;
 
 mod places;
 
-use places::{find_place, place_of, set_before, set_behind};
+use places::{find_place, make_place, most_nodes, place_of, set_before, set_behind};
 
 /// Numbers with a key each.
 #[derive(Drop)]
 pub struct KeyedLists {
     slots: u32,
-    nodes: VecDeque<Node>,
+    // How many numbers there are.
+    count: u32,
+    nodes: Vec<Node>,
     ends: Vec<Ends>,
 }
 
-// A number with its key, and the numbers of that key before and behind it.
+// A number with its key, the numbers of that key before and behind it, and whether it is there. One that
+// left stays until the memory is needed.
 #[derive(Clone, Copy)]
 struct Node {
+    there: bool,
     key: u32,
     number: u64,
     before: Option<u64>,
@@ -62,17 +67,16 @@ impl Model for KeyedLists {
 
     ghost Value = { Keyed };
 
-    ghost use Rattle.std.specs.Prelude.{length, map};
-    ghost use Rattle.std.specs.VecDeque.{deque_capacity};
-    ghost use Rattle.keyed_lists.specs.Linked.{AreLinked, entry_of};
+    ghost use Rattle.std.specs.Prelude.{length, map, vec_capacity};
+    ghost use Rattle.keyed_lists.specs.Linked.{AreKept, entry_of, living};
 
-    ghost view = { λ a. record { keys = length a.ends.items; slots = a.slots; entries = map entry_of a.nodes.items } };
+    ghost view = { λ a. record { keys = length a.ends.items; slots = a.slots; entries = map entry_of (living a.nodes.items) } };
 
-    ghost invariant = { λ a. AreLinked a.slots (deque_capacity a.nodes) a.nodes.items a.ends.items };
+    ghost invariant = { λ a. AreKept a.slots a.count (vec_capacity a.nodes) a.nodes.items a.ends.items };
 }
 
 impl KeyedLists {
-    /// No numbers, with the memory for `slots` of them, and for the keys below `keys`.
+    /// No numbers, with the memory for `slots` of them and as many that left, and for the keys below `keys`.
     ///
     /// An `AllocError` comes where that memory can't be had.
     pub fn open(alloc: Global, keys: u32, slots: u32) -> Result<KeyedLists, AllocError>
@@ -82,9 +86,14 @@ impl KeyedLists {
             first: None,
             last: None,
         };
-        let nodes = VecDeque::with_capacity(alloc, slots as usize)?;
+        let nodes = Vec::with_capacity(alloc, 2 * slots as usize)?;
         let ends = vec![in alloc; none; keys as usize]?;
-        Ok(KeyedLists { slots, nodes, ends })
+        Ok(KeyedLists {
+            slots,
+            count: 0,
+            nodes,
+            ends,
+        })
     }
 
     /// How many numbers there are. There are never more than slots.
@@ -93,7 +102,7 @@ impl KeyedLists {
         ensures limited { length self.now.entries ≤ self.now.slots }
         ensures rising { IsRising self.now.entries }
     {
-        self.nodes.len() as u32
+        self.count
     }
 
     /// The least number of this key, or None where there is none.
@@ -119,17 +128,21 @@ impl KeyedLists {
         requires last { All (λ e. e.number < number) self.old.entries }
         ensures { self.new ≡ record self.old { entries = self.old.entries ++ entry key number ∷ [] } }
     {
+        let most = most_nodes(self.slots, self.count);
+        make_place(&mut self.nodes, most, number);
         let mut ends = self.ends[key as usize];
         let before = ends.last;
         set_behind(&mut self.nodes, &mut ends, before, Some(number));
         ends.last = Some(number);
         self.ends[key as usize] = ends;
-        self.nodes.push_back_reserved(Node {
+        self.nodes.push_reserved(Node {
+            there: true,
             key,
             number,
             before,
             behind: None,
         });
+        self.count += 1;
     }
 
     /// Takes a number out, whatever its key. Answers whether it was there. Where it wasn't, nothing
@@ -141,7 +154,8 @@ impl KeyedLists {
         match find_place(&self.nodes, number) {
             Some(place) => {
                 let node = self.nodes[place];
-                let _ = self.nodes.remove(place);
+                self.nodes[place].there = false;
+                self.count -= 1;
                 let mut ends = self.ends[node.key as usize];
                 set_behind(&mut self.nodes, &mut ends, node.before, node.behind);
                 set_before(&mut self.nodes, &mut ends, node.behind, node.before);

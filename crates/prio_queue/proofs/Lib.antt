@@ -1,3 +1,4 @@
+pub mod Apart
 pub mod Filters
 pub mod Entries
 pub mod Lines

@@ -74,10 +74,14 @@ impl PoolQueue {
         ensures entries { self.new.entries ≡ without_number number self.old.entries }
         ensures len { length self.new.entries ≤ length self.old.entries }
     {
-        let high = self.high.take_out(number);
-        let normal = self.normal.take_out(number);
-        let low = self.low.take_out(number);
-        high | normal | low
+        // It has one priority, so it is looked for no further where it was found.
+        if self.high.take_out(number) {
+            return true;
+        }
+        if self.normal.take_out(number) {
+            return true;
+        }
+        self.low.take_out(number)
     }
 
     /// How many entries there are.

@@ -176,3 +176,24 @@ find_above number (x ∷ xs) (suc place) within parted =
     let rest : find (λ n. nat_lt number n) xs ≡ slice_get xs place =
     find_above number xs place (omega arith) (λ k d le lt. parted.0 (suc k) d (omega arith) (omega arith), λ k d le lt. parted.1 (suc k) d (omega arith) (omega arith)) in
     grind (arith, nat_tests, parted.0 0 x (omega arith) (omega arith))
+
+-- where the last is below a number, all are
+pub below_last : (number : ℕ) (xs : List ℕ) (d : ℕ) → IsStrictlyIncreasing xs → get_or xs (length xs - 1) d < number → All (λ x. x < number) xs
+below_last number xs d rises below k e lt =
+    let own = get_or_default xs k e 0 lt in
+    let last = get_or_default xs (length xs - 1) d 0 (omega arith) in
+    let up = rises_or_same xs rises k (length xs - 1) (omega arith) (omega arith) in
+    omega arith
+
+-- those behind the first rise, and are all but it
+pub rest_rises : (xs : List ℕ) → IsStrictlyIncreasing xs → IsStrictlyIncreasing (drop 1 xs)
+rest_rises [] rises k within = absurd (omega arith)
+rest_rises (x ∷ xs) rises k within =
+    let next : suc k + 1 ≡ suc (k + 1) = omega arith in
+    let same : get_or (x ∷ xs) (suc k + 1) 0 ≡ get_or xs (k + 1) 0 = ap (λ i. get_or (x ∷ xs) i 0) next in
+    let less = rises (suc k) (omega arith) in
+    omega arith
+
+pub rest_is : (number : ℕ) (xs : List ℕ) → IsStrictlyIncreasing xs → slice_get xs 0 ≡ Some number → drop 1 xs ≡ all_but number xs
+rest_is number [] rises first = refl
+rest_is number (x ∷ xs) rises first = removed number (x ∷ xs) 0 rises (omega arith) (let same : x ≡ number = cc in same)

@@ -2,8 +2,9 @@
 //!
 //! `open` takes the memory, and no other call takes any. `push` appends a number that is above all
 //! others, `put` puts one in its place among them, and `take_out` takes one out; `first`, `get`, `after`
-//! and `contains` read. A number is found by halving. `put` and `take_out` then move the numbers
-//! before its place or those behind it, whichever are fewer: none at either end of the list.
+//! and `contains` read. A number is found by halving, unless it is the first that is taken out or is put
+//! above all others. `put` and `take_out` then move the numbers before its place or those behind it,
+//! whichever are fewer: none at either end of the list.
 //!
 //! ```text
 //! let mut numbers = RisingNumbers::open(alloc, 3)?;
@@ -24,7 +25,7 @@ ghost use Rattle.rising_numbers.specs.Rising.{all_but, contains_number, with_num
 
 mod places;
 
-use places::{first_above, first_from};
+use places::{first_above, first_from, is_above_all, is_first};
 use std::alloc::{AllocError, Global};
 use std::collections::VecDeque;
 use std::marker::Model;
@@ -115,12 +116,42 @@ impl RisingNumbers {
         ensures after { self.new ≡ record self.old { numbers = with_number number self.old.numbers } }
         ensures len { length self.new.numbers ≡ length self.old.numbers + 1 }
     {
-        let place = first_from(&self.numbers, number);
-        let _ = self.numbers.insert(place, number);
+        if is_above_all(&self.numbers, number) {
+            self.push(number);
+        } else {
+            self.put_between(number);
+        }
     }
 
     /// Takes this number out, and says whether it was there. Where it wasn't, nothing changes.
     pub fn take_out(&mut self, number: u64) -> bool
+        ensures found { result ≡ contains_number number self.old.numbers }
+        ensures after { self.new ≡ record self.old { numbers = all_but number self.old.numbers } }
+        ensures len { length self.new.numbers ≤ length self.old.numbers }
+        ensures one_fewer { OnTrue result (length self.new.numbers + 1 ≡ length self.old.numbers) }
+    {
+        if is_first(&self.numbers, number) {
+            let _ = self.numbers.pop_front();
+            return true;
+        }
+        self.take_out_found(number)
+    }
+
+    // Puts a number that isn't there in its place, which is found by halving.
+    #[inline(never)]
+    fn put_between(&mut self, number: u64)
+        requires room { length self.old.numbers < self.old.room }
+        requires free { contains_number number self.old.numbers ≡ false }
+        ensures after { self.new ≡ record self.old { numbers = with_number number self.old.numbers } }
+        ensures len { length self.new.numbers ≡ length self.old.numbers + 1 }
+    {
+        let place = first_from(&self.numbers, number);
+        let _ = self.numbers.insert(place, number);
+    }
+
+    // Takes this number out, which is found by halving, and says whether it was there.
+    #[inline(never)]
+    fn take_out_found(&mut self, number: u64) -> bool
         ensures found { result ≡ contains_number number self.old.numbers }
         ensures after { self.new ≡ record self.old { numbers = all_but number self.old.numbers } }
         ensures len { length self.new.numbers ≤ length self.old.numbers }

@@ -1,11 +1,11 @@
-use Rattle.std.proofs.Common.{◌∙◌}
-use Rattle.callback_rows.proofs.Copied.{copied_at}
+use Rattle.std.proofs.Common.{◌∙◌, sym}
 use Rattle.callback_rows.proofs.Numbers.{find_above}
 use Rattle.callback_rows.proofs.CallbackRows.after.Goals as goal
 
--- the row at the place where the numbers up to this one end
+-- the first row from the place on where the numbers up to this one end
 pub returns : goal.returns
 returns c =
-    let found = find_above c.args.number _ _ c.first_above-place.ensures.bound c.first_above-place.ensures.parted in
-    let copied = c.copied.ensures ∙ copied_at _ _ _ c.get.ensures.item in
-    rw (← c.self.view_is, found) copied
+    let bound = rw c.deref.ensures.value at c.first_above-place.ensures.bound in
+    let parted = rw c.deref.ensures.value at c.first_above-place.ensures.parted in
+    let first = rw c.deref-2.ensures.value at c.first_row.ensures in
+    rw (← c.self.view_is) (first ∙ sym (find_above c.args.number c.self.inside.entries.items _ bound parted))

@@ -1,22 +1,41 @@
-use Rattle.std.proofs.Common.{sym, arith}
-use Rattle.callback_rows.proofs.Numbers.{find_absent, is_present, filter_absent, removed}
+use Rattle.std.proofs.Common.{◌∙◌, ap, sym, arith}
+use Rattle.callback_rows.specs.declared.Entry.{Entry}
+use Rattle.callback_rows.proofs.Rising.{rise_set}
+use Rattle.callback_rows.proofs.Numbers.{is_present, filter_present, filter_missing, one_fewer}
 use Rattle.callback_rows.proofs.CallbackRows.remove.Goals as goal
+
+pub overflow_sub-self : goal.overflow_sub-self
+overflow_sub-self c =
+    let place = rw c.deref.ensures.value at c.in-Some.ensures in
+    omega (arith, c.self.invariant.counted, one_fewer c.args.number c.self.inside.entries.items _ c.index_mut.result.now place c.index_mut.ensures.value)
+
+pub invariant_of-self : goal.invariant_of-self
+invariant_of-self c =
+    let place = rw c.deref.ensures.value at c.in-Some.ensures in
+    let k = c.self.invariant in
+    let fewer = one_fewer c.args.number c.self.inside.entries.items _ c.index_mut.result.now place c.index_mut.ensures.value in
+    record {
+      rising = rise_set c.self.inside.entries.items c.args.number _ _ k.rising place.entry (ap (λ (e : Entry). e.row.number) c.index_mut.ensures.value ∙ place.entry.here c.index_mut.result.now);
+      counted = omega (arith, k.counted, fewer);
+      fits = k.fits;
+      limited = omega (arith, k.limited);
+      few = k.few;
+      reserved = k.reserved;
+    }
 
 pub returns-in-Some-clause-found : goal.returns-in-Some-clause-found
 returns-in-Some-clause-found c =
-    rw (← c.self.view_is) (sym (is_present c.args.number _ _ c.in-Some.ensures))
+    let place = rw c.deref.ensures.value at c.in-Some.ensures in
+    rw (← c.self.view_is) (sym (is_present c.args.number c.self.inside.entries.items _ place))
 
 pub returns-in-Some-clause-after : goal.returns-in-Some-clause-after
 returns-in-Some-clause-after c =
-    let left = removed c.args.number _ _ _ _ c.in-Some.ensures c.remove-row.ensures.items (λ within. c.remove-row.ensures.variant.1 (omega arith)) in
+    let place = rw c.deref.ensures.value at c.in-Some.ensures in
+    let left = filter_present c.args.number c.self.inside.entries.items _ c.index_mut.result.now place c.index_mut.ensures.value in
     rw (← c.self.view_is, left)
-
-pub returns-in-None-clause-found : goal.returns-in-None-clause-found
-returns-in-None-clause-found c =
-    let absent = find_absent c.args.number _ c.in-None.ensures in
-    rw (← c.self.view_is, absent)
 
 pub returns-in-None-clause-after : goal.returns-in-None-clause-after
 returns-in-None-clause-after c =
-    let left = filter_absent c.args.number _ c.in-None.ensures in
+    let none = rw c.deref.ensures.value at c.in-None.ensures in
+    let left = filter_missing c.args.number _ none in
     rw (← c.self.view_is, left)

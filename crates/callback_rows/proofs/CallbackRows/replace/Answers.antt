@@ -1,22 +1,34 @@
-use Rattle.std.proofs.Common.{sym}
-use Rattle.callback_rows.proofs.Numbers.{find_absent, is_present, map_absent, map_present}
+use Rattle.std.proofs.Common.{◌∙◌, sym, refl}
+use Rattle.callback_rows.proofs.Rising.{rise_set}
+use Rattle.callback_rows.proofs.Numbers.{is_present, map_present, map_missing, as_many}
 use Rattle.callback_rows.proofs.CallbackRows.replace.Goals as goal
+
+pub invariant_of-self : goal.invariant_of-self
+invariant_of-self c =
+    let place = rw c.deref.ensures.value at c.in-Some.ensures in
+    let k = c.self.invariant in
+    record {
+      rising = rise_set c.self.inside.entries.items c.args.row.number _ _ k.rising place.entry refl;
+      counted = k.counted ∙ as_many c.args.row.number c.args.row c.self.inside.entries.items _ c.index_mut.result.now place c.index_mut.ensures.value;
+      fits = k.fits;
+      limited = k.limited;
+      few = k.few;
+      reserved = k.reserved;
+    }
 
 pub returns-in-Some-clause-found : goal.returns-in-Some-clause-found
 returns-in-Some-clause-found c =
-    rw (← c.self.view_is) (sym (is_present c.args.row.number _ _ c.in-Some.ensures))
+    let place = rw c.deref.ensures.value at c.in-Some.ensures in
+    rw (← c.self.view_is) (sym (is_present c.args.row.number c.self.inside.entries.items _ place))
 
 pub returns-in-Some-clause-after : goal.returns-in-Some-clause-after
 returns-in-Some-clause-after c =
-    let left = map_present c.args.row.number c.args.row _ _ c.in-Some.ensures in
+    let place = rw c.deref.ensures.value at c.in-Some.ensures in
+    let left = map_present c.args.row.number c.args.row c.self.inside.entries.items _ c.index_mut.result.now place c.index_mut.ensures.value in
     rw (← c.self.view_is, left)
-
-pub returns-in-None-clause-found : goal.returns-in-None-clause-found
-returns-in-None-clause-found c =
-    let absent = find_absent c.args.row.number _ c.in-None.ensures in
-    rw (← c.self.view_is, absent)
 
 pub returns-in-None-clause-after : goal.returns-in-None-clause-after
 returns-in-None-clause-after c =
-    let left = map_absent c.args.row.number c.args.row _ c.in-None.ensures in
+    let none = rw c.deref.ensures.value at c.in-None.ensures in
+    let left = map_missing c.args.row.number c.args.row _ none in
     rw (← c.self.view_is, left)

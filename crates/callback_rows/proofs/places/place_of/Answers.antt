@@ -1,20 +1,21 @@
-use Rattle.std.proofs.Common.{ap, sym, ◌∙◌, arith}
+use Rattle.std.proofs.Common.{ℕ, ◌<◌, List, length, ap, ◌∙◌}
 use Rattle.std.proofs.lemmas.List.{get_or_default}
-use Rattle.tp_base.specs.declared.rows.CallbackRow.{CallbackRow}
-use Rattle.callback_rows.proofs.Rising.{place_found, place_missing}
+use Rattle.callback_rows.specs.declared.Entry.{Entry}
+use Rattle.callback_rows.specs.Places.{IsPlaceOf}
+use Rattle.callback_rows.proofs.Numbers.{find_absent, find_left}
 use Rattle.callback_rows.proofs.places.place_of.Goals as goal
-use Rattle.callback_rows.proofs.places.place_of.Goals.{else-place-len-via-then-place-len+else-index-number, else-place-len-via-else-place-len}
 
-pub returns-then-index-number : goal.returns-then-index-number
-returns-then-index-number c =
-    place_found _ _ _ c.first_from-place.ensures.parted c.requires (omega arith) c.index.result.now
-    (ap (λ (r : CallbackRow). r.number) (sym c.index.ensures) ∙ c.if-index-number.true)
+within : (es : List Entry) (n i : ℕ) → IsPlaceOf es n i → i < length es
+within es n i place = place.within
 
-pub returns-else-place-len : goal.returns-else-place-len
-returns-else-place-len c =
-    place_missing _ _ _ c.first_from-place.ensures.parted c.requires (λ d within same.
-    elim c.else-place-len.branch [
-      | else-place-len-via-then-place-len+else-index-number w ↦
-          w.if-index-number.false (ap (λ (r : CallbackRow). r.number) (w.index.ensures ∙ get_or_default _ _ _ d within) ∙ same)
-      | else-place-len-via-else-place-len w ↦ omega (arith, w.if-place-len.false)
-    ])
+pub returns-then-entries-place : goal.returns-then-entries-place
+returns-then-entries-place c = record {
+  entry = c.in-Some.ensures;
+  there = λ d. ap (λ (e : Entry). e.there) (get_or_default c.args.entries.now _ d _ (within c.args.entries.now c.args.number _ c.in-Some.ensures)) ∙ c.if-entries-place.true;
+}
+
+pub returns-else-entries-place : goal.returns-else-entries-place
+returns-else-entries-place c = find_left c.args.number _ _ _ c.in-Some.ensures c.if-entries-place.false
+
+pub returns-in-None : goal.returns-in-None
+returns-in-None c = find_absent c.args.number _ c.in-None.ensures

@@ -1,20 +1,23 @@
-use Rattle.std.proofs.Common.{ap, sym, ◌∙◌, arith}
+use Rattle.std.proofs.Common.{ℕ, ◌<◌, List, length, ap, ◌∙◌}
 use Rattle.std.proofs.lemmas.List.{get_or_default}
+use Rattle.std.proofs.lemmas.List.Elements.{All-filter}
 use Rattle.keyed_lists.specs.declared.Node.{Node}
-use Rattle.keyed_lists.proofs.Rising.{place_found, place_missing}
+use Rattle.keyed_lists.specs.Places.{IsPlaceOf}
+use Rattle.std.proofs.Common.{◌≢◌}
+use Rattle.keyed_lists.proofs.Living.{absent_left}
 use Rattle.keyed_lists.proofs.places.find_place.Goals as goal
-use Rattle.keyed_lists.proofs.places.find_place.Goals.{else-place-len-via-then-place-len+else-index-number, else-place-len-via-else-place-len}
 
-pub returns-then-index-number : goal.returns-then-index-number
-returns-then-index-number c =
-    place_found _ _ _ c.first_from-place.ensures.parted c.requires (omega arith) c.index.result.now
-    (ap (λ (r : Node). r.number) (sym c.index.ensures) ∙ c.if-index-number.true)
+within : (nodes : List Node) (n i : ℕ) → IsPlaceOf nodes n i → i < length nodes
+within nodes n i place = place.within
 
-pub returns-else-place-len : goal.returns-else-place-len
-returns-else-place-len c =
-    place_missing _ _ _ c.first_from-place.ensures.parted c.requires (λ d within same.
-    elim c.else-place-len.branch [
-      | else-place-len-via-then-place-len+else-index-number w ↦
-          w.if-index-number.false (ap (λ (r : Node). r.number) (w.index.ensures ∙ get_or_default _ _ _ d within) ∙ same)
-      | else-place-len-via-else-place-len w ↦ omega (arith, w.if-place-len.false)
-    ])
+pub returns-then-nodes-place : goal.returns-then-nodes-place
+returns-then-nodes-place c = record {
+  node = c.in-Some.ensures;
+  there = λ d. ap (λ (x : Node). x.there) (get_or_default c.args.nodes.now _ d _ (within c.args.nodes.now c.args.number _ c.in-Some.ensures)) ∙ c.if-nodes-place.true;
+}
+
+pub returns-else-nodes-place : goal.returns-else-nodes-place
+returns-else-nodes-place c = absent_left _ c.args.number _ _ c.in-Some.ensures c.if-nodes-place.false
+
+pub returns-in-None : goal.returns-in-None
+returns-in-None c = All-filter (λ (x : Node). x.there) (λ (x : Node). x.number ≢ c.args.number) c.args.nodes.now c.in-None.ensures

@@ -12,4 +12,4 @@ found (x ∷ xs) number place None there absent = absurd (absent place x there.w
 found (x ∷ xs) number place (Some _) there here = refl
 
 pub unwrap-requires : goal.unwrap-requires
-unwrap-requires c = found _ _ _ _ c.requires.there.1 c.find_place.ensures
+unwrap-requires c = found _ _ _ _ c.requires.there.1 c.node_place.ensures
