@@ -9,7 +9,8 @@ ghost use Rattle.tp_lines.specs.Answers.{EntryLines};
 ghost use Rattle.tp_lines.specs.Calls.{CallLines};
 
 use crate::entries::read_entry;
-use crate::fronts::front_line;
+use crate::calls::read_call_line;
+use crate::fronts::frequent_line;
 use line_grammar::words::behind;
 use tp_base::answers::Entry;
 use tp_base::calls::Call;
@@ -21,7 +22,21 @@ use tp_base::ids::Who;
 pub fn read_good_call(text: &[u8]) -> Option<((Who, Call), usize)>
     ensures { IfSome result (λ read. IsAhead CallLines text.now read.0 read.1) }
 {
-    let Some((line, size)) = front_line(text) else {
+    match frequent_line(text) {
+        Some(read) => Some(read),
+        None => match any_call(text) {
+            Some((line, size)) => Some((line, size)),
+            None => None,
+        },
+    }
+}
+
+// The same for all lines.
+#[inline(never)]
+fn any_call(text: &[u8]) -> Option<((Who, Call), usize)>
+    ensures { IfSome result (λ read. IsAhead CallLines text.now read.0 read.1) }
+{
+    let Ok((line, size)) = read_call_line(text) else {
         return None;
     };
     let (_, rest) = text.split_at(size);
