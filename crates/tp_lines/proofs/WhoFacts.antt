@@ -6,7 +6,7 @@ use Rattle.std.proofs.lemmas.Fmt.{decimal_digit}
 use Rattle.std.proofs.lemmas.List.{append-nil, length-drop}
 use Rattle.std.proofs.Math.ListN.{get_or}
 use Rattle.std.proofs.Math.Seq.{drop-cons, take-add}
-use Rattle.line_grammar.specs.Language.{AnyOf, IsFront, IsRead, IsReadTo, IsStuck}
+use Rattle.line_grammar.specs.Language.{AnyOf, IsRead, IsReadTo, IsStuck}
 use Rattle.line_grammar.specs.Numbers.{Numbers}
 use Rattle.line_grammar.specs.Parts.{Led, IsPair, Pairs, IsPart}
 use Rattle.line_grammar.specs.Words.{Either, further_of}

@@ -16,6 +16,7 @@ use crate::faults::{TextFault, fault_behind};
 use crate::lines::read_call;
 use pool_book::{Book, program_limits};
 use std::alloc::{AllocError, Global};
+use tp_base::answers::Outcome;
 use tp_base::calls::Call;
 use tp_base::ids::Who;
 use tp_lines::good::read_good_call;
@@ -99,8 +100,12 @@ fn play_call(book: &mut Book, who: Who, call: Call, lines: &mut Lines) -> Result
     ensures first { IsFirstOf book.old book.new who call (outcome_behind book.old who call) }
     ensures printed { OnOk result (lines.new ≡ lines.old ++ (text_of_outcome (outcome_behind book.old who call) ++ 10 ∷ [])) }
 {
-    let outcome = book.step(who, call);
-    lines.outcome(&outcome)
+    // The outcome is printed where the step has put it.
+    match book.step(who, call) {
+        Outcome::Done(ref answer) => lines.answer(answer),
+        Outcome::Look(ref look) => lines.look(look),
+        Outcome::Full { room, cost } => lines.full(room, cost),
+    }
 }
 
 // The greatest client of the good lines at the front of a text. The play shows whether it is the

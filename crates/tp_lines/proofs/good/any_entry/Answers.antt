@@ -1,7 +1,7 @@
 use Rattle.std.proofs.Common.{sym, ◌∙◌}
 use Rattle.line_grammar.proofs.TraceFacts.{read_ahead}
 use Rattle.tp_lines.specs.Answers.{EntryLines}
-use Rattle.tp_lines.proofs.good.read_good_entry.Goals as goal
+use Rattle.tp_lines.proofs.good.any_entry.Goals as goal
 
 pub returns-in-Some : goal.returns-in-Some
 returns-in-Some c =
