@@ -45,44 +45,17 @@ impl Lines {
         }
     }
 
-    /// Prints the line of an answer. On want of memory nothing is printed.
+    /// Prints the line of what a call came to: its answer, its look, or full. On want of memory nothing is
+    /// printed.
     #[inline(always)]
-    pub fn answer(&mut self, answer: &Answer) -> Result<(), AllocError>
-        ensures ok { OnOk result (self.new ≡ self.old ++ (text_of_answer answer.now ++ 10 ∷ [])) }
+    pub fn outcome(&mut self, outcome: &Outcome) -> Result<(), AllocError>
+        ensures ok { OnOk result (self.new ≡ self.old ++ (text_of_outcome outcome.now ++ 10 ∷ [])) }
         ensures err { OnErr result (self.new ≡ self.old) }
     {
         if self.bytes.len() - self.end < ROOM {
             grow(&mut self.bytes)?;
         }
-        let end = put_answer(answer, &mut self.bytes, self.end);
-        self.end = line::byte(b'\n', &mut self.bytes, end);
-        Ok(())
-    }
-
-    /// Prints the line of a look. On want of memory nothing is printed.
-    #[inline(always)]
-    pub fn look(&mut self, look: &Look) -> Result<(), AllocError>
-        ensures ok { OnOk result (self.new ≡ self.old ++ (text_of_look look.now ++ 10 ∷ [])) }
-        ensures err { OnErr result (self.new ≡ self.old) }
-    {
-        if self.bytes.len() - self.end < ROOM {
-            grow(&mut self.bytes)?;
-        }
-        let end = put_look(look, &mut self.bytes, self.end);
-        self.end = line::byte(b'\n', &mut self.bytes, end);
-        Ok(())
-    }
-
-    /// Prints the line of what stands for a history that is full. On want of memory nothing is printed.
-    #[inline(always)]
-    pub fn full(&mut self, room: u64, cost: u64) -> Result<(), AllocError>
-        ensures ok { OnOk result (self.new ≡ self.old ++ (text_of_full room cost ++ 10 ∷ [])) }
-        ensures err { OnErr result (self.new ≡ self.old) }
-    {
-        if self.bytes.len() - self.end < ROOM {
-            grow(&mut self.bytes)?;
-        }
-        let end = put_full(room, cost, &mut self.bytes, self.end);
+        let end = put_outcome(outcome, &mut self.bytes, self.end);
         self.end = line::byte(b'\n', &mut self.bytes, end);
         Ok(())
     }

@@ -16,10 +16,9 @@ use crate::faults::{TextFault, fault_behind};
 use crate::lines::read_call;
 use pool_book::{Book, program_limits};
 use std::alloc::{AllocError, Global};
-use tp_base::answers::Outcome;
+use tp_base::answers::{Look, Outcome};
 use tp_base::calls::Call;
 use tp_base::ids::Who;
-use tp_lines::good::read_good_call;
 use tp_lines::print::Lines;
 
 /// How many entries the history of a trace has room for.
@@ -100,12 +99,9 @@ fn play_call(book: &mut Book, who: Who, call: Call, lines: &mut Lines) -> Result
     ensures first { IsFirstOf book.old book.new who call (outcome_behind book.old who call) }
     ensures printed { OnOk result (lines.new ≡ lines.old ++ (text_of_outcome (outcome_behind book.old who call) ++ 10 ∷ [])) }
 {
-    // The outcome is printed where the step has put it.
-    match book.step(who, call) {
-        Outcome::Done(ref answer) => lines.answer(answer),
-        Outcome::Look(ref look) => lines.look(look),
-        Outcome::Full { room, cost } => lines.full(room, cost),
-    }
+    let mut outcome = Outcome::Look(Look::Stay);
+    book.step_into(who, call, &mut outcome);
+    lines.outcome(&outcome)
 }
 
 // The greatest client of the good lines at the front of a text. The play shows whether it is the
@@ -115,7 +111,7 @@ fn guess_clients(bytes: &[u8]) -> u32
 {
     let (mut rest, _) = bytes.split_at(bytes.len().min(FRONT));
     let mut greatest = 0;
-    while let Some(((who, _), size)) = read_good_call(rest) {
+    while let Ok(((who, _), size)) = read_call(rest) {
         greatest = greater_client(greatest, who);
         (_, rest) = rest.split_at(size);
     }

@@ -1,6 +1,6 @@
 use Rattle.line_grammar.proofs.TraceFacts.{front_ahead, front_longer}
 use Rattle.tp_lines.specs.Answers.{EntryLines}
-use Rattle.tp_lines.proofs.good.frequent_entry.Goals as goal
+use Rattle.tp_lines.proofs.good.read_good_entry.Goals as goal
 
 pub returns : goal.returns
 returns c = front_ahead EntryLines c.args.text.now c.in_ok-entry.entry c.in_ok-entry.rest.now c.in_ok-more.more.now c.in_ok-entry.ensures c.in_ok-more.ensures

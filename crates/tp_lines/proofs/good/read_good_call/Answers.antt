@@ -1,6 +1,6 @@
 use Rattle.line_grammar.proofs.TraceFacts.{front_ahead, front_longer}
 use Rattle.tp_lines.specs.Calls.{CallLines}
-use Rattle.tp_lines.proofs.good.frequent_call.Goals as goal
+use Rattle.tp_lines.proofs.good.read_good_call.Goals as goal
 
 pub returns : goal.returns
 returns c = front_ahead CallLines c.args.text.now c.in_ok-line.line c.in_ok-line.rest.now c.in_ok-more.more.now c.in_ok-line.ensures c.in_ok-more.ensures
