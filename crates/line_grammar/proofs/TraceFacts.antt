@@ -1,9 +1,10 @@
 -- The first fault of many lines, from that of one.
-use Rattle.std.proofs.Common.{◌≡◌, ℕ, ◌+◌, ◌≤◌, List, [], ◌∷◌, ◌++◌, length, take, drop, refl, sym, ap, ◌∙◌, subst, ◌⊎◌, inl, inr, IsTrue, arith, length-drop}
+use Rattle.std.proofs.Common.{◌≡◌, ℕ, ◌+◌, ◌-◌, ◌≤◌, List, [], ◌∷◌, ◌++◌, length, take, drop, refl, sym, ap, ◌∙◌, subst, ◌⊎◌, inl, inr, IsTrue, arith, length-drop}
 use Rattle.std.specs.Prelude.{All}
-use Rattle.std.proofs.lemmas.List.{append-nil, append_assoc, take-append-drop, length-take-le, drop-drop}
+use Rattle.std.proofs.lemmas.List.{append-nil, append_assoc, take-append-drop, length-append, length-take-le, drop-drop}
+use Rattle.std.proofs.Math.Seq.{drop-append-add}
 use Rattle.std.proofs.lemmas.List.Elements.{All-head, All-tail}
-use Rattle.line_grammar.specs.Language.{Begins, Stops, Reaches, IsFault}
+use Rattle.line_grammar.specs.Language.{Begins, Stops, Reaches, IsFault, IsFront}
 use Rattle.line_grammar.specs.Parts.{Opens}
 use Rattle.line_grammar.specs.Traces.{EndedLine, trace_text, IsAhead, IsTrace, IsTraceFault}
 use Rattle.line_grammar.specs.Words.{lacks}
@@ -166,6 +167,29 @@ module _ (L : List ℕ → Type 0) (feedless : (line : List ℕ) → L line → 
   pub fault_is_no_trace : (bytes : List ℕ) (line column : ℕ) → IsTraceFault L bytes line column → (lines : List (List ℕ)) → IsTrace L bytes lines → ⊥
   fault_is_no_trace bytes line column fault lines trace =
       no_trace fault.front fault.back fault.left fault.open_line fault.reaches fault.lines lines fault.each trace.each (sym fault.split ∙ trace.split)
+
+-- a line, and the line feed behind it
+pub line_ahead : {V : Type 0} (W : V → List ℕ → Type 0) (bytes line rest : List ℕ) (value : V) (size : ℕ) → W value line → bytes ≡ line ++ 10 ∷ rest
+    → size ≡ length line + 1 → IsAhead W bytes value size
+line_ahead W bytes line rest value size w e s =
+    let behind : drop size bytes ≡ rest = ap (λ n. drop n bytes) s ∙ ap (λ l. drop (length line + 1) l) e ∙ drop-append-add line (10 ∷ rest) 1 in
+    record {
+      line = line;
+      is_line = w;
+      split = e ∙ ap (λ l. line ++ 10 ∷ l) (sym behind);
+      size_of = s;
+      within = omega (arith, s, ap length e, length-append line (10 ∷ rest));
+    }
+
+pub front_ahead : {V : Type 0} (W : V → List ℕ → Type 0) (bytes : List ℕ) (value : V) (rest more : List ℕ) → IsFront W bytes value rest → rest ≡ 10 ∷ more
+    → IsAhead W bytes value (length bytes - length more)
+front_ahead W bytes value rest more a e =
+    let split : bytes ≡ a.front ++ 10 ∷ more = a.split ∙ ap (λ l. a.front ++ l) e in
+    line_ahead W bytes a.front more value (length bytes - length more) a.text_of split (omega (arith, ap length split, length-append a.front (10 ∷ more)))
+
+pub front_longer : {V : Type 0} (W : V → List ℕ → Type 0) (bytes : List ℕ) (value : V) (rest more : List ℕ) → IsFront W bytes value rest → rest ≡ 10 ∷ more
+    → length more ≤ length bytes
+front_longer W bytes value rest more a e = omega (arith, ap length a.split, length-append a.front rest, ap length e)
 
 -- what was read, and the line feed behind it
 pub read_ahead : {V : Type 0} (W : V → List ℕ → Type 0) (bytes : List ℕ) (value : V) (n : ℕ) (rest : List ℕ) → n ≤ length bytes → W value (take n bytes)

@@ -39,10 +39,11 @@ pub record IsStuck {V A : Type 0} (W : V → List A → Type 0) (text : List A) 
   pub absent : AnyOf W (take place text) → ⊥
   pub reaches : Reaches (AnyOf W) (take place text) (drop place text)
 
--- the first `size` elements are a text of the value; it may go on as another
-pub record IsFront {V A : Type 0} (W : V → List A → Type 0) (text : List A) (value : V) (size : ℕ) : Type 0 where
-  pub within : size ≤ length text
-  pub text_of : W value (take size text)
+-- the text begins with a text of the value, which may go on as another, and the rest stands behind that
+pub record IsFront {V A : Type 0} (W : V → List A → Type 0) (text : List A) (value : V) (rest : List A) : Type 0 where
+  pub front : List A
+  pub text_of : W value front
+  pub split : text ≡ front ++ rest
 
 -- What a reader finds at the front of a text: a value and how many elements its text has, or the
 -- place where the text stops going along with the language.

@@ -1,6 +1,6 @@
 //! Words, and choices among what was read.
 
-ghost use Rattle.std.specs.Prelude.{◌≡◌, ◌≢◌, ◌<◌, ◌≤◌, ℕ, List, ◌∷◌, IsTrue, MatchOption, drop, length, take, slice_index};
+ghost use Rattle.std.specs.Prelude.{◌≡◌, ◌≢◌, ◌<◌, ◌≤◌, ℕ, List, ◌∷◌, ◌++◌, IfSome, IsTrue, MatchOption, drop, length, take, slice_index};
 ghost use Rattle.line_grammar.specs.Language.{IsRead};
 ghost use Rattle.line_grammar.specs.Parts.{Opens};
 ghost use Rattle.line_grammar.specs.Words.{Word, EndsWord, further_of, is_solid, lacks, something_of};
@@ -74,6 +74,23 @@ pub fn behind(first: u8, text: &[u8]) -> Option<&[u8]>
         [byte, rest @ ..] if *byte == first => Some(rest),
         _ => None,
     }
+}
+
+/// What stands behind the word, if the text begins with it.
+#[inline(always)]
+pub fn behind_word<'a>(word: &[u8], text: &'a [u8]) -> Option<&'a [u8]>
+    ensures { IfSome result (λ rest. text.now ≡ word.now ++ rest.now) }
+{
+    if text.len() < word.len() {
+        return None;
+    }
+    for index in 0..word.len() {
+        if text[index] != word[index] {
+            return None;
+        }
+    }
+    let (_, rest) = text.split_at(word.len());
+    Some(rest)
 }
 
 /// How many bytes the text has before the first separator, or in all.

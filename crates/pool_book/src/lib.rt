@@ -28,7 +28,7 @@ use past::Past;
 use pool_core::Engine;
 use std::alloc::{AllocError, Global};
 use std::marker::Model;
-use tp_base::answers::{Entry, Outcome};
+use tp_base::answers::{Entry, Look, Outcome};
 use tp_base::calls::Call;
 use tp_base::ids::Who;
 use tp_base::limits::Limits;
@@ -116,13 +116,28 @@ impl Book {
         ensures legal { IsLegal self.new.limits self.new.capacity self.new.history }
         ensures laws { KeepsLaws self.new.limits self.new.history }
     {
+        let mut outcome = Outcome::Look(Look::Stay);
+        self.step_into(who, call, &mut outcome);
+        outcome
+    }
+
+    /// The same, and puts the outcome where it is wanted, in place of what is there.
+    pub fn step_into(&mut self, who: Who, call: Call, outcome: &mut Outcome)
+        requires { IsCallInRange call }
+        ensures outcome { outcome.new ≡ outcome_behind self.old who call }
+        ensures history { self.new ≡ recorded self.old who call outcome.new }
+        ensures first { IsFirstOf self.old self.new who call outcome.new }
+        ensures in_range { IsOutcomeInRange outcome.new }
+        ensures legal { IsLegal self.new.limits self.new.capacity self.new.history }
+        ensures laws { KeepsLaws self.new.limits self.new.history }
+    {
         let room = self.room();
-        let outcome = self.engine.step(who, call, room);
-        if let Outcome::Done(answer) = outcome {
+        let made = self.engine.step(who, call, room);
+        if let Outcome::Done(answer) = made {
             self.len += 1;
             self.past = self.past.and(&Entry { who, call, answer });
         }
-        outcome
+        *outcome = made;
     }
 
     /// The number of entries.

@@ -3,7 +3,6 @@ use Rattle.std.proofs.Common.{◌≡◌, ℕ, ◌+◌, List, [], ◌∷◌, ◌+
 use Rattle.std.specs.Prelude.{codes, decimal}
 use Rattle.std.proofs.lemmas.List.{append-nil, length-drop}
 use Rattle.std.proofs.Math.Seq.{take-add}
-use Rattle.line_grammar.specs.Language.{IsFront, IsReadTo}
 use Rattle.line_grammar.specs.Numbers.{Numbers}
 use Rattle.line_grammar.specs.Parts.{IsPart, IsTail}
 use Rattle.line_grammar.specs.Words.{Word as Only}
@@ -45,14 +44,3 @@ calls_part = rows_part field.Call row_of call_at call_table
 
 pub calls_tail : IsTail 32 CallTexts
 calls_tail = rows_tail field.Call row_of call_at call_table
-
--- a word and a number
-pub submit_front : (text : List ℕ) (w : Word) (n : ℕ) → IsReadTo (Only word.Submit (codes " submit ")) text w n → (rest : List ℕ) → rest ≡ drop n text
-    → (object m : ℕ) → IsReadTo (Numbers 0 65535) rest object m → IsFront CallTexts text (call.SubmitWork (record { 0 = object })) (n + m)
-submit_front text w n first rest e object m read = record {
-  within = omega (arith, first.within, read.within, ap length e, length-drop n text);
-  text_of = record {
-    in_range = (record { word = word.Submit; is = refl; table = refl }, (record { is = refl; at_least = read.text_of.at_least; at_most = read.text_of.at_most }, tt));
-    split = take-add n m text ∙ ap (λ l. l ++ take m (drop n text)) first.text_of.split ∙ ap (λ l. codes " submit " ++ l) (ap (λ l. take m l) (sym e) ∙ read.text_of.split ∙ sym (append-nil (decimal object)));
-  };
-}

@@ -6,6 +6,7 @@ mod Choices
 mod DueFacts
 pub mod EntryFacts
 pub mod Feeds
+mod FrontFacts
 mod Outcomes
 mod PartFacts
 mod Rebuilt
@@ -13,3 +14,4 @@ mod RowFacts
 mod Tables
 pub mod WhoFacts
 pub mod WordRules
+mod WriteFacts

@@ -6,7 +6,7 @@ use Rattle.std.proofs.lemmas.Fmt.{decimal_digit}
 use Rattle.std.proofs.lemmas.List.{append-nil, length-drop}
 use Rattle.std.proofs.Math.ListN.{get_or}
 use Rattle.std.proofs.Math.Seq.{drop-cons, take-add}
-use Rattle.line_grammar.specs.Language.{AnyOf, IsFront, IsRead, IsReadTo, IsStuck}
+use Rattle.line_grammar.specs.Language.{AnyOf, IsRead, IsReadTo, IsStuck}
 use Rattle.line_grammar.specs.Numbers.{Numbers}
 use Rattle.line_grammar.specs.Parts.{Led, IsPair, Pairs, IsPart}
 use Rattle.line_grammar.specs.Words.{Either, further_of}
@@ -126,23 +126,6 @@ who_apart (Worker n) (Worker m) t more a b = worker_part.apart n m t more (worke
 pub who_part : IsPart 32 WhoTexts
 who_part = record { unique = who_unique; apart = who_apart }
 
--- actors of one digit
-digit_front : (letter : ℕ) (text rest : List ℕ) → text ≡ letter ∷ rest → 0 < length rest → (number : ℕ) → number < 10 → get_or rest 0 0 ≡ 48 + number → take 2 text ≡ letter ∷ decimal number
-digit_front letter text rest e some number few at =
-    ap (λ l. take 2 l) (e ∙ ap (λ l. letter ∷ l) (drop-cons rest 0 0 some)) ∙ ap (λ d. letter ∷ d ∷ []) at ∙ ap (λ l. letter ∷ l) (sym (decimal_digit number few))
-
-pub worker_front : (text rest : List ℕ) → text ≡ 119 ∷ rest → 0 < length rest → (number : ℕ) → 1 ≤ number → number < 10 → get_or rest 0 0 ≡ 48 + number → IsFront WhoTexts text (Worker number) 2
-worker_front text rest e some number least few at = record {
-  within = omega (arith, ap length e, some);
-  text_of = record { in_range = (least, omega (arith, few)); split = digit_front 119 text rest e some number few at };
-}
-
-pub client_front : (text rest : List ℕ) → text ≡ 99 ∷ rest → 0 < length rest → (number : ℕ) → 1 ≤ number → number < 10 → get_or rest 0 0 ≡ 48 + number → IsFront WhoTexts text (Client number) 2
-client_front text rest e some number least few at = record {
-  within = omega (arith, ap length e, some);
-  text_of = record { in_range = (least, omega (arith, few)); split = digit_front 99 text rest e some number few at };
-}
-
 -- lines of calls
 
 line_to : (who : Who) (c : Call) (t : List ℕ) → IsPair WhoTexts (λ w. CallTexts) who c t → IsCallLine who c t
@@ -183,19 +166,6 @@ pub line_read : (text : List ℕ) (who : Who) (n : ℕ) → IsReadTo WhoTexts te
 line_read text who n first rest e c m read =
     read_same (Pairs WhoTexts (λ w. CallTexts)) CallLines lines_to lines_back text (Ok ((who, c), n + m))
     (pairs_read 32 WhoTexts (λ w. CallTexts) who_part (λ w. calls_tail) text who n first c m (subst (λ l. IsReadTo CallTexts l c m) e read))
-
-pub line_front : (text : List ℕ) (who : Who) (n : ℕ) → IsFront WhoTexts text who n → (rest : List ℕ) → rest ≡ drop n text
-    → (c : Call) (m : ℕ) → IsFront CallTexts rest c m → IsFront CallLines text (who, c) (n + m)
-line_front text who n first rest e c m front = record {
-  within = omega (arith, first.within, front.within, ap length e, length-drop n text);
-  text_of = line_to who c (take (n + m) text) (record {
-    front = take n text;
-    back = take m (drop n text);
-    split = take-add n m text;
-    first = first.text_of;
-    second = subst (λ l. CallTexts c (take m l)) e front.text_of;
-  });
-}
 
 pub lines_part : IsPart 32 CallLines
 lines_part = part_renamed 32 (Pairs WhoTexts (λ w. CallTexts)) CallLines (λ p. p) (λ p t a. (p, lines_back p t a, refl))

@@ -1,12 +1,13 @@
 //! Reading and printing of answers.
 
-ghost use Rattle.std.specs.Prelude.{◌≡◌, ◌≤◌, [], length};
+ghost use Rattle.std.specs.Prelude.{◌≡◌, ◌+◌, ◌≤◌, ◌++◌, length, take};
 ghost use Rattle.line_grammar.specs.Language.{IsRead};
 ghost use Rattle.tp_lines.specs.AnswerRows.{AnswerTexts, answer_at, refusal_at, result_at};
 ghost use Rattle.tp_lines.specs.Answers.{row_of_refusal, row_of_result, text_of_answer};
 ghost use Rattle.tp_lines.specs.Parts.{parts_of, parts_text};
 
-use crate::line::{Line, parts};
+use crate::line;
+use crate::line::parts;
 use crate::parts::Parts;
 use crate::rows::read_parts;
 use crate::words::{Field, Word};
@@ -171,69 +172,72 @@ pub fn read_answer(text: &[u8]) -> Result<(Answer, usize), usize>
     }
 }
 
-pub fn put_answer(answer: &Answer, line: &mut Line)
-    requires { line.old ≡ [] }
-    ensures text { line.new ≡ text_of_answer answer.now }
-    ensures grown { length line.new ≤ 250 }
+/// Writes an answer from an index on, and tells where it ends.
+#[inline(always)]
+pub fn put_answer(answer: &Answer, out: &mut [u8], at: usize) -> usize
+    requires { at + 250 ≤ length out.old }
+    ensures text { take result out.new ≡ take at out.old ++ text_of_answer answer.now }
+    ensures least { at ≤ result }
+    ensures most { result ≤ at + 250 }
 {
     match answer {
-        Answer::Done => line.first(Word::Done),
+        Answer::Done => line::first(Word::Done, out, at),
         Answer::Made { number } => {
-            parts!(line; first(Word::Made) number(u64::from(*number)));
+            parts!(out, at; first(Word::Made) number(u64::from(*number)))
         }
         Answer::Queued { first, count } => {
-            parts!(line; first(Word::Queued) number(*first) number(u64::from(*count)));
+            parts!(out, at; first(Word::Queued) number(*first) number(u64::from(*count)))
         }
         Answer::WasSet { was, first, count } => {
-            parts!(line; first(Word::Was) word(Word::YesNo(*was)) number(*first) number(u64::from(*count)));
+            parts!(out, at; first(Word::Was) word(Word::YesNo(*was)) number(*first) number(u64::from(*count)))
         }
         Answer::Flag { value } => {
-            parts!(line; first(Word::Flag) word(Word::YesNo(*value)));
+            parts!(out, at; first(Word::Flag) word(Word::YesNo(*value)))
         }
-        Answer::Closed { later: true } => line.first(Word::Later),
-        Answer::Closed { later: false } => line.first(Word::Freed),
+        Answer::Closed { later: true } => line::first(Word::Later, out, at),
+        Answer::Closed { later: false } => line::first(Word::Freed, out, at),
         Answer::Closing {
             covered,
             cancelled,
             notices,
         } => {
-            parts!(line; first(Word::Closing) number(u64::from(*covered)) number(u64::from(*cancelled)) number(u64::from(*notices)));
+            parts!(out, at; first(Word::Closing) number(u64::from(*covered)) number(u64::from(*cancelled)) number(u64::from(*notices)))
         }
         Answer::Begun { covered, cancelled } => {
-            parts!(line; first(Word::Begun) number(u64::from(*covered)) number(u64::from(*cancelled)));
+            parts!(out, at; first(Word::Begun) number(u64::from(*covered)) number(u64::from(*cancelled)))
         }
-        Answer::Ended => line.first(Word::Ended),
-        Answer::Exhausted => line.first(Word::Exhausted),
-        Answer::Stalled => line.first(Word::Stalled),
+        Answer::Ended => line::first(Word::Ended, out, at),
+        Answer::Exhausted => line::first(Word::Exhausted, out, at),
+        Answer::Stalled => line::first(Word::Stalled, out, at),
         Answer::Notice {
             object,
             routine,
             context,
             cleanup,
         } => {
-            parts!(line; first(Word::Notice) lettered(b'o', u64::from(object.0)) lettered(b'r', u64::from(routine.0)) lettered(b'x', *context) lettered(b'y', *cleanup));
+            parts!(out, at; first(Word::Notice) lettered(b'o', u64::from(object.0)) lettered(b'r', u64::from(routine.0)) lettered(b'x', *context) lettered(b'y', *cleanup))
         }
         Answer::Started { callback } => {
-            parts!(line; first(Word::Started) number(*callback));
+            parts!(out, at; first(Word::Started) number(*callback))
         }
         Answer::Operation { callback } => {
-            parts!(line; first(Word::Operation) number(*callback));
+            parts!(out, at; first(Word::Operation) number(*callback))
         }
         Answer::Cancelled { callback } => {
-            parts!(line; first(Word::Cancelled) number(*callback));
+            parts!(out, at; first(Word::Cancelled) number(*callback))
         }
         Answer::Count {
             previous,
             first,
             count,
         } => {
-            parts!(line; first(Word::Count) number(u64::from(*previous)) number(*first) number(u64::from(*count)));
+            parts!(out, at; first(Word::Count) number(u64::from(*previous)) number(*first) number(u64::from(*count)))
         }
         Answer::Advanced { now, first, count } => {
-            parts!(line; first(Word::Advanced) number(*now) number(*first) number(u64::from(*count)));
+            parts!(out, at; first(Word::Advanced) number(*now) number(*first) number(u64::from(*count)))
         }
         Answer::Attached { pool } => {
-            parts!(line; first(Word::Attached) number(u64::from(pool.0)));
+            parts!(out, at; first(Word::Attached) number(u64::from(pool.0)))
         }
         Answer::Taken {
             callback,
@@ -242,8 +246,8 @@ pub fn put_answer(answer: &Answer, line: &mut Line)
             context,
             result: taken,
         } => {
-            put_result(*taken, line);
-            parts!(line; first(Word::Taken) number(*callback) lettered(b'o', u64::from(object.0)) lettered(b'r', u64::from(routine.0)) lettered(b'x', *context));
+            let end = parts!(out, at; first(Word::Taken) number(*callback) lettered(b'o', u64::from(object.0)) lettered(b'r', u64::from(routine.0)) lettered(b'x', *context));
+            put_result(*taken, out, end)
         }
         Answer::Returned {
             section,
@@ -253,70 +257,74 @@ pub fn put_answer(answer: &Answer, line: &mut Line)
             first,
             count,
         } => {
-            parts!(line; first(Word::Returned) word(Word::Slot(*section)) word(Word::Slot(*mutex)) word(Word::Slot(*semaphore)) word(Word::Slot(*event)) number(*first) number(u64::from(*count)));
+            parts!(out, at; first(Word::Returned) word(Word::Slot(*section)) word(Word::Slot(*mutex)) word(Word::Slot(*semaphore)) word(Word::Slot(*event)) number(*first) number(u64::from(*count)))
         }
         Answer::Refused(refusal) => {
-            put_refusal(*refusal, line);
-            line.first(Word::Refused);
+            let end = line::first(Word::Refused, out, at);
+            put_refusal(*refusal, out, end)
         }
     }
 }
 
 // With what a callback is called, behind a space.
-fn put_result(taken: TakeResult, line: &mut Line)
-    requires { line.old ≡ [] }
-    ensures text { line.new ≡ parts_text (parts_of (row_of_result taken)) }
-    ensures grown { length line.new ≤ 80 }
+#[inline(always)]
+fn put_result(taken: TakeResult, out: &mut [u8], at: usize) -> usize
+    requires { at + 80 ≤ length out.old }
+    ensures text { take result out.new ≡ take at out.old ++ parts_text (parts_of (row_of_result taken)) }
+    ensures least { at ≤ result }
+    ensures most { result ≤ at + 80 }
 {
     match taken {
-        TakeResult::Plain => line.word(Word::Plain),
-        TakeResult::WaitObject0 => line.word(Word::Object),
-        TakeResult::WaitTimeout => line.word(Word::Timeout),
+        TakeResult::Plain => line::word(Word::Plain, out, at),
+        TakeResult::WaitObject0 => line::word(Word::Object, out, at),
+        TakeResult::WaitTimeout => line::word(Word::Timeout, out, at),
         TakeResult::Io { error, bytes } => {
-            parts!(line; word(Word::Io) number(u64::from(error)) number(bytes));
+            parts!(out, at; word(Word::Io) number(u64::from(error)) number(bytes))
         }
     }
 }
 
 // Why a call was refused, behind a space.
-fn put_refusal(refusal: Refusal, line: &mut Line)
-    requires { line.old ≡ [] }
-    ensures text { line.new ≡ parts_text (parts_of (row_of_refusal refusal)) }
-    ensures grown { length line.new ≤ 80 }
+#[inline(always)]
+fn put_refusal(refusal: Refusal, out: &mut [u8], at: usize) -> usize
+    requires { at + 80 ≤ length out.old }
+    ensures text { take result out.new ≡ take at out.old ++ parts_text (parts_of (row_of_refusal refusal)) }
+    ensures least { at ≤ result }
+    ensures most { result ≤ at + 80 }
 {
     match refusal {
-        Refusal::NoSuch => line.word(Word::NoSuch),
-        Refusal::WrongKind => line.word(Word::WrongKind),
-        Refusal::Released => line.word(Word::Released),
-        Refusal::PoolClosed => line.word(Word::PoolClosed),
-        Refusal::GroupClosed => line.word(Word::GroupClosed),
-        Refusal::DefaultPool => line.word(Word::DefaultPool),
-        Refusal::NotWorker => line.word(Word::NotWorker),
-        Refusal::NotRunning => line.word(Word::NotRunning),
-        Refusal::StillRunning => line.word(Word::StillRunning),
-        Refusal::InWait => line.word(Word::InWait),
-        Refusal::NoWaitBegun => line.word(Word::NoWaitBegun),
-        Refusal::OwnCallback => line.word(Word::OwnCallback),
+        Refusal::NoSuch => line::word(Word::NoSuch, out, at),
+        Refusal::WrongKind => line::word(Word::WrongKind, out, at),
+        Refusal::Released => line::word(Word::Released, out, at),
+        Refusal::PoolClosed => line::word(Word::PoolClosed, out, at),
+        Refusal::GroupClosed => line::word(Word::GroupClosed, out, at),
+        Refusal::DefaultPool => line::word(Word::DefaultPool, out, at),
+        Refusal::NotWorker => line::word(Word::NotWorker, out, at),
+        Refusal::NotRunning => line::word(Word::NotRunning, out, at),
+        Refusal::StillRunning => line::word(Word::StillRunning, out, at),
+        Refusal::InWait => line::word(Word::InWait, out, at),
+        Refusal::NoWaitBegun => line::word(Word::NoWaitBegun, out, at),
+        Refusal::OwnCallback => line::word(Word::OwnCallback, out, at),
         Refusal::HasMembers { object } => {
-            parts!(line; word(Word::HasMembers) number(u64::from(object.0)));
+            parts!(out, at; word(Word::HasMembers) number(u64::from(object.0)))
         }
-        Refusal::NotStarted => line.word(Word::NotStarted),
-        Refusal::NoOperation => line.word(Word::NoOperation),
+        Refusal::NotStarted => line::word(Word::NotStarted, out, at),
+        Refusal::NoOperation => line::word(Word::NoOperation, out, at),
         Refusal::OperationsOutstanding { io } => {
-            parts!(line; word(Word::OperationsOutstanding) number(u64::from(io.0)));
+            parts!(out, at; word(Word::OperationsOutstanding) number(u64::from(io.0)))
         }
         Refusal::SlotTaken { kind } => {
-            parts!(line; word(Word::SlotTaken) word(Word::Action(kind)));
+            parts!(out, at; word(Word::SlotTaken) word(Word::Action(kind)))
         }
-        Refusal::NotOwner => line.word(Word::NotOwner),
+        Refusal::NotOwner => line::word(Word::NotOwner, out, at),
         Refusal::OverMaximum { count } => {
-            parts!(line; word(Word::OverMaximum) number(u64::from(count)));
+            parts!(out, at; word(Word::OverMaximum) number(u64::from(count)))
         }
-        Refusal::NotWaitable => line.word(Word::NotWaitable),
-        Refusal::ClockEnd => line.word(Word::ClockEnd),
-        Refusal::ObjectLimit => line.word(Word::ObjectLimit),
-        Refusal::CallbackLimit => line.word(Word::CallbackLimit),
-        Refusal::NotAttached => line.word(Word::NotAttached),
-        Refusal::AlreadyAttached => line.word(Word::AlreadyAttached),
+        Refusal::NotWaitable => line::word(Word::NotWaitable, out, at),
+        Refusal::ClockEnd => line::word(Word::ClockEnd, out, at),
+        Refusal::ObjectLimit => line::word(Word::ObjectLimit, out, at),
+        Refusal::CallbackLimit => line::word(Word::CallbackLimit, out, at),
+        Refusal::NotAttached => line::word(Word::NotAttached, out, at),
+        Refusal::AlreadyAttached => line::word(Word::AlreadyAttached, out, at),
     }
 }

@@ -1,13 +1,14 @@
 //! Reading and printing of calls and of who makes them.
 
-ghost use Rattle.std.specs.Prelude.{◌≡◌, ◌≤◌, [], ◌∷◌, ◌++◌, length};
+ghost use Rattle.std.specs.Prelude.{◌≡◌, ◌+◌, ◌≤◌, [], ◌∷◌, ◌++◌, length, take};
 ghost use Rattle.line_grammar.specs.Language.{IsRead};
 ghost use Rattle.tp_lines.specs.Calls.{CallLines, CallTexts, WhoTexts, call_at, environ_at, environ_parts, row_of};
 ghost use Rattle.tp_lines.specs.Parts.{parts_text, row_text};
 ghost use Rattle.tp_lines.specs.Words.{text_of_who};
 ghost use Rattle.tp_lines.specs.Actors.{ClientTexts, WorkerTexts};
 
-use crate::line::{Line, parts};
+use crate::line;
+use crate::line::parts;
 use crate::parts::Parts;
 use crate::rows::read_parts;
 use crate::words::{Field, Word};
@@ -193,40 +194,39 @@ pub fn read_call_line(text: &[u8]) -> Result<((Who, Call), usize), usize>
     }
 }
 
-// The actor, and the space before the call.
-pub fn put_who(who: Who, line: &mut Line)
-    requires { length line.old ≤ 234 }
-    ensures { line.new ≡ text_of_who who ++ 32 ∷ line.old }
+/// Writes an actor from an index on, and the space behind it, and tells where they end.
+pub fn put_who(who: Who, out: &mut [u8], at: usize) -> usize
+    requires { at + 22 ≤ length out.old }
+    ensures text { take result out.new ≡ take at out.old ++ text_of_who who ++ 32 ∷ [] }
+    ensures least { at ≤ result }
+    ensures most { result ≤ at + 22 }
 {
-    line.byte(b' ');
-    match who {
-        Who::Client(number) => {
-            line.digits(u64::from(number));
-            line.byte(b'c');
-        }
-        Who::Worker(number) => {
-            line.digits(u64::from(number));
-            line.byte(b'w');
-        }
-    }
+    let (letter, number) = match who {
+        Who::Client(number) => (b'c', number),
+        Who::Worker(number) => (b'w', number),
+    };
+    let start = line::byte(letter, out, at);
+    let end = line::digits(u64::from(number), out, start);
+    line::byte(b' ', out, end)
 }
 
-// A call behind its actor.
-pub fn put_call(call: &Call, line: &mut Line)
-    requires { line.old ≡ [] }
-    ensures text { line.new ≡ row_text (row_of call.now) }
-    ensures grown { length line.new ≤ 234 }
+/// Writes a call from an index on, and tells where it ends.
+pub fn put_call(call: &Call, out: &mut [u8], at: usize) -> usize
+    requires { at + 234 ≤ length out.old }
+    ensures text { take result out.new ≡ take at out.old ++ row_text (row_of call.now) }
+    ensures least { at ≤ result }
+    ensures most { result ≤ at + 234 }
 {
     match call {
-        Call::CreatePool => line.first(Word::CreatePool),
+        Call::CreatePool => line::first(Word::CreatePool, out, at),
         Call::ClosePool { pool } => {
-            parts!(line; first(Word::ClosePool) number(u64::from(pool.0)));
+            parts!(out, at; first(Word::ClosePool) number(u64::from(pool.0)))
         }
         Call::SetMaximum { pool, value } => {
-            parts!(line; first(Word::SetMaximum) number(u64::from(pool.0)) number(u64::from(*value)));
+            parts!(out, at; first(Word::SetMaximum) number(u64::from(pool.0)) number(u64::from(*value)))
         }
         Call::SetMinimum { pool, value } => {
-            parts!(line; first(Word::SetMinimum) number(u64::from(pool.0)) number(u64::from(*value)));
+            parts!(out, at; first(Word::SetMinimum) number(u64::from(pool.0)) number(u64::from(*value)))
         }
         Call::Create {
             kind,
@@ -234,22 +234,22 @@ pub fn put_call(call: &Call, line: &mut Line)
             context,
             env,
         } => {
-            put_environ(*env, line);
-            parts!(line; first(Word::Create) word(Word::Kind(*kind)) lettered(b'r', u64::from(routine.0)) lettered(b'x', *context));
+            let end = parts!(out, at; first(Word::Create) word(Word::Kind(*kind)) lettered(b'r', u64::from(routine.0)) lettered(b'x', *context));
+            put_environ(*env, out, end)
         }
         Call::CloseObject { kind, object } => {
-            parts!(line; first(Word::CloseObject) word(Word::Kind(*kind)) number(u64::from(object.0)));
+            parts!(out, at; first(Word::CloseObject) word(Word::Kind(*kind)) number(u64::from(object.0)))
         }
         Call::SubmitSimple {
             routine,
             context,
             env,
         } => {
-            put_environ(*env, line);
-            parts!(line; first(Word::SubmitSimple) lettered(b'r', u64::from(routine.0)) lettered(b'x', *context));
+            let end = parts!(out, at; first(Word::SubmitSimple) lettered(b'r', u64::from(routine.0)) lettered(b'x', *context));
+            put_environ(*env, out, end)
         }
         Call::SubmitWork { object } => {
-            parts!(line; first(Word::Submit) number(u64::from(object.0)));
+            parts!(out, at; first(Word::Submit) number(u64::from(object.0)))
         }
         Call::SetTimer {
             object,
@@ -257,7 +257,7 @@ pub fn put_call(call: &Call, line: &mut Line)
             period,
             window,
         } => {
-            parts!(line; first(Word::SetTimer) number(u64::from(object.0)) due(*due) number(u64::from(*period)) number(u64::from(*window)));
+            parts!(out, at; first(Word::SetTimer) number(u64::from(object.0)) due(*due) number(u64::from(*period)) number(u64::from(*window)))
         }
         Call::SetTimerEx {
             object,
@@ -265,67 +265,68 @@ pub fn put_call(call: &Call, line: &mut Line)
             period,
             window,
         } => {
-            parts!(line; first(Word::SetTimerEx) number(u64::from(object.0)) due(*due) number(u64::from(*period)) number(u64::from(*window)));
+            parts!(out, at; first(Word::SetTimerEx) number(u64::from(object.0)) due(*due) number(u64::from(*period)) number(u64::from(*window)))
         }
         Call::IsTimerSet { object } => {
-            parts!(line; first(Word::IsTimerSet) number(u64::from(object.0)));
+            parts!(out, at; first(Word::IsTimerSet) number(u64::from(object.0)))
         }
         Call::Advance { ticks } => {
-            parts!(line; first(Word::Advance) number(*ticks));
+            parts!(out, at; first(Word::Advance) number(*ticks))
         }
         Call::BeginWait {
             kind,
             object,
             cancel,
         } => {
-            parts!(line; first(Word::BeginWait) word(Word::Kind(*kind)) number(u64::from(object.0)) word(Word::How(*cancel)));
+            parts!(out, at; first(Word::BeginWait) word(Word::Kind(*kind)) number(u64::from(object.0)) word(Word::How(*cancel)))
         }
         Call::BeginAcquire { kernel } => {
-            parts!(line; first(Word::BeginAcquire) number(u64::from(kernel.0)));
+            parts!(out, at; first(Word::BeginAcquire) number(u64::from(kernel.0)))
         }
-        Call::End => line.first(Word::End),
+        Call::End => line::first(Word::End, out, at),
         Call::CreateEvent { manual, signalled } => {
-            parts!(line; first(Word::CreateEvent) word(Word::Reset(*manual)) word(Word::Signal(*signalled)));
+            parts!(out, at; first(Word::CreateEvent) word(Word::Reset(*manual)) word(Word::Signal(*signalled)))
         }
         Call::CreateSemaphore { initial, maximum } => {
-            parts!(line; first(Word::CreateSemaphore) number(u64::from(*initial)) number(u64::from(*maximum)));
+            parts!(out, at; first(Word::CreateSemaphore) number(u64::from(*initial)) number(u64::from(*maximum)))
         }
         Call::CreateLock { lock, owned } => {
-            parts!(line; first(Word::CreateLock) word(Word::Lock(*lock)) word(Word::Owner(*owned)));
+            parts!(out, at; first(Word::CreateLock) word(Word::Lock(*lock)) word(Word::Owner(*owned)))
         }
         Call::SetEvent { kernel } => {
-            parts!(line; first(Word::SetEvent) number(u64::from(kernel.0)));
+            parts!(out, at; first(Word::SetEvent) number(u64::from(kernel.0)))
         }
         Call::ResetEvent { kernel } => {
-            parts!(line; first(Word::ResetEvent) number(u64::from(kernel.0)));
+            parts!(out, at; first(Word::ResetEvent) number(u64::from(kernel.0)))
         }
         Call::ReleaseSemaphore { kernel, count } => {
-            parts!(line; first(Word::ReleaseSemaphore) number(u64::from(kernel.0)) number(u64::from(*count)));
+            parts!(out, at; first(Word::ReleaseSemaphore) number(u64::from(kernel.0)) number(u64::from(*count)))
         }
         Call::ReleaseLock { lock, kernel } => {
-            parts!(line; first(Word::ReleaseLock) word(Word::Lock(*lock)) number(u64::from(kernel.0)));
+            parts!(out, at; first(Word::ReleaseLock) word(Word::Lock(*lock)) number(u64::from(kernel.0)))
         }
-        Call::Attach => line.first(Word::Attach),
-        Call::Detach => line.first(Word::Detach),
-        Call::Take => line.first(Word::Take),
-        Call::Return => line.first(Word::Return),
-        Call::MayRunLong => line.first(Word::MayRunLong),
-        Call::Disassociate => line.first(Word::Disassociate),
+        Call::Attach => line::first(Word::Attach, out, at),
+        Call::Detach => line::first(Word::Detach, out, at),
+        Call::Take => line::first(Word::Take, out, at),
+        Call::Return => line::first(Word::Return, out, at),
+        Call::MayRunLong => line::first(Word::MayRunLong, out, at),
+        Call::Disassociate => line::first(Word::Disassociate, out, at),
         Call::OnReturn {
             kind,
             kernel,
             count,
         } => {
-            parts!(line; first(Word::OnReturn) word(Word::Action(*kind)) number(u64::from(kernel.0)) number(u64::from(*count)));
+            parts!(out, at; first(Word::OnReturn) word(Word::Action(*kind)) number(u64::from(kernel.0)) number(u64::from(*count)))
         }
-        Call::Finish => line.first(Word::Finish),
+        Call::Finish => line::first(Word::Finish, out, at),
     }
 }
 
-fn put_environ(env: Environ, line: &mut Line)
-    requires { line.old ≡ [] }
-    ensures text { line.new ≡ parts_text (environ_parts env) }
-    ensures grown { length line.new ≤ 128 }
+fn put_environ(env: Environ, out: &mut [u8], at: usize) -> usize
+    requires { at + 128 ≤ length out.old }
+    ensures text { take result out.new ≡ take at out.old ++ parts_text (environ_parts env) }
+    ensures least { at ≤ result }
+    ensures most { result ≤ at + 128 }
 {
-    parts!(line; lettered(b'p', u64::from(env.pool.0)) word(Word::Priority(env.priority)) word(Word::Length(env.long)) lettered(b'g', u64::from(env.group.0)) lettered(b'q', u64::from(env.cancel.0)));
+    parts!(out, at; lettered(b'p', u64::from(env.pool.0)) word(Word::Priority(env.priority)) word(Word::Length(env.long)) lettered(b'g', u64::from(env.group.0)) lettered(b'q', u64::from(env.cancel.0)))
 }

@@ -1,162 +1,168 @@
-//! A line that is written from its end to its beginning.
+//! Writing of the parts of a line, one behind another.
 //!
-//! So each number is written in its place, and its digits are not moved.
+//! Each of these writes in its place, from an index on, and tells where its text ends. What stands before
+//! that index stays.
 
-ghost use Rattle.std.specs.Prelude.{◌≡◌, ℕ, ◌+◌, ◌≤◌, List, [], ◌∷◌, ◌++◌, decimal, drop, length};
+ghost use Rattle.std.specs.Prelude.{◌≡◌, ◌+◌, ◌<◌, ◌≤◌, [], ◌∷◌, ◌++◌, decimal, length, take};
 ghost use Rattle.std.specs.Fmt.{signed_decimal};
 ghost use Rattle.tp_lines.specs.Shapes.{text_of_word};
 ghost use Rattle.tp_lines.specs.Words.{text_of_due};
 
 use crate::words::{Word, word_text};
 use itoa::write_digits;
-use std::marker::Model;
 
-const ROOM: usize = 256;
-
-/// The last bytes of a line, which grow towards its beginning.
-#[derive(Drop)]
-pub struct Line {
-    bytes: [u8; 256],
-    start: usize,
+/// A byte.
+#[inline(always)]
+pub fn byte(byte: u8, out: &mut [u8], at: usize) -> usize
+    requires { at < length out.old }
+    ensures text { take result out.new ≡ take at out.old ++ byte ∷ [] }
+    ensures end { result ≡ at + 1 }
+{
+    out[at] = byte;
+    at + 1
 }
 
-impl Model for Line {
-    ghost Value = { List ℕ };
-
-    ghost view = { λ line. drop line.start line.bytes };
-
-    ghost invariant = { λ line. line.start ≤ 256 };
+/// A text.
+#[inline(always)]
+pub fn text(text: &[u8], out: &mut [u8], at: usize) -> usize
+    requires { at + length text.now ≤ length out.old }
+    ensures text { take result out.new ≡ take at out.old ++ text.now }
+    ensures end { result ≡ at + length text.now }
+{
+    let end = at + text.len();
+    out[at..end].copy_from_slice(text);
+    end
 }
 
-impl Line {
-    pub fn new() -> Line
-        ensures { result ≡ [] }
-    {
-        Line {
-            bytes: [0; 256],
-            start: ROOM,
-        }
-    }
-
-    pub fn as_bytes(&self) -> &[u8]
-        ensures { result.now ≡ self.now }
-    {
-        let (_, bytes) = self.bytes.split_at(self.start);
-        bytes
-    }
-
-    /// Puts a byte before the others.
-    #[inline(always)]
-    pub fn byte(&mut self, byte: u8)
-        requires { length self.old + 1 ≤ 256 }
-        ensures { self.new ≡ byte ∷ self.old }
-    {
-        // The place is kept last, so that the next byte needs no load of it.
-        let start = self.start - 1;
-        self.bytes[start] = byte;
-        self.start = start;
-    }
-
-    /// Puts a text before the others.
-    #[inline(always)]
-    pub fn text(&mut self, text: &[u8])
-        requires { length self.old + length text.now ≤ 256 }
-        ensures { self.new ≡ text.now ++ self.old }
-    {
-        let mut index = text.len();
-        while 0 < index {
-            index -= 1;
-            self.byte(text[index]);
-        }
-    }
-
-    /// Puts the digits of a number before the others.
-    #[inline(always)]
-    pub fn digits(&mut self, number: u64)
-        requires { length self.old + 20 ≤ 256 }
-        ensures text { self.new ≡ decimal number ++ self.old }
-        ensures grown { length self.new ≤ length self.old + 20 }
-    {
-        self.start = write_digits(number, &mut self.bytes, self.start);
-    }
-
-    /// Puts a word before the others.
-    #[inline(always)]
-    pub fn first(&mut self, word: Word)
-        requires { length self.old + 30 ≤ 256 }
-        ensures text { self.new ≡ text_of_word word ++ self.old }
-        ensures grown { length self.new ≤ length self.old + 30 }
-    {
-        self.text(word_text(word));
-    }
-
-    /// Puts a space and a word before the others.
-    #[inline(always)]
-    pub fn word(&mut self, word: Word)
-        requires { length self.old + 31 ≤ 256 }
-        ensures text { self.new ≡ 32 ∷ text_of_word word ++ self.old }
-        ensures grown { length self.new ≤ length self.old + 31 }
-    {
-        self.first(word);
-        self.byte(b' ');
-    }
-
-    /// Puts a space and a number before the others.
-    #[inline(always)]
-    pub fn number(&mut self, number: u64)
-        requires { length self.old + 21 ≤ 256 }
-        ensures text { self.new ≡ 32 ∷ decimal number ++ self.old }
-        ensures grown { length self.new ≤ length self.old + 21 }
-    {
-        self.digits(number);
-        self.byte(b' ');
-    }
-
-    /// Puts a space, and a due time or `none`, before the others.
-    pub fn due(&mut self, due: Option<i64>)
-        requires { length self.old + 22 ≤ 256 }
-        ensures text { self.new ≡ 32 ∷ text_of_due due ++ self.old }
-        ensures grown { length self.new ≤ length self.old + 22 }
-    {
-        match due {
-            Some(time) => self.signed(time),
-            None => self.text(b"none"),
-        }
-        self.byte(b' ');
-    }
-
-    // Puts a number with its sign before the others.
-    fn signed(&mut self, number: i64)
-        requires { length self.old + 21 ≤ 256 }
-        ensures text { self.new ≡ signed_decimal number ++ self.old }
-        ensures grown { length self.new ≤ length self.old + 21 }
-    {
-        self.digits(number.unsigned_abs());
-        if number < 0 {
-            self.byte(b'-');
-        }
-    }
-
-    /// Puts a space, a letter and a number before the others.
-    #[inline(always)]
-    pub fn lettered(&mut self, letter: u8, number: u64)
-        requires { length self.old + 22 ≤ 256 }
-        ensures text { self.new ≡ 32 ∷ letter ∷ decimal number ++ self.old }
-        ensures grown { length self.new ≤ length self.old + 22 }
-    {
-        self.digits(number);
-        self.byte(letter);
-        self.byte(b' ');
+// How many digits a number has.
+fn digit_count(number: u64) -> usize
+    ensures value { result ≡ length (decimal number) }
+    ensures most { result ≤ 20 }
+{
+    if number < 10 {
+        1
+    } else if number < 100 {
+        2
+    } else if number < 1_000 {
+        3
+    } else if number < 10_000 {
+        4
+    } else if number < 100_000 {
+        5
+    } else {
+        digit_count(number / 10_000) + 4
     }
 }
 
-// Writes parts, of which the first is written last: a line is written from its end.
+/// The digits of a number.
+#[inline(always)]
+pub fn digits(number: u64, out: &mut [u8], at: usize) -> usize
+    requires { at + 20 ≤ length out.old }
+    ensures text { take result out.new ≡ take at out.old ++ decimal number }
+    ensures least { at ≤ result }
+    ensures most { result ≤ at + 20 }
+{
+    if number < 10 {
+        return byte(b'0' + number as u8, out, at);
+    }
+    many_digits(number, out, at)
+}
+
+fn many_digits(number: u64, out: &mut [u8], at: usize) -> usize
+    requires { at + 20 ≤ length out.old }
+    ensures text { take result out.new ≡ take at out.old ++ decimal number }
+    ensures least { at ≤ result }
+    ensures most { result ≤ at + 20 }
+{
+    let end = at + digit_count(number);
+    write_digits(number, out, end);
+    end
+}
+
+/// A word.
+#[inline(always)]
+pub fn first(word: Word, out: &mut [u8], at: usize) -> usize
+    requires { at + 30 ≤ length out.old }
+    ensures text { take result out.new ≡ take at out.old ++ text_of_word word }
+    ensures least { at ≤ result }
+    ensures most { result ≤ at + 30 }
+{
+    text(word_text(word), out, at)
+}
+
+/// A space and a word.
+#[inline(always)]
+pub fn word(word: Word, out: &mut [u8], at: usize) -> usize
+    requires { at + 31 ≤ length out.old }
+    ensures text { take result out.new ≡ take at out.old ++ 32 ∷ text_of_word word }
+    ensures least { at ≤ result }
+    ensures most { result ≤ at + 31 }
+{
+    let start = byte(b' ', out, at);
+    first(word, out, start)
+}
+
+/// A space and a number.
+#[inline(always)]
+pub fn number(number: u64, out: &mut [u8], at: usize) -> usize
+    requires { at + 21 ≤ length out.old }
+    ensures text { take result out.new ≡ take at out.old ++ 32 ∷ decimal number }
+    ensures least { at ≤ result }
+    ensures most { result ≤ at + 21 }
+{
+    let start = byte(b' ', out, at);
+    digits(number, out, start)
+}
+
+/// A space, a letter and a number.
+#[inline(always)]
+pub fn lettered(letter: u8, number: u64, out: &mut [u8], at: usize) -> usize
+    requires { at + 22 ≤ length out.old }
+    ensures text { take result out.new ≡ take at out.old ++ 32 ∷ letter ∷ decimal number }
+    ensures least { at ≤ result }
+    ensures most { result ≤ at + 22 }
+{
+    let space = byte(b' ', out, at);
+    let start = byte(letter, out, space);
+    digits(number, out, start)
+}
+
+/// A space, and a due time or `none`.
+pub fn due(due: Option<i64>, out: &mut [u8], at: usize) -> usize
+    requires { at + 22 ≤ length out.old }
+    ensures text { take result out.new ≡ take at out.old ++ 32 ∷ text_of_due due }
+    ensures least { at ≤ result }
+    ensures most { result ≤ at + 22 }
+{
+    let start = byte(b' ', out, at);
+    match due {
+        Some(time) => signed(time, out, start),
+        None => text(b"none", out, start),
+    }
+}
+
+// A number with its sign.
+fn signed(number: i64, out: &mut [u8], at: usize) -> usize
+    requires { at + 21 ≤ length out.old }
+    ensures text { take result out.new ≡ take at out.old ++ signed_decimal number }
+    ensures least { at ≤ result }
+    ensures most { result ≤ at + 21 }
+{
+    let size = number.unsigned_abs();
+    if number < 0 {
+        let start = byte(b'-', out, at);
+        digits(size, out, start)
+    } else {
+        digits(size, out, at)
+    }
+}
+
+// Writes parts one behind another, and tells where they end.
 macro_rules! parts {
-    ($line:ident;) => {};
-    ($line:ident; $part:ident($($value:expr),*) $($others:tt)*) => {
-        parts!($line; $($others)*);
-        $line.$part($($value),*);
-    };
+    ($out:ident, $at:ident; $($part:ident($($value:expr),*))+) => {{
+        $(let $at = line::$part($($value,)* $out, $at);)+
+        $at
+    }};
 }
 
 pub(crate) use parts;

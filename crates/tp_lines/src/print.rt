@@ -1,14 +1,88 @@
 //! Printing of entries, answers, looks and full.
 
-ghost use Rattle.std.specs.Prelude.{◌≡◌, [], ◌++◌, OnErr, OnOk};
+ghost use Rattle.std.specs.Prelude.{◌≡◌, ◌+◌, ◌≤◌, ◌++◌, ◌∷◌, [], ℕ, List, IfOk, OnErr, OnOk, length, take};
 ghost use Rattle.tp_lines.specs.Answers.{line_of_entry, text_of_answer, text_of_full, text_of_look, text_of_outcome};
 
 use crate::answers::put_answer;
 use crate::calls::{put_call, put_who};
-use crate::line::{Line, parts};
+use crate::line;
+use crate::line::parts;
 use crate::words::Word;
-use std::alloc::AllocError;
+use std::alloc::{AllocError, Global};
+use std::marker::Model;
 use tp_base::answers::{Answer, Entry, Look, Outcome};
+
+/// As much as a line needs.
+const ROOM: usize = 512;
+
+/// How many bytes are taken at once for the lines to come.
+const PAGE: usize = 65_536;
+
+/// Lines that are printed one behind another, seen as their text.
+#[derive(Drop)]
+pub struct Lines {
+    // Behind `end` stands nothing yet.
+    bytes: Vec<u8>,
+    end: usize,
+}
+
+impl Model for Lines {
+    ghost Value = { List ℕ };
+
+    ghost view = { λ lines. take lines.end lines.bytes.items };
+
+    ghost invariant = { λ lines. lines.end ≤ length lines.bytes.items };
+}
+
+impl Lines {
+    /// No lines. Takes no memory.
+    pub fn new(alloc: Global) -> Lines
+        ensures { result ≡ [] }
+    {
+        Lines {
+            bytes: Vec::new(alloc),
+            end: 0,
+        }
+    }
+
+    /// Prints the line of what a call came to: its answer, its look, or full. On want of memory nothing is
+    /// printed.
+    #[inline(always)]
+    pub fn outcome(&mut self, outcome: &Outcome) -> Result<(), AllocError>
+        ensures ok { OnOk result (self.new ≡ self.old ++ (text_of_outcome outcome.now ++ 10 ∷ [])) }
+        ensures err { OnErr result (self.new ≡ self.old) }
+    {
+        if self.bytes.len() - self.end < ROOM {
+            grow(&mut self.bytes)?;
+        }
+        let end = put_outcome(outcome, &mut self.bytes, self.end);
+        self.end = line::byte(b'\n', &mut self.bytes, end);
+        Ok(())
+    }
+
+    /// The text of all lines.
+    pub fn into_text(mut self) -> Vec<u8>
+        ensures { result.items ≡ self }
+    {
+        self.bytes.truncate(self.end);
+        self.bytes
+    }
+}
+
+// Takes room for lines. What stands there stays.
+#[cold]
+#[inline(never)]
+fn grow(bytes: &mut Vec<u8>) -> Result<(), AllocError>
+    ensures ok { OnOk result (length bytes.old.items + PAGE ≤ length bytes.new.items) }
+    ensures kept { take (length bytes.old.items) bytes.new.items ≡ bytes.old.items }
+    ensures err { OnErr result (bytes.new.items ≡ bytes.old.items) }
+{
+    let len = bytes.len();
+    if usize::MAX - len < PAGE {
+        return Err(AllocError);
+    }
+    bytes.resize(len + PAGE, 0)
+}
 
 /// Appends the text of what a call came to: its answer, its look, or full. On want of memory nothing is
 /// appended.
@@ -16,9 +90,11 @@ pub fn print_outcome(outcome: &Outcome, out: &mut Vec<u8>) -> Result<(), AllocEr
     ensures ok { OnOk result (out.new.items ≡ out.old.items ++ text_of_outcome outcome.now) }
     ensures err { OnErr result (out.new.items ≡ out.old.items) }
 {
-    let mut line = Line::new();
-    put_outcome(outcome, &mut line);
-    out.extend_from_slice(line.as_bytes())
+    let at = out.len();
+    out.resize(at + ROOM, 0)?;
+    let end = put_outcome(outcome, out, at);
+    out.truncate(end);
+    Ok(())
 }
 
 /// Appends the text of an answer. On want of memory nothing is appended.
@@ -26,9 +102,11 @@ pub fn print_answer(answer: &Answer, out: &mut Vec<u8>) -> Result<(), AllocError
     ensures ok { OnOk result (out.new.items ≡ out.old.items ++ text_of_answer answer.now) }
     ensures err { OnErr result (out.new.items ≡ out.old.items) }
 {
-    let mut line = Line::new();
-    put_answer(answer, &mut line);
-    out.extend_from_slice(line.as_bytes())
+    let at = out.len();
+    out.resize(at + ROOM, 0)?;
+    let end = put_answer(answer, out, at);
+    out.truncate(end);
+    Ok(())
 }
 
 /// Appends the text of a look. On want of memory nothing is appended.
@@ -36,9 +114,11 @@ pub fn print_look(look: &Look, out: &mut Vec<u8>) -> Result<(), AllocError>
     ensures ok { OnOk result (out.new.items ≡ out.old.items ++ text_of_look look.now) }
     ensures err { OnErr result (out.new.items ≡ out.old.items) }
 {
-    let mut line = Line::new();
-    put_look(look, &mut line);
-    out.extend_from_slice(line.as_bytes())
+    let at = out.len();
+    out.resize(at + ROOM, 0)?;
+    let end = put_look(look, out, at);
+    out.truncate(end);
+    Ok(())
 }
 
 /// Appends what stands for a history that is full: how many entries it has room for, and how many the
@@ -47,9 +127,11 @@ pub fn print_full(room: u64, cost: u64, out: &mut Vec<u8>) -> Result<(), AllocEr
     ensures ok { OnOk result (out.new.items ≡ out.old.items ++ text_of_full room cost) }
     ensures err { OnErr result (out.new.items ≡ out.old.items) }
 {
-    let mut line = Line::new();
-    put_full(room, cost, &mut line);
-    out.extend_from_slice(line.as_bytes())
+    let at = out.len();
+    out.resize(at + ROOM, 0)?;
+    let end = put_full(room, cost, out, at);
+    out.truncate(end);
+    Ok(())
 }
 
 /// Appends the line of an entry, without its line feed. On want of memory nothing is appended.
@@ -57,58 +139,59 @@ pub fn print_entry(entry: &Entry, out: &mut Vec<u8>) -> Result<(), AllocError>
     ensures ok { OnOk result (out.new.items ≡ out.old.items ++ line_of_entry entry.now) }
     ensures err { OnErr result (out.new.items ≡ out.old.items) }
 {
-    let before = out.len();
-    let mut call = Line::new();
-    put_call(&entry.call, &mut call);
-    put_who(entry.who, &mut call);
-    let mut answer = Line::new();
-    put_answer(&entry.answer, &mut answer);
-    answer.text(b" -> ");
-    out.extend_from_slice(call.as_bytes())?;
-    match out.extend_from_slice(answer.as_bytes()) {
-        Ok(()) => Ok(()),
-        Err(error) => {
-            out.truncate(before);
-            Err(error)
-        }
-    }
+    let at = out.len();
+    out.resize(at + ROOM, 0)?;
+    let call = put_who(entry.who, out, at);
+    let arrow = put_call(&entry.call, out, call);
+    let answer = line::text(b" -> ", out, arrow);
+    let end = put_answer(&entry.answer, out, answer);
+    out.truncate(end);
+    Ok(())
 }
 
-fn put_outcome(outcome: &Outcome, line: &mut Line)
-    requires { line.old ≡ [] }
-    ensures { line.new ≡ text_of_outcome outcome.now }
+#[inline(always)]
+fn put_outcome(outcome: &Outcome, out: &mut [u8], at: usize) -> usize
+    requires { at + 250 ≤ length out.old }
+    ensures text { take result out.new ≡ take at out.old ++ text_of_outcome outcome.now }
+    ensures least { at ≤ result }
+    ensures most { result ≤ at + 250 }
 {
     match outcome {
-        Outcome::Done(answer) => put_answer(answer, line),
-        Outcome::Look(look) => put_look(look, line),
-        Outcome::Full { room, cost } => put_full(*room, *cost, line),
+        Outcome::Done(answer) => put_answer(answer, out, at),
+        Outcome::Look(look) => put_look(look, out, at),
+        Outcome::Full { room, cost } => put_full(*room, *cost, out, at),
     }
 }
 
-fn put_full(room: u64, cost: u64, line: &mut Line)
-    requires { line.old ≡ [] }
-    ensures { line.new ≡ text_of_full room cost }
+#[inline(always)]
+fn put_full(room: u64, cost: u64, out: &mut [u8], at: usize) -> usize
+    requires { at + 250 ≤ length out.old }
+    ensures text { take result out.new ≡ take at out.old ++ text_of_full room cost }
+    ensures least { at ≤ result }
+    ensures most { result ≤ at + 250 }
 {
-    parts!(line; first(Word::Full) number(room) number(cost));
+    parts!(out, at; first(Word::Full) number(room) number(cost))
 }
 
-fn put_look(look: &Look, line: &mut Line)
-    requires { line.old ≡ [] }
-    ensures { line.new ≡ text_of_look look.now }
+#[inline(always)]
+fn put_look(look: &Look, out: &mut [u8], at: usize) -> usize
+    requires { at + 250 ≤ length out.old }
+    ensures text { take result out.new ≡ take at out.old ++ text_of_look look.now }
+    ensures least { at ≤ result }
+    ensures most { result ≤ at + 250 }
 {
     match look {
         Look::NotYet { callback } => {
-            parts!(line; word(Word::NotYet) word(Word::Callback) number(*callback));
+            parts!(out, at; first(Word::Look) word(Word::NotYet) word(Word::Callback) number(*callback))
         }
         Look::NotYetKernel { kernel } => {
-            parts!(line; word(Word::NotYet) word(Word::Kernel) number(u64::from(kernel.0)));
+            parts!(out, at; first(Word::Look) word(Word::NotYet) word(Word::Kernel) number(u64::from(kernel.0)))
         }
-        Look::Empty => line.word(Word::Empty),
+        Look::Empty => parts!(out, at; first(Word::Look) word(Word::Empty)),
         Look::AtMaximum { running } => {
-            parts!(line; word(Word::AtMaximum) number(u64::from(*running)));
+            parts!(out, at; first(Word::Look) word(Word::AtMaximum) number(u64::from(*running)))
         }
-        Look::NoNeed => line.word(Word::NoNeed),
-        Look::Stay => line.word(Word::Stay),
+        Look::NoNeed => parts!(out, at; first(Word::Look) word(Word::NoNeed)),
+        Look::Stay => parts!(out, at; first(Word::Look) word(Word::Stay)),
     }
-    line.first(Word::Look);
 }

@@ -58,19 +58,42 @@ pub fn read_call(text: &[u8]) -> Result<((Who, Call), usize), usize>
 {
     match read_good_call(text) {
         Some(read) => Ok(read),
-        None => ended!(text, read_call_line(text)),
+        None => match read_any_call(text) {
+            Ok((line, size)) => Ok((line, size)),
+            Err(place) => Err(place),
+        },
     }
 }
 
+// The others stand apart, so that what most lines need stays short.
+#[inline(never)]
+fn read_any_call(text: &[u8]) -> Result<((Who, Call), usize), usize>
+    ensures { IsRead (Ended CallLines) text.now result }
+{
+    ended!(text, read_call_line(text))
+}
+
 // Reads the line of an entry.
+#[inline(always)]
 fn read_entry_line(text: &[u8]) -> Result<(Entry, usize), usize>
     ensures { IsRead (Ended EntryLines) text.now result }
 {
     match read_good_entry(text) {
         Some(read) => Ok(read),
-        None => ended!(text, read_entry(text)),
+        None => match read_any_entry(text) {
+            Ok((entry, size)) => Ok((entry, size)),
+            Err(place) => Err(place),
+        },
     }
 }
+
+#[inline(never)]
+fn read_any_entry(text: &[u8]) -> Result<(Entry, usize), usize>
+    ensures { IsRead (Ended EntryLines) text.now result }
+{
+    ended!(text, read_entry(text))
+}
+
 // Where the text stops going along with the end line behind `len` entries, if it doesn't begin with it.
 fn read_end_line(alloc: Global, text: &[u8], len: u32) -> Result<Option<usize>, AllocError>
     ensures { IfOk result (IsEndRead len text.now) }

@@ -16,11 +16,10 @@ use crate::faults::{TextFault, fault_behind};
 use crate::lines::read_call;
 use pool_book::{Book, program_limits};
 use std::alloc::{AllocError, Global};
-use tp_base::answers::Outcome;
+use tp_base::answers::{Look, Outcome};
 use tp_base::calls::Call;
 use tp_base::ids::Who;
-use tp_lines::good::read_good_call;
-use tp_lines::print::{print_answer, print_full, print_look};
+use tp_lines::print::Lines;
 
 /// How many entries the history of a trace has room for.
 const CAPACITY: u32 = 65_536;
@@ -72,7 +71,7 @@ fn play(alloc: Global, bytes: &[u8], clients: u32) -> Result<Played, TextFault>
     ensures err { IfErr result (λ fault. IsPlace (IsTraceFault IsLine bytes.now) fault) }
 {
     let mut book = Book::open(alloc, program_limits(clients, WORKERS), CAPACITY)?;
-    let mut text = Vec::new(alloc);
+    let mut text = Lines::new(alloc);
     let mut greatest = 0;
     let mut lines = 0;
     let mut rest = bytes;
@@ -88,25 +87,21 @@ fn play(alloc: Global, bytes: &[u8], clients: u32) -> Result<Played, TextFault>
         }
     }
     Ok(Played {
-        text,
+        text: text.into_text(),
         clients: greatest,
     })
 }
 
 // Makes a call, and appends the line of its outcome. On want of memory the call was made.
 #[inline(always)]
-fn play_call(book: &mut Book, who: Who, call: Call, text: &mut Vec<u8>) -> Result<(), AllocError>
+fn play_call(book: &mut Book, who: Who, call: Call, lines: &mut Lines) -> Result<(), AllocError>
     requires { IsCallInRange call }
     ensures first { IsFirstOf book.old book.new who call (outcome_behind book.old who call) }
-    ensures printed { OnOk result (text.new.items ≡ text.old.items ++ (text_of_outcome (outcome_behind book.old who call) ++ 10 ∷ [])) }
+    ensures printed { OnOk result (lines.new ≡ lines.old ++ (text_of_outcome (outcome_behind book.old who call) ++ 10 ∷ [])) }
 {
-    match book.step(who, call) {
-        Outcome::Done(answer) => print_answer(&answer, text)?,
-        Outcome::Look(look) => print_look(&look, text)?,
-        Outcome::Full { room, cost } => print_full(room, cost, text)?,
-    }
-    text.push(b'\n')?;
-    Ok(())
+    let mut outcome = Outcome::Look(Look::Stay);
+    book.step_into(who, call, &mut outcome);
+    lines.outcome(&outcome)
 }
 
 // The greatest client of the good lines at the front of a text. The play shows whether it is the
@@ -116,7 +111,7 @@ fn guess_clients(bytes: &[u8]) -> u32
 {
     let (mut rest, _) = bytes.split_at(bytes.len().min(FRONT));
     let mut greatest = 0;
-    while let Some(((who, _), size)) = read_good_call(rest) {
+    while let Ok(((who, _), size)) = read_call(rest) {
         greatest = greater_client(greatest, who);
         (_, rest) = rest.split_at(size);
     }

@@ -1,8 +1,6 @@
-use Rattle.std.proofs.Common.{sym, ◌∙◌}
-use Rattle.line_grammar.proofs.TraceFacts.{read_ahead}
+use Rattle.line_grammar.proofs.TraceFacts.{front_ahead, front_longer}
 use Rattle.tp_lines.specs.Calls.{CallLines}
 use Rattle.tp_lines.proofs.good.read_good_call.Goals as goal
 
-pub returns-in-Some-behind : goal.returns-in-Some-behind
-returns-in-Some-behind c =
-    read_ahead CallLines c.args.text.now c.in-Some.line c.in-Some.size _ c.in-Some.ensures.within c.in-Some.ensures.text_of (sym c.split_at.ensures.back ∙ c.in-Some-behind.ensures)
+pub returns : goal.returns
+returns c = front_ahead CallLines c.args.text.now c.in_ok-line.line c.in_ok-line.rest.now c.in_ok-more.more.now c.in_ok-line.ensures c.in_ok-more.ensures

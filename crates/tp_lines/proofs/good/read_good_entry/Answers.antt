@@ -1,8 +1,6 @@
-use Rattle.std.proofs.Common.{sym, ◌∙◌}
-use Rattle.line_grammar.proofs.TraceFacts.{read_ahead}
+use Rattle.line_grammar.proofs.TraceFacts.{front_ahead, front_longer}
 use Rattle.tp_lines.specs.Answers.{EntryLines}
 use Rattle.tp_lines.proofs.good.read_good_entry.Goals as goal
 
-pub returns-in-Some : goal.returns-in-Some
-returns-in-Some c =
-    read_ahead EntryLines c.args.text.now c.in-Ok.entry c.in-Ok.size _ c.in-Ok.ensures.within c.in-Ok.ensures.text_of (sym c.split_at.ensures.back ∙ c.in-Some.ensures)
+pub returns : goal.returns
+returns c = front_ahead EntryLines c.args.text.now c.in_ok-entry.entry c.in_ok-entry.rest.now c.in_ok-more.more.now c.in_ok-entry.ensures c.in_ok-more.ensures

@@ -9,44 +9,44 @@ use Rattle.tp_report.proofs.playing.play.Goals as goal
 
 pub loop-rest-init : goal.loop-rest-init
 loop-rest-init c =
-    played_none c.args.clients c.args.bytes.now c.in_ok-book.book c.new-text.result.items (c.in_ok-book.ensures.limits ∙ c.program_limits.ensures.value) c.in_ok-book.ensures.capacity c.in_ok-book.ensures.empty
-    c.new-text.ensures.items
+    played_none c.args.clients c.args.bytes.now c.in_ok-book.book c.new-text.result (c.in_ok-book.ensures.limits ∙ c.program_limits.ensures.value) c.in_ok-book.ensures.capacity c.in_ok-book.ensures.empty
+    c.new-text.ensures
 
 pub fault_behind-requires-clause-lines : goal.fault_behind-requires-clause-lines
 fault_behind-requires-clause-lines c =
-    let l = c.loop-rest in omega (arith, c.requires.few, played_few c.args.clients c.args.bytes.now l.book l.text.items l.greatest l.lines l.rest.now l.invariant)
+    let l = c.loop-rest in omega (arith, c.requires.few, played_few c.args.clients c.args.bytes.now l.book l.text l.greatest l.lines l.rest.now l.invariant)
 
 pub overflow_add-lines : goal.overflow_add-lines
-overflow_add-lines c = let l = c.loop-rest in omega (arith, c.requires.few, played_few c.args.clients c.args.bytes.now l.book l.text.items l.greatest l.lines l.rest.now l.invariant)
+overflow_add-lines c = let l = c.loop-rest in omega (arith, c.requires.few, played_few c.args.clients c.args.bytes.now l.book l.text l.greatest l.lines l.rest.now l.invariant)
 
 pub returns-in-Err-clause-only : goal.returns-in-Err-clause-only
 returns-in-Err-clause-only c = λ all trace.
     let l = c.loop-rest in
     let some : 0 < length l.rest.now = omega (arith, eqb-false (length l.rest.now) 0 (sym c.is_empty.ensures ∙ c.loop-rest-test.true)) in
-    absurd (played_no c.args.clients c.args.bytes.now l.book l.text.items l.greatest l.lines l.rest.now l.invariant c.in-Err.place some c.in-Err.ensures all trace)
+    absurd (played_no c.args.clients c.args.bytes.now l.book l.text l.greatest l.lines l.rest.now l.invariant c.in-Err.place some c.in-Err.ensures all trace)
 
 pub returns-in-Err-clause-err : goal.returns-in-Err-clause-err
 returns-in-Err-clause-err c =
     let l = c.loop-rest in
     let some : 0 < length l.rest.now = omega (arith, eqb-false (length l.rest.now) 0 (sym c.is_empty.ensures ∙ c.loop-rest-test.true)) in
     subst (λ f. IsPlace (IsTraceFault IsLine c.args.bytes.now) f) (sym c.fault_behind.ensures)
-    (played_fault c.args.clients c.args.bytes.now l.book l.text.items l.greatest l.lines l.rest.now l.invariant c.in-Err.place some c.in-Err.ensures)
+    (played_fault c.args.clients c.args.bytes.now l.book l.text l.greatest l.lines l.rest.now l.invariant c.in-Err.place some c.in-Err.ensures)
 
 pub loop-rest-preserved : goal.loop-rest-preserved
 loop-rest-preserved c =
     let l = c.loop-rest in
     rw c.split_at.ensures.back
-    (played_next c.args.clients c.args.bytes.now l.book l.text.items l.greatest l.lines l.rest.now l.invariant c.play_call.new.book (c.in-Ok.who, c.in-Ok.call) c.in-Ok.size c.greater_client-greatest.result (outcome_behind l.book c.in-Ok.who c.in-Ok.call)
-    c.play_call.new.text.items c.in-Ok.ensures c.play_call.ensures.first c.in_ok-play_call-in-Ok.ensures.printed c.greater_client-greatest.ensures)
+    (played_next c.args.clients c.args.bytes.now l.book l.text l.greatest l.lines l.rest.now l.invariant c.play_call.new.book (c.in-Ok.who, c.in-Ok.call) c.in-Ok.size c.greater_client-greatest.result (outcome_behind l.book c.in-Ok.who c.in-Ok.call)
+    c.play_call.new.lines c.in-Ok.ensures c.play_call.ensures.first c.in_ok-play_call-in-Ok.ensures.printed c.greater_client-greatest.ensures)
 
 pub returns-clause-ok : goal.returns-clause-ok
 returns-clause-ok c =
     let l = c.loop-rest in
     let none : length l.rest.now ≡ 0 = eqb-true (length l.rest.now) 0 (sym c.is_empty.ensures ∙ c.loop-rest-test.false) in
-    played_all c.args.clients c.args.bytes.now l.book l.text.items l.greatest l.lines l.rest.now l.invariant (record { text = l.text; clients = l.greatest }) refl refl none
+    played_all c.args.clients c.args.bytes.now l.book l.text l.greatest l.lines l.rest.now l.invariant (record { text = c.into_text.result; clients = l.greatest }) c.into_text.ensures refl none
 
 pub returns-clause-only : goal.returns-clause-only
 returns-clause-only c =
     let l = c.loop-rest in
     let none : length l.rest.now ≡ 0 = eqb-true (length l.rest.now) 0 (sym c.is_empty.ensures ∙ c.loop-rest-test.false) in
-    played_only c.args.clients c.args.bytes.now l.book l.text.items l.greatest l.lines l.rest.now l.invariant (record { text = l.text; clients = l.greatest }) refl refl none
+    played_only c.args.clients c.args.bytes.now l.book l.text l.greatest l.lines l.rest.now l.invariant (record { text = c.into_text.result; clients = l.greatest }) c.into_text.ensures refl none
