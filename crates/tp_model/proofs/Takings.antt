@@ -24,8 +24,6 @@ use Rattle.tp_base.specs.declared.rows.ObjectRow.{ObjectRow}
 use Rattle.tp_base.specs.declared.rows.PoolRow.{PoolRow}
 use Rattle.tp_base.specs.declared.rows.WaitTarget.{WaitTarget}
 use Rattle.tp_base.specs.declared.rows.WaitTarget.TheVariants.{Object, Group, Kernel}
-use Rattle.tp_base.specs.declared.ids.ObjectId.{ObjectId}
-use Rattle.tp_base.specs.declared.plans.PoolChange.{PoolChange}
 use Rattle.tp_base.specs.Kernels.{taken_by, state_after, takings_of}
 use Rattle.tp_model.specs.World.{World, BegunWait, opening}
 use Rattle.tp_model.specs.Counts.{numbered}
