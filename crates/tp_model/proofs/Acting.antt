@@ -317,8 +317,8 @@ module _ (fresh : ℕ) (history : List Entry) (w : World) (x : Entry) (after : W
             slots = a.slots;
             runs = in_after a.worker a.slots runs;
             asked = λ kind.
-              let none : one_if (asks_for who kind x) ≡ 0 = ap (λ z. one_if (asks_for z kind x)) a.by ∙ ap one_if (unasked kind) in
-              omega (arith, count_more who kind between x, none, a.asked kind);
+                let none : one_if (asks_for who kind x) ≡ 0 = ap (λ z. one_if (asks_for z kind x)) a.by ∙ ap one_if (unasked kind) in
+                omega (arith, count_more who kind between x, none, a.asked kind);
           }
       of_step (Fills own asking asked free stays runs) =
           record {
@@ -327,9 +327,9 @@ module _ (fresh : ℕ) (history : List Entry) (w : World) (x : Entry) (after : W
             slots = filled asking.kind asking.action a.slots;
             runs = in_after a.worker (filled asking.kind asking.action a.slots) runs;
             asked = λ kind.
-              let one : one_if (asks_for who kind x) ≡ one_if (is_same_action kind asking.kind) =
+                let one : one_if (asks_for who kind x) ≡ one_if (is_same_action kind asking.kind) =
                 ap₂ (λ a b. one_if (a && option_map_or (is_same_action kind) b false)) (ap₂ is_same_actor own a.by ∙ is_own_actor (Worker a.worker)) asked in
-              omega (arith, count_more who kind between x, one, a.asked kind, filled_slot asking.kind kind asking.action a.slots free);
+                omega (arith, count_more who kind between x, one, a.asked kind, filled_slot asking.kind kind asking.action a.slots free);
           }
       of_step (Ends ends words told unasked) = absurd (false_true (sym quiet_here ∙ ends))
 

@@ -1,4 +1,5 @@
 pub mod Acting
+mod ActionExamples
 pub mod Actions
 pub mod Actors
 pub mod Callbacks
