@@ -182,18 +182,14 @@ pub fn put_answer(answer: &Answer, out: &mut [u8], at: usize) -> usize
 {
     match answer {
         Answer::Done => line::first(Word::Done, out, at),
-        Answer::Made { number } => {
-            parts!(out, at; first(Word::Made) number(u64::from(*number)))
-        }
+        Answer::Made { number } => { parts!(out, at; first(Word::Made) number(u64::from(*number))) }
         Answer::Queued { first, count } => {
             parts!(out, at; first(Word::Queued) number(*first) number(u64::from(*count)))
         }
         Answer::WasSet { was, first, count } => {
             parts!(out, at; first(Word::Was) word(Word::YesNo(*was)) number(*first) number(u64::from(*count)))
         }
-        Answer::Flag { value } => {
-            parts!(out, at; first(Word::Flag) word(Word::YesNo(*value)))
-        }
+        Answer::Flag { value } => { parts!(out, at; first(Word::Flag) word(Word::YesNo(*value))) }
         Answer::Closed { later: true } => line::first(Word::Later, out, at),
         Answer::Closed { later: false } => line::first(Word::Freed, out, at),
         Answer::Closing {
@@ -217,9 +213,7 @@ pub fn put_answer(answer: &Answer, out: &mut [u8], at: usize) -> usize
         } => {
             parts!(out, at; first(Word::Notice) lettered(b'o', u64::from(object.0)) lettered(b'r', u64::from(routine.0)) lettered(b'x', *context) lettered(b'y', *cleanup))
         }
-        Answer::Started { callback } => {
-            parts!(out, at; first(Word::Started) number(*callback))
-        }
+        Answer::Started { callback } => { parts!(out, at; first(Word::Started) number(*callback)) }
         Answer::Operation { callback } => {
             parts!(out, at; first(Word::Operation) number(*callback))
         }
@@ -246,7 +240,8 @@ pub fn put_answer(answer: &Answer, out: &mut [u8], at: usize) -> usize
             context,
             result: taken,
         } => {
-            let end = parts!(out, at; first(Word::Taken) number(*callback) lettered(b'o', u64::from(object.0)) lettered(b'r', u64::from(routine.0)) lettered(b'x', *context));
+            let end =
+                parts!(out, at; first(Word::Taken) number(*callback) lettered(b'o', u64::from(object.0)) lettered(b'r', u64::from(routine.0)) lettered(b'x', *context));
             put_result(*taken, out, end)
         }
         Answer::Returned {

@@ -234,7 +234,8 @@ pub fn put_call(call: &Call, out: &mut [u8], at: usize) -> usize
             context,
             env,
         } => {
-            let end = parts!(out, at; first(Word::Create) word(Word::Kind(*kind)) lettered(b'r', u64::from(routine.0)) lettered(b'x', *context));
+            let end =
+                parts!(out, at; first(Word::Create) word(Word::Kind(*kind)) lettered(b'r', u64::from(routine.0)) lettered(b'x', *context));
             put_environ(*env, out, end)
         }
         Call::CloseObject { kind, object } => {
@@ -245,7 +246,8 @@ pub fn put_call(call: &Call, out: &mut [u8], at: usize) -> usize
             context,
             env,
         } => {
-            let end = parts!(out, at; first(Word::SubmitSimple) lettered(b'r', u64::from(routine.0)) lettered(b'x', *context));
+            let end =
+                parts!(out, at; first(Word::SubmitSimple) lettered(b'r', u64::from(routine.0)) lettered(b'x', *context));
             put_environ(*env, out, end)
         }
         Call::SubmitWork { object } => {
@@ -270,9 +272,7 @@ pub fn put_call(call: &Call, out: &mut [u8], at: usize) -> usize
         Call::IsTimerSet { object } => {
             parts!(out, at; first(Word::IsTimerSet) number(u64::from(object.0)))
         }
-        Call::Advance { ticks } => {
-            parts!(out, at; first(Word::Advance) number(*ticks))
-        }
+        Call::Advance { ticks } => { parts!(out, at; first(Word::Advance) number(*ticks)) }
         Call::BeginWait {
             kind,
             object,

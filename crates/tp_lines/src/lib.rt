@@ -3,8 +3,8 @@
 //!
 //! A text is a line without its line feed. `parse_call` and `parse_entry` read a line, or tell the place
 //! of its fault; `read_entry` reads the entry at the front of a longer text, and `read_good_call` and
-//! `read_good_entry` a line with its line feed, where one stands there. `print_entry`, `print_outcome`
-//! and the like append one.
+//! `read_good_entry` a line with its line feed, where a frequent one stands there. `print_entry`,
+//! `print_outcome` and the like append one, and `Lines` has many.
 //!
 //! A call, an answer, a look and full is a row: a word, and parts that describe themselves (`row_of`,
 //! `row_of_answer`, `row_of_outcome`). Its text is theirs, each with one space before it. What stands behind

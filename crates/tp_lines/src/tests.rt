@@ -1151,12 +1151,30 @@ fn good_lines(rt: HostRuntime) {
     assert_eq!(rt; read_good_call("w3 take\nc1 finish\n".as_bytes()), taken);
     assert_eq!(rt; read_good_call("w3 take".as_bytes()), None);
     assert_eq!(rt; read_good_call("w3 take 1\n".as_bytes()), None);
+    let taken = Answer::Taken {
+        callback: 70,
+        object: ObjectId(1),
+        routine: RoutineId(2),
+        context: 9,
+        result: TakeResult::Plain,
+    };
     let entry = Entry {
         who: Who::Worker(3),
         call: Call::Take,
-        answer: Answer::Refused(Refusal::NotAttached),
+        answer: taken,
     };
-    let text = "w3 take -> refused not-attached\nend 1\n";
-    assert_eq!(rt; read_good_entry(text.as_bytes()), Some((entry, 32)));
+    let text = "w3 take -> taken 70 o1 r2 x9 plain\nend 1\n";
+    assert_eq!(rt; read_good_entry(text.as_bytes()), Some((entry, 35)));
+    let entry = Entry {
+        who: Who::Client(1),
+        call: Call::SubmitWork {
+            object: ObjectId(12),
+        },
+        answer: Answer::Queued { first: 4, count: 1 },
+    };
+    let text = "c1 submit 12 -> queued 4 1\n";
+    assert_eq!(rt; read_good_entry(text.as_bytes()), Some((entry, 27)));
+    assert_eq!(rt; read_good_entry("w3 take -> taken 70 o1 r0 x9 plain\n".as_bytes()), None);
+    assert_eq!(rt; read_good_entry("c1 submit 65536 -> queued 4 1\n".as_bytes()), None);
     assert_eq!(rt; read_good_entry("end 1\n".as_bytes()), None);
 }
