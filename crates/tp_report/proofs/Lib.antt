@@ -9,3 +9,4 @@ pub mod Keys
 pub mod Places
 pub mod SoFar
 pub mod Traced
+pub mod Unanswered

@@ -4,6 +4,8 @@ use Rattle.tp_report.specs.Judging.{IsEntriesFault}
 use Rattle.tp_report.specs.Readings.{IsNext}
 use Rattle.tp_report.proofs.Places.{next_place}
 use Rattle.tp_report.proofs.SoFar.{checked_next, checked_all, checked_only, checked_no, checked_fault, checked_few}
+use Rattle.tp_report.proofs.Unanswered.{or_no_memory}
+use Rattle.tp_report.specs.Verdicts.{IsVerdict, limits_of}
 use Rattle.tp_report.proofs.checking.check_behind.Goals as goal
 
 pub loop-book-preserved : goal.loop-book-preserved
@@ -48,3 +50,7 @@ returns-in-Fault-clause-err c =
     subst (λ f. IsPlace (IsEntriesFault c.args.header.events c.args.text.now) f) (sym c.fault_behind.ensures)
     (checked_fault c.args.header c.args.text.now l.book l.verdict l.len l.rest.now l.invariant c.requires.events_most c.in-Fault.place
     (subst (λ n. IsNext c.args.header.events l.len l.rest.now n) c.in-Fault.is c.in_ok-entry.ensures))
+
+pub returns-in_err-entry-clause-only : goal.returns-in_err-entry-clause-only
+returns-in_err-entry-clause-only c = λ all a.
+    let told = c.from_residual-in_err-entry in or_no_memory (IsVerdict (limits_of c.args.header) c.args.header.events all) told.result told.ensures.1

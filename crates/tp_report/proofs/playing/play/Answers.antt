@@ -3,8 +3,10 @@ use Rattle.std.proofs.lemmas.Bool.{eqb-false, eqb-true}
 use Rattle.line_grammar.specs.Traces.{IsTraceFault}
 use Rattle.tp_lines.specs.Faults.{IsLine}
 use Rattle.tp_report.specs.Faults.{IsPlace}
+use Rattle.tp_report.specs.Playing.{IsPlayedOf}
 use Rattle.tp_report.proofs.Traced.{played_none, played_few, played_next, played_fault, played_no, played_all, played_only}
 use Rattle.pool_book.specs.Recordings.{outcome_behind}
+use Rattle.tp_report.proofs.Unanswered.{or_no_memory, no_place}
 use Rattle.tp_report.proofs.playing.play.Goals as goal
 
 pub loop-rest-init : goal.loop-rest-init
@@ -50,3 +52,10 @@ returns-clause-only c =
     let l = c.loop-rest in
     let none : length l.rest.now ≡ 0 = eqb-true (length l.rest.now) 0 (sym c.is_empty.ensures ∙ c.loop-rest-test.false) in
     played_only c.args.clients c.args.bytes.now l.book l.text l.greatest l.lines l.rest.now l.invariant (record { text = c.into_text.result; clients = l.greatest }) c.into_text.ensures refl none
+
+pub returns-in_err-play_call-in-Ok-clause-only : goal.returns-in_err-play_call-in-Ok-clause-only
+returns-in_err-play_call-in-Ok-clause-only c = λ all trace.
+    let told = c.from_residual-in_err-play_call-in-Ok in or_no_memory (IsPlayedOf c.args.clients all) told.result told.ensures.1
+
+pub returns-in_err-play_call-in-Ok-clause-err : goal.returns-in_err-play_call-in-Ok-clause-err
+returns-in_err-play_call-in-Ok-clause-err c = let told = c.from_residual-in_err-play_call-in-Ok in no_place (IsTraceFault IsLine c.args.bytes.now) told.result told.ensures.1
