@@ -1,5 +1,5 @@
 -- Each action on return may be performed in its turn.
-use Rattle.std.proofs.Common.{◌≡◌, ℕ, Bool, true, false, List, Option, Some, None, refl, sym, ap, ◌∙◌, subst}
+use Rattle.std.proofs.Common.{◌≡◌, true, List, Option, Some, None, refl, sym, ap, ◌∙◌}
 use Rattle.tp_base.specs.declared.ids.Who.TheVariants.{Worker}
 use Rattle.tp_base.specs.declared.answers.ActionKind.TheVariants.{Section, Mutex, Semaphore, Event}
 use Rattle.tp_base.specs.declared.plans.ActionWords.{ActionWords}
@@ -7,7 +7,7 @@ use Rattle.tp_base.specs.declared.plans.Busy.{Busy}
 use Rattle.tp_base.specs.declared.rows.Action.{Action}
 use Rattle.tp_base.specs.declared.rows.Slots.{Slots}
 use Rattle.tp_base.specs.declared.rows.KernelRow.{KernelRow}
-use Rattle.tp_base.specs.Actions.{may_raise, is_performed}
+use Rattle.tp_base.specs.Actions.{may_raise}
 use Rattle.tp_model.specs.World.{World}
 use Rattle.tp_model.specs.Actions.{slots_of, words_of, perform}
 use Rattle.tp_model.specs.Support.Allowed.{MayReturn}

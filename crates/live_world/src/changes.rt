@@ -24,7 +24,9 @@ use tp_base::answers::{ActionKind, SlotWord};
 use tp_base::calls::{Kind, Priority};
 use tp_base::ids::{KernelId, ObjectId, PoolId, Who};
 use tp_base::plans::{ActionWords, Busy, Change, Idle, KernelChange, Mark, PoolChange, WaitEnd};
-use tp_base::rows::{Action, CallbackRow, ClientRow, KernelState, ObjectRow, Slots, Status, WaitTarget};
+use tp_base::rows::{
+    Action, CallbackRow, ClientRow, KernelState, ObjectRow, Slots, Status, WaitTarget,
+};
 
 pub(crate) const NO_ACTIONS: Slots = Slots {
     section: None,

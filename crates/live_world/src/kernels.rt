@@ -6,7 +6,6 @@ ghost use Rattle.tp_base.specs.declared.plans.WaitEnd.TheVariants.{Free};
 ghost use Rattle.tp_model.specs.Counts.{numbered};
 ghost use Rattle.tp_model.specs.Kernels.{is_kernel, is_kernel_that, count_at};
 ghost use Rattle.live_world.specs.Taking.{IsFreeFor, rows_left};
-
 ghost use Rattle.tp_base.specs.Actions.{is_for as is_for_by, may_raise as may_raise_by, may_perform as may_perform_by, slot as slot_of};
 ghost use Rattle.tp_model.specs.Actions.{slots_of as slots_of_status, word_of, words_of};
 ghost use Rattle.tp_model.specs.Calls.InCallback.{has_asked};

@@ -87,7 +87,10 @@ pub(crate) fn on_return(
 {
     let actor = world.actor(who);
     let refusal = first_of!([
-        (either(!actor.exists, !world.is_kernel(kernel)), Refusal::NoSuch),
+        (
+            either(!actor.exists, !world.is_kernel(kernel)),
+            Refusal::NoSuch
+        ),
         (!world.is_for(kind, kernel), Refusal::WrongKind),
         (actor.finished, Refusal::Released),
         (!actor.runs, Refusal::NotRunning),

@@ -100,7 +100,10 @@ pub(crate) fn price(change: &Change) -> u64
 {
     match change {
         Change::Attach { .. } | Change::Take { .. } | Change::BeginWait { .. } => 2,
-        Change::Detach(_) | Change::Return { .. } | Change::EndWait { .. } | Change::Finish { .. } => 0,
+        Change::Detach(_)
+        | Change::Return { .. }
+        | Change::EndWait { .. }
+        | Change::Finish { .. } => 0,
         Change::Keep
         | Change::CreatePool
         | Change::ChangePool { .. }

@@ -1,11 +1,6 @@
 -- The table of calls.
-use Rattle.std.proofs.Common.{◌≡◌, ℕ, ◌+◌, List, [], ◌∷◌, ◌++◌, length, take, drop, refl, sym, ap, ◌∙◌, arith, IsTrue, Some}
-use Rattle.std.specs.Prelude.{codes, decimal}
-use Rattle.std.proofs.lemmas.List.{append-nil, length-drop}
-use Rattle.std.proofs.Math.Seq.{take-add}
-use Rattle.line_grammar.specs.Numbers.{Numbers}
+use Rattle.std.proofs.Common.{◌≡◌, List, [], ◌∷◌, refl, IsTrue, Some}
 use Rattle.line_grammar.specs.Parts.{IsPart, IsTail}
-use Rattle.line_grammar.specs.Words.{Word as Only}
 use Rattle.tp_base.specs.declared.calls.Call.{Call}
 use Rattle.tp_base.specs.declared.calls.Call.TheVariants as call
 use Rattle.tp_base.specs.declared.calls.Kind.TheVariants as kind

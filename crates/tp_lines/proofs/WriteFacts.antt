@@ -1,5 +1,5 @@
 -- A text that was written in its place.
-use Rattle.std.proofs.Common.{◌≡◌, ℕ, ◌+◌, List, ◌++◌, take, drop, length, refl, sym, ap, ◌∙◌, arith}
+use Rattle.std.proofs.Common.{◌≡◌, ℕ, ◌+◌, List, ◌++◌, take, drop, length, sym, ap, ◌∙◌, arith}
 use Rattle.std.proofs.Math.Seq.{take-add, take-append_seam}
 
 pub written_text : (at size start : ℕ) (text old new : List ℕ) → size ≡ length text → start + length text ≡ at + size

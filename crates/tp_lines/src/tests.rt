@@ -1174,7 +1174,13 @@ fn good_lines(rt: HostRuntime) {
     };
     let text = "c1 submit 12 -> queued 4 1\n";
     assert_eq!(rt; read_good_entry(text.as_bytes()), Some((entry, 27)));
-    assert_eq!(rt; read_good_entry("w3 take -> taken 70 o1 r0 x9 plain\n".as_bytes()), None);
-    assert_eq!(rt; read_good_entry("c1 submit 65536 -> queued 4 1\n".as_bytes()), None);
+    assert_eq!(rt;
+        read_good_entry("w3 take -> taken 70 o1 r0 x9 plain\n".as_bytes()),
+        None
+    );
+    assert_eq!(rt;
+        read_good_entry("c1 submit 65536 -> queued 4 1\n".as_bytes()),
+        None
+    );
     assert_eq!(rt; read_good_entry("end 1\n".as_bytes()), None);
 }

@@ -1,5 +1,5 @@
 -- The law Actions: what a worker's entries have asked for since it took its callback is in the callback's slots.
-use Rattle.std.proofs.Common.{◌≡◌, ◌≢◌, ℕ, ◌+◌, ◌-◌, ◌≤◌, Bool, true, false, cond, ◌&&◌, ◌==◌, List, [], ◌∷◌, ◌++◌, length, Option, Some, None, is_some, is_none, not, option_map, slice_get, refl, sym, ap, ap₂, ◌∙◌, subst, arith, filter, find, ne_eqb, eqb-true, eq-eqb, length-append}
+use Rattle.std.proofs.Common.{◌≡◌, ◌≢◌, ℕ, ◌+◌, ◌-◌, ◌≤◌, Bool, true, false, cond, ◌&&◌, ◌==◌, List, [], ◌∷◌, ◌++◌, length, Option, Some, None, is_some, is_none, not, option_map, refl, sym, ap, ap₂, ◌∙◌, subst, arith, filter, find, ne_eqb, eqb-true, eq-eqb, length-append}
 use Rattle.std.specs.List.{list_any}
 use Rattle.std.specs.Option.{option_map_or}
 use Rattle.std.proofs.lemmas.List.Elements.{filter-append}
@@ -13,7 +13,6 @@ use Rattle.tp_base.specs.declared.answers.Entry.{Entry}
 use Rattle.tp_base.specs.declared.plans.ActionWords.{ActionWords}
 use Rattle.tp_base.specs.declared.rows.Action.{Action}
 use Rattle.tp_base.specs.declared.rows.Slots.{Slots}
-use Rattle.tp_base.specs.declared.rows.Status.{Status}
 use Rattle.tp_base.specs.declared.rows.Status.TheVariants.{Running}
 use Rattle.tp_base.specs.declared.rows.CallbackRow.{CallbackRow}
 use Rattle.tp_base.specs.declared.rows.WorkerRow.{WorkerRow}
@@ -25,13 +24,13 @@ use Rattle.tp_model.specs.Laws.Entries.{asked_by, words_by, is_returned, is_take
 use Rattle.tp_model.specs.Laws.Covered.{returns}
 use Rattle.tp_model.specs.Laws.Actions.{asks_for, count_asked, says_unasked}
 use Rattle.tp_model.specs.Support.Told.{Deed}
-use Rattle.tp_model.specs.Support.Moves.{Move, Moves, Stay, Mark, Attach, Detach, Take, Return, Amend, Cancel, Asking, asked_slots, IsFreeFor, IsFree, put}
+use Rattle.tp_model.specs.Support.Moves.{Move, Moves, Stay, Mark, Attach, Detach, Take, Return, Amend, Cancel, Asking, asked_slots, IsFreeFor, put}
 use Rattle.tp_model.proofs.Callbacks.{find_replaced, find_replaced_other, pending_not_running}
 use Rattle.tp_model.proofs.Cancelling.{running_passed, find_uncancelled}
 use Rattle.tp_model.proofs.Lists.{get_set, get_set_other}
 use Rattle.tp_model.proofs.Once.{one_if}
 use Rattle.tp_model.proofs.Places.{LastPlace, Here, Earlier, last_place, any_last, find_front}
-use Rattle.tp_model.proofs.Refusals.{false_true, and_false, is_own_actor, same_actor_is, numbered_some, numbered_at}
+use Rattle.tp_model.proofs.Refusals.{false_true, and_false, is_own_actor, numbered_some, numbered_at}
 use Rattle.tp_model.proofs.Running.{same_row, same_worker}
 
 -- the worker runs a callback that has asked for these actions

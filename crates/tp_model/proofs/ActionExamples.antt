@@ -7,23 +7,22 @@ use Rattle.tp_base.specs.declared.calls.Kind.TheVariants.{Work}
 use Rattle.tp_base.specs.declared.calls.Lock.TheVariants as lock
 use Rattle.tp_base.specs.declared.calls.Call.TheVariants as call
 use Rattle.tp_base.specs.declared.answers.ActionKind.{ActionKind}
-use Rattle.tp_base.specs.declared.answers.ActionKind.TheVariants.{Section, Mutex, Semaphore, Event}
+use Rattle.tp_base.specs.declared.answers.ActionKind.TheVariants.{Mutex, Semaphore, Event}
 use Rattle.tp_base.specs.declared.answers.Answer.TheVariants as answer
 use Rattle.tp_base.specs.declared.answers.Entry.{Entry}
-use Rattle.tp_base.specs.declared.answers.Refusal.TheVariants.{SlotTaken, WrongKind}
+use Rattle.tp_base.specs.declared.answers.Refusal.TheVariants.{SlotTaken}
 use Rattle.tp_base.specs.declared.answers.SlotWord.{SlotWord}
 use Rattle.tp_base.specs.declared.answers.SlotWord.TheVariants.{Unasked, Performed, NotOwner, OverMaximum}
 use Rattle.tp_base.specs.declared.answers.TakeResult.TheVariants.{Plain}
 use Rattle.tp_base.specs.declared.rows.KernelState.TheVariants as state
 use Rattle.tp_base.specs.declared.limits.Limits.{Limits}
-use Rattle.tp_model.specs.World.{World}
 use Rattle.tp_model.specs.Calls.Objects.{create_plan}
 use Rattle.tp_model.specs.Calls.Work.{submit_work_plan}
 use Rattle.tp_model.specs.Calls.Kernels.{create_event_plan, create_semaphore_plan, create_lock_plan}
 use Rattle.tp_model.specs.Calls.Workers.{attach_plan, take_plan, return_plan}
 use Rattle.tp_model.specs.Calls.InCallback.{on_return_plan}
 use Rattle.tp_model.specs.History.{IsLegal, after}
-use Rattle.tp_model.specs.Laws.Actions.{AreActions, count_asked, says_unasked}
+use Rattle.tp_model.specs.Laws.Actions.{AreActions}
 use Rattle.tp_model.proofs.Laws.{keeps_laws}
 
 limits : Limits

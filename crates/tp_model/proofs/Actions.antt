@@ -1,5 +1,5 @@
 -- What actions on return keep.
-use Rattle.std.proofs.Common.{◌≡◌, ℕ, suc, zero, ◌==◌, slice_get, slice_set, eqb-true, eq-eqb, ◌+◌, ◌-◌, ◌≤◌, Bool, true, false, cond, List, Option, Some, None, is_none, refl, sym, ap, ◌∙◌, subst, arith, nat_le}
+use Rattle.std.proofs.Common.{◌≡◌, ℕ, ◌==◌, slice_get, slice_set, eqb-true, eq-eqb, ◌+◌, ◌-◌, Bool, true, false, cond, List, Option, Some, None, is_none, refl, sym, ap, ◌∙◌, subst}
 use Rattle.std.proofs.lemmas.Bool.{leb-true}
 use Rattle.std.specs.List.{AllByRecursion}
 use Rattle.std.specs.Option.{option_map_or}
@@ -9,8 +9,7 @@ use Rattle.tp_base.specs.declared.answers.ActionKind.TheVariants.{Section, Mutex
 use Rattle.tp_base.specs.declared.answers.SlotWord.{SlotWord}
 use Rattle.tp_base.specs.declared.answers.SlotWord.TheVariants.{Performed, OverMaximum, NotOwner}
 use Rattle.tp_base.specs.declared.plans.ActionWords.{ActionWords}
-use Rattle.tp_base.specs.declared.plans.KernelChange.{KernelChange}
-use Rattle.tp_base.specs.declared.plans.KernelChange.TheVariants.{Set, Raise, Leave}
+use Rattle.tp_base.specs.declared.plans.KernelChange.TheVariants.{Leave}
 use Rattle.tp_base.specs.declared.rows.Action.{Action}
 use Rattle.tp_base.specs.declared.rows.Slots.{Slots}
 use Rattle.tp_base.specs.declared.rows.KernelState.{KernelState}

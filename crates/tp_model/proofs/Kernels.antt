@@ -1,10 +1,9 @@
 -- What changes of kernel objects keep.
-use Rattle.std.proofs.Common.{◌≡◌, ℕ, ◌+◌, ◌-◌, ◌<◌, ◌≤◌, Bool, true, false, not, ◌||◌, List, length, arith, Option, Some, None, is_some, refl, sym, ap, ◌∙◌, nat_lt}
+use Rattle.std.proofs.Common.{◌≡◌, ℕ, ◌+◌, ◌-◌, Bool, true, false, List, arith, Option, Some, None, refl}
 use Rattle.std.proofs.lemmas.Bool.{ltb-false}
 use Rattle.std.specs.List.{AllByRecursion}
 use Rattle.std.specs.Option.{option_map_or}
 use Rattle.tp_base.specs.declared.ids.Who.{Who}
-use Rattle.tp_base.specs.declared.ids.KernelId.{KernelId}
 use Rattle.tp_base.specs.declared.plans.KernelChange.{KernelChange}
 use Rattle.tp_base.specs.declared.plans.KernelChange.TheVariants.{Set, Reset, Raise, Leave}
 use Rattle.tp_base.specs.declared.rows.KernelState.{KernelState}

@@ -8,7 +8,7 @@ use Rattle.std.proofs.lemmas.List.{append-nil}
 use Rattle.tp_base.specs.declared.plans.Mark.{Mark}
 use Rattle.tp_base.specs.declared.plans.Mark.TheVariants.{Long, Loose, Asks}
 use Rattle.tp_base.specs.Actions.{filled, word, is_unasked}
-use Rattle.tp_model.specs.Actions.{asking, words_of}
+use Rattle.tp_model.specs.Actions.{asking}
 use Rattle.tp_model.proofs.Actions.{words_unasked}
 use Rattle.tp_base.specs.declared.plans.PoolChange.{PoolChange}
 use Rattle.tp_base.specs.declared.plans.PoolChange.TheVariants.{Close, Maximum, Minimum}

@@ -1,5 +1,5 @@
 -- How often a lock is taken: no change raises that by more than one.
-use Rattle.std.proofs.Common.{◌≡◌, Bool, true, false, cond, ℕ, ◌+◌, ◌-◌, ◌≤◌, slice_get, List, Option, None, Some, refl, arith}
+use Rattle.std.proofs.Common.{◌≡◌, true, false, cond, ℕ, ◌+◌, ◌-◌, ◌≤◌, slice_get, List, Option, None, Some, refl, arith}
 use Rattle.std.specs.List.{AllByRecursion}
 use Rattle.tp_base.specs.declared.ids.Who.{Who}
 use Rattle.tp_base.specs.declared.answers.ActionKind.{ActionKind}

@@ -26,14 +26,14 @@ use Rattle.tp_model.specs.Counts.{numbered}
 use Rattle.tp_model.specs.Kernels.{is_kernel_that, count_at}
 use Rattle.tp_model.specs.History.{is_refusal}
 use Rattle.tp_model.specs.Calls.Kernels.{create_kernel_refusals, create_kernel, create_event_plan, create_semaphore_plan, create_lock_plan, kernel_refusals, change_kernel, set_event_plan, reset_event_plan, release_semaphore_plan, release_lock_plan}
-use Rattle.tp_model.specs.Support.Allowed.{Suits, MayChange}
-use Rattle.tp_model.specs.Support.Told.{told, told_by, silent}
+use Rattle.tp_model.specs.Support.Allowed.{Suits}
+use Rattle.tp_model.specs.Support.Told.{told_by, silent}
 use Rattle.tp_model.specs.Support.Safe.{IsSafe}
 use Rattle.tp_model.specs.Support.Remembered.{forget}
 use Rattle.tp_model.specs.Support.Ranged.{IsRanged, IsPlanInRange, IsStateInRange}
 use Rattle.tp_model.proofs.Refusals.{NoneHolds, neither, not_false, false_true}
 use Rattle.tp_model.proofs.Kernels.{Stands, that_stands}
-use Rattle.tp_model.proofs.Lists.{find_all, all_get}
+use Rattle.tp_model.proofs.Lists.{all_get}
 use Rattle.tp_model.proofs.Refusals.{numbered_some}
 use Rattle.tp_model.proofs.Planning.{safe_unless}
 use Rattle.tp_model.proofs.Ranging.{AreBare, made_ranged, ranged_unless}

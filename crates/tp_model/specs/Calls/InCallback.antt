@@ -10,7 +10,6 @@ use Rattle.tp_base.specs.declared.plans.Busy.{Busy}
 use Rattle.tp_base.specs.declared.plans.Mark.TheVariants.{Long, Loose, Asks}
 use Rattle.tp_base.specs.declared.ids.KernelId.{KernelId}
 use Rattle.tp_base.specs.declared.answers.ActionKind.{ActionKind}
-use Rattle.tp_base.specs.declared.rows.CallbackRow.{CallbackRow}
 use Rattle.tp_base.specs.Actions.{slot, is_for}
 use Rattle.tp_model.specs.Actions.{slots_of}
 use Rattle.tp_model.specs.Kernels.{is_kernel, is_kernel_that}

@@ -1,12 +1,12 @@
 -- Calls that make callbacks at once: SubmitThreadpoolWork, TrySubmitThreadpoolCallback.
-use Rattle.std.specs.Prelude.{ℕ, Bool, not, ◌||◌, List, [], ◌∷◌, ◌++◌, Option, None, Some}
+use Rattle.std.specs.Prelude.{ℕ, Bool, List, [], ◌∷◌, ◌++◌, Option, None, Some}
 use Rattle.tp_base.specs.declared.ids.Who.{Who}
 use Rattle.tp_base.specs.declared.ids.ObjectId.{ObjectId}
 use Rattle.tp_base.specs.declared.ids.RoutineId.{RoutineId}
 use Rattle.tp_base.specs.declared.calls.Kind.TheVariants.{Work}
 use Rattle.tp_base.specs.declared.calls.Environ.{Environ}
 use Rattle.tp_base.specs.declared.answers.Refusal.{Refusal}
-use Rattle.tp_base.specs.declared.answers.Refusal.TheVariants.{NoSuch, Released, PoolClosed, GroupClosed, NotRunning, InWait, CallbackLimit}
+use Rattle.tp_base.specs.declared.answers.Refusal.TheVariants.{NoSuch, CallbackLimit}
 use Rattle.tp_base.specs.declared.answers.TakeResult.TheVariants.{Plain}
 use Rattle.tp_base.specs.declared.answers.Answer.TheVariants as answer
 use Rattle.tp_base.specs.declared.plans.Plan.{Plan}
@@ -16,7 +16,7 @@ use Rattle.tp_base.specs.declared.rows.ObjectRow.{ObjectRow}
 use Rattle.tp_base.specs.declared.rows.CallbackRow.{CallbackRow}
 use Rattle.tp_model.specs.World.{World}
 use Rattle.tp_model.specs.Counts.{numbered}
-use Rattle.tp_model.specs.Conditions.{is_actor, is_finished, is_without_callback, is_in_wait, is_pool, is_closed_pool, is_no_group_or_group, is_closed_group, lacks_slots_for}
+use Rattle.tp_model.specs.Conditions.{lacks_slots_for}
 use Rattle.tp_model.specs.Sources.{new_object, new_callback}
 use Rattle.tp_model.specs.Refusing.{first_refusal, unless_refused, object_refusals, environ_refusals}
 

@@ -1,4 +1,3 @@
-use Rattle.std.proofs.Common.{◌≡◌, ◌≤◌}
 use Rattle.tp_lines.proofs.FrontFacts.{number_front}
 use Rattle.tp_lines.proofs.fronts.front_number.Goals as goal
 

@@ -1,4 +1,4 @@
-use Rattle.line_grammar.proofs.TraceFacts.{front_ahead, front_longer}
+use Rattle.line_grammar.proofs.TraceFacts.{front_ahead}
 use Rattle.tp_lines.specs.Calls.{CallLines}
 use Rattle.tp_lines.proofs.good.read_good_call.Goals as goal
 

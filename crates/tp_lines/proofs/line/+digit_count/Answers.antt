@@ -1,6 +1,5 @@
-use Rattle.std.proofs.Common.{◌≡◌, ◌≤◌, ◌/◌, length, sym, ap, ◌∙◌, arith}
+use Rattle.std.proofs.Common.{◌/◌, sym, arith}
 use Rattle.std.proofs.lemmas.Fmt.{length-decimal-le}
-use Rattle.std.specs.Prelude.{decimal}
 use Rattle.itoa.proofs.Decimal.{length_one, length_two, length_pair, length_four}
 use Rattle.tp_lines.proofs.line.+digit_count.Goals as goal
 

@@ -1,4 +1,3 @@
-use Rattle.std.proofs.Common.{◌≡◌, ◌+◌, ◌++◌, take, drop, length, sym, ap, ◌∙◌, subst, arith, refl}
 use Rattle.std.specs.Prelude.{decimal}
 use Rattle.tp_lines.proofs.WriteFacts.{written_text}
 use Rattle.tp_lines.proofs.line.many_digits.Goals as goal
