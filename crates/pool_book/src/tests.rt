@@ -4,7 +4,7 @@ ghost use Rattle.tp_base.specs.Ranges.{IsCallInRange};
 use super::*;
 use std::alloc::Global;
 use std::test::Fail;
-use tp_base::answers::{Answer, Look, Refusal, SlotWord, TakeResult};
+use tp_base::answers::{ActionKind, Answer, Look, Refusal, SlotWord, TakeResult};
 use tp_base::calls::{Environ, Kind, Lock, Priority};
 use tp_base::ids::{GroupId, KernelId, ObjectId, PoolId, RoutineId};
 
@@ -296,9 +296,152 @@ fn kernel_objects_are_taken_as_a_wait_ends(rt: HostRuntime) -> Result<(), Fail> 
         (second, Call::End, ended),
         (first, leaves, refused(Refusal::NotOwner)),
     ] {
+        assert!(rt; call.in_range());
         assert_eq!(rt; book.step(who, call), outcome);
     }
     Ok(())
+}
+
+/// What a callback leaves to its return is done there and told, and what can't be done is skipped.
+#[test]
+fn actions_are_performed_on_return(rt: HostRuntime) -> Result<(), Fail> {
+    let mut book = book_of(rt.alloc(), 1, 40)?;
+    let (client, worker) = (Who::Client(1), Who::Worker(1));
+    let (section, mutex, semaphore, event) = (KernelId(1), KernelId(2), KernelId(3), KernelId(4));
+    let done = Outcome::Done(Answer::Done);
+    let ended = Outcome::Done(Answer::Ended);
+    for (who, call, outcome) in [
+        (
+            client,
+            Call::CreateLock {
+                lock: Lock::Section,
+                owned: false,
+            },
+            made(1),
+        ),
+        (
+            client,
+            Call::CreateLock {
+                lock: Lock::Mutex,
+                owned: true,
+            },
+            made(2),
+        ),
+        (
+            client,
+            Call::CreateSemaphore {
+                initial: 0,
+                maximum: 1,
+            },
+            made(3),
+        ),
+        (
+            client,
+            Call::CreateEvent {
+                manual: false,
+                signalled: false,
+            },
+            made(4),
+        ),
+        (client, CREATE, made(1)),
+        (client, SUBMIT, queued(1)),
+        (client, SUBMIT, queued(2)),
+        (
+            client,
+            asks(ActionKind::Event, event),
+            refused(Refusal::NotRunning),
+        ),
+        (
+            worker,
+            Call::Attach,
+            Outcome::Done(Answer::Attached { pool: PoolId(0) }),
+        ),
+        (worker, Call::Take, taken(1)),
+        (worker, Call::BeginAcquire { kernel: section }, done),
+        (worker, Call::End, ended),
+        (worker, asks(ActionKind::Section, section), done),
+        (
+            worker,
+            asks(ActionKind::Section, section),
+            refused(Refusal::SlotTaken {
+                kind: ActionKind::Section,
+            }),
+        ),
+        (
+            worker,
+            asks(ActionKind::Semaphore, event),
+            refused(Refusal::WrongKind),
+        ),
+        (worker, asks(ActionKind::Mutex, mutex), done),
+        (worker, asks(ActionKind::Semaphore, semaphore), done),
+        (worker, asks(ActionKind::Event, event), done),
+        (client, Call::BeginAcquire { kernel: event }, done),
+        (client, Call::End, not_yet(event)),
+        // The mutex is the client's own.
+        (
+            worker,
+            Call::Return,
+            returned(
+                SlotWord::Performed,
+                SlotWord::NotOwner,
+                SlotWord::Performed,
+                SlotWord::Performed,
+            ),
+        ),
+        (client, Call::End, ended),
+        (client, Call::BeginAcquire { kernel: section }, done),
+        (client, Call::End, ended),
+        // The semaphore is at its maximum now, and the next callback has asked for nothing else.
+        (worker, Call::Take, taken(2)),
+        (worker, asks(ActionKind::Semaphore, semaphore), done),
+        (
+            worker,
+            Call::Return,
+            returned(
+                SlotWord::Unasked,
+                SlotWord::Unasked,
+                SlotWord::OverMaximum,
+                SlotWord::Unasked,
+            ),
+        ),
+    ] {
+        assert!(rt; call.in_range());
+        assert_eq!(rt; book.step(who, call), outcome);
+    }
+    Ok(())
+}
+
+// A callback leaves this to its return, a semaphore to be raised by one.
+fn asks(kind: ActionKind, kernel: KernelId) -> Call
+    requires { kernel.0 ≤ 65535 }
+    ensures { IsCallInRange result }
+{
+    Call::OnReturn {
+        kind,
+        kernel,
+        count: 1,
+    }
+}
+
+fn taken(callback: u64) -> Outcome {
+    Outcome::Done(Answer::Taken {
+        callback,
+        object: ObjectId(1),
+        routine: RoutineId(1),
+        context: 0,
+        result: TakeResult::Plain,
+    })
+}
+
+fn returned(section: SlotWord, mutex: SlotWord, semaphore: SlotWord, event: SlotWord) -> Outcome {
+    Outcome::Done(Answer::Returned {
+        section,
+        mutex,
+        semaphore,
+        event,
+        first: 0,
+        count: 0,
+    })
 }
 
 fn wait(cancel: bool) -> Call
