@@ -7,9 +7,10 @@ use Rattle.std.proofs.lemmas.List.Elements.{All-append, All-cons, All-filter}
 use Rattle.tp_base.specs.declared.ids.ObjectId.{ObjectId}
 use Rattle.tp_base.specs.declared.ids.KernelId.{KernelId}
 use Rattle.tp_base.specs.declared.rows.Arming.{Arming}
+use Rattle.tp_base.specs.Armings.{is_armed, is_arming_of, without_arming}
 use Rattle.kernel_events.specs.declared.links.Link.{Link}
 use Rattle.kernel_events.specs.declared.links.Ends.{Ends}
-use Rattle.kernel_events.specs.Armed.{is_armed, is_of, kernel_of, waits_on, without}
+use Rattle.kernel_events.specs.Armed.{kernel_of, waits_on}
 use Rattle.kernel_events.specs.Linked.{IsBeside, IsList, IsWithin, has, others}
 use Rattle.kernel_events.specs.Walked.{AreArmed, objects_of}
 use Rattle.kernel_events.proofs.Has.{named, others_absent}
@@ -124,7 +125,7 @@ module _ (on : List (Option KernelId)) (order : List Link) (all : Ends) (own : L
           → ((xs : List ObjectId) → IsList own e xs → has object.0 xs ≡ true → IsList new_own new_e (others object.0 xs))
           → ((ys : List ObjectId) (f : Ends) (link : Link) → IsList own f ys → slice_get own object.0 ≡ Some link → IsBeside ys link.before → IsBeside ys link.behind → IsList new_own f ys)
           → length new_own ≡ length own
-          → AreArmed (set on object.0 None) new_order new_all new_own (set ends kernel.0 new_e) (without object.0 armed)
+          → AreArmed (set on object.0 None) new_order new_all new_own (set ends kernel.0 new_e) (without_arming object.0 armed)
       armed_without new_order new_own new_all new_e order_list order_length own_list own_beside own_length =
           let link = link_in own None (waits_on kernel.0 armed) list_of.linked object.0 there_own in
           record {
@@ -146,9 +147,9 @@ module _ (on : List (Option KernelId)) (order : List Link) (all : Ends) (own : L
                 (λ (same : o ≡ object.0). rw same (get_or-set_same on object.0 None None armed_within ∙ sym (kernel_without_own object.0 armed)))
                 (λ (apart : o ≢ object.0). get_or-set_other on object.0 o None None apart ∙ kept.told o ∙ sym (kernel_without_other object.0 o apart armed))
                 (cases_eq o object.0);
-            least = All-filter (λ a. not (is_of object.0 a)) (λ a. 1 ≤ a.object.0) armed kept.least;
-            within = λ k d lt. omega (arith, length-set on object.0 None, All-filter (λ a. not (is_of object.0 a)) (λ a. a.object.0 < length on) armed kept.within k d lt);
-            kernels = λ k d lt. omega (arith, length-set ends kernel.0 new_e, All-filter (λ a. not (is_of object.0 a)) (λ a. a.kernel.0 < length ends) armed kept.kernels k d lt);
+            least = All-filter (λ a. not (is_arming_of object.0 a)) (λ a. 1 ≤ a.object.0) armed kept.least;
+            within = λ k d lt. omega (arith, length-set on object.0 None, All-filter (λ a. not (is_arming_of object.0 a)) (λ a. a.object.0 < length on) armed kept.within k d lt);
+            kernels = λ k d lt. omega (arith, length-set ends kernel.0 new_e, All-filter (λ a. not (is_arming_of object.0 a)) (λ a. a.kernel.0 < length ends) armed kept.kernels k d lt);
             order_places = omega (arith, length-set on object.0 None, kept.order_places, order_length);
             own_places = omega (arith, length-set on object.0 None, kept.own_places, own_length);
           }

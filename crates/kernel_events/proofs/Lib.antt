@@ -3,3 +3,4 @@ pub mod Has
 pub mod Neighbours
 pub mod Waits
 pub mod Walking
+pub mod Counted

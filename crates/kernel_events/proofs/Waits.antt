@@ -8,7 +8,8 @@ use Rattle.std.proofs.lemmas.List.Elements.{All-cons, All-head, All-tail}
 use Rattle.std.proofs.lemmas.List.Kept.{AllPairs-cons}
 use Rattle.tp_base.specs.declared.ids.KernelId.{KernelId}
 use Rattle.tp_base.specs.declared.rows.Arming.{Arming}
-use Rattle.kernel_events.specs.Armed.{HasDistinctObjects, first_on, is_armed, kernel_of, waits_on, without}
+use Rattle.tp_base.specs.Armings.{is_armed, without_arming}
+use Rattle.kernel_events.specs.Armed.{HasDistinctObjects, first_on, kernel_of, waits_on}
 use Rattle.kernel_events.specs.Linked.{AreApart, has, head, others}
 use Rattle.kernel_events.specs.Walked.{objects_of}
 use Rattle.kernel_events.proofs.Has.{or_parts, true_or_false}
@@ -17,7 +18,7 @@ pub has_objects : (o : ℕ) (armed : List Arming) → has o (objects_of armed) �
 has_objects o [] = refl
 has_objects o (x ∷ xs) = ap (λ b. (x.object.0 == o) || b) (has_objects o xs)
 
-pub objects_without : (o : ℕ) (armed : List Arming) → objects_of (without o armed) ≡ others o (objects_of armed)
+pub objects_without : (o : ℕ) (armed : List Arming) → objects_of (without_arming o armed) ≡ others o (objects_of armed)
 objects_without o [] = refl
 objects_without o (x ∷ xs) =
     ⊎_elim
@@ -25,7 +26,7 @@ objects_without o (x ∷ xs) =
     (λ (other : (x.object.0 == o) ≡ false). rw other (ap (λ ys. x.object ∷ ys) (objects_without o xs)))
     (true_or_false (x.object.0 == o))
 
-pub waits_without : (k o : ℕ) (armed : List Arming) → waits_on k (without o armed) ≡ others o (waits_on k armed)
+pub waits_without : (k o : ℕ) (armed : List Arming) → waits_on k (without_arming o armed) ≡ others o (waits_on k armed)
 waits_without k o [] = refl
 waits_without k o (x ∷ xs) =
     ⊎_elim
@@ -122,7 +123,7 @@ kernel_with_other (x ∷ xs) a o other =
     (λ (not_here : (x.object.0 == o) ≡ false). rw not_here (kernel_with_other xs a o other))
     (true_or_false (x.object.0 == o))
 
-pub kernel_without_own : (o : ℕ) (armed : List Arming) → kernel_of o (without o armed) ≡ None
+pub kernel_without_own : (o : ℕ) (armed : List Arming) → kernel_of o (without_arming o armed) ≡ None
 kernel_without_own o [] = refl
 kernel_without_own o (x ∷ xs) =
     ⊎_elim
@@ -130,7 +131,7 @@ kernel_without_own o (x ∷ xs) =
     (λ (other : (x.object.0 == o) ≡ false). rw other (rw other (kernel_without_own o xs)))
     (true_or_false (x.object.0 == o))
 
-pub kernel_without_other : (m o : ℕ) → o ≢ m → (armed : List Arming) → kernel_of o (without m armed) ≡ kernel_of o armed
+pub kernel_without_other : (m o : ℕ) → o ≢ m → (armed : List Arming) → kernel_of o (without_arming m armed) ≡ kernel_of o armed
 kernel_without_other m o apart [] = refl
 kernel_without_other m o apart (x ∷ xs) =
     ⊎_elim
@@ -164,7 +165,7 @@ armed_some o (x ∷ xs) k some =
     (true_or_false (x.object.0 == o))
 
 -- one that isn't armed leaves nothing behind
-pub without_none : (o : ℕ) (armed : List Arming) → is_armed o armed ≡ false → without o armed ≡ armed
+pub without_none : (o : ℕ) (armed : List Arming) → is_armed o armed ≡ false → without_arming o armed ≡ armed
 without_none o [] none = refl
 without_none o (x ∷ xs) none =
     let parts = or_parts (x.object.0 == o) (is_armed o xs) none in

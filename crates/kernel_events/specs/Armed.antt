@@ -1,10 +1,11 @@
 -- The wait objects that are armed, each on a kernel object, in the order of arming.
-use Rattle.std.specs.Prelude.{◌≢◌, ℕ, ◌==◌, not, Bool, List, map, filter, find, Option}
-use Rattle.std.specs.List.{AllPairs, list_any}
+use Rattle.std.specs.Prelude.{◌≢◌, ℕ, List, map, filter, find, Option}
+use Rattle.std.specs.List.{AllPairs}
 use Rattle.std.specs.Option.{option_map}
 use Rattle.tp_base.specs.declared.ids.ObjectId.{ObjectId}
 use Rattle.tp_base.specs.declared.ids.KernelId.{KernelId}
 use Rattle.tp_base.specs.declared.rows.Arming.{Arming}
+use Rattle.tp_base.specs.Armings.{is_arming_of, is_arming_on}
 
 -- the greatest numbers of a kernel object and of a wait object, and what is armed
 pub record Armed : Type 0 where
@@ -12,32 +13,17 @@ pub record Armed : Type 0 where
   pub objects : ℕ
   pub armed : List Arming
 
--- the arming of a wait object
-abbrev pub is_of : ℕ → Arming → Bool
-is_of object a = a.object.0 == object
-
-abbrev pub is_armed : ℕ → List Arming → Bool
-is_armed object armed = list_any (is_of object) armed
-
--- without the arming of a wait object
-abbrev pub without : ℕ → List Arming → List Arming
-without object armed = filter (λ a. not (is_of object a)) armed
-
 -- what a wait object is armed on
 abbrev pub kernel_of : ℕ → List Arming → Option KernelId
-kernel_of object armed = option_map (λ (a : Arming). a.kernel) (find (is_of object) armed)
-
--- it is armed on this kernel object
-abbrev pub is_on : ℕ → Arming → Bool
-is_on kernel a = a.kernel.0 == kernel
+kernel_of object armed = option_map (λ (a : Arming). a.kernel) (find (is_arming_of object) armed)
 
 -- what is armed on a kernel object
 abbrev pub waits_on : ℕ → List Arming → List ObjectId
-waits_on kernel armed = map (λ (a : Arming). a.object) (filter (is_on kernel) armed)
+waits_on kernel armed = map (λ (a : Arming). a.object) (filter (is_arming_on kernel) armed)
 
 -- the earliest that is armed on a kernel object
 abbrev pub first_on : ℕ → List Arming → Option ObjectId
-first_on kernel armed = option_map (λ (a : Arming). a.object) (find (is_on kernel) armed)
+first_on kernel armed = option_map (λ (a : Arming). a.object) (find (is_arming_on kernel) armed)
 
 -- no wait object is armed twice
 abbrev pub HasDistinctObjects : List Arming → Type 0

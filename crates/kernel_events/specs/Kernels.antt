@@ -1,6 +1,6 @@
 -- Kernel objects and the wait objects that are armed on them: what a contract sees of `KernelTable`. What one may do with
 -- one kernel object stands in tp_base's Kernels.
-use Rattle.std.specs.Prelude.{◌≡◌, ℕ, ◌-◌, ◌==◌, ◌&&◌, nat_lt, Bool, false, List, Option, None, Some, slice_get, slice_set, if◌then◌else◌}
+use Rattle.std.specs.Prelude.{◌≡◌, ℕ, ◌-◌, ◌==◌, Bool, false, List, find, Option, None, Some, slice_get, slice_set, if◌then◌else◌}
 use Rattle.std.specs.Option.{option_map, option_map_or}
 use Rattle.tp_base.specs.declared.ids.ObjectId.{ObjectId}
 use Rattle.tp_base.specs.declared.plans.KernelChange.{KernelChange}
@@ -8,9 +8,9 @@ use Rattle.tp_base.specs.declared.plans.KernelChange.TheVariants.{Raise}
 use Rattle.tp_base.specs.declared.rows.Arming.{Arming}
 use Rattle.tp_base.specs.declared.rows.KernelRow.{KernelRow}
 use Rattle.tp_base.specs.declared.rows.KernelState.{KernelState}
-use Rattle.tp_base.specs.declared.rows.KernelState.TheVariants.{Event, Semaphore}
-use Rattle.tp_base.specs.Kernels.{passes_by}
-use Rattle.kernel_events.specs.Armed.{first_on, without}
+use Rattle.tp_base.specs.Armings.{is_arming_on, without_arming}
+use Rattle.tp_base.specs.Kernels.{is_signalled, passes_by, taken}
+use Rattle.kernel_events.specs.Armed.{first_on}
 
 -- how many can be made, the greatest number of a wait object, the kernel objects, number k at place k - 1, and the armed
 -- wait objects in the order of arming
@@ -40,30 +40,19 @@ abbrev pub Suits : KernelChange → KernelState → Type 0
 Suits (Raise more) state = passes_by more state ≡ false
 Suits _ state = Unit {0}
 
--- an event or a semaphore, which whoever waits for it takes
-abbrev pub is_signalled : KernelState → Bool
-is_signalled (Event manual signalled) = signalled
-is_signalled (Semaphore count maximum) = nat_lt 0 count
-is_signalled _ = false
+-- one of them is there and passes the test
+abbrev pub is_one_that : (KernelState → Bool) → List KernelRow → ℕ → Bool
+is_one_that test rows kernel = option_map_or (λ (row : KernelRow). test row.state) (numbered rows kernel) false
 
--- an event or a semaphore once it is taken, whoever takes it
-abbrev pub taken : KernelState → KernelState
-taken (Event manual signalled) = Event manual (manual && signalled)
-taken (Semaphore count maximum) = Semaphore (count - 1) maximum
-taken state = state
-
--- a kernel object that was made and is signalled
-abbrev pub is_signalled_at : Kernels → ℕ → Bool
-is_signalled_at kernels kernel = option_map_or is_signalled (state_of kernels kernel) false
-
--- the wait that a kernel object releases next: the earliest that is armed on it, if it is signalled
-abbrev pub next_released : ℕ → Kernels → Option ObjectId
-next_released kernel kernels = if is_signalled_at kernels kernel then first_on kernel kernels.armed else None
-
--- the wait is released: it is disarmed, and takes the kernel object
-abbrev pub release_to : ℕ → Kernels → Option ObjectId → Kernels
+-- an armed wait takes the kernel object, and is disarmed
+abbrev pub release_to : ℕ → Kernels → Option Arming → Kernels
 release_to kernel kernels None = kernels
-release_to kernel kernels (Some object) = record kernels {
-  rows = rows_with taken kernels.rows kernel;
-  armed = without object.0 kernels.armed;
-}
+release_to kernel kernels (Some a) = record kernels { rows = rows_with taken kernels.rows kernel; armed = without_arming a.object.0 kernels.armed }
+
+-- the earliest wait that is armed on a kernel object is released, if the object is signalled
+abbrev pub release_first : ℕ → Kernels → Kernels
+release_first kernel kernels = if is_one_that is_signalled kernels.rows kernel then release_to kernel kernels (find (is_arming_on kernel) kernels.armed) else kernels
+
+-- and that is this one, if it is one
+abbrev pub next_released : ℕ → Kernels → Option ObjectId
+next_released kernel kernels = if is_one_that is_signalled kernels.rows kernel then first_on kernel kernels.armed else None

@@ -1,8 +1,9 @@
 //! The wait objects that are armed: for each what it is armed on, and lists that are linked through
 //! the objects, one of all in the order of arming, and one for each kernel object.
 
-ghost use Rattle.std.specs.Prelude.{◌≡◌, ◌+◌, ◌≤◌, ◌++◌, ◌∷◌, [], All, IfOk, false};
-ghost use Rattle.kernel_events.specs.Armed.{HasDistinctObjects, first_on, is_armed, kernel_of as armed_on, without};
+ghost use Rattle.std.specs.Prelude.{◌≡◌, ◌+◌, ◌≤◌, ◌++◌, ◌∷◌, [], All, IfOk, false, length, min};
+ghost use Rattle.tp_base.specs.Armings.{is_armed, without_arming};
+ghost use Rattle.kernel_events.specs.Armed.{HasDistinctObjects, first_on, kernel_of as armed_on, waits_on};
 
 use crate::links::{Ends, Link, append, unlink};
 use std::alloc::{AllocError, Global};
@@ -80,6 +81,22 @@ impl Armings {
         self.ends.get(kernel.0 as usize)?.first
     }
 
+    // How many wait objects are armed on a kernel object, but no more than `most`.
+    pub(crate) fn count_on(&self, kernel: KernelId, most: u32) -> u32
+        ensures { result ≡ min most (length (waits_on kernel.0 self.now.armed)) }
+    {
+        let mut next = self.first_on(kernel);
+        let mut count = 0;
+        while count < most {
+            let Some(object) = next else {
+                return count;
+            };
+            next = self.own[object.0 as usize].behind;
+            count += 1;
+        }
+        count
+    }
+
     // Arms a wait object, behind all others.
     pub(crate) fn arm(&mut self, object: ObjectId, kernel: KernelId)
         requires least { 1 ≤ object.0 }
@@ -98,7 +115,7 @@ impl Armings {
     // Disarms a wait object, and says whether it was armed.
     pub(crate) fn disarm(&mut self, object: ObjectId) -> bool
         ensures was { result ≡ is_armed object.0 self.old.armed }
-        ensures after { self.new ≡ record self.old { armed = without object.0 self.old.armed } }
+        ensures after { self.new ≡ record self.old { armed = without_arming object.0 self.old.armed } }
     {
         let Some(kernel) = self.kernel_of(object) else {
             return false;

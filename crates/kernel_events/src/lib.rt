@@ -22,10 +22,11 @@
 
 #![tactic(auto)]
 
-ghost use Rattle.std.specs.Prelude.{◌≡◌, ◌+◌, ◌<◌, ◌≤◌, ◌^◌, ◌++◌, ◌∷◌, [], All, IfOk, IfSome, IsSome, false, length, true};
-ghost use Rattle.tp_base.specs.Kernels.{may_take, state_after as after_change, taken_by as after_taking, takings_of};
-ghost use Rattle.kernel_events.specs.Armed.{HasDistinctObjects, first_on, is_armed, without};
-ghost use Rattle.kernel_events.specs.Kernels.{Suits, new_row, next_released, numbered, release_to, rows_with, state_of};
+ghost use Rattle.std.specs.Prelude.{◌≡◌, ◌+◌, ◌<◌, ◌≤◌, ◌^◌, ◌++◌, ◌∷◌, [], All, IfOk, IfSome, IsSome, false, if◌then◌else◌, length, min, true};
+ghost use Rattle.tp_base.specs.Armings.{is_armed, without_arming};
+ghost use Rattle.tp_base.specs.Kernels.{is_signalled as is_signalled_by, may_take, state_after as after_change, taken as after_release, taken_by as after_taking, takings_of};
+ghost use Rattle.kernel_events.specs.Armed.{HasDistinctObjects, first_on, waits_on};
+ghost use Rattle.kernel_events.specs.Kernels.{Suits, is_one_that, new_row, next_released, numbered, release_first, rows_with, state_of};
 
 use armings::Armings;
 use states::{is_signalled, state_after, taken, taken_by};
@@ -136,18 +137,20 @@ impl KernelTable {
     /// Disarms a wait object, and says whether it was armed. Where it wasn't, nothing changes.
     pub fn disarm(&mut self, object: ObjectId) -> bool
         ensures was { result ≡ is_armed object.0 self.old.armed }
-        ensures after { self.new ≡ record self.old { armed = without object.0 self.old.armed } }
+        ensures after { self.new ≡ record self.old { armed = without_arming object.0 self.old.armed } }
     {
         self.armings.disarm(object)
     }
 
-    /// Whether a wait object is armed. None is armed twice, and each has a number from 1 to the
-    /// greatest that there can be.
+    /// Whether a wait object is armed. None is armed twice, each has a number from 1 to the greatest
+    /// that there can be, and each is armed on a kernel object that was made.
     pub fn is_armed(&self, object: ObjectId) -> bool
         ensures value { result ≡ is_armed object.0 self.now.armed }
         ensures distinct { HasDistinctObjects self.now.armed }
         ensures least { All (λ a. 1 ≤ a.object.0) self.now.armed }
         ensures most { All (λ a. a.object.0 ≤ self.now.objects) self.now.armed }
+        ensures kernel_least { All (λ a. 1 ≤ a.kernel.0) self.now.armed }
+        ensures kernel_most { All (λ a. a.kernel.0 ≤ length self.now.rows) self.now.armed }
     {
         self.armings.kernel_of(object).is_some()
     }
@@ -160,12 +163,36 @@ impl KernelTable {
         self.armings.first_on(kernel)
     }
 
+    /// How many wait objects are armed on this kernel object, but no more than `most`. Walks as many.
+    pub fn count_armed(&self, kernel: KernelId, most: u32) -> u32
+        ensures { result ≡ min most (length (waits_on kernel.0 self.now.armed)) }
+    {
+        self.armings.count_on(kernel, most)
+    }
+
+    /// Lets a wait object that isn't armed take a kernel object that is signalled, and says whether it
+    /// was. Where it wasn't, or was never made, nothing changes.
+    pub fn take_signal(&mut self, kernel: KernelId) -> bool
+        ensures was { result ≡ is_one_that is_signalled_by self.old.rows kernel.0 }
+        ensures after { self.new ≡ if is_one_that is_signalled_by self.old.rows kernel.0 then record self.old { rows = rows_with after_release self.old.rows kernel.0 } else self.old }
+    {
+        match self.get(kernel) {
+            Some(state) if is_signalled(state) => {
+                let after = taken(state);
+                let row = &mut self.rows[kernel.0 as usize - 1];
+                row.state = after;
+                true
+            }
+            _ => false,
+        }
+    }
+
     /// Lets a kernel object that is signalled release the wait object that was armed earliest on it:
     /// that is disarmed, and takes the kernel object once. None exactly where the kernel object isn't
     /// signalled, or no wait object is armed on it, and then nothing changes.
     pub fn next_released(&mut self, kernel: KernelId) -> Option<ObjectId>
         ensures released { result ≡ next_released kernel.0 self.old }
-        ensures after { self.new ≡ release_to kernel.0 self.old (next_released kernel.0 self.old) }
+        ensures after { self.new ≡ release_first kernel.0 self.old }
     {
         let state = self.get(kernel)?;
         if !is_signalled(state) {

@@ -198,6 +198,7 @@ begun_by i l who object cancel place barriers begun is k may settled at barriers
       pending = k.pending;
       timed = k.timed;
       kernels = k.kernels;
+      slotted = k.slotted;
       wanted = subst (λ bs. AreWanted i.limits bs i.wanted.items) (sym waits_now) (wanted_covering b may_here.none refl k.wanted);
       covered = subst (λ x. AreCovered i.limits cs begun.waits x) (sym (barriers_now ∙ ap (λ ns. with_wait i.barriers place (Some ns)) numbers))
           (subst (λ bs. AreCovered i.limits cs bs (with_wait i.barriers place (Some b.covered))) (sym waits_now)
@@ -276,5 +277,6 @@ acquires i l who kernel cancel place barriers begun is k allowed at barriers_now
       covered = subst (λ x. AreCovered i.limits cs begun.waits x) (sym (barriers_now ∙ ap (λ ns. with_wait i.barriers place (Some ns)) (sym covers)))
           (subst (λ bs. AreCovered i.limits cs bs (with_wait i.barriers place (Some b.covered))) (sym waits_now)
           (covered_begun place b at a.none held tt k.covered));
+      slotted = k.slotted;
       wanted = subst (λ bs. AreWanted i.limits bs (slice_set i.wanted.items place (Some kernel))) (sym waits_now) (wanted_begun place b at a.none k.wanted);
     })

@@ -19,7 +19,7 @@ use Rattle.live_world.specs.Live.{Live, moved}
 use Rattle.live_world.specs.Parts.{place_of, wait_among, wanted_by}
 use Rattle.live_world.specs.Taking.{rows_left}
 use Rattle.live_world.specs.View.{shown, IsLiveWorld}
-use Rattle.live_world.specs.Invariant.{AreCovered, AreKernels, AreWanted}
+use Rattle.live_world.specs.Invariant.{AreCovered, AreKernels, AreSlotted, AreWanted}
 use Rattle.live_world.proofs.Covered.{covered_ended, no_stranger, begun_there, waiting_somewhere}
 use Rattle.live_world.proofs.Wanted.{wanted_ended}
 use Rattle.live_world.proofs.Takings.{left_length, left_here}
@@ -47,8 +47,8 @@ ended : (i : Inside) (l : Live) (who : Who) (how : WaitEnd) (place : ℕ) (barri
 ended i l who how place barriers waits kernels is k allowed at barriers_now waits_now kernels_now =
     moved_by i (record i { barriers = barriers; waits = waits; wanted = with_item i.wanted place None; kernels = kernels }) l (change.EndWait who how) is k allowed (omega arith) (λ a.
     record {
-      shows = ap₂ (λ cs bs. record (shown i).world { callbacks = cs; waits = bs; kernels = kernels.rows }) (sym k.alive.live) waits_now
-          ∙ ap (λ (t : Kernels). record (forget (without_wait (shown i).world who)) { kernels = t.rows }) kernels_now;
+      shows = ap₂ (λ cs bs. record (shown i).world { callbacks = cs; waits = bs; kernels = kernels.rows; armings = kernels.armed }) (sym k.alive.live) waits_now
+          ∙ ap (λ (t : Kernels). record (forget (without_wait (shown i).world who)) { kernels = t.rows; armings = t.armed }) kernels_now;
       sized = k.sized;
       alive = k.alive;
       queued = k.queued;
@@ -60,8 +60,10 @@ ended i l who how place barriers waits kernels is k allowed at barriers_now wait
           (record {
             kernel_limit = k.kernels.kernel_limit;
             kernels_within = omega (arith, left_length (shown i).world who how (wait_among i.waits.waits who), k.kernels.kernels_within);
-            unarmed = k.kernels.unarmed;
+            armed_limit = k.kernels.armed_limit;
+            once = k.kernels.once;
           });
+      slotted = subst (λ (t : Kernels). AreSlotted i.limits i.callbacks.rows t i.armed) (sym kernels_now) (record { counted = k.slotted.counted; slots = k.slotted.slots });
       wanted = subst (λ bs. AreWanted i.limits bs (slice_set i.wanted.items place None)) (sym waits_now) (wanted_ended place who at k.wanted);
       covered = subst (λ b. AreCovered i.limits i.callbacks.rows waits.waits b) (sym barriers_now)
           (subst (λ bs. AreCovered i.limits i.callbacks.rows bs (with_wait i.barriers place None)) (sym waits_now) (covered_ended place who at k.covered));

@@ -1,167 +1,150 @@
--- A trigger, as one callback after another: what is left to do leads to where all of it leads.
-use Rattle.std.proofs.Common.{◌≡◌, ℕ, ◌+◌, ◌<◌, ◌≤◌, ◌^◌, nat_lt, true, false, cond, List, [], ◌∷◌, ◌++◌, length, map, Option, refl, sym, ap, ap₂, ◌∙◌, subst, arith, filter, ltb-false, length-append}
+-- What triggers and returns come to, as one callback after another: what is left to do leads to where all of it leads.
+use Rattle.std.proofs.Common.{◌≡◌, ℕ, zero, suc, ◌+◌, ◌<◌, ◌≤◌, ◌^◌, nat_lt, Bool, true, false, cond, List, [], ◌∷◌, ◌++◌, length, map, Option, Some, None, refl, sym, ap, ap₂, ◌∙◌, subst, arith, filter, find, ltb-false, length-append}
 use Rattle.std.proofs.lemmas.Bool.{le-ltb}
 use Rattle.std.proofs.lemmas.List.{append_assoc, append-nil}
-use Rattle.std.specs.Prelude.{ℤ}
 use Rattle.std.proofs.lemmas.List.Elements.{filter-append}
 use Rattle.tp_base.specs.declared.ids.ObjectId.{ObjectId}
-use Rattle.tp_base.specs.declared.answers.TakeResult.TheVariants.{Plain}
-use Rattle.tp_base.specs.declared.plans.Trigger.{Trigger}
-use Rattle.tp_base.specs.declared.plans.Trigger.TheVariants as trigger
+use Rattle.tp_base.specs.declared.answers.TakeResult.{TakeResult}
+use Rattle.tp_base.specs.declared.answers.TakeResult.TheVariants.{WaitObject0}
+use Rattle.tp_base.specs.declared.plans.ActionWords.{ActionWords}
+use Rattle.tp_base.specs.declared.plans.Busy.{Busy}
 use Rattle.tp_base.specs.declared.plans.Change.TheVariants as change
+use Rattle.tp_base.specs.declared.rows.Arming.{Arming}
 use Rattle.tp_base.specs.declared.rows.CallbackRow.{CallbackRow}
-use Rattle.tp_base.specs.declared.rows.TimerSetting.{TimerSetting}
-use Rattle.tp_base.specs.Timers.{set_timer, expires_at_once, expired, after_expiry}
-use Rattle.tp_base.specs.Ranges.{AreLimitsInRange}
+use Rattle.tp_base.specs.declared.rows.ObjectRow.{ObjectRow}
+use Rattle.tp_base.specs.Armings.{is_arming_on}
+use Rattle.tp_base.specs.Kernels.{is_signalled}
 use Rattle.tp_model.specs.World.{World}
 use Rattle.tp_model.specs.Counts.{slots}
-use Rattle.tp_model.specs.Conditions.{lacks_slots_for}
-use Rattle.tp_model.specs.Sources.{Job, firing, sources_of, rows_of, new_callback, object_row, plain_job, count_fired}
-use Rattle.tp_model.specs.Support.Sound.{IsMade}
+use Rattle.tp_model.specs.Kernels.{is_one_that}
+use Rattle.tp_model.specs.Sources.{Sources, Job, Firing, fired, job, jobless, sources_of, rows_of, new_callback, object_row, release_to, release_first, release_times}
+use Rattle.tp_model.specs.Actions.{returning, slots_of}
+use Rattle.tp_model.specs.Changes.{without_run}
 use Rattle.tp_model.specs.Support.Remembered.{lives, forget}
+use Rattle.tp_model.proofs.Firing.{length_rows}
 use Rattle.tp_model.proofs.Forgetting.{live_again}
-use Rattle.live_world.specs.Live.{Live, moved, at_time, with_settings, next_of_object, count_left, expired_all, Expires, IsOver}
+use Rattle.live_world.specs.Live.{Live, moved, became, fired_to, next_of_object, unfired, with_sources}
 
 -- what lives of callbacks of which some are appended
-live_appended : (cs ds : List CallbackRow) → filter lives (filter lives cs ++ ds) ≡ filter lives (cs ++ ds)
+pub live_appended : (cs ds : List CallbackRow) → filter lives (filter lives cs ++ ds) ≡ filter lives (cs ++ ds)
 live_appended cs ds =
     filter-append lives (filter lives cs) ds ∙ ap (λ ls. ls ++ filter lives ds) (live_again cs) ∙ sym (filter-append lives cs ds)
-
--- one callback, and then the rest
-live_one_more : (cs ds : List CallbackRow) (c : CallbackRow) → filter lives (filter lives (filter lives cs ++ c ∷ []) ++ ds) ≡ filter lives (cs ++ c ∷ ds)
-live_one_more cs ds c =
-    live_appended (filter lives cs ++ c ∷ []) ds ∙ ap (filter lives) (append_assoc (filter lives cs) (c ∷ []) ds) ∙ live_appended cs (c ∷ ds)
-
--- the live world after other settings and callbacks of jobs
-abbrev with_jobs : Live → List TimerSetting → ℕ → List Job → Live
-with_jobs l settings now jobs =
-    record { world = record l.world { settings = settings; now = now; callbacks = filter lives (l.world.callbacks ++ rows_of l.world.objects (l.made + 1) jobs) }; made = l.made + length jobs }
 
 -- where nothing changes
 pub kept : (l : Live) → forget l.world ≡ l.world → l ≡ moved l change.Keep
 kept l living = ap₂ (λ (w : World) (n : ℕ). record { world = w; made = n }) (sym living) (omega arith)
 
--- ---- time passes
+-- ---- one after another
 
-abbrev jobs_due : ℕ → List TimerSetting → List Job
-jobs_due now settings = map (λ (t : TimerSetting). plain_job t.object) (expired now settings)
+-- the rows of jobs and of further ones
+rows_append : (objects : List ObjectRow) (fresh : ℕ) (js ks : List Job) → rows_of objects fresh (js ++ ks) ≡ rows_of objects fresh js ++ rows_of objects (fresh + length js) ks
+rows_append objects fresh [] ks = ap (λ n. rows_of objects n ks) (omega arith)
+rows_append objects fresh (j ∷ js) ks =
+    ap (λ cs. new_callback fresh j.object (object_row objects j.object) j.result ∷ cs)
+    (rows_append objects (fresh + 1) js ks ∙ ap (λ n. rows_of objects (fresh + 1) js ++ rows_of objects n ks) (omega arith))
 
--- the timer of this object expired, and these settings are left
-module _ (l : Live) (object : ObjectId) (left : List TimerSetting) (first : jobs_due l.world.now l.world.settings ≡ plain_job object ∷ jobs_due l.world.now left) where
-  abbrev one_less : Live
-  one_less = next_of_object (with_settings l left) object
+-- the live world with these sources, callbacks and number of callbacks
+abbrev pub with_all : Live → Sources → List CallbackRow → ℕ → Live
+with_all l s cs made = record { world = record l.world { settings = s.settings; armings = s.armings; kernels = s.kernels; now = s.now; callbacks = cs }; made = made }
 
-  abbrev more : List Job
-  more = jobs_due l.world.now left
+-- which sources there were before is no matter
+pub fired_over : (l : Live) (s : Sources) (f : Firing) → fired_to (with_sources l s) f ≡ fired_to l f
+fired_over l s f = ap (λ cs. with_all l f.sources cs (l.made + length f.jobs)) (live_appended l.world.callbacks (rows_of l.world.objects (l.made + 1) f.jobs))
 
-  pub expires_on : after_expiry l.world.now left ≡ after_expiry l.world.now l.world.settings → expired_all one_less ≡ expired_all l
-  expires_on after =
-      let c : CallbackRow = new_callback (l.made + 1) object (object_row l.world.objects object) Plain in
-      let whole : expired_all l ≡ with_jobs l (after_expiry l.world.now left) l.world.now (plain_job object ∷ more) = ap₂ (λ ss js. with_jobs l ss l.world.now js) (sym after) first in
-      let counts : (l.made + 1) + length more ≡ l.made + length (plain_job object ∷ more) = omega arith in
-      ap₂ (λ cs (n : ℕ). record { world = record l.world { settings = after_expiry l.world.now left; callbacks = cs }; made = n }) (live_one_more l.world.callbacks (rows_of l.world.objects (l.made + 1 + 1) more) c) counts ∙ sym whole
+pub sources_over : (l : Live) (s t : Sources) → with_sources (with_sources l s) t ≡ with_sources l t
+sources_over l s t = ap (λ cs. with_all l t cs l.made) (live_again l.world.callbacks)
 
-  pub fewer_left : count_left one_less + 1 ≡ count_left l
-  fewer_left = omega (arith, ap length first)
+-- and nor is what was over
+pub fired_became : (l : Live) (v : World) (f : Firing) → fired_to (became l v) f ≡ record { world = forget (record v { settings = f.sources.settings; armings = f.sources.armings; kernels = f.sources.kernels; now = f.sources.now; callbacks = v.callbacks ++ rows_of v.objects (l.made + 1) f.jobs }); made = l.made + length f.jobs }
+fired_became l v f = ap (λ cs. with_all (record { world = v; made = l.made }) f.sources cs (l.made + length f.jobs)) (live_appended v.callbacks (rows_of v.objects (l.made + 1) f.jobs))
 
--- where nothing is due, nothing happens
-none_expires : (l : Live) → forget l.world ≡ l.world → expired l.world.now l.world.settings ≡ [] → after_expiry l.world.now l.world.settings ≡ l.world.settings → expired_all l ≡ l
-none_expires l living none same =
-    let js : map (λ (t : TimerSetting). plain_job t.object) (expired l.world.now l.world.settings) ≡ [] = ap (map (λ (t : TimerSetting). plain_job t.object)) none in
-    let empty : expired_all l ≡ with_jobs l l.world.settings l.world.now [] = ap₂ (λ ss jobs. with_jobs l ss l.world.now jobs) same js in
-    empty ∙ ap₂ (λ (cs : List CallbackRow) (n : ℕ). record { world = record l.world { callbacks = cs }; made = n }) (ap (filter lives) (append-nil l.world.callbacks) ∙ ap (λ (w : World). w.callbacks) living) (omega arith)
+-- a return, as its change says it
+pub return_moved : (l : Live) (by : Busy) (words : ActionWords) (first count : ℕ) → first ≡ l.made + 1 → count ≡ length (returning l.world words (slots_of by.callback.status)).jobs
+    → fired_to (became l (without_run l.world by)) (returning l.world words (slots_of by.callback.status)) ≡ moved l (change.Return by words first count)
+return_moved l by words first count number counted =
+    let f : Firing = returning l.world words (slots_of by.callback.status) in
+    fired_became l (without_run l.world by) f ∙ ap₂ (λ (n m : ℕ). record { world = forget (fired (without_run l.world by) n f); made = l.made + m }) (sym number) (sym counted)
 
--- as the timers tell it
-pub is_over : (l new : Live) → forget l.world ≡ l.world → new ≡ l → expired l.world.now l.world.settings ≡ [] → after_expiry l.world.now l.world.settings ≡ l.world.settings → IsOver l new
-is_over l new living same none left = record { same = same; done = none_expires l living none left }
+-- one firing behind another
+abbrev pub behind : Firing → Firing → Firing
+behind f g = record { sources = g.sources; jobs = f.jobs ++ g.jobs }
 
--- the clock is set, and then what is due expires
-pub advances : (l : Live) (now first count : ℕ) → first ≡ l.made + 1 → count ≡ count_fired l.world (trigger.Advance now) → expired_all (at_time l now) ≡ moved l (change.Fire (trigger.Advance now) first count)
-advances l now first count number counted =
-    let jobs : List Job = (firing (trigger.Advance now) (sources_of l.world)).jobs in
-    ap₂ (λ (cs : List CallbackRow) (n : ℕ). record { world = record l.world { settings = after_expiry now l.world.settings; now = now; callbacks = cs }; made = n })
-    (live_appended l.world.callbacks (rows_of l.world.objects (l.made + 1) jobs) ∙ ap (λ n. filter lives (l.world.callbacks ++ rows_of l.world.objects n jobs)) (sym number))
-    (ap (λ n. l.made + n) (sym counted))
+pub fired_twice : (l : Live) (f g : Firing) → fired_to (fired_to l f) g ≡ fired_to l (behind f g)
+fired_twice l f g =
+    let w : World = l.world in
+    let first : List CallbackRow = rows_of w.objects (l.made + 1) f.jobs in
+    let second : List CallbackRow = rows_of w.objects ((l.made + length f.jobs) + 1) g.jobs in
+    ap₂ (λ cs (n : ℕ). with_all l g.sources cs n)
+    (live_appended (w.callbacks ++ first) second
+    ∙ ap (filter lives) (append_assoc w.callbacks first second ∙ ap (λ rs. w.callbacks ++ rs) (ap (λ n. first ++ rows_of w.objects n g.jobs) (omega arith) ∙ sym (rows_append w.objects (l.made + 1) f.jobs g.jobs))))
+    (omega (arith, length-append f.jobs g.jobs))
 
--- how many places are taken once there is one callback more
-slots_next : (l : Live) (settings : List TimerSetting) (object : ObjectId) → slots (next_of_object (with_settings l settings) object).world ≡ slots l.world + 1
-slots_next l settings object =
-    let c : CallbackRow = new_callback (l.made + 1) object (object_row l.world.objects object) Plain in
-    let rows : filter lives (filter lives (filter lives l.world.callbacks ++ c ∷ [])) ≡ filter lives l.world.callbacks ++ c ∷ []
-    = live_again (filter lives l.world.callbacks ++ c ∷ []) ∙ live_appended l.world.callbacks (c ∷ []) ∙ filter-append lives l.world.callbacks (c ∷ []) in
-    omega (arith, ap length rows, length-append (filter lives l.world.callbacks) (c ∷ []))
+pub fired_none : (l : Live) (s : Sources) → fired_to l (jobless s) ≡ with_sources l s
+fired_none l s = ap₂ (λ cs (n : ℕ). with_all l s cs n) (ap (filter lives) (append-nil l.world.callbacks)) (omega arith)
 
--- while what is due expires: what is left leads to where all of it led, and there are numbers and places for it
-pub record IsExpiring (start l : Live) : Type 0 where
-  pub onwards : expired_all l ≡ expired_all start
-  pub young : l.made + count_left l ≤ 2 ^ 63
-  pub room : lacks_slots_for l.world (count_left l) ≡ false
+-- the sources that there are
+pub same_sources : (l : Live) → forget l.world ≡ l.world → with_sources l (sources_of l.world) ≡ l
+same_sources l living = ap (λ (w : World). record { world = w; made = l.made }) living
 
-pub expiring_first : (l : Live) (now : ℕ) → AreLimitsInRange l.world.limits → lacks_slots_for l.world (count_fired l.world (trigger.Advance now)) ≡ false → l.made + 65536 ≤ 2 ^ 63 → IsExpiring (at_time l now) (at_time l now)
-expiring_first l now limits room young =
-    let n : ℕ = count_fired l.world (trigger.Advance now) in
-    let fits : slots l.world + n ≤ l.world.limits.slots = ltb-false l.world.limits.slots (slots l.world + n) room in
-    record {
-      onwards = refl;
-      young = omega (arith, young, fits, limits.slots_most);
-      room = ap (λ cs. nat_lt l.world.limits.slots (length cs + length l.world.armings + n)) (live_again l.world.callbacks) ∙ room;
-    }
+abbrev pub one : Sources → ObjectId → TakeResult → Firing
+one s object result = record { sources = s; jobs = job object result ∷ [] }
 
--- what is known where a timer expired
-module _ (start l new : Live) (object : ObjectId) (going : IsExpiring start l) (e : Expires l new object) where
-  pub next_made : IsMade (length new.world.objects) object.0
-  next_made = subst (λ (x : Live). IsMade (length x.world.objects) object.0) (sym e.after.1) e.made
+pub next_fired : (l : Live) (object : ObjectId) (result : TakeResult) → next_of_object l object result ≡ fired_to l (one (sources_of l.world) object result)
+next_fired l object result = refl
 
-  pub next_room : lacks_slots_for new.world 1 ≡ false
-  next_room =
-      let fits : slots l.world + count_left l ≤ l.world.limits.slots = ltb-false l.world.limits.slots (slots l.world + count_left l) going.room in
-      let here : lacks_slots_for (with_settings l e.after.0).world 1 ≡ false
-      = ap (λ cs. nat_lt l.world.limits.slots (length cs + length l.world.armings + 1)) (live_again l.world.callbacks) ∙ le-ltb l.world.limits.slots (slots l.world + 1) (omega (arith, fits, e.fewer)) in
-      subst (λ (x : Live). lacks_slots_for x.world 1 ≡ false) (sym e.after.1) here
+-- other sources, and the callback of a job
+pub next_over : (l : Live) (s : Sources) (object : ObjectId) (result : TakeResult) → next_of_object (with_sources l s) object result ≡ fired_to l (one s object result)
+next_over l s object result = next_fired (with_sources l s) object result ∙ fired_over l s (one s object result)
 
-  pub next_young : new.made < 2 ^ 63
-  next_young = subst (λ (x : Live). x.made < 2 ^ 63) (sym e.after.1) (omega (arith, going.young, e.fewer))
+-- ---- slots
 
-  pub goes_on : (after : Live) → after ≡ next_of_object new object → IsExpiring start after
-  goes_on after is =
-      let there : IsExpiring start (next_of_object new object) = record {
-        onwards = e.onwards ∙ going.onwards;
-        young = subst (λ (x : Live). (x.made + 1) + count_left (next_of_object new object) ≤ 2 ^ 63) (sym e.after.1) (omega (arith, going.young, e.fewer));
-        room = subst (λ (x : Live). lacks_slots_for (next_of_object x object).world (count_left (next_of_object x object)) ≡ false) (sym e.after.1)
-            (le-ltb l.world.limits.slots (slots (next_of_object (with_settings l e.after.0) object).world + count_left (next_of_object (with_settings l e.after.0) object)) (omega (arith, ltb-false l.world.limits.slots (slots l.world + count_left l) going.room, slots_next l e.after.0 object, subst (λ (x : Live). count_left (next_of_object x object) + 1 ≡ count_left l) e.after.1 e.fewer)));
-      } in
-      subst (IsExpiring start) (sym is) there
+pub slots_fired : (l : Live) (f : Firing) → slots (fired_to l f).world ≡ length (filter lives l.world.callbacks) + length f.jobs + length f.sources.armings
+slots_fired l f =
+    let rows : List CallbackRow = rows_of l.world.objects (l.made + 1) f.jobs in
+    omega (
+      arith,
+      ap length (live_again (l.world.callbacks ++ rows) ∙ filter-append lives l.world.callbacks rows),
+      length-append (filter lives l.world.callbacks) (filter lives rows),
+      ap length (rows_live l.world.objects (l.made + 1) f.jobs),
+      length_rows l.world.objects (l.made + 1) f.jobs,
+    )
+  where
+    rows_live : (objects : List ObjectRow) (fresh : ℕ) (jobs : List Job) → filter lives (rows_of objects fresh jobs) ≡ rows_of objects fresh jobs
+    rows_live objects fresh [] = refl
+    rows_live objects fresh (j ∷ js) = ap (λ cs. new_callback fresh j.object (object_row objects j.object) j.result ∷ cs) (rows_live objects (fresh + 1) js)
 
-  pub counts_down : (after : Live) → after ≡ next_of_object new object → count_left after < count_left l
-  counts_down after is = subst (λ (x : Live). count_left x < count_left l) (sym is) (omega (arith, e.fewer))
+-- ---- releases, one after another
 
--- ---- a timer is set
+-- the jobs that there were before
+abbrev pub before : List Job → Firing → Firing
+before jobs f = record f { jobs = jobs ++ f.jobs }
 
-module _ (l : Live) (object : ObjectId) (due : Option ℤ) (period window : ℕ) where
-  abbrev setting : Trigger
-  setting = trigger.SetTimer object due period window
+first_before : (jobs : List Job) (kernel : ℕ) (f : Firing) → release_first kernel (before jobs f) ≡ before jobs (release_first kernel f)
+first_before jobs kernel f =
+    elim (is_one_that is_signalled f.sources.kernels kernel) as (λ b. cond b (release_to kernel (before jobs f) (find (is_arming_on kernel) f.sources.armings)) (before jobs f) ≡ before jobs (cond b (release_to kernel f (find (is_arming_on kernel) f.sources.armings)) f)) [
+      | true ↦ of_first (find (is_arming_on kernel) f.sources.armings)
+      | false ↦ refl
+    ]
+  where
+    of_first : (first : Option Arming) → release_to kernel (before jobs f) first ≡ before jobs (release_to kernel f first)
+    of_first None = refl
+    of_first (Some a) = ap (λ js. record { sources = (release_to kernel f (Some a)).sources; jobs = js }) (append_assoc jobs f.jobs (job a.object WaitObject0 ∷ []))
 
-  abbrev with_set : Live
-  with_set = with_settings l (set_timer l.world.now object due period window l.world.settings)
+pub times_before : (jobs : List Job) (n kernel : ℕ) (f : Firing) → release_times n kernel (before jobs f) ≡ before jobs (release_times n kernel f)
+times_before jobs zero kernel f = refl
+times_before jobs (suc n) kernel f = ap (release_times n kernel) (first_before jobs kernel f) ∙ times_before jobs n kernel (release_first kernel f)
 
-  pub sets_later : (first count : ℕ) → count ≡ count_fired l.world setting → expires_at_once l.world.now due ≡ false → with_set ≡ moved l (change.Fire setting first count)
-  sets_later first count counted later =
-      let none : (firing setting (sources_of l.world)).jobs ≡ [] = ap (λ b. cond b (plain_job object ∷ []) []) later in
-      ap₂ (λ cs (n : ℕ). record { world = record l.world { settings = set_timer l.world.now object due period window l.world.settings; callbacks = cs }; made = n })
-      (ap (filter lives) (sym (append-nil l.world.callbacks) ∙ ap (λ js. l.world.callbacks ++ rows_of l.world.objects first js) (sym none)))
-      (omega (arith, counted, ap length none))
+-- the first, and then the rest
+pub times_behind : (n kernel : ℕ) (f : Firing) → release_times n kernel f ≡ behind f (release_times n kernel (jobless f.sources))
+times_behind n kernel f = ap (release_times n kernel) (ap (λ js. record { sources = f.sources; jobs = js }) (sym (append-nil f.jobs))) ∙ times_before f.jobs n kernel (jobless f.sources)
 
-  pub sets_now : (first count : ℕ) → first ≡ l.made + 1 → count ≡ count_fired l.world setting → expires_at_once l.world.now due ≡ true → next_of_object with_set object ≡ moved l (change.Fire setting first count)
-  sets_now first count number counted at_once =
-      let one : (firing setting (sources_of l.world)).jobs ≡ plain_job object ∷ [] = ap (λ b. cond b (plain_job object ∷ []) []) at_once in
-      let c : CallbackRow = new_callback (l.made + 1) object (object_row l.world.objects object) Plain in
-      ap₂ (λ cs (n : ℕ). record { world = record l.world { settings = set_timer l.world.now object due period window l.world.settings; callbacks = cs }; made = n })
-      (live_appended l.world.callbacks (c ∷ []) ∙ ap₂ (λ (n : ℕ) (js : List Job). filter lives (l.world.callbacks ++ rows_of l.world.objects n js)) (sym number) (sym one))
-      (omega (arith, counted, ap length one))
+pub times_idle : (n kernel : ℕ) (f : Firing) → release_first kernel f ≡ f → release_times n kernel f ≡ f
+times_idle zero kernel f idle = refl
+times_idle (suc n) kernel f idle = ap (release_times n kernel) idle ∙ times_idle n kernel f idle
 
-  -- where it expires at once there is a place for its callback
-  pub room_now : (new : Live) → expires_at_once l.world.now due ≡ true → new ≡ with_set → lacks_slots_for l.world (count_fired l.world setting) ≡ false → lacks_slots_for new.world 1 ≡ false
-  room_now new at_once is room =
-      let one : count_fired l.world setting ≡ 1 = ap (λ b. length (cond b (plain_job object ∷ []) [])) at_once in
-      subst (λ (x : Live). lacks_slots_for x.world 1 ≡ false) (sym is)
-      (ap (λ cs. nat_lt l.world.limits.slots (length cs + length l.world.armings + 1)) (live_again l.world.callbacks) ∙ ap (lacks_slots_for l.world) (sym one) ∙ room)
+-- while waits are released: what is left leads to where all of it led, and there are numbers for it
+pub record IsReleasing (kernel : ℕ) (start l : Live) : Type 0 where
+  pub times : ℕ
+  pub enough : length l.world.armings ≤ times
+  pub onwards : fired_to l (release_times times kernel (unfired l)) ≡ fired_to start (release_times (length start.world.armings) kernel (unfired start))
+  pub young : l.made + length l.world.armings ≤ 2 ^ 63

@@ -20,7 +20,13 @@ pub mod ObjectsMade
 pub mod Starving
 pub mod Performing
 pub mod Progress
+pub mod Armed
+pub mod Sourced
 pub mod Firings
+pub mod Expiring
+pub mod Expired
+pub mod Releasing
+pub mod Setting
 pub mod Timed
 pub mod Wanted
 pub mod Takings

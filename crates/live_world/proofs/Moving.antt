@@ -1,6 +1,7 @@
 -- What the parts show after each change, and that they keep their invariant.
-use Rattle.std.proofs.Common.{◌≡◌, ◌≢◌, ℕ, ◌+◌, ◌-◌, ◌<◌, ◌≤◌, Bool, true, false, cond, not, ◌&&◌, ◌||◌, ◌==◌, List, [], ◌∷◌, ◌++◌, length, map, slice_get, slice_set, Option, Some, None, refl, sym, ap, ap₂, ◌∙◌, subst, arith, filter, find, option_map, ne_eqb, length-set}
-use Rattle.std.proofs.lemmas.List.{map-set}
+use Rattle.std.proofs.Common.{◌≡◌, ◌≢◌, ℕ, ◌+◌, ◌-◌, ◌<◌, ◌≤◌, Bool, true, false, cond, not, ◌&&◌, ◌||◌, ◌==◌, List, [], ◌∷◌, ◌++◌, length, map, slice_get, slice_set, Option, Some, None, refl, sym, ap, ap₂, ◌∙◌, subst, arith, filter, find, option_map, ne_eqb, length-set, length-append, ltb-false}
+use Rattle.std.proofs.lemmas.List.{length-map, map-set}
+use Rattle.std.proofs.lemmas.List.Sums.{length-filter, count_by-le-length}
 use Rattle.std.proofs.lemmas.Option.{slice_get-map}
 use Rattle.tp_base.specs.declared.ids.PoolId.{PoolId}
 use Rattle.tp_base.specs.declared.limits.Limits.{Limits}
@@ -46,7 +47,7 @@ use Rattle.live_world.specs.declared.LiveWorld.TheInside.{Inside}
 use Rattle.live_world.specs.Live.{Live, moved, became, with_kernels}
 use Rattle.live_world.specs.Parts.{world_of, shown_worker, is_tied, tied_entry}
 use Rattle.live_world.specs.View.{shown, IsLiveWorld}
-use Rattle.live_world.specs.Invariant.{AreSized, AreLive, AreQueued, AreTallied, AreListed, AreCovered, AreTimed, AreKernels, AreWanted, IsHome, IsMarked, AreMarked, waits}
+use Rattle.live_world.specs.Invariant.{AreSized, AreLive, AreQueued, AreTallied, AreListed, AreCovered, AreTimed, AreKernels, AreSlotted, AreWanted, IsHome, IsMarked, AreMarked, waits}
 use Rattle.live_world.proofs.Lists.{set_twice, set_there}
 use Rattle.live_world.proofs.Alive.{alive_more, alive_replaced, alive_less, removed_rows}
 use Rattle.live_world.proofs.Listed.{pending_tied, over_untied, over_unpending, listed_more, listed_same, listed_less, listed_lives}
@@ -68,6 +69,7 @@ pub record After (i : Inside) (v : World) : Type 0 where
   pub covered : AreCovered i.limits i.callbacks.rows i.waits.waits i.barriers
   pub timed : AreTimed i.limits i.objects i.timers
   pub kernels : AreKernels i.limits i.kernels
+  pub slotted : AreSlotted i.limits i.callbacks.rows i.kernels i.armed
   pub wanted : AreWanted i.limits i.waits.waits i.wanted.items
 
 -- they keep their invariant, and show this
@@ -88,6 +90,7 @@ became_by j v s a =
         covered = a.covered;
         timed = a.timed;
         kernels = a.kernels;
+        slotted = a.slotted;
         wanted = a.wanted;
         sound = subst (λ w. IsSound (j.made + 1) w) (sym a.shows) (forget_sound (j.made + 1) v s);
       };
@@ -107,8 +110,22 @@ moved_by i j l ch is k allowed counts after =
       becomes = b.becomes ∙ ap (λ (n : ℕ). record { world = forget (changed w ch); made = n }) counts ∙ ap (λ (x : Live). moved x ch) is;
     }
 
+-- ---- slots
+
+pub slots_replaced : {limits : Limits} {callbacks : List CallbackRow} {kernels : Kernels} {armed : ℕ} (r : CallbackRow) → AreSlotted limits callbacks kernels armed → AreSlotted limits (replaced r callbacks) kernels armed
+slots_replaced {callbacks = callbacks} r k = record { counted = k.counted; slots = omega (arith, length-map callbacks (λ (c : CallbackRow). cond (has_number r.number c) r c), k.slots) }
+
+pub slots_fewer : {limits : Limits} {callbacks : List CallbackRow} {kernels : Kernels} {armed : ℕ} (p : CallbackRow → Bool) → AreSlotted limits callbacks kernels armed → AreSlotted limits (filter p callbacks) kernels armed
+slots_fewer {callbacks = callbacks} p k = record { counted = k.counted; slots = omega (arith, length-filter p callbacks, count_by-le-length p callbacks, k.slots) }
+
+slots_more : {limits : Limits} {callbacks : List CallbackRow} {kernels : Kernels} {armed : ℕ} (c : CallbackRow) → length callbacks + length kernels.armed + 1 ≤ limits.slots → AreSlotted limits callbacks kernels armed → AreSlotted limits (callbacks ++ c ∷ []) kernels armed
+slots_more {callbacks = callbacks} c room k = record { counted = k.counted; slots = omega (arith, length-append callbacks (c ∷ []), room) }
+
+slots_here : {callbacks : List CallbackRow} (n most : ℕ) → filter lives callbacks ≡ callbacks → length (filter lives callbacks) + n + 1 ≤ most → length callbacks + n + 1 ≤ most
+slots_here n most living room = omega (arith, ap length living, room)
+
 -- callbacks and workers alone change
-shows_along : (limits : Limits) (pools : Pools) (objects : Table Object) (rows : List CallbackRow) (kernels : List KernelRow) (clients : List ClientRow) (waits : List BegunWait) (settings : List TimerSetting) (clock : ℕ) (workers : List kept.WorkerRow) (now after : List CallbackRow) (workers_after : List WorkerRow)
+shows_along : (limits : Limits) (pools : Pools) (objects : Table Object) (rows : List CallbackRow) (kernels : Kernels) (clients : List ClientRow) (waits : List BegunWait) (settings : List TimerSetting) (clock : ℕ) (workers : List kept.WorkerRow) (now after : List CallbackRow) (workers_after : List WorkerRow)
     → now ≡ filter lives after → map shown_worker workers ≡ workers_after
     → world_of limits (record pools { workers = workers }) objects now kernels clients waits settings clock ≡ forget (record (world_of limits pools objects rows kernels clients waits settings clock) { callbacks = after; workers = workers_after })
 shows_along limits pools objects rows kernels clients waits settings clock workers now after workers_after ec ew =
@@ -142,7 +159,7 @@ free_after : (i : Inside) (number : ℕ) (row new : kept.WorkerRow) (target : Wo
     → After (record i { pools = record i.pools { workers = slice_set i.pools.workers (number - 1) new } }) (record (shown i).world { workers = slice_set (shown i).world.workers (number - 1) target })
 free_after i number row new target k is idle none home shows =
     record {
-      shows = shows_along i.limits i.pools i.objects i.callbacks.rows i.kernels.rows i.clients.items i.waits.waits i.timers.settings i.clock (slice_set i.pools.workers (number - 1) new) i.callbacks.rows i.callbacks.rows (slice_set (shown i).world.workers (number - 1) target)
+      shows = shows_along i.limits i.pools i.objects i.callbacks.rows i.kernels i.clients.items i.waits.waits i.timers.settings i.clock (slice_set i.pools.workers (number - 1) new) i.callbacks.rows i.callbacks.rows (slice_set (shown i).world.workers (number - 1) target)
           (sym k.alive.live) (set_shown i.pools.workers number new target shows);
       sized = sized_worker i.pools (number - 1) new home k.sized;
       alive = k.alive;
@@ -151,6 +168,7 @@ free_after i number row new target k is idle none home shows =
       pending = k.pending;
       timed = k.timed;
       kernels = k.kernels;
+      slotted = k.slotted;
       wanted = k.wanted;
       covered = k.covered;
       tallied = tallied_free i.callbacks.rows i.pools.workers (number - 1) row new is idle none k.tallied;
@@ -222,7 +240,7 @@ taken_by i l by c pools callbacks queues pending is k allowed pools_now rows_now
     (queues_now ∙ ap (λ (p : PoolId). with_queue i.queues p.0 (without_number c.number (queue_of i.queues p.0))) (sym a.home))
     refl pending_now refl
     (record {
-      shows = shows_along i.limits i.pools i.objects i.callbacks.rows i.kernels.rows i.clients.items i.waits.waits i.timers.settings i.clock (slice_set i.pools.workers (by.worker - 1) new) (replaced r i.callbacks.rows) (replaced r i.callbacks.rows) (slice_set (shown i).world.workers (by.worker - 1) target)
+      shows = shows_along i.limits i.pools i.objects i.callbacks.rows i.kernels i.clients.items i.waits.waits i.timers.settings i.clock (slice_set i.pools.workers (by.worker - 1) new) (replaced r i.callbacks.rows) (replaced r i.callbacks.rows) (slice_set (shown i).world.workers (by.worker - 1) target)
           (sym alive_now.live) (set_shown i.pools.workers by.worker new target shows);
       sized = sized_worker i.pools (by.worker - 1) new (same_home i.pools (by.worker - 1) b.row new b.at_place refl k.sized) k.sized;
       alive = alive_now;
@@ -230,6 +248,7 @@ taken_by i l by c pools callbacks queues pending is k allowed pools_now rows_now
       pending = listed_less r refl k.pending;
       timed = k.timed;
       kernels = k.kernels;
+      slotted = slots_replaced (taken c by.worker) k.slotted;
       wanted = k.wanted;
       covered = covered_replaced r c refl (sym (pending_tied c.object c.status a.pending)) a.found k.covered;
       queued = queued_less (i.made + 1) r c (omega (arith, home, k.sized.pools_within)) a.pending refl refl k.sound.numbers a.found k.queued;
@@ -297,7 +316,7 @@ marked_long i l by pools callbacks is k allowed pools_now rows_now =
     (pools_now ∙ worker_changed i.pools by.worker on.row (λ w. record w { long = true }) on.at_place on.from_one)
     rows_now refl refl refl refl
     (record {
-      shows = shows_along i.limits i.pools i.objects i.callbacks.rows i.kernels.rows i.clients.items i.waits.waits i.timers.settings i.clock (slice_set i.pools.workers (by.worker - 1) new) (replaced r i.callbacks.rows) (replaced r i.callbacks.rows) (shown i).world.workers
+      shows = shows_along i.limits i.pools i.objects i.callbacks.rows i.kernels i.clients.items i.waits.waits i.timers.settings i.clock (slice_set i.pools.workers (by.worker - 1) new) (replaced r i.callbacks.rows) (replaced r i.callbacks.rows) (shown i).world.workers
           (sym alive_now.live) (shows_same i.pools.workers (by.worker - 1) on.row new on.at_place refl);
       sized = sized_worker i.pools (by.worker - 1) new (same_home i.pools (by.worker - 1) on.row new on.at_place refl k.sized) k.sized;
       alive = alive_now;
@@ -305,6 +324,7 @@ marked_long i l by pools callbacks is k allowed pools_now rows_now =
       pending = listed_same (i.made + 1) r c refl refl refl k.sound.numbers a.runs.found k.pending;
       timed = k.timed;
       kernels = k.kernels;
+      slotted = slots_replaced r k.slotted;
       wanted = k.wanted;
       covered = covered_replaced r c refl refl a.runs.found k.covered;
       queued = queued_same (i.made + 1) r c on.waits_not on.waits_not k.sound.numbers a.runs.found k.queued;
@@ -344,7 +364,7 @@ ended_by i l by pools callbacks outstanding barriers is k running pools_now rows
     (pools_now ∙ worker_changed i.pools by.worker on.row (λ w. record w { callback = 0; long = false }) on.at_place on.from_one)
     rows_now refl listed_now refl left_now
     (record {
-      shows = shows_along i.limits i.pools i.objects i.callbacks.rows i.kernels.rows i.clients.items i.waits.waits i.timers.settings i.clock (slice_set i.pools.workers (by.worker - 1) new) others (replaced r i.callbacks.rows) (slice_set (shown i).world.workers (by.worker - 1) target)
+      shows = shows_along i.limits i.pools i.objects i.callbacks.rows i.kernels i.clients.items i.waits.waits i.timers.settings i.clock (slice_set i.pools.workers (by.worker - 1) new) others (replaced r i.callbacks.rows) (slice_set (shown i).world.workers (by.worker - 1) target)
           removed (set_shown i.pools.workers by.worker new target shows);
       sized = sized_worker i.pools (by.worker - 1) new (same_home i.pools (by.worker - 1) on.row new on.at_place refl k.sized) k.sized;
       alive = alive_less i.callbacks r refl k.alive;
@@ -352,6 +372,7 @@ ended_by i l by pools callbacks outstanding barriers is k running pools_now rows
       pending = subst (λ cs. AreListed i.limits waits cs i.pending) (sym removed) (listed_lives over_unpending (listed_same (i.made + 1) r c refl refl (sym on.waits_not) k.sound.numbers a.found k.pending));
       timed = k.timed;
       kernels = k.kernels;
+      slotted = slots_fewer (λ (x : CallbackRow). not (x.number == c.number)) k.slotted;
       wanted = k.wanted;
       covered = subst (λ cs. AreCovered i.limits cs i.waits.waits (left i.barriers c.number)) (sym removed)
           (covered_lives (i.made + 1) (rising_replaced r 1 (i.made + 1) i.callbacks.rows k.sound.numbers) (covered_less r c refl a.found k.covered));
@@ -387,6 +408,7 @@ queued_by i l c callbacks queues outstanding pending is k allowed rows_now queue
       pending = listed_more c a.pending k.pending;
       timed = k.timed;
       kernels = k.kernels;
+      slotted = slots_more c (slots_here (length i.kernels.armed) i.limits.slots k.alive.live (ltb-false i.limits.slots (length (filter lives i.callbacks.rows) + length i.kernels.armed + 1) a.room)) k.slotted;
       wanted = k.wanted;
       covered = covered_more (i.made + 1) c a.number k.sound.waits k.covered;
       alive = alive_now;
@@ -422,6 +444,7 @@ loosened_by i l by callbacks outstanding barriers is k allowed rows_now listed_n
       pending = listed_same (i.made + 1) r c refl refl (ap is_pending runs ∙ sym on.waits_not) k.sound.numbers a.runs.found k.pending;
       timed = k.timed;
       kernels = k.kernels;
+      slotted = slots_replaced r k.slotted;
       wanted = k.wanted;
       covered = covered_less r c untied a.runs.found k.covered;
     }))
@@ -450,6 +473,7 @@ asked_by i l by kind action callbacks is k allowed rows_now =
       pending = listed_same (i.made + 1) r c refl refl (ap is_pending runs ∙ sym on.waits_not) k.sound.numbers a.runs.found k.pending;
       timed = k.timed;
       kernels = k.kernels;
+      slotted = slots_replaced r k.slotted;
       wanted = k.wanted;
       covered = covered_replaced r c refl tied a.runs.found k.covered;
     }))
@@ -488,33 +512,9 @@ cancelled_by i l c callbacks queues outstanding pending barriers is k found pend
       pending = subst (λ cs. AreListed i.limits waits cs (unlisted i.pending c.number)) (sym removed) (listed_lives over_unpending (listed_less r refl k.pending));
       timed = k.timed;
       kernels = k.kernels;
+      slotted = slots_fewer (λ (x : CallbackRow). not (x.number == c.number)) k.slotted;
       wanted = k.wanted;
       covered = subst (λ cs. AreCovered i.limits cs i.waits.waits (left i.barriers c.number)) (sym removed)
           (covered_lives (i.made + 1) (rising_replaced r 1 (i.made + 1) i.callbacks.rows k.sound.numbers) (covered_less r c refl found_here k.covered));
     })) in
     record { keeps = b.keeps; becomes = b.becomes ∙ ap (λ (x : Live). became x (with_callback x.world r)) is }
-
--- ---- kernel objects change
-
--- one of them is at another state
-pub performed_by : (i : Inside) (l : Live) (kernels : Kernels) (rows : List KernelRow) → shown i ≡ l → IsLiveWorld i → kernels ≡ record i.kernels { rows = rows } → length rows ≡ length i.kernels.rows
-    → Becomes (record i { kernels = kernels }) (with_kernels l rows)
-performed_by i l kernels rows is k now long =
-    let w : World = (shown i).world in
-    let living : forget w ≡ w = ap (λ cs. record w { callbacks = cs }) k.alive.live in
-    let b = became_by (record i { kernels = kernels }) (record w { kernels = rows }) (sound_kernels (i.made + 1) w rows k.sound)
-    (subst (λ (x : Kernels). After (record i { kernels = x }) (record w { kernels = rows })) (sym now)
-    (record {
-      shows = sym (ap (λ (x : World). record x { kernels = rows }) living);
-      sized = k.sized;
-      alive = k.alive;
-      queued = k.queued;
-      tallied = k.tallied;
-      listed = k.listed;
-      pending = k.pending;
-      covered = k.covered;
-      timed = k.timed;
-      wanted = k.wanted;
-      kernels = record { kernel_limit = k.kernels.kernel_limit; kernels_within = omega (arith, long, k.kernels.kernels_within); unarmed = k.kernels.unarmed };
-    })) in
-    record { keeps = b.keeps; becomes = b.becomes ∙ ap (λ (x : World). record { world = record x { kernels = rows }; made = i.made }) living ∙ ap (λ (x : Live). with_kernels x rows) is }

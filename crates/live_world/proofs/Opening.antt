@@ -7,19 +7,17 @@ use Rattle.callback_rows.specs.LiveCallbacks.{LiveCallbacks}
 use Rattle.handle_table.specs.Table.{Table, Marked}
 use Rattle.timer_objects.specs.Settings.{Timers}
 use Rattle.kernel_events.specs.Kernels.{Kernels}
-use Rattle.tp_base.specs.declared.calls.Kind.TheVariants.{Timer}
 use Rattle.std.specs.Option.{option_map_or}
 use Rattle.prio_queue.specs.Pending.{Pending, Entry}
 use Rattle.pool_rows.specs.Pools.{Pools, made_pool}
 use Rattle.pool_rows.specs.Workers.{runs_in, runs_long_in, unattached as unattached_row}
 use Rattle.tp_model.specs.World.{World, BegunWait, opening, unattached, unfinished}
-use Rattle.tp_model.specs.Conditions.{is_same_kind}
 use Rattle.tp_model.specs.Support.Sound.{IsSound}
 use Rattle.tp_model.specs.Support.Remembered.{forget}
 use Rattle.tp_model.proofs.Preserving.{opening_sound}
 use Rattle.live_world.specs.declared.objects.Object.{Object}
-use Rattle.live_world.specs.Parts.{world_of, shown_worker, is_tied}
-use Rattle.live_world.specs.Invariant.{AreSized, AreLive, AreQueued, AreTallied, AreListed, AreCovered, AreTimed, AreKernels, AreWanted, IsHome, IsMarked, waits}
+use Rattle.live_world.specs.Parts.{world_of, shown_worker, is_tied, is_timed_kind}
+use Rattle.live_world.specs.Invariant.{AreSized, AreLive, AreQueued, AreTallied, AreListed, AreCovered, AreTimed, AreKernels, AreSlotted, AreWanted, IsHome, IsMarked, waits}
 use Rattle.live_world.specs.View.{shown}
 use Rattle.live_world.specs.declared.LiveWorld.TheInside.{Inside}
 use Rattle.live_world.proofs.Moving.{Becomes}
@@ -78,6 +76,7 @@ pub record IsOpened (i : Inside) : Type 0 where
   pub waits : i.waits.waits ≡ []
   pub wanted : i.wanted.items ≡ replicate (i.limits.clients + i.limits.workers) None
   pub kernels : i.kernels ≡ opened_kernels i.limits
+  pub armed : i.armed ≡ 0
   pub made : i.made ≡ 0
 
 both : {A B : Type 0} (P : A → B → Type 0) {a a' : A} {b b' : B} → a ≡ a' → b ≡ b' → P a' b' → P a b
@@ -123,7 +122,7 @@ timed_opened limits =
     record {
       timer_limit = refl;
       places = length_replicate false (limits.objects + 1);
-      there = λ number. get_replicate false (limits.objects + 1) number ∙ elim (number == 0) as (λ b. false ≡ option_map_or (λ (m : Marked Object). not m.released && is_same_kind m.row.kind Timer) (cond b None (slice_get [] (number - 1))) false) [ true ↦ refl | false ↦ refl ];
+      there = λ number. get_replicate false (limits.objects + 1) number ∙ elim (number == 0) as (λ b. false ≡ option_map_or (λ (m : Marked Object). not m.released && is_timed_kind m.row.kind) (cond b None (slice_get [] (number - 1))) false) [ true ↦ refl | false ↦ refl ];
     }
 
 covered_opened : (limits : Limits) → AreCovered limits [] [] (opened_barriers limits)
@@ -149,11 +148,11 @@ opened i o =
     let shown_workers : map shown_worker (replicate limits.workers unattached_row) ≡ replicate limits.workers unattached = map_replicate shown_worker unattached_row limits.workers in
     let rows : i.callbacks.rows ≡ [] = ap (λ (c : LiveCallbacks). c.rows) o.callbacks in
     let world_now : (shown i).world ≡ opening limits =
-    ap₂ (λ (p : Pools) (t : Table Object). world_of limits p t i.callbacks.rows i.kernels.rows i.clients.items i.waits.waits i.timers.settings i.clock) o.pools o.objects
-    ∙ ap₂ (λ (cs : List CallbackRow) (cl : List ClientRow). world_of limits (opened_pools limits) (opened_objects limits) cs i.kernels.rows cl i.waits.waits i.timers.settings i.clock) rows o.clients
-    ∙ ap₂ (λ (bs : List BegunWait) (ws : List WorkerRow). record (opening limits) { kernels = i.kernels.rows; waits = bs; workers = ws; settings = i.timers.settings; now = i.clock }) o.waits shown_workers
-    ∙ ap₂ (λ (t : Timers) (n : ℕ). record (opening limits) { kernels = i.kernels.rows; settings = t.settings; now = n }) o.timers o.clock
-    ∙ ap (λ (t : Kernels). record (opening limits) { kernels = t.rows }) o.kernels in
+    ap₂ (λ (p : Pools) (t : Table Object). world_of limits p t i.callbacks.rows i.kernels i.clients.items i.waits.waits i.timers.settings i.clock) o.pools o.objects
+    ∙ ap₂ (λ (cs : List CallbackRow) (cl : List ClientRow). world_of limits (opened_pools limits) (opened_objects limits) cs i.kernels cl i.waits.waits i.timers.settings i.clock) rows o.clients
+    ∙ ap₂ (λ (bs : List BegunWait) (ws : List WorkerRow). record (opening limits) { kernels = i.kernels.rows; armings = i.kernels.armed; waits = bs; workers = ws; settings = i.timers.settings; now = i.clock }) o.waits shown_workers
+    ∙ ap₂ (λ (t : Timers) (n : ℕ). record (opening limits) { kernels = i.kernels.rows; armings = i.kernels.armed; settings = t.settings; now = n }) o.timers o.clock
+    ∙ ap (λ (t : Kernels). record (opening limits) { kernels = t.rows; armings = t.armed }) o.kernels in
     record {
       keeps = record {
         sized = both (λ p t. AreSized limits p t i.clients.items) o.pools o.objects (subst (λ cl. AreSized limits (opened_pools limits) (opened_objects limits) cl) (sym o.clients) (sized_opened limits o.in_range));
@@ -164,7 +163,8 @@ opened i o =
         pending = both (λ cs k. AreListed limits waits cs k) rows o.pending (listed_opened limits waits);
         timed = subst (λ n. AreTimed limits i.objects n) (sym o.timers) (subst (λ t. AreTimed limits t (opened_timers limits)) (sym o.objects) (timed_opened limits));
         covered = both (λ cs b. AreCovered limits cs i.waits.waits b) rows o.barriers (subst (λ bs. AreCovered limits [] bs (opened_barriers limits)) (sym o.waits) (covered_opened limits));
-        kernels = subst (λ (t : Kernels). AreKernels limits t) (sym o.kernels) (record { kernel_limit = refl; kernels_within = omega arith; unarmed = refl });
+        kernels = subst (λ (t : Kernels). AreKernels limits t) (sym o.kernels) (record { kernel_limit = refl; kernels_within = omega arith; armed_limit = refl; once = tt });
+        slotted = both (λ cs n. AreSlotted limits cs i.kernels n) rows o.armed (subst (λ (t : Kernels). AreSlotted limits [] t 0) (sym o.kernels) (record { counted = refl; slots = omega arith }));
         wanted = both (λ bs ks. AreWanted limits bs ks) o.waits o.wanted (wanted_opened limits);
         sound = both (λ w n. IsSound (n + 1) w) world_now o.made (opening_sound limits);
       };

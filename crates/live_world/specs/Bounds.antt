@@ -1,5 +1,5 @@
 -- What bounds the numbers of a live world.
-use Rattle.std.specs.Prelude.{ℕ, ◌≤◌, length}
+use Rattle.std.specs.Prelude.{ℕ, ◌+◌, ◌≤◌, length}
 use Rattle.tp_base.specs.Ranges.{AreLimitsInRange}
 use Rattle.tp_model.specs.World.{World}
 use Rattle.tp_model.specs.Counts.{running}
@@ -8,5 +8,6 @@ pub record IsBounded (w : World) : Type 0 where
   pub limits : AreLimitsInRange w.limits
   pub pools_least : 1 ≤ length w.pools
   pub pools_most : length w.pools ≤ w.limits.pools
-  pub slots_most : length w.callbacks ≤ w.limits.slots
+  -- a callback has a slot, and so has an armed wait
+  pub slots_most : length w.callbacks + length w.armings ≤ w.limits.slots
   pub running_most : (pool : ℕ) → running w pool ≤ 65535

@@ -1,6 +1,6 @@
 -- What the parts of a live world keep between calls: each index and each counter says of the rows what it is for. Each
 -- record speaks of the parts that it ties and of no others.
-use Rattle.std.specs.Prelude.{◌≡◌, ◌≢◌, ℕ, ◌+◌, ◌<◌, ◌≤◌, Bool, true, ◌||◌, List, [], length, map, get_or, Option, None, Some, IfSome, is_some, option_map}
+use Rattle.std.specs.Prelude.{◌≡◌, ◌≢◌, ℕ, ◌+◌, ◌<◌, ◌≤◌, Bool, true, false, ◌||◌, List, [], ◌∷◌, length, map, get_or, Option, None, Some, IfSome, is_some, option_map}
 use Rattle.std.specs.List.{filter, find, AllByRecursion}
 use Rattle.tp_base.specs.declared.ids.Who.{Who}
 use Rattle.tp_base.specs.declared.ids.PoolId.{PoolId}
@@ -8,6 +8,8 @@ use Rattle.tp_base.specs.declared.ids.KernelId.{KernelId}
 use Rattle.tp_base.specs.declared.limits.Limits.{Limits}
 use Rattle.tp_base.specs.declared.rows.ClientRow.{ClientRow}
 use Rattle.tp_base.specs.declared.rows.CallbackRow.{CallbackRow}
+use Rattle.tp_base.specs.declared.rows.Arming.{Arming}
+use Rattle.tp_base.specs.Armings.{is_armed}
 use Rattle.tp_base.specs.Ranges.{AreLimitsInRange}
 use Rattle.callback_rows.specs.LiveCallbacks.{LiveCallbacks}
 use Rattle.handle_table.specs.Table.{Table}
@@ -23,7 +25,7 @@ use Rattle.tp_model.specs.Counts.{has_number, is_pending, is_running, is_running
 use Rattle.tp_model.specs.World.{BegunWait}
 use Rattle.tp_model.specs.Support.Allowed.{IsTarget}
 use Rattle.tp_model.specs.Support.Remembered.{lives}
-use Rattle.live_world.specs.Parts.{entry_of, queue_among, tied_entry, held_among, wait_among, wanted_by, place_of, is_timer}
+use Rattle.live_world.specs.Parts.{entry_of, queue_among, tied_entry, held_among, wait_among, wanted_by, place_of, is_timed}
 use Rattle.live_world.specs.declared.objects.Object.{Object}
 
 abbrev pub waits : CallbackRow → Bool
@@ -92,17 +94,28 @@ pub record AreCovered (limits : Limits) (callbacks : List CallbackRow) (waits : 
   pub covered : (who : Who) (place : ℕ) → place_of limits who ≡ Some place → wait_of barriers place ≡ option_map (held_among callbacks) (wait_among waits who)
   pub waits_kept : AllByRecursion (IsWaitKept limits) waits
 
--- the timers that are there are the objects that are timers and aren't released
+-- what may have a setting are the timers and the wait objects that aren't released
 pub record AreTimed (limits : Limits) (objects : Table Object) (timers : Timers) : Type 0 where
   pub timer_limit : timers.limit ≡ limits.objects
   pub places : length timers.there ≡ timers.limit + 1
-  pub there : (number : ℕ) → is_there timers number ≡ is_timer objects number
+  pub there : (number : ℕ) → is_there timers number ≡ is_timed objects number
 
--- there are as many kernel objects as the limits say, or fewer, and no call arms a wait object on one yet
+-- no object is armed twice
+abbrev pub AreOnce : List Arming → Type 0
+AreOnce [] = Unit {0}
+AreOnce (a ∷ armings) = (is_armed a.object.0 armings ≡ false) × AreOnce armings
+
+-- there are as many kernel objects as the limits say, or fewer, and each object may be armed on one
 pub record AreKernels (limits : Limits) (kernels : Kernels) : Type 0 where
   pub kernel_limit : kernels.limit ≡ limits.kernels
   pub kernels_within : length kernels.rows ≤ limits.kernels
-  pub unarmed : kernels.armed ≡ []
+  pub armed_limit : kernels.objects ≡ limits.objects
+  pub once : AreOnce kernels.armed
+
+-- the armed waits are counted, and there is a slot for each callback and each armed wait
+pub record AreSlotted (limits : Limits) (callbacks : List CallbackRow) (kernels : Kernels) (armed : ℕ) : Type 0 where
+  pub counted : armed ≡ length kernels.armed
+  pub slots : length callbacks + length kernels.armed ≤ limits.slots
 
 -- it is noted of each actor for which kernel object it waits, if it waits for one
 pub record AreWanted (limits : Limits) (waits : List BegunWait) (wanted : List (Option KernelId)) : Type 0 where

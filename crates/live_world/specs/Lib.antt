@@ -1,5 +1,6 @@
 pub mod Actors
 pub mod Bounds
+pub mod Firing
 pub mod Invariant
 pub mod Live
 pub mod Parts

@@ -1,5 +1,5 @@
 -- The world that the parts of an engine show.
-use Rattle.std.specs.Prelude.{ℕ, ◌+◌, ◌-◌, ◌==◌, ◌&&◌, Bool, false, not, nat_le, List, [], ◌++◌, map, if◌then◌else◌, Option, None, Some}
+use Rattle.std.specs.Prelude.{ℕ, ◌+◌, ◌-◌, ◌==◌, ◌&&◌, ◌||◌, Bool, false, not, nat_le, List, [], ◌++◌, map, if◌then◌else◌, Option, None, Some}
 use Rattle.std.specs.List.{filter, find}
 use Rattle.std.specs.Option.{option_map_or}
 use Rattle.tp_base.specs.declared.ids.Who.{Who}
@@ -16,10 +16,11 @@ use Rattle.tp_base.specs.declared.rows.WorkerRow.{WorkerRow}
 use Rattle.tp_base.specs.declared.rows.ClientRow.{ClientRow}
 use Rattle.tp_base.specs.declared.rows.CallbackRow.{CallbackRow}
 use Rattle.tp_base.specs.declared.rows.TimerSetting.{TimerSetting}
-use Rattle.tp_base.specs.declared.rows.KernelRow.{KernelRow}
-use Rattle.tp_base.specs.declared.calls.Kind.TheVariants.{Timer}
+use Rattle.tp_base.specs.declared.calls.Kind.{Kind}
+use Rattle.tp_base.specs.declared.calls.Kind.TheVariants.{Timer, Wait}
 use Rattle.handle_table.specs.Table.{Table, Marked, numbered as numbered_row}
 use Rattle.prio_queue.specs.Pending.{Entry, entry}
+use Rattle.kernel_events.specs.Kernels.{Kernels}
 use Rattle.pool_rows.specs.Pools.{Pools}
 use Rattle.pool_rows.specs.declared.WorkerRow as kept
 use Rattle.tp_model.specs.World.{World, BegunWait}
@@ -46,16 +47,16 @@ abbrev pub entry_of : CallbackRow → Entry
 entry_of c = entry (priority_byte c.priority) c.number
 
 -- what there are no calls for yet is empty
-abbrev pub world_of : Limits → Pools → Table made.Object → List CallbackRow → List KernelRow → List ClientRow → List BegunWait → List TimerSetting → ℕ → World
+abbrev pub world_of : Limits → Pools → Table made.Object → List CallbackRow → Kernels → List ClientRow → List BegunWait → List TimerSetting → ℕ → World
 world_of limits pools objects callbacks kernels clients waits settings now = record {
   limits = limits;
   pools = pools.pools;
   groups = [];
   objects = map shown_object objects.rows;
   callbacks = callbacks;
-  kernels = kernels;
+  kernels = kernels.rows;
   settings = settings;
-  armings = [];
+  armings = kernels.armed;
   workers = map shown_worker pools.workers;
   clients = clients;
   waits = waits;
@@ -63,9 +64,13 @@ world_of limits pools objects callbacks kernels clients waits settings now = rec
   given_up = 0;
 }
 
--- the object of this number is a timer that isn't released
-abbrev pub is_timer : Table made.Object → ℕ → Bool
-is_timer objects number = option_map_or (λ (m : Marked made.Object). not m.released && is_same_kind m.row.kind Timer) (numbered_row objects number) false
+-- an object of this kind may have a setting: a timer has its own, and an armed wait its timeout
+abbrev pub is_timed_kind : Kind → Bool
+is_timed_kind kind = is_same_kind kind Timer || is_same_kind kind Wait
+
+-- the object of this number is a timer or a wait object that isn't released
+abbrev pub is_timed : Table made.Object → ℕ → Bool
+is_timed objects number = option_map_or (λ (m : Marked made.Object). not m.released && is_timed_kind m.row.kind) (numbered_row objects number) false
 
 -- the queue of a pool, of the callbacks alone
 abbrev pub waiting_among : List CallbackRow → ℕ → (Priority → Bool) → List CallbackRow

@@ -2,13 +2,13 @@
 use Rattle.std.specs.Prelude.{◌+◌}
 use Rattle.tp_model.specs.Support.Sound.{IsSound}
 use Rattle.live_world.specs.Live.{Live}
-use Rattle.live_world.specs.Invariant.{AreSized, AreLive, AreQueued, AreTallied, AreListed, AreCovered, AreTimed, AreKernels, AreWanted, waits}
+use Rattle.live_world.specs.Invariant.{AreSized, AreLive, AreQueued, AreTallied, AreListed, AreCovered, AreTimed, AreKernels, AreSlotted, AreWanted, waits}
 use Rattle.live_world.specs.Parts.{world_of, is_tied}
 use Rattle.live_world.specs.declared.LiveWorld.TheInside.{Inside}
 
 abbrev pub shown : Inside → Live
 shown a = record {
-  world = world_of a.limits a.pools a.objects a.callbacks.rows a.kernels.rows a.clients.items a.waits.waits a.timers.settings a.clock;
+  world = world_of a.limits a.pools a.objects a.callbacks.rows a.kernels a.clients.items a.waits.waits a.timers.settings a.clock;
   made = a.made;
 }
 
@@ -22,5 +22,6 @@ pub record IsLiveWorld (a : Inside) : Type 0 where
   pub covered : AreCovered a.limits a.callbacks.rows a.waits.waits a.barriers
   pub timed : AreTimed a.limits a.objects a.timers
   pub kernels : AreKernels a.limits a.kernels
+  pub slotted : AreSlotted a.limits a.callbacks.rows a.kernels a.armed
   pub wanted : AreWanted a.limits a.waits.waits a.wanted.items
   pub sound : IsSound (a.made + 1) (shown a).world

@@ -51,10 +51,12 @@ impl LiveWorld {
         self.made + 1
     }
 
-    /// Whether there is no place for so many more callbacks.
+    /// Whether there is no slot for so many more callbacks: each callback has one, and so has each
+    /// armed wait.
     pub fn lacks_slots(&self, count: u32) -> bool
         ensures { result ≡ lacks_slots_for self.now.world count }
     {
-        self.limits.slots - self.callbacks.len() < count
+        self.is_reachable();
+        self.limits.slots - self.callbacks.len() - self.armed < count
     }
 }

@@ -1,27 +1,27 @@
 //! The changes of a live world: here alone its parts change, so that what each index and counter is
 //! for stays true.
 
-ghost use Rattle.std.specs.Prelude.{◌≡◌, ◌+◌, ◌^◌, ◌<◌, ◌≤◌, [], filter, true, Some};
+ghost use Rattle.std.specs.Prelude.{◌≡◌, ◌+◌, ◌^◌, ◌<◌, ◌≤◌, [], filter, length, true, Some};
 ghost use Rattle.tp_model.specs.Counts.{callback_of, is_pending as is_pending_by};
 ghost use Rattle.tp_base.specs.Actions.{change_asked as change_asked_by, filled as filled_by};
-ghost use Rattle.tp_base.specs.Kernels.{state_after};
-ghost use Rattle.tp_model.specs.Kernels.{is_kernel_that, kernel_changed};
-ghost use Rattle.tp_model.specs.Actions.{asking as asking_by, perform};
+ghost use Rattle.tp_base.specs.declared.ids.Who.TheVariants.{Worker};
+ghost use Rattle.tp_model.specs.Kernels.{is_kernel_that};
+ghost use Rattle.tp_model.specs.Actions.{act, asking as asking_by, perform, returning, slots_of as slots_of_status, words_of};
 ghost use Rattle.tp_model.specs.Changes.{with_callback, without_run, loosened as loosened_by, begin_wait};
 ghost use Rattle.tp_model.specs.Waits.{cancelled, is_cancelled_by};
 ghost use Rattle.tp_model.specs.Support.Allowed.{IsAllowed, MayBegin, Runs};
 ghost use Rattle.tp_model.specs.Support.Ranged.{AreTakenAtMost};
 ghost use Rattle.live_world.specs.Parts.{priority_byte as priority_byte_of};
-ghost use Rattle.live_world.specs.Live.{moved, became, with_kernels, without_pending, settled};
-ghost use Rattle.live_world.specs.Performing.{MayPerform, fits};
+ghost use Rattle.live_world.specs.Live.{moved, became, fired_to, unfired, without_pending, settled};
+ghost use Rattle.live_world.specs.Performing.{MayPerform, suits_state};
 
 use crate::LiveWorld;
 use crate::begun::Begins;
 use crate::kernels::{end_acquire, slots_of};
-use crate::objects::{Object, is_same_kind};
+use crate::objects::{Object, is_timed_kind};
 use crate::waiting::begin_covering;
 use tp_base::answers::{ActionKind, SlotWord};
-use tp_base::calls::{Kind, Priority};
+use tp_base::calls::Priority;
 use tp_base::ids::{KernelId, ObjectId, PoolId, Who};
 use tp_base::plans::{ActionWords, Busy, Change, Idle, KernelChange, Mark, PoolChange, WaitEnd};
 use tp_base::rows::{
@@ -136,7 +136,7 @@ impl LiveWorld {
             Change::Detach(by) => self.detach(by),
             Change::Take { by, callback } => self.take(by, callback),
             Change::Mark { by, mark } => self.mark(by, mark),
-            Change::Return { by, words } => self.return_callback(by, words),
+            Change::Return { by, words, .. } => self.return_callback(by, words),
             Change::BeginWait {
                 who,
                 target,
@@ -184,18 +184,22 @@ impl LiveWorld {
         let Ok(number) = self.objects.add(object) else {
             unreachable!()
         };
-        if is_same_kind(row.kind, Kind::Timer) {
+        if is_timed_kind(row.kind) {
             self.timers.create(ObjectId(number));
         }
     }
 
-    // Releases an object. What is outstanding for it is left as it is, and a timer is unset.
+    // Releases an object. What is outstanding for it is left as it is; a timer is unset, and a wait
+    // disarmed.
     fn release_object(&mut self, object: ObjectId)
         requires { IsAllowed (self.old.made + 1) self.old.world (Change.ReleaseObject object) }
         ensures { self.new ≡ moved self.old (Change.ReleaseObject object) }
     {
         let _was_live = self.objects.release(object.0);
-        let _was_timer = self.timers.close(object);
+        let _was_timed = self.timers.close(object);
+        if self.kernels.disarm(object) {
+            self.armed -= 1;
+        }
     }
 
     // Makes a callback that waits for a worker.
@@ -318,31 +322,42 @@ impl LiveWorld {
         let _was_there = self.callbacks.replace(asking);
     }
 
-    // Does what an action on return asks for.
+    // Does what an action on return asks for. What it signals releases waits.
     fn act(&mut self, kind: ActionKind, action: Action)
-        requires { is_kernel_that (fits kind action.count) self.old.world action.kernel.0 ≡ true }
-        ensures { self.new ≡ with_kernels self.old (kernel_changed (state_after (change_asked_by kind action.count)) self.old.world.kernels action.kernel.0) }
+        requires suits { is_kernel_that (suits_state (change_asked_by kind action.count)) self.old.world action.kernel.0 ≡ true }
+        requires young { self.old.made + length self.old.world.armings ≤ 2 ^ 63 }
+        ensures { self.new ≡ fired_to self.old (act kind action (unfired self.old)) }
     {
-        self.kernels
-            .change(action.kernel, change_asked(kind, action.count));
+        self.is_reachable();
+        let how = change_asked(kind, action.count);
+        match kind {
+            ActionKind::Section | ActionKind::Mutex => self.change_state(action.kernel, how),
+            ActionKind::Semaphore | ActionKind::Event => self.signal(action.kernel, how),
+        }
     }
 
     // Performs an action on return, if its word says so.
     fn perform(&mut self, kind: ActionKind, word: SlotWord, action: Option<Action>)
-        requires { MayPerform self.old.world kind word action }
-        ensures { self.new ≡ with_kernels self.old (perform kind word action self.old.world.kernels) }
+        requires may { MayPerform self.old.world kind word action }
+        requires young { self.old.made + length self.old.world.armings ≤ 2 ^ 63 }
+        ensures { self.new ≡ fired_to self.old (perform kind word action (unfired self.old)) }
     {
+        self.is_reachable();
         match (word, action) {
             (SlotWord::Performed, Some(action)) => self.act(kind, action),
             _ => {}
         }
     }
 
-    // A worker's callback returns: the actions that it asked for are performed as their words say.
+    // A worker's callback returns: the actions that it asked for are performed as their words say, and
+    // the waits that they release make callbacks.
     fn return_callback(&mut self, by: Busy, words: ActionWords)
-        requires { IsAllowed (self.old.made + 1) self.old.world (Change.Return by words) }
-        ensures { self.new ≡ moved self.old (Change.Return by words) }
+        requires runs { Runs self.old.world by }
+        requires told { words ≡ words_of self.old.world (Worker by.worker) (slots_of_status by.callback.status) }
+        requires young { self.old.made + 65536 ≤ 2 ^ 63 }
+        ensures { self.new ≡ fired_to (became self.old (without_run self.old.world by)) (returning self.old.world words (slots_of_status by.callback.status)) }
     {
+        self.is_reachable();
         self.end_callback(by);
         let slots = slots_of(by.callback.status);
         self.perform(ActionKind::Section, words.section, slots.section);

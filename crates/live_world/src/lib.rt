@@ -65,9 +65,12 @@ pub struct LiveWorld {
     // Of each actor, where its barrier stands, the kernel object that its wait is for.
     wanted: Vec<Option<KernelId>>,
     clients: Vec<ClientRow>,
-    // The timers, and those that are set.
+    // The timers and the wait objects, with what is set: for a wait the timeout of its arming.
     timers: TimerObjects,
+    // The kernel objects, and the waits that are armed on them.
     kernels: KernelTable,
+    // How many waits are armed.
+    armed: u32,
     clock: u64,
     made: u64,
 }
@@ -118,6 +121,7 @@ impl LiveWorld {
             clients,
             timers,
             kernels,
+            armed: 0,
             clock: 0,
             made: 0,
         })

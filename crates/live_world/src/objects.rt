@@ -2,7 +2,7 @@
 
 ghost use Rattle.std.specs.Prelude.{◌≡◌, ◌+◌, ◌==◌, nat_le, length, option_map};
 ghost use Rattle.handle_table.specs.Found.{found_row as found_row_of};
-ghost use Rattle.live_world.specs.Parts.{shown_object};
+ghost use Rattle.live_world.specs.Parts.{is_timed_kind as is_timed_kind_of, shown_object};
 ghost use Rattle.tp_model.specs.Counts.{numbered};
 ghost use Rattle.tp_model.specs.Conditions.{is_object, is_released, is_same_kind as is_same_kind_of, is_object_of, is_no_group_or_group, is_closed_group};
 
@@ -53,6 +53,13 @@ pub(crate) fn is_same_kind(first: Kind, second: Kind) -> bool
             | (Kind::Wait, Kind::Wait)
             | (Kind::Io, Kind::Io)
     )
+}
+
+// A timer or a wait object.
+pub(crate) fn is_timed_kind(kind: Kind) -> bool
+    ensures { result ≡ is_timed_kind_of kind }
+{
+    matches!(kind, Kind::Timer | Kind::Wait)
 }
 
 impl LiveWorld {

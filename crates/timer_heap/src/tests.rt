@@ -17,6 +17,10 @@ fn keys_come_due_in_order(rt: HostRuntime) -> Result<(), Fail> {
         (heap.count_due(49), heap.count_due(50), heap.count_due(70)),
         (0, 2, 3)
     );
+    assert_eq!(rt;
+        (heap.nth(0), heap.nth(1), heap.nth(2), heap.nth(3)),
+        (Some(0), Some(1), Some(2), None)
+    );
     assert_eq!(rt; heap.pop_due(49), None);
     assert_eq!(rt; heap.pop_due(60), Some((50, 0)));
     assert_eq!(rt; heap.pop_due(60), Some((50, 1)));

@@ -1,12 +1,13 @@
 //! The timer objects of a machine, seen as a list that tells of each number whether there is such an
 //! object, and the list of the settings of those timers that are set, in the order in which they
-//! expire: by due time, and at the same due time by object number.
+//! expire: by due time, and at the same due time by object number. The timeout of an armed wait is a
+//! setting too, of a wait object that is entered here; it has no period.
 //!
 //! `open` takes the memory for all objects, and no other call takes any. `create` enters an object
-//! and `close` strikes it out; `set` does what SetThreadpoolTimer does to the settings; `expire` lets
-//! the first timer expire, if it is due; `is_set`, `count_due` and `len` read. What the numbers mean
-//! is defined in tp_base (`specs/Timers`): times are in units of 100 ns since the clock began, periods
-//! and windows in milliseconds.
+//! and `close` strikes it out; `set` does what SetThreadpoolTimer does to the settings, and `unset` ends
+//! one; `expire` lets the first timer expire, if it is due; `is_set`, `nth`, `count_due` and `len` read.
+//! What the numbers mean is defined in tp_base (`specs/Timers`): times are in units of 100 ns since the
+//! clock began, periods and windows in milliseconds.
 //!
 //! ```text
 //! let mut timers = TimerObjects::open(alloc, 2)?;
@@ -15,13 +16,14 @@
 //! timers.set(ObjectId(1), 100, Some(150), 0, 0);      // once, at 150
 //! timers.set(ObjectId(2), 100, Some(-30), 1, 0);      // at 130, and from then on each 10,000 units
 //! timers.count_due(200)       // 2
+//! timers.nth(0)               // Some(ObjectId(2)): the first to expire
 //! timers.expire(200)          // Some((130, ObjectId(2))): it is set anew, to 10,130
 //! timers.expire(200)          // Some((150, ObjectId(1))): it is no longer set
 //! timers.expire(200)          // None
 //! ```
 //!
-//! What a call costs: `create` and `is_set` look at one object, `expire` where nothing is due at one
-//! setting. `set` and `close` find the place of a setting by halving, and so does `expire` where a
+//! What a call costs: `create` and `is_set` look at one object, `nth`, and `expire` where nothing is
+//! due, at one setting. `set`, `unset` and `close` find the place of a setting by halving, and so does `expire` where a
 //! timer is set anew; the settings before it move then or those behind it, whichever are fewer.
 //! `count_due` finds by halving where those that are due end.
 
@@ -29,7 +31,7 @@
 
 ghost use Rattle.std.specs.Prelude.{◌≡◌, ◌+◌, ◌<◌, ◌≤◌, All, IfOk, [], ◌∷◌, MatchOption, IfNone, length, map, replicate, slice_set, true, false};
 ghost use Rattle.tp_base.specs.Timers.{after_expiry, clock_end, expired, expires_at_once, is_due, set_or_expire, set_timer, without_setting};
-ghost use Rattle.timer_objects.specs.Settings.{HasDistinctObjects, IsInOrder, after_first, first_expired, is_set, is_there, told};
+ghost use Rattle.timer_objects.specs.Settings.{HasDistinctObjects, IsInOrder, after_first, first_expired, is_set, is_there, object_at, told};
 
 mod moments;
 
@@ -184,8 +186,8 @@ impl TimerObjects {
         TimerSet { was, fires }
     }
 
-    // Ends the setting of a timer, if it has one, and says whether it had.
-    fn unset(&mut self, object: ObjectId) -> bool
+    /// Ends the setting of an object that is there, if it has one, and says whether it had.
+    pub fn unset(&mut self, object: ObjectId) -> bool
         requires { is_there self.old object.0 ≡ true }
         ensures least { 1 ≤ object.0 }
         ensures was { result ≡ is_set object.0 self.old.settings }
@@ -225,6 +227,15 @@ impl TimerObjects {
         ensures { result ≡ is_set object.0 self.now.settings }
     {
         object.0 > 0 && self.dues.due_of(key_of(object)).is_some()
+    }
+
+    /// The object of the setting at this place in the order in which they expire, counted from 0, or
+    /// None behind the last.
+    pub fn nth(&self, place: u32) -> Option<ObjectId>
+        ensures { result ≡ object_at place self.now.settings }
+    {
+        let key = self.dues.nth(place)?;
+        Some(ObjectId(key + 1))
     }
 
     /// How many timers are due at the moment `now`: their due times aren't above it.

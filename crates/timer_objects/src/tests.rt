@@ -31,6 +31,16 @@ fn timers_expire_in_order(rt: HostRuntime) -> Result<(), Fail> {
         ),
         (0, 2, 3)
     );
+    assert_eq!(rt;
+        (
+            timers.nth(0),
+            timers.nth(1),
+            timers.nth(2),
+            timers.nth(3),
+            timers.nth(4)
+        ),
+        (Some(b), Some(d), Some(a), Some(c), None)
+    );
     assert_eq!(rt; timers.expire(129), None);
     assert_eq!(rt; timers.expire(160), Some((130, b)));
     assert_eq!(rt; timers.expire(160), Some((130, d)));
@@ -60,6 +70,9 @@ fn a_timer_has_one_setting(rt: HostRuntime) -> Result<(), Fail> {
     timers.set(timer, 0, Some(70), 3, 0);
     let set = timers.set(timer, 0, Some(90), 0, 0);
     assert_eq!(rt; (set.was, set.fires, timers.len()), (true, false, 1));
+    assert_eq!(rt; (timers.unset(timer), timers.unset(timer)), (true, false));
+    assert_eq!(rt; (timers.is_there(timer), timers.len()), (true, 0));
+    timers.set(timer, 0, Some(90), 0, 0);
     assert_eq!(rt; timers.expire(80), None);
     let set = timers.set(timer, 80, None, 4, 4);
     assert_eq!(rt;

@@ -49,11 +49,29 @@ may_take who (Semaphore count maximum) = nat_lt 0 count
 may_take who (Mutex owner takings) = option_map_or (λ actor. is_same_actor actor who) owner true
 may_take who (Section owner takings) = option_map_or (λ actor. is_same_actor actor who) owner true
 
+-- an event or a semaphore: what a wait object can be armed on
+abbrev pub is_waitable : KernelState → Bool
+is_waitable (Event manual signalled) = true
+is_waitable (Semaphore count maximum) = true
+is_waitable _ = false
+
+-- an event or a semaphore that whoever waits for it may take
+abbrev pub is_signalled : KernelState → Bool
+is_signalled (Event manual signalled) = signalled
+is_signalled (Semaphore count maximum) = nat_lt 0 count
+is_signalled _ = false
+
+-- such a one once it is taken, whoever takes it
+abbrev pub taken : KernelState → KernelState
+taken (Event manual signalled) = Event manual (manual && signalled)
+taken (Semaphore count maximum) = Semaphore (count - 1) maximum
+taken state = state
+
 -- an event that is taken is reset unless it is a manual one, a semaphore's count falls by one, and a lock is the actor's
 -- once more
 abbrev pub taken_by : Who → KernelState → KernelState
-taken_by who (Event manual signalled) = Event manual (manual && signalled)
-taken_by who (Semaphore count maximum) = Semaphore (count - 1) maximum
+taken_by who (Event manual signalled) = taken (Event manual signalled)
+taken_by who (Semaphore count maximum) = taken (Semaphore count maximum)
 taken_by who (Mutex owner takings) = Mutex (Some who) (takings + 1)
 taken_by who (Section owner takings) = Section (Some who) (takings + 1)
 

@@ -2,8 +2,9 @@
 use Rattle.std.specs.Prelude.{◌≡◌, ℕ, ℤ, ◌<◌, ◌≤◌, ◌^◌, Option, None, Some, FitsSigned}
 use Rattle.std.specs.Int.{w64}
 use Rattle.tp_base.specs.declared.limits.Limits.{Limits}
+use Rattle.tp_base.specs.declared.ids.KernelId.{KernelId}
 use Rattle.tp_base.specs.declared.calls.Call.{Call}
-use Rattle.tp_base.specs.declared.calls.Call.TheVariants.{ClosePool, SetMaximum, SetMinimum, Create, CloseObject, SubmitSimple, SubmitWork, SetTimer, SetTimerEx, IsTimerSet, Advance, BeginWait, BeginAcquire, CreateSemaphore, SetEvent, ResetEvent, ReleaseSemaphore, ReleaseLock, OnReturn}
+use Rattle.tp_base.specs.declared.calls.Call.TheVariants.{ClosePool, SetMaximum, SetMinimum, Create, CloseObject, SubmitSimple, SubmitWork, SetTimer, SetTimerEx, IsTimerSet, Advance, BeginWait, BeginAcquire, CreateSemaphore, SetEvent, ResetEvent, ReleaseSemaphore, ReleaseLock, OnReturn, SetWait}
 use Rattle.tp_base.specs.declared.calls.Environ.{Environ}
 use Rattle.tp_base.specs.declared.answers.Answer.{Answer}
 use Rattle.tp_base.specs.declared.answers.Answer.TheVariants as answer
@@ -50,6 +51,11 @@ IsDueInRange (Some due) = FitsSigned w64 due
 abbrev pub IsSettingInRange : Option ℤ → ℕ → ℕ → Type 0
 IsSettingInRange due period window = IsDueInRange due × (period < 2 ^ 32) × (window < 2 ^ 32)
 
+-- a number of a kernel object, if there is one
+abbrev pub IsNamedInRange : Option KernelId → Type 0
+IsNamedInRange None = Unit {0}
+IsNamedInRange (Some kernel) = kernel.0 ≤ 65535
+
 -- the greatest count of a semaphore
 abbrev pub count_most : ℕ
 count_most = 2147483647
@@ -64,6 +70,7 @@ IsCallInRange (SetTimer object due period window) = (object.0 ≤ 65535) × IsSe
 IsCallInRange (SetTimerEx object due period window) = (object.0 ≤ 65535) × IsSettingInRange due period window
 IsCallInRange (IsTimerSet object) = object.0 ≤ 65535
 IsCallInRange (Advance ticks) = ticks ≤ clock_end
+IsCallInRange (SetWait object kernel timeout) = (object.0 ≤ 65535) × IsNamedInRange kernel × IsDueInRange timeout
 IsCallInRange (BeginWait kind object cancel) = object.0 ≤ 65535
 IsCallInRange (BeginAcquire kernel) = kernel.0 ≤ 65535
 IsCallInRange (CreateSemaphore initial maximum) = (initial ≤ count_most) × (maximum ≤ count_most)

@@ -117,6 +117,15 @@ pub enum Call {
     Advance {
         ticks: u64,
     },
+    /// Arms a wait object on an event or semaphore, or without one disarms it:
+    /// `SetThreadpoolWait`. Its callback is made when the kernel object is signalled, or when the
+    /// timeout expires, which is as the due time of a timer.
+    SetWait {
+        object: ObjectId,
+        kernel: Option<KernelId>,
+        /// With none the wait is for ever.
+        timeout: Option<i64>,
+    },
     /// Begins a wait for the callbacks of an object, those that are pending cancelled or not:
     /// `WaitForThreadpoolWorkCallbacks` and its like for the other kinds.
     BeginWait {
@@ -240,6 +249,13 @@ fn is_in_range(call: Call) -> bool
         | Call::IsTimerSet { object }
         | Call::BeginWait { object, .. } => object.0 <= 65_535,
         Call::Advance { ticks } => ticks <= CLOCK_END,
+        Call::SetWait { object, kernel, .. } => {
+            object.0 <= 65_535
+                && match kernel {
+                    Some(kernel) => kernel.0 <= 65_535,
+                    None => true,
+                }
+        }
         Call::CreateSemaphore { initial, maximum } => {
             initial <= COUNT_MOST && maximum <= COUNT_MOST
         }

@@ -71,7 +71,7 @@ pub enum KernelChange {
     Leave,
 }
 
-/// What makes callbacks pending by time.
+/// What makes callbacks pending by time, or by the signal of a kernel object.
 #[derive(Clone, Copy)]
 pub enum Trigger {
     /// A timer is set, or with no due time unset. One that is due at once makes a callback.
@@ -81,9 +81,26 @@ pub enum Trigger {
         period: u32,
         window: u32,
     },
-    /// The clock comes to this moment. Each timer that is due then makes a callback.
+    /// The clock comes to this moment. Each timer that is due then makes a callback, and so does
+    /// each armed wait whose timeout is, which is disarmed.
     Advance {
         now: u64,
+    },
+    /// A wait object is armed on a kernel object, or with none disarmed. One that takes the kernel
+    /// object or times out at once makes a callback.
+    SetWait {
+        object: ObjectId,
+        kernel: Option<KernelId>,
+        timeout: Option<i64>,
+    },
+    /// An event becomes signalled. Each wait that takes it makes a callback.
+    SetEvent {
+        kernel: KernelId,
+    },
+    /// The count of a semaphore rises. Each wait that takes it makes a callback.
+    ReleaseSemaphore {
+        kernel: KernelId,
+        count: u32,
     },
 }
 
@@ -134,10 +151,13 @@ pub enum Change {
         mark: Mark,
     },
     /// The callback that a worker runs returns, and the actions that it asked for are performed or
-    /// left out.
+    /// left out. Each wait that takes what they signal makes a callback: so many, numbered from
+    /// `first` on.
     Return {
         by: Busy,
         words: ActionWords,
+        first: u64,
+        count: u32,
     },
     /// An actor begins a wait, which covers what is then outstanding; with `cancel` what is pending
     /// is cancelled first. A wait for a kernel object covers nothing.

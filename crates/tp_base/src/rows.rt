@@ -98,7 +98,7 @@ pub struct KernelRow {
     pub state: KernelState,
 }
 
-/// A timer that is set.
+/// A timer that is set; or the timeout of an armed wait, which has no period and no window.
 #[derive(Clone, Copy)]
 pub struct TimerSetting {
     pub object: ObjectId,

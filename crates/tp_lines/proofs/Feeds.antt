@@ -18,9 +18,10 @@ use Rattle.tp_lines.specs.Calls.{CallLines, IsWhoInRange, row_of}
 use Rattle.tp_lines.specs.Parts.{AreFit, FitsForm, after, form_of, number_of, number_part, parts_of, parts_text, text_of_part}
 use Rattle.tp_lines.specs.Rows.{RowTexts}
 use Rattle.tp_lines.specs.Shapes.{text_of_word}
-use Rattle.tp_lines.specs.Values.{due_of}
+use Rattle.tp_lines.specs.Values.{due_of, named_of}
 use Rattle.tp_lines.specs.Words.{text_of_who}
 use Rattle.tp_lines.proofs.DueFacts.{due_lacks}
+use Rattle.tp_lines.proofs.NamedFacts.{named_lacks}
 use Rattle.tp_lines.proofs.EntryFacts.{arrow_text, entry_pair}
 use Rattle.tp_lines.proofs.PartFacts.{IsSoundForm, sound_form}
 use Rattle.tp_lines.proofs.WhoFacts.{line_back}
@@ -38,6 +39,7 @@ feedless_by_form : (x : Form) (f : Field) (p : Part) → IsSoundForm x → FitsF
 feedless_by_form (form.Number least most) f p s h = subst (λ q. Feedless (text_of_part q)) (sym h.is) (number_feedless f (number_of p) (omega (arith, h.at_most, s.bits)))
 feedless_by_form (form.Lettered letter least most) f p s h = subst (λ q. Feedless (text_of_part q)) (sym h.is) (number_feedless f (number_of p) (omega (arith, h.at_most, s.bits)))
 feedless_by_form form.Due f p s h = subst (λ q. Feedless (text_of_part q)) (sym h.is) (due_lacks 10 (omega arith) (due_of p) h.in_range)
+feedless_by_form form.Named f p s h = subst (λ q. Feedless (text_of_part q)) (sym h.is) (named_lacks 10 (omega arith) (named_of p) h.in_range)
 feedless_by_form form.Choice f p s h = subst (λ q. Feedless (text_of_part q)) (sym h.is) (solid_lacks 10 (omega arith) (text_of_word h.word) (solid h.word))
 
 parts_feedless : (parts : List Part) (fields : List Field) → AreFit fields parts → Feedless (parts_text parts)

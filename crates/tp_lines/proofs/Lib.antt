@@ -7,6 +7,7 @@ mod DueFacts
 pub mod EntryFacts
 pub mod Feeds
 mod FrontFacts
+mod NamedFacts
 mod Outcomes
 mod PartFacts
 mod Rebuilt

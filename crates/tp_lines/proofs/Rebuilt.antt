@@ -3,6 +3,7 @@ use Rattle.std.proofs.Common.{◌≡◌, ℕ, suc, ◌+◌, ℤ, Option, List, [
 use Rattle.std.specs.Prelude.{if◌then◌else◌}
 use Rattle.std.proofs.lemmas.List.{append-nil, append_assoc, length-append, get_or_at}
 use Rattle.tp_base.specs.declared.calls.Kind.TheVariants as kind
+use Rattle.tp_base.specs.declared.ids.KernelId.{KernelId}
 use Rattle.tp_lines.specs.declared.parts.Form.{Form}
 use Rattle.tp_lines.specs.declared.parts.Form.TheVariants as form
 use Rattle.tp_lines.specs.declared.parts.Part.{Part}
@@ -13,7 +14,7 @@ use Rattle.tp_lines.specs.declared.words.Word.{Word}
 use Rattle.tp_lines.specs.declared.words.Word.TheVariants as word
 use Rattle.tp_lines.specs.Parts.{AreFit, Fits, FitsForm, IsWordPart, after, form_of, instead_of, number_of, number_part}
 use Rattle.tp_lines.specs.Shapes.{fields_of, table_of}
-use Rattle.tp_lines.specs.Values.{part_at, small_of, large_of, due_of, word_of, kind_of, priority_of, length_of, how_of, reset_of, signal_of, lock_of, owner_of, flag_of, slot_of, action_of}
+use Rattle.tp_lines.specs.Values.{part_at, small_of, large_of, due_of, named_of, word_of, kind_of, priority_of, length_of, how_of, reset_of, signal_of, lock_of, owner_of, flag_of, slot_of, action_of}
 
 -- the part of a field, told from a part that stands there
 abbrev pub field_part : Field → Part → Part
@@ -25,6 +26,7 @@ field_part field.Small p = part.Small (small_of p)
 field_part field.Large p = part.Large (large_of p)
 field_part field.Time p = part.Time (large_of p)
 field_part field.Due p = part.Due (due_of p)
+field_part field.Named p = part.Named (named_of p)
 field_part field.Routine p = part.Routine (small_of p)
 field_part field.Context p = part.Context (large_of p)
 field_part field.Cleanup p = part.Cleanup (large_of p)
@@ -58,6 +60,10 @@ due_field : (f : Field) (due : Option ℤ) → form_of f ≡ form.Due → part.D
 due_field field.Due due e = refl
 due_field _ due e = cc
 
+named_field : (f : Field) (kernel : Option KernelId) → form_of f ≡ form.Named → part.Named kernel ≡ field_part f (part.Named kernel)
+named_field field.Named kernel e = refl
+named_field _ kernel e = cc
+
 word_field : (w : Word) → part.Word w ≡ field_part (table_of w) (part.Word w)
 word_field (word.Kind kind.Work) = refl
 word_field (word.Kind _) = refl
@@ -67,6 +73,7 @@ back_by_form : (x : Form) (f : Field) (p : Part) → form_of f ≡ x → FitsFor
 back_by_form (form.Number least most) f p e h = h.is ∙ plain_field f (number_of p) least most e ∙ ap (λ q. field_part f q) (sym h.is)
 back_by_form (form.Lettered letter least most) f p e h = h.is ∙ lettered_field f (number_of p) letter least most e ∙ ap (λ q. field_part f q) (sym h.is)
 back_by_form form.Due f p e h = h.is ∙ due_field f (due_of p) e ∙ ap (λ q. field_part f q) (sym h.is)
+back_by_form form.Named f p e h = h.is ∙ named_field f (named_of p) e ∙ ap (λ q. field_part f q) (sym h.is)
 back_by_form form.Choice f p e h = h.is ∙ word_field h.word ∙ ap (λ g. field_part g (part.Word h.word)) h.table ∙ ap (λ q. field_part f q) (sym h.is)
 
 pub field_back : (f : Field) (p : Part) → Fits f p → p ≡ field_part f p
@@ -111,6 +118,7 @@ plain_by_form : (x : Form) (f : Field) (p : Part) (fields : List Field) → Fits
 plain_by_form (form.Number least most) f p fields h e = ap (λ q. after q fields) h.is ∙ plain_number f (number_of p) fields e
 plain_by_form (form.Lettered letter least most) f p fields h e = ap (λ q. after q fields) h.is ∙ plain_number f (number_of p) fields e
 plain_by_form form.Due f p fields h e = ap (λ q. after q fields) h.is
+plain_by_form form.Named f p fields h e = ap (λ q. after q fields) h.is
 plain_by_form form.Choice f p fields h e = ap (λ q. after q fields) h.is ∙ plain_word h.word fields (subst (λ g. IsTrue (is_plain g)) (sym h.table) e)
 
 -- the fields behind a part are regular again, and tell the same

@@ -14,7 +14,7 @@ use Rattle.tp_lines.specs.declared.words.Word.TheVariants as word
 use Rattle.tp_lines.specs.Parts.{AreFit, parts_of, row_text}
 use Rattle.tp_lines.specs.Rows.{RowTexts}
 use Rattle.tp_lines.specs.Shapes.{table_of_kind}
-use Rattle.tp_lines.specs.Values.{part_at, small_of, large_of, due_of, kind_of, priority_of, length_of, how_of, reset_of, signal_of, lock_of, owner_of, action_of}
+use Rattle.tp_lines.specs.Values.{part_at, small_of, large_of, due_of, named_of, kind_of, priority_of, length_of, how_of, reset_of, signal_of, lock_of, owner_of, action_of}
 use Rattle.tp_lines.specs.Words.{text_of_who}
 
 abbrev pub environ_parts : Environ → List Part
@@ -34,6 +34,7 @@ row_of (call.SetTimer object due period window) = (word.SetTimer, part.Short obj
 row_of (call.SetTimerEx object due period window) = (word.SetTimerEx, part.Short object.0 ∷ part.Due due ∷ part.Small period ∷ part.Small window ∷ [])
 row_of (call.IsTimerSet object) = (word.IsTimerSet, part.Short object.0 ∷ [])
 row_of (call.Advance ticks) = (word.Advance, part.Time ticks ∷ [])
+row_of (call.SetWait object kernel timeout) = (word.SetWait, part.Short object.0 ∷ part.Named kernel ∷ part.Due timeout ∷ [])
 row_of (call.BeginWait kind object cancel) = (word.BeginWait, part.Word (word.Kind kind) ∷ part.Short object.0 ∷ part.Word (word.How cancel) ∷ [])
 row_of (call.BeginAcquire kernel) = (word.BeginAcquire, part.Short kernel.0 ∷ [])
 row_of call.End = (word.End, [])
@@ -120,6 +121,7 @@ call_at word.SetTimer parts = Some (call.SetTimer (record { 0 = small_of (part_a
 call_at word.SetTimerEx parts = Some (call.SetTimerEx (record { 0 = small_of (part_at parts 1) }) (due_of (part_at parts 2)) (small_of (part_at parts 3)) (small_of (part_at parts 4)))
 call_at word.IsTimerSet parts = Some (call.IsTimerSet (record { 0 = small_of (part_at parts 1) }))
 call_at word.Advance parts = Some (call.Advance (large_of (part_at parts 1)))
+call_at word.SetWait parts = Some (call.SetWait (record { 0 = small_of (part_at parts 1) }) (named_of (part_at parts 2)) (due_of (part_at parts 3)))
 call_at word.BeginWait parts = Some (call.BeginWait (kind_of (part_at parts 1)) (record { 0 = small_of (part_at parts 2) }) (how_of (part_at parts 3)))
 call_at word.BeginAcquire parts = Some (call.BeginAcquire (record { 0 = small_of (part_at parts 1) }))
 call_at word.End parts = Some call.End

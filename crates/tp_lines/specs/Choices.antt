@@ -1,6 +1,6 @@
 -- The texts of single fields, and of the words of a field.
 use Rattle.std.specs.Prelude.{◌≡◌, ℕ, ℤ, List, [], ◌∷◌, ◌⊎◌, Option, codes, false}
-use Rattle.line_grammar.specs.Numbers.{Signed}
+use Rattle.line_grammar.specs.Numbers.{Numbers, Signed}
 use Rattle.line_grammar.specs.Parts.{Led}
 use Rattle.line_grammar.specs.Words.{Optional}
 use Rattle.tp_base.specs.declared.answers.ActionKind.TheVariants as action
@@ -8,6 +8,7 @@ use Rattle.tp_base.specs.declared.answers.SlotWord.TheVariants as slot
 use Rattle.tp_base.specs.declared.calls.Kind.TheVariants as kind
 use Rattle.tp_base.specs.declared.calls.Lock.TheVariants as lock
 use Rattle.tp_base.specs.declared.calls.Priority.TheVariants as priority
+use Rattle.tp_base.specs.declared.ids.KernelId.{KernelId}
 use Rattle.tp_lines.specs.declared.parts.Part.{Part}
 use Rattle.tp_lines.specs.declared.words.Field.{Field}
 use Rattle.tp_lines.specs.declared.words.Field.TheVariants as field
@@ -36,6 +37,14 @@ ChoiceTexts field word text = IsChoiceText field word text
 abbrev pub DueTexts : Option ℤ → List ℕ → Type 0
 DueTexts = Optional (codes "none") Signed
 
+-- kernel objects
+abbrev pub KernelTexts : KernelId → List ℕ → Type 0
+KernelTexts kernel text = Numbers 0 65535 kernel.0 text
+
+-- and those that may be none
+abbrev pub NamedTexts : Option KernelId → List ℕ → Type 0
+NamedTexts = Optional (codes "none") KernelTexts
+
 -- the texts of one field with the space before it
 abbrev pub PartTexts : Field → Part → List ℕ → Type 0
 PartTexts field = Led 32 (BodyTexts field)
@@ -49,7 +58,7 @@ default_word field.Refusal = word.NoSuch
 default_word field.State = word.Stay
 default_word field.Target = word.Kernel
 default_word field.Kind = word.Kind kind.Work
-default_word field.Unbuilt = word.Kind kind.Wait
+default_word field.Unbuilt = word.Kind kind.Io
 default_word field.Priority = word.Priority priority.Normal
 default_word field.Length = word.Length false
 default_word field.How = word.How false

@@ -1,7 +1,7 @@
 -- The words of lines: the field in which each stands, its text, and the fields behind it.
 use Rattle.std.specs.Prelude.{ℕ, List, [], ◌∷◌, codes}
 use Rattle.tp_base.specs.declared.calls.Kind.{Kind}
-use Rattle.tp_base.specs.declared.calls.Kind.TheVariants.{Work, Timer}
+use Rattle.tp_base.specs.declared.calls.Kind.TheVariants.{Work, Timer, Wait}
 use Rattle.tp_lines.specs.declared.words.Field.{Field}
 use Rattle.tp_lines.specs.declared.words.Field.TheVariants as field
 use Rattle.tp_lines.specs.declared.words.Word.{Word}
@@ -17,6 +17,7 @@ pub record Shape : Type 0 where
 abbrev pub table_of_kind : Kind → Field
 table_of_kind Work = field.Kind
 table_of_kind Timer = field.Kind
+table_of_kind Wait = field.Kind
 table_of_kind _ = field.Unbuilt
 
 abbrev pub shape_of : Word → Shape
@@ -32,6 +33,7 @@ shape_of word.SetTimer = record { table = field.Call; text = codes "set-timer"; 
 shape_of word.SetTimerEx = record { table = field.Call; text = codes "set-timer-ex"; fields = field.Short ∷ field.Due ∷ field.Small ∷ field.Small ∷ [] }
 shape_of word.IsTimerSet = record { table = field.Call; text = codes "is-timer-set"; fields = field.Short ∷ [] }
 shape_of word.Advance = record { table = field.Call; text = codes "advance"; fields = field.Time ∷ [] }
+shape_of word.SetWait = record { table = field.Call; text = codes "set-wait"; fields = field.Short ∷ field.Named ∷ field.Due ∷ [] }
 shape_of word.BeginWait = record { table = field.Call; text = codes "wait"; fields = field.Kind ∷ field.Short ∷ field.How ∷ [] }
 shape_of word.BeginAcquire = record { table = field.Call; text = codes "acquire"; fields = field.Short ∷ [] }
 shape_of word.End = record { table = field.Call; text = codes "end"; fields = [] }

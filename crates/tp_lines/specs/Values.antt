@@ -10,6 +10,7 @@ use Rattle.tp_base.specs.declared.calls.Lock.{Lock}
 use Rattle.tp_base.specs.declared.calls.Lock.TheVariants.{Mutex}
 use Rattle.tp_base.specs.declared.calls.Priority.{Priority}
 use Rattle.tp_base.specs.declared.calls.Priority.TheVariants.{Normal}
+use Rattle.tp_base.specs.declared.ids.KernelId.{KernelId}
 use Rattle.tp_lines.specs.declared.parts.Part.{Part}
 use Rattle.tp_lines.specs.declared.parts.Part.TheVariants as part
 use Rattle.tp_lines.specs.declared.words.Word.{Word}
@@ -42,6 +43,11 @@ large_of _ = 0
 abbrev pub due_of : Part → Option ℤ
 due_of (part.Due due) = due
 due_of _ = None
+
+-- a kernel object, if there is one
+abbrev pub named_of : Part → Option KernelId
+named_of (part.Named kernel) = kernel
+named_of _ = None
 
 abbrev pub word_of : Part → Word
 word_of (part.Word word) = word

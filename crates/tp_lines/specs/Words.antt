@@ -1,4 +1,4 @@
--- The texts of words that stand for a choice, of due times, and of actors.
+-- The texts of words that stand for a choice, of due times, of kernel objects that may be none, and of actors.
 use Rattle.std.specs.Prelude.{ℕ, ℤ, Bool, true, false, List, ◌∷◌, codes, decimal, Option, Some, None}
 use Rattle.std.specs.Fmt.{signed_decimal}
 use Rattle.tp_base.specs.declared.answers.ActionKind.{ActionKind}
@@ -11,6 +11,7 @@ use Rattle.tp_base.specs.declared.calls.Lock.{Lock}
 use Rattle.tp_base.specs.declared.calls.Lock.TheVariants as lock
 use Rattle.tp_base.specs.declared.calls.Priority.{Priority}
 use Rattle.tp_base.specs.declared.calls.Priority.TheVariants.{High, Normal, Low}
+use Rattle.tp_base.specs.declared.ids.KernelId.{KernelId}
 use Rattle.tp_base.specs.declared.ids.Who.{Who}
 use Rattle.tp_base.specs.declared.ids.Who.TheVariants.{Client, Worker}
 
@@ -73,6 +74,10 @@ text_of_slot OverMaximum = codes "over-maximum"
 abbrev pub text_of_due : Option ℤ → List ℕ
 text_of_due None = codes "none"
 text_of_due (Some due) = signed_decimal due
+
+abbrev pub text_of_named : Option KernelId → List ℕ
+text_of_named None = codes "none"
+text_of_named (Some kernel) = decimal kernel.0
 
 -- the actors: c1, c2, .. and w1, w2, ..
 abbrev pub text_of_who : Who → List ℕ

@@ -70,6 +70,11 @@ fn call_at(word: Word, parts: &Parts) -> Option<Call>
         Word::Advance => Call::Advance {
             ticks: parts.at(1).large(),
         },
+        Word::SetWait => Call::SetWait {
+            object: ObjectId(parts.at(1).small()),
+            kernel: parts.at(2).named(),
+            timeout: parts.at(3).due(),
+        },
         Word::BeginWait => Call::BeginWait {
             kind: parts.at(1).kind(),
             object: ObjectId(parts.at(2).small()),
@@ -273,6 +278,13 @@ pub fn put_call(call: &Call, out: &mut [u8], at: usize) -> usize
             parts!(out, at; first(Word::IsTimerSet) number(u64::from(object.0)))
         }
         Call::Advance { ticks } => { parts!(out, at; first(Word::Advance) number(*ticks)) }
+        Call::SetWait {
+            object,
+            kernel,
+            timeout,
+        } => {
+            parts!(out, at; first(Word::SetWait) number(u64::from(object.0)) named(*kernel) due(*timeout))
+        }
         Call::BeginWait {
             kind,
             object,

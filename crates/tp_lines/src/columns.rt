@@ -9,7 +9,7 @@ use std::alloc::{AllocError, Global};
 use std::process::Abort;
 use std::test::Fail;
 
-fn call_patterns() -> [&'static str; 32] {
+fn call_patterns() -> [&'static str; 33] {
     [
         "c&|w~ create-pool",
         "c&|w~ close-pool #",
@@ -25,6 +25,7 @@ fn call_patterns() -> [&'static str; 32] {
         "c&|w~ set-timer-ex # DUE $ $",
         "c&|w~ is-timer-set #",
         "c&|w~ advance ^",
+        "c&|w~ set-wait # NAMED DUE",
         "c&|w~ wait KIND # HOW",
         "c&|w~ acquire #",
         "c&|w~ end",
@@ -79,7 +80,7 @@ fn answer_patterns() -> [&'static str; 26] {
 
 fn alternatives(field: &str) -> &str {
     match field {
-        "KIND" => "work|timer",
+        "KIND" => "work|timer|wait",
         "HOW" => "keep|cancel",
         "PRIORITY" => "high|normal|low",
         "LENGTH" => "short|long",
@@ -88,6 +89,7 @@ fn alternatives(field: &str) -> &str {
         "LOCK" => "mutex|section",
         "OWNER" => "free|owned",
         "DUE" => "none|^|-=",
+        "NAMED" => "none|#",
         "ACTION" => "section|mutex|semaphore|event",
         "SLOT" => "-|done|not-owner|over-maximum",
         _ => field,

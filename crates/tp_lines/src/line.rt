@@ -6,10 +6,11 @@
 ghost use Rattle.std.specs.Prelude.{◌≡◌, ◌+◌, ◌<◌, ◌≤◌, [], ◌∷◌, ◌++◌, decimal, length, take};
 ghost use Rattle.std.specs.Fmt.{signed_decimal};
 ghost use Rattle.tp_lines.specs.Shapes.{text_of_word};
-ghost use Rattle.tp_lines.specs.Words.{text_of_due};
+ghost use Rattle.tp_lines.specs.Words.{text_of_due, text_of_named};
 
 use crate::words::{Word, word_text};
 use itoa::write_digits;
+use tp_base::ids::KernelId;
 
 /// A byte.
 #[inline(always)]
@@ -137,6 +138,20 @@ pub fn due(due: Option<i64>, out: &mut [u8], at: usize) -> usize
     let start = byte(b' ', out, at);
     match due {
         Some(time) => signed(time, out, start),
+        None => text(b"none", out, start),
+    }
+}
+
+/// A space, and the number of a kernel object or `none`.
+pub fn named(kernel: Option<KernelId>, out: &mut [u8], at: usize) -> usize
+    requires { at + 21 ≤ length out.old }
+    ensures text { take result out.new ≡ take at out.old ++ 32 ∷ text_of_named kernel }
+    ensures least { at ≤ result }
+    ensures most { result ≤ at + 21 }
+{
+    let start = byte(b' ', out, at);
+    match kernel {
+        Some(kernel) => digits(u64::from(kernel.0), out, start),
         None => text(b"none", out, start),
     }
 }

@@ -4,9 +4,9 @@ ghost use Rattle.std.specs.Prelude.{◌≡◌, ◌<◌, ◌≤◌, ◌++◌, ◌
 ghost use Rattle.line_grammar.specs.Language.{IsRead};
 ghost use Rattle.tp_lines.specs.declared.parts.Part.{Part};
 ghost use Rattle.tp_lines.specs.declared.words.Word.{Word};
-ghost use Rattle.tp_lines.specs.Choices.{BodyTexts, ChoiceTexts, DueTexts, Met, PartTexts, default_word};
+ghost use Rattle.tp_lines.specs.Choices.{BodyTexts, ChoiceTexts, DueTexts, KernelTexts, Met, NamedTexts, PartTexts, default_word};
 ghost use Rattle.tp_lines.specs.Parts.{after, form_of, instead_of, most_of, number_part};
-ghost use Rattle.tp_lines.specs.Values.{action_of, due_of, flag_of, how_of, kind_of, large_of, length_of, lock_of, owner_of, part_at, priority_of, reset_of, signal_of, slot_of, small_of, word_of};
+ghost use Rattle.tp_lines.specs.Values.{action_of, due_of, flag_of, how_of, kind_of, large_of, length_of, lock_of, named_of, owner_of, part_at, priority_of, reset_of, signal_of, slot_of, small_of, word_of};
 
 use crate::words::{Field, WORDS, Word, fields_of, find_word, stands_in, word_text};
 use line_grammar::numbers::{read_number, read_prefixed, read_signed};
@@ -14,6 +14,7 @@ use line_grammar::words::{behind, further, read_bytes, something, word_size};
 use std::marker::Model;
 use tp_base::answers::{ActionKind, SlotWord};
 use tp_base::calls::{Kind, Lock, Priority};
+use tp_base::ids::KernelId;
 
 /// What stands in one field of a line.
 #[derive(Clone, Copy)]
@@ -26,6 +27,7 @@ pub enum Part {
     Large(u64),
     Time(u64),
     Due(Option<i64>),
+    Named(Option<KernelId>),
     Routine(u32),
     Context(u64),
     Cleanup(u64),
@@ -45,6 +47,8 @@ pub enum Form {
     Lettered { letter: u8, least: u64, most: u64 },
     /// `none`, or a number of 64 bits with a sign.
     Due,
+    /// `none`, or the number of a kernel object.
+    Named,
     /// One of the words of the field.
     Choice,
 }
@@ -90,6 +94,16 @@ impl Part {
     {
         match self {
             Part::Due(due) => due,
+            _ => None,
+        }
+    }
+
+    /// The kernel object, or none where this doesn't say.
+    pub fn named(self) -> Option<KernelId>
+        ensures { result ≡ named_of self }
+    {
+        match self {
+            Part::Named(kernel) => kernel,
             _ => None,
         }
     }
@@ -274,6 +288,7 @@ pub fn form_of(field: Field) -> Form
         Field::Large => number(0, u64::MAX),
         Field::Time => number(0, 9_223_372_036_854_775_807),
         Field::Due => Form::Due,
+        Field::Named => Form::Named,
         Field::Routine => lettered(b'r', 1, ID_MOST),
         Field::Context => lettered(b'x', 0, u64::MAX),
         Field::Cleanup => lettered(b'y', 0, u64::MAX),
@@ -393,7 +408,7 @@ fn default_word(field: Field) -> Word
         Field::State => Word::Stay,
         Field::Target => Word::Kernel,
         Field::Kind => Word::Kind(Kind::Work),
-        Field::Unbuilt => Word::Kind(Kind::Wait),
+        Field::Unbuilt => Word::Kind(Kind::Io),
         Field::Priority => Word::Priority(Priority::Normal),
         Field::Length => Word::Length(false),
         Field::How => Word::How(false),
@@ -430,6 +445,22 @@ fn read_due(text: &[u8]) -> Result<(Option<i64>, usize), usize>
     )
 }
 
+fn read_kernel(text: &[u8]) -> Result<(KernelId, usize), usize>
+    ensures { IsRead KernelTexts text.now result }
+{
+    match read_number(text, 0, ID_MOST) {
+        Ok((number, size)) => Ok((KernelId(number as u32), size)),
+        Err(place) => Err(place),
+    }
+}
+
+fn read_named(text: &[u8]) -> Result<(Option<KernelId>, usize), usize>
+    ensures { IsRead NamedTexts text.now result }
+{
+    let none = read_bytes(None, b"none", text);
+    further(something(read_kernel(text)), none)
+}
+
 // Reads what stands in a field.
 fn read_body(field: Field, text: &[u8]) -> Result<(Part, usize), usize>
     ensures { IsRead (BodyTexts field) text.now result }
@@ -449,6 +480,10 @@ fn read_body(field: Field, text: &[u8]) -> Result<(Part, usize), usize>
         },
         Form::Due => match read_due(text) {
             Ok((due, size)) => Ok((Part::Due(due), size)),
+            Err(place) => Err(place),
+        },
+        Form::Named => match read_named(text) {
+            Ok((kernel, size)) => Ok((Part::Named(kernel), size)),
             Err(place) => Err(place),
         },
         Form::Choice => match read_choice(field, text) {

@@ -185,7 +185,6 @@ fn faults_of_timers(rt: HostRuntime) {
     let cases = [
         ("c1 create timer", 16, LineKind::Unfinished),
         ("c1 create timers r1", 16, LineKind::Unexpected),
-        ("c1 create wait r1", 12, LineKind::Unexpected),
         (
             "c1 create timer r1 x7 p0 normal short g0 q5",
             43,
@@ -247,6 +246,39 @@ fn faults_of_due_times(rt: HostRuntime) {
         (
             "c1 set-timer-ex 1 -92233720368547758080 0 0",
             39,
+            LineKind::Unexpected,
+        ),
+    ];
+    for (text, column, kind) in cases {
+        check_call_fault(&rt, text, LineFault { column, kind });
+    }
+}
+
+#[test]
+fn faults_of_armed_waits(rt: HostRuntime) {
+    let cases = [
+        ("c1 create wait r1", 18, LineKind::Unfinished),
+        ("c1 create waits r1", 15, LineKind::Unexpected),
+        ("c1 close wai", 13, LineKind::Unfinished),
+        ("c1 wait wait 3 keeps", 20, LineKind::Unexpected),
+        ("c1 set-wai", 11, LineKind::Unfinished),
+        ("c1 set-waits 1", 12, LineKind::Unexpected),
+        ("c1 set-wait none 1 none", 13, LineKind::Unexpected),
+        ("c1 set-wait 1", 14, LineKind::Unfinished),
+        ("c1 set-wait 1 ", 15, LineKind::Unfinished),
+        ("c1 set-wait 1 -1 none", 15, LineKind::Unexpected),
+        ("c1 set-wait 1 no", 17, LineKind::Unfinished),
+        ("c1 set-wait 1 none", 19, LineKind::Unfinished),
+        ("c1 set-wait 1 none1 none", 19, LineKind::Unexpected),
+        ("c1 set-wait 1 None none", 15, LineKind::Unexpected),
+        ("c1 set-wait 1 nine none", 16, LineKind::Unexpected),
+        ("c1 set-wait 1 01 none", 16, LineKind::Unexpected),
+        ("c1 set-wait 1 65536 none", 19, LineKind::Unexpected),
+        ("c1 set-wait 1 2 -0", 18, LineKind::Unexpected),
+        ("c1 set-wait 1 2 none ", 21, LineKind::Unexpected),
+        (
+            "c1 set-wait 1 none 9223372036854775808",
+            38,
             LineKind::Unexpected,
         ),
     ];
@@ -551,6 +583,73 @@ fn calls_of_timers_there_and_back(rt: HostRuntime) -> Result<(), Fail> {
             Call::Advance {
                 ticks: 9_223_372_036_854_775_807,
             },
+        ),
+    ];
+    for (text, call) in cases {
+        check_call(&rt, rt.alloc(), text, Who::Client(1), call)?;
+    }
+    Ok(())
+}
+
+fn set_wait(object: u32, kernel: Option<u32>, timeout: Option<i64>) -> Call {
+    Call::SetWait {
+        object: ObjectId(object),
+        kernel: match kernel {
+            Some(number) => Some(KernelId(number)),
+            None => None,
+        },
+        timeout,
+    }
+}
+
+#[test]
+fn calls_of_armed_waits_there_and_back(rt: HostRuntime) -> Result<(), Fail> {
+    let env = Environ {
+        pool: PoolId(0),
+        group: GroupId(0),
+        cancel: RoutineId(0),
+        priority: Priority::Low,
+        long: false,
+    };
+    let cases = [
+        (
+            "c1 create wait r1 x7 p0 low short g0 q0",
+            Call::Create {
+                kind: Kind::Wait,
+                routine: RoutineId(1),
+                context: 7,
+                env,
+            },
+        ),
+        (
+            "c1 close wait 3",
+            Call::CloseObject {
+                kind: Kind::Wait,
+                object: ObjectId(3),
+            },
+        ),
+        (
+            "c1 wait wait 3 cancel",
+            Call::BeginWait {
+                kind: Kind::Wait,
+                object: ObjectId(3),
+                cancel: true,
+            },
+        ),
+        ("c1 set-wait 1 none none", set_wait(1, None, None)),
+        ("c1 set-wait 0 0 0", set_wait(0, Some(0), Some(0))),
+        ("c1 set-wait 7 2 none", set_wait(7, Some(2), None)),
+        (
+            "c1 set-wait 7 none -10000",
+            set_wait(7, None, Some(-10_000)),
+        ),
+        (
+            "c1 set-wait 65535 65535 -9223372036854775808",
+            set_wait(65_535, Some(65_535), Some(-9_223_372_036_854_775_808)),
+        ),
+        (
+            "c1 set-wait 12 345 9223372036854775807",
+            set_wait(12, Some(345), Some(9_223_372_036_854_775_807)),
         ),
     ];
     for (text, call) in cases {

@@ -25,6 +25,8 @@ pub enum Field {
     Time,
     /// When something is due: `none`, or a number of 64 bits with a sign.
     Due,
+    /// The number of a kernel object, from 0 to 65,535, or `none`.
+    Named,
     /// `r` and the number of a routine, from 1 to 65,535.
     Routine,
     /// `x` and a number of 64 bits.
@@ -93,6 +95,7 @@ pub enum Word {
     SetTimerEx,
     IsTimerSet,
     Advance,
+    SetWait,
     BeginWait,
     BeginAcquire,
     End,
@@ -202,6 +205,7 @@ macro_rules! words {
                 (Word::SetTimerEx) b"set-timer-ex" [Short Due Small Small];
                 (Word::IsTimerSet) b"is-timer-set" [Short];
                 (Word::Advance) b"advance" [Time];
+                (Word::SetWait) b"set-wait" [Short Named Due];
                 (Word::BeginWait) b"wait" [Kind Short How];
                 (Word::BeginAcquire) b"acquire" [Short];
                 (Word::End) b"end" [];
@@ -296,9 +300,9 @@ macro_rules! words {
             Kind {
                 (Word::Kind(Kind::Work)) b"work" [];
                 (Word::Kind(Kind::Timer)) b"timer" [];
+                (Word::Kind(Kind::Wait)) b"wait" [];
             }
             Unbuilt {
-                (Word::Kind(Kind::Wait)) b"wait" [];
                 (Word::Kind(Kind::Io)) b"io" [];
             }
             Priority {
@@ -407,7 +411,7 @@ macro_rules! all_words {
 /// All words.
 #[derive(Clone, Copy)]
 pub struct WordList {
-    pub words: [Word; 119],
+    pub words: [Word; 120],
 }
 
 pub const WORDS: WordList = WordList {

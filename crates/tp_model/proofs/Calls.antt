@@ -2,7 +2,7 @@
 use Rattle.std.proofs.Common.{◌≡◌, ℕ, ◌+◌, ◌≤◌, ◌^◌, arith}
 use Rattle.tp_base.specs.declared.ids.Who.{Who}
 use Rattle.tp_base.specs.declared.calls.Call.{Call}
-use Rattle.tp_base.specs.declared.calls.Call.TheVariants.{CreatePool, ClosePool, SetMaximum, SetMinimum, Create, CloseObject, SubmitSimple, SubmitWork, SetTimer, SetTimerEx, IsTimerSet, Advance, BeginWait, BeginAcquire, End, CreateEvent, CreateSemaphore, CreateLock, SetEvent, ResetEvent, ReleaseSemaphore, ReleaseLock, Attach, Detach, Take, Return, MayRunLong, Disassociate, OnReturn, Finish}
+use Rattle.tp_base.specs.declared.calls.Call.TheVariants.{CreatePool, ClosePool, SetMaximum, SetMinimum, Create, CloseObject, SubmitSimple, SubmitWork, SetTimer, SetTimerEx, IsTimerSet, Advance, BeginWait, BeginAcquire, End, CreateEvent, CreateSemaphore, CreateLock, SetEvent, ResetEvent, ReleaseSemaphore, ReleaseLock, Attach, Detach, Take, Return, MayRunLong, Disassociate, OnReturn, Finish, SetWait}
 use Rattle.tp_base.specs.Ranges.{IsCallInRange}
 use Rattle.tp_model.specs.World.{World}
 use Rattle.tp_model.specs.Table.{plan_at}
@@ -13,10 +13,11 @@ use Rattle.tp_model.specs.Support.Ranged.{IsRanged, IsPlanInRange}
 pub mod Pools
 pub mod Objects
 pub mod Work
+pub mod Timers
 pub mod Workers
 pub mod InCallback
-pub mod Timers
 pub mod Kernels
+pub mod WaitObjects
 pub mod Waits
 pub mod Clients
 use Pools.{create_pool_safe, create_pool_forget, create_pool_ranged, close_pool_safe, close_pool_forget, close_pool_ranged, set_maximum_safe, set_maximum_forget, set_maximum_ranged, set_minimum_safe, set_minimum_forget, set_minimum_ranged}
@@ -26,6 +27,7 @@ use Workers.{attach_safe, attach_forget, attach_ranged, detach_safe, detach_forg
 use InCallback.{may_run_long_safe, may_run_long_forget, may_run_long_ranged, disassociate_safe, disassociate_forget, disassociate_ranged, on_return_safe, on_return_forget, on_return_ranged}
 use Timers.{set_timer_safe, set_timer_forget, set_timer_ranged, set_timer_ex_safe, set_timer_ex_forget, set_timer_ex_ranged, is_timer_set_safe, is_timer_set_forget, is_timer_set_ranged, advance_safe, advance_forget, advance_ranged}
 use Kernels.{create_event_safe, create_event_forget, create_event_ranged, create_semaphore_safe, create_semaphore_forget, create_semaphore_ranged, create_lock_safe, create_lock_forget, create_lock_ranged, set_event_safe, set_event_forget, set_event_ranged, reset_event_safe, reset_event_forget, reset_event_ranged, release_semaphore_safe, release_semaphore_forget, release_semaphore_ranged, release_lock_safe, release_lock_forget, release_lock_ranged}
+use WaitObjects.{set_wait_safe, set_wait_forget, set_wait_ranged}
 use Waits.{begin_wait_safe, begin_wait_forget, begin_wait_ranged, begin_acquire_safe, begin_acquire_forget, begin_acquire_ranged, end_safe, end_forget, end_ranged}
 use Clients.{finish_safe, finish_forget, finish_ranged}
 
@@ -42,7 +44,8 @@ plan_safe fresh room w who (SubmitWork object) s = submit_work_safe fresh w who 
 plan_safe fresh room w who (SetTimer object due period window) s = set_timer_safe fresh w who object due period window
 plan_safe fresh room w who (SetTimerEx object due period window) s = set_timer_ex_safe fresh w who object due period window
 plan_safe fresh room w who (IsTimerSet object) s = is_timer_set_safe fresh w who object
-plan_safe fresh room w who (Advance ticks) s = advance_safe fresh w who ticks
+plan_safe fresh room w who (Advance ticks) s = advance_safe fresh w who ticks s
+plan_safe fresh room w who (SetWait object kernel timeout) s = set_wait_safe fresh w who object kernel timeout
 plan_safe fresh room w who (BeginWait kind object cancel) s = begin_wait_safe fresh w who kind object cancel
 plan_safe fresh room w who End s = end_safe fresh room w who s
 plan_safe fresh room w who (BeginAcquire kernel) s = begin_acquire_safe fresh w who kernel
@@ -76,15 +79,16 @@ plan_forget fresh room w who (SetTimer object due period window) s = set_timer_f
 plan_forget fresh room w who (SetTimerEx object due period window) s = set_timer_ex_forget fresh w who object due period window
 plan_forget fresh room w who (IsTimerSet object) s = is_timer_set_forget fresh w who object
 plan_forget fresh room w who (Advance ticks) s = advance_forget fresh w who ticks
+plan_forget fresh room w who (SetWait object kernel timeout) s = set_wait_forget fresh w who object kernel timeout
 plan_forget fresh room w who (BeginWait kind object cancel) s = begin_wait_forget fresh w who kind object cancel s
 plan_forget fresh room w who End s = end_forget fresh room w who s
 plan_forget fresh room w who (BeginAcquire kernel) s = begin_acquire_forget w who kernel
 plan_forget fresh room w who (CreateEvent manual signalled) s = create_event_forget w who manual signalled
 plan_forget fresh room w who (CreateSemaphore initial most) s = create_semaphore_forget w who initial most
 plan_forget fresh room w who (CreateLock lock owned) s = create_lock_forget w who lock owned
-plan_forget fresh room w who (SetEvent kernel) s = set_event_forget w who kernel
+plan_forget fresh room w who (SetEvent kernel) s = set_event_forget fresh w who kernel
 plan_forget fresh room w who (ResetEvent kernel) s = reset_event_forget w who kernel
-plan_forget fresh room w who (ReleaseSemaphore kernel count) s = release_semaphore_forget w who kernel count
+plan_forget fresh room w who (ReleaseSemaphore kernel count) s = release_semaphore_forget fresh w who kernel count
 plan_forget fresh room w who (ReleaseLock lock kernel) s = release_lock_forget w who lock kernel
 plan_forget fresh room w who Attach s = attach_forget w who
 plan_forget fresh room w who Detach s = detach_forget w who
@@ -109,21 +113,22 @@ module _ (fresh : ℕ) (w : World) (few : fresh + 65536 ≤ 2 ^ 64) (s : IsSound
   plan_ranged room who (SetTimer object due period window) c = set_timer_ranged fresh w who object due period window few g c
   plan_ranged room who (SetTimerEx object due period window) c = set_timer_ex_ranged fresh w who object due period window few g c
   plan_ranged room who (IsTimerSet object) c = is_timer_set_ranged fresh w who object
-  plan_ranged room who (Advance ticks) c = advance_ranged fresh w who ticks few g
+  plan_ranged room who (Advance ticks) c = advance_ranged fresh w who ticks few s g
+  plan_ranged room who (SetWait object kernel timeout) c = set_wait_ranged fresh w who object kernel timeout few g c
   plan_ranged room who (BeginWait kind object cancel) c = begin_wait_ranged w who kind object cancel g
   plan_ranged room who End c = end_ranged room w who g
   plan_ranged room who (BeginAcquire kernel) c = begin_acquire_ranged w who kernel c
   plan_ranged room who (CreateEvent manual signalled) c = create_event_ranged w who manual signalled g
   plan_ranged room who (CreateSemaphore initial most) c = create_semaphore_ranged w who initial most g c
   plan_ranged room who (CreateLock lock owned) c = create_lock_ranged w who lock owned g
-  plan_ranged room who (SetEvent kernel) c = set_event_ranged w who kernel
+  plan_ranged room who (SetEvent kernel) c = set_event_ranged fresh w who kernel few g
   plan_ranged room who (ResetEvent kernel) c = reset_event_ranged w who kernel
-  plan_ranged room who (ReleaseSemaphore kernel count) c = release_semaphore_ranged w who kernel count g
+  plan_ranged room who (ReleaseSemaphore kernel count) c = release_semaphore_ranged fresh w who kernel count few g
   plan_ranged room who (ReleaseLock lock kernel) c = release_lock_ranged w who lock kernel
   plan_ranged room who Attach c = attach_ranged w who g
   plan_ranged room who Detach c = detach_ranged w who
   plan_ranged room who Take c = take_ranged fresh w who s g
-  plan_ranged room who Return c = return_ranged w who
+  plan_ranged room who Return c = return_ranged fresh w who few g
   plan_ranged room who MayRunLong c = may_run_long_ranged w who
   plan_ranged room who Disassociate c = disassociate_ranged w who
   plan_ranged room who (OnReturn kind kernel count) c = on_return_ranged w who kind kernel count

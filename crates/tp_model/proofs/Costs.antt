@@ -8,7 +8,7 @@ use Rattle.tp_base.specs.declared.plans.Mark.{Mark}
 use Rattle.tp_base.specs.declared.plans.Mark.TheVariants.{Long, Loose, Asks}
 use Rattle.tp_base.specs.declared.answers.ActionKind.{ActionKind}
 use Rattle.tp_base.specs.declared.rows.Action.{Action}
-use Rattle.tp_model.specs.Actions.{asking}
+use Rattle.tp_model.specs.Actions.{asking, slots_of, returning}
 use Rattle.tp_base.specs.declared.plans.PoolChange.{PoolChange}
 use Rattle.tp_base.specs.declared.ids.Who.{Who}
 use Rattle.tp_base.specs.declared.rows.PoolRow.{PoolRow}
@@ -28,7 +28,7 @@ use Rattle.tp_base.specs.declared.ids.ObjectId.{ObjectId}
 use Rattle.tp_model.specs.Sources.{firing, sources_of}
 use Rattle.tp_model.specs.World.{World, BegunWait, unattached, unfinished}
 use Rattle.tp_model.specs.Counts.{numbered, has_number, is_pending, is_running, owed}
-use Rattle.tp_model.specs.Changes.{with_new_callback, with_callback, with_worker, with_client, change_pool, taken, marked, returned, changed, loosened, release_object, new_wait, without_wait}
+use Rattle.tp_model.specs.Changes.{replaced, with_new_callback, with_callback, with_worker, with_client, change_pool, taken, marked, returned, changed, loosened, release_object, new_wait, without_wait}
 use Rattle.tp_model.specs.Support.Sound.{IsSound, IsWaitSound, AreApart}
 use Rattle.tp_model.specs.Support.Allowed.{IsAllowed, IsTargetMade, price}
 use Rattle.tp_model.proofs.Firing.{running_appended}
@@ -199,8 +199,8 @@ paid fresh w (change.Detach by) s a =
     omega (arith, changed)
 paid fresh w (change.Take by c) s a = omega (arith, owed_taken fresh w by.worker (record { pool = Some by.pool; callback = None }) by.pool c s a.idles refl a.found a.pending)
 paid fresh w (change.Mark by mark) s a = omega (arith, owed_marked fresh w mark by.callback s a.runs.found)
-paid fresh w (change.Return by words) s a =
-    omega (arith, owed_returned fresh w by.worker (record { pool = Some by.pool; callback = Some by.callback.number }) by.callback s a.runs.stands a.runs.found (ap is_running a.runs.running))
+paid fresh w (change.Return by words first count) s a =
+    omega (arith, ap length (running_appended (replaced (returned by.callback) w.callbacks) w.objects first (returning w words (slots_of by.callback.status)).jobs), owed_returned fresh w by.worker (record { pool = Some by.pool; callback = Some by.callback.number }) by.callback s a.runs.stands a.runs.found (ap is_running a.runs.running))
 paid fresh w (change.BeginWait who target cancel) s a = omega (arith, owed_begin_wait fresh w who target cancel s a.none a.made)
 paid fresh w (change.EndWait who how) s a = omega (arith, owed_end_wait fresh w who a.wait s a.begun)
 paid fresh w (change.Finish client) s a = omega (arith, owed_finished w client unfinished a refl)

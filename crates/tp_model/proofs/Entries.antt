@@ -21,7 +21,7 @@ use Rattle.tp_model.specs.Changes.{changed}
 use Rattle.tp_model.specs.Step.{Accepted, Refused, Full, stepped, within, cost, outcome_of}
 use Rattle.tp_model.specs.Table.{plan, step}
 use Rattle.tp_model.specs.History.{is_refusal, change_of, change_told, led_by, led_to, after_from, room, IsLegalFrom, wait_end}
-use Rattle.tp_model.specs.Support.Sound.{IsSound}
+use Rattle.tp_model.specs.Support.Sound.{IsSound, is_wait_at}
 use Rattle.tp_model.specs.Support.Safe.{IsSafeChange}
 use Rattle.tp_model.specs.Laws.Entries.{is_return_call, is_disassociate_call, is_end_call}
 use Rattle.tp_model.specs.Refusing.{first_refusal, unless_refused}
@@ -36,7 +36,7 @@ use Rattle.tp_model.proofs.Growing.{grows}
 use Rattle.tp_model.proofs.Preserving.{changed_sound}
 use Rattle.tp_model.proofs.Steps.{plan_allowed}
 use Rattle.tp_model.proofs.Moving.{change_leads}
-use Rattle.tp_model.proofs.Refusals.{and_false}
+use Rattle.tp_model.proofs.Refusals.{and_false, or_false, false_true}
 
 -- the number that the next callback gets
 abbrev pub fresh_in : World → ℕ
@@ -58,9 +58,11 @@ refused_leads w who call refusal =
         made = refl;
         queued = refl;
         callbacks = sym (append-nil w.callbacks);
+        arms = λ object wait. omega arith;
       };
       waits = Keep (record { begins = refl; ends = and_false (is_end_call call); stay = λ other wait found. found });
       limits = refl;
+      objects = record { waits = λ object. sym (or_false (is_wait_at w.objects object)); new = λ object makes. absurd (false_true makes) };
       maxima = λ pool. refl;
     }
 

@@ -15,7 +15,7 @@ use Rattle.tp_model.specs.Changes.{replaced, taken, returned}
 use Rattle.tp_model.specs.Waits.{is_held_for, cancelled, cancel_where}
 use Rattle.tp_model.specs.Laws.Once.{is_left}
 use Rattle.tp_model.specs.Support.Moves.{asked_slots, Move, Stay, Mark, Attach, Detach, Take, Return, Amend, Cancel, Moves, run_of}
-use Rattle.tp_model.proofs.Cancelling.{cancelled_found, find_cancelled}
+use Rattle.tp_model.proofs.Cancelling.{cancelled_found, find_cancelled, cancelled_if}
 use Rattle.tp_model.proofs.Callbacks.{find_replaced, find_replaced_other}
 use Rattle.tp_model.proofs.Places.{find_either}
 use Rattle.tp_model.proofs.Refusals.{both, false_true}
@@ -154,3 +154,40 @@ taken_from w entry kept staff run (Detach m) e = absurd (let h = sym (ap (λ (d 
 taken_from w entry kept staff run (Return m) e = absurd (let h = sym (ap (λ (d : Deed). d.run) m.tells) ∙ e in cc)
 taken_from w entry kept staff run (Amend m) e = absurd (let h = sym (ap (λ (d : Deed). d.run) m.tells) ∙ e in cc)
 taken_from w entry kept staff run (Cancel m) e = absurd (let h = sym (ap (λ (d : Deed). d.run) m.tells) ∙ e in cc)
+
+-- the row of a number goes on, with the same object
+pub record GoesOn (cs : List CallbackRow) (n : ℕ) (c : CallbackRow) : Type 0 where
+  pub new : CallbackRow
+  pub found : find (has_number n) cs ≡ Some new
+  pub object : new.object ≡ c.object
+
+same_goes_on : (cs ds : List CallbackRow) (n : ℕ) (c : CallbackRow) → ds ≡ cs → find (has_number n) cs ≡ Some c → GoesOn ds n c
+same_goes_on cs ds n c same found = record { new = c; found = ap (find (has_number n)) same ∙ found; object = refl }
+
+replaced_goes_on : (cs ds : List CallbackRow) (r old : CallbackRow) (n : ℕ) (c : CallbackRow) → ds ≡ replaced r cs → find (has_number r.number) cs ≡ Some old → r.object ≡ old.object → find (has_number n) cs ≡ Some c → GoesOn ds n c
+replaced_goes_on cs ds r old n c is was object found =
+    elim (has_number n r) as (λ b. has_number n r ≡ b → GoesOn ds n c) [
+      | true ↦ λ e.
+          let number : r.number ≡ n = eqb-true r.number n e in
+          let same : old ≡ c = one_row (ap (λ k. find (has_number k) cs) number) in
+          record { new = r; found = ap (find (has_number n)) is ∙ ap (λ k. find (has_number k) (replaced r cs)) (sym number) ∙ find_replaced r old cs was; object = object ∙ ap (λ (x : CallbackRow). x.object) same }
+      | false ↦ λ e. record { new = c; found = ap (find (has_number n)) is ∙ find_replaced_other r n cs e ∙ found; object = refl }
+    ] refl
+  where
+    one_row : find (has_number r.number) cs ≡ find (has_number n) cs → old ≡ c
+    one_row h = let both_found : Some old ≡ Some c = sym was ∙ h ∙ found in cc
+
+pub move_goes_on : (w : World) (entry : Entry) (kept : List CallbackRow) (staff : List WorkerRow) (n : ℕ) (c : CallbackRow) → Move w entry kept staff → find (has_number n) w.callbacks ≡ Some c → GoesOn kept n c
+move_goes_on w entry kept staff n c (Stay m) found = same_goes_on w.callbacks kept n c m.callbacks found
+move_goes_on w entry kept staff n c (Attach m) found = same_goes_on w.callbacks kept n c m.callbacks found
+move_goes_on w entry kept staff n c (Detach m) found = same_goes_on w.callbacks kept n c m.callbacks found
+move_goes_on w entry kept staff n c (Mark m) found = replaced_goes_on w.callbacks kept m.new m.old n c m.callbacks m.found m.object found
+move_goes_on w entry kept staff n c (Take m) found = replaced_goes_on w.callbacks kept (taken m.callback m.worker) m.callback n c m.callbacks m.found refl found
+move_goes_on w entry kept staff n c (Return m) found = replaced_goes_on w.callbacks kept (returned m.callback) m.callback n c m.callbacks m.found refl found
+move_goes_on w entry kept staff n c (Amend m) found = replaced_goes_on w.callbacks kept (record m.callback { status = Running m.worker (m.associated && not m.loose) (asked_slots m.asks m.slots) }) m.callback n c m.callbacks m.found refl found
+move_goes_on w entry kept staff n c (Cancel m) found =
+    record {
+      new = cancelled_if m.test c;
+      found = ap (find (has_number n)) m.callbacks ∙ find_cancelled m.test w.callbacks n ∙ ap (cancelled_found m.test) found;
+      object = elim (m.test c) as (λ b. (cond b (cancelled c) c).object ≡ c.object) [ true ↦ refl | false ↦ refl ];
+    }

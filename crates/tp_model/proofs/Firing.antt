@@ -1,25 +1,37 @@
 -- What triggers make and leave: the callbacks are numbered on, pending, and of objects that were made.
-use Rattle.std.proofs.Common.{◌≡◌, ℕ, ◌+◌, ◌-◌, ◌≤◌, ◌==◌, Bool, true, false, cond, not, List, [], ◌∷◌, ◌++◌, length, map, slice_get, get_or, Option, Some, None, is_some, refl, sym, ap, ◌∙◌, arith, filter, ne_eqb}
-use Rattle.std.specs.Option.{unwrap_or}
+use Rattle.std.proofs.Common.{◌≡◌, ℕ, zero, suc, ◌+◌, ◌-◌, ◌≤◌, ◌==◌, Bool, true, false, cond, not, ◌&&◌, List, [], ◌∷◌, ◌++◌, length, map, slice_get, get_or, Option, Some, None, is_some, refl, sym, ap, ap₂, ◌∙◌, arith, filter, find, ne_eqb}
+use Rattle.std.specs.Prelude.{ℤ}
+use Rattle.std.specs.Option.{unwrap_or, option_map_or}
 use Rattle.std.specs.List.{AllByRecursion, range_with_len}
 use Rattle.std.proofs.lemmas.Option.{slice_get-get_or}
 use Rattle.std.proofs.lemmas.List.Elements.{filter-append}
 use Rattle.std.proofs.lemmas.List.{append-nil}
 use Rattle.tp_base.specs.declared.ids.ObjectId.{ObjectId}
+use Rattle.tp_base.specs.declared.ids.KernelId.{KernelId}
+use Rattle.tp_base.specs.declared.answers.TakeResult.TheVariants.{Plain, WaitObject0, WaitTimeout}
+use Rattle.tp_base.specs.declared.calls.Kind.TheVariants.{Wait}
+use Rattle.tp_base.specs.declared.plans.KernelChange.{KernelChange}
+use Rattle.tp_base.specs.declared.plans.KernelChange.TheVariants.{Set, Raise}
 use Rattle.tp_base.specs.declared.plans.Trigger.{Trigger}
-use Rattle.tp_base.specs.declared.plans.Trigger.TheVariants.{SetTimer, Advance}
+use Rattle.tp_base.specs.declared.plans.Trigger.TheVariants.{SetTimer, Advance, SetWait, SetEvent, ReleaseSemaphore}
 use Rattle.tp_base.specs.declared.rows.ObjectRow.{ObjectRow}
 use Rattle.tp_base.specs.declared.rows.CallbackRow.{CallbackRow}
 use Rattle.tp_base.specs.declared.rows.TimerSetting.{TimerSetting}
+use Rattle.tp_base.specs.declared.rows.Arming.{Arming}
+use Rattle.tp_base.specs.Armings.{is_armed, is_arming_of, is_arming_on, is_set}
+use Rattle.tp_base.specs.Kernels.{is_signalled, taken, state_after}
+use Rattle.tp_base.specs.Ranges.{IsResultInRange}
 use Rattle.tp_base.specs.Timers.{with_setting, without_setting, set_again, set_all_again, setting_for, set_timer, expires_before, expires_at_once, expired, after_expiry, is_due, next_due, clock_end}
 use Rattle.tp_model.specs.World.{World}
 use Rattle.tp_model.specs.Counts.{numbered, is_running}
-use Rattle.tp_model.specs.Sources.{Sources, Job, firing, sources_of, rows_of, object_row, no_object, plain_job}
+use Rattle.tp_model.specs.Conditions.{is_same_kind}
+use Rattle.tp_model.specs.Kernels.{is_one_that}
+use Rattle.tp_model.specs.Sources.{Sources, Job, Firing, job, jobless, with_state, disarmed, release_to, release_first, release_times, signal, arm, expiry_job, firing, sources_of, rows_of, object_row, no_object}
 use Rattle.tp_model.specs.Support.Allowed.{IsReady, IsTimer}
-use Rattle.tp_model.specs.Support.Sound.{IsMade}
+use Rattle.tp_model.specs.Support.Sound.{IsMade, is_wait_at, may_be_armed}
 use Rattle.tp_model.specs.Support.Moves.{AreNew, numbers_of, waiting_of}
-use Rattle.tp_model.proofs.Lists.{all_filter, all_get}
-use Rattle.tp_model.proofs.Refusals.{numbered_some, made}
+use Rattle.tp_model.proofs.Lists.{all_filter, all_get, all_append, find_all}
+use Rattle.tp_model.proofs.Refusals.{numbered_some, made, both, false_true}
 
 -- ---- the rows of jobs
 
@@ -61,77 +73,216 @@ made_stands objects object made =
 pub row_of_made : (P : ObjectRow → Type 0) (objects : List ObjectRow) (object : ObjectId) → AllByRecursion P objects → IsMade (length objects) object.0 → P (object_row objects object)
 row_of_made P objects object all made = all_get P objects (object.0 - 1) (object_row objects object) all (numbered_some objects object.0 (object_row objects object) (made_stands objects object made)).0
 
-abbrev pub AreJobsMade : ℕ → List Job → Type 0
-AreJobsMade objects jobs = AllByRecursion (λ (j : Job). IsMade objects j.object.0) jobs
+-- ---- settings, by what each of them has
 
--- ---- timers that are set, by what their objects have
-
-module _ (P : ℕ → Type 0) where
-  abbrev pub AreOf : List TimerSetting → Type 0
-  AreOf settings = AllByRecursion (λ (s : TimerSetting). P s.object.0) settings
-
-  pub of_with : (s : TimerSetting) (settings : List TimerSetting) → P s.object.0 → AreOf settings → AreOf (with_setting s settings)
-  of_with s [] here all = (here, tt)
-  of_with s (t ∷ ts) here all =
-      elim (expires_before s t) as (λ b. AreOf (cond b (s ∷ t ∷ ts) (t ∷ with_setting s ts))) [
+module _ (Q : TimerSetting → Type 0) (later : (s : TimerSetting) (due : ℕ) → Q s → Q (record s { due = due })) where
+  pub all_with : (s : TimerSetting) (settings : List TimerSetting) → Q s → AllByRecursion Q settings → AllByRecursion Q (with_setting s settings)
+  all_with s [] here all = (here, tt)
+  all_with s (t ∷ ts) here all =
+      elim (expires_before s t) as (λ b. AllByRecursion Q (cond b (s ∷ t ∷ ts) (t ∷ with_setting s ts))) [
         | true ↦ (here, all)
-        | false ↦ (all.0, of_with s ts here all.1)
+        | false ↦ (all.0, all_with s ts here all.1)
       ]
 
-  pub of_again : (now : ℕ) (s : TimerSetting) (settings : List TimerSetting) → P s.object.0 → AreOf settings → AreOf (set_again now s settings)
-  of_again now s settings here all =
+  pub all_again : (now : ℕ) (s : TimerSetting) (settings : List TimerSetting) → Q s → AllByRecursion Q settings → AllByRecursion Q (set_again now s settings)
+  all_again now s settings here all =
       let anew : TimerSetting = record s { due = next_due s.due s.period now } in
-      elim (s.period == 0) as (λ b. AreOf (cond b settings (with_setting anew settings))) [ true ↦ all | false ↦ of_with anew settings here all ]
+      elim (s.period == 0) as (λ b. AllByRecursion Q (cond b settings (with_setting anew settings))) [ true ↦ all | false ↦ all_with anew settings (later s (next_due s.due s.period now) here) all ]
 
-  of_all_again : (now : ℕ) (ss settings : List TimerSetting) → AreOf ss → AreOf settings → AreOf (set_all_again now ss settings)
-  of_all_again now [] settings here all = all
-  of_all_again now (s ∷ ss) settings here all = of_all_again now ss (set_again now s settings) here.1 (of_again now s settings here.0 all)
+  all_anew : (now : ℕ) (ss settings : List TimerSetting) → AllByRecursion Q ss → AllByRecursion Q settings → AllByRecursion Q (set_all_again now ss settings)
+  all_anew now [] settings here all = all
+  all_anew now (s ∷ ss) settings here all = all_anew now ss (set_again now s settings) here.1 (all_again now s settings here.0 all)
 
-  pub of_expiry : (now : ℕ) (settings : List TimerSetting) → AreOf settings → AreOf (after_expiry now settings)
-  of_expiry now settings all =
-      of_all_again now (expired now settings) (filter (λ (s : TimerSetting). not (is_due now s)) settings)
-      (all_filter (λ (s : TimerSetting). P s.object.0) (is_due now) settings all)
-      (all_filter (λ (s : TimerSetting). P s.object.0) (λ (s : TimerSetting). not (is_due now s)) settings all)
+  pub all_expiry : (now : ℕ) (settings : List TimerSetting) → AllByRecursion Q settings → AllByRecursion Q (after_expiry now settings)
+  all_expiry now settings all =
+      all_anew now (expired now settings) (filter (λ (s : TimerSetting). not (is_due now s)) settings)
+      (all_filter Q (is_due now) settings all) (all_filter Q (λ (s : TimerSetting). not (is_due now s)) settings all)
 
-  pub of_set : (now : ℕ) (object : ObjectId) (due : Option _) (period window : ℕ) (settings : List TimerSetting) → P object.0 → AreOf settings → AreOf (set_timer now object due period window settings)
-  of_set now object None period window settings here all = all_filter (λ (s : TimerSetting). P s.object.0) (λ (s : TimerSetting). not (s.object.0 == object.0)) settings all
-  of_set now object (Some due) period window settings here all =
+  pub all_set_timer : (now : ℕ) (object : ObjectId) (due : Option ℤ) (period window : ℕ) (settings : List TimerSetting) → ((moment : ℕ) → Q (record { object = object; due = moment; period = period; window = window })) → AllByRecursion Q settings
+      → AllByRecursion Q (set_timer now object due period window settings)
+  all_set_timer now object None period window settings here all = all_filter Q (λ (s : TimerSetting). not (s.object.0 == object.0)) settings all
+  all_set_timer now object (Some due) period window settings here all =
       let s : TimerSetting = setting_for now object due period window in
-      let rest : AreOf (without_setting object settings) = all_filter (λ (t : TimerSetting). P t.object.0) (λ (t : TimerSetting). not (t.object.0 == object.0)) settings all in
-      elim (is_due now s) as (λ b. AreOf (cond b (set_again now s (without_setting object settings)) (with_setting s (without_setting object settings)))) [
-        | true ↦ of_again now s (without_setting object settings) here rest
-        | false ↦ of_with s (without_setting object settings) here rest
+      let rest : AllByRecursion Q (without_setting object settings) = all_filter Q (λ (t : TimerSetting). not (t.object.0 == object.0)) settings all in
+      elim (is_due now s) as (λ b. AllByRecursion Q (cond b (set_again now s (without_setting object settings)) (with_setting s (without_setting object settings)))) [
+        | true ↦ all_again now s (without_setting object settings) (here s.due) rest
+        | false ↦ all_with s (without_setting object settings) (here s.due) rest
       ]
 
--- ---- firings
+abbrev pub AreOf : (ℕ → Type 0) → List TimerSetting → Type 0
+AreOf P settings = AllByRecursion (λ (s : TimerSetting). P s.object.0) settings
 
--- the timer that a trigger names was made
-abbrev pub IsTriggerMade : ℕ → Trigger → Type 0
-IsTriggerMade n (SetTimer object due period window) = IsMade n object.0
-IsTriggerMade n (Advance now) = Unit {0}
+-- by what their objects have
+module _ (P : ℕ → Type 0) where
+  pub of_again : (now : ℕ) (s : TimerSetting) (settings : List TimerSetting) → P s.object.0 → AreOf P settings → AreOf P (set_again now s settings)
+  of_again now s settings here all = all_again (λ (x : TimerSetting). P x.object.0) (λ x due h. h) now s settings here all
+
+  pub of_expiry : (now : ℕ) (settings : List TimerSetting) → AreOf P settings → AreOf P (after_expiry now settings)
+  of_expiry now settings all = all_expiry (λ (x : TimerSetting). P x.object.0) (λ x due h. h) now settings all
+
+  pub of_set : (now : ℕ) (object : ObjectId) (due : Option ℤ) (period window : ℕ) (settings : List TimerSetting) → P object.0 → AreOf P settings → AreOf P (set_timer now object due period window settings)
+  of_set now object due period window settings here all = all_set_timer (λ (x : TimerSetting). P x.object.0) (λ x due h. h) now object due period window settings (λ moment. here) all
+
+-- ---- what objects firings are of
+
+-- settings of the objects that have P, and armings of those that have R
+pub record AreSourcesOf (P R : ℕ → Type 0) (s : Sources) : Type 0 where
+  pub settings : AreOf P s.settings
+  pub armings : AllByRecursion (λ (a : Arming). R a.object.0) s.armings
+
+abbrev pub AreJobsOf : (ℕ → Type 0) → List Job → Type 0
+AreJobsOf P jobs = AllByRecursion (λ (j : Job). P j.object.0 × IsResultInRange j.result) jobs
+
+pub record IsFiringOf (P R : ℕ → Type 0) (f : Firing) : Type 0 where
+  pub sources : AreSourcesOf P R f.sources
+  pub jobs : AreJobsOf P f.jobs
+
+-- the object that a trigger names
+abbrev pub IsTriggerOf : (ℕ → Type 0) → (ℕ → Type 0) → Trigger → Type 0
+IsTriggerOf P R (SetTimer object due period window) = P object.0
+IsTriggerOf P R (SetWait object kernel timeout) = R object.0
+IsTriggerOf P R _ = Unit {0}
+
+module _ (P R : ℕ → Type 0) (of : (n : ℕ) → R n → P n) where
+  disarmed_of : (object : ObjectId) (s : Sources) → AreSourcesOf P R s → AreSourcesOf P R (disarmed object s)
+  disarmed_of object s all =
+      record {
+        settings = all_filter (λ (x : TimerSetting). P x.object.0) (λ (x : TimerSetting). not (x.object.0 == object.0)) s.settings all.settings;
+        armings = all_filter (λ (a : Arming). R a.object.0) (λ (a : Arming). not (is_arming_of object.0 a)) s.armings all.armings;
+      }
+
+  release_to_of : (kernel : ℕ) (f : Firing) (first : Option Arming) → ((a : Arming) → first ≡ Some a → R a.object.0) → IsFiringOf P R f → IsFiringOf P R (release_to kernel f first)
+  release_to_of kernel f None known all = all
+  release_to_of kernel f (Some a) known all =
+      let rest : AreSourcesOf P R (disarmed a.object f.sources) = disarmed_of a.object f.sources all.sources in
+      record {
+        sources = record { settings = rest.settings; armings = rest.armings };
+        jobs = all_append (λ (j : Job). P j.object.0 × IsResultInRange j.result) f.jobs (job a.object WaitObject0) all.jobs (of a.object.0 (known a refl), tt);
+      }
+
+  release_times_of : (n kernel : ℕ) (f : Firing) → IsFiringOf P R f → IsFiringOf P R (release_times n kernel f)
+  release_times_of zero kernel f all = all
+  release_times_of (suc n) kernel f all =
+      release_times_of n kernel (release_first kernel f)
+      (elim (is_one_that is_signalled f.sources.kernels kernel) as (λ b. IsFiringOf P R (cond b (release_to kernel f (find (is_arming_on kernel) f.sources.armings)) f)) [
+        | true ↦ release_to_of kernel f (find (is_arming_on kernel) f.sources.armings) (λ a found. find_all (λ (x : Arming). R x.object.0) (is_arming_on kernel) a f.sources.armings all.sources.armings found) all
+        | false ↦ all
+      ])
+
+  pub signal_of : (how : KernelChange) (kernel : ℕ) (f : Firing) → IsFiringOf P R f → IsFiringOf P R (signal how kernel f)
+  signal_of how kernel f all =
+      release_times_of (length f.sources.armings) kernel (record f { sources = with_state (state_after how) kernel f.sources })
+      (record { sources = record { settings = all.sources.settings; armings = all.sources.armings }; jobs = all.jobs })
+
+  arm_of : (object : ObjectId) (kernel : KernelId) (timeout : Option ℤ) (s : Sources) → R object.0 → AreSourcesOf P R s → IsFiringOf P R (arm object kernel timeout s)
+  arm_of object kernel timeout s here all =
+      elim (is_one_that is_signalled s.kernels kernel.0) as (λ b. IsFiringOf P R (cond b (record { sources = with_state taken kernel.0 s; jobs = job object WaitObject0 ∷ [] })
+      (cond (expires_at_once s.now timeout) (record { sources = s; jobs = job object WaitTimeout ∷ [] }) (jobless (record s { settings = set_timer s.now object timeout 0 0 s.settings; armings = s.armings ++ record { object = object; kernel = kernel } ∷ [] }))))) [
+        | true ↦ record { sources = record { settings = all.settings; armings = all.armings }; jobs = ((of object.0 here, tt), tt) }
+        | false ↦ elim (expires_at_once s.now timeout) as (λ b. IsFiringOf P R (cond b (record { sources = s; jobs = job object WaitTimeout ∷ [] }) (jobless (record s { settings = set_timer s.now object timeout 0 0 s.settings; armings = s.armings ++ record { object = object; kernel = kernel } ∷ [] })))) [
+          | true ↦ record { sources = all; jobs = ((of object.0 here, tt), tt) }
+          | false ↦ record {
+            sources = record {
+              settings = of_set P s.now object timeout 0 0 s.settings (of object.0 here) all.settings;
+              armings = all_append (λ (a : Arming). R a.object.0) s.armings (record { object = object; kernel = kernel }) all.armings here;
+            };
+            jobs = tt;
+          }
+        ]
+      ]
+
+  expiry_of : (armings : List Arming) (settings : List TimerSetting) → AreOf P settings → AreJobsOf P (map (expiry_job armings) settings)
+  expiry_of armings [] all = tt
+  expiry_of armings (s ∷ ss) all = ((all.0, elim (is_armed s.object.0 armings) as (λ b. IsResultInRange (cond b WaitTimeout Plain)) [ true ↦ tt | false ↦ tt ]), expiry_of armings ss all.1)
+
+  pub firing_of : (trigger : Trigger) (s : Sources) → IsTriggerOf P R trigger → AreSourcesOf P R s → IsFiringOf P R (firing trigger s)
+  firing_of (SetTimer object due period window) s here all =
+      record {
+        sources = record { settings = of_set P s.now object due period window s.settings here all.settings; armings = all.armings };
+        jobs = elim (expires_at_once s.now due) as (λ b. AreJobsOf P (cond b (job object Plain ∷ []) [])) [ true ↦ ((here, tt), tt) | false ↦ tt ];
+      }
+  firing_of (Advance now) s here all =
+      record {
+        sources = record {
+          settings = of_expiry P now s.settings all.settings;
+          armings = all_filter (λ (a : Arming). R a.object.0) (λ (a : Arming). not (is_set a.object.0 (expired now s.settings))) s.armings all.armings;
+        };
+        jobs = expiry_of s.armings (expired now s.settings) (all_filter (λ (x : TimerSetting). P x.object.0) (is_due now) s.settings all.settings);
+      }
+  firing_of (SetWait object None timeout) s here all = record { sources = disarmed_of object s all; jobs = tt }
+  firing_of (SetWait object (Some kernel) timeout) s here all = arm_of object kernel timeout (disarmed object s) here (disarmed_of object s all)
+  firing_of (SetEvent kernel) s here all = signal_of Set kernel.0 (jobless s) (record { sources = all; jobs = tt })
+  firing_of (ReleaseSemaphore kernel count) s here all = signal_of (Raise count) kernel.0 (jobless s) (record { sources = all; jobs = tt })
+
+-- ---- objects that were made, and those that may be armed
+
+pub numbered_made : (objects : List ObjectRow) (n : ℕ) (row : ObjectRow) → numbered objects n ≡ Some row → IsMade (length objects) n
+numbered_made objects n row is =
+    let at = numbered_some objects n row is in
+    (at.1, omega (arith, at.1, made objects (n - 1) (ap is_some at.0)))
 
 pub timer_made : (w : World) (object : ObjectId) → IsTimer w object → IsMade (length w.objects) object.0
-timer_made w object ready =
-    let at = numbered_some w.objects object.0 ready.row ready.stands in
-    (at.1, omega (arith, at.1, made w.objects (object.0 - 1) (ap is_some at.0)))
+timer_made w object ready = numbered_made w.objects object.0 ready.row ready.stands
 
-pub ready_made : (w : World) (trigger : Trigger) → IsReady w trigger → IsTriggerMade (length w.objects) trigger
-ready_made w (SetTimer object due period window) ready = timer_made w object ready
-ready_made w (Advance now) ready = tt
+pub armable_made : (objects : List ObjectRow) (n : ℕ) → may_be_armed objects n ≡ true → IsMade (length objects) n
+armable_made objects n may = of_row (numbered objects n) refl may
+  where
+    of_row : (row : Option ObjectRow) → numbered objects n ≡ row → option_map_or (λ (o : ObjectRow). is_same_kind o.kind Wait && not o.released) row false ≡ true → IsMade (length objects) n
+    of_row None is h = absurd (false_true h)
+    of_row (Some row) is h = numbered_made objects n row is
 
-pub fired_settings : (n : ℕ) (trigger : Trigger) (s : Sources) → IsTriggerMade n trigger → AreOf (IsMade n) s.settings → AreOf (IsMade n) (firing trigger s).sources.settings
-fired_settings n (SetTimer object due period window) s here all = of_set (IsMade n) s.now object due period window s.settings here all
-fired_settings n (Advance now) s here all = of_expiry (IsMade n) now s.settings all
+pub armable_wait : (objects : List ObjectRow) (n : ℕ) → may_be_armed objects n ≡ true → is_wait_at objects n ≡ true
+armable_wait objects n may = of_row (numbered objects n) refl may
+  where
+    of_row : (row : Option ObjectRow) → numbered objects n ≡ row → option_map_or (λ (o : ObjectRow). is_same_kind o.kind Wait && not o.released) row false ≡ true → is_wait_at objects n ≡ true
+    of_row None is h = absurd (false_true h)
+    of_row (Some row) is h = ap (λ (o : Option ObjectRow). option_map_or (λ (x : ObjectRow). is_same_kind x.kind Wait) o false) is ∙ (both (is_same_kind row.kind Wait) (not row.released) h).0
 
-jobs_of : (n now : ℕ) (settings : List TimerSetting) → AreOf (IsMade n) settings → AreJobsMade n (map (λ (s : TimerSetting). plain_job s.object) settings)
-jobs_of n now [] all = tt
-jobs_of n now (s ∷ ss) all = (all.0, jobs_of n now ss all.1)
+-- the sources of a world
+abbrev pub AreSourcesIn : List ObjectRow → Sources → Type 0
+AreSourcesIn objects s = AreSourcesOf (IsMade (length objects)) (λ n. may_be_armed objects n ≡ true) s
 
-pub fired_jobs : (n : ℕ) (trigger : Trigger) (s : Sources) → IsTriggerMade n trigger → AreOf (IsMade n) s.settings → AreJobsMade n (firing trigger s).jobs
-fired_jobs n (SetTimer object due period window) s here all =
-    elim (expires_at_once s.now due) as (λ b. AreJobsMade n (cond b (plain_job object ∷ []) [])) [ true ↦ (here, tt) | false ↦ tt ]
-fired_jobs n (Advance now) s here all = jobs_of n now (expired now s.settings) (all_filter (λ (t : TimerSetting). IsMade n t.object.0) (is_due now) s.settings all)
+abbrev pub IsFiringIn : List ObjectRow → Firing → Type 0
+IsFiringIn objects f = IsFiringOf (IsMade (length objects)) (λ n. may_be_armed objects n ≡ true) f
+
+pub ready_of : (w : World) (trigger : Trigger) → IsReady w trigger → IsTriggerOf (IsMade (length w.objects)) (λ n. may_be_armed w.objects n ≡ true) trigger
+ready_of w (SetTimer object due period window) ready = timer_made w object ready
+ready_of w (Advance now) ready = tt
+ready_of w (SetWait object kernel timeout) ready =
+    let o = ready.wait in
+    ap (λ (row : Option ObjectRow). option_map_or (λ (x : ObjectRow). is_same_kind x.kind Wait && not x.released) row false) o.stands ∙ ap₂ (λ k b. is_same_kind k Wait && not b) o.kind o.unreleased
+ready_of w (SetEvent kernel) ready = tt
+ready_of w (ReleaseSemaphore kernel count) ready = tt
+
+pub fired_in : (w : World) (trigger : Trigger) → IsReady w trigger → AreSourcesIn w.objects (sources_of w) → IsFiringIn w.objects (firing trigger (sources_of w))
+fired_in w trigger ready all = firing_of (IsMade (length w.objects)) (λ n. may_be_armed w.objects n ≡ true) (λ n may. armable_made w.objects n may) trigger (sources_of w) (ready_of w trigger ready) all
+
+release_now : (n kernel : ℕ) (f : Firing) → (release_times n kernel f).sources.now ≡ f.sources.now
+release_now zero kernel f = refl
+release_now (suc n) kernel f = release_now n kernel (release_first kernel f) ∙ elim (is_one_that is_signalled f.sources.kernels kernel) as (λ b. (cond b (release_to kernel f (find (is_arming_on kernel) f.sources.armings)) f).sources.now ≡ f.sources.now) [
+  | true ↦ of_first (find (is_arming_on kernel) f.sources.armings)
+  | false ↦ refl
+]
+  where
+    of_first : (first : Option Arming) → (release_to kernel f first).sources.now ≡ f.sources.now
+    of_first None = refl
+    of_first (Some a) = refl
+
+arm_now : (object : ObjectId) (kernel : KernelId) (timeout : Option ℤ) (s : Sources) → (arm object kernel timeout s).sources.now ≡ s.now
+arm_now object kernel timeout s =
+    elim (is_one_that is_signalled s.kernels kernel.0) as (λ b. (cond b (record { sources = with_state taken kernel.0 s; jobs = job object WaitObject0 ∷ [] })
+    (cond (expires_at_once s.now timeout) (record { sources = s; jobs = job object WaitTimeout ∷ [] }) (jobless (record s { settings = set_timer s.now object timeout 0 0 s.settings; armings = s.armings ++ record { object = object; kernel = kernel } ∷ [] })))).sources.now ≡ s.now) [
+      | true ↦ refl
+      | false ↦ elim (expires_at_once s.now timeout) as (λ b. (cond b (record { sources = s; jobs = job object WaitTimeout ∷ [] }) (jobless (record s { settings = set_timer s.now object timeout 0 0 s.settings; armings = s.armings ++ record { object = object; kernel = kernel } ∷ [] }))).sources.now ≡ s.now) [ true ↦ refl | false ↦ refl ]
+    ]
+
+pub signal_now : (how : KernelChange) (kernel : ℕ) (f : Firing) → (signal how kernel f).sources.now ≡ f.sources.now
+signal_now how kernel f = release_now (length f.sources.armings) kernel (record f { sources = with_state (state_after how) kernel f.sources })
 
 pub fired_clock : (w : World) (trigger : Trigger) → IsReady w trigger → w.now ≤ clock_end → (firing trigger (sources_of w)).sources.now ≤ clock_end
 fired_clock w (SetTimer object due period window) ready clock = clock
 fired_clock w (Advance now) ready clock = ready.within
+fired_clock w (SetWait object None timeout) ready clock = clock
+fired_clock w (SetWait object (Some kernel) timeout) ready clock = omega (arith, clock, arm_now object kernel timeout (disarmed object (sources_of w)))
+fired_clock w (SetEvent kernel) ready clock = omega (arith, clock, release_now (length w.armings) kernel.0 (jobless (with_state (state_after Set) kernel.0 (sources_of w))))
+fired_clock w (ReleaseSemaphore kernel count) ready clock = omega (arith, clock, release_now (length w.armings) kernel.0 (jobless (with_state (state_after (Raise count)) kernel.0 (sources_of w))))

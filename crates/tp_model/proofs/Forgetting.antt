@@ -31,7 +31,7 @@ use Rattle.tp_model.specs.Refusing.{first_refusal, unless_refused}
 use Rattle.tp_model.specs.Changes.{with_new_pool, with_object, with_worker, with_client, change_pool, pool_after, with_pool, replaced, taken, marked, returned, finished, changed, release_object, without_wait, end_wait, kernels_taken, kernels_left}
 use Rattle.tp_base.specs.declared.plans.WaitEnd.{WaitEnd}
 use Rattle.tp_base.specs.declared.plans.WaitEnd.TheVariants.{Free, Exhausted}
-use Rattle.tp_model.specs.Actions.{slots_of, performed}
+use Rattle.tp_model.specs.Actions.{slots_of, returning}
 use Rattle.tp_model.specs.Waits.{is_of, is_held_for, is_outstanding_for, count_outstanding, is_cancelled_by, cancelled, cancel_where, is_object_target, is_covered_by, covered_of, wait_of}
 use Rattle.tp_model.specs.Support.Sound.{IsSound, IsWorkerSound, AreWorkersSound, RunsOn, IsRising, IsCallbackSound, is_left_of}
 use Rattle.tp_model.specs.Support.Allowed.{IsAllowed}
@@ -131,6 +131,8 @@ forget_sound fresh w s =
       apart = s.apart;
       waits = waits_still fresh w.callbacks (filter lives w.callbacks) (left_forget fresh w.callbacks s.numbers) w.waits s.waits;
       timers = s.timers;
+      armings = s.armings;
+      timeouts = s.timeouts;
       clock = s.clock;
       callback_pools = all_filter (λ (c : CallbackRow). c.pool.0 < length w.pools) lives w.callbacks s.callback_pools;
       callback_objects = all_filter (IsCallbackSound w.objects) lives w.callbacks s.callback_objects;
@@ -256,7 +258,7 @@ changed_forget fresh w (change.ReleaseObject object) s a = release_forget w obje
 changed_forget fresh w (change.QueueCallback c) s a = appended_forget w (c ∷ [])
 changed_forget fresh w (change.Fire trigger first count) s a =
     let f : Firing = firing trigger (sources_of w) in
-    appended_forget (record w { settings = f.sources.settings; now = f.sources.now }) (rows_of w.objects first f.jobs)
+    appended_forget (record w { settings = f.sources.settings; armings = f.sources.armings; kernels = f.sources.kernels; now = f.sources.now }) (rows_of w.objects first f.jobs)
 changed_forget fresh w (change.CreateKernel state) s a = live_forgotten (changed w (change.CreateKernel state))
 changed_forget fresh w (change.ChangeKernel kernel how) s a = live_forgotten (changed w (change.ChangeKernel kernel how))
 changed_forget fresh w (change.Attach worker pool) s a = live_forgotten (changed w (change.Attach worker pool))
@@ -268,10 +270,15 @@ changed_forget fresh w (change.Take by c) s a =
 changed_forget fresh w (change.Mark by mark) s a =
     let r : CallbackRow = marked mark by.callback in
     as_live w (replaced r (filter lives w.callbacks)) (replaced r w.callbacks) (marked_forget fresh w mark by.callback s a.runs.found (ap is_live a.runs.running))
-changed_forget fresh w (change.Return by words) s a =
+changed_forget fresh w (change.Return by words first count) s a =
     let r : CallbackRow = returned by.callback in
-    as_live (record (with_worker w by.worker (record { pool = Some by.pool; callback = None })) { kernels = performed words (slots_of by.callback.status) w.kernels }) (replaced r (filter lives w.callbacks)) (replaced r w.callbacks)
-    (filter_replaced_out lives r (filter lives w.callbacks) refl ∙ ap (filter (λ (x : CallbackRow). not (has_number by.callback.number x))) (live_again w.callbacks) ∙ sym (filter_replaced_out lives r w.callbacks refl))
+    let f : Firing = returning w words (slots_of by.callback.status) in
+    let rows : List CallbackRow = rows_of w.objects first f.jobs in
+    let same : filter lives (replaced r (filter lives w.callbacks)) ≡ filter lives (replaced r w.callbacks)
+    = filter_replaced_out lives r (filter lives w.callbacks) refl ∙ ap (filter (λ (x : CallbackRow). not (has_number by.callback.number x))) (live_again w.callbacks) ∙ sym (filter_replaced_out lives r w.callbacks refl) in
+    as_live (record (with_worker w by.worker (record { pool = Some by.pool; callback = None })) { settings = f.sources.settings; armings = f.sources.armings; kernels = f.sources.kernels; now = f.sources.now })
+    (replaced r (filter lives w.callbacks) ++ rows) (replaced r w.callbacks ++ rows)
+    (filter-append lives (replaced r (filter lives w.callbacks)) rows ∙ ap (λ t. t ++ filter lives rows) same ∙ sym (filter-append lives (replaced r w.callbacks) rows))
 changed_forget fresh w (change.BeginWait who target cancel) s a =
     ap₂ (λ cs covered. record w { callbacks = cs; waits = w.waits ++ (record { actor = who; target = target; covered = covered; notices = []; cleanup = 0 }) ∷ [] })
     (cancel_forget lives (is_cancelled_by target cancel) (cancelled_pending target cancel) (λ c e. e) w.callbacks) (covered_forget w target cancel)

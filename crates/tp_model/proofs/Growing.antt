@@ -8,7 +8,8 @@ use Rattle.tp_base.specs.declared.rows.ObjectRow.{ObjectRow}
 use Rattle.tp_base.specs.declared.ids.ObjectId.{ObjectId}
 use Rattle.tp_model.specs.World.{World}
 use Rattle.tp_model.specs.Sources.{Job, firing, sources_of, rows_of}
-use Rattle.tp_model.specs.Changes.{change_pool, taken, marked, returned, changed, release_object}
+use Rattle.tp_model.specs.Changes.{change_pool, replaced, taken, marked, returned, changed, release_object}
+use Rattle.tp_model.specs.Actions.{slots_of, returning}
 use Rattle.tp_model.specs.Counts.{numbered}
 use Rattle.tp_model.specs.Waits.{is_cancelled_by}
 use Rattle.tp_model.specs.Support.Allowed.{IsAllowed, news}
@@ -40,7 +41,9 @@ grows fresh w (change.Attach worker pool) a = omega arith
 grows fresh w (change.Detach by) a = omega arith
 grows fresh w (change.Take by c) a = omega (arith, length_replaced (taken c by.worker) w.callbacks)
 grows fresh w (change.Mark by mark) a = omega (arith, length_replaced (marked mark by.callback) w.callbacks)
-grows fresh w (change.Return by words) a = omega (arith, length_replaced (returned by.callback) w.callbacks)
+grows fresh w (change.Return by words first count) a =
+    let jobs : List Job = (returning w words (slots_of by.callback.status)).jobs in
+    omega (arith, length-append (replaced (returned by.callback) w.callbacks) (rows_of w.objects first jobs), length_rows w.objects first jobs, length_replaced (returned by.callback) w.callbacks, a.counted)
 grows fresh w (change.BeginWait who target cancel) a = omega (arith, length_cancelled (is_cancelled_by target cancel) w.callbacks)
 grows fresh w (change.EndWait who how) a = omega arith
 grows fresh w (change.Finish client) a = omega arith

@@ -9,7 +9,7 @@ use Rattle.tp_base.specs.declared.plans.KernelChange.TheVariants.{Set, Reset, Ra
 use Rattle.tp_base.specs.declared.rows.KernelState.{KernelState}
 use Rattle.tp_base.specs.declared.rows.KernelState.TheVariants.{Event, Semaphore, Mutex, Section}
 use Rattle.tp_base.specs.declared.rows.KernelRow.{KernelRow}
-use Rattle.tp_base.specs.Kernels.{taken_by, state_after}
+use Rattle.tp_base.specs.Kernels.{taken, taken_by, state_after}
 use Rattle.tp_model.specs.World.{World}
 use Rattle.tp_model.specs.Counts.{numbered}
 use Rattle.tp_model.specs.Kernels.{is_kernel_that, with_row, kernel_changed}
@@ -67,3 +67,9 @@ taken_ranged who (Event manual signalled) r = tt
 taken_ranged who (Semaphore count maximum) r = (omega (arith, r.0), r.1)
 taken_ranged who (Mutex owner takings) r = tt
 taken_ranged who (Section owner takings) r = tt
+
+pub taken_state_ranged : (state : KernelState) → IsStateInRange state → IsStateInRange (taken state)
+taken_state_ranged (Event manual signalled) r = tt
+taken_state_ranged (Semaphore count maximum) r = (omega (arith, r.0), r.1)
+taken_state_ranged (Mutex owner takings) r = tt
+taken_state_ranged (Section owner takings) r = tt

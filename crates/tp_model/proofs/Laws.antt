@@ -30,6 +30,8 @@ use Rattle.tp_model.specs.Laws.Maximum.{IsWithinMaximum}
 use Rattle.tp_model.proofs.Preserving.{opening_sound}
 use Rattle.tp_model.proofs.Entries.{fresh_in, LeadsOn, entry_leads, IsKept, kept_to_end, kept_to_entry, Reached}
 use Rattle.tp_model.proofs.Once.{AgreesAfter, agrees_on, takes_ready, takes_uncancelled, made_in_order, taken_once, left_untaken, made_are}
+use Rattle.tp_model.specs.Laws.Armed.{AreArmed}
+use Rattle.tp_model.proofs.Armed.{ArmedAfter, opening_armed, armed_more, are_armed_after}
 use Rattle.tp_model.proofs.Maximum.{IsStaffed, is_staffed_on, takes_below, opening_staffed}
 
 -- what holds of the world after a legal history
@@ -41,6 +43,7 @@ pub record Holds (limits : Limits) (history : List Entry) (w : World) : Type 0 w
   pub ready : AreReady history w
   pub promises : Promises history w
   pub acting : AreActing history w
+  pub armed : ArmedAfter history w
 
 -- before an entry that takes a callback, the callback is pending
 record TakesPending (limits : Limits) (before : List Entry) (entry : Entry) (run : Run) : Type 0 where
@@ -61,6 +64,7 @@ opening_holds limits =
       ready = record { ready = λ n c among found. absurd cc };
       promises = λ before between begin b split. absurd (no_place before begin between split);
       acting = λ before between taken split. absurd (no_place before taken between split);
+      armed = opening_armed limits;
     }
 
 keeps : (limits : Limits) → IsKept (Holds limits)
@@ -74,6 +78,7 @@ keeps limits before w left entry h told =
       ready = are_ready_more before w entry (led_to w entry) h.sound.numbers h.agrees h.ready on.leads;
       promises = promises_more before w entry (led_to w entry) h.sound.numbers h.agrees h.ready on.leads h.promises;
       acting = are_acting_more (fresh_in w) before w entry (led_to w entry) on.leads.moves h.acting;
+      armed = armed_more before w entry (led_to w entry) h.sound on.sound h.agrees h.armed on.leads;
     }
 
 module _ (limits : Limits) (capacity : ℕ) (history : List Entry) (legal : IsLegal limits capacity history) where
@@ -201,8 +206,11 @@ module _ (limits : Limits) (capacity : ℕ) (history : List Entry) (legal : IsLe
           let r = at_entry (before ++ taken ∷ between) later next_one split in
           at_most_one r.world taken.who between kind (r.holds.acting before between taken refl takes quiet)
 
+  pub are_armed : AreArmed history
+  are_armed = are_armed_after history (after limits history) at_end.armed
+
   pub keeps_laws : KeepsLaws limits history
-  keeps_laws = record { once = are_once; maximum = is_within_maximum; covered = are_covered; actions = are_actions }
+  keeps_laws = record { once = are_once; maximum = is_within_maximum; covered = are_covered; actions = are_actions; armed = are_armed }
 
   -- what a pool's worker takes next comes first of what is pending there
   pub next_is_first : (pool : ℕ) → IsNextOrNone (after limits history) pool (next (after limits history) pool)

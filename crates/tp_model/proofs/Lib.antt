@@ -2,6 +2,9 @@ pub mod Acting
 mod ActionExamples
 pub mod Actions
 pub mod Actors
+pub mod Armed
+pub mod Arming
+mod ArmingExamples
 pub mod Callbacks
 pub mod Calls
 pub mod Cancelling
@@ -21,6 +24,7 @@ pub mod Maximum
 pub mod Meeting
 pub mod Moving
 pub mod Once
+pub mod Performing
 pub mod Places
 pub mod Planning
 pub mod Preserving

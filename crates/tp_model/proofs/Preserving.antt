@@ -1,5 +1,5 @@
 -- Each change keeps what is true of all worlds that can be reached.
-use Rattle.std.proofs.Common.{◌≡◌, ◌≢◌, ℕ, suc, zero, ◌+◌, ◌-◌, ◌<◌, ◌≤◌, Bool, true, false, cond, not, ◌&&◌, ◌||◌, ◌==◌, List, [], ◌∷◌, ◌++◌, length, slice_get, slice_set, replicate, Option, Some, None, refl, sym, ap, ap₂, ◌∙◌, subst, arith, filter, find, eqb-true, ne_eqb, length-append, length-set}
+use Rattle.std.proofs.Common.{◌≡◌, ◌≢◌, ℕ, suc, zero, ◌+◌, ◌-◌, ◌<◌, ◌≤◌, Bool, true, false, cond, not, ◌&&◌, ◌||◌, ◌==◌, List, [], ◌∷◌, ◌++◌, length, slice_get, slice_set, replicate, Option, Some, None, refl, sym, ap, ap₂, ◌∙◌, subst, arith, filter, find, eqb-true, eq-eqb, ne_eqb, length-append, length-set}
 use Rattle.std.specs.List.{AllByRecursion, list_any}
 use Rattle.std.proofs.lemmas.List.Folds.{list_any-append}
 use Rattle.tp_base.specs.declared.ids.PoolId.{PoolId}
@@ -23,26 +23,36 @@ use Rattle.tp_base.specs.declared.rows.WaitTarget.{WaitTarget}
 use Rattle.tp_base.specs.declared.rows.WaitTarget.TheVariants.{Object, Group, Kernel}
 use Rattle.tp_model.specs.Waits.{is_of, is_cancelled_by, cancelled, cancel_where, wait_of}
 use Rattle.tp_base.specs.Actors.{is_same_actor}
-use Rattle.tp_model.specs.Conditions.{is_in_wait}
+use Rattle.tp_model.specs.Conditions.{is_in_wait, is_same_kind}
 use Rattle.tp_base.specs.declared.ids.ObjectId.{ObjectId}
 use Rattle.tp_base.specs.declared.plans.Trigger.{Trigger}
 use Rattle.tp_base.specs.declared.rows.TimerSetting.{TimerSetting}
+use Rattle.tp_base.specs.declared.plans.Trigger.TheVariants.{SetTimer}
+use Rattle.tp_base.specs.declared.rows.Arming.{Arming}
+use Rattle.tp_base.specs.declared.calls.Kind.TheVariants.{Wait}
+use Rattle.tp_base.specs.Armings.{is_arming_of, without_arming}
 use Rattle.tp_base.specs.Timers.{without_setting, clock_end}
+use Rattle.tp_model.specs.Laws.Entries.{set_on}
+use Rattle.tp_model.specs.Support.Told.{sets_of}
+use Rattle.tp_model.specs.Support.Moves.{count_allowed}
+use Rattle.std.specs.Option.{option_map_or}
 use Rattle.std.proofs.lemmas.List.{append_assoc, append-nil}
-use Rattle.tp_model.specs.Sources.{Job, Firing, firing, sources_of, rows_of, new_callback, object_row, fired, count_fired}
+use Rattle.tp_model.specs.Sources.{Sources, Job, Firing, firing, sources_of, rows_of, new_callback, object_row, fired, count_fired}
 use Rattle.tp_model.specs.Support.Allowed.{IsReady}
-use Rattle.tp_model.proofs.Firing.{AreOf, AreJobsMade, IsTriggerMade, row_of_made, made_stands, ready_made, fired_settings, fired_jobs, fired_clock}
+use Rattle.tp_model.proofs.Firing.{armable_made, AreOf, AreJobsOf, AreSourcesIn, IsFiringIn, row_of_made, made_stands, fired_in, fired_clock}
+use Rattle.tp_model.proofs.Arming.{IsApart, IsCounted, firing_counted, timed_disarmed}
 use Rattle.tp_model.specs.World.{World, BegunWait, opening, unattached, new_pool}
 use Rattle.tp_model.specs.Counts.{numbered, has_number, is_pending, is_running}
-use Rattle.tp_model.specs.Changes.{with_new_pool, with_pool, with_object, with_new_callback, with_callback, with_worker, with_client, replaced, change_pool, pool_after, taken, loosened, marked, returned, finished, release_object, new_wait, begin_wait, without_wait, end_wait, kernels_left, changed}
+use Rattle.tp_model.specs.Changes.{with_new_pool, with_pool, with_object, with_new_callback, with_callback, with_worker, with_client, replaced, change_pool, pool_after, taken, loosened, marked, returned, finished, release_object, new_wait, begin_wait, without_run, without_wait, end_wait, kernels_left, changed}
 use Rattle.tp_base.specs.declared.rows.KernelRow.{KernelRow}
 use Rattle.tp_base.specs.Kernels.{state_after}
-use Rattle.tp_model.specs.Actions.{no_actions, asking, slots_of, performed}
+use Rattle.tp_model.specs.Actions.{no_actions, asking, slots_of, returning}
+use Rattle.tp_model.proofs.Performing.{returning_of, returning_counted, returning_now}
 use Rattle.tp_model.specs.Kernels.{new_kernel, kernel_changed}
 use Rattle.tp_model.specs.Laws.Once.{is_left}
-use Rattle.tp_model.specs.Support.Sound.{IsSound, IsMade, IsRising, RunsOn, IsWorkerSound, AreWorkersSound, AreApart, HasObject, IsCallbackSound, IsWaitSound, is_left_of}
+use Rattle.tp_model.specs.Support.Sound.{IsSound, IsMade, is_wait_at, may_be_armed, count_armed, count_set, IsTimedOut, IsRising, RunsOn, IsWorkerSound, AreWorkersSound, AreApart, HasObject, IsCallbackSound, IsWaitSound, is_left_of}
 use Rattle.tp_model.specs.Support.Allowed.{IsAllowed, IsTargetMade, news}
-use Rattle.tp_model.proofs.Lists.{all_along, all_below, find_all, set_kept, slice_get_append, all_append, all_map, all_get, all_set, all_filter, any_filter_none}
+use Rattle.tp_model.proofs.Lists.{all_along, all_below, find_all, set_kept, slice_get_append, all_append, all_map, all_get, all_set, all_filter, any_filter_none, get_set, get_set_other}
 use Rattle.tp_model.proofs.Cancelling.{IsPendingTest, cancelled_pending, cancelled_if, cancelled_number, running_passed, find_uncancelled}
 use Rattle.tp_model.proofs.Callbacks.{rising_append, rising_map, rising_replaced, find_replaced, find_replaced_other, find_appended}
 use Rattle.tp_model.proofs.Refusals.{neither, numbered_some, numbered_at, false_true, and_false, same_actor_sym}
@@ -112,16 +122,47 @@ worker_at cs first (suc place) (w ∷ ws) row s e =
 -- ---- objects of callbacks
 
 -- a further object is made, and one is released
+pub numbered_append : (objects : List ObjectRow) (o : ObjectRow) (n : ℕ) (row : ObjectRow) → numbered objects n ≡ Some row → numbered (objects ++ o ∷ []) n ≡ Some row
+numbered_append objects o n row is =
+    let at = numbered_some objects n row is in
+    numbered_at (objects ++ o ∷ []) n row at.1 (slice_get_append objects (o ∷ []) (n - 1) row at.0)
+
 object_appended : (objects : List ObjectRow) (o : ObjectRow) (c : CallbackRow) → HasObject objects c → HasObject (objects ++ o ∷ []) c
 object_appended objects o c of =
-    let at = numbered_some objects c.object.0 of.row of.stands in
-    record { row = of.row; stands = numbered_at (objects ++ o ∷ []) c.object.0 of.row at.1 (slice_get_append objects (o ∷ []) (c.object.0 - 1) of.row at.0); home = of.home }
+    record { row = of.row; stands = numbered_append objects o c.object.0 of.row of.stands; home = of.home }
 
 object_released : (objects : List ObjectRow) (place : ℕ) (row : ObjectRow) (c : CallbackRow) → slice_get objects place ≡ Some row → HasObject objects c → HasObject (slice_set objects place (record row { released = true })) c
 object_released objects place row c stands of =
     let at = numbered_some objects c.object.0 of.row of.stands in
     let now = set_kept (λ (o : ObjectRow). o.env.pool) objects place (c.object.0 - 1) row (record row { released = true }) of.row stands refl at.0 in
     record { row = now.0; stands = numbered_at (slice_set objects place (record row { released = true })) c.object.0 now.0 at.1 now.1; home = of.home ∙ sym now.2 }
+
+-- ---- wait objects
+
+abbrev armable_row : Option ObjectRow → Bool
+armable_row row = option_map_or (λ (o : ObjectRow). is_same_kind o.kind Wait && not o.released) row false
+
+abbrev pub wait_row : Option ObjectRow → Bool
+wait_row row = option_map_or (λ (o : ObjectRow). is_same_kind o.kind Wait) row false
+
+-- an object that was never made has no setting
+none_set : (objects n : ℕ) (settings : List TimerSetting) (armings : List Arming) → (IsMade objects n → ⊥) → AreOf (IsMade objects) settings → IsTimedOut n settings armings
+none_set objects n settings armings unmade all = record { few = omega (arith, none settings all); once = once settings all }
+  where
+    other : (t : TimerSetting) → IsMade objects t.object.0 → t.object.0 ≡ n → ⊥
+    other t made is = unmade (subst (IsMade objects) is made)
+
+    none : (ts : List TimerSetting) → AreOf (IsMade objects) ts → count_set n ts ≡ 0
+    none [] made = refl
+    none (t ∷ ts) made =
+        elim (t.object.0 == n) as (λ b. (t.object.0 == n) ≡ b → length (cond b (t ∷ filter (λ (x : TimerSetting). x.object.0 == n) ts) (filter (λ (x : TimerSetting). x.object.0 == n) ts)) ≡ 0) [
+          | true ↦ λ is. absurd (other t made.0 (eqb-true t.object.0 n is))
+          | false ↦ λ _. none ts made.1
+        ] refl
+
+    once : (ts : List TimerSetting) → AreOf (IsMade objects) ts → AllByRecursion (λ (t : TimerSetting). t.object.0 ≡ n → t.period ≡ 0) ts
+    once [] made = tt
+    once (t ∷ ts) made = ((λ is. absurd (other t made.0 is)), once ts made.1)
 
 -- ---- changes of a world
 
@@ -135,10 +176,30 @@ sound_object fresh w o home s =
       callback_objects = all_along (IsCallbackSound w.objects) (IsCallbackSound (w.objects ++ o ∷ [])) (λ c sound named. object_appended w.objects o c (sound named)) w.callbacks s.callback_objects;
       apart = s.apart;
       timers = more_objects w.settings s.timers;
+      armings = more_armable w.armings s.armings;
+      timeouts = λ object wait. of_row object (numbered w.objects object) refl wait;
       clock = s.clock;
       waits = s.waits;
     }
   where
+    still_armable : (n : ℕ) → may_be_armed w.objects n ≡ true → may_be_armed (w.objects ++ o ∷ []) n ≡ true
+    still_armable n may = of_row (numbered w.objects n) refl may
+      where
+        of_row : (row : Option ObjectRow) → numbered w.objects n ≡ row → armable_row row ≡ true → may_be_armed (w.objects ++ o ∷ []) n ≡ true
+        of_row None is h = absurd (false_true h)
+        of_row (Some row) is h = ap armable_row (numbered_append w.objects o n row is) ∙ h
+
+    more_armable : (armings : List Arming) → AllByRecursion (λ (a : Arming). may_be_armed w.objects a.object.0 ≡ true) armings → AllByRecursion (λ (a : Arming). may_be_armed (w.objects ++ o ∷ []) a.object.0 ≡ true) armings
+    more_armable armings all = all_along (λ (a : Arming). may_be_armed w.objects a.object.0 ≡ true) (λ (a : Arming). may_be_armed (w.objects ++ o ∷ []) a.object.0 ≡ true) (λ a may. still_armable a.object.0 may) armings all
+
+    -- the new object has no setting yet
+    of_row : (n : ℕ) (row : Option ObjectRow) → numbered w.objects n ≡ row → is_wait_at (w.objects ++ o ∷ []) n ≡ true → IsTimedOut n w.settings w.armings
+    of_row n (Some row) is wait = s.timeouts n (ap wait_row (is ∙ sym (numbered_append w.objects o n row is)) ∙ wait)
+    of_row n None is wait = none_set (length w.objects) n w.settings w.armings (λ made. none_there (sym is ∙ made_stands w.objects (record { 0 = n }) made)) s.timers
+      where
+        none_there : {row : ObjectRow} → None ≡ Some row → ⊥
+        none_there e = cc
+
     more_objects : (settings : List TimerSetting) → AreOf (IsMade (length w.objects)) settings → AreOf (IsMade (length (w.objects ++ o ∷ []))) settings
     more_objects [] all = tt
     more_objects (t ∷ ts) all = ((all.0.0, omega (arith, all.0.1, length-append w.objects (o ∷ []))), more_objects ts all.1)
@@ -151,6 +212,8 @@ sound_new_callback fresh w c number home object s =
       object_pools = s.object_pools;
       apart = s.apart;
       timers = s.timers;
+      armings = s.armings;
+      timeouts = s.timeouts;
       clock = s.clock;
       waits = waits_longer fresh c w.callbacks number w.waits s.waits;
       callback_pools = all_append (λ (x : CallbackRow). x.pool.0 < length w.pools) w.callbacks c s.callback_pools home;
@@ -159,10 +222,10 @@ sound_new_callback fresh w c number home object s =
 
 pub sound_free_worker : (fresh : ℕ) (w : World) (worker : ℕ) (row : WorkerRow) → row.callback ≡ None → IsSound fresh w → IsSound fresh (with_worker w worker row)
 sound_free_worker fresh w worker row free s =
-    record { numbers = s.numbers; workers = workers_freed w.callbacks row 1 (worker - 1) w.workers free s.workers; object_pools = s.object_pools; callback_pools = s.callback_pools; apart = s.apart; waits = s.waits; callback_objects = s.callback_objects; timers = s.timers; clock = s.clock }
+    record { numbers = s.numbers; workers = workers_freed w.callbacks row 1 (worker - 1) w.workers free s.workers; object_pools = s.object_pools; callback_pools = s.callback_pools; apart = s.apart; waits = s.waits; callback_objects = s.callback_objects; timers = s.timers; armings = s.armings; timeouts = s.timeouts; clock = s.clock }
 
 pub sound_client : (fresh : ℕ) (w : World) (client : ℕ) (row : _) → IsSound fresh w → IsSound fresh (with_client w client row)
-sound_client fresh w client row s = record { numbers = s.numbers; workers = s.workers; object_pools = s.object_pools; callback_pools = s.callback_pools; apart = s.apart; waits = s.waits; callback_objects = s.callback_objects; timers = s.timers; clock = s.clock }
+sound_client fresh w client row s = record { numbers = s.numbers; workers = s.workers; object_pools = s.object_pools; callback_pools = s.callback_pools; apart = s.apart; waits = s.waits; callback_objects = s.callback_objects; timers = s.timers; armings = s.armings; timeouts = s.timeouts; clock = s.clock }
 
 -- a further pool, and another row of a pool
 pub sound_new_pool : (fresh : ℕ) (w : World) → IsSound fresh w → IsSound fresh (with_new_pool w)
@@ -174,6 +237,8 @@ sound_new_pool fresh w s =
       object_pools = all_below (λ (o : ObjectRow). o.env.pool.0) (length w.pools) (length (w.pools ++ new_pool w.limits ∷ [])) more w.objects s.object_pools;
       apart = s.apart;
       timers = s.timers;
+      armings = s.armings;
+      timeouts = s.timeouts;
       clock = s.clock;
       waits = s.waits;
       callback_objects = s.callback_objects;
@@ -189,6 +254,8 @@ sound_pool fresh w number row s =
       object_pools = subst (λ n. AllByRecursion (λ (o : ObjectRow). o.env.pool.0 < n) w.objects) as_many s.object_pools;
       apart = s.apart;
       timers = s.timers;
+      armings = s.armings;
+      timeouts = s.timeouts;
       clock = s.clock;
       waits = s.waits;
       callback_objects = s.callback_objects;
@@ -225,6 +292,8 @@ sound_taken fresh w worker pool c from_one found waits home s =
       object_pools = s.object_pools;
       apart = s.apart;
       timers = s.timers;
+      armings = s.armings;
+      timeouts = s.timeouts;
       clock = s.clock;
       waits = waits_still fresh w.callbacks (replaced r w.callbacks) (left_replaced r c w.callbacks found (λ target left. absurd (false_true (sym (and_false (is_of target r)) ∙ left)))) w.waits s.waits;
       callback_pools = pools_replaced (length w.pools) r c w.callbacks refl found s.callback_pools;
@@ -253,6 +322,8 @@ sound_returned fresh w worker row pool c from_one free runs found s =
       object_pools = s.object_pools;
       apart = s.apart;
       timers = s.timers;
+      armings = s.armings;
+      timeouts = s.timeouts;
       clock = s.clock;
       waits = waits_still fresh w.callbacks (replaced r w.callbacks) (left_replaced r c w.callbacks found (λ target left. absurd (false_true (sym (and_false (is_of target r)) ∙ left)))) w.waits s.waits;
       callback_pools = pools_replaced (length w.pools) r c w.callbacks refl found s.callback_pools;
@@ -309,6 +380,8 @@ sound_same fresh w r c number pool object status left found s =
       object_pools = s.object_pools;
       apart = s.apart;
       timers = s.timers;
+      armings = s.armings;
+      timeouts = s.timeouts;
       clock = s.clock;
       waits = waits_still fresh w.callbacks (replaced r w.callbacks) (left_replaced r c w.callbacks there left) w.waits s.waits;
       callback_pools = pools_replaced (length w.pools) r c w.callbacks pool found s.callback_pools;
@@ -357,6 +430,31 @@ sound_marked fresh w (Asks kind action) c found s =
     still Returned = refl
     still Cancelled = refl
 
+-- the rows of other objects stay where one is put in another's place, and so do the kinds where one is released
+numbered_set_other : (objects : List ObjectRow) (m n : ℕ) (row : ObjectRow) → 1 ≤ m → (n == m) ≡ false → numbered (slice_set objects (m - 1) row) n ≡ numbered objects n
+numbered_set_other objects m n row from_one apart =
+    elim (n == 0) as (λ b. (n == 0) ≡ b → cond b None (slice_get (slice_set objects (m - 1) row) (n - 1)) ≡ cond b None (slice_get objects (n - 1))) [
+      | true ↦ λ _. refl
+      | false ↦ λ named. get_set_other objects (m - 1) (n - 1) row (λ same. false_true (sym apart ∙ eq-eqb n m (is_one n named same)))
+    ] refl
+  where
+    is_one : (k : ℕ) → (k == 0) ≡ false → m - 1 ≡ k - 1 → k ≡ m
+    is_one zero named same = absurd (false_true (sym named))
+    is_one (suc k) named same = omega (arith, from_one, same)
+
+pub kind_released : (objects : List ObjectRow) (object : ObjectId) (row : ObjectRow) (n : ℕ) → numbered objects object.0 ≡ Some row → is_wait_at (slice_set objects (object.0 - 1) (record row { released = true })) n ≡ is_wait_at objects n
+kind_released objects object row n is =
+    elim (n == object.0) as (λ b. (n == object.0) ≡ b → is_wait_at (slice_set objects (object.0 - 1) (record row { released = true })) n ≡ is_wait_at objects n) [
+      | true ↦ λ same.
+          let own : n ≡ object.0 = eqb-true n object.0 same in
+          subst (λ k. is_wait_at (slice_set objects (object.0 - 1) (record row { released = true })) k ≡ is_wait_at objects k) (sym own)
+          (ap wait_row (numbered_at (slice_set objects (object.0 - 1) (record row { released = true })) object.0 (record row { released = true }) at.1 (get_set objects (object.0 - 1) row (record row { released = true }) at.0)) ∙ sym (ap wait_row is))
+      | false ↦ λ apart. ap wait_row (numbered_set_other objects object.0 n (record row { released = true }) at.1 apart)
+    ] refl
+  where
+    at : (slice_get objects (object.0 - 1) ≡ Some row) × (1 ≤ object.0)
+    at = numbered_some objects object.0 row is
+
 -- an object is released
 sound_release : (fresh : ℕ) (w : World) (object : ObjectId) (row : Option ObjectRow) → numbered w.objects object.0 ≡ row → IsSound fresh w → IsSound fresh (release_object w object row)
 sound_release fresh w object None is s = s
@@ -369,12 +467,31 @@ sound_release fresh w object (Some row) is s =
       apart = s.apart;
       timers = subst (λ n. AreOf (IsMade n) (without_setting object w.settings)) (sym (length-set w.objects (object.0 - 1) (record row { released = true })))
           (all_filter (λ (x : TimerSetting). IsMade (length w.objects) x.object.0) (λ (x : TimerSetting). not (x.object.0 == object.0)) w.settings s.timers);
+      armings = others w.armings s.armings;
+      timeouts = λ n wait. timed_disarmed n object (sources_of w) (s.timeouts n (was_wait n wait));
       clock = s.clock;
       waits = s.waits;
       callback_pools = s.callback_pools;
       callback_objects = all_along (IsCallbackSound w.objects) (IsCallbackSound (slice_set w.objects (object.0 - 1) (record row { released = true })))
           (λ c sound named. object_released w.objects (object.0 - 1) row c (numbered_some w.objects object.0 row is).0 (sound named)) w.callbacks s.callback_objects;
     }
+  where
+    after : List ObjectRow
+    after = slice_set w.objects (object.0 - 1) (record row { released = true })
+
+    was_wait : (n : ℕ) → is_wait_at after n ≡ true → is_wait_at w.objects n ≡ true
+    was_wait n wait = sym (kind_released w.objects object row n is) ∙ wait
+
+    still_armable : (n : ℕ) → (n == object.0) ≡ false → may_be_armed w.objects n ≡ true → may_be_armed after n ≡ true
+    still_armable n apart may = ap armable_row (numbered_set_other w.objects object.0 n (record row { released = true }) (numbered_some w.objects object.0 row is).1 apart) ∙ may
+
+    others : (armings : List Arming) → AllByRecursion (λ (a : Arming). may_be_armed w.objects a.object.0 ≡ true) armings → AllByRecursion (λ (a : Arming). may_be_armed after a.object.0 ≡ true) (without_arming object.0 armings)
+    others [] all = tt
+    others (a ∷ armings) all =
+        elim (is_arming_of object.0 a) as (λ b. is_arming_of object.0 a ≡ b → AllByRecursion (λ (x : Arming). may_be_armed after x.object.0 ≡ true) (cond (not b) (a ∷ without_arming object.0 armings) (without_arming object.0 armings))) [
+          | true ↦ λ _. others armings all.1
+          | false ↦ λ apart. (still_armable a.object.0 apart all.0, others armings all.1)
+        ] refl
 
 -- a worker that runs nothing that is cancelled
 worker_cancelled : (test : CallbackRow → Bool) (cs : List CallbackRow) → IsPendingTest test → (worker : ℕ) (pool : Option PoolId) (callback : Option ℕ) → IsWorkerSound cs worker pool callback → IsWorkerSound (cancel_where test cs) worker pool callback
@@ -418,6 +535,8 @@ sound_begin_wait fresh w who target cancel none made s =
       object_pools = s.object_pools;
       apart = apart_more w.waits (new_wait who target cancel (cancel_where test w.callbacks)) none s.apart;
       timers = s.timers;
+      armings = s.armings;
+      timeouts = s.timeouts;
       clock = s.clock;
       waits = all_append (IsWaitSound fresh (cancel_where test w.callbacks)) w.waits (new_wait who target cancel (cancel_where test w.callbacks))
           (waits_still fresh w.callbacks (cancel_where test w.callbacks) (left_cancelled test w.callbacks) w.waits s.waits)
@@ -444,6 +563,8 @@ sound_end_wait fresh w who s =
       object_pools = s.object_pools;
       apart = apart_filter keeps w.waits s.apart;
       timers = s.timers;
+      armings = s.armings;
+      timeouts = s.timeouts;
       clock = s.clock;
       waits = all_filter (IsWaitSound fresh w.callbacks) keeps w.waits s.waits;
       callback_pools = s.callback_pools;
@@ -453,38 +574,58 @@ sound_end_wait fresh w who s =
 -- what a trigger comes to
 
 -- callbacks are appended one after another
-sound_rows : (fresh : ℕ) (w : World) (jobs : List Job) → AreJobsMade (length w.objects) jobs → IsSound fresh w → IsSound (fresh + length jobs) (record w { callbacks = w.callbacks ++ rows_of w.objects fresh jobs })
+sound_rows : (fresh : ℕ) (w : World) (jobs : List Job) → AreJobsOf (IsMade (length w.objects)) jobs → IsSound fresh w → IsSound (fresh + length jobs) (record w { callbacks = w.callbacks ++ rows_of w.objects fresh jobs })
 sound_rows fresh w [] made s =
     subst (λ (cs : List CallbackRow). IsSound (fresh + 0) (record w { callbacks = cs })) (sym (append-nil w.callbacks)) (subst (λ n. IsSound n w) (omega arith) s)
 sound_rows fresh w (j ∷ js) made s =
     let c : CallbackRow = new_callback fresh j.object (object_row w.objects j.object) j.result in
-    let home : c.pool.0 < length w.pools = row_of_made (λ (o : ObjectRow). o.env.pool.0 < length w.pools) w.objects j.object s.object_pools made.0 in
+    let home : c.pool.0 < length w.pools = row_of_made (λ (o : ObjectRow). o.env.pool.0 < length w.pools) w.objects j.object s.object_pools made.0.0 in
     let more : IsSound (fresh + 1 + length js) (record w { callbacks = (w.callbacks ++ c ∷ []) ++ rows_of w.objects (fresh + 1) js })
-    = sound_rows (fresh + 1) (with_new_callback w c) js made.1 (sound_new_callback fresh w c refl home (λ _. record { row = object_row w.objects j.object; stands = made_stands w.objects j.object made.0; home = refl }) s) in
+    = sound_rows (fresh + 1) (with_new_callback w c) js made.1 (sound_new_callback fresh w c refl home (λ _. record { row = object_row w.objects j.object; stands = made_stands w.objects j.object made.0.0; home = refl }) s) in
     subst (λ (cs : List CallbackRow). IsSound (fresh + length (j ∷ js)) (record w { callbacks = cs })) (append_assoc w.callbacks (c ∷ []) (rows_of w.objects (fresh + 1) js))
     (subst (λ n. IsSound n (record w { callbacks = (w.callbacks ++ c ∷ []) ++ rows_of w.objects (fresh + 1) js })) (omega arith) more)
 
--- other timers are set, and the clock is at another moment
-pub sound_sources : (fresh : ℕ) (w : World) (settings : List TimerSetting) (now : ℕ) → AreOf (IsMade (length w.objects)) settings → now ≤ clock_end → IsSound fresh w → IsSound fresh (record w { settings = settings; now = now })
-sound_sources fresh w settings now made within s =
+-- the sources of a world
+pub sources_in : (fresh : ℕ) (w : World) → IsSound fresh w → AreSourcesIn w.objects (sources_of w)
+sources_in fresh w s = record { settings = s.timers; armings = s.armings }
+
+-- and other ones
+pub sound_sources : (fresh : ℕ) (w : World) (s : Sources) → AreSourcesIn w.objects s → ((object : ℕ) → is_wait_at w.objects object ≡ true → IsTimedOut object s.settings s.armings) → s.now ≤ clock_end → IsSound fresh w
+    → IsSound fresh (record w { settings = s.settings; armings = s.armings; kernels = s.kernels; now = s.now })
+sound_sources fresh w s made timed within sound =
     record {
-      numbers = s.numbers;
-      workers = s.workers;
-      object_pools = s.object_pools;
-      apart = s.apart;
-      waits = s.waits;
-      callback_objects = s.callback_objects;
-      callback_pools = s.callback_pools;
-      timers = made;
+      numbers = sound.numbers;
+      workers = sound.workers;
+      object_pools = sound.object_pools;
+      apart = sound.apart;
+      waits = sound.waits;
+      callback_objects = sound.callback_objects;
+      callback_pools = sound.callback_pools;
+      timers = made.settings;
+      armings = made.armings;
+      timeouts = timed;
       clock = within;
     }
+
+-- a timer is no wait object
+pub ready_apart : (w : World) (trigger : Trigger) → IsReady w trigger → (object : ℕ) → is_wait_at w.objects object ≡ true → IsApart object trigger
+ready_apart w (SetTimer object due period window) ready n wait = known (object.0 == n) refl
+  where
+    known : (b : Bool) → (object.0 == n) ≡ b → (object.0 == n) ≡ false
+    known false is = is
+    known true is = absurd (false_true (sym (ap wait_row ready.stands ∙ ap (λ k. is_same_kind k Wait) ready.kind) ∙ ap (is_wait_at w.objects) (eqb-true object.0 n is) ∙ wait))
+ready_apart w _ ready n wait = tt
+
+pub fired_counted : (fresh : ℕ) (w : World) (trigger : Trigger) → IsReady w trigger → IsSound fresh w → (object : ℕ) → is_wait_at w.objects object ≡ true
+    → IsCounted object (count_allowed (set_on object (sets_of trigger)) (count_armed object w.armings)) (firing trigger (sources_of w))
+fired_counted fresh w trigger ready s object wait = firing_counted object trigger (sources_of w) (ready_apart w trigger ready object wait) (s.timeouts object wait)
 
 sound_fired : (fresh : ℕ) (w : World) (trigger : Trigger) → IsReady w trigger → IsSound fresh w → IsSound (fresh + length (firing trigger (sources_of w)).jobs) (fired w fresh (firing trigger (sources_of w)))
 sound_fired fresh w trigger ready s =
     let f : Firing = firing trigger (sources_of w) in
-    let here : IsTriggerMade (length w.objects) trigger = ready_made w trigger ready in
-    sound_rows fresh (record w { settings = f.sources.settings; now = f.sources.now }) f.jobs (fired_jobs (length w.objects) trigger (sources_of w) here s.timers)
-    (sound_sources fresh w f.sources.settings f.sources.now (fired_settings (length w.objects) trigger (sources_of w) here s.timers) (fired_clock w trigger ready s.clock) s)
+    let made : IsFiringIn w.objects f = fired_in w trigger ready (sources_in fresh w s) in
+    sound_rows fresh (record w { settings = f.sources.settings; armings = f.sources.armings; kernels = f.sources.kernels; now = f.sources.now }) f.jobs made.jobs
+    (sound_sources fresh w f.sources made.sources (λ object wait. (fired_counted fresh w trigger ready s object wait).timed) (fired_clock w trigger ready s.clock) s)
 
 -- ---- each change
 
@@ -504,11 +645,17 @@ sound_kernels fresh w kernels s =
       object_pools = s.object_pools;
       apart = s.apart;
       timers = s.timers;
+      armings = s.armings;
+      timeouts = s.timeouts;
       clock = s.clock;
       waits = s.waits;
       callback_pools = s.callback_pools;
       callback_objects = s.callback_objects;
     }
+
+-- with the number that the next callback gets, and as many as there are
+renumbered : (v : World) (f : Firing) (fresh first count : ℕ) → first ≡ fresh → count ≡ length f.jobs → IsSound (fresh + length f.jobs) (fired v fresh f) → IsSound (fresh + count) (fired v first f)
+renumbered v f fresh first count number counted h = subst (λ n. IsSound (fresh + n) (fired v first f)) (sym counted) (subst (λ n. IsSound (fresh + length f.jobs) (fired v n f)) (sym number) h)
 
 pub changed_sound : (fresh : ℕ) (w : World) (ch : Change) → IsSound fresh w → IsAllowed fresh w ch → IsSound (fresh + news ch) (changed w ch)
 changed_sound fresh w change.Keep s a = none_made fresh w s
@@ -517,11 +664,7 @@ changed_sound fresh w (change.ChangePool pool how) s a = none_made fresh (change
 changed_sound fresh w (change.CreateObject row) s a = none_made fresh (with_object w row) (sound_object fresh w row a.home s)
 changed_sound fresh w (change.ReleaseObject object) s a = none_made fresh (changed w (change.ReleaseObject object)) (sound_release fresh w object (numbered w.objects object.0) refl s)
 changed_sound fresh w (change.QueueCallback c) s a = sound_new_callback fresh w c a.number a.home a.object s
-changed_sound fresh w (change.Fire trigger first count) s a =
-    fired_sound first count a.number a.counted (sound_fired fresh w trigger a.ready s)
-  where
-    fired_sound : (first count : ℕ) → first ≡ fresh → count ≡ count_fired w trigger → IsSound (fresh + count_fired w trigger) (fired w fresh (firing trigger (sources_of w))) → IsSound (fresh + count) (fired w first (firing trigger (sources_of w)))
-    fired_sound first count number counted h = subst (λ n. IsSound (fresh + n) (fired w first (firing trigger (sources_of w)))) (sym counted) (subst (λ n. IsSound (fresh + count_fired w trigger) (fired w n (firing trigger (sources_of w)))) (sym number) h)
+changed_sound fresh w (change.Fire trigger first count) s a = renumbered w (firing trigger (sources_of w)) fresh first count a.number a.counted (sound_fired fresh w trigger a.ready s)
 changed_sound fresh w (change.CreateKernel state) s a = none_made fresh (changed w (change.CreateKernel state)) (sound_kernels fresh w (w.kernels ++ new_kernel state ∷ []) s)
 changed_sound fresh w (change.ChangeKernel kernel how) s a = none_made fresh (changed w (change.ChangeKernel kernel how)) (sound_kernels fresh w (kernel_changed (state_after how) w.kernels kernel.0) s)
 changed_sound fresh w (change.Attach worker pool) s a = none_made fresh (changed w (change.Attach worker pool)) (sound_free_worker fresh w worker (record { pool = Some pool; callback = None }) refl s)
@@ -529,13 +672,19 @@ changed_sound fresh w (change.Detach by) s a = none_made fresh (changed w (chang
 changed_sound fresh w (change.Take by c) s a =
     none_made fresh (changed w (change.Take by c)) (sound_taken fresh w by.worker by.pool c (numbered_some w.workers by.worker (record { pool = Some by.pool; callback = None }) a.idles).1 a.found a.pending a.home s)
 changed_sound fresh w (change.Mark by mark) s a = none_made fresh (changed w (change.Mark by mark)) (sound_marked fresh w mark by.callback a.runs.found s)
-changed_sound fresh w (change.Return by words) s a =
+changed_sound fresh w (change.Return by words first count) s a =
     let runs = a.runs in
-    none_made fresh (changed w (change.Return by words))
-    (sound_kernels fresh (with_worker (with_callback w (returned by.callback)) by.worker (record { pool = Some by.pool; callback = None })) (performed words (slots_of by.callback.status) w.kernels)
-    (sound_returned fresh w by.worker (record { pool = Some by.pool; callback = None }) by.pool by.callback
-    (numbered_some w.workers by.worker (record { pool = Some by.pool; callback = Some by.callback.number }) runs.stands).1 refl
-    (record { callback = by.callback; associated = runs.associated; slots = runs.slots; found = runs.found; runs = runs.running; at_home = runs.home }) runs.found s))
+    let of : Slots = slots_of by.callback.status in
+    let f : Firing = returning w words of in
+    let v : World = without_run w by in
+    let sound : IsSound fresh v
+    = sound_returned fresh w by.worker (record { pool = Some by.pool; callback = None }) by.pool by.callback
+      (numbered_some w.workers by.worker (record { pool = Some by.pool; callback = Some by.callback.number }) runs.stands).1 refl
+      (record { callback = by.callback; associated = runs.associated; slots = runs.slots; found = runs.found; runs = runs.running; at_home = runs.home }) runs.found s in
+    let made : IsFiringIn w.objects f = returning_of (IsMade (length w.objects)) (λ n. may_be_armed w.objects n ≡ true) (λ n may. armable_made w.objects n may) w words of (sources_in fresh w s) in
+    renumbered v f fresh first count a.number a.counted
+    (sound_rows fresh (record v { settings = f.sources.settings; armings = f.sources.armings; kernels = f.sources.kernels; now = f.sources.now }) f.jobs made.jobs
+    (sound_sources fresh v f.sources made.sources (λ object wait. (returning_counted object w words of (s.timeouts object wait)).timed) (omega (arith, s.clock, returning_now w words of)) sound))
 changed_sound fresh w (change.BeginWait who target cancel) s a = none_made fresh (changed w (change.BeginWait who target cancel)) (sound_begin_wait fresh w who target cancel a.none a.made s)
 changed_sound fresh w (change.EndWait who how) s a = none_made fresh (end_wait w who how) (sound_kernels fresh (without_wait w who) (kernels_left w who how (wait_of w who)) (sound_end_wait fresh w who s))
 changed_sound fresh w (change.Finish client) s a = none_made fresh (changed w (change.Finish client)) (sound_client fresh w client finished s)
@@ -546,4 +695,4 @@ idle_workers cs first zero = tt
 idle_workers cs first (suc count) = (tt, idle_workers cs (first + 1) count)
 
 pub opening_sound : (limits : Limits) → IsSound 1 (opening limits)
-opening_sound limits = record { numbers = omega arith; workers = idle_workers [] 1 limits.workers; object_pools = tt; callback_pools = tt; callback_objects = tt; apart = tt; waits = tt; timers = tt; clock = omega arith }
+opening_sound limits = record { numbers = omega arith; workers = idle_workers [] 1 limits.workers; object_pools = tt; callback_pools = tt; callback_objects = tt; apart = tt; waits = tt; timers = tt; armings = tt; timeouts = λ object wait. record { few = omega arith; once = tt }; clock = omega arith }

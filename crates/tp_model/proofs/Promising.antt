@@ -66,7 +66,7 @@ Promises history w = (before between : List Entry) (begin : Entry) (b : Begins) 
 
 -- ---- lemmas on lists
 
-among_front : (n : ℕ) (xs ys : List ℕ) → is_among n xs ≡ true → is_among n (xs ++ ys) ≡ true
+pub among_front : (n : ℕ) (xs ys : List ℕ) → is_among n xs ≡ true → is_among n (xs ++ ys) ≡ true
 among_front n xs ys e = list_any-append (λ m. m == n) xs ys ∙ ap (λ b. b || is_among n ys) e
 
 among_split : (n : ℕ) (xs ys : List ℕ) → is_among n (xs ++ ys) ≡ true → (is_among n xs ≡ true) ⊎ (is_among n ys ≡ true)
@@ -97,7 +97,7 @@ in_range n first (suc count) e =
     ] refl e
 
 -- the numbers made are those of the callbacks that there are
-made_past : (history : List Entry) (w : World) (n : ℕ) → AgreesAfter history w → is_among n (numbers_made history) ≡ true → n ≤ length w.callbacks
+pub made_past : (history : List Entry) (w : World) (n : ℕ) → AgreesAfter history w → is_among n (numbers_made history) ≡ true → n ≤ length w.callbacks
 made_past history w n a e = omega (arith, in_range n 1 (length w.callbacks) (ap (is_among n) (sym a.in_order) ∙ e))
 
 spoken_past : (history : List Entry) (w : World) (b : Begins) (run : Run) → AgreesAfter history w → is_spoken_of b history run ≡ true → run.number ≤ length w.callbacks

@@ -53,7 +53,7 @@ numbered_some rows (suc number) row e =
 pub numbered_at : {X : Type 0} (rows : List X) (number : ℕ) (row : X) → 1 ≤ number → slice_get rows (number - 1) ≡ Some row → numbered rows number ≡ Some row
 numbered_at rows number row above at = ap (λ b. cond b None (slice_get rows (number - 1))) (ne_eqb number 0 (λ h. omega (arith, h, above))) ∙ at
 
-eqb_sym : (m n : ℕ) → (m == n) ≡ (n == m)
+pub eqb_sym : (m n : ℕ) → (m == n) ≡ (n == m)
 eqb_sym m n = known (m == n) (n == m) refl refl
   where
     known : (a b : Bool) → (m == n) ≡ a → (n == m) ≡ b → (m == n) ≡ (n == m)
@@ -88,3 +88,7 @@ and_true false = refl
 pub or_true : (b : Bool) → (b || true) ≡ true
 or_true true = refl
 or_true false = refl
+
+pub or_false : (b : Bool) → (b || false) ≡ b
+or_false true = refl
+or_false false = refl

@@ -1,15 +1,24 @@
 -- How often a lock is taken: no change raises that by more than one.
-use Rattle.std.proofs.Common.{◌≡◌, true, false, cond, ℕ, ◌+◌, ◌-◌, ◌≤◌, slice_get, List, Option, None, Some, refl, arith}
+use Rattle.std.proofs.Common.{suc, zero, find, length, ◌++◌, ◌∷◌, [], ◌≡◌, true, false, cond, ℕ, ◌+◌, ◌-◌, ◌≤◌, slice_get, List, Option, None, Some, refl, arith}
+use Rattle.std.specs.Prelude.{ℤ}
 use Rattle.std.specs.List.{AllByRecursion}
 use Rattle.tp_base.specs.declared.ids.Who.{Who}
-use Rattle.tp_base.specs.declared.answers.ActionKind.{ActionKind}
-use Rattle.tp_base.specs.declared.answers.ActionKind.TheVariants.{Section, Mutex, Semaphore, Event}
-use Rattle.tp_base.specs.declared.answers.SlotWord.{SlotWord}
 use Rattle.tp_base.specs.declared.plans.ActionWords.{ActionWords}
-use Rattle.tp_base.specs.declared.rows.Action.{Action}
 use Rattle.tp_base.specs.declared.rows.Slots.{Slots}
-use Rattle.tp_base.specs.Actions.{change_asked, is_performed}
-use Rattle.tp_model.specs.Actions.{slots_of, act, perform, performed}
+use Rattle.tp_base.specs.declared.ids.KernelId.{KernelId}
+use Rattle.tp_base.specs.declared.ids.ObjectId.{ObjectId}
+use Rattle.tp_base.specs.declared.answers.TakeResult.TheVariants.{WaitObject0, WaitTimeout}
+use Rattle.tp_base.specs.declared.plans.KernelChange.TheVariants.{Set, Raise, Leave}
+use Rattle.tp_base.specs.declared.plans.Trigger.{Trigger}
+use Rattle.tp_base.specs.declared.plans.Trigger.TheVariants.{SetTimer, Advance, SetWait, SetEvent, ReleaseSemaphore}
+use Rattle.tp_base.specs.declared.rows.Arming.{Arming}
+use Rattle.tp_base.specs.Armings.{is_arming_on}
+use Rattle.tp_base.specs.Timers.{expires_at_once, set_timer}
+use Rattle.tp_base.specs.Kernels.{is_signalled, taken as taken_state}
+use Rattle.tp_model.specs.Kernels.{is_one_that, kernel_changed}
+use Rattle.tp_model.specs.Sources.{Sources, Firing, sources_of, jobless, job, with_state, disarmed, release_to, release_first, release_times, signal, arm, firing}
+use Rattle.tp_model.specs.Actions.{slots_of, returning}
+use Rattle.tp_model.proofs.Performing.{performed_keeps}
 use Rattle.tp_model.proofs.Kernels.{all_changed}
 use Rattle.tp_base.specs.declared.limits.Limits.{Limits}
 use Rattle.tp_base.specs.declared.plans.WaitEnd.{WaitEnd}
@@ -69,21 +78,52 @@ wait_left most w who Free (Some b) all = target b.target
     target (Group group) = most_raised most (most + 1) (omega arith) w.kernels all
     target (Kernel kernel) = row_changed (taken_by who) (taken_once_more who) most w.kernels kernel.0 (numbered w.kernels kernel.0) refl all
 
--- actions on return give locks back
+-- nothing but the end of a wait takes a lock
 taken_less : (how : KernelChange) (s : KernelState) → takings_of (state_after how s) ≤ takings_of s
 taken_less how s = grind arith
 
-act_keeps : (most : ℕ) (kind : ActionKind) (action : Option Action) (kernels : List KernelRow) → AreAtMost most kernels → AreAtMost most (act kind action kernels)
-act_keeps most kind None kernels all = all
-act_keeps most kind (Some a) kernels all = all_changed (λ s. takings_of s ≤ most) (state_after (change_asked kind a.count)) kernels a.kernel.0 (λ row _ h. omega (arith, h, taken_less (change_asked kind a.count) row.state)) all
+no_lock_taken : (s : KernelState) → takings_of (taken_state s) ≤ takings_of s
+no_lock_taken s = grind arith
 
-perform_keeps : (most : ℕ) (kind : ActionKind) (word : SlotWord) (action : Option Action) (kernels : List KernelRow) → AreAtMost most kernels → AreAtMost most (perform kind word action kernels)
-perform_keeps most kind word action kernels all = elim (is_performed word) as (λ b. AreAtMost most (cond b (act kind action kernels) kernels)) [ true ↦ act_keeps most kind action kernels all | false ↦ all ]
+state_keeps : (most : ℕ) (f : KernelState → KernelState) → ((s : KernelState) → takings_of (f s) ≤ takings_of s) → (kernels : List KernelRow) (kernel : ℕ) → AreAtMost most kernels → AreAtMost most (kernel_changed f kernels kernel)
+state_keeps most f less kernels kernel all = all_changed (λ s. takings_of s ≤ most) f kernels kernel (λ row _ h. omega (arith, h, less row.state)) all
 
-performed_keeps : (most : ℕ) (words : ActionWords) (slots : Slots) (kernels : List KernelRow) → AreAtMost most kernels → AreAtMost most (performed words slots kernels)
-performed_keeps most words slots kernels all =
-    perform_keeps most Event words.event slots.event _ (perform_keeps most Semaphore words.semaphore slots.semaphore _
-    (perform_keeps most Mutex words.mutex slots.mutex _ (perform_keeps most Section words.section slots.section kernels all)))
+release_keeps : (most n kernel : ℕ) (f : Firing) → AreAtMost most f.sources.kernels → AreAtMost most (release_times n kernel f).sources.kernels
+release_keeps most zero kernel f all = all
+release_keeps most (suc n) kernel f all =
+    release_keeps most n kernel (release_first kernel f)
+    (elim (is_one_that is_signalled f.sources.kernels kernel) as (λ b. AreAtMost most (cond b (release_to kernel f (find (is_arming_on kernel) f.sources.armings)) f).sources.kernels) [
+      | true ↦ of_first (find (is_arming_on kernel) f.sources.armings)
+      | false ↦ all
+    ])
+  where
+    of_first : (first : Option Arming) → AreAtMost most (release_to kernel f first).sources.kernels
+    of_first None = all
+    of_first (Some a) = state_keeps most taken_state no_lock_taken f.sources.kernels kernel all
+
+signal_keeps : (most : ℕ) (how : KernelChange) (kernel : ℕ) (f : Firing) → AreAtMost most f.sources.kernels → AreAtMost most (signal how kernel f).sources.kernels
+signal_keeps most how kernel f all =
+    release_keeps most (length f.sources.armings) kernel (record f { sources = with_state (state_after how) kernel f.sources }) (state_keeps most (state_after how) (taken_less how) f.sources.kernels kernel all)
+
+arm_keeps : (most : ℕ) (object : ObjectId) (kernel : KernelId) (timeout : Option ℤ) (s : Sources) → AreAtMost most s.kernels → AreAtMost most (arm object kernel timeout s).sources.kernels
+arm_keeps most object kernel timeout s all =
+    elim (is_one_that is_signalled s.kernels kernel.0) as (λ b. AreAtMost most (cond b (record { sources = with_state taken_state kernel.0 s; jobs = job object WaitObject0 ∷ [] })
+    (cond (expires_at_once s.now timeout) (record { sources = s; jobs = job object WaitTimeout ∷ [] }) (jobless (record s { settings = set_timer s.now object timeout 0 0 s.settings; armings = s.armings ++ record { object = object; kernel = kernel } ∷ [] })))).sources.kernels) [
+      | true ↦ state_keeps most taken_state no_lock_taken s.kernels kernel.0 all
+      | false ↦ elim (expires_at_once s.now timeout) as (λ b. AreAtMost most (cond b (record { sources = s; jobs = job object WaitTimeout ∷ [] }) (jobless (record s { settings = set_timer s.now object timeout 0 0 s.settings; armings = s.armings ++ record { object = object; kernel = kernel } ∷ [] }))).sources.kernels) [ true ↦ all | false ↦ all ]
+    ]
+
+firing_keeps : (most : ℕ) (trigger : Trigger) (s : Sources) → AreAtMost most s.kernels → AreAtMost most (firing trigger s).sources.kernels
+firing_keeps most (SetTimer object due period window) s all = all
+firing_keeps most (Advance now) s all = all
+firing_keeps most (SetWait object None timeout) s all = all
+firing_keeps most (SetWait object (Some kernel) timeout) s all = arm_keeps most object kernel timeout (disarmed object s) all
+firing_keeps most (SetEvent kernel) s all = signal_keeps most Set kernel.0 (jobless s) all
+firing_keeps most (ReleaseSemaphore kernel count) s all = signal_keeps most (Raise count) kernel.0 (jobless s) all
+
+returning_keeps : (most : ℕ) (w : World) (words : ActionWords) (slots : Slots) → AreAtMost most w.kernels → AreAtMost most (returning w words slots).sources.kernels
+returning_keeps most w words slots all =
+    performed_keeps (λ f. AreAtMost most f.sources.kernels) (signal_keeps most) (λ kernel f h. state_keeps most (state_after Leave) (taken_less Leave) f.sources.kernels kernel h) words slots (jobless (sources_of w)) all
 
 pub taken_up_to : (most higher : ℕ) (w : World) → most ≤ higher → AreTakenAtMost most w → AreTakenAtMost higher w
 taken_up_to most higher w below all = most_raised most higher below w.kernels all
@@ -103,7 +143,8 @@ taken_more fresh most w (change.ReleaseObject object) a all = with_object (numbe
     with_object : (row : Option ObjectRow) → AreTakenAtMost (most + 1) (release_object w object row)
     with_object None = taken_up_to most (most + 1) w (omega arith) all
     with_object (Some row) = taken_up_to most (most + 1) w (omega arith) all
-taken_more fresh most w (change.Return by words) a all = most_raised most (most + 1) (omega arith) _ (performed_keeps most words (slots_of by.callback.status) w.kernels all)
+taken_more fresh most w (change.Fire trigger first count) a all = most_raised most (most + 1) (omega arith) _ (firing_keeps most trigger (sources_of w) all)
+taken_more fresh most w (change.Return by words first count) a all = most_raised most (most + 1) (omega arith) _ (returning_keeps most w words (slots_of by.callback.status) all)
 taken_more fresh most w ch a all = taken_up_to most (most + 1) w (omega arith) all
 
 -- at first there is none

@@ -10,11 +10,12 @@ use Rattle.tp_base.specs.declared.rows.Action.{Action}
 use Rattle.tp_base.specs.declared.rows.Slots.{Slots}
 use Rattle.tp_base.specs.declared.rows.Status.{Status}
 use Rattle.tp_base.specs.declared.rows.Status.TheVariants.{Running}
-use Rattle.tp_base.specs.declared.rows.KernelRow.{KernelRow}
+use Rattle.tp_base.specs.declared.plans.KernelChange.TheVariants.{Set, Raise, Leave}
 use Rattle.tp_base.specs.Kernels.{state_after}
 use Rattle.tp_base.specs.Actions.{filled, may_perform, left_out, change_asked, word, is_performed}
 use Rattle.tp_model.specs.World.{World}
-use Rattle.tp_model.specs.Kernels.{is_kernel_that, kernel_changed}
+use Rattle.tp_model.specs.Kernels.{is_kernel_that}
+use Rattle.tp_model.specs.Sources.{Firing, jobless, sources_of, with_state, signal}
 
 -- no action is asked for
 abbrev pub no_actions : Slots
@@ -41,16 +42,24 @@ words_of w who slots = record {
   event = word_of w who Event slots.event;
 }
 
--- ---- the kernel objects after them, in this order: section, mutex, semaphore, event
+-- ---- what they come to, in this order: section, mutex, semaphore, event
 
-abbrev pub act : ActionKind → Option Action → List KernelRow → List KernelRow
-act kind None kernels = kernels
-act kind (Some action) kernels = kernel_changed (state_after (change_asked kind action.count)) kernels action.kernel.0
+-- a lock is given back; a semaphore is raised and an event set, and each releases the waits that are armed on it
+abbrev pub act : ActionKind → Action → Firing → Firing
+act Section action f = record f { sources = with_state (state_after Leave) action.kernel.0 f.sources }
+act Mutex action f = record f { sources = with_state (state_after Leave) action.kernel.0 f.sources }
+act Semaphore action f = signal (Raise action.count) action.kernel.0 f
+act Event action f = signal Set action.kernel.0 f
 
-abbrev pub perform : ActionKind → SlotWord → Option Action → List KernelRow → List KernelRow
-perform kind word action kernels = if is_performed word then act kind action kernels else kernels
+abbrev pub perform : ActionKind → SlotWord → Option Action → Firing → Firing
+perform kind word None f = f
+perform kind word (Some action) f = if is_performed word then act kind action f else f
 
-abbrev pub performed : ActionWords → Slots → List KernelRow → List KernelRow
-performed words slots kernels =
+abbrev pub performed : ActionWords → Slots → Firing → Firing
+performed words slots f =
     perform Event words.event slots.event
-    (perform Semaphore words.semaphore slots.semaphore (perform Mutex words.mutex slots.mutex (perform Section words.section slots.section kernels)))
+    (perform Semaphore words.semaphore slots.semaphore (perform Mutex words.mutex slots.mutex (perform Section words.section slots.section f)))
+
+-- the firing of a return
+abbrev pub returning : World → ActionWords → Slots → Firing
+returning w words slots = performed words slots (jobless (sources_of w))

@@ -7,5 +7,6 @@ pub mod Workers
 pub mod InCallback
 pub mod Kernels
 pub mod Timers
+pub mod WaitObjects
 pub mod Waits
 pub mod Clients

@@ -23,12 +23,13 @@ use Rattle.tp_base.specs.declared.rows.WaitTarget.{WaitTarget}
 use Rattle.tp_base.specs.declared.rows.WaitTarget.TheVariants.{Object, Group, Kernel}
 use Rattle.tp_base.specs.declared.ids.Who.{Who}
 use Rattle.tp_base.specs.declared.ids.ObjectId.{ObjectId}
+use Rattle.tp_base.specs.Armings.{without_arming}
 use Rattle.tp_base.specs.Timers.{without_setting}
 use Rattle.tp_model.specs.World.{World, BegunWait, new_pool, unattached}
 use Rattle.tp_model.specs.Counts.{numbered, has_number}
 use Rattle.tp_base.specs.Actors.{is_same_actor}
 use Rattle.tp_base.specs.Kernels.{taken_by, state_after}
-use Rattle.tp_model.specs.Actions.{no_actions, slots_of, asking, performed}
+use Rattle.tp_model.specs.Actions.{no_actions, slots_of, asking, returning}
 use Rattle.tp_model.specs.Kernels.{new_kernel, kernel_changed}
 use Rattle.tp_model.specs.Sources.{sources_of, firing, fired}
 use Rattle.tp_model.specs.Waits.{is_cancelled_by, cancel_where, covered_of, wait_of}
@@ -75,12 +76,13 @@ abbrev pub change_pool : World → ℕ → PoolChange → Option PoolRow → Wor
 change_pool w pool how None = w
 change_pool w pool how (Some row) = with_pool w pool (pool_after how row)
 
--- a timer that is released is unset
+-- a timer that is released is unset, and a wait disarmed
 abbrev pub release_object : World → ObjectId → Option ObjectRow → World
 release_object w object None = w
 release_object w object (Some row) = record w {
   objects = slice_set w.objects (object.0 - 1) (record row { released = true });
   settings = without_setting object w.settings;
+  armings = without_arming object.0 w.armings;
 }
 
 abbrev pub taken : CallbackRow → ℕ → CallbackRow
@@ -105,8 +107,9 @@ finished = record { finished = true }
 abbrev pub without_run : World → Busy → World
 without_run w by = with_worker (with_callback w (returned by.callback)) by.worker (record { pool = Some by.pool; callback = None })
 
-abbrev pub return_callback : World → Busy → ActionWords → World
-return_callback w by words = record (without_run w by) { kernels = performed words (slots_of by.callback.status) w.kernels }
+-- with the number that the next callback gets
+abbrev pub return_callback : World → Busy → ActionWords → ℕ → World
+return_callback w by words first = fired (without_run w by) first (returning w words (slots_of by.callback.status))
 
 -- ---- waits
 
@@ -151,7 +154,7 @@ changed w (change.Detach by) = with_worker w by.worker unattached
 changed w (change.Take by callback) =
     with_worker (with_callback w (taken callback by.worker)) by.worker (record { pool = Some by.pool; callback = Some callback.number })
 changed w (change.Mark by mark) = with_callback w (marked mark by.callback)
-changed w (change.Return by words) = return_callback w by words
+changed w (change.Return by words first count) = return_callback w by words first
 changed w (change.BeginWait who target cancel) = begin_wait w who target cancel (cancel_where (is_cancelled_by target cancel) w.callbacks)
 changed w (change.EndWait who how) = end_wait w who how
 changed w (change.Finish client) = with_client w client finished

@@ -11,9 +11,12 @@ use Rattle.tp_model.specs.Counts.{numbered}
 abbrev pub is_kernel : World → ℕ → Bool
 is_kernel w kernel = is_some (numbered w.kernels kernel)
 
--- it is there and passes the test
+-- one of them is there and passes the test
+abbrev pub is_one_that : (KernelState → Bool) → List KernelRow → ℕ → Bool
+is_one_that test kernels kernel = option_map_or (λ (k : KernelRow). test k.state) (numbered kernels kernel) false
+
 abbrev pub is_kernel_that : (KernelState → Bool) → World → ℕ → Bool
-is_kernel_that test w kernel = option_map_or (λ (k : KernelRow). test k.state) (numbered w.kernels kernel) false
+is_kernel_that test w kernel = is_one_that test w.kernels kernel
 
 abbrev pub count_at : World → ℕ → ℕ
 count_at w kernel = option_map_or (λ (k : KernelRow). count_of k.state) (numbered w.kernels kernel) 0

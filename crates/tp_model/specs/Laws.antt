@@ -7,13 +7,16 @@ pub mod Once
 pub mod Maximum
 pub mod Covered
 pub mod Actions
+pub mod Armed
 use Once.{AreOnce}
 use Maximum.{IsWithinMaximum}
 use Covered.{AreCovered}
 use Actions.{AreActions}
+use Armed.{AreArmed}
 
 pub record KeepsLaws (limits : Limits) (history : List Entry) : Type 0 where
   pub once : AreOnce limits history
   pub maximum : IsWithinMaximum limits history
   pub covered : AreCovered history
   pub actions : AreActions history
+  pub armed : AreArmed history

@@ -2,7 +2,7 @@
 use Rattle.std.specs.Prelude.{ℕ, ◌+◌, length}
 use Rattle.tp_base.specs.declared.ids.Who.{Who}
 use Rattle.tp_base.specs.declared.calls.Call.{Call}
-use Rattle.tp_base.specs.declared.calls.Call.TheVariants.{CreatePool, ClosePool, SetMaximum, SetMinimum, Create, CloseObject, SubmitSimple, SubmitWork, SetTimer, SetTimerEx, IsTimerSet, Advance, BeginWait, BeginAcquire, End, CreateEvent, CreateSemaphore, CreateLock, SetEvent, ResetEvent, ReleaseSemaphore, ReleaseLock, Attach, Detach, Take, Return, MayRunLong, Disassociate, OnReturn, Finish}
+use Rattle.tp_base.specs.declared.calls.Call.TheVariants.{CreatePool, ClosePool, SetMaximum, SetMinimum, Create, CloseObject, SubmitSimple, SubmitWork, SetTimer, SetTimerEx, IsTimerSet, Advance, BeginWait, BeginAcquire, End, CreateEvent, CreateSemaphore, CreateLock, SetEvent, ResetEvent, ReleaseSemaphore, ReleaseLock, Attach, Detach, Take, Return, MayRunLong, Disassociate, OnReturn, Finish, SetWait}
 use Rattle.tp_base.specs.declared.plans.Plan.{Plan}
 use Rattle.tp_model.specs.World.{World}
 use Rattle.tp_model.specs.Step.{Step, stepped, within}
@@ -12,6 +12,7 @@ use Rattle.tp_model.specs.Calls.Work.{submit_work_plan, submit_simple_plan}
 use Rattle.tp_model.specs.Calls.Workers.{attach_plan, detach_plan, take_plan, return_plan}
 use Rattle.tp_model.specs.Calls.InCallback.{may_run_long_plan, disassociate_plan, on_return_plan}
 use Rattle.tp_model.specs.Calls.Timers.{set_timer_plan, set_timer_ex_plan, is_timer_set_plan, advance_plan}
+use Rattle.tp_model.specs.Calls.WaitObjects.{set_wait_plan}
 use Rattle.tp_model.specs.Calls.Waits.{begin_wait_plan, begin_acquire_plan, end_plan}
 use Rattle.tp_model.specs.Calls.Kernels.{create_event_plan, create_semaphore_plan, create_lock_plan, set_event_plan, reset_event_plan, release_semaphore_plan, release_lock_plan}
 use Rattle.tp_model.specs.Calls.Clients.{finish_plan}
@@ -30,20 +31,21 @@ plan_at w fresh room who (SetTimer object due period window) = set_timer_plan w 
 plan_at w fresh room who (SetTimerEx object due period window) = set_timer_ex_plan w fresh who object due period window
 plan_at w fresh room who (IsTimerSet object) = is_timer_set_plan w who object
 plan_at w fresh room who (Advance ticks) = advance_plan w fresh who ticks
+plan_at w fresh room who (SetWait object kernel timeout) = set_wait_plan w fresh who object kernel timeout
 plan_at w fresh room who (BeginWait kind object cancel) = begin_wait_plan w who kind object cancel
 plan_at w fresh room who (BeginAcquire kernel) = begin_acquire_plan w who kernel
 plan_at w fresh room who End = end_plan w room who
 plan_at w fresh room who (CreateEvent manual signalled) = create_event_plan w who manual signalled
 plan_at w fresh room who (CreateSemaphore initial maximum) = create_semaphore_plan w who initial maximum
 plan_at w fresh room who (CreateLock lock owned) = create_lock_plan w who lock owned
-plan_at w fresh room who (SetEvent kernel) = set_event_plan w who kernel
+plan_at w fresh room who (SetEvent kernel) = set_event_plan w fresh who kernel
 plan_at w fresh room who (ResetEvent kernel) = reset_event_plan w who kernel
-plan_at w fresh room who (ReleaseSemaphore kernel count) = release_semaphore_plan w who kernel count
+plan_at w fresh room who (ReleaseSemaphore kernel count) = release_semaphore_plan w fresh who kernel count
 plan_at w fresh room who (ReleaseLock lock kernel) = release_lock_plan w who lock kernel
 plan_at w fresh room who Attach = attach_plan w who
 plan_at w fresh room who Detach = detach_plan w who
 plan_at w fresh room who Take = take_plan w who
-plan_at w fresh room who Return = return_plan w who
+plan_at w fresh room who Return = return_plan w fresh who
 plan_at w fresh room who MayRunLong = may_run_long_plan w who
 plan_at w fresh room who Disassociate = disassociate_plan w who
 plan_at w fresh room who (OnReturn kind kernel count) = on_return_plan w who kind kernel count

@@ -30,6 +30,7 @@ pub record World : Type 0 where
   pub objects : List ObjectRow
   pub callbacks : List CallbackRow
   pub kernels : List KernelRow
+  -- of timers, and the timeouts of armed waits, in the order in which they expire
   pub settings : List TimerSetting
   -- in order of arming
   pub armings : List Arming

@@ -1,5 +1,5 @@
 -- The facts of calls on kernel objects.
-use Rattle.std.proofs.Common.{◌≡◌, ℕ, ◌+◌, ◌-◌, ◌≤◌, ◌<◌, Bool, true, false, not, ◌||◌, ◌==◌, List, [], ◌∷◌, length, arith, Option, Some, None, refl, sym, ap, ◌∙◌, nat_lt}
+use Rattle.std.proofs.Common.{◌≡◌, ℕ, ◌+◌, ◌-◌, ◌≤◌, ◌<◌, ◌^◌, filter, Bool, true, false, not, ◌||◌, ◌==◌, List, [], ◌∷◌, length, arith, Option, Some, None, refl, sym, ap, ◌∙◌, nat_lt}
 use Rattle.std.proofs.lemmas.Bool.{leb-false, ltb-false}
 use Rattle.std.specs.Option.{option_map_or}
 use Rattle.tp_base.specs.Ranges.{IsCallInRange, IsAnswerInRange, count_most}
@@ -22,10 +22,13 @@ use Rattle.tp_base.specs.declared.rows.KernelState.TheVariants.{Event, Semaphore
 use Rattle.tp_base.specs.declared.rows.KernelRow.{KernelRow}
 use Rattle.tp_base.specs.Kernels.{is_event, is_semaphore, is_lock, owns, passes_by, count_of, takings_of, lock_made}
 use Rattle.tp_model.specs.World.{World}
-use Rattle.tp_model.specs.Counts.{numbered}
+use Rattle.tp_base.specs.declared.plans.Trigger.TheVariants as trigger
+use Rattle.tp_base.specs.declared.rows.CallbackRow.{CallbackRow}
+use Rattle.tp_model.specs.Counts.{numbered, is_live, slots}
+use Rattle.tp_model.specs.Sources.{jobless, signal, sources_of}
 use Rattle.tp_model.specs.Kernels.{is_kernel_that, count_at}
 use Rattle.tp_model.specs.History.{is_refusal}
-use Rattle.tp_model.specs.Calls.Kernels.{create_kernel_refusals, create_kernel, create_event_plan, create_semaphore_plan, create_lock_plan, kernel_refusals, change_kernel, set_event_plan, reset_event_plan, release_semaphore_plan, release_lock_plan}
+use Rattle.tp_model.specs.Calls.Kernels.{create_kernel_refusals, create_kernel, create_event_plan, create_semaphore_plan, create_lock_plan, kernel_refusals, change_kernel, set_event_plan, reset_event_plan, release_semaphore_refusals, release_semaphore_plan, release_lock_plan}
 use Rattle.tp_model.specs.Support.Allowed.{Suits}
 use Rattle.tp_model.specs.Support.Told.{told_by, silent}
 use Rattle.tp_model.specs.Support.Safe.{IsSafe}
@@ -36,6 +39,8 @@ use Rattle.tp_model.proofs.Kernels.{Stands, that_stands}
 use Rattle.tp_model.proofs.Lists.{all_get}
 use Rattle.tp_model.proofs.Refusals.{numbered_some}
 use Rattle.tp_model.proofs.Planning.{safe_unless}
+use Rattle.tp_model.proofs.Arming.{signal_within}
+use Rattle.tp_model.proofs.Calls.Timers.{fire_safe, fire_ranged}
 use Rattle.tp_model.proofs.Ranging.{AreBare, made_ranged, ranged_unless}
 
 -- ---- what makes one
@@ -129,17 +134,27 @@ change_ranged w who kind kernel own a how bare within = ranged_unless (kernel_re
 
 -- ---- SetEvent
 
-pub set_event_safe : (fresh : ℕ) (w : World) (who : Who) (kernel : KernelId) → IsSafe fresh w who (SetEvent kernel) (set_event_plan w who kernel)
-unfolding set_event_plan
-set_event_safe fresh w who kernel = change_safe fresh w who (SetEvent kernel) is_event kernel [] (answer.Queued 0 0) Set refl refl (λ there _. there.passes)
+-- what a kernel object releases takes the slots of armed waits
+signal_room : (w : World) (how : KernelChange) (kernel : ℕ) → slots w ≤ w.limits.slots
+    → length (filter (λ (c : CallbackRow). is_live c.status) w.callbacks) + length (signal how kernel (jobless (sources_of w))).jobs + length (signal how kernel (jobless (sources_of w))).sources.armings ≤ w.limits.slots
+signal_room w how kernel fits = omega (arith, signal_within how kernel (jobless (sources_of w)), fits)
 
-pub set_event_forget : (w : World) (who : Who) (kernel : KernelId) → set_event_plan (forget w) who kernel ≡ set_event_plan w who kernel
+pub set_event_safe : (fresh : ℕ) (w : World) (who : Who) (kernel : KernelId) → IsSafe fresh w who (SetEvent kernel) (set_event_plan w fresh who kernel)
 unfolding set_event_plan
-set_event_forget w who kernel = refl
+set_event_safe fresh w who kernel =
+    safe_unless fresh w who (SetEvent kernel) (kernel_refusals w who is_event kernel.0 []) _
+    (λ none.
+    let there : Stands is_event w kernel.0 = that_stands is_event w kernel.0 (not_false (is_kernel_that is_event w kernel.0) none.1.0) in
+    fire_safe fresh w who (SetEvent kernel) (trigger.SetEvent kernel) answer.Queued (λ first count. refl) (λ first count. refl) (record { row = there.row; stands = there.stands; suits = there.passes }) (signal_room w Set kernel.0))
 
-pub set_event_ranged : (w : World) (who : Who) (kernel : KernelId) → IsPlanInRange (set_event_plan w who kernel)
+pub set_event_forget : (fresh : ℕ) (w : World) (who : Who) (kernel : KernelId) → set_event_plan (forget w) fresh who kernel ≡ set_event_plan w fresh who kernel
 unfolding set_event_plan
-set_event_ranged w who kernel = change_ranged w who is_event kernel [] (answer.Queued 0 0) Set tt (omega arith, omega arith)
+set_event_forget fresh w who kernel = refl
+
+pub set_event_ranged : (fresh : ℕ) (w : World) (who : Who) (kernel : KernelId) → fresh + 65536 ≤ 2 ^ 64 → IsRanged w → IsPlanInRange (set_event_plan w fresh who kernel)
+unfolding set_event_plan
+set_event_ranged fresh w who kernel few g =
+    ranged_unless (kernel_refusals w who is_event kernel.0 []) _ _ (fire_ranged fresh w (trigger.SetEvent kernel) answer.Queued (λ first count f n. (f, n)) few g tt (signal_room w Set kernel.0 g.slots_most))
 
 -- ---- ResetEvent
 
@@ -171,21 +186,25 @@ count_ranged w kernel g = of_row (numbered w.kernels kernel) refl
     of_row None is = omega arith
     of_row (Some row) is = of_state row.state (all_get (λ (k : KernelRow). IsStateInRange k.state) w.kernels (kernel - 1) row g.rows.kernels (numbered_some w.kernels kernel row is).0)
 
-pub release_semaphore_safe : (fresh : ℕ) (w : World) (who : Who) (kernel : KernelId) (more : ℕ) → IsSafe fresh w who (ReleaseSemaphore kernel more) (release_semaphore_plan w who kernel more)
+pub release_semaphore_safe : (fresh : ℕ) (w : World) (who : Who) (kernel : KernelId) (more : ℕ) → IsSafe fresh w who (ReleaseSemaphore kernel more) (release_semaphore_plan w fresh who kernel more)
 unfolding release_semaphore_plan
 release_semaphore_safe fresh w who kernel more =
-    change_safe fresh w who (ReleaseSemaphore kernel more) is_semaphore kernel ((is_kernel_that (passes_by more) w kernel.0, OverMaximum (count_at w kernel.0)) ∷ []) (answer.Count (count_at w kernel.0) 0 0) (Raise more) refl refl
-    (λ there none. (there.passes, sym (ap (λ r. option_map_or (λ (k : KernelRow). passes_by more k.state) r false) there.stands) ∙ none.0))
+    safe_unless fresh w who (ReleaseSemaphore kernel more) (release_semaphore_refusals w who kernel.0 more) _
+    (λ none.
+    let there : Stands is_semaphore w kernel.0 = that_stands is_semaphore w kernel.0 (not_false (is_kernel_that is_semaphore w kernel.0) none.1.0) in
+    fire_safe fresh w who (ReleaseSemaphore kernel more) (trigger.ReleaseSemaphore kernel more) (answer.Count (count_at w kernel.0)) (λ first count. refl) (λ first count. refl)
+    (record { row = there.row; stands = there.stands; suits = (there.passes, sym (ap (λ r. option_map_or (λ (k : KernelRow). passes_by more k.state) r false) there.stands) ∙ none.1.1.1.1.1.0) })
+    (signal_room w (Raise more) kernel.0))
 
-pub release_semaphore_forget : (w : World) (who : Who) (kernel : KernelId) (more : ℕ) → release_semaphore_plan (forget w) who kernel more ≡ release_semaphore_plan w who kernel more
+pub release_semaphore_forget : (fresh : ℕ) (w : World) (who : Who) (kernel : KernelId) (more : ℕ) → release_semaphore_plan (forget w) fresh who kernel more ≡ release_semaphore_plan w fresh who kernel more
 unfolding release_semaphore_plan
-release_semaphore_forget w who kernel more = refl
+release_semaphore_forget fresh w who kernel more = refl
 
-pub release_semaphore_ranged : (w : World) (who : Who) (kernel : KernelId) (more : ℕ) → IsRanged w → IsPlanInRange (release_semaphore_plan w who kernel more)
+pub release_semaphore_ranged : (fresh : ℕ) (w : World) (who : Who) (kernel : KernelId) (more : ℕ) → fresh + 65536 ≤ 2 ^ 64 → IsRanged w → IsPlanInRange (release_semaphore_plan w fresh who kernel more)
 unfolding release_semaphore_plan
-release_semaphore_ranged w who kernel more g =
-    change_ranged w who is_semaphore kernel ((is_kernel_that (passes_by more) w kernel.0, OverMaximum (count_at w kernel.0)) ∷ []) (answer.Count (count_at w kernel.0) 0 0) (Raise more) (count_ranged w kernel.0 g, tt)
-    (count_ranged w kernel.0 g, omega arith, omega arith)
+release_semaphore_ranged fresh w who kernel more few g =
+    ranged_unless (release_semaphore_refusals w who kernel.0 more) _ (tt, (tt, (tt, (tt, (tt, (count_ranged w kernel.0 g, tt))))))
+    (fire_ranged fresh w (trigger.ReleaseSemaphore kernel more) (answer.Count (count_at w kernel.0)) (λ first count f n. (count_ranged w kernel.0 g, f, n)) few g tt (signal_room w (Raise more) kernel.0 g.slots_most))
 
 -- ---- ReleaseLock
 

@@ -1,5 +1,5 @@
--- The facts of calls on timers and the clock.
-use Rattle.std.proofs.Common.{◌≡◌, ℕ, zero, suc, ◌+◌, ◌≤◌, ◌^◌, true, false, Option, Some, None, refl, ap, arith, ltb-false, ne_eqb, cond}
+-- The facts of calls on timers and the clock, and of what a trigger does.
+use Rattle.std.proofs.Common.{◌≡◌, ℕ, zero, suc, ◌+◌, ◌≤◌, ◌<◌, ◌^◌, true, false, Option, Some, None, refl, ap, ◌∙◌, arith, ltb-false, ne_eqb, cond}
 use Rattle.std.specs.List.{range_with_len}
 use Rattle.std.specs.Prelude.{ℤ}
 use Rattle.std.specs.Option.{option_map_or}
@@ -7,24 +7,31 @@ use Rattle.tp_base.specs.declared.ids.Who.{Who}
 use Rattle.tp_base.specs.declared.ids.ObjectId.{ObjectId}
 use Rattle.tp_base.specs.declared.calls.Kind.{Kind}
 use Rattle.tp_base.specs.declared.calls.Kind.TheVariants.{Work, Timer, Wait, Io}
+use Rattle.tp_base.specs.declared.calls.Call.{Call}
 use Rattle.tp_base.specs.declared.calls.Call.TheVariants.{SetTimer, SetTimerEx, IsTimerSet, Advance}
+use Rattle.tp_base.specs.declared.answers.Answer.{Answer}
 use Rattle.tp_base.specs.declared.answers.Answer.TheVariants as answer
 use Rattle.tp_base.specs.declared.plans.Trigger.{Trigger}
 use Rattle.tp_base.specs.declared.plans.Trigger.TheVariants as trigger
 use Rattle.tp_base.specs.declared.rows.ObjectRow.{ObjectRow}
-use Rattle.tp_base.specs.Ranges.{IsCallInRange}
+use Rattle.tp_base.specs.Armings.{is_armed}
+use Rattle.tp_base.specs.Ranges.{IsCallInRange, IsAnswerInRange}
 use Rattle.tp_base.specs.Timers.{clock_end}
 use Rattle.tp_model.specs.World.{World}
 use Rattle.tp_model.specs.Counts.{numbered, slots}
 use Rattle.tp_model.specs.Conditions.{is_finished, is_object_of, is_released, is_same_kind, lacks_slots_for}
-use Rattle.tp_model.specs.Sources.{count_fired}
+use Rattle.tp_model.specs.Sources.{sources_of, count_fired, slots_after}
+use Rattle.tp_model.specs.History.{is_refusal}
 use Rattle.tp_model.specs.Refusing.{object_refusals}
-use Rattle.tp_model.specs.Calls.Timers.{first_of, set_timer_refusals, set_timer_plan, set_timer_ex_plan, is_timer_set_plan, advance_refusals, advance_plan}
-use Rattle.tp_model.specs.Support.Allowed.{IsTimer}
+use Rattle.tp_model.specs.Calls.Timers.{first_of, fire, count_expiring, set_timer_refusals, set_timer_plan, set_timer_ex_plan, is_timer_set, is_timer_set_plan, advance_refusals, advance_plan}
+use Rattle.tp_model.specs.Support.Allowed.{IsObjectOf, IsTimer, IsReady}
 use Rattle.tp_model.specs.Support.Safe.{IsSafe}
-use Rattle.tp_model.specs.Support.Told.{told_by}
+use Rattle.tp_model.specs.Support.Sound.{IsSound, count_set, may_be_armed}
+use Rattle.tp_model.specs.Support.Told.{silent, sets_of, told_by}
 use Rattle.tp_model.specs.Support.Remembered.{forget}
-use Rattle.tp_model.specs.Support.Ranged.{IsRanged, IsPlanInRange}
+use Rattle.tp_model.specs.Support.Ranged.{IsRanged, IsTriggerInRange, IsPlanInRange}
+use Rattle.tp_model.proofs.Arming.{armed_has, armed_most, expiry_within}
+use Rattle.tp_model.proofs.Firing.{armable_wait}
 use Rattle.tp_model.proofs.Refusals.{NoneHolds, neither, not_false, false_true}
 use Rattle.tp_model.proofs.Forgetting.{live_again}
 use Rattle.tp_model.proofs.Planning.{safe_unless}
@@ -36,32 +43,55 @@ first_fresh : (fresh count : ℕ) → first_of fresh (suc count) ≡ fresh
 first_fresh fresh count = ap (λ b. cond b 0 fresh) (ne_eqb (suc count) 0 (λ h. omega (arith, h)))
 
 -- the numbers that are told are those that are made
-told_range : (fresh count : ℕ) → range_with_len (first_of fresh count) count ≡ range_with_len fresh count
+pub told_range : (fresh count : ℕ) → range_with_len (first_of fresh count) count ≡ range_with_len fresh count
 told_range fresh zero = refl
 told_range fresh (suc count) = ap (λ n. range_with_len n (suc count)) (first_fresh fresh count)
 
-first_within : (fresh count : ℕ) → first_of fresh count ≤ fresh
+pub first_within : (fresh count : ℕ) → first_of fresh count ≤ fresh
 first_within fresh zero = omega arith
 first_within fresh (suc count) = omega (arith, first_fresh fresh count)
 
--- the object of the number stands, is a timer and isn't released
-timer_stands : (w : World) (object : ObjectId) → is_object_of w Timer object.0 ≡ true → is_released w object.0 ≡ false → IsTimer w object
-timer_stands w object kind live = of_row (numbered w.objects object.0) refl kind live
-  where
-    is_timer : (kind : Kind) → is_same_kind kind Timer ≡ true → kind ≡ Timer
-    is_timer Timer e = refl
-    is_timer Work e = absurd (false_true e)
-    is_timer Wait e = absurd (false_true e)
-    is_timer Io e = absurd (false_true e)
+pub fire_safe : (fresh : ℕ) (w : World) (who : Who) (call : Call) (t : Trigger) (told : ℕ → ℕ → Answer) → ((first count : ℕ) → is_refusal (told first count) ≡ false)
+    → ((first count : ℕ) → told_by (record { who = who; call = call; answer = told first count }) ≡ record silent { made = range_with_len first count; queued = range_with_len first count; sets = sets_of t })
+    → IsReady w t → (slots w ≤ w.limits.slots → slots_after w t ≤ w.limits.slots) → IsSafe fresh w who call (fire w fresh t told)
+fire_safe fresh w who call t told accepted tells ready room =
+    record {
+      allowed = record { ready = ready; number = refl; counted = refl; room = room };
+      made_by = tt;
+      accepted = accepted (first_of fresh (count_fired w t)) (count_fired w t);
+      tells = tells (first_of fresh (count_fired w t)) (count_fired w t) ∙ ap (λ ns. record silent { made = ns; queued = ns; sets = sets_of t }) (told_range fresh (count_fired w t));
+    }
 
-    of_row : (row : Option ObjectRow) → numbered w.objects object.0 ≡ row → option_map_or (λ (o : ObjectRow). is_same_kind o.kind Timer) row false ≡ true → option_map_or (λ (o : ObjectRow). o.released) row false ≡ false → IsTimer w object
+-- so many callbacks as have their slots
+pub fire_ranged : (fresh : ℕ) (w : World) (t : Trigger) (told : ℕ → ℕ → Answer) → ((first count : ℕ) → first < 2 ^ 64 → count ≤ 65535 → IsAnswerInRange (told first count)) → fresh + 65536 ≤ 2 ^ 64 → IsRanged w → IsTriggerInRange t
+    → slots_after w t ≤ w.limits.slots → IsPlanInRange (fire w fresh t told)
+fire_ranged fresh w t told within few g in_range room =
+    let n : count_fired w t ≤ 65535 = omega (arith, room, g.limits.slots_most) in
+    (within (first_of fresh (count_fired w t)) (count_fired w t) (omega (arith, first_within fresh (count_fired w t), few)) n, (in_range, omega (arith, n, few)))
+
+-- the object of the number stands, is of the kind and isn't released
+pub object_stands : (w : World) (kind : Kind) (object : ObjectId) → is_object_of w kind object.0 ≡ true → is_released w object.0 ≡ false → IsObjectOf kind w object
+object_stands w kind object is_kind live = of_row (numbered w.objects object.0) refl is_kind live
+  where
+    same_kind : (a b : Kind) → is_same_kind a b ≡ true → a ≡ b
+    same_kind Work Work e = refl
+    same_kind Timer Timer e = refl
+    same_kind Wait Wait e = refl
+    same_kind Io Io e = refl
+    same_kind _ _ e = absurd (false_true e)
+
+    of_row : (row : Option ObjectRow) → numbered w.objects object.0 ≡ row → option_map_or (λ (o : ObjectRow). is_same_kind o.kind kind) row false ≡ true → option_map_or (λ (o : ObjectRow). o.released) row false ≡ false → IsObjectOf kind w object
     of_row None is k l = absurd (false_true k)
-    of_row (Some row) is k l = record { row = row; stands = is; kind = is_timer row.kind k; unreleased = l }
+    of_row (Some row) is k l = record { row = row; stands = is; kind = same_kind row.kind kind k; unreleased = l }
 
 module _ (fresh : ℕ) (w : World) (who : Who) where
   set_ready : (object : ObjectId) (t : Trigger) → NoneHolds (set_timer_refusals w who object.0 t) → IsTimer w object
   set_ready object t none =
-      timer_stands w object (not_false (is_object_of w Timer object.0) none.1.0) (neither (is_finished w who) (is_released w object.0) none.1.1.0).1
+      object_stands w Timer object (not_false (is_object_of w Timer object.0) none.1.0) (neither (is_finished w who) (is_released w object.0) none.1.1.0).1
+
+  set_room : (object : ObjectId) (due : Option ℤ) (period window : ℕ) → NoneHolds (set_timer_refusals w who object.0 (trigger.SetTimer object due period window)) → slots_after w (trigger.SetTimer object due period window) ≤ w.limits.slots
+  set_room object due period window none =
+      omega (arith, ltb-false w.limits.slots (slots w + count_fired w (trigger.SetTimer object due period window)) none.1.1.1.1.1.0)
 
   -- ---- SetTimer, SetTimerEx
 
@@ -70,24 +100,14 @@ module _ (fresh : ℕ) (w : World) (who : Who) where
   set_timer_safe object due period window =
       let t : Trigger = trigger.SetTimer object due period window in
       safe_unless fresh w who (SetTimer object due period window) (set_timer_refusals w who object.0 t) _
-      (λ none. record {
-        allowed = record { ready = set_ready object t none; number = refl; counted = refl; room = none.1.1.1.1.1.0 };
-        made_by = tt;
-        accepted = refl;
-        tells = ap (λ ns. record (told_by (record { who = who; call = SetTimer object due period window; answer = answer.Queued 0 0 })) { made = ns; queued = ns }) (told_range fresh (count_fired w t));
-      })
+      (λ none. fire_safe fresh w who (SetTimer object due period window) t answer.Queued (λ first count. refl) (λ first count. refl) (set_ready object t none) (λ _. set_room object due period window none))
 
   pub set_timer_ex_safe : (object : ObjectId) (due : Option ℤ) (period window : ℕ) → IsSafe fresh w who (SetTimerEx object due period window) (set_timer_ex_plan w fresh who object due period window)
   unfolding set_timer_ex_plan
   set_timer_ex_safe object due period window =
       let t : Trigger = trigger.SetTimer object due period window in
       safe_unless fresh w who (SetTimerEx object due period window) (set_timer_refusals w who object.0 t) _
-      (λ none. record {
-        allowed = record { ready = set_ready object t none; number = refl; counted = refl; room = none.1.1.1.1.1.0 };
-        made_by = tt;
-        accepted = refl;
-        tells = ap (λ ns. record (told_by (record { who = who; call = SetTimerEx object due period window; answer = answer.Queued 0 0 })) { made = ns; queued = ns }) (told_range fresh (count_fired w t));
-      })
+      (λ none. fire_safe fresh w who (SetTimerEx object due period window) t (answer.WasSet (is_timer_set w object.0)) (λ first count. refl) (λ first count. refl) (set_ready object t none) (λ _. set_room object due period window none))
 
   -- ---- IsTimerSet
 
@@ -98,22 +118,21 @@ module _ (fresh : ℕ) (w : World) (who : Who) where
 
   -- ---- Advance
 
-  pub advance_safe : (ticks : ℕ) → IsSafe fresh w who (Advance ticks) (advance_plan w fresh who ticks)
+  -- each timeout that expires has the slot of its arming
+  advance_room : (now : ℕ) → IsSound fresh w → lacks_slots_for w (count_expiring w now) ≡ false → slots_after w (trigger.Advance now) ≤ w.limits.slots
+  advance_room now s fits = omega (arith, expiry_within now (sources_of w) one_timeout, ltb-false w.limits.slots (slots w + count_expiring w now) fits)
+    where
+      one_timeout : (o : ℕ) → is_armed o w.armings ≡ true → count_set o w.settings ≤ 1
+      one_timeout o armed =
+          omega (arith, (s.timeouts o (armable_wait w.objects o (armed_has (λ n. may_be_armed w.objects n ≡ true) o w.armings s.armings armed))).few, armed_most o w.armings)
+
+  pub advance_safe : (ticks : ℕ) → IsSound fresh w → IsSafe fresh w who (Advance ticks) (advance_plan w fresh who ticks)
   unfolding advance_plan
-  advance_safe ticks =
+  advance_safe ticks s =
       let t : Trigger = trigger.Advance (w.now + ticks) in
       safe_unless fresh w who (Advance ticks) (advance_refusals w who (w.now + ticks)) _
-      (λ none. record {
-        allowed = record {
-          ready = record { onwards = omega arith; within = ltb-false clock_end (w.now + ticks) none.1.1.1.1.0 };
-          number = refl;
-          counted = refl;
-          room = none.1.1.1.1.1.0;
-        };
-        made_by = tt;
-        accepted = refl;
-        tells = ap (λ ns. record (told_by (record { who = who; call = Advance ticks; answer = answer.Queued 0 0 })) { made = ns; queued = ns }) (told_range fresh (count_fired w t));
-      })
+      (λ none. fire_safe fresh w who (Advance ticks) t (answer.Advanced (w.now + ticks)) (λ first count. refl) (λ first count. refl)
+      (record { onwards = omega arith; within = ltb-false clock_end (w.now + ticks) none.1.1.1.1.0 }) (λ _. advance_room (w.now + ticks) s none.1.1.1.1.1.0))
 
   -- ---- a forgotten world has the same plans
 
@@ -135,33 +154,25 @@ module _ (fresh : ℕ) (w : World) (who : Who) where
 
   -- ---- ranges
 
-  -- so many callbacks as have their places
-  few_fired : (count : ℕ) → IsRanged w → lacks_slots_for w count ≡ false → count ≤ 65535
-  few_fired count g fits = omega (arith, ltb-false w.limits.slots (slots w + count) fits, g.limits.slots_most)
-
   pub set_timer_ranged : (object : ObjectId) (due : Option ℤ) (period window : ℕ) → fresh + 65536 ≤ 2 ^ 64 → IsRanged w → IsCallInRange (SetTimer object due period window) → IsPlanInRange (set_timer_plan w fresh who object due period window)
   unfolding set_timer_plan
   set_timer_ranged object due period window few g c =
       let t : Trigger = trigger.SetTimer object due period window in
-      made_ranged (set_timer_refusals w who object.0 t) _ _
-      (λ none. let n = few_fired (count_fired w t) g none.1.1.1.1.1.0 in ((omega (arith, first_within fresh (count_fired w t), few), n), (c.0, omega (arith, n, few))))
+      made_ranged (set_timer_refusals w who object.0 t) _ _ (λ none. fire_ranged fresh w t answer.Queued (λ first count f n. (f, n)) few g c.0 (set_room object due period window none))
 
   pub set_timer_ex_ranged : (object : ObjectId) (due : Option ℤ) (period window : ℕ) → fresh + 65536 ≤ 2 ^ 64 → IsRanged w → IsCallInRange (SetTimerEx object due period window) → IsPlanInRange (set_timer_ex_plan w fresh who object due period window)
   unfolding set_timer_ex_plan
   set_timer_ex_ranged object due period window few g c =
       let t : Trigger = trigger.SetTimer object due period window in
-      made_ranged (set_timer_refusals w who object.0 t) _ _
-      (λ none. let n = few_fired (count_fired w t) g none.1.1.1.1.1.0 in ((omega (arith, first_within fresh (count_fired w t), few), n), (c.0, omega (arith, n, few))))
+      made_ranged (set_timer_refusals w who object.0 t) _ _ (λ none. fire_ranged fresh w t (answer.WasSet (is_timer_set w object.0)) (λ first count f n. (f, n)) few g c.0 (set_room object due period window none))
 
   pub is_timer_set_ranged : (object : ObjectId) → IsPlanInRange (is_timer_set_plan w who object)
   unfolding is_timer_set_plan
   is_timer_set_ranged object = ranged_unless (object_refusals w who Timer object.0) _ _ (tt, tt)
 
-  pub advance_ranged : (ticks : ℕ) → fresh + 65536 ≤ 2 ^ 64 → IsRanged w → IsPlanInRange (advance_plan w fresh who ticks)
+  pub advance_ranged : (ticks : ℕ) → fresh + 65536 ≤ 2 ^ 64 → IsSound fresh w → IsRanged w → IsPlanInRange (advance_plan w fresh who ticks)
   unfolding advance_plan
-  advance_ranged ticks few g =
+  advance_ranged ticks few s g =
       let t : Trigger = trigger.Advance (w.now + ticks) in
       made_ranged (advance_refusals w who (w.now + ticks)) _ _
-      (λ none.
-      let n = few_fired (count_fired w t) g none.1.1.1.1.1.0 in
-      ((ltb-false clock_end (w.now + ticks) none.1.1.1.1.0, omega (arith, first_within fresh (count_fired w t), few), n), (tt, omega (arith, n, few))))
+      (λ none. fire_ranged fresh w t (answer.Advanced (w.now + ticks)) (λ first count f n. (ltb-false clock_end (w.now + ticks) none.1.1.1.1.0, f, n)) few g tt (advance_room (w.now + ticks) s none.1.1.1.1.1.0))

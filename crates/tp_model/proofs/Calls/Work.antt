@@ -1,6 +1,9 @@
 -- The facts of calls that make callbacks at once.
-use Rattle.std.proofs.Common.{◌≡◌, ℕ, ◌<◌, false, not, ◌||◌, length, Option, Some, None, refl, ap, arith, ◌^◌}
+use Rattle.std.proofs.Common.{◌≡◌, ℕ, ◌<◌, ◌∙◌, true, false, not, ◌||◌, length, List, Option, Some, None, refl, ap, arith, ◌^◌}
+use Rattle.std.specs.Option.{option_map_or}
 use Rattle.tp_base.specs.declared.ids.Who.{Who}
+use Rattle.tp_base.specs.declared.calls.Kind.{Kind}
+use Rattle.tp_base.specs.declared.calls.Kind.TheVariants.{Work, Timer, Wait, Io}
 use Rattle.tp_base.specs.declared.ids.ObjectId.{ObjectId}
 use Rattle.tp_base.specs.declared.ids.RoutineId.{RoutineId}
 use Rattle.tp_base.specs.declared.calls.Environ.{Environ}
@@ -12,32 +15,46 @@ use Rattle.tp_base.specs.declared.rows.ObjectRow.{ObjectRow}
 use Rattle.tp_base.specs.Ranges.{IsCallInRange}
 use Rattle.tp_model.specs.World.{World}
 use Rattle.tp_model.specs.Counts.{numbered}
-use Rattle.tp_model.specs.Conditions.{is_actor, is_pool, is_no_group_or_group, lacks_slots_for}
+use Rattle.tp_model.specs.Conditions.{is_actor, is_pool, is_no_group_or_group, is_object_of, is_same_kind, lacks_slots_for}
 use Rattle.tp_model.specs.Refusing.{first_refusal, unless_refused}
 use Rattle.tp_model.specs.Calls.Work.{submit_work_refusals, submit, submit_work_plan, submit_simple_refusals, submit_simple_plan, simple_callback}
-use Rattle.tp_model.specs.Support.Sound.{IsSound}
+use Rattle.tp_model.specs.Support.Sound.{IsSound, is_wait_at}
 use Rattle.tp_model.specs.Support.Safe.{IsSafe}
 use Rattle.tp_model.specs.Support.Remembered.{forget}
 use Rattle.tp_model.specs.Support.Ranged.{IsObjectInRange, IsRanged, IsPlanInRange}
 use Rattle.tp_model.proofs.Lists.{all_get}
-use Rattle.tp_model.proofs.Refusals.{neither, not_false, made, numbered_some}
+use Rattle.tp_model.proofs.Refusals.{neither, not_false, false_true, made, numbered_some}
 use Rattle.tp_model.proofs.Forgetting.{live_again}
 use Rattle.tp_model.proofs.Planning.{safe_unless}
 use Rattle.tp_model.proofs.Ranging.{ranged_unless}
 
 -- ---- SubmitWork
 
+-- a work object is no wait object
+work_apart : (objects : List ObjectRow) (object : ℕ) → option_map_or (λ (o : ObjectRow). is_same_kind o.kind Work) (numbered objects object) false ≡ true → is_wait_at objects object ≡ false
+work_apart objects object work = of_row (numbered objects object) refl work
+  where
+    of_kind : (kind : Kind) → is_same_kind kind Work ≡ true → is_same_kind kind Wait ≡ false
+    of_kind Work e = refl
+    of_kind Timer e = absurd (false_true e)
+    of_kind Wait e = absurd (false_true e)
+    of_kind Io e = absurd (false_true e)
+
+    of_row : (row : Option ObjectRow) → numbered objects object ≡ row → option_map_or (λ (o : ObjectRow). is_same_kind o.kind Work) row false ≡ true → is_wait_at objects object ≡ false
+    of_row None is e = absurd (false_true e)
+    of_row (Some row) is e = ap (λ (r : Option ObjectRow). option_map_or (λ (o : ObjectRow). is_same_kind o.kind Wait) r false) is ∙ of_kind row.kind e
+
 pub submit_work_safe : (fresh : ℕ) (w : World) (who : Who) (object : ObjectId) → IsSound fresh w → IsSafe fresh w who (SubmitWork object) (submit_work_plan w fresh who object)
 unfolding submit_work_plan
 submit_work_safe fresh w who object s =
-    safe_unless fresh w who (SubmitWork object) (submit_work_refusals w who object.0) _ (λ none. submits (numbered w.objects object.0) refl none.1.1.1.1.1.0)
+    safe_unless fresh w who (SubmitWork object) (submit_work_refusals w who object.0) _ (λ none. submits (numbered w.objects object.0) refl (work_apart w.objects object.0 (not_false (is_object_of w Work object.0) none.1.0)) none.1.1.1.1.1.0)
   where
-    submits : (row : Option ObjectRow) → numbered w.objects object.0 ≡ row → lacks_slots_for w 1 ≡ false → IsSafe fresh w who (SubmitWork object) (submit fresh object row)
-    submits None is fits = tt
-    submits (Some row) is fits =
+    submits : (row : Option ObjectRow) → numbered w.objects object.0 ≡ row → is_wait_at w.objects object.0 ≡ false → lacks_slots_for w 1 ≡ false → IsSafe fresh w who (SubmitWork object) (submit fresh object row)
+    submits None is apart fits = tt
+    submits (Some row) is apart fits =
         let at = numbered_some w.objects object.0 row is in
         let home = all_get (λ (o : ObjectRow). o.env.pool.0 < length w.pools) w.objects _ row s.object_pools at.0 in
-        record { allowed = record { number = refl; pending = refl; object = λ _. record { row = row; stands = is; home = refl }; home = home; room = fits }; made_by = tt; accepted = refl; tells = refl }
+        record { allowed = record { number = refl; pending = refl; object = λ _. record { row = row; stands = is; home = refl }; home = home; room = fits }; made_by = apart; accepted = refl; tells = refl }
 
 pub submit_work_forget : (fresh : ℕ) (w : World) (who : Who) (object : ObjectId) → submit_work_plan (forget w) fresh who object ≡ submit_work_plan w fresh who object
 unfolding submit_work_plan
@@ -66,7 +83,7 @@ submit_simple_safe fresh w who routine context env =
     (λ none.
     let there = neither (not (is_actor w who) || not (is_pool w env.pool.0)) (not (is_no_group_or_group w env.group.0)) none.0 in
     let home = made w.pools env.pool.0 (not_false (is_pool w env.pool.0) (neither (not (is_actor w who)) (not (is_pool w env.pool.0)) there.0).1) in
-    record { allowed = record { number = refl; pending = refl; object = λ named. absurd (named refl); home = home; room = none.1.1.1.1.1.1.0 }; made_by = tt; accepted = refl; tells = refl })
+    record { allowed = record { number = refl; pending = refl; object = λ named. absurd (named refl); home = home; room = none.1.1.1.1.1.1.0 }; made_by = refl; accepted = refl; tells = refl })
 
 pub submit_simple_forget : (fresh : ℕ) (w : World) (who : Who) (routine : RoutineId) (context : ℕ) (env : Environ) → submit_simple_plan (forget w) fresh who routine context env ≡ submit_simple_plan w fresh who routine context env
 unfolding submit_simple_plan

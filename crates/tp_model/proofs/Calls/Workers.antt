@@ -1,5 +1,5 @@
 -- The facts of calls of workers.
-use Rattle.std.proofs.Common.{◌≡◌, ℕ, ◌-◌, Bool, true, false, cond, not, ◌||◌, ◌==◌, length, nat_le, Option, Some, None, is_some, refl, sym, ap, ◌∙◌, arith, eqb-true, ◌&&◌, nat_lt, ap₂}
+use Rattle.std.proofs.Common.{◌≤◌, ◌<◌, ◌^◌, ◌+◌, ◌≡◌, ℕ, ◌-◌, Bool, true, false, cond, not, ◌||◌, ◌==◌, length, nat_le, Option, Some, None, is_some, refl, sym, ap, ◌∙◌, arith, eqb-true, ◌&&◌, nat_lt, ap₂}
 use Rattle.std.specs.Option.{option_map_or, option_or}
 use Rattle.std.proofs.lemmas.Bool.{leb-false}
 use Rattle.std.specs.List.{range_with_len}
@@ -19,7 +19,11 @@ use Rattle.tp_model.specs.Counts.{numbered, is_pending, maximum, running, next, 
 use Rattle.tp_model.specs.Conditions.{is_actor, is_attached, runs_callback, idle_of}
 use Rattle.tp_model.specs.Refusing.{first_refusal, unless_refused}
 use Rattle.tp_model.specs.Calls.Workers.{attach_refusals, attach_to, attach_plan, pool_to_join, idle_refusals, may_leave, detach, detach_plan, take_callback, take, take_plan, return_refusals, return, return_plan, another_in_need}
-use Rattle.tp_model.specs.Actions.{slots_of, words_of}
+use Rattle.tp_base.specs.declared.plans.ActionWords.{ActionWords}
+use Rattle.tp_model.specs.Actions.{slots_of, words_of, returning}
+use Rattle.tp_model.specs.Support.Told.{silent, nothing}
+use Rattle.tp_model.proofs.Performing.{returning_within}
+use Rattle.tp_model.proofs.Calls.Timers.{told_range, first_within}
 use Rattle.tp_model.specs.Support.Sound.{IsSound}
 use Rattle.tp_model.specs.Support.Safe.{IsSafe}
 use Rattle.tp_model.specs.Support.Remembered.{forget}
@@ -181,20 +185,27 @@ take_ranged fresh w who s g = ranged_unless (idle_refusals w who) _ _ (takes (id
 
 -- ---- Return
 
-pub return_safe : (fresh : ℕ) (w : World) (who : Who) → IsSound fresh w → IsSafe fresh w who Return (return_plan w who)
+pub return_safe : (fresh : ℕ) (w : World) (who : Who) → IsSound fresh w → IsSafe fresh w who Return (return_plan w fresh who)
 unfolding return_plan
-return_safe fresh w who s = in_callback_safe fresh w who Return (return_refusals w who) (return w who) s tt (λ by b.
+return_safe fresh w who s = in_callback_safe fresh w who Return (return_refusals w who) (return w fresh who) s tt (λ by b.
     record {
-      allowed = record { runs = b.runs; told = ap₂ (λ a s. words_of w a (slots_of s)) b.actor b.runs.running };
+      allowed = record { runs = b.runs; told = ap₂ (λ a s. words_of w a (slots_of s)) b.actor b.runs.running; number = refl; counted = refl };
       made_by = b.actor;
       accepted = refl;
-      tells = refl;
+      tells = ap (λ ns. record silent { deed = record nothing { returned = true; words = Some (words_of w who (slots_of by.callback.status)) }; made = ns; queued = ns })
+          (told_range fresh (length (returning w (words_of w who (slots_of by.callback.status)) (slots_of by.callback.status)).jobs));
     })
 
-pub return_forget : (fresh : ℕ) (w : World) (who : Who) → IsSound fresh w → return_plan (forget w) who ≡ return_plan w who
+pub return_forget : (fresh : ℕ) (w : World) (who : Who) → IsSound fresh w → return_plan (forget w) fresh who ≡ return_plan w fresh who
 unfolding return_plan
-return_forget fresh w who s = in_callback_forget fresh w who (return_refusals w who) (return w who) s
+return_forget fresh w who s = in_callback_forget fresh w who (return_refusals w who) (return w fresh who) s
 
-pub return_ranged : (w : World) (who : Who) → IsPlanInRange (return_plan w who)
+-- so many callbacks as have their slots
+pub return_ranged : (fresh : ℕ) (w : World) (who : Who) → fresh + 65536 ≤ 2 ^ 64 → IsRanged w → IsPlanInRange (return_plan w fresh who)
 unfolding return_plan
-return_ranged w who = in_callback_ranged w who (return_refusals w who) (return w who) _ tt (λ _. ((omega arith, omega arith), tt))
+return_ranged fresh w who few g =
+    in_callback_ranged w who (return_refusals w who) (return w fresh who) _ tt (λ by.
+    let words : ActionWords = words_of w who (slots_of by.callback.status) in
+    let n : ℕ = length (returning w words (slots_of by.callback.status)).jobs in
+    let within : n ≤ 65535 = omega (arith, returning_within w words (slots_of by.callback.status), g.slots_most, g.limits.slots_most) in
+    ((omega (arith, first_within fresh n, few), within), omega (arith, within, few)))

@@ -10,7 +10,8 @@ use Rattle.tp_base.specs.declared.answers.Refusal.TheVariants.{NoSuch, WrongKind
 use Rattle.tp_base.specs.declared.answers.Answer.{Answer}
 use Rattle.tp_base.specs.declared.answers.Answer.TheVariants as answer
 use Rattle.tp_base.specs.declared.plans.KernelChange.{KernelChange}
-use Rattle.tp_base.specs.declared.plans.KernelChange.TheVariants.{Set, Reset, Raise, Leave}
+use Rattle.tp_base.specs.declared.plans.KernelChange.TheVariants.{Reset, Leave}
+use Rattle.tp_base.specs.declared.plans.Trigger.TheVariants.{SetEvent, ReleaseSemaphore}
 use Rattle.tp_base.specs.declared.plans.Plan.{Plan}
 use Rattle.tp_base.specs.declared.plans.Plan.TheVariants.{Does}
 use Rattle.tp_base.specs.declared.plans.Change.TheVariants as change
@@ -20,6 +21,7 @@ use Rattle.tp_model.specs.World.{World}
 use Rattle.tp_model.specs.Conditions.{is_actor, is_finished, is_without_callback, is_in_wait}
 use Rattle.tp_base.specs.Kernels.{is_event, is_semaphore, is_lock, owns, passes_by, lock_made}
 use Rattle.tp_model.specs.Kernels.{is_kernel, is_kernel_that, count_at}
+use Rattle.tp_model.specs.Calls.Timers.{fire}
 use Rattle.tp_model.specs.Refusing.{first_refusal, unless_refused}
 
 -- ---- CreateEvent, CreateSemaphore, CreateMutex and InitializeCriticalSection
@@ -64,18 +66,20 @@ abbrev pub change_kernel : World → Who → (KernelState → Bool) → KernelId
 change_kernel w who kind kernel own told how =
     unless_refused (first_refusal (kernel_refusals w who kind kernel.0 own)) (Does told (change.ChangeKernel kernel how))
 
--- an actor that waits for the event takes it when its wait ends
-unfoldable pub set_event_plan : World → Who → KernelId → Plan
-set_event_plan w who kernel = change_kernel w who is_event kernel [] (answer.Queued 0 0) Set
+-- an armed wait takes the event at once, and an actor that waits for it when its wait ends
+unfoldable pub set_event_plan : World → ℕ → Who → KernelId → Plan
+set_event_plan w fresh who kernel = unless_refused (first_refusal (kernel_refusals w who is_event kernel.0 [])) (fire w fresh (SetEvent kernel) answer.Queued)
 
 unfoldable pub reset_event_plan : World → Who → KernelId → Plan
 reset_event_plan w who kernel = change_kernel w who is_event kernel [] answer.Done Reset
 
+abbrev pub release_semaphore_refusals : World → Who → ℕ → ℕ → List (Bool × Refusal)
+release_semaphore_refusals w who kernel more = kernel_refusals w who is_semaphore kernel ((is_kernel_that (passes_by more) w kernel, OverMaximum (count_at w kernel)) ∷ [])
+
 -- the answer has the count before
-unfoldable pub release_semaphore_plan : World → Who → KernelId → ℕ → Plan
-release_semaphore_plan w who kernel more =
-    change_kernel w who is_semaphore kernel ((is_kernel_that (passes_by more) w kernel.0, OverMaximum (count_at w kernel.0)) ∷ [])
-    (answer.Count (count_at w kernel.0) 0 0) (Raise more)
+unfoldable pub release_semaphore_plan : World → ℕ → Who → KernelId → ℕ → Plan
+release_semaphore_plan w fresh who kernel more =
+    unless_refused (first_refusal (release_semaphore_refusals w who kernel.0 more)) (fire w fresh (ReleaseSemaphore kernel more) (answer.Count (count_at w kernel.0)))
 
 unfoldable pub release_lock_plan : World → Who → Lock → KernelId → Plan
 release_lock_plan w who lock kernel =

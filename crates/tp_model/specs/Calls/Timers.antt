@@ -1,6 +1,6 @@
 -- Calls on timers and the clock: SetThreadpoolTimer, SetThreadpoolTimerEx, IsThreadpoolTimerSet; and time passes.
-use Rattle.std.specs.Prelude.{ℕ, ◌+◌, ℤ, Bool, not, ◌==◌, nat_lt, List, [], ◌∷◌, ◌++◌, if◌then◌else◌, Option}
-use Rattle.std.specs.List.{list_any}
+use Rattle.std.specs.Prelude.{ℕ, ◌+◌, ℤ, Bool, not, ◌==◌, nat_lt, List, [], ◌∷◌, ◌++◌, length, if◌then◌else◌, Option}
+use Rattle.std.specs.List.{filter}
 use Rattle.tp_base.specs.declared.ids.Who.{Who}
 use Rattle.tp_base.specs.declared.ids.ObjectId.{ObjectId}
 use Rattle.tp_base.specs.declared.calls.Kind.TheVariants.{Timer}
@@ -14,7 +14,8 @@ use Rattle.tp_base.specs.declared.plans.Trigger.{Trigger}
 use Rattle.tp_base.specs.declared.plans.Trigger.TheVariants.{SetTimer, Advance}
 use Rattle.tp_base.specs.declared.plans.Change.TheVariants as change
 use Rattle.tp_base.specs.declared.rows.TimerSetting.{TimerSetting}
-use Rattle.tp_base.specs.Timers.{clock_end}
+use Rattle.tp_base.specs.Armings.{is_armed, is_set}
+use Rattle.tp_base.specs.Timers.{clock_end, expired}
 use Rattle.tp_model.specs.World.{World}
 use Rattle.tp_model.specs.Conditions.{is_actor, is_finished, is_without_callback, is_in_wait, lacks_slots_for}
 use Rattle.tp_model.specs.Sources.{count_fired}
@@ -41,7 +42,7 @@ set_timer_plan w fresh who object due period window =
     (fire w fresh (SetTimer object due period window) answer.Queued)
 
 abbrev pub is_timer_set : World → ℕ → Bool
-is_timer_set w object = list_any (λ (s : TimerSetting). s.object.0 == object) w.settings
+is_timer_set w object = is_set object w.settings
 
 unfoldable pub set_timer_ex_plan : World → ℕ → Who → ObjectId → Option ℤ → ℕ → ℕ → Plan
 set_timer_ex_plan w fresh who object due period window =
@@ -56,6 +57,10 @@ is_timer_set_plan w who object =
 
 -- ---- Advance: time passes
 
+-- the timers that expire; the slot of an armed wait becomes its callback's
+abbrev pub count_expiring : World → ℕ → ℕ
+count_expiring w now = length (filter (λ (s : TimerSetting). not (is_armed s.object.0 w.armings)) (expired now w.settings))
+
 abbrev pub advance_refusals : World → Who → ℕ → List (Bool × Refusal)
 advance_refusals w who now =
     (not (is_actor w who), NoSuch)
@@ -63,7 +68,7 @@ advance_refusals w who now =
     ∷ (is_without_callback w who, NotRunning)
     ∷ (is_in_wait w who, InWait)
     ∷ (nat_lt clock_end now, ClockEnd)
-    ∷ (lacks_slots_for w (count_fired w (Advance now)), CallbackLimit)
+    ∷ (lacks_slots_for w (count_expiring w now), CallbackLimit)
     ∷ []
 
 unfoldable pub advance_plan : World → ℕ → Who → ℕ → Plan

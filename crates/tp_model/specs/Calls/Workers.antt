@@ -1,6 +1,6 @@
 -- Calls of workers: they join a pool that needs one, take its callbacks, return from them, and leave. The functions of
 -- the thread pool do this behind the program's back.
-use Rattle.std.specs.Prelude.{ℕ, Bool, not, ◌||◌, ◌&&◌, ◌==◌, nat_lt, nat_le, is_some, List, [], ◌∷◌, if◌then◌else◌, Option, None, Some}
+use Rattle.std.specs.Prelude.{ℕ, Bool, not, ◌||◌, ◌&&◌, ◌==◌, nat_lt, nat_le, is_some, List, [], ◌∷◌, length, if◌then◌else◌, Option, None, Some}
 use Rattle.std.specs.Option.{option_or}
 use Rattle.tp_base.specs.declared.ids.Who.{Who}
 use Rattle.tp_base.specs.declared.ids.Who.TheVariants.{Worker}
@@ -16,7 +16,8 @@ use Rattle.tp_base.specs.declared.plans.Plan.TheVariants.{Refused, Looked, Does}
 use Rattle.tp_base.specs.declared.plans.Change.TheVariants as change
 use Rattle.tp_base.specs.declared.rows.CallbackRow.{CallbackRow}
 use Rattle.tp_model.specs.World.{World}
-use Rattle.tp_model.specs.Actions.{slots_of, words_of}
+use Rattle.tp_model.specs.Actions.{slots_of, words_of, returning}
+use Rattle.tp_model.specs.Calls.Timers.{first_of}
 use Rattle.tp_model.specs.Counts.{attached, available, is_below_minimum, is_in_need, least_pool, maximum, minimum, next, pending, running}
 use Rattle.tp_model.specs.Conditions.{is_worker, is_actor, is_finished, is_attached, is_in_wait, runs_callback, idle_of, busy_of}
 use Rattle.tp_model.specs.Refusing.{first_refusal, unless_refused}
@@ -102,12 +103,15 @@ return_refusals w who =
 
 -- its actions on return are performed, those of locks where the worker owns them, and that of a semaphore where its count
 -- stays within its maximum
-abbrev pub returning : Busy → ActionWords → Plan
-returning by words = Does (answer.Returned words.section words.mutex words.semaphore words.event 0 0) (change.Return by words)
+abbrev pub return_with : ℕ → Busy → ActionWords → ℕ → Plan
+return_with fresh by words count = Does (answer.Returned words.section words.mutex words.semaphore words.event (first_of fresh count) count) (change.Return by words fresh count)
 
-abbrev pub return : World → Who → Option Busy → Plan
-return w who None = Refused NotRunning
-return w who (Some by) = returning by (words_of w who (slots_of by.callback.status))
+abbrev pub return_from : World → ℕ → Busy → ActionWords → Plan
+return_from w fresh by words = return_with fresh by words (length (returning w words (slots_of by.callback.status)).jobs)
 
-unfoldable pub return_plan : World → Who → Plan
-return_plan w who = unless_refused (first_refusal (return_refusals w who)) (return w who (busy_of w who))
+abbrev pub return : World → ℕ → Who → Option Busy → Plan
+return w fresh who None = Refused NotRunning
+return w fresh who (Some by) = return_from w fresh by (words_of w who (slots_of by.callback.status))
+
+unfoldable pub return_plan : World → ℕ → Who → Plan
+return_plan w fresh who = unless_refused (first_refusal (return_refusals w who)) (return w fresh who (busy_of w who))

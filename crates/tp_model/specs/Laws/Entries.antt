@@ -1,15 +1,17 @@
 -- What the entries of a history tell of callbacks and workers.
 use Rattle.std.specs.Prelude.{◌≡◌, ℕ, Bool, true, false, not, ◌&&◌, ◌||◌, ◌==◌, max, List, [], ◌∷◌, ◌++◌, length, if◌then◌else◌, is_some, None, Some, Option}
-use Rattle.std.specs.Option.{option_or}
+use Rattle.std.specs.Option.{option_or, option_map_or, unwrap_or}
 use Rattle.std.specs.List.{filter, list_any, position, range_with_len, flat_map, filter_map, sum_by, fold}
 use Rattle.tp_base.specs.declared.ids.Who.TheVariants.{Worker}
 use Rattle.tp_base.specs.declared.ids.ObjectId.{ObjectId}
 use Rattle.tp_base.specs.declared.calls.Call.{Call}
-use Rattle.tp_base.specs.declared.calls.Call.TheVariants.{OnReturn, Return, SetMaximum, SetMinimum, BeginWait, End, Disassociate}
+use Rattle.tp_base.specs.declared.calls.Call.TheVariants.{OnReturn, Return, SetMaximum, SetMinimum, BeginWait, End, Disassociate, Create, SetWait}
 use Rattle.tp_base.specs.declared.answers.ActionKind.{ActionKind}
 use Rattle.tp_base.specs.declared.plans.ActionWords.{ActionWords}
+use Rattle.tp_base.specs.declared.calls.Kind.{Kind}
+use Rattle.tp_base.specs.declared.calls.Kind.TheVariants.{Wait}
 use Rattle.tp_base.specs.declared.answers.Answer.{Answer}
-use Rattle.tp_base.specs.declared.answers.Answer.TheVariants.{Queued, WasSet, Count, Advanced, Returned, Started, Cancelled, Closing, Begun, Attached, Taken, Ended, Exhausted, Stalled}
+use Rattle.tp_base.specs.declared.answers.Answer.TheVariants.{Made, Queued, WasSet, Count, Advanced, Returned, Started, Cancelled, Closing, Begun, Attached, Taken, Ended, Exhausted, Stalled}
 use Rattle.tp_base.specs.declared.answers.Entry.{Entry}
 use Rattle.tp_base.specs.declared.limits.Limits.{Limits}
 use Rattle.tp_base.specs.Actors.{is_same_actor}
@@ -201,3 +203,59 @@ is_disassociate_call _ = false
 -- an accepted Disassociate
 abbrev pub is_loosened : Entry → Bool
 is_loosened entry = is_disassociate_call entry.call && not (is_refusal entry.answer)
+
+-- ---- wait objects
+
+abbrev pub wait_numbered : Kind → ℕ → Option ℕ
+wait_numbered Wait number = Some number
+wait_numbered _ number = None
+
+abbrev pub wait_of_call : Call → ℕ → Option ℕ
+wait_of_call (Create kind routine context env) number = wait_numbered kind number
+wait_of_call _ number = None
+
+abbrev pub wait_of_answer : Answer → Call → Option ℕ
+wait_of_answer (Made number) call = wait_of_call call number
+wait_of_answer _ call = None
+
+-- the wait object that an entry makes
+abbrev pub wait_made : Entry → Option ℕ
+wait_made entry = wait_of_answer entry.answer entry.call
+
+abbrev pub makes_wait : ℕ → Entry → Bool
+makes_wait object entry = option_map_or (λ number. number == object) (wait_made entry) false
+
+abbrev pub is_wait_in : ℕ → List Entry → Bool
+is_wait_in object history = list_any (makes_wait object) history
+
+-- a wait object that is set, and whether a kernel object is named
+pub record Sets : Type 0 where
+  pub object : ObjectId
+  pub named : Bool
+
+abbrev pub sets_call : Call → Option Sets
+sets_call (SetWait object kernel timeout) = Some (record { object = object; named = is_some kernel })
+sets_call _ = None
+
+-- the wait object that an accepted SetWait sets
+abbrev pub sets_by : Entry → Option Sets
+sets_by entry = if is_refusal entry.answer then None else sets_call entry.call
+
+abbrev pub set_on : ℕ → Option Sets → Option Bool
+set_on object None = None
+set_on object (Some s) = if s.object.0 == object then Some s.named else None
+
+-- whether a kernel object is named, if the entry sets this wait object
+abbrev pub set_by : ℕ → Entry → Option Bool
+set_by object entry = set_on object (sets_by entry)
+
+-- how often a wait object is set
+abbrev pub count_sets : ℕ → List Entry → ℕ
+count_sets object entries = length (filter (λ entry. is_some (set_by object entry)) entries)
+
+abbrev pub set_after : ℕ → Bool → Entry → Bool
+set_after object named entry = unwrap_or (set_by object entry) named
+
+-- it was set, and the last time a kernel object was named
+abbrev pub is_last_set : ℕ → List Entry → Bool
+is_last_set object entries = fold (set_after object) false entries

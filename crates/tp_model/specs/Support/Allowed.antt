@@ -1,5 +1,5 @@
 -- Which changes a world allows, what each costs, and how many callbacks it makes.
-use Rattle.std.specs.Prelude.{◌≡◌, ℕ, ◌<◌, ◌≤◌, Bool, true, false, [], length, None, Some}
+use Rattle.std.specs.Prelude.{◌≡◌, ℕ, ◌<◌, ◌≤◌, Bool, true, false, [], length, Option, None, Some}
 use Rattle.tp_base.specs.declared.ids.Who.{Who}
 use Rattle.tp_base.specs.declared.ids.Who.TheVariants.{Client, Worker}
 use Rattle.tp_base.specs.declared.ids.ObjectId.{ObjectId}
@@ -19,9 +19,10 @@ use Rattle.tp_base.specs.declared.plans.ActionWords.{ActionWords}
 use Rattle.tp_base.specs.declared.plans.Mark.{Mark}
 use Rattle.tp_base.specs.declared.plans.Mark.TheVariants.{Asks}
 use Rattle.tp_base.specs.Actions.{slot}
-use Rattle.tp_model.specs.Actions.{words_of}
+use Rattle.tp_model.specs.Actions.{slots_of, words_of, returning}
 use Rattle.tp_base.specs.declared.plans.Busy.{Busy}
-use Rattle.tp_base.specs.declared.calls.Kind.TheVariants.{Timer}
+use Rattle.tp_base.specs.declared.calls.Kind.{Kind}
+use Rattle.tp_base.specs.declared.calls.Kind.TheVariants.{Timer, Wait}
 use Rattle.tp_base.specs.declared.plans.Trigger.{Trigger}
 use Rattle.tp_base.specs.declared.plans.Trigger.TheVariants as trigger
 use Rattle.tp_base.specs.declared.plans.Change.{Change}
@@ -31,14 +32,14 @@ use Rattle.tp_base.specs.declared.rows.Status.TheVariants.{Running}
 use Rattle.tp_base.specs.declared.rows.ObjectRow.{ObjectRow}
 use Rattle.tp_base.specs.declared.rows.CallbackRow.{CallbackRow}
 use Rattle.tp_base.specs.Timers.{clock_end}
-use Rattle.tp_base.specs.Kernels.{may_take, is_event, is_semaphore, passes_by, takings_of}
+use Rattle.tp_base.specs.Kernels.{is_waitable, may_take, is_event, is_semaphore, passes_by, takings_of}
 use Rattle.tp_model.specs.Kernels.{is_kernel, is_kernel_that}
-use Rattle.tp_model.specs.Sources.{count_fired}
+use Rattle.tp_model.specs.Sources.{count_fired, slots_after}
 use Rattle.tp_model.specs.World.{World, BegunWait, unattached, unfinished}
-use Rattle.tp_model.specs.Counts.{numbered, callback_of, is_pending, maximum, running}
+use Rattle.tp_model.specs.Counts.{numbered, callback_of, is_pending, maximum, running, slots}
 use Rattle.tp_model.specs.Conditions.{is_actor, is_in_wait, is_object, lacks_slots_for}
 use Rattle.tp_model.specs.Waits.{wait_of, held}
-use Rattle.tp_model.specs.Support.Sound.{IsCallbackSound}
+use Rattle.tp_model.specs.Support.Sound.{IsCallbackSound, is_wait_at}
 
 -- an object that has its place, in a pool that was made
 pub record IsNewObject (w : World) (row : ObjectRow) : Type 0 where
@@ -55,27 +56,56 @@ pub record IsNewCallback (fresh : ℕ) (w : World) (callback : CallbackRow) : Ty
   pub home : callback.pool.0 < length w.pools
   pub room : lacks_slots_for w 1 ≡ false
 
--- a timer that is not released; a moment to which the clock may come
-pub record IsTimer (w : World) (object : ObjectId) : Type 0 where
+-- the kernel object is of the change's kind; a semaphore's count stays within its maximum
+abbrev pub Suits : KernelChange → KernelState → Type 0
+Suits kernel.Set state = is_event state ≡ true
+Suits kernel.Reset state = is_event state ≡ true
+Suits (kernel.Raise more) state = (is_semaphore state ≡ true) × (passes_by more state ≡ false)
+Suits kernel.Leave (state.Mutex owner takings) = Unit {0}
+Suits kernel.Leave (state.Section owner takings) = Unit {0}
+Suits kernel.Leave _ = ⊥
+
+pub record MayChange (w : World) (object : KernelId) (how : KernelChange) : Type 0 where
+  pub row : KernelRow
+  pub stands : numbered w.kernels object.0 ≡ Some row
+  pub suits : Suits how row.state
+
+-- an object of a kind that is not released; a moment to which the clock may come; a kernel object that a wait can be armed
+-- on, if one is named
+pub record IsObjectOf (of : Kind) (w : World) (object : ObjectId) : Type 0 where
   pub row : ObjectRow
   pub stands : numbered w.objects object.0 ≡ Some row
-  pub kind : row.kind ≡ Timer
+  pub kind : row.kind ≡ of
   pub unreleased : row.released ≡ false
+
+abbrev pub IsTimer : World → ObjectId → Type 0
+IsTimer w object = IsObjectOf Timer w object
 
 pub record MayAdvance (w : World) (now : ℕ) : Type 0 where
   pub onwards : w.now ≤ now
   pub within : now ≤ clock_end
 
+abbrev pub IsWaitable : World → Option KernelId → Type 0
+IsWaitable w None = Unit {0}
+IsWaitable w (Some object) = is_kernel_that is_waitable w object.0 ≡ true
+
+pub record MayArm (w : World) (object : ObjectId) (named : Option KernelId) : Type 0 where
+  pub wait : IsObjectOf Wait w object
+  pub waitable : IsWaitable w named
+
 abbrev pub IsReady : World → Trigger → Type 0
 IsReady w (trigger.SetTimer object due period window) = IsTimer w object
 IsReady w (trigger.Advance now) = MayAdvance w now
+IsReady w (trigger.SetWait object named timeout) = MayArm w object named
+IsReady w (trigger.SetEvent object) = MayChange w object kernel.Set
+IsReady w (trigger.ReleaseSemaphore object count) = MayChange w object (kernel.Raise count)
 
--- so many callbacks as the trigger makes, numbered from the next number on, each of which has its place
+-- so many callbacks as the trigger makes, numbered from the next number on, and no more slots are taken than there are
 pub record MayFire (fresh : ℕ) (w : World) (trigger : Trigger) (first count : ℕ) : Type 0 where
   pub ready : IsReady w trigger
   pub number : first ≡ fresh
   pub counted : count ≡ count_fired w trigger
-  pub room : lacks_slots_for w count ≡ false
+  pub room : slots w ≤ w.limits.slots → slots_after w trigger ≤ w.limits.slots
 
 -- an unattached worker, and a pool that was made
 pub record MayAttach (w : World) (worker : ℕ) (pool : PoolId) : Type 0 where
@@ -113,9 +143,11 @@ pub record MayMark (w : World) (by : Busy) (mark : Mark) : Type 0 where
   pub unasked : IsUnasked mark runs.slots
 
 -- what becomes of the actions is by what their kernel objects are at
-pub record MayReturn (w : World) (by : Busy) (words : ActionWords) : Type 0 where
+pub record MayReturn (fresh : ℕ) (w : World) (by : Busy) (words : ActionWords) (first count : ℕ) : Type 0 where
   pub runs : Runs w by
   pub told : words ≡ words_of w (Worker by.worker) runs.slots
+  pub number : first ≡ fresh
+  pub counted : count ≡ length (returning w words (slots_of by.callback.status)).jobs
 
 -- an object that is not released
 pub record IsUnreleased (w : World) (object : ObjectId) : Type 0 where
@@ -127,20 +159,6 @@ pub record IsUnreleased (w : World) (object : ObjectId) : Type 0 where
 pub record IsNewKernel (w : World) (state : KernelState) : Type 0 where
   pub room : length w.kernels < w.limits.kernels
   pub takings : takings_of state ≤ 1
-
--- the kernel object is of the change's kind; a semaphore's count stays within its maximum
-abbrev pub Suits : KernelChange → KernelState → Type 0
-Suits kernel.Set state = is_event state ≡ true
-Suits kernel.Reset state = is_event state ≡ true
-Suits (kernel.Raise more) state = (is_semaphore state ≡ true) × (passes_by more state ≡ false)
-Suits kernel.Leave (state.Mutex owner takings) = Unit {0}
-Suits kernel.Leave (state.Section owner takings) = Unit {0}
-Suits kernel.Leave _ = ⊥
-
-pub record MayChange (w : World) (object : KernelId) (how : KernelChange) : Type 0 where
-  pub row : KernelRow
-  pub stands : numbered w.kernels object.0 ≡ Some row
-  pub suits : Suits how row.state
 
 -- no wait is for a group yet
 abbrev pub IsTarget : WaitTarget → Type 0
@@ -188,7 +206,7 @@ IsAllowed fresh w (change.Attach worker pool) = MayAttach w worker pool
 IsAllowed fresh w (change.Detach by) = Idles w by
 IsAllowed fresh w (change.Take by callback) = MayTake w by callback
 IsAllowed fresh w (change.Mark by mark) = MayMark w by mark
-IsAllowed fresh w (change.Return by words) = MayReturn w by words
+IsAllowed fresh w (change.Return by words first count) = MayReturn fresh w by words first count
 IsAllowed fresh w (change.BeginWait who target cancel) = MayBegin w who target
 IsAllowed fresh w (change.EndWait who how) = MayEnd w who how
 IsAllowed fresh w (change.Finish client) = numbered w.clients client ≡ Some unfinished
@@ -200,7 +218,7 @@ price (change.Take by callback) = 2
 price (change.BeginWait who target cancel) = 2
 price (change.EndWait who how) = 0
 price (change.Detach by) = 0
-price (change.Return by words) = 0
+price (change.Return by words first count) = 0
 price (change.Finish client) = 0
 price _ = 1
 
@@ -208,16 +226,18 @@ price _ = 1
 abbrev pub news : Change → ℕ
 news (change.QueueCallback callback) = 1
 news (change.Fire trigger first count) = count
+news (change.Return by words first count) = count
 news _ = 0
 
--- by whom a change can be made
-abbrev pub IsMadeBy : Who → Change → Type 0
-IsMadeBy who (change.Attach worker pool) = who ≡ Worker worker
-IsMadeBy who (change.Detach by) = who ≡ Worker by.worker
-IsMadeBy who (change.Take by callback) = who ≡ Worker by.worker
-IsMadeBy who (change.Mark by mark) = who ≡ Worker by.worker
-IsMadeBy who (change.Return by words) = who ≡ Worker by.worker
-IsMadeBy who (change.BeginWait actor target cancel) = who ≡ actor
-IsMadeBy who (change.EndWait actor how) = who ≡ actor
-IsMadeBy who (change.Finish client) = who ≡ Client client
-IsMadeBy who _ = Unit {0}
+-- by whom a change can be made; and a callback that no trigger makes is of no wait object
+abbrev pub IsMadeBy : World → Who → Change → Type 0
+IsMadeBy w who (change.QueueCallback callback) = is_wait_at w.objects callback.object.0 ≡ false
+IsMadeBy w who (change.Attach worker pool) = who ≡ Worker worker
+IsMadeBy w who (change.Detach by) = who ≡ Worker by.worker
+IsMadeBy w who (change.Take by callback) = who ≡ Worker by.worker
+IsMadeBy w who (change.Mark by mark) = who ≡ Worker by.worker
+IsMadeBy w who (change.Return by words first count) = who ≡ Worker by.worker
+IsMadeBy w who (change.BeginWait actor target cancel) = who ≡ actor
+IsMadeBy w who (change.EndWait actor how) = who ≡ actor
+IsMadeBy w who (change.Finish client) = who ≡ Client client
+IsMadeBy w who _ = Unit {0}

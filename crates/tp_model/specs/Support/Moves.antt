@@ -1,5 +1,5 @@
 -- How an accepted call moves callbacks and workers: one thing becomes of those that there are, and some are made.
-use Rattle.std.specs.Prelude.{◌≡◌, ℕ, ◌+◌, ◌-◌, ◌<◌, Bool, true, false, List, [], ◌∷◌, ◌++◌, map, slice_get, slice_set, ◌&&◌, is_none, option_map, Option, None, Some, not, length}
+use Rattle.std.specs.Prelude.{◌≡◌, ℕ, ◌+◌, ◌-◌, ◌<◌, Bool, true, false, List, [], ◌∷◌, ◌++◌, map, slice_get, slice_set, ◌&&◌, is_none, option_map, Option, None, Some, not, length, ◌≤◌, ◌==◌, ◌||◌, if◌then◌else◌}
 use Rattle.std.specs.List.{filter, find}
 use Rattle.std.specs.Option.{option_map_or}
 use Rattle.tp_base.specs.declared.ids.Who.{Who}
@@ -23,7 +23,8 @@ use Rattle.tp_base.specs.Actors.{is_same_actor}
 use Rattle.tp_model.specs.Conditions.{is_in_wait}
 use Rattle.tp_model.specs.Waits.{cancel_where, is_covered_by, is_of, held, wait_of}
 use Rattle.tp_model.specs.Changes.{replaced, taken, returned}
-use Rattle.tp_model.specs.Laws.Entries.{Run, Begins, begins_by, is_among, is_ending, is_freeing, made_by, queued_by, maximum_after}
+use Rattle.tp_model.specs.Laws.Entries.{Run, Begins, begins_by, is_among, is_ending, is_freeing, made_by, queued_by, maximum_after, set_by, makes_wait}
+use Rattle.tp_model.specs.Support.Sound.{is_wait_at, count_armed}
 use Rattle.tp_model.specs.Support.Told.{deed_by, nothing}
 
 -- ---- callbacks and workers that there are; `kept` and `staff` are what becomes of them
@@ -184,6 +185,26 @@ numbers_of cs = map (λ c. c.number) cs
 abbrev pub waiting_of : List CallbackRow → List ℕ
 waiting_of cs = numbers_of (filter (λ c. is_pending c.status) cs)
 
+-- ---- wait objects
+
+abbrev pub count_rows : ℕ → List CallbackRow → ℕ
+count_rows object cs = length (filter (λ c. c.object.0 == object) cs)
+
+-- how many callbacks a wait object may get by an entry that says this of it, and still be armed
+abbrev pub count_allowed : Option Bool → ℕ → ℕ
+count_allowed None armed = armed
+count_allowed (Some named) armed = if named then 1 else 0
+
+-- each callback of a wait object takes the place of its arming
+abbrev pub ArmsMove : World → Entry → World → List CallbackRow → Type 0
+ArmsMove w entry after new =
+    (object : ℕ) → is_wait_at after.objects object ≡ true → count_rows object new + count_armed object after.armings ≤ count_allowed (set_by object entry) (count_armed object w.armings)
+
+-- the wait objects are those that were, and the one that is made
+pub record ObjectsMove (w : World) (entry : Entry) (after : World) : Type 0 where
+  pub waits : (object : ℕ) → is_wait_at after.objects object ≡ (is_wait_at w.objects object || makes_wait object entry)
+  pub new : (object : ℕ) → makes_wait object entry ≡ true → numbered w.objects object ≡ None
+
 pub record Moves (fresh : ℕ) (w : World) (entry : Entry) (after : World) : Type 0 where
   pub kept : List CallbackRow
   pub new : List CallbackRow
@@ -192,6 +213,7 @@ pub record Moves (fresh : ℕ) (w : World) (entry : Entry) (after : World) : Typ
   pub made : made_by entry ≡ numbers_of new
   pub queued : queued_by entry.answer ≡ waiting_of new
   pub callbacks : after.callbacks ≡ kept ++ new
+  pub arms : ArmsMove w entry after new
 
 -- ---- waits
 
@@ -237,4 +259,5 @@ pub record Leads (fresh : ℕ) (w : World) (entry : Entry) (after : World) : Typ
   pub moves : Moves fresh w entry after
   pub waits : WaitsMove w entry after
   pub limits : after.limits ≡ w.limits
+  pub objects : ObjectsMove w entry after
   pub maxima : (pool : ℕ) → maximum_at after pool ≡ maximum_after pool (maximum_at w pool) entry

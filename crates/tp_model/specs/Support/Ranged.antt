@@ -1,5 +1,5 @@
 -- The numbers of a world are in the ranges of lines, and so are those of every answer and look.
-use Rattle.std.specs.Prelude.{ℕ, ◌<◌, ◌≤◌, ◌+◌, ◌^◌, length, filter}
+use Rattle.std.specs.Prelude.{ℕ, ◌<◌, ◌≤◌, ◌+◌, ◌^◌, length}
 use Rattle.std.specs.List.{AllByRecursion}
 use Rattle.tp_base.specs.declared.rows.KernelState.{KernelState}
 use Rattle.tp_base.specs.declared.rows.KernelState.TheVariants.{Semaphore}
@@ -8,7 +8,7 @@ use Rattle.tp_base.specs.declared.rows.WaitTarget.{WaitTarget}
 use Rattle.tp_base.specs.declared.rows.WaitTarget.TheVariants.{Kernel}
 use Rattle.tp_base.specs.Ranges.{count_most, AreLimitsInRange, IsRoutineInRange, IsResultInRange, IsRefusalInRange, IsAnswerInRange, IsLookInRange}
 use Rattle.tp_base.specs.declared.plans.Trigger.{Trigger}
-use Rattle.tp_base.specs.declared.plans.Trigger.TheVariants.{SetTimer, Advance}
+use Rattle.tp_base.specs.declared.plans.Trigger.TheVariants.{SetTimer, SetWait}
 use Rattle.tp_base.specs.declared.plans.Change.{Change}
 use Rattle.tp_base.specs.declared.plans.Change.TheVariants as change
 use Rattle.tp_base.specs.declared.plans.Plan.{Plan}
@@ -16,9 +16,10 @@ use Rattle.tp_base.specs.declared.plans.Plan.TheVariants.{Refused, Looked, Does}
 use Rattle.tp_base.specs.declared.rows.ObjectRow.{ObjectRow}
 use Rattle.tp_base.specs.declared.rows.CallbackRow.{CallbackRow}
 use Rattle.tp_base.specs.declared.rows.TimerSetting.{TimerSetting}
+use Rattle.tp_base.specs.declared.rows.Arming.{Arming}
 use Rattle.tp_base.specs.Kernels.{takings_of}
 use Rattle.tp_model.specs.World.{World, BegunWait}
-use Rattle.tp_model.specs.Counts.{running, is_live}
+use Rattle.tp_model.specs.Counts.{running, slots}
 
 pub record IsObjectInRange (o : ObjectRow) : Type 0 where
   pub routine : IsRoutineInRange o.routine.0
@@ -51,16 +52,19 @@ pub record AreRowsInRange (w : World) : Type 0 where
   pub callbacks : AllByRecursion IsCallbackInRange w.callbacks
   pub kernels : AllByRecursion (λ (k : KernelRow). IsStateInRange k.state) w.kernels
   pub timers : AllByRecursion (λ (s : TimerSetting). s.object.0 ≤ 65535) w.settings
+  pub armings : AllByRecursion (λ (a : Arming). a.object.0 ≤ 65535) w.armings
   pub waits : AllByRecursion (λ (b : BegunWait). IsTargetInRange b.target) w.waits
 
 abbrev pub IsTriggerInRange : Trigger → Type 0
 IsTriggerInRange (SetTimer object due period window) = object.0 ≤ 65535
-IsTriggerInRange (Advance now) = Unit {0}
+IsTriggerInRange (SetWait object named timeout) = object.0 ≤ 65535
+IsTriggerInRange _ = Unit {0}
 
 abbrev pub IsChangeInRange : Change → Type 0
 IsChangeInRange (change.CreateObject row) = IsObjectInRange row
 IsChangeInRange (change.QueueCallback callback) = IsCallbackInRange callback
 IsChangeInRange (change.Fire trigger first count) = IsTriggerInRange trigger × (first + count ≤ 2 ^ 64)
+IsChangeInRange (change.Return by words first count) = first + count ≤ 2 ^ 64
 IsChangeInRange (change.CreateKernel state) = IsStateInRange state
 IsChangeInRange (change.BeginWait who target cancel) = IsTargetInRange target
 IsChangeInRange _ = Unit {0}
@@ -70,7 +74,7 @@ pub record IsRanged (w : World) : Type 0 where
   pub limits : AreLimitsInRange w.limits
   pub pools_least : 1 ≤ length w.pools
   pub pools_most : length w.pools ≤ w.limits.pools
-  pub slots_most : length (filter (λ c. is_live c.status) w.callbacks) ≤ w.limits.slots
+  pub slots_most : slots w ≤ w.limits.slots
   pub running_most : (pool : ℕ) → running w pool ≤ 65535
   pub rows : AreRowsInRange w
 

@@ -14,7 +14,7 @@ use Rattle.tp_model.specs.Support.Told.{told, told_by}
 
 pub record IsSafeChange (fresh : ℕ) (w : World) (who : Who) (call : Call) (answer : Answer) (ch : Change) : Type 0 where
   pub allowed : IsAllowed fresh w ch
-  pub made_by : IsMadeBy who ch
+  pub made_by : IsMadeBy w who ch
   pub accepted : is_refusal answer ≡ false
   pub tells : told_by (record { who = who; call = call; answer = answer }) ≡ told fresh w ch
 

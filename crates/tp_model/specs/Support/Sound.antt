@@ -1,6 +1,6 @@
 -- What is true of every world that can be reached.
-use Rattle.std.specs.Prelude.{◌≡◌, ◌≢◌, ℕ, ◌+◌, ◌<◌, ◌≤◌, Bool, true, false, ◌&&◌, List, [], ◌∷◌, length, None, Some, Option}
-use Rattle.std.specs.List.{find, list_any, AllByRecursion}
+use Rattle.std.specs.Prelude.{◌≡◌, ◌≢◌, ℕ, ◌+◌, ◌<◌, ◌≤◌, Bool, true, false, not, ◌&&◌, ◌==◌, List, [], ◌∷◌, length, if◌then◌else◌, None, Some, Option}
+use Rattle.std.specs.List.{find, filter, list_any, AllByRecursion}
 use Rattle.std.specs.Option.{option_map_or}
 use Rattle.tp_base.specs.declared.ids.PoolId.{PoolId}
 use Rattle.tp_base.specs.declared.rows.Slots.{Slots}
@@ -8,13 +8,17 @@ use Rattle.tp_base.specs.declared.rows.Status.TheVariants.{Running}
 use Rattle.tp_base.specs.declared.rows.ObjectRow.{ObjectRow}
 use Rattle.tp_base.specs.declared.rows.CallbackRow.{CallbackRow}
 use Rattle.tp_base.specs.declared.rows.TimerSetting.{TimerSetting}
+use Rattle.tp_base.specs.declared.rows.Arming.{Arming}
 use Rattle.tp_base.specs.declared.rows.WorkerRow.{WorkerRow}
+use Rattle.tp_base.specs.declared.calls.Kind.TheVariants.{Wait}
+use Rattle.tp_base.specs.Armings.{is_armed}
 use Rattle.tp_base.specs.Timers.{clock_end}
 use Rattle.tp_base.specs.declared.rows.WaitTarget.{WaitTarget}
 use Rattle.tp_base.specs.declared.rows.WaitTarget.TheVariants.{Object}
 use Rattle.tp_model.specs.World.{World, BegunWait}
 use Rattle.tp_model.specs.Counts.{numbered, has_number}
 use Rattle.tp_base.specs.Actors.{is_same_actor}
+use Rattle.tp_model.specs.Conditions.{is_same_kind}
 use Rattle.tp_model.specs.Waits.{is_of}
 use Rattle.tp_model.specs.Laws.Entries.{is_among}
 use Rattle.tp_model.specs.Laws.Once.{is_left}
@@ -84,14 +88,38 @@ AreApart (b ∷ bs) = (list_any (λ (c : BegunWait). is_same_actor c.actor b.act
 abbrev pub IsMade : ℕ → ℕ → Type 0
 IsMade count number = (1 ≤ number) × (number ≤ count)
 
+-- ---- wait objects
+
+abbrev pub is_wait_at : List ObjectRow → ℕ → Bool
+is_wait_at objects object = option_map_or (λ (o : ObjectRow). is_same_kind o.kind Wait) (numbered objects object) false
+
+-- a wait object that isn't released
+abbrev pub may_be_armed : List ObjectRow → ℕ → Bool
+may_be_armed objects object = option_map_or (λ (o : ObjectRow). is_same_kind o.kind Wait && not o.released) (numbered objects object) false
+
+-- how often an object is armed, and how often it is set
+abbrev pub count_armed : ℕ → List Arming → ℕ
+count_armed object armings = if is_armed object armings then 1 else 0
+
+abbrev pub count_set : ℕ → List TimerSetting → ℕ
+count_set object settings = length (filter (λ (s : TimerSetting). s.object.0 == object) settings)
+
+-- a wait has one timeout at most, only while it is armed, and it expires once
+pub record IsTimedOut (object : ℕ) (settings : List TimerSetting) (armings : List Arming) : Type 0 where
+  pub few : count_set object settings ≤ count_armed object armings
+  pub once : AllByRecursion (λ (s : TimerSetting). s.object.0 ≡ object → s.period ≡ 0) settings
+
 -- with the number that the next callback gets
 pub record IsSound (fresh : ℕ) (w : World) : Type 0 where
   pub numbers : IsRising 1 fresh w.callbacks
   pub workers : AreWorkersSound w.callbacks 1 w.workers
   pub object_pools : AllByRecursion (λ (o : ObjectRow). o.env.pool.0 < length w.pools) w.objects
   pub apart : AreApart w.waits
-  -- a timer that is set was made
+  -- an object that is set was made
   pub timers : AllByRecursion (λ (s : TimerSetting). IsMade (length w.objects) s.object.0) w.settings
+  -- an object that is armed is a wait object and isn't released
+  pub armings : AllByRecursion (λ (a : Arming). may_be_armed w.objects a.object.0 ≡ true) w.armings
+  pub timeouts : (object : ℕ) → is_wait_at w.objects object ≡ true → IsTimedOut object w.settings w.armings
   pub clock : w.now ≤ clock_end
   pub waits : AllByRecursion (IsWaitSound fresh w.callbacks) w.waits
   pub callback_pools : AllByRecursion (λ (c : CallbackRow). c.pool.0 < length w.pools) w.callbacks

@@ -1,5 +1,5 @@
 -- What an entry tells of callbacks, workers and pools, and what a change has to tell.
-use Rattle.std.specs.Prelude.{ℕ, Bool, true, false, max, List, [], ◌∷◌, length, ◌==◌, if◌then◌else◌, Option, None, Some}
+use Rattle.std.specs.Prelude.{ℕ, ◌+◌, is_some, Bool, true, false, max, List, [], ◌∷◌, length, ◌==◌, if◌then◌else◌, Option, None, Some}
 use Rattle.tp_base.specs.declared.answers.Entry.{Entry}
 use Rattle.std.specs.List.{filter, range_with_len}
 use Rattle.tp_base.specs.declared.plans.Mark.TheVariants.{Loose, Asks}
@@ -11,11 +11,13 @@ use Rattle.tp_base.specs.declared.rows.WaitTarget.{WaitTarget}
 use Rattle.tp_base.specs.declared.rows.WaitTarget.TheVariants.{Object}
 use Rattle.tp_base.specs.declared.plans.PoolChange.{PoolChange}
 use Rattle.tp_base.specs.declared.plans.PoolChange.TheVariants.{Close, Maximum, Minimum}
+use Rattle.tp_base.specs.declared.plans.Trigger.{Trigger}
+use Rattle.tp_base.specs.declared.plans.Trigger.TheVariants.{SetWait}
 use Rattle.tp_base.specs.declared.plans.Change.{Change}
 use Rattle.tp_base.specs.declared.plans.Change.TheVariants as change
 use Rattle.tp_model.specs.World.{World}
 use Rattle.tp_model.specs.Waits.{is_cancelled_by}
-use Rattle.tp_model.specs.Laws.Entries.{Run, Begins, begins_by, is_ending, is_freeing, is_loosened, asked_by, words_by, made_by, queued_by, taken_by, run_by, cancelled_by, cancelled_count, attached_by, is_returned, maximum_after}
+use Rattle.tp_model.specs.Laws.Entries.{Run, Begins, begins_by, is_ending, is_freeing, is_loosened, asked_by, words_by, made_by, queued_by, taken_by, run_by, cancelled_by, cancelled_count, attached_by, is_returned, maximum_after, Sets, sets_by, wait_made, wait_numbered}
 
 -- of callbacks that were there before, and of the worker
 pub record Deed : Type 0 where
@@ -52,6 +54,9 @@ pub record Told : Type 0 where
   pub begun : Option Begins
   pub ending : Bool
   pub freeing : Bool
+  -- a wait object that is made, and one that is set
+  pub wait : Option ℕ
+  pub sets : Option Sets
   -- the maximum of each pool after the entry, by what it was before
   pub maxima : ℕ → ℕ → ℕ
 
@@ -63,11 +68,13 @@ told_by entry = record {
   begun = begins_by entry;
   ending = is_ending entry;
   freeing = is_freeing entry;
+  wait = wait_made entry;
+  sets = sets_by entry;
   maxima = λ pool maximum. maximum_after pool maximum entry;
 }
 
 abbrev pub silent : Told
-silent = record { made = []; queued = []; deed = nothing; begun = None; ending = false; freeing = false; maxima = λ pool maximum. maximum }
+silent = record { made = []; queued = []; deed = nothing; begun = None; ending = false; freeing = false; wait = None; sets = None; maxima = λ pool maximum. maximum }
 
 abbrev pub maxima_by : ℕ → PoolChange → ℕ → ℕ → ℕ
 maxima_by pool Close other maximum = maximum
@@ -82,11 +89,16 @@ abbrev pub is_free : WaitEnd → Bool
 is_free Free = true
 is_free Exhausted = false
 
+abbrev pub sets_of : Trigger → Option Sets
+sets_of (SetWait object kernel timeout) = Some (record { object = object; named = is_some kernel })
+sets_of _ = None
+
 -- what the entry of a change tells, with the number that the next callback gets
 abbrev pub told : ℕ → World → Change → Told
 told fresh w (change.ChangePool pool how) = record silent { maxima = maxima_by pool.0 how }
+told fresh w (change.CreateObject row) = record silent { wait = wait_numbered row.kind (length w.objects + 1) }
 told fresh w (change.QueueCallback callback) = record silent { made = fresh ∷ []; queued = fresh ∷ [] }
-told fresh w (change.Fire trigger first count) = record silent { made = range_with_len first count; queued = range_with_len first count }
+told fresh w (change.Fire trigger first count) = record silent { made = range_with_len first count; queued = range_with_len first count; sets = sets_of trigger }
 told fresh w (change.Attach worker pool) = record silent { deed = record nothing { attached = Some pool.0 } }
 told fresh w (change.Take by callback) =
     record silent { deed = record nothing { taken = Some callback.number; run = Some (record { number = callback.number; object = callback.object }) } }
@@ -95,5 +107,6 @@ told fresh w (change.Mark by (Asks kind action)) = record silent { deed = record
 told fresh w (change.BeginWait who target cancel) =
     record silent { deed = record nothing { count = length (filter (is_cancelled_by target cancel) w.callbacks) }; begun = begins_of target cancel }
 told fresh w (change.EndWait who how) = record silent { ending = true; freeing = is_free how }
-told fresh w (change.Return by words) = record silent { deed = record nothing { returned = true; words = Some words } }
+told fresh w (change.Return by words first count) =
+    record silent { deed = record nothing { returned = true; words = Some words }; made = range_with_len first count; queued = range_with_len first count }
 told fresh w _ = silent

@@ -1,5 +1,5 @@
 use Rattle.live_world.specs.Live.{at_time, count_left}
-use Rattle.live_world.proofs.Firings.{IsExpiring}
+use Rattle.live_world.proofs.Expiring.{IsExpiring}
 use Rattle.live_world.proofs.LiveWorld.advance.Given as goal
 
 abbrev pub invariant-loop-object : goal.invariant-loop-object

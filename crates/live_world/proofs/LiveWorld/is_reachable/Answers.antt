@@ -19,7 +19,7 @@ returns-clause-bounded c =
       limits = k.sized.in_range;
       pools_least = k.sized.pools_least;
       pools_most = k.sized.pools_within;
-      slots_most = omega (arith, c.len.ensures.limited, k.alive.slot_limit);
+      slots_most = k.slotted.slots;
       -- no more than there are workers
       running_most = λ pool. omega (arith, k.tallied.run pool, length-filter (runs_in pool) i.pools.workers, count_by-le-length (runs_in pool) i.pools.workers, k.sized.worker_count, k.sized.in_range.workers_most);
     })

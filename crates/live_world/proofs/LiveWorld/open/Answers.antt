@@ -21,6 +21,7 @@ parts c = record {
   clients = c.in_ok-clients.clients;
   timers = c.in_ok-timers.timers;
   kernels = c.in_ok-kernels.kernels;
+  armed = 0;
   clock = 0;
   made = 0;
 }
@@ -43,6 +44,7 @@ opened_here c =
       waits = c.none.ensures;
       wanted = c.in_ok-wanted.ensures;
       kernels = c.in_ok-kernels.ensures;
+      armed = refl;
       made = refl;
     })
 

@@ -32,7 +32,7 @@ record IsNew (i : Inside) (c : CallbackRow) : Type 0 where
 is_new : (i : Inside) (l : Live) (c : CallbackRow) → shown i ≡ l → IsLiveWorld i → IsAllowed (l.made + 1) l.world (change.QueueCallback c) → IsNew i c
 is_new i l c is k allowed =
     let a = subst (λ (x : Live). IsAllowed (x.made + 1) x.world (change.QueueCallback c)) (sym is) allowed in
-    let fits : length (filter lives i.callbacks.rows) + 0 + 1 ≤ i.limits.slots = ltb-false i.limits.slots (length (filter lives i.callbacks.rows) + 0 + 1) a.room in
+    let fits : length (filter lives i.callbacks.rows) + length i.kernels.armed + 1 ≤ i.limits.slots = ltb-false i.limits.slots (length (filter lives i.callbacks.rows) + length i.kernels.armed + 1) a.room in
     record {
       above = subst (λ n. AreBelow n i.callbacks.rows) (sym a.number) (below_fresh 1 (i.made + 1) i.callbacks.rows k.sound.numbers);
       room = omega (arith, fits, ap length k.alive.live);

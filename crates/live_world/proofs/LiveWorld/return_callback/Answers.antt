@@ -1,24 +1,14 @@
-use Rattle.std.proofs.Common.{List, ap, ◌∙◌}
-use Rattle.tp_base.specs.declared.rows.KernelRow.{KernelRow}
-use Rattle.tp_base.specs.declared.answers.ActionKind.TheVariants.{Section, Mutex, Semaphore}
-use Rattle.tp_model.specs.Actions.{perform}
-use Rattle.live_world.specs.Live.{Live}
-use Rattle.live_world.proofs.Performing.{raises_in_turn, sets_in_turn}
+use Rattle.std.proofs.Common.{ap, ◌∙◌}
+use Rattle.tp_base.specs.declared.rows.Slots.{Slots}
+use Rattle.tp_model.specs.Actions.{returning}
+use Rattle.tp_model.specs.Changes.{without_run}
+use Rattle.live_world.specs.Live.{Live, became, fired_to}
+use Rattle.live_world.proofs.Performing.{all_performed}
 use Rattle.live_world.proofs.LiveWorld.return_callback.Goals as goal
 
--- what each step leaves
-abbrev kernels_in : Live → List KernelRow
-kernels_in l = l.world.kernels
-
-pub perform-requires-3 : goal.perform-requires-3
-perform-requires-3 c =
-    raises_in_turn c.args.self.now.world c.args.by c.args.words c.requires c.perform-2.new.self.world c.slots_of-slots.result c.slots_of-slots.ensures
-    (ap kernels_in c.perform-2.ensures ∙ ap (λ (l : Live). perform Mutex c.args.words.mutex c.slots_of-slots.result.mutex l.world.kernels) c.perform.ensures
-    ∙ ap (λ (l : Live). perform Mutex c.args.words.mutex c.slots_of-slots.result.mutex (perform Section c.args.words.section c.slots_of-slots.result.section l.world.kernels)) c.end_callback.ensures)
-
-pub perform-requires-4 : goal.perform-requires-4
-perform-requires-4 c =
-    sets_in_turn c.args.self.now.world c.args.by c.args.words c.requires c.perform-3.new.self.world c.slots_of-slots.result c.slots_of-slots.ensures
-    (ap kernels_in c.perform-3.ensures ∙ ap (λ (l : Live). perform Semaphore c.args.words.semaphore c.slots_of-slots.result.semaphore l.world.kernels) c.perform-2.ensures
-    ∙ ap (λ (l : Live). perform Semaphore c.args.words.semaphore c.slots_of-slots.result.semaphore (perform Mutex c.args.words.mutex c.slots_of-slots.result.mutex l.world.kernels)) c.perform.ensures
-    ∙ ap (λ (l : Live). perform Semaphore c.args.words.semaphore c.slots_of-slots.result.semaphore (perform Mutex c.args.words.mutex c.slots_of-slots.result.mutex (perform Section c.args.words.section c.slots_of-slots.result.section l.world.kernels))) c.end_callback.ensures)
+pub returns : goal.returns
+returns c =
+    let w = c.args.self.now.world in
+    all_performed c.end_callback.new.self c.perform.new.self c.perform-2.new.self c.perform-3.new.self c.perform-4.new.self c.args.words c.slots_of-slots.result c.perform.ensures c.perform-2.ensures c.perform-3.ensures c.perform-4.ensures
+    ∙ ap (λ (l : Live). fired_to l (returning l.world c.args.words c.slots_of-slots.result)) c.end_callback.ensures
+    ∙ ap (λ (slots : Slots). fired_to (became c.args.self.now (without_run w c.args.by)) (returning w c.args.words slots)) c.slots_of-slots.ensures

@@ -1,6 +1,6 @@
 use Rattle.std.proofs.Common.{None, set, length, refl, sym, ◌∙◌, arith}
 use Rattle.std.proofs.lemmas.List.{length-set}
-use Rattle.kernel_events.specs.Armed.{without}
+use Rattle.tp_base.specs.Armings.{without_arming}
 use Rattle.kernel_events.specs.Walked.{AreArmed, walk}
 use Rattle.kernel_events.proofs.Arming.{armed_without, kernel_within, links_within, own_links_within}
 use Rattle.kernel_events.proofs.Waits.{armed_some, unarmed_none, without_none}
@@ -41,7 +41,7 @@ index_mut-requires-2 c =
 
 kept : (c : goal.After-self-2-1)
     → AreArmed (set c.self.inside.on.items c.args.object.0 None) c.unlink.new.links.items c.unlink.new.ends c.unlink-2.new.links.items (set c.self.inside.ends.items c.in-Some.kernel.0 c.unlink-2.new.ends)
-    (without c.args.object.0 (walk c.self.inside.on.items c.self.inside.order.items (length c.self.inside.on.items) c.self.inside.all.first))
+    (without_arming c.args.object.0 (walk c.self.inside.on.items c.self.inside.order.items (length c.self.inside.on.items) c.self.inside.all.first))
 kept c =
     let told = rw (← c.self.view_is) at (sym c.kernel_of.ensures.value ∙ c.in-Some.is) in
     armed_without _ _ _ _ _ _ c.self.invariant.armed c.args.object c.in-Some.kernel told c.index.result.now c.index.ensures
