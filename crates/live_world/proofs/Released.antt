@@ -30,6 +30,7 @@ use Rattle.tp_model.specs.Actions.{act, perform, returning, word_of, words_of}
 use Rattle.tp_model.proofs.Arming.{count_one, one_if}
 use Rattle.tp_model.proofs.Kernels.{that_stands}
 use Rattle.tp_model.proofs.Lists.{find_passes, get_set, get_set_other, length_filter_le}
+use Rattle.tp_model.proofs.Performing.{returning_within}
 use Rattle.tp_model.proofs.Refusals.{false_true, numbered_at, numbered_some}
 use Rattle.live_world.specs.declared.LiveWorld.TheInside.{Inside}
 use Rattle.live_world.specs.Firing.{released_by, releases}
@@ -390,11 +391,32 @@ module _ (w : World) (who : Who) (slots : Slots) (once : AreOnce w.armings) wher
       (λ b asked given. apart_by w is_event (owns who) (event_unowned who) a.kernel.0 b.kernel.0 set (may w who Section slots.section b asked given))
       (λ b asked given. apart_by w is_event (owns who) (event_unowned who) a.kernel.0 b.kernel.0 set (may w who Mutex slots.mutex b asked given)))
 
-  pub returning_count : length (returning w says slots).jobs ≡ length (perform Semaphore says.semaphore slots.semaphore start).jobs + length (perform Event says.event slots.event start).jobs
-  returning_count =
+  together : length (returning w says slots).jobs ≡ length (perform Semaphore says.semaphore slots.semaphore start).jobs + length (perform Event says.event slots.event start).jobs
+  together =
       omega (
         arith,
         perform_after Event says.event slots.event (sources_of w) third once event_left,
         perform_after Semaphore says.semaphore slots.semaphore (sources_of w) second once semaphore_left,
         ap length (mutex_none says.mutex slots.mutex first ∙ section_none says.section slots.section start),
       )
+
+-- a return makes as many callbacks as its semaphore's release and its event's would each make alone
+module _ (i : Inside) (l : Live) (who : Who) (words : ActionWords) (slots here : Slots) (m n : ℕ) (is : shown i ≡ l) (k : IsLiveWorld i) (told : words ≡ words_of l.world who slots) (same : here ≡ slots)
+    (by_semaphore : m ≡ length (perform Semaphore words.semaphore here.semaphore (unfired l)).jobs) (by_event : n ≡ length (perform Event words.event here.event (unfired l)).jobs) where
+  abbrev alone : ActionKind → SlotWord → Option Action → ℕ
+  alone kind word action = length (perform kind word action (unfired l)).jobs
+
+  pub both_count : m + n ≡ length (returning l.world words slots).jobs
+  both_count =
+      omega (
+        arith,
+        by_semaphore,
+        by_event,
+        ap₂ (λ p q. p + q) (ap (λ (s : Slots). alone Semaphore words.semaphore s.semaphore) same) (ap (λ (s : Slots). alone Event words.event s.event) same),
+        subst (λ (ws : ActionWords). length (returning l.world ws slots).jobs ≡ alone Semaphore ws.semaphore slots.semaphore + alone Event ws.event slots.event) (sym told)
+        (together l.world who slots (subst (λ (x : Live). AreOnce x.world.armings) is k.kernels.once)),
+      )
+
+  -- no more than are armed
+  pub both_fit : m + n ≤ 65535
+  both_fit = omega (arith, both_count, returning_within l.world words slots, ap (λ (x : Live). length x.world.armings) is, k.slotted.slots, k.sized.in_range.slots_most)

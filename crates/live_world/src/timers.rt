@@ -151,6 +151,8 @@ impl LiveWorld {
         requires { words.now ≡ words_of self.now.world who (slots_of_status status.now) }
         ensures { result ≡ length (returning self.now.world words.now (slots_of_status status.now)).jobs }
     {
+        // None is armed twice.
+        let _ = &self.kernels;
         let slots = slots_of(*status);
         self.count_performed(ActionKind::Semaphore, words.semaphore, slots.semaphore)
             + self.count_performed(ActionKind::Event, words.event, slots.event)
