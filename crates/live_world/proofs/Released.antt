@@ -1,6 +1,6 @@
 -- How many waits a kernel object releases, and that it leaves alone what is armed on others. So the actions of a return
 -- release as many together as each of them would by itself.
-use Rattle.std.proofs.Common.{◌≡◌, ◌≢◌, ℕ, zero, suc, ◌+◌, ◌-◌, ◌≤◌, ◌==◌, min, Bool, true, false, cond, not, ◌||◌, List, [], ◌∷◌, ◌++◌, length, slice_get, slice_set, option_map, Option, Some, None, refl, sym, ap, ap₂, ◌∙◌, subst, arith, filter, find, eq-eqb, eqb-true, false-eqb, ne_eqb, ltb-false, ltb-true, length-append}
+use Rattle.std.proofs.Common.{◌≡◌, ◌≢◌, ℕ, zero, suc, ◌+◌, ◌-◌, ◌≤◌, ◌==◌, min, Bool, true, false, cond, not, List, [], ◌∷◌, length, slice_get, slice_set, option_map, Option, Some, None, refl, sym, ap, ap₂, ◌∙◌, subst, arith, filter, find, eq-eqb, eqb-true, false-eqb, ne_eqb, ltb-false, ltb-true, length-append}
 use Rattle.std.specs.Option.{option_map_or}
 use Rattle.std.proofs.lemmas.List.{length-map}
 use Rattle.tp_base.specs.declared.ids.Who.{Who}
@@ -29,7 +29,7 @@ use Rattle.tp_model.specs.Sources.{Firing, Sources, job, jobless, release_first,
 use Rattle.tp_model.specs.Actions.{act, perform, returning, word_of, words_of}
 use Rattle.tp_model.proofs.Arming.{count_one, one_if}
 use Rattle.tp_model.proofs.Kernels.{that_stands}
-use Rattle.tp_model.proofs.Lists.{find_passes, get_set, get_set_other, length_filter_le}
+use Rattle.tp_model.proofs.Lists.{get_set, get_set_other}
 use Rattle.tp_model.proofs.Performing.{returning_within}
 use Rattle.tp_model.proofs.Refusals.{false_true, numbered_at, numbered_some}
 use Rattle.live_world.specs.declared.LiveWorld.TheInside.{Inside}
