@@ -84,15 +84,15 @@ one_fewer kernel [] a found once = absurd cc
 one_fewer kernel (x ∷ armings) a found once =
     elim (is_arming_on kernel x) as (λ b. is_arming_on kernel x ≡ b → cond b (Some x) (find (is_arming_on kernel) armings) ≡ Some a → count_on kernel (without_arming a.object.0 (x ∷ armings)) + 1 ≡ count_on kernel (x ∷ armings)) [
       | true ↦ λ on e.
-        let same : x ≡ a = cc in
-        subst (λ (y : Arming). count_on kernel (without_arming y.object.0 (x ∷ armings)) + 1 ≡ count_on kernel (x ∷ armings)) same
-        (omega (arith, ap (count_on kernel) (without_first x armings once.0), count_one (is_arming_on kernel) x armings, ap one_if on))
+          let same : x ≡ a = cc in
+          subst (λ (y : Arming). count_on kernel (without_arming y.object.0 (x ∷ armings)) + 1 ≡ count_on kernel (x ∷ armings)) same
+          (omega (arith, ap (count_on kernel) (without_first x armings once.0), count_one (is_arming_on kernel) x armings, ap one_if on))
       | false ↦ λ off e.
-        let rest : List Arming = without_arming a.object.0 armings in
-        elim (x.object.0 == a.object.0) as (λ b. count_on kernel (cond (not b) (x ∷ rest) rest) + 1 ≡ count_on kernel (x ∷ armings)) [
-          | true ↦ omega (arith, one_fewer kernel armings a e once.1, count_one (is_arming_on kernel) x armings, ap one_if off)
-          | false ↦ omega (arith, one_fewer kernel armings a e once.1, count_one (is_arming_on kernel) x armings, count_one (is_arming_on kernel) x rest, ap one_if off)
-        ]
+          let rest : List Arming = without_arming a.object.0 armings in
+          elim (x.object.0 == a.object.0) as (λ b. count_on kernel (cond (not b) (x ∷ rest) rest) + 1 ≡ count_on kernel (x ∷ armings)) [
+            | true ↦ omega (arith, one_fewer kernel armings a e once.1, count_one (is_arming_on kernel) x armings, ap one_if off)
+            | false ↦ omega (arith, one_fewer kernel armings a e once.1, count_one (is_arming_on kernel) x armings, count_one (is_arming_on kernel) x rest, ap one_if off)
+          ]
     ] refl found
 
 -- and as many on each other one
@@ -101,16 +101,16 @@ others_left kernel other apart [] a found once = absurd cc
 others_left kernel other apart (x ∷ armings) a found once =
     elim (is_arming_on kernel x) as (λ b. is_arming_on kernel x ≡ b → cond b (Some x) (find (is_arming_on kernel) armings) ≡ Some a → count_on other (without_arming a.object.0 (x ∷ armings)) ≡ count_on other (x ∷ armings)) [
       | true ↦ λ on e.
-        let same : x ≡ a = cc in
-        let off : is_arming_on other x ≡ false = ne_eqb x.kernel.0 other (λ is. apart (sym is ∙ eqb-true x.kernel.0 kernel on)) in
-        subst (λ (y : Arming). count_on other (without_arming y.object.0 (x ∷ armings)) ≡ count_on other (x ∷ armings)) same
-        (omega (arith, ap (count_on other) (without_first x armings once.0), count_one (is_arming_on other) x armings, ap one_if off))
+          let same : x ≡ a = cc in
+          let off : is_arming_on other x ≡ false = ne_eqb x.kernel.0 other (λ is. apart (sym is ∙ eqb-true x.kernel.0 kernel on)) in
+          subst (λ (y : Arming). count_on other (without_arming y.object.0 (x ∷ armings)) ≡ count_on other (x ∷ armings)) same
+          (omega (arith, ap (count_on other) (without_first x armings once.0), count_one (is_arming_on other) x armings, ap one_if off))
       | false ↦ λ off e.
-        let rest : List Arming = without_arming a.object.0 armings in
-        elim (x.object.0 == a.object.0) as (λ b. (x.object.0 == a.object.0) ≡ b → count_on other (cond (not b) (x ∷ rest) rest) ≡ count_on other (x ∷ armings)) [
-          | true ↦ λ is. absurd (false_true (sym once.0 ∙ ap (λ n. is_armed n armings) (eqb-true x.object.0 a.object.0 is) ∙ found_is_armed (is_arming_on kernel) armings a e))
-          | false ↦ λ _. omega (arith, others_left kernel other apart armings a e once.1, count_one (is_arming_on other) x armings, count_one (is_arming_on other) x rest)
-        ] refl
+          let rest : List Arming = without_arming a.object.0 armings in
+          elim (x.object.0 == a.object.0) as (λ b. (x.object.0 == a.object.0) ≡ b → count_on other (cond (not b) (x ∷ rest) rest) ≡ count_on other (x ∷ armings)) [
+            | true ↦ λ is. absurd (false_true (sym once.0 ∙ ap (λ n. is_armed n armings) (eqb-true x.object.0 a.object.0 is) ∙ found_is_armed (is_arming_on kernel) armings a e))
+            | false ↦ λ _. omega (arith, others_left kernel other apart armings a e once.1, count_one (is_arming_on other) x armings, count_one (is_arming_on other) x rest)
+          ] refl
     ] refl found
 
 -- ---- how many of them are released
@@ -414,7 +414,7 @@ module _ (i : Inside) (l : Live) (who : Who) (words : ActionWords) (slots here :
         by_event,
         ap₂ (λ p q. p + q) (ap (λ (s : Slots). alone Semaphore words.semaphore s.semaphore) same) (ap (λ (s : Slots). alone Event words.event s.event) same),
         subst (λ (ws : ActionWords). length (returning l.world ws slots).jobs ≡ alone Semaphore ws.semaphore slots.semaphore + alone Event ws.event slots.event) (sym told)
-        (together l.world who slots (subst (λ (x : Live). AreOnce x.world.armings) is k.kernels.once)),
+            (together l.world who slots (subst (λ (x : Live). AreOnce x.world.armings) is k.kernels.once)),
       )
 
   -- no more than are armed
