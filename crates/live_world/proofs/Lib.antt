@@ -26,6 +26,7 @@ pub mod Firings
 pub mod Expiring
 pub mod Expired
 pub mod Releasing
+pub mod Released
 pub mod Setting
 pub mod Timed
 pub mod Wanted

@@ -71,7 +71,7 @@ none_is kernel i e = of_signal (is_one_that is_signalled i.kernels.rows kernel) 
           there = ap (λ b. cond b (release_to kernel (unfired (shown i)) (find (is_arming_on kernel) i.kernels.armed)) (unfired (shown i))) is;
         }
 
-found_is_armed : (p : Arming → Bool) (armings : List Arming) (a : Arming) → find p armings ≡ Some a → is_armed a.object.0 armings ≡ true
+pub found_is_armed : (p : Arming → Bool) (armings : List Arming) (a : Arming) → find p armings ≡ Some a → is_armed a.object.0 armings ≡ true
 found_is_armed p [] a found = absurd cc
 found_is_armed p (x ∷ armings) a found =
     elim (p x) as (λ b. cond b (Some x) (find p armings) ≡ Some a → is_armed a.object.0 (x ∷ armings) ≡ true) [

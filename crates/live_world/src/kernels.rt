@@ -1,7 +1,7 @@
 //! Kernel objects: events, semaphores, mutexes and critical sections, and what a call asks of one.
 
 ghost use Rattle.std.specs.Prelude.{◌≡◌, ◌+◌, IfSome, length, nat_le, option_map};
-ghost use Rattle.tp_base.specs.Kernels.{is_event as is_event_by, is_semaphore as is_semaphore_by, is_lock as is_lock_by, owns as owns_by, passes_by as passes_by_of, may_take as may_take_by};
+ghost use Rattle.tp_base.specs.Kernels.{is_event as is_event_by, is_semaphore as is_semaphore_by, is_waitable as is_waitable_by, is_lock as is_lock_by, owns as owns_by, passes_by as passes_by_of, may_take as may_take_by};
 ghost use Rattle.tp_base.specs.declared.plans.WaitEnd.TheVariants.{Free};
 ghost use Rattle.tp_model.specs.Counts.{numbered};
 ghost use Rattle.tp_model.specs.Kernels.{is_kernel, is_kernel_that, count_at};
@@ -68,6 +68,16 @@ impl LiveWorld {
         match self.kernel(kernel) {
             None => false,
             Some(state) => states::is_semaphore(state),
+        }
+    }
+
+    /// Whether an event or a semaphore of this number was made, on which a wait object can be armed.
+    pub fn is_waitable(&self, kernel: KernelId) -> bool
+        ensures { result ≡ is_kernel_that is_waitable_by self.now.world kernel.0 }
+    {
+        match self.kernel(kernel) {
+            Some(KernelState::Event { .. } | KernelState::Semaphore { .. }) => true,
+            _ => false,
         }
     }
 

@@ -3,6 +3,7 @@
 ghost use Rattle.std.specs.Prelude.{◌≡◌, ◌≤◌, length, min};
 ghost use Rattle.tp_base.specs.Kernels.{is_signalled as is_signalled_by};
 ghost use Rattle.tp_base.specs.Timers.{clock_end, expires_at_once as expires_at_once_by};
+ghost use Rattle.tp_model.specs.Actions.{perform, returning, slots_of as slots_of_status, words_of};
 ghost use Rattle.tp_model.specs.Conditions.{lacks_slots_for};
 ghost use Rattle.tp_model.specs.Kernels.{is_kernel_that};
 ghost use Rattle.tp_model.specs.Sources.{count_fired, signal};
@@ -12,11 +13,13 @@ ghost use Rattle.live_world.specs.Firing.{fires_at_once as fires_at_once_by, rel
 ghost use Rattle.live_world.specs.Live.{unfired};
 
 use crate::LiveWorld;
+use crate::kernels::slots_of;
 use kernel_events::states;
 use timer_objects::moment_of;
-use tp_base::ids::{KernelId, ObjectId};
-use tp_base::plans::{KernelChange, Trigger};
-use tp_base::rows::KernelState;
+use tp_base::answers::{ActionKind, SlotWord};
+use tp_base::ids::{KernelId, ObjectId, Who};
+use tp_base::plans::{ActionWords, KernelChange, Trigger};
+use tp_base::rows::{Action, KernelState, Status};
 
 // How many waits a kernel object of this state may release once it changes so.
 fn most_released(how: KernelChange, state: KernelState) -> u32
@@ -124,6 +127,35 @@ impl LiveWorld {
                 self.count_released(*kernel, KernelChange::Raise(*count))
             }
         }
+    }
+
+    // How many callbacks an action on return makes of what there is now.
+    fn count_performed(&self, kind: ActionKind, word: SlotWord, action: Option<Action>) -> u32
+        ensures { result ≡ length (perform kind word action (unfired self.now)).jobs }
+    {
+        let (SlotWord::Performed, Some(action)) = (word, action) else {
+            return 0;
+        };
+        match kind {
+            ActionKind::Section | ActionKind::Mutex => 0,
+            ActionKind::Semaphore => {
+                self.count_released(action.kernel, KernelChange::Raise(action.count))
+            }
+            ActionKind::Event => self.count_released(action.kernel, KernelChange::Set),
+        }
+    }
+
+    /// How many callbacks a return would make, whose actions on return have these words. Walks the
+    /// waits that it would release.
+    pub fn count_returned(&self, who: Who, status: &Status, words: &ActionWords) -> u32
+        requires { words.now ≡ words_of self.now.world who (slots_of_status status.now) }
+        ensures { result ≡ length (returning self.now.world words.now (slots_of_status status.now)).jobs }
+    {
+        // None is armed twice.
+        let _ = &self.kernels;
+        let slots = slots_of(*status);
+        self.count_performed(ActionKind::Semaphore, words.semaphore, slots.semaphore)
+            + self.count_performed(ActionKind::Event, words.event, slots.event)
     }
 
     /// Whether there would be no slot for what is there once a wait is set: with a kernel object it
