@@ -30,3 +30,5 @@ pub mod Setting
 pub mod Timed
 pub mod Wanted
 pub mod Takings
+pub mod Due
+pub mod PoolsMade
