@@ -1,5 +1,5 @@
 -- How many of the timers that are due at a moment are unarmed.
-use Rattle.std.proofs.Common.{◌≡◌, ℕ, zero, suc, ◌+◌, ◌<◌, ◌≤◌, Bool, true, false, cond, not, List, [], ◌∷◌, length, take, get_or, slice_get, Option, Some, None, refl, sym, ap, ◌∙◌, arith, filter, option_map}
+use Rattle.std.proofs.Common.{◌≡◌, ℕ, zero, suc, ◌+◌, ◌<◌, ◌≤◌, Bool, true, false, cond, not, List, [], ◌∷◌, length, take, get_or, slice_get, Option, Some, None, refl, sym, ap, ◌∙◌, add-one, arith, filter, option_map}
 use Rattle.std.specs.Option.{option_map_or}
 use Rattle.std.proofs.lemmas.Bool.Decides.{nat_tests}
 use Rattle.std.proofs.lemmas.List.{take_all}
@@ -37,13 +37,13 @@ due_at now (suc n) (s ∷ ss) order lt =
 
 -- ---- counted place by place
 
-counted_at : {X : Type 0} (p : X → Bool) (xs : List X) (i : ℕ) → length (filter p (take (i + 1) xs)) ≡ length (filter p (take i xs)) + option_map_or (λ x. one_if (p x)) (slice_get xs i) 0
+counted_at : {X : Type 0} (p : X → Bool) (xs : List X) (i : ℕ) → length (filter p (take (suc i) xs)) ≡ length (filter p (take i xs)) + option_map_or (λ x. one_if (p x)) (slice_get xs i) 0
 counted_at p [] zero = refl
 counted_at p [] (suc i) = refl
 counted_at p (x ∷ xs) zero = elim (p x) as (λ b. length (cond b (x ∷ []) []) ≡ 0 + one_if b) [ true ↦ refl | false ↦ refl ]
 counted_at p (x ∷ xs) (suc i) =
-    elim (p x) as (λ b. length (cond b (x ∷ filter p (take (i + 1) xs)) (filter p (take (i + 1) xs))) ≡ length (cond b (x ∷ filter p (take i xs)) (filter p (take i xs))) + option_map_or (λ y. one_if (p y)) (slice_get xs i) 0) [
-      | true ↦ ap suc (counted_at p xs i)
+    elim (p x) as (λ b. length (cond b (x ∷ filter p (take (suc i) xs)) (filter p (take (suc i) xs))) ≡ length (cond b (x ∷ filter p (take i xs)) (filter p (take i xs))) + option_map_or (λ y. one_if (p y)) (slice_get xs i) 0) [
+      | true ↦ omega (arith, counted_at p xs i)
       | false ↦ counted_at p xs i
     ]
 
@@ -77,7 +77,7 @@ of_object armings (Some s) = refl
 pub unarmed_more : (now place : ℕ) (settings : List TimerSetting) (armings : List Arming) → IsInOrder settings → place < length (expired now settings)
     → unarmed_before (place + 1) now settings armings ≡ unarmed_before place now settings armings + one_more armings (object_at place settings)
 unarmed_more now place settings armings order due =
-    counted_at (is_unarmed armings) (expired now settings) place
+    ap (λ n. unarmed_before n now settings armings) (add-one place) ∙ counted_at (is_unarmed armings) (expired now settings) place
     ∙ ap (λ (o : Option TimerSetting). unarmed_before place now settings armings + option_map_or (λ s. one_if (is_unarmed armings s)) o 0) (sym (due_at now place settings order due))
     ∙ ap (λ n. unarmed_before place now settings armings + n) (of_object armings (slice_get settings place))
 
