@@ -1,15 +1,20 @@
 -- How many of the timers that are due at a moment are unarmed.
-use Rattle.std.proofs.Common.{◌≡◌, ℕ, zero, suc, ◌+◌, ◌<◌, ◌≤◌, Bool, true, false, cond, not, List, [], ◌∷◌, length, take, get_or, slice_get, Option, Some, None, refl, sym, ap, ◌∙◌, add-one, arith, filter, option_map}
+use Rattle.std.proofs.Common.{◌≡◌, ℕ, zero, suc, ◌+◌, ◌<◌, ◌≤◌, Bool, true, false, cond, not, List, [], ◌∷◌, length, take, get_or, slice_get, Option, Some, None, refl, sym, ap, ◌∙◌, add-one, arith, filter, option_map, ltb-false}
 use Rattle.std.specs.Option.{option_map_or}
+use Rattle.std.proofs.lemmas.Bool.{le-ltb}
 use Rattle.std.proofs.lemmas.Bool.Decides.{nat_tests}
 use Rattle.std.proofs.lemmas.List.{take_all}
 use Rattle.std.proofs.lemmas.List.Elements.{recursion_from_All}
+use Rattle.std.proofs.lemmas.List.Sums.{length-filter, count_by-le-length}
 use Rattle.tp_base.specs.declared.ids.ObjectId.{ObjectId}
 use Rattle.tp_base.specs.declared.rows.Arming.{Arming}
 use Rattle.tp_base.specs.declared.rows.TimerSetting.{TimerSetting}
 use Rattle.tp_base.specs.Armings.{is_armed}
 use Rattle.tp_base.specs.Timers.{is_due, expired, expires_before}
 use Rattle.timer_objects.specs.Settings.{IsInOrder, object_at}
+use Rattle.tp_model.specs.World.{World}
+use Rattle.tp_model.specs.Counts.{slots}
+use Rattle.tp_model.specs.Conditions.{lacks_slots_for}
 use Rattle.tp_model.proofs.Arming.{one_if}
 use Rattle.live_world.proofs.Lists.{filter_none}
 
@@ -86,3 +91,10 @@ unarmed_most now place settings armings = counted_most (is_unarmed armings) (exp
 
 pub unarmed_all : (now place : ℕ) (settings : List TimerSetting) (armings : List Arming) → length (expired now settings) ≤ place → unarmed_before place now settings armings ≡ length (filter (is_unarmed armings) (expired now settings))
 unarmed_all now place settings armings past = ap (λ ss. length (filter (is_unarmed armings) ss)) (take_all place (expired now settings) past)
+
+pub unarmed_fewer : (now : ℕ) (settings : List TimerSetting) (armings : List Arming) → length (filter (is_unarmed armings) (expired now settings)) ≤ length (expired now settings)
+unarmed_fewer now settings armings = omega (arith, length-filter (is_unarmed armings) (expired now settings), count_by-le-length (is_unarmed armings) (expired now settings))
+
+-- where there is a slot for each, there is one for fewer
+pub fewer_lack : (w : World) (most few : ℕ) → few ≤ most → lacks_slots_for w most ≡ false → lacks_slots_for w few ≡ false
+fewer_lack w most few fewer enough = le-ltb w.limits.slots (slots w + few) (omega (arith, fewer, ltb-false w.limits.slots (slots w + most) enough))
