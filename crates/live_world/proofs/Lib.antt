@@ -31,3 +31,5 @@ pub mod Setting
 pub mod Timed
 pub mod Wanted
 pub mod Takings
+pub mod Due
+pub mod PoolsMade

@@ -1,5 +1,5 @@
 -- What the parts show after each change, and that they keep their invariant.
-use Rattle.std.proofs.Common.{◌≡◌, ◌≢◌, ℕ, ◌+◌, ◌-◌, ◌<◌, ◌≤◌, Bool, true, false, cond, not, ◌&&◌, ◌||◌, ◌==◌, List, [], ◌∷◌, ◌++◌, length, map, slice_get, slice_set, Option, Some, None, refl, sym, ap, ap₂, ◌∙◌, subst, arith, filter, find, option_map, ne_eqb, length-set, length-append, ltb-false}
+use Rattle.std.proofs.Common.{◌≡◌, ◌≢◌, ℕ, ◌+◌, ◌-◌, ◌<◌, ◌≤◌, Bool, true, false, cond, not, ◌&&◌, ◌||◌, ◌==◌, List, [], ◌∷◌, ◌++◌, length, map, slice_get, slice_set, Option, Some, None, is_some, IsSomeAnd, refl, sym, ap, ap₂, ◌∙◌, subst, arith, filter, find, option_map, ne_eqb, length-set, length-append, ltb-false}
 use Rattle.std.proofs.lemmas.List.{length-map, map-set}
 use Rattle.std.proofs.lemmas.List.Sums.{length-filter, count_by-le-length}
 use Rattle.std.proofs.lemmas.Option.{slice_get-map}
@@ -22,8 +22,8 @@ use Rattle.tp_base.specs.declared.rows.ClientRow.{ClientRow}
 use Rattle.callback_rows.specs.LiveCallbacks.{LiveCallbacks}
 use Rattle.handle_table.specs.Table.{Table}
 use Rattle.prio_queue.specs.Pending.{Pending, queue_of, with_queue, without_number}
-use Rattle.pool_rows.specs.Pools.{Pools, with_worker as with_kept_worker}
-use Rattle.pool_rows.specs.Workers.{idle_in, unattached as unattached_row}
+use Rattle.pool_rows.specs.Pools.{Pools, worker_of, with_worker as with_kept_worker}
+use Rattle.pool_rows.specs.Workers.{IsIdle, idle_in, unattached as unattached_row}
 use Rattle.pool_rows.specs.declared.WorkerRow as kept
 use Rattle.keyed_lists.specs.Keyed.{Keyed, Entry}
 use Rattle.cancel_wait.specs.Rising.{all_but}
@@ -35,11 +35,12 @@ use Rattle.tp_model.specs.World.{World, BegunWait}
 use Rattle.tp_model.specs.Counts.{has_number, callback_of, is_pending, is_running, is_live}
 use Rattle.tp_model.specs.Changes.{changed, replaced, with_callback, taken, loosened, marked, returned, without_run}
 use Rattle.tp_model.specs.Waits.{is_held_for, cancelled}
-use Rattle.tp_model.specs.Support.Allowed.{IsAllowed, Runs, news}
+use Rattle.tp_model.specs.Support.Allowed.{IsAllowed, Idles, Runs, news}
 use Rattle.tp_model.specs.Support.Sound.{IsSound, IsRising}
 use Rattle.tp_model.specs.Support.Remembered.{lives, forget}
 use Rattle.tp_model.proofs.Lists.{all_set, all_get, find_all}
 use Rattle.tp_model.proofs.Callbacks.{found_bounds, find_replaced as find_here, pending_not_running, rising_replaced}
+use Rattle.tp_model.proofs.Refusals.{numbered_at}
 use Rattle.tp_model.proofs.Preserving.{changed_sound, sound_cancelled, sound_returned, sound_kernels}
 use Rattle.tp_model.proofs.Forgetting.{forget_sound}
 use Rattle.live_world.specs.declared.objects.Object.{Object}
@@ -191,6 +192,30 @@ detached i l by pools is k allowed now =
     subst (λ (p : Pools). After (record i { pools = p }) (changed (shown i).world (change.Detach by)))
     (sym (now ∙ worker_changed i.pools by.worker b.row (λ _. unattached_row) b.at_place b.from_one))
     (free_after i by.worker b.row unattached_row (record { pool = None; callback = None }) k b.at_place (runs_nothing b.row.callback b.same_callback) refl tt refl))
+
+-- ---- what a worker is asked for
+
+-- it idles
+pub idles_here : (i : Inside) (l : Live) (by : Idle) → shown i ≡ l → Idles l.world by → IsSomeAnd (worker_of by.worker i.pools) IsIdle
+idles_here i l by is idles =
+    let b = is_behind i.pools.workers by.worker (Some by.pool) None (subst (λ (x : Live). Idles x.world by) (sym is) idles) in
+    let idle : IsIdle b.row = record { attached = ap is_some b.same_pool; nothing = runs_nothing b.row.callback b.same_callback } in
+    subst (λ (o : Option kept.WorkerRow). IsSomeAnd o IsIdle) (sym (numbered_at i.pools.workers by.worker b.row b.from_one b.at_place)) idle
+
+-- it runs a callback
+pub runs_here : (i : Inside) (l : Live) (by : Busy) → shown i ≡ l → Runs l.world by → IsSomeAnd (worker_of by.worker i.pools) (λ (w : kept.WorkerRow). 0 < w.callback)
+runs_here i l by is runs =
+    let b = is_behind i.pools.workers by.worker (Some by.pool) (Some by.callback.number) (subst (λ (x : Live). Runs x.world by) (sym is) runs).stands in
+    let busy : b.row.callback ≢ 0 = (runs_this b.row.callback by.callback.number b.same_callback).1 in
+    let above : 0 < b.row.callback = omega (arith, busy) in
+    subst (λ (o : Option kept.WorkerRow). IsSomeAnd o (λ (w : kept.WorkerRow). 0 < w.callback)) (sym (numbered_at i.pools.workers by.worker b.row b.from_one b.at_place)) above
+
+-- the pool of a callback that is kept has a queue
+pub queue_there : (i : Inside) (l : Live) (c : CallbackRow) → shown i ≡ l → IsLiveWorld i → callback_of l.world c.number ≡ Some c → c.pool.0 < length i.queues.queues
+queue_there i l c is k found =
+    let found_here : find (has_number c.number) i.callbacks.rows ≡ Some c = ap (λ (x : Live). callback_of x.world c.number) is ∙ found in
+    let home : c.pool.0 < length i.pools.pools = find_all (λ (x : CallbackRow). x.pool.0 < length i.pools.pools) (has_number c.number) c i.callbacks.rows k.sound.callback_pools found_here in
+    omega (arith, home, k.sized.pools_within, k.queued.queue_count)
 
 -- ---- a callback begins
 

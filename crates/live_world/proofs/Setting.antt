@@ -1,5 +1,5 @@
 -- What the parts show as a wait is set: it is disarmed, takes a kernel object, or is armed on one.
-use Rattle.std.proofs.Common.{◌≡◌, ℕ, ◌+◌, ◌-◌, ◌<◌, ◌≤◌, ◌==◌, Bool, true, false, cond, not, ◌||◌, ◌&&◌, List, [], ◌∷◌, ◌++◌, length, Option, Some, None, refl, sym, ap, ap₂, ◌∙◌, subst, arith, filter, length-append, ltb-false, eqb-true}
+use Rattle.std.proofs.Common.{◌≡◌, ℕ, ◌+◌, ◌-◌, ◌<◌, ◌≤◌, ◌==◌, Bool, true, false, cond, not, ◌||◌, ◌&&◌, nat_lt, List, [], ◌∷◌, ◌++◌, length, Option, Some, None, is_some, refl, sym, ap, ap₂, ◌∙◌, subst, arith, filter, length-append, ltb-false, eqb-true}
 use Rattle.std.specs.Prelude.{ℤ}
 use Rattle.std.proofs.lemmas.Bool.{le-ltb}
 use Rattle.std.specs.Option.{option_map_or}
@@ -20,6 +20,7 @@ use Rattle.tp_model.specs.World.{World}
 use Rattle.tp_model.specs.Counts.{numbered, slots}
 use Rattle.tp_model.specs.Conditions.{is_same_kind, lacks_slots_for}
 use Rattle.tp_model.specs.Kernels.{is_kernel_that, is_one_that, kernel_changed}
+use Rattle.tp_model.specs.Calls.WaitObjects.{lacks_slots_after}
 use Rattle.tp_model.specs.Sources.{Sources, Firing, arm, disarmed, firing, job, jobless, sources_of, set_wait, slots_after, with_state}
 use Rattle.tp_model.specs.Support.Allowed.{IsObjectOf}
 use Rattle.tp_model.specs.Support.Sound.{IsMade, count_set, may_be_armed}
@@ -149,6 +150,21 @@ arm_needs object kernel timeout s =
 pub room_to_arm : (l : Live) (object : ObjectId) (kernel : KernelId) (timeout : Option ℤ) → slots_after l.world (trigger.SetWait object (Some kernel) timeout) ≤ l.world.limits.slots → lacks_slots_for (with_sources l (disarmed object (sources_of l.world))).world 1 ≡ false
 room_to_arm l object kernel timeout room =
     le-ltb l.world.limits.slots (slots (with_sources l (disarmed object (sources_of l.world))).world + 1) (omega (arith, room, ap length (live_again l.world.callbacks), arm_needs object kernel timeout (disarmed object (sources_of l.world))))
+
+-- with a kernel object the wait has one slot
+set_needs : (object : ObjectId) (kernel : Option KernelId) (timeout : Option ℤ) (s : Sources)
+    → length (set_wait object kernel timeout s).jobs + length (set_wait object kernel timeout s).sources.armings ≡ length (without_arming object.0 s.armings) + one_if (is_some kernel)
+set_needs object None timeout s = omega arith
+set_needs object (Some kernel) timeout s = arm_needs object kernel timeout (disarmed object s)
+
+pub lacks_to_set : (i : Inside) (l : Live) (object : ObjectId) (kernel : Option KernelId) (timeout : Option ℤ) (count freed needed : ℕ) → shown i ≡ l → IsLiveWorld i
+    → count ≡ length i.callbacks.rows → freed ≡ one_if (is_armed object.0 i.kernels.armed) → needed ≡ one_if (is_some kernel)
+    → nat_lt i.limits.slots (count + (i.armed - freed) + needed) ≡ lacks_slots_after l.world (trigger.SetWait object kernel timeout)
+lacks_to_set i l object kernel timeout count freed needed is k counted was asked =
+    let w : World = (shown i).world in
+    let same : count + (i.armed - freed) + needed ≡ slots_after w (trigger.SetWait object kernel timeout)
+    = omega (arith, counted, was, asked, k.slotted.counted, without_length object.0 i.kernels.armed k.kernels.once, set_needs object kernel timeout (sources_of w), ap length k.alive.live) in
+    ap (nat_lt i.limits.slots) same ∙ ap (λ (x : Live). lacks_slots_after x.world (trigger.SetWait object kernel timeout)) is
 
 -- ---- the steps of a wait that is set
 

@@ -178,6 +178,8 @@ impl LiveWorld {
     fn count_expiring(&self, now: u64) -> u32
         ensures { result ≡ count_expiring self.now.world now }
     {
+        // They stand in the order in which they expire.
+        let _ = self.timers.len();
         let due = self.timers.count_due(now);
         let mut count = 0;
         for place in 0..due {

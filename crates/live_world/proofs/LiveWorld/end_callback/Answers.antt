@@ -1,5 +1,8 @@
-use Rattle.live_world.proofs.Moving.{ended_by}
+use Rattle.live_world.proofs.Moving.{ended_by, runs_here}
 use Rattle.live_world.proofs.LiveWorld.end_callback.Goals as goal
+
+pub give_back-requires : goal.give_back-requires
+give_back-requires c = runs_here c.self.inside c.args.self.now c.args.by c.self.view_is c.requires
 
 pub invariant_of-self : goal.invariant_of-self
 invariant_of-self c =

@@ -1,0 +1,19 @@
+use Rattle.std.proofs.Common.{◌≡◌, is_some, sym, ap, ◌∙◌}
+use Rattle.tp_base.specs.Armings.{is_armed}
+use Rattle.tp_model.proofs.Arming.{one_if}
+use Rattle.live_world.proofs.Setting.{lacks_to_set}
+use Rattle.live_world.proofs.LiveWorld.lacks_slots_to_set.Goals.{then-is_armed, else-is_armed, then-is_some, else-is_some}
+use Rattle.live_world.proofs.LiveWorld.lacks_slots_to_set.Goals as goal
+
+pub returns : goal.returns
+returns c =
+    let i = c.self.inside in
+    let freed : c.if-is_armed.freed ≡ one_if (is_armed c.args.object.0 i.kernels.armed) = elim c.if-is_armed.branch [
+      | then-is_armed w ↦ w.freed-is ∙ ap one_if (sym w.if-is_armed.true ∙ c.is_armed.ensures.value)
+      | else-is_armed w ↦ w.freed-is ∙ ap one_if (sym w.if-is_armed.false ∙ c.is_armed.ensures.value)
+    ] in
+    let needed : c.if-is_some.needed ≡ one_if (is_some c.args.kernel) = elim c.if-is_some.branch [
+      | then-is_some w ↦ w.needed-is ∙ ap one_if (sym w.if-is_some.true ∙ c.is_some.ensures)
+      | else-is_some w ↦ w.needed-is ∙ ap one_if (sym w.if-is_some.false ∙ c.is_some.ensures)
+    ] in
+    lacks_to_set i c.args.self.now c.args.object c.args.kernel c.args.timeout c.len.result c.if-is_armed.freed c.if-is_some.needed c.self.view_is c.self.invariant c.len.ensures.value freed needed
