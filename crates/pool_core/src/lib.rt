@@ -18,6 +18,7 @@
 //! | `SubmitWork`, `SubmitSimple` | `SubmitThreadpoolWork`, `TrySubmitThreadpoolCallback` |
 //! | `SetTimer`, `SetTimerEx` | `SetThreadpoolTimer`, `SetThreadpoolTimerEx` |
 //! | `IsTimerSet` | `IsThreadpoolTimerSet` |
+//! | `SetWait` | `SetThreadpoolWait` |
 //! | `BeginWait`, then `End` | `WaitForThreadpoolWorkCallbacks`, and that for timers |
 //! | `CreateEvent`, `SetEvent`, `ResetEvent` | those of these names |
 //! | `CreateSemaphore`, `ReleaseSemaphore` | those of these names |
@@ -71,6 +72,8 @@ mod plans;
 mod pools;
 mod refusals;
 mod timers;
+mod triggers;
+mod wait_objects;
 mod waits;
 mod work;
 mod workers;
