@@ -14,12 +14,12 @@
 //! |---|---|
 //! | `CreatePool`, `ClosePool` | `CreateThreadpool`, `CloseThreadpool` |
 //! | `SetMaximum`, `SetMinimum` | `SetThreadpoolThreadMaximum`, `SetThreadpoolThreadMinimum` |
-//! | `Create`, `CloseObject` | `CreateThreadpoolWork`, `CloseThreadpoolWork`, and those for timers |
+//! | `Create`, `CloseObject` | `CreateThreadpoolWork`, `CloseThreadpoolWork`, and those for timers and waits |
 //! | `SubmitWork`, `SubmitSimple` | `SubmitThreadpoolWork`, `TrySubmitThreadpoolCallback` |
 //! | `SetTimer`, `SetTimerEx` | `SetThreadpoolTimer`, `SetThreadpoolTimerEx` |
 //! | `IsTimerSet` | `IsThreadpoolTimerSet` |
 //! | `SetWait` | `SetThreadpoolWait` |
-//! | `BeginWait`, then `End` | `WaitForThreadpoolWorkCallbacks`, and that for timers |
+//! | `BeginWait`, then `End` | `WaitForThreadpoolWorkCallbacks`, and those for timers and waits |
 //! | `CreateEvent`, `SetEvent`, `ResetEvent` | those of these names |
 //! | `CreateSemaphore`, `ReleaseSemaphore` | those of these names |
 //! | `CreateLock`, `ReleaseLock` | `CreateMutex`, `ReleaseMutex`, `InitializeCriticalSection`, `LeaveCriticalSection` |
