@@ -1,5 +1,5 @@
 -- What a change adds to the counts of an engine, and what they are at first.
-use Rattle.std.proofs.Common.{◌≡◌, ℕ, suc, zero, ◌+◌, ◌≤◌, Bool, true, false, not, cond, ◌∷◌, length, replicate, refl, ap, ◌∙◌, arith, filter, is_some}
+use Rattle.std.proofs.Common.{◌≡◌, ℕ, suc, zero, ◌≤◌, Bool, true, false, not, cond, ◌∷◌, length, replicate, refl, ap, ◌∙◌, arith, filter, is_some}
 use Rattle.std.proofs.lemmas.List.Sums.{length-filter, count_by-le-length}
 use Rattle.tp_base.specs.declared.limits.Limits.{Limits}
 use Rattle.tp_base.specs.declared.plans.Change.{Change}

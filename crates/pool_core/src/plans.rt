@@ -6,7 +6,9 @@ ghost use Rattle.tp_model.specs.Support.Allowed.{price as price_of};
 ghost use Rattle.tp_model.specs.Table.{plan_at};
 
 use crate::decisions::Decision;
-use crate::{clients, in_callback, kernels, objects, pools, timers, wait_objects, waits, work, workers};
+use crate::{
+    clients, in_callback, kernels, objects, pools, timers, wait_objects, waits, work, workers,
+};
 use live_world::LiveWorld;
 use tp_base::calls::Call;
 use tp_base::ids::Who;

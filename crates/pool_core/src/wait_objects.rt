@@ -57,7 +57,10 @@ pub(crate) fn set_wait(
         object,
         [
             (names_lock(world, kernel), Refusal::NotWaitable),
-            (world.lacks_slots_to_set(object, kernel, timeout), Refusal::CallbackLimit),
+            (
+                world.lacks_slots_to_set(object, kernel, timeout),
+                Refusal::CallbackLimit
+            ),
         ]
     );
     if let Some(refusal) = refusal {
