@@ -1,38 +1,48 @@
 -- What a change adds to the counts of an engine, and what they are at first.
-use Rattle.std.proofs.Common.{◌≡◌, ℕ, suc, zero, ◌+◌, ◌≤◌, Bool, true, false, not, cond, ◌∷◌, length, replicate, refl, ap, ◌∙◌, arith, ltb-false, filter, is_some}
+use Rattle.std.proofs.Common.{◌≡◌, ℕ, suc, zero, ◌≤◌, Bool, true, false, not, cond, ◌∷◌, length, replicate, refl, ap, ◌∙◌, arith, filter, is_some}
+use Rattle.std.proofs.lemmas.List.Sums.{length-filter, count_by-le-length}
 use Rattle.tp_base.specs.declared.limits.Limits.{Limits}
 use Rattle.tp_base.specs.declared.plans.Change.{Change}
 use Rattle.tp_base.specs.declared.plans.Change.TheVariants as change
+use Rattle.tp_base.specs.declared.rows.CallbackRow.{CallbackRow}
 use Rattle.tp_base.specs.declared.rows.ClientRow.{ClientRow}
 use Rattle.tp_base.specs.declared.rows.WorkerRow.{WorkerRow}
 use Rattle.tp_model.specs.World.{World, opening, unattached, unfinished}
-use Rattle.tp_model.specs.Counts.{slots, owed}
+use Rattle.tp_model.specs.Actions.{slots_of}
+use Rattle.tp_model.specs.Counts.{is_live, slots, owed}
 use Rattle.tp_model.specs.Support.Allowed.{IsAllowed, price, news}
 use Rattle.tp_model.specs.Support.Remembered.{forget}
+use Rattle.tp_model.proofs.Performing.{returning_within}
+use Rattle.live_world.specs.Bounds.{IsBounded}
 
--- a change makes no more callbacks than have their places, and costs little
+-- a change makes no more callbacks than have their slots, and costs little
 pub record AreFew (ch : Change) : Type 0 where
   pub made : news ch ≤ 65536
   pub cost : price ch ≤ 65537
 
-pub few : (fresh : ℕ) (w : World) (ch : Change) → w.limits.slots ≤ 65535 → IsAllowed fresh w ch → AreFew ch
-few fresh w (change.Fire trigger first count) most a = record { made = omega (arith, ltb-false w.limits.slots (slots w + count) a.room, most); cost = omega arith }
-few fresh w change.Keep most a = record { made = omega arith; cost = omega arith }
-few fresh w change.CreatePool most a = record { made = omega arith; cost = omega arith }
-few fresh w (change.ChangePool pool how) most a = record { made = omega arith; cost = omega arith }
-few fresh w (change.CreateObject row) most a = record { made = omega arith; cost = omega arith }
-few fresh w (change.ReleaseObject object) most a = record { made = omega arith; cost = omega arith }
-few fresh w (change.QueueCallback callback) most a = record { made = omega arith; cost = omega arith }
-few fresh w (change.CreateKernel state) most a = record { made = omega arith; cost = omega arith }
-few fresh w (change.ChangeKernel kernel how) most a = record { made = omega arith; cost = omega arith }
-few fresh w (change.Attach worker pool) most a = record { made = omega arith; cost = omega arith }
-few fresh w (change.Detach by) most a = record { made = omega arith; cost = omega arith }
-few fresh w (change.Take by callback) most a = record { made = omega arith; cost = omega arith }
-few fresh w (change.Mark by mark) most a = record { made = omega arith; cost = omega arith }
-few fresh w (change.Return by words) most a = record { made = omega arith; cost = omega arith }
-few fresh w (change.BeginWait who target cancel) most a = record { made = omega arith; cost = omega arith }
-few fresh w (change.EndWait who how) most a = record { made = omega arith; cost = omega arith }
-few fresh w (change.Finish client) most a = record { made = omega arith; cost = omega arith }
+pub few : (fresh : ℕ) (w : World) (ch : Change) → w.limits.slots ≤ 65535 → slots w ≤ w.limits.slots → IsAllowed fresh w ch → AreFew ch
+few fresh w (change.Fire trigger first count) most room a = record { made = omega (arith, a.counted, a.room room, most); cost = omega arith }
+few fresh w change.Keep most room a = record { made = omega arith; cost = omega arith }
+few fresh w change.CreatePool most room a = record { made = omega arith; cost = omega arith }
+few fresh w (change.ChangePool pool how) most room a = record { made = omega arith; cost = omega arith }
+few fresh w (change.CreateObject row) most room a = record { made = omega arith; cost = omega arith }
+few fresh w (change.ReleaseObject object) most room a = record { made = omega arith; cost = omega arith }
+few fresh w (change.QueueCallback callback) most room a = record { made = omega arith; cost = omega arith }
+few fresh w (change.CreateKernel state) most room a = record { made = omega arith; cost = omega arith }
+few fresh w (change.ChangeKernel kernel how) most room a = record { made = omega arith; cost = omega arith }
+few fresh w (change.Attach worker pool) most room a = record { made = omega arith; cost = omega arith }
+few fresh w (change.Detach by) most room a = record { made = omega arith; cost = omega arith }
+few fresh w (change.Take by callback) most room a = record { made = omega arith; cost = omega arith }
+few fresh w (change.Mark by mark) most room a = record { made = omega arith; cost = omega arith }
+few fresh w (change.Return by words first count) most room a =
+    record { made = omega (arith, a.counted, returning_within w words (slots_of by.callback.status), room, most); cost = omega arith }
+few fresh w (change.BeginWait who target cancel) most room a = record { made = omega arith; cost = omega arith }
+few fresh w (change.EndWait who how) most room a = record { made = omega arith; cost = omega arith }
+few fresh w (change.Finish client) most room a = record { made = omega arith; cost = omega arith }
+
+-- the slots that are taken, where each callback and each armed wait has one
+pub taken_within : (w : World) → IsBounded w → slots w ≤ w.limits.slots
+taken_within w b = omega (arith, b.slots_most, length-filter (λ (c : CallbackRow). is_live c.status) w.callbacks, count_by-le-length (λ (c : CallbackRow). is_live c.status) w.callbacks)
 
 none_pass : {X : Type 0} (p : X → Bool) (x : X) → p x ≡ false → (n : ℕ) → length (filter p (replicate n x)) ≡ 0
 none_pass p x out zero = refl

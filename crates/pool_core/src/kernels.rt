@@ -3,17 +3,18 @@
 //! `ReleaseMutex` and `LeaveCriticalSection`.
 
 ghost use Rattle.pool_core.specs.Decided.{decided};
-ghost use Rattle.std.specs.Prelude.{◌≡◌, ◌+◌, length};
+ghost use Rattle.std.specs.Prelude.{◌≡◌, ◌+◌, ◌^◌, ◌<◌, length};
 ghost use Rattle.tp_base.specs.Kernels.{lock_made as lock_made_of};
 ghost use Rattle.tp_model.specs.Calls.Kernels.{create_event_plan, create_semaphore_plan, create_lock_plan, set_event_plan, reset_event_plan, release_semaphore_plan, release_lock_plan};
 
 use crate::decisions::{Decision, accept};
 use crate::refusals::{either, first_of};
+use crate::triggers::fire;
 use live_world::LiveWorld;
 use tp_base::answers::{Answer, Refusal};
 use tp_base::calls::Lock;
 use tp_base::ids::{KernelId, Who};
-use tp_base::plans::{Change, KernelChange};
+use tp_base::plans::{Change, KernelChange, Trigger};
 use tp_base::rows::KernelState;
 
 // Of a call that makes a kernel object, whose own conditions stand before the limit.
@@ -137,7 +138,8 @@ pub(crate) fn create_lock(
     }
 }
 
-/// An event is signalled. Who waits for it takes it as its wait ends.
+/// An event is signalled. Each armed wait that takes it makes a callback, and an actor that waits for
+/// it takes it as its wait ends.
 #[tactic(auto, unfolding(tp_model::specs::Calls::Kernels::set_event_plan))]
 pub(crate) fn set_event(
     world: &LiveWorld,
@@ -145,19 +147,17 @@ pub(crate) fn set_event(
     kernel: KernelId,
     change: &mut Change,
 ) -> Decision
-    ensures { decided result change.new ≡ set_event_plan world.now.world who kernel }
+    requires { world.now.made < 2 ^ 63 }
+    ensures { decided result change.new ≡ set_event_plan world.now.world (world.now.made + 1) who kernel }
 {
-    match kernel_refusal!(world, who, kernel, world.is_event(kernel), []) {
-        Some(refusal) => Decision::Refused(refusal),
-        None => accept(
-            change,
-            Answer::Queued { first: 0, count: 0 },
-            Change::ChangeKernel {
-                kernel,
-                how: KernelChange::Set,
-            },
-        ),
+    let refusal = kernel_refusal!(world, who, kernel, world.is_event(kernel), []);
+    if let Some(refusal) = refusal {
+        return Decision::Refused(refusal);
     }
+    let trigger = Trigger::SetEvent { kernel };
+    let count = world.count_fired(&trigger);
+    let first = fire(world, trigger, count, change);
+    Decision::Accepted(Answer::Queued { first, count })
 }
 
 /// An event is no longer signalled.
@@ -183,7 +183,8 @@ pub(crate) fn reset_event(
     }
 }
 
-/// Raises the count of a semaphore, and tells what it was before.
+/// Raises the count of a semaphore, and tells what it was before. Each armed wait that takes the
+/// semaphore makes a callback.
 #[tactic(auto, unfolding(tp_model::specs::Calls::Kernels::release_semaphore_plan))]
 pub(crate) fn release_semaphore(
     world: &LiveWorld,
@@ -192,7 +193,8 @@ pub(crate) fn release_semaphore(
     more: u32,
     change: &mut Change,
 ) -> Decision
-    ensures { decided result change.new ≡ release_semaphore_plan world.now.world who kernel more }
+    requires { world.now.made < 2 ^ 63 }
+    ensures { decided result change.new ≡ release_semaphore_plan world.now.world (world.now.made + 1) who kernel more }
 {
     let previous = world.count_at(kernel);
     let refusal = kernel_refusal!(
@@ -208,18 +210,17 @@ pub(crate) fn release_semaphore(
     if let Some(refusal) = refusal {
         return Decision::Refused(refusal);
     }
-    accept(
-        change,
-        Answer::Count {
-            previous,
-            first: 0,
-            count: 0,
-        },
-        Change::ChangeKernel {
-            kernel,
-            how: KernelChange::Raise(more),
-        },
-    )
+    let trigger = Trigger::ReleaseSemaphore {
+        kernel,
+        count: more,
+    };
+    let count = world.count_fired(&trigger);
+    let first = fire(world, trigger, count, change);
+    Decision::Accepted(Answer::Count {
+        previous,
+        first,
+        count,
+    })
 }
 
 /// Gives back one taking of a mutex or a critical section that the actor owns.

@@ -14,11 +14,12 @@
 //! |---|---|
 //! | `CreatePool`, `ClosePool` | `CreateThreadpool`, `CloseThreadpool` |
 //! | `SetMaximum`, `SetMinimum` | `SetThreadpoolThreadMaximum`, `SetThreadpoolThreadMinimum` |
-//! | `Create`, `CloseObject` | `CreateThreadpoolWork`, `CloseThreadpoolWork`, and those for timers |
+//! | `Create`, `CloseObject` | `CreateThreadpoolWork`, `CloseThreadpoolWork`, and those for timers and waits |
 //! | `SubmitWork`, `SubmitSimple` | `SubmitThreadpoolWork`, `TrySubmitThreadpoolCallback` |
 //! | `SetTimer`, `SetTimerEx` | `SetThreadpoolTimer`, `SetThreadpoolTimerEx` |
 //! | `IsTimerSet` | `IsThreadpoolTimerSet` |
-//! | `BeginWait`, then `End` | `WaitForThreadpoolWorkCallbacks`, and that for timers |
+//! | `SetWait` | `SetThreadpoolWait` |
+//! | `BeginWait`, then `End` | `WaitForThreadpoolWorkCallbacks`, and those for timers and waits |
 //! | `CreateEvent`, `SetEvent`, `ResetEvent` | those of these names |
 //! | `CreateSemaphore`, `ReleaseSemaphore` | those of these names |
 //! | `CreateLock`, `ReleaseLock` | `CreateMutex`, `ReleaseMutex`, `InitializeCriticalSection`, `LeaveCriticalSection` |
@@ -71,6 +72,8 @@ mod plans;
 mod pools;
 mod refusals;
 mod timers;
+mod triggers;
+mod wait_objects;
 mod waits;
 mod work;
 mod workers;

@@ -6,7 +6,9 @@ ghost use Rattle.tp_model.specs.Support.Allowed.{price as price_of};
 ghost use Rattle.tp_model.specs.Table.{plan_at};
 
 use crate::decisions::Decision;
-use crate::{clients, in_callback, kernels, objects, pools, timers, waits, work, workers};
+use crate::{
+    clients, in_callback, kernels, objects, pools, timers, wait_objects, waits, work, workers,
+};
 use live_world::LiveWorld;
 use tp_base::calls::Call;
 use tp_base::ids::Who;
@@ -57,6 +59,11 @@ pub(crate) fn plan(
         } => timers::set_timer_ex(world, who, object, due, period, window, change),
         Call::IsTimerSet { object } => timers::is_timer_set(world, who, object, change),
         Call::Advance { ticks } => timers::advance(world, who, ticks, change),
+        Call::SetWait {
+            object,
+            kernel,
+            timeout,
+        } => wait_objects::set_wait(world, who, object, kernel, timeout, change),
         Call::BeginWait {
             kind,
             object,

@@ -4,22 +4,16 @@
 ghost use Rattle.pool_core.specs.Decided.{decided};
 ghost use Rattle.std.specs.Prelude.{◌≡◌, ◌+◌, ◌^◌, ◌<◌, ◌≤◌, nat_lt};
 ghost use Rattle.tp_base.specs.Timers.{clock_end};
-ghost use Rattle.tp_model.specs.Calls.Timers.{first_of as first_of_count, set_timer_plan, set_timer_ex_plan, is_timer_set_plan, advance_plan};
+ghost use Rattle.tp_model.specs.Calls.Timers.{set_timer_plan, set_timer_ex_plan, is_timer_set_plan, advance_plan};
 
 use crate::decisions::{Decision, accept};
 use crate::refusals::{either, first_of, object_refusal};
+use crate::triggers::fire;
 use live_world::LiveWorld;
 use tp_base::answers::{Answer, Refusal};
 use tp_base::calls::{CLOCK_END, Kind};
 use tp_base::ids::{ObjectId, Who};
 use tp_base::plans::{Change, Trigger};
-
-// The first number of so many callbacks, or 0 where there are none.
-fn first_number(next: u64, count: u32) -> u64
-    ensures { result ≡ first_of_count next count }
-{
-    if count == 0 { 0 } else { next }
-}
 
 /// Sets a timer, or unsets it. One that is due at once makes a callback.
 #[tactic(auto, unfolding(tp_model::specs::Calls::Timers::set_timer_plan))]
@@ -52,19 +46,8 @@ pub(crate) fn set_timer(
     if let Some(refusal) = refusal {
         return Decision::Refused(refusal);
     }
-    let next = world.next_number();
-    accept(
-        change,
-        Answer::Queued {
-            first: first_number(next, count),
-            count,
-        },
-        Change::Fire {
-            trigger,
-            first: next,
-            count,
-        },
-    )
+    let first = fire(world, trigger, count, change);
+    Decision::Accepted(Answer::Queued { first, count })
 }
 
 /// Sets a timer, or unsets it, and tells whether that ended a setting.
@@ -98,20 +81,12 @@ pub(crate) fn set_timer_ex(
     if let Some(refusal) = refusal {
         return Decision::Refused(refusal);
     }
-    let next = world.next_number();
-    accept(
-        change,
-        Answer::WasSet {
-            was: world.is_timer_set(object),
-            first: first_number(next, count),
-            count,
-        },
-        Change::Fire {
-            trigger,
-            first: next,
-            count,
-        },
-    )
+    let first = fire(world, trigger, count, change);
+    Decision::Accepted(Answer::WasSet {
+        was: world.is_timer_set(object),
+        first,
+        count,
+    })
 }
 
 /// Tells whether a timer is set.
@@ -145,7 +120,8 @@ fn passes_end(now: u64, ticks: u64) -> bool
     CLOCK_END - now < ticks
 }
 
-/// The clock goes on by so many units of 100 ns. Each timer that is due then makes a callback.
+/// The clock goes on by so many units of 100 ns. Each timer that is due then makes a callback, and
+/// so does each armed wait whose timeout is.
 #[tactic(auto, unfolding(tp_model::specs::Calls::Timers::advance_plan))]
 pub(crate) fn advance(world: &LiveWorld, who: Who, ticks: u64, change: &mut Change) -> Decision
     requires { world.now.made < 2 ^ 63 }
@@ -163,23 +139,11 @@ pub(crate) fn advance(world: &LiveWorld, who: Who, ticks: u64, change: &mut Chan
         return Decision::Refused(refusal);
     }
     let now = world.now() + ticks;
-    let trigger = Trigger::Advance { now };
-    let count = world.count_fired(&trigger);
-    if world.lacks_slots(count) {
+    if world.lacks_slots_at(now) {
         return Decision::Refused(Refusal::CallbackLimit);
     }
-    let next = world.next_number();
-    accept(
-        change,
-        Answer::Advanced {
-            now,
-            first: first_number(next, count),
-            count,
-        },
-        Change::Fire {
-            trigger,
-            first: next,
-            count,
-        },
-    )
+    let trigger = Trigger::Advance { now };
+    let count = world.count_fired(&trigger);
+    let first = fire(world, trigger, count, change);
+    Decision::Accepted(Answer::Advanced { now, first, count })
 }

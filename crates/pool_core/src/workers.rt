@@ -2,12 +2,13 @@
 //! leave.
 
 ghost use Rattle.pool_core.specs.Decided.{decided};
-ghost use Rattle.std.specs.Prelude.{◌≡◌};
+ghost use Rattle.std.specs.Prelude.{◌≡◌, ◌+◌, ◌^◌, ◌<◌};
 ghost use Rattle.tp_model.specs.Refusing.{first_refusal};
 ghost use Rattle.tp_model.specs.Calls.Workers.{idle_refusals, attach_plan, detach_plan, take_plan, return_plan};
 
 use crate::decisions::{Decision, accept};
 use crate::refusals::first_of;
+use crate::triggers::first_number;
 use live_world::LiveWorld;
 use tp_base::answers::{Answer, Look, Refusal, SlotWord};
 use tp_base::ids::{PoolId, Who};
@@ -104,10 +105,12 @@ pub(crate) fn take(world: &LiveWorld, who: Who, change: &mut Change) -> Decision
     )
 }
 
-/// A worker's callback returns.
+/// A worker's callback returns, and its actions are performed. Each armed wait that takes what they
+/// signal makes a callback.
 #[tactic(auto, unfolding(tp_model::specs::Calls::Workers::return_plan))]
 pub(crate) fn return_callback(world: &LiveWorld, who: Who, change: &mut Change) -> Decision
-    ensures { decided result change.new ≡ return_plan world.now.world who }
+    requires { world.now.made < 2 ^ 63 }
+    ensures { decided result change.new ≡ return_plan world.now.world (world.now.made + 1) who }
 {
     let actor = world.actor(who);
     let refusal = first_of!([
@@ -124,6 +127,8 @@ pub(crate) fn return_callback(world: &LiveWorld, who: Who, change: &mut Change) 
         return Decision::Refused(Refusal::NotRunning);
     };
     let words = world.words(who, &by.callback.status);
+    let count = world.count_returned(who, &by.callback.status, &words);
+    let first = world.next_number();
     accept(
         change,
         Answer::Returned {
@@ -131,9 +136,14 @@ pub(crate) fn return_callback(world: &LiveWorld, who: Who, change: &mut Change) 
             mutex: words.mutex,
             semaphore: words.semaphore,
             event: words.event,
-            first: 0,
-            count: 0,
+            first: first_number(first, count),
+            count,
         },
-        Change::Return { by, words },
+        Change::Return {
+            by,
+            words,
+            first,
+            count,
+        },
     )
 }

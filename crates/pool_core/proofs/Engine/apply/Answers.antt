@@ -14,7 +14,7 @@ use Rattle.tp_model.proofs.Takings.{taken_more}
 use Rattle.live_world.specs.Live.{Live}
 use Rattle.pool_core.specs.View.{remembered, IsEngine}
 use Rattle.pool_core.specs.declared.Engine.TheInside.{Inside}
-use Rattle.pool_core.proofs.Counting.{few}
+use Rattle.pool_core.proofs.Counting.{few, taken_within}
 use Rattle.pool_core.proofs.Engine.apply.Goals as goal
 
 allowed_here : (i : Inside) (e : Remembered) (ch : Change) → remembered i ≡ e → IsAllowed (e.made + 1) e.world ch → IsAllowed (i.live.made + 1) i.live.world ch
@@ -36,7 +36,7 @@ invariant_of-self c =
     let paid_for = pays i c.args.self.now ch c.self.view_is c.is_reachable.ensures.sound c.requires.allowed c.self.invariant in
     let world_now : c.apply.new.self.world ≡ forget (changed i.live.world ch) = ap (λ (l : Live). l.world) c.apply.ensures in
     let owed_now : owed c.apply.new.self.world ≡ owed (changed i.live.world ch) = ap owed world_now ∙ owed_forget (changed i.live.world ch) in
-    let few_here = few (i.live.made + 1) i.live.world ch c.is_reachable.ensures.bounded.limits.slots_most (allowed_here i c.args.self.now ch c.self.view_is c.requires.allowed) in
+    let few_here = few (i.live.made + 1) i.live.world ch c.is_reachable.ensures.bounded.limits.slots_most (taken_within i.live.world c.is_reachable.ensures.bounded) (allowed_here i c.args.self.now ch c.self.view_is c.requires.allowed) in
     record {
       owes = omega (arith, paid_for, c.price.ensures, owed_now);
       few_made = omega (arith, ap (λ (l : Live). l.made) c.apply.ensures, few_here.made, c.self.invariant.few_made);

@@ -3,9 +3,6 @@ use Rattle.tp_base.specs.declared.ids.Who.{Who}
 use Rattle.tp_base.specs.declared.calls.Call.{Call}
 use Rattle.tp_base.specs.declared.plans.Change.{Change}
 use Rattle.tp_base.specs.Ranges.{IsCallInRange}
-use Rattle.std.proofs.lemmas.List.Sums.{length-filter, count_by-le-length}
-use Rattle.tp_base.specs.declared.rows.CallbackRow.{CallbackRow}
-use Rattle.tp_model.specs.Counts.{is_live}
 use Rattle.tp_model.specs.Table.{plan_at}
 use Rattle.tp_model.specs.Support.Ranged.{IsPlanInRange}
 use Rattle.tp_model.specs.Support.Sound.{IsSound}
@@ -17,6 +14,7 @@ use Rattle.pool_core.specs.Decided.{decided}
 use Rattle.pool_core.specs.declared.decisions.Decision.{Decision}
 use Rattle.pool_core.specs.View.{remembered, IsEngine}
 use Rattle.pool_core.specs.declared.Engine.TheInside.{Inside}
+use Rattle.pool_core.proofs.Counting.{taken_within}
 use Rattle.pool_core.proofs.Stepping.{meets_looked, meets_refused, meets_done}
 use Rattle.pool_core.proofs.Engine.step.Goals as goal
 
@@ -60,7 +58,7 @@ ranged : (i : Inside) (e : Remembered) (room : ℕ) (who : Who) (call : Call) (c
 ranged i e room who call change decision is same k young s b in_range made found =
     let few : i.live.made + 1 + 65536 ≤ 2 ^ 64 = omega (arith, k.few_made, young, ap (λ (r : Remembered). r.age) same) in
     subst IsPlanInRange (sym made ∙ ap (λ d. decided d change) found)
-    (plan_ranged (i.live.made + 1) i.live.world few s (record { limits = b.limits; pools_least = b.pools_least; pools_most = b.pools_most; slots_most = omega (arith, b.slots_most, length-filter (λ (c : CallbackRow). is_live c.status) i.live.world.callbacks, count_by-le-length (λ (c : CallbackRow). is_live c.status) i.live.world.callbacks); running_most = b.running_most; rows = k.rows }) room who call in_range)
+    (plan_ranged (i.live.made + 1) i.live.world few s (record { limits = b.limits; pools_least = b.pools_least; pools_most = b.pools_most; slots_most = taken_within i.live.world b; running_most = b.running_most; rows = k.rows }) room who call in_range)
 
 pub returns-in-Looked-clause-in_range : goal.returns-in-Looked-clause-in_range
 returns-in-Looked-clause-in_range c =
