@@ -157,6 +157,9 @@ set_needs : (object : ObjectId) (kernel : Option KernelId) (timeout : Option ℤ
 set_needs object None timeout s = omega arith
 set_needs object (Some kernel) timeout s = arm_needs object kernel timeout (disarmed object s)
 
+pub freed_armed : (i : Inside) (object : ObjectId) → IsLiveWorld i → one_if (is_armed object.0 i.kernels.armed) ≤ i.armed
+freed_armed i object k = omega (arith, without_length object.0 i.kernels.armed k.kernels.once, k.slotted.counted)
+
 pub lacks_to_set : (i : Inside) (l : Live) (object : ObjectId) (kernel : Option KernelId) (timeout : Option ℤ) (count freed needed : ℕ) → shown i ≡ l → IsLiveWorld i
     → count ≡ length i.callbacks.rows → freed ≡ one_if (is_armed object.0 i.kernels.armed) → needed ≡ one_if (is_some kernel)
     → nat_lt i.limits.slots (count + (i.armed - freed) + needed) ≡ lacks_slots_after l.world (trigger.SetWait object kernel timeout)

@@ -1,4 +1,4 @@
-use Rattle.std.proofs.Common.{◌≡◌, sym, ap, ◌∙◌}
+use Rattle.std.proofs.Common.{sym, ap, ◌∙◌}
 use Rattle.pool_rows.specs.Pools.{with_pool}
 use Rattle.tp_model.specs.Changes.{pool_after}
 use Rattle.live_world.proofs.PoolsMade.{pool_changed}

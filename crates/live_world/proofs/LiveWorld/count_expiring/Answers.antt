@@ -1,4 +1,4 @@
-use Rattle.std.proofs.Common.{◌≡◌, ◌+◌, ◌<◌, not, length, Some, None, sym, ap, ◌∙◌, arith}
+use Rattle.std.proofs.Common.{◌<◌, not, length, sym, ap, ◌∙◌, arith}
 use Rattle.tp_base.specs.Timers.{expired}
 use Rattle.tp_model.specs.Calls.Timers.{count_expiring}
 use Rattle.tp_model.proofs.Arming.{one_if}
