@@ -61,7 +61,7 @@ opening_holds limits =
       agrees = record { in_order = refl; taken_begun = λ n. refl; pending_queued = λ n c found waits. absurd cc; named_cancelled = λ n named. absurd cc; as_many_taken = refl; as_many_cancelled = refl };
       staffed = opening_staffed limits;
       runs = λ earlier later entry run split. absurd (no_place earlier entry later split);
-      ready = record { ready = λ n c among found. absurd cc };
+      ready = record { past = λ n among. absurd cc; ready = λ n c among found. absurd cc };
       promises = λ before between begin b split. absurd (no_place before begin between split);
       acting = λ before between taken split. absurd (no_place before taken between split);
       armed = opening_armed limits;

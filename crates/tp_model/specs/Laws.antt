@@ -8,6 +8,7 @@ pub mod Maximum
 pub mod Covered
 pub mod Actions
 pub mod Armed
+pub mod Io
 use Once.{AreOnce}
 use Maximum.{IsWithinMaximum}
 use Covered.{AreCovered}
