@@ -126,7 +126,7 @@ cancelled_was w n test c found = of_row (find (has_number n) w.callbacks) refl (
     of_row None was e = absurd cc
     of_row (Some d) was e = of_test d (test d) was cc
 
-move_was : (w : World) (entry : Entry) (kept : List CallbackRow) (staff : List WorkerRow) (n : ℕ) (c : CallbackRow) → Move w entry kept staff → find (has_number n) kept ≡ Some c → WasRow w n c
+pub move_was : (w : World) (entry : Entry) (kept : List CallbackRow) (staff : List WorkerRow) (n : ℕ) (c : CallbackRow) → Move w entry kept staff → find (has_number n) kept ≡ Some c → WasRow w n c
 move_was w entry kept staff n c (Stay m) found = same_found w n kept c m.callbacks found
 move_was w entry kept staff n c (Mark m) found = replaced_found w n m.new m.old c m.found m.object (follows_same m.old.status m.new.status m.status) (ap (find (has_number n)) (sym m.callbacks) ∙ found)
 move_was w entry kept staff n c (Attach m) found = same_found w n kept c m.callbacks found

@@ -17,6 +17,7 @@ pub mod First
 pub mod Forgetting
 pub mod Growing
 mod LawExamples
+pub mod Io
 pub mod Kernels
 pub mod Laws
 pub mod Lists
