@@ -18,6 +18,7 @@ pub mod Forgetting
 pub mod Growing
 mod LawExamples
 pub mod Io
+mod IoExamples
 pub mod Kernels
 pub mod Laws
 pub mod Lists
