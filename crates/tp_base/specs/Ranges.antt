@@ -4,7 +4,7 @@ use Rattle.std.specs.Int.{w64}
 use Rattle.tp_base.specs.declared.limits.Limits.{Limits}
 use Rattle.tp_base.specs.declared.ids.KernelId.{KernelId}
 use Rattle.tp_base.specs.declared.calls.Call.{Call}
-use Rattle.tp_base.specs.declared.calls.Call.TheVariants.{ClosePool, SetMaximum, SetMinimum, Create, CloseObject, SubmitSimple, SubmitWork, SetTimer, SetTimerEx, IsTimerSet, Advance, BeginWait, BeginAcquire, CreateSemaphore, SetEvent, ResetEvent, ReleaseSemaphore, ReleaseLock, OnReturn, SetWait}
+use Rattle.tp_base.specs.declared.calls.Call.TheVariants.{ClosePool, SetMaximum, SetMinimum, Create, CloseObject, SubmitSimple, SubmitWork, SetTimer, SetTimerEx, IsTimerSet, Advance, BeginWait, BeginAcquire, CreateSemaphore, SetEvent, ResetEvent, ReleaseSemaphore, ReleaseLock, OnReturn, SetWait, StartIo, IssueIo, CancelIo, CompleteIo}
 use Rattle.tp_base.specs.declared.calls.Environ.{Environ}
 use Rattle.tp_base.specs.declared.answers.Answer.{Answer}
 use Rattle.tp_base.specs.declared.answers.Answer.TheVariants as answer
@@ -71,6 +71,10 @@ IsCallInRange (SetTimerEx object due period window) = (object.0 ≤ 65535) × Is
 IsCallInRange (IsTimerSet object) = object.0 ≤ 65535
 IsCallInRange (Advance ticks) = ticks ≤ clock_end
 IsCallInRange (SetWait object kernel timeout) = (object.0 ≤ 65535) × IsNamedInRange kernel × IsDueInRange timeout
+IsCallInRange (StartIo object) = object.0 ≤ 65535
+IsCallInRange (IssueIo object) = object.0 ≤ 65535
+IsCallInRange (CancelIo object) = object.0 ≤ 65535
+IsCallInRange (CompleteIo callback error bytes) = (callback < 2 ^ 64) × (error < 2 ^ 32) × (bytes < 2 ^ 64)
 IsCallInRange (BeginWait kind object cancel) = object.0 ≤ 65535
 IsCallInRange (BeginAcquire kernel) = kernel.0 ≤ 65535
 IsCallInRange (CreateSemaphore initial maximum) = (initial ≤ count_most) × (maximum ≤ count_most)

@@ -126,6 +126,28 @@ pub enum Call {
         /// With none the wait is for ever.
         timeout: Option<i64>,
     },
+    /// Announces an operation of an I/O object, and makes the callback that expects it:
+    /// `StartThreadpoolIo`.
+    StartIo {
+        object: ObjectId,
+    },
+    /// Issues the operation that the object's first expecting callback expects: a read, a write or
+    /// the like, which has the number of its callback.
+    IssueIo {
+        object: ObjectId,
+    },
+    /// The operation that the object's first expecting callback expects isn't issued:
+    /// `CancelThreadpoolIo`.
+    CancelIo {
+        object: ObjectId,
+    },
+    /// The system completes an operation that was issued, with an error, or 0 for none, and the
+    /// bytes that were moved. Its callback is then pending.
+    CompleteIo {
+        callback: u64,
+        error: u32,
+        bytes: u64,
+    },
     /// Begins a wait for the callbacks of an object, those that are pending cancelled or not:
     /// `WaitForThreadpoolWorkCallbacks` and its like for the other kinds.
     BeginWait {
@@ -247,6 +269,9 @@ fn is_in_range(call: Call) -> bool
         | Call::SetTimer { object, .. }
         | Call::SetTimerEx { object, .. }
         | Call::IsTimerSet { object }
+        | Call::StartIo { object }
+        | Call::IssueIo { object }
+        | Call::CancelIo { object }
         | Call::BeginWait { object, .. } => object.0 <= 65_535,
         Call::Advance { ticks } => ticks <= CLOCK_END,
         Call::SetWait { object, kernel, .. } => {
@@ -278,6 +303,7 @@ fn is_in_range(call: Call) -> bool
         | Call::End
         | Call::CreateEvent { .. }
         | Call::CreateLock { .. }
+        | Call::CompleteIo { .. }
         | Call::Finish => true,
     }
 }

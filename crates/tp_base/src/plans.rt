@@ -104,6 +104,17 @@ pub enum Trigger {
     },
 }
 
+/// What becomes of an operation of an I/O object.
+#[derive(Clone, Copy)]
+pub enum IoStep {
+    /// It is issued.
+    Issue,
+    /// It isn't, and its callback never runs.
+    GiveUp,
+    /// It completes, and its callback is pending.
+    Complete { error: u32, bytes: u64 },
+}
+
 /// How a world changes by an accepted call.
 #[derive(Clone, Copy)]
 pub enum Change {
@@ -122,6 +133,13 @@ pub enum Change {
     },
     /// A further callback, which waits for a worker.
     QueueCallback(CallbackRow),
+    /// A further callback, which expects an operation.
+    ExpectCallback(CallbackRow),
+    /// What becomes of the operation of a callback.
+    Operate {
+        callback: CallbackRow,
+        how: IoStep,
+    },
     /// What a trigger does, and the callbacks that it makes: so many, numbered from `first` on.
     Fire {
         trigger: Trigger,

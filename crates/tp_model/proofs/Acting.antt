@@ -19,13 +19,13 @@ use Rattle.tp_base.specs.declared.rows.WorkerRow.{WorkerRow}
 use Rattle.tp_model.specs.World.{World}
 use Rattle.tp_model.specs.Counts.{numbered, has_number, is_running}
 use Rattle.tp_model.specs.Actions.{no_actions}
-use Rattle.tp_model.specs.Changes.{replaced, taken as taken_row, returned}
+use Rattle.tp_model.specs.Changes.{replaced, taken as taken_row, operated, returned}
 use Rattle.tp_model.specs.Laws.Entries.{asked_by, words_by, is_returned, is_taken, taken_by}
 use Rattle.tp_model.specs.Laws.Covered.{returns}
 use Rattle.tp_model.specs.Laws.Actions.{asks_for, count_asked, says_unasked}
 use Rattle.tp_model.specs.Support.Told.{Deed}
-use Rattle.tp_model.specs.Support.Moves.{Move, Moves, Stay, Mark, Attach, Detach, Take, Return, Amend, Cancel, Asking, asked_slots, IsFreeFor, put}
-use Rattle.tp_model.proofs.Callbacks.{find_replaced, find_replaced_other, pending_not_running}
+use Rattle.tp_model.specs.Support.Moves.{Move, Moves, Stay, Mark, Attach, Detach, Take, Return, Amend, Operate, Cancel, Asking, asked_slots, IsFreeFor, put}
+use Rattle.tp_model.proofs.Callbacks.{find_replaced, find_replaced_other, pending_not_running, before_idle}
 use Rattle.tp_model.proofs.Cancelling.{running_passed, find_uncancelled}
 use Rattle.tp_model.proofs.Lists.{get_set, get_set_other}
 use Rattle.tp_model.proofs.Once.{one_if}
@@ -134,6 +134,12 @@ module _ (w : World) (entry : Entry) (kept : List CallbackRow) (staff : List Wor
       (ap (find (has_number f.number)) m.callbacks
       ∙ beside (taken_row m.callback m.worker) m.callback m.found (λ same. false_true (sym (pending_not_running m.callback.status m.waits) ∙ ap (λ (x : CallbackRow). is_running x.status) same ∙ ap is_running f.running)))
       (ap (λ ws. numbered ws worker) m.workers ∙ still_stands m.worker m.actor.row (record { pool = Some m.pool; callback = Some m.callback.number }) m.actor.stands apart))
+  slots_step (Operate m) =
+      Same (silent (ap (λ (d : Deed). d.asked) m.tells)) (goes_on (ap (λ (d : Deed). d.returned) m.tells))
+      (with_rows kept
+      (ap (find (has_number f.number)) m.callbacks
+      ∙ beside (operated m.how m.callback) m.callback m.found (λ same. false_true (sym (before_idle m.how m.callback.status m.status) ∙ ap (λ (x : CallbackRow). is_running x.status) same ∙ ap is_running f.running)))
+      (ap (λ ws. numbered ws worker) m.workers ∙ f.stands))
   slots_step (Cancel m) =
       Same (silent (ap (λ (d : Deed). d.asked) m.tells)) (goes_on (ap (λ (d : Deed). d.returned) m.tells))
       (with_rows kept (ap (find (has_number f.number)) m.callbacks ∙ find_uncancelled m.test w.callbacks f.number f.callback f.found (running_passed m.test m.waits f.callback (ap is_running f.running)))
@@ -275,6 +281,7 @@ module _ (fresh : ℕ) (history : List Entry) (w : World) (x : Entry) (after : W
       of_move (Detach m) = untaken (ap (λ (d : Deed). d.taken) m.tells)
       of_move (Return m) = untaken (ap (λ (d : Deed). d.taken) m.tells)
       of_move (Amend m) = untaken (ap (λ (d : Deed). d.taken) m.tells)
+      of_move (Operate m) = untaken (ap (λ (d : Deed). d.taken) m.tells)
       of_move (Cancel m) = untaken (ap (λ (d : Deed). d.taken) m.tells)
       of_move (Take m) =
           record {

@@ -2,9 +2,11 @@
 use Rattle.std.proofs.Common.{◌≡◌, ℕ, suc, zero, ◌+◌, ◌<◌, ◌≤◌, Bool, true, false, cond, not, ◌==◌, List, [], ◌∷◌, ◌++◌, length, map, Some, None, refl, sym, ap, ◌∙◌, subst, arith, filter, find, slice_get, eqb-true, eq-eqb, ne_eqb}
 use Rattle.tp_base.specs.declared.rows.Status.{Status}
 use Rattle.tp_base.specs.declared.rows.Status.TheVariants.{Expected, Issued, Pending, Running, Returned, Cancelled}
+use Rattle.tp_base.specs.declared.plans.IoStep.{IoStep}
+use Rattle.tp_base.specs.declared.plans.IoStep.TheVariants.{Issue, GiveUp, Complete}
 use Rattle.tp_base.specs.declared.rows.CallbackRow.{CallbackRow}
 use Rattle.tp_model.specs.Counts.{has_number, is_pending, is_running, is_live}
-use Rattle.tp_model.specs.Changes.{replaced}
+use Rattle.tp_model.specs.Changes.{replaced, status_before, status_after}
 use Rattle.tp_model.specs.Laws.Once.{is_left}
 use Rattle.tp_model.specs.Support.Sound.{IsRising}
 use Rattle.std.specs.List.{AllByRecursion}
@@ -34,6 +36,22 @@ over_not_running Pending e = refl
 over_not_running (Running worker associated slots) e = cc
 over_not_running Returned e = refl
 over_not_running Cancelled e = refl
+
+-- an operation runs nothing, before a step and after it
+pub before_idle : (how : IoStep) (s : Status) → s ≡ status_before how → is_running s ≡ false
+before_idle Issue s e = ap is_running e
+before_idle GiveUp s e = ap is_running e
+before_idle (Complete error bytes) s e = ap is_running e
+
+pub after_idle : (how : IoStep) → is_running (status_after how) ≡ false
+after_idle Issue = refl
+after_idle GiveUp = refl
+after_idle (Complete error bytes) = refl
+
+pub before_lives : (how : IoStep) (s : Status) → s ≡ status_before how → is_live s ≡ true
+before_lives Issue s e = ap is_live e
+before_lives GiveUp s e = ap is_live e
+before_lives (Complete error bytes) s e = ap is_live e
 
 pub pending_lives : (s : Status) → is_pending s ≡ true → is_live s ≡ true
 pending_lives Expected e = refl
@@ -193,6 +211,20 @@ found_bounds k low fresh c (d ∷ cs) h e =
           let least : low ≤ d.number = h.0 in
           (omega (arith, rest.0, least), rest.1)
     ] refl e
+
+-- what any test finds is found by its number
+pub find_numbered : (p : CallbackRow → Bool) (low fresh : ℕ) (cs : List CallbackRow) (c : CallbackRow) → IsRising low fresh cs → find p cs ≡ Some c → find (has_number c.number) cs ≡ Some c
+find_numbered p low fresh [] c h e = absurd cc
+find_numbered p low fresh (d ∷ cs) c h e =
+    elim (p d) as (λ b. cond b (Some d) (find p cs) ≡ Some c → find (has_number c.number) (d ∷ cs) ≡ Some c) [
+      | true ↦ λ found.
+          let same : d ≡ c = cc in
+          ap (λ b. cond b (Some d) (find (has_number c.number) cs)) (eq-eqb d.number c.number (ap (λ (x : CallbackRow). x.number) same)) ∙ found
+      | false ↦ λ found.
+          let rest = find_numbered p (d.number + 1) fresh cs c h.1 found in
+          let bounds = found_bounds c.number (d.number + 1) fresh c cs h.1 rest in
+          ap (λ b. cond b (Some d) (find (has_number c.number) cs)) (ne_eqb d.number c.number (λ is. omega (arith, is, bounds.0))) ∙ rest
+    ] e
 
 pub replaced_above : (r : CallbackRow) (low fresh : ℕ) (cs : List CallbackRow) → r.number < low → IsRising low fresh cs → replaced r cs ≡ cs
 replaced_above r low fresh [] lt h = refl

@@ -2,7 +2,7 @@
 use Rattle.std.proofs.Common.{◌≡◌, ℕ, ◌+◌, ◌≤◌, ◌^◌, arith}
 use Rattle.tp_base.specs.declared.ids.Who.{Who}
 use Rattle.tp_base.specs.declared.calls.Call.{Call}
-use Rattle.tp_base.specs.declared.calls.Call.TheVariants.{CreatePool, ClosePool, SetMaximum, SetMinimum, Create, CloseObject, SubmitSimple, SubmitWork, SetTimer, SetTimerEx, IsTimerSet, Advance, BeginWait, BeginAcquire, End, CreateEvent, CreateSemaphore, CreateLock, SetEvent, ResetEvent, ReleaseSemaphore, ReleaseLock, Attach, Detach, Take, Return, MayRunLong, Disassociate, OnReturn, Finish, SetWait}
+use Rattle.tp_base.specs.declared.calls.Call.TheVariants.{CreatePool, ClosePool, SetMaximum, SetMinimum, Create, CloseObject, SubmitSimple, SubmitWork, SetTimer, SetTimerEx, IsTimerSet, Advance, BeginWait, BeginAcquire, End, CreateEvent, CreateSemaphore, CreateLock, SetEvent, ResetEvent, ReleaseSemaphore, ReleaseLock, Attach, Detach, Take, Return, MayRunLong, Disassociate, OnReturn, Finish, SetWait, StartIo, IssueIo, CancelIo, CompleteIo}
 use Rattle.tp_base.specs.Ranges.{IsCallInRange}
 use Rattle.tp_model.specs.World.{World}
 use Rattle.tp_model.specs.Table.{plan_at}
@@ -18,6 +18,7 @@ pub mod Workers
 pub mod InCallback
 pub mod Kernels
 pub mod WaitObjects
+pub mod Io
 pub mod Waits
 pub mod Clients
 use Pools.{create_pool_safe, create_pool_forget, create_pool_ranged, close_pool_safe, close_pool_forget, close_pool_ranged, set_maximum_safe, set_maximum_forget, set_maximum_ranged, set_minimum_safe, set_minimum_forget, set_minimum_ranged}
@@ -28,6 +29,7 @@ use InCallback.{may_run_long_safe, may_run_long_forget, may_run_long_ranged, dis
 use Timers.{set_timer_safe, set_timer_forget, set_timer_ranged, set_timer_ex_safe, set_timer_ex_forget, set_timer_ex_ranged, is_timer_set_safe, is_timer_set_forget, is_timer_set_ranged, advance_safe, advance_forget, advance_ranged}
 use Kernels.{create_event_safe, create_event_forget, create_event_ranged, create_semaphore_safe, create_semaphore_forget, create_semaphore_ranged, create_lock_safe, create_lock_forget, create_lock_ranged, set_event_safe, set_event_forget, set_event_ranged, reset_event_safe, reset_event_forget, reset_event_ranged, release_semaphore_safe, release_semaphore_forget, release_semaphore_ranged, release_lock_safe, release_lock_forget, release_lock_ranged}
 use WaitObjects.{set_wait_safe, set_wait_forget, set_wait_ranged}
+use Io.{start_io_safe, start_io_forget, start_io_ranged, issue_io_safe, issue_io_forget, issue_io_ranged, cancel_io_safe, cancel_io_forget, cancel_io_ranged, complete_io_safe, complete_io_forget, complete_io_ranged}
 use Waits.{begin_wait_safe, begin_wait_forget, begin_wait_ranged, begin_acquire_safe, begin_acquire_forget, begin_acquire_ranged, end_safe, end_forget, end_ranged}
 use Clients.{finish_safe, finish_forget, finish_ranged}
 
@@ -46,6 +48,10 @@ plan_safe fresh room w who (SetTimerEx object due period window) s = set_timer_e
 plan_safe fresh room w who (IsTimerSet object) s = is_timer_set_safe fresh w who object
 plan_safe fresh room w who (Advance ticks) s = advance_safe fresh w who ticks s
 plan_safe fresh room w who (SetWait object kernel timeout) s = set_wait_safe fresh w who object kernel timeout
+plan_safe fresh room w who (StartIo object) s = start_io_safe fresh w who object s
+plan_safe fresh room w who (IssueIo object) s = issue_io_safe w who object fresh s
+plan_safe fresh room w who (CancelIo object) s = cancel_io_safe w who object fresh s
+plan_safe fresh room w who (CompleteIo callback error bytes) s = complete_io_safe w who callback error bytes fresh
 plan_safe fresh room w who (BeginWait kind object cancel) s = begin_wait_safe fresh w who kind object cancel
 plan_safe fresh room w who End s = end_safe fresh room w who s
 plan_safe fresh room w who (BeginAcquire kernel) s = begin_acquire_safe fresh w who kernel
@@ -80,6 +86,10 @@ plan_forget fresh room w who (SetTimerEx object due period window) s = set_timer
 plan_forget fresh room w who (IsTimerSet object) s = is_timer_set_forget fresh w who object
 plan_forget fresh room w who (Advance ticks) s = advance_forget fresh w who ticks
 plan_forget fresh room w who (SetWait object kernel timeout) s = set_wait_forget fresh w who object kernel timeout
+plan_forget fresh room w who (StartIo object) s = start_io_forget fresh w who object
+plan_forget fresh room w who (IssueIo object) s = issue_io_forget w who object
+plan_forget fresh room w who (CancelIo object) s = cancel_io_forget w who object
+plan_forget fresh room w who (CompleteIo callback error bytes) s = complete_io_forget w who callback error bytes fresh s
 plan_forget fresh room w who (BeginWait kind object cancel) s = begin_wait_forget fresh w who kind object cancel s
 plan_forget fresh room w who End s = end_forget fresh room w who s
 plan_forget fresh room w who (BeginAcquire kernel) s = begin_acquire_forget w who kernel
@@ -107,7 +117,7 @@ module _ (fresh : ℕ) (w : World) (few : fresh + 65536 ≤ 2 ^ 64) (s : IsSound
   plan_ranged room who (SetMaximum pool value) c = set_maximum_ranged w who pool value
   plan_ranged room who (SetMinimum pool value) c = set_minimum_ranged w who pool value
   plan_ranged room who (Create kind routine context env) c = create_ranged w who kind routine context env g c
-  plan_ranged room who (CloseObject kind object) c = close_object_ranged w who kind object
+  plan_ranged room who (CloseObject kind object) c = close_object_ranged w who kind object c
   plan_ranged room who (SubmitSimple routine context env) c = submit_simple_ranged fresh w who routine context env (omega (arith, few)) c
   plan_ranged room who (SubmitWork object) c = submit_work_ranged fresh w who object (omega (arith, few)) g c
   plan_ranged room who (SetTimer object due period window) c = set_timer_ranged fresh w who object due period window few g c
@@ -115,6 +125,10 @@ module _ (fresh : ℕ) (w : World) (few : fresh + 65536 ≤ 2 ^ 64) (s : IsSound
   plan_ranged room who (IsTimerSet object) c = is_timer_set_ranged fresh w who object
   plan_ranged room who (Advance ticks) c = advance_ranged fresh w who ticks few s g
   plan_ranged room who (SetWait object kernel timeout) c = set_wait_ranged fresh w who object kernel timeout few g c
+  plan_ranged room who (StartIo object) c = start_io_ranged fresh w who object (omega (arith, few)) g c
+  plan_ranged room who (IssueIo object) c = issue_io_ranged w who object g
+  plan_ranged room who (CancelIo object) c = cancel_io_ranged w who object g
+  plan_ranged room who (CompleteIo callback error bytes) c = complete_io_ranged w who callback error bytes g c
   plan_ranged room who (BeginWait kind object cancel) c = begin_wait_ranged w who kind object cancel g
   plan_ranged room who End c = end_ranged room w who g
   plan_ranged room who (BeginAcquire kernel) c = begin_acquire_ranged w who kernel c

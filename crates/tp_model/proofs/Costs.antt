@@ -28,12 +28,12 @@ use Rattle.tp_base.specs.declared.ids.ObjectId.{ObjectId}
 use Rattle.tp_model.specs.Sources.{firing, sources_of}
 use Rattle.tp_model.specs.World.{World, BegunWait, unattached, unfinished}
 use Rattle.tp_model.specs.Counts.{numbered, has_number, is_pending, is_running, owed}
-use Rattle.tp_model.specs.Changes.{replaced, with_new_callback, with_callback, with_worker, with_client, change_pool, taken, marked, returned, changed, loosened, release_object, new_wait, without_wait}
+use Rattle.tp_model.specs.Changes.{replaced, with_new_callback, with_callback, with_worker, with_client, change_pool, taken, marked, operated, returned, changed, loosened, release_object, new_wait, without_wait}
 use Rattle.tp_model.specs.Support.Sound.{IsSound, IsWaitSound, AreApart}
 use Rattle.tp_model.specs.Support.Allowed.{IsAllowed, IsTargetMade, price}
 use Rattle.tp_model.proofs.Firing.{running_appended}
 use Rattle.tp_model.proofs.Lists.{length_filter_set}
-use Rattle.tp_model.proofs.Callbacks.{length_filter_replaced, pending_not_running}
+use Rattle.tp_model.proofs.Callbacks.{length_filter_replaced, pending_not_running, before_idle, after_idle}
 use Rattle.tp_model.proofs.Cancelling.{cancelled_pending, count_uncancelled}
 use Rattle.tp_model.proofs.Preserving.{sound_begin_wait, sound_end_wait}
 use Rattle.tp_model.proofs.Refusals.{neither, numbered_some, same_actor_is}
@@ -188,6 +188,8 @@ paid fresh w (change.ChangePool pool how) s a = omega (arith, owed_change_pool w
 paid fresh w (change.CreateObject row) s a = omega arith
 paid fresh w (change.ReleaseObject object) s a = omega (arith, owed_release w object (numbered w.objects object.0))
 paid fresh w (change.QueueCallback c) s a = omega (arith, owed_new_callback w c (pending_not_running c.status a.pending))
+paid fresh w (change.ExpectCallback c) s a = omega (arith, owed_new_callback w c (ap is_running a.expected))
+paid fresh w (change.Operate c how) s a = omega (arith, owed_same fresh w (operated how c) c s a.found (after_idle how ∙ sym (before_idle how c.status a.status)))
 paid fresh w (change.Fire trigger first count) s a =
     omega (arith, ap length (running_appended w.callbacks w.objects first (firing trigger (sources_of w)).jobs))
 paid fresh w (change.CreateKernel state) s a = omega arith

@@ -1,5 +1,5 @@
 -- What an entry of a legal history leads to, and what is kept along a history.
-use Rattle.std.proofs.Common.{◌≡◌, ℕ, ◌+◌, true, false, cond, List, [], ◌∷◌, ◌++◌, length, nat_lt, Some, refl, sym, ap, ◌∙◌, append_assoc, subst, arith, ap₂, Option, None}
+use Rattle.std.proofs.Common.{◌≡◌, ℕ, ◌+◌, Bool, true, false, cond, List, [], ◌∷◌, ◌++◌, length, nat_lt, Some, refl, sym, ap, ◌∙◌, append_assoc, subst, arith, ap₂, Option, None}
 use Rattle.std.proofs.lemmas.List.{append-nil}
 use Rattle.tp_base.specs.declared.rows.WaitTarget.{WaitTarget}
 use Rattle.tp_base.specs.declared.rows.WaitTarget.TheVariants.{Object, Group, Kernel}
@@ -23,14 +23,14 @@ use Rattle.tp_model.specs.Table.{plan, step}
 use Rattle.tp_model.specs.History.{is_refusal, change_of, change_told, led_by, led_to, after_from, room, IsLegalFrom, wait_end}
 use Rattle.tp_model.specs.Support.Sound.{IsSound, is_wait_at}
 use Rattle.tp_model.specs.Support.Safe.{IsSafeChange}
-use Rattle.tp_model.specs.Laws.Entries.{is_return_call, is_disassociate_call, is_end_call}
+use Rattle.tp_model.specs.Laws.Entries.{is_return_call, is_disassociate_call, is_end_call, is_complete_call}
 use Rattle.tp_model.specs.Refusing.{first_refusal, unless_refused}
 use Rattle.tp_model.specs.Waits.{wait_of, held}
 use Rattle.tp_model.specs.Calls.Waits.{end_refusals, end_for, end_held, end_wait, end_plan, holds_starved}
 use Rattle.tp_base.specs.declared.answers.Look.TheVariants as look
 use Rattle.tp_base.specs.declared.plans.WaitEnd.TheVariants as how
 use Rattle.tp_base.specs.declared.plans.Change.TheVariants as changes
-use Rattle.tp_model.specs.Support.Told.{nothing, told, told_by}
+use Rattle.tp_model.specs.Support.Told.{deed_by, nothing, told, told_by}
 use Rattle.tp_model.specs.Support.Moves.{Stay, Keep, Leads}
 use Rattle.tp_model.proofs.Growing.{grows}
 use Rattle.tp_model.proofs.Preserving.{changed_sound}
@@ -53,10 +53,11 @@ refused_leads w who call refusal =
       moves = record {
         kept = w.callbacks;
         new = [];
-        move = Stay (record { tells = ap₂ (λ b c. record nothing { returned = b; loosened = c }) (and_false (is_return_call call)) (and_false (is_disassociate_call call)); callbacks = refl; workers = refl });
+        move = Stay (record { tells = deed_refused; callbacks = refl; workers = refl });
         rows = tt;
-        made = refl;
-        queued = refl;
+        made = none_either (is_complete_call call);
+        queued = none_either (is_complete_call call);
+        started = refl;
         callbacks = sym (append-nil w.callbacks);
         arms = λ object wait. omega arith;
       };
@@ -65,6 +66,15 @@ refused_leads w who call refusal =
       objects = record { waits = λ object. sym (or_false (is_wait_at w.objects object)); new = λ object makes. absurd (false_true makes) };
       maxima = λ pool. refl;
     }
+  where
+    none_either : (b : Bool) → ◌≡◌ {A = List ℕ} (cond b [] []) []
+    none_either true = refl
+    none_either false = refl
+
+    deed_refused : deed_by (record { who = who; call = call; answer = answer.Refused refusal }) ≡ nothing
+    deed_refused =
+        ap₂ (λ b c. record nothing { returned = b; loosened = c; completed = cond (is_complete_call call) [] [] }) (and_false (is_return_call call)) (and_false (is_disassociate_call call))
+        ∙ ap (λ (ns : List ℕ). record nothing { completed = ns }) (none_either (is_complete_call call))
 
 -- the answer of End tells how the wait ends
 told_end : (w : World) (left : ℕ) (who : Who) (a : Answer) (ch : Change) → end_plan w left who ≡ plans.Does a ch → wait_end who a ≡ Some ch

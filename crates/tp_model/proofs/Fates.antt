@@ -5,26 +5,22 @@ use Rattle.tp_model.specs.Laws.Entries.{Run, run_by}
 use Rattle.tp_base.specs.declared.answers.Entry.{Entry}
 use Rattle.tp_base.specs.declared.rows.Status.{Status}
 use Rattle.tp_base.specs.declared.rows.Status.TheVariants.{Expected, Issued, Pending, Running, Returned, Cancelled}
+use Rattle.tp_base.specs.declared.plans.IoStep.{IoStep}
+use Rattle.tp_base.specs.declared.plans.IoStep.TheVariants.{Issue, GiveUp, Complete}
 use Rattle.tp_base.specs.declared.rows.CallbackRow.{CallbackRow}
 use Rattle.tp_base.specs.declared.rows.WorkerRow.{WorkerRow}
 use Rattle.tp_base.specs.declared.rows.WaitTarget.{WaitTarget}
 use Rattle.tp_base.specs.declared.rows.WaitTarget.TheVariants.{Object, Group, Kernel}
 use Rattle.tp_model.specs.World.{World}
-use Rattle.tp_model.specs.Counts.{has_number, is_pending}
-use Rattle.tp_model.specs.Changes.{replaced, taken, returned}
+use Rattle.tp_model.specs.Counts.{has_number, is_operating, is_pending}
+use Rattle.tp_model.specs.Changes.{replaced, taken, returned, status_before, operated}
 use Rattle.tp_model.specs.Waits.{is_held_for, cancelled, cancel_where}
 use Rattle.tp_model.specs.Laws.Once.{is_left}
-use Rattle.tp_model.specs.Support.Moves.{asked_slots, Move, Stay, Mark, Attach, Detach, Take, Return, Amend, Cancel, Moves, run_of}
+use Rattle.tp_model.specs.Support.Moves.{asked_slots, Move, Stay, Mark, Attach, Detach, Take, Return, Amend, Operate, Cancel, Moves, run_of}
 use Rattle.tp_model.proofs.Cancelling.{cancelled_found, find_cancelled, cancelled_if}
 use Rattle.tp_model.proofs.Callbacks.{find_replaced, find_replaced_other}
 use Rattle.tp_model.proofs.Places.{find_either}
 use Rattle.tp_model.proofs.Refusals.{both, false_true}
-
--- its operation is announced or under way
-abbrev pub is_operating : Status → Bool
-is_operating Expected = true
-is_operating Issued = true
-is_operating _ = false
 
 -- what never comes back: being held, being left to be run, having an operation
 pub record Follows (old new : Status) : Type 0 where
@@ -64,6 +60,31 @@ follows_over old new unheld unleft idle =
       left = λ h. absurd (false_true (sym unleft ∙ h));
       operating = λ h. absurd (false_true (sym idle ∙ h));
     }
+
+-- an operation that goes a step was announced or under way
+pub before_operates : (how : IoStep) (s : Status) → s ≡ status_before how → is_operating s ≡ true
+before_operates Issue s e = ap is_operating e
+before_operates GiveUp s e = ap is_operating e
+before_operates (Complete error bytes) s e = ap is_operating e
+
+operating_held : (target : WaitTarget) (s : Status) → is_operating s ≡ true → is_held_for target s ≡ true
+operating_held target Expected e = refl
+operating_held target Issued e = refl
+operating_held target Pending e = refl
+operating_held target (Running worker associated slots) e = absurd (false_true e)
+operating_held target Returned e = absurd (false_true e)
+operating_held target Cancelled e = absurd (false_true e)
+
+pub operating_left : (s : Status) → is_operating s ≡ true → is_left s ≡ true
+operating_left Expected e = refl
+operating_left Issued e = refl
+operating_left Pending e = refl
+operating_left (Running worker associated slots) e = absurd (false_true e)
+operating_left Returned e = absurd (false_true e)
+operating_left Cancelled e = absurd (false_true e)
+
+follows_operating : (old new : Status) → is_operating old ≡ true → Follows old new
+follows_operating old new e = record { held = λ target _. operating_held target old e; left = λ _. operating_left old e; operating = λ _. e }
 
 -- the row of a number was there before, with the same object
 pub record WasRow (w : World) (n : ℕ) (c : CallbackRow) : Type 0 where
@@ -105,7 +126,7 @@ cancelled_was w n test c found = of_row (find (has_number n) w.callbacks) refl (
     of_row None was e = absurd cc
     of_row (Some d) was e = of_test d (test d) was cc
 
-move_was : (w : World) (entry : Entry) (kept : List CallbackRow) (staff : List WorkerRow) (n : ℕ) (c : CallbackRow) → Move w entry kept staff → find (has_number n) kept ≡ Some c → WasRow w n c
+pub move_was : (w : World) (entry : Entry) (kept : List CallbackRow) (staff : List WorkerRow) (n : ℕ) (c : CallbackRow) → Move w entry kept staff → find (has_number n) kept ≡ Some c → WasRow w n c
 move_was w entry kept staff n c (Stay m) found = same_found w n kept c m.callbacks found
 move_was w entry kept staff n c (Mark m) found = replaced_found w n m.new m.old c m.found m.object (follows_same m.old.status m.new.status m.status) (ap (find (has_number n)) (sym m.callbacks) ∙ found)
 move_was w entry kept staff n c (Attach m) found = same_found w n kept c m.callbacks found
@@ -125,6 +146,9 @@ move_was w entry kept staff n c (Amend m) found =
     still_held (Object object) h = ap (is_held_for (Object object)) m.running ∙ (both m.associated (not m.loose) h).0
     still_held (Group group) h = ap (is_held_for (Group group)) m.running
     still_held (Kernel kernel) h = absurd (false_true h)
+move_was w entry kept staff n c (Operate m) found =
+    replaced_found w n (operated m.how m.callback) m.callback c m.found refl
+    (follows_operating m.callback.status (operated m.how m.callback).status (before_operates m.how m.callback.status m.status)) (ap (find (has_number n)) (sym m.callbacks) ∙ found)
 move_was w entry kept staff n c (Cancel m) found = cancelled_was w n m.test c (ap (find (has_number n)) (sym m.callbacks) ∙ found)
 
 -- and what was not there is new
@@ -153,6 +177,7 @@ taken_from w entry kept staff run (Attach m) e = absurd (let h = sym (ap (λ (d 
 taken_from w entry kept staff run (Detach m) e = absurd (let h = sym (ap (λ (d : Deed). d.run) m.tells) ∙ e in cc)
 taken_from w entry kept staff run (Return m) e = absurd (let h = sym (ap (λ (d : Deed). d.run) m.tells) ∙ e in cc)
 taken_from w entry kept staff run (Amend m) e = absurd (let h = sym (ap (λ (d : Deed). d.run) m.tells) ∙ e in cc)
+taken_from w entry kept staff run (Operate m) e = absurd (let h = sym (ap (λ (d : Deed). d.run) m.tells) ∙ e in cc)
 taken_from w entry kept staff run (Cancel m) e = absurd (let h = sym (ap (λ (d : Deed). d.run) m.tells) ∙ e in cc)
 
 -- the row of a number goes on, with the same object
@@ -185,6 +210,8 @@ move_goes_on w entry kept staff n c (Mark m) found = replaced_goes_on w.callback
 move_goes_on w entry kept staff n c (Take m) found = replaced_goes_on w.callbacks kept (taken m.callback m.worker) m.callback n c m.callbacks m.found refl found
 move_goes_on w entry kept staff n c (Return m) found = replaced_goes_on w.callbacks kept (returned m.callback) m.callback n c m.callbacks m.found refl found
 move_goes_on w entry kept staff n c (Amend m) found = replaced_goes_on w.callbacks kept (record m.callback { status = Running m.worker (m.associated && not m.loose) (asked_slots m.asks m.slots) }) m.callback n c m.callbacks m.found refl found
+move_goes_on w entry kept staff n c (Operate m) found =
+    replaced_goes_on w.callbacks kept (operated m.how m.callback) m.callback n c m.callbacks m.found refl found
 move_goes_on w entry kept staff n c (Cancel m) found =
     record {
       new = cancelled_if m.test c;

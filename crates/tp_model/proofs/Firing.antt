@@ -29,7 +29,7 @@ use Rattle.tp_model.specs.Kernels.{is_one_that}
 use Rattle.tp_model.specs.Sources.{Sources, Job, Firing, job, jobless, with_state, disarmed, release_to, release_first, release_times, signal, arm, expiry_job, firing, sources_of, rows_of, object_row, no_object}
 use Rattle.tp_model.specs.Support.Allowed.{IsReady, IsTimer}
 use Rattle.tp_model.specs.Support.Sound.{IsMade, is_wait_at, may_be_armed}
-use Rattle.tp_model.specs.Support.Moves.{AreNew, numbers_of, waiting_of}
+use Rattle.tp_model.specs.Support.Moves.{AreNew, numbers_of, waiting_of, expecting_of}
 use Rattle.tp_model.proofs.Lists.{all_filter, all_get, all_append, find_all}
 use Rattle.tp_model.proofs.Refusals.{numbered_some, made, both, false_true}
 
@@ -46,6 +46,10 @@ numbers_rows objects fresh (j ∷ js) = ap (λ ns. fresh ∷ ns) (numbers_rows o
 pub waiting_rows : (objects : List ObjectRow) (fresh : ℕ) (jobs : List Job) → waiting_of (rows_of objects fresh jobs) ≡ range_with_len fresh (length jobs)
 waiting_rows objects fresh [] = refl
 waiting_rows objects fresh (j ∷ js) = ap (λ ns. fresh ∷ ns) (waiting_rows objects (fresh + 1) js)
+
+pub expecting_rows : (objects : List ObjectRow) (fresh : ℕ) (jobs : List Job) → expecting_of (rows_of objects fresh jobs) ≡ []
+expecting_rows objects fresh [] = refl
+expecting_rows objects fresh (j ∷ js) = expecting_rows objects (fresh + 1) js
 
 pub new_rows : (objects : List ObjectRow) (fresh : ℕ) (jobs : List Job) → AreNew fresh (rows_of objects fresh jobs)
 new_rows objects fresh [] = tt

@@ -28,7 +28,7 @@ use Rattle.tp_model.specs.World.{World, BegunWait}
 use Rattle.tp_model.specs.Counts.{numbered, has_number, is_live, is_running, is_pending_in, is_running_in, is_running_long_in, is_high, is_normal, is_low, waiting, queue, next, pending, running, running_long, slots, owed, is_in_need, is_below_minimum}
 use Rattle.tp_model.specs.Conditions.{busy_row, busy_in, busy_of}
 use Rattle.tp_model.specs.Refusing.{first_refusal, unless_refused}
-use Rattle.tp_model.specs.Changes.{with_new_pool, with_object, with_worker, with_client, change_pool, pool_after, with_pool, replaced, taken, marked, returned, finished, changed, release_object, without_wait, end_wait, kernels_taken, kernels_left}
+use Rattle.tp_model.specs.Changes.{with_new_pool, with_object, with_worker, with_client, change_pool, pool_after, with_pool, replaced, taken, marked, operated, returned, finished, changed, release_object, without_wait, end_wait, kernels_taken, kernels_left}
 use Rattle.tp_base.specs.declared.plans.WaitEnd.{WaitEnd}
 use Rattle.tp_base.specs.declared.plans.WaitEnd.TheVariants.{Free, Exhausted}
 use Rattle.tp_model.specs.Actions.{slots_of, returning}
@@ -37,7 +37,7 @@ use Rattle.tp_model.specs.Support.Sound.{IsSound, IsWorkerSound, AreWorkersSound
 use Rattle.tp_model.specs.Support.Allowed.{IsAllowed}
 use Rattle.tp_model.specs.Support.Remembered.{lives, forget}
 use Rattle.tp_model.proofs.Lists.{filter_filter, find_kept, all_filter}
-use Rattle.tp_model.proofs.Callbacks.{over_not_left, over_not_pending, over_not_running, pending_lives, rising_filter, filter_replaced_out, filter_replaced_filter, found_all, find_above}
+use Rattle.tp_model.proofs.Callbacks.{over_not_left, over_not_pending, over_not_running, pending_lives, before_lives, rising_filter, filter_replaced_out, filter_replaced_filter, found_all, find_above}
 use Rattle.tp_model.proofs.Cancelling.{IsPendingTest, cancelled_pending, cancelled_if}
 use Rattle.tp_model.proofs.Preserving.{worker_at}
 use Rattle.tp_model.proofs.Waiting.{AreLeftOver, waits_still}
@@ -256,6 +256,10 @@ changed_forget fresh w (change.ChangePool pool how) s a = change_pool_forget w p
 changed_forget fresh w (change.CreateObject row) s a = live_forgotten (with_object w row)
 changed_forget fresh w (change.ReleaseObject object) s a = release_forget w object (numbered w.objects object.0)
 changed_forget fresh w (change.QueueCallback c) s a = appended_forget w (c ∷ [])
+changed_forget fresh w (change.ExpectCallback c) s a = appended_forget w (c ∷ [])
+changed_forget fresh w (change.Operate c how) s a =
+    let r : CallbackRow = operated how c in
+    as_live w (replaced r (filter lives w.callbacks)) (replaced r w.callbacks) (replaced_forget fresh w r c s refl a.found (before_lives how c.status a.status))
 changed_forget fresh w (change.Fire trigger first count) s a =
     let f : Firing = firing trigger (sources_of w) in
     appended_forget (record w { settings = f.sources.settings; armings = f.sources.armings; kernels = f.sources.kernels; now = f.sources.now }) (rows_of w.objects first f.jobs)

@@ -8,7 +8,7 @@ use Rattle.tp_base.specs.declared.rows.ObjectRow.{ObjectRow}
 use Rattle.tp_base.specs.declared.ids.ObjectId.{ObjectId}
 use Rattle.tp_model.specs.World.{World}
 use Rattle.tp_model.specs.Sources.{Job, firing, sources_of, rows_of}
-use Rattle.tp_model.specs.Changes.{change_pool, replaced, taken, marked, returned, changed, release_object}
+use Rattle.tp_model.specs.Changes.{change_pool, replaced, taken, marked, operated, returned, changed, release_object}
 use Rattle.tp_model.specs.Actions.{slots_of, returning}
 use Rattle.tp_model.specs.Counts.{numbered}
 use Rattle.tp_model.specs.Waits.{is_cancelled_by}
@@ -32,6 +32,8 @@ grows fresh w (change.ChangePool pool how) a = same_callbacks w pool.0 how (slic
 grows fresh w (change.CreateObject row) a = omega arith
 grows fresh w (change.ReleaseObject object) a = released w object (numbered w.objects object.0)
 grows fresh w (change.QueueCallback c) a = length-append w.callbacks (c ∷ [])
+grows fresh w (change.ExpectCallback c) a = length-append w.callbacks (c ∷ [])
+grows fresh w (change.Operate c how) a = omega (arith, length_replaced (operated how c) w.callbacks)
 grows fresh w (change.Fire trigger first count) a =
     let jobs : List Job = (firing trigger (sources_of w)).jobs in
     omega (arith, length-append w.callbacks (rows_of w.objects first jobs), length_rows w.objects first jobs, a.counted)

@@ -30,6 +30,8 @@ use Rattle.tp_model.specs.Laws.Maximum.{IsWithinMaximum}
 use Rattle.tp_model.proofs.Preserving.{opening_sound}
 use Rattle.tp_model.proofs.Entries.{fresh_in, LeadsOn, entry_leads, IsKept, kept_to_end, kept_to_entry, Reached}
 use Rattle.tp_model.proofs.Once.{AgreesAfter, agrees_on, takes_ready, takes_uncancelled, made_in_order, taken_once, left_untaken, made_are}
+use Rattle.tp_model.specs.Laws.Io.{AreOperated}
+use Rattle.tp_model.proofs.Io.{AreOnTheirWay, on_their_way_more, are_operated_after}
 use Rattle.tp_model.specs.Laws.Armed.{AreArmed}
 use Rattle.tp_model.proofs.Armed.{ArmedAfter, opening_armed, armed_more, are_armed_after}
 use Rattle.tp_model.proofs.Maximum.{IsStaffed, is_staffed_on, takes_below, opening_staffed}
@@ -44,6 +46,7 @@ pub record Holds (limits : Limits) (history : List Entry) (w : World) : Type 0 w
   pub promises : Promises history w
   pub acting : AreActing history w
   pub armed : ArmedAfter history w
+  pub on_their_way : AreOnTheirWay history w
 
 -- before an entry that takes a callback, the callback is pending
 record TakesPending (limits : Limits) (before : List Entry) (entry : Entry) (run : Run) : Type 0 where
@@ -61,10 +64,11 @@ opening_holds limits =
       agrees = record { in_order = refl; taken_begun = λ n. refl; pending_queued = λ n c found waits. absurd cc; named_cancelled = λ n named. absurd cc; as_many_taken = refl; as_many_cancelled = refl };
       staffed = opening_staffed limits;
       runs = λ earlier later entry run split. absurd (no_place earlier entry later split);
-      ready = record { ready = λ n c among found. absurd cc };
+      ready = record { past = λ n among. absurd cc; ready = λ n c among found. absurd cc };
       promises = λ before between begin b split. absurd (no_place before begin between split);
       acting = λ before between taken split. absurd (no_place before taken between split);
       armed = opening_armed limits;
+      on_their_way = λ n. refl;
     }
 
 keeps : (limits : Limits) → IsKept (Holds limits)
@@ -79,6 +83,7 @@ keeps limits before w left entry h told =
       promises = promises_more before w entry (led_to w entry) h.sound.numbers h.agrees h.ready on.leads h.promises;
       acting = are_acting_more (fresh_in w) before w entry (led_to w entry) on.leads.moves h.acting;
       armed = armed_more before w entry (led_to w entry) h.sound on.sound h.agrees h.armed on.leads;
+      on_their_way = on_their_way_more before w entry (led_to w entry) h.sound.numbers h.on_their_way on.leads.moves;
     }
 
 module _ (limits : Limits) (capacity : ℕ) (history : List Entry) (legal : IsLegal limits capacity history) where
@@ -209,8 +214,11 @@ module _ (limits : Limits) (capacity : ℕ) (history : List Entry) (legal : IsLe
   pub are_armed : AreArmed history
   are_armed = are_armed_after history (after limits history) at_end.armed
 
+  pub are_operated : AreOperated history
+  are_operated = are_operated_after history (after limits history) at_end.on_their_way
+
   pub keeps_laws : KeepsLaws limits history
-  keeps_laws = record { once = are_once; maximum = is_within_maximum; covered = are_covered; actions = are_actions; armed = are_armed }
+  keeps_laws = record { once = are_once; maximum = is_within_maximum; covered = are_covered; actions = are_actions; armed = are_armed; operated = are_operated }
 
   -- what a pool's worker takes next comes first of what is pending there
   pub next_is_first : (pool : ℕ) → IsNextOrNone (after limits history) pool (next (after limits history) pool)

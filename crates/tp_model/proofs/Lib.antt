@@ -17,6 +17,8 @@ pub mod First
 pub mod Forgetting
 pub mod Growing
 mod LawExamples
+pub mod Io
+mod IoExamples
 pub mod Kernels
 pub mod Laws
 pub mod Lists

@@ -30,6 +30,15 @@ find_kept {X} p q c kept (x ∷ xs) e =
     ] refl e
 
 -- what is found passes the test
+-- what fails q fails p too, so that p finds the same among what passes q
+pub find_filter : {X : Type 0} (p q : X → Bool) → ((x : X) → q x ≡ false → p x ≡ false) → (xs : List X) → find p (filter q xs) ≡ find p xs
+find_filter p q over [] = refl
+find_filter p q over (x ∷ xs) =
+    elim (q x) as (λ b. q x ≡ b → find p (cond b (x ∷ filter q xs) (filter q xs)) ≡ cond (p x) (Some x) (find p xs)) [
+      | true ↦ λ _. ap (λ t. cond (p x) (Some x) t) (find_filter p q over xs)
+      | false ↦ λ e. find_filter p q over xs ∙ sym (ap (λ b. cond b (Some x) (find p xs)) (over x e))
+    ] refl
+
 pub find_passes : {X : Type 0} (p : X → Bool) (c : X) (xs : List X) → find p xs ≡ Some c → p c ≡ true
 find_passes p c [] e = cc
 find_passes {X} p c (x ∷ xs) e =

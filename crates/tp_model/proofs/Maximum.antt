@@ -17,16 +17,16 @@ use Rattle.tp_base.specs.declared.limits.Limits.{Limits}
 use Rattle.tp_model.specs.World.{World, opening, unattached}
 use Rattle.tp_model.specs.Counts.{numbered, is_running, is_running_in, is_attached_to, running}
 use Rattle.tp_base.specs.Actors.{is_same_actor}
-use Rattle.tp_model.specs.Changes.{replaced, taken as taken_row, returned}
+use Rattle.tp_model.specs.Changes.{replaced, taken as taken_row, operated, returned}
 use Rattle.tp_model.specs.Support.Sound.{IsSound, IsWorkerSound, AreWorkersSound}
 use Rattle.tp_model.specs.Laws.Entries.{is_taken, is_returned, attached_by, taken_by, is_by, run_after, pool_after, is_within_run, last_pool, maximum_after, told_maximum}
 use Rattle.tp_model.specs.Laws.Maximum.{runs_in, count_running, TakesBelowMaximum}
-use Rattle.tp_model.specs.Support.Told.{Deed, deed_by, nothing}
-use Rattle.tp_model.specs.Support.Moves.{Asking, asked_slots, Move, Stay, Mark, Attach, Detach, Take, Return, Moves, AreNew, is_new, Leads, IsFree, maximum_at, put, Amend, Cancel}
+use Rattle.tp_model.specs.Support.Told.{Deed, deed_by, deed_of, nothing}
+use Rattle.tp_model.specs.Support.Moves.{Asking, asked_slots, Move, Stay, Mark, Attach, Detach, Take, Return, Moves, AreNew, is_new, Leads, IsFree, maximum_at, put, Amend, Operate, Cancel}
 use Rattle.tp_model.proofs.Lists.{length_filter_set}
 use Rattle.tp_model.specs.Waits.{cancel_where}
 use Rattle.tp_model.proofs.Cancelling.{count_uncancelled}
-use Rattle.tp_model.proofs.Callbacks.{length_filter_replaced, pending_not_running}
+use Rattle.tp_model.proofs.Callbacks.{length_filter_replaced, pending_not_running, before_idle, after_idle}
 use Rattle.tp_model.proofs.Refusals.{numbered_some, false_true, and_false}
 use Rattle.tp_model.proofs.Once.{one_if}
 
@@ -250,6 +250,16 @@ module _ (limits : Limits) (before : List Entry) (w : World) (entry : Entry) (ke
       as_many pool =
           let alike : one_if (is_running_in pool d) ≡ one_if (is_running_in pool m.callback) = sym (ap (λ (t : Status). one_if (is_running t && (m.callback.pool.0 == pool))) m.running) in
           omega (arith, length_filter_replaced (is_running_in pool) d m.callback 1 (length w.callbacks + 1) w.callbacks s.numbers m.found, alike)
+  staffed_on (Operate m) = staffed_same (deed_of m.callback.number m.how) m.tells refl refl refl m.workers (λ pool. running_callbacks (replaced d w.callbacks) m.callbacks pool ∙ as_many pool)
+    where
+      d : CallbackRow
+      d = operated m.how m.callback
+
+      as_many : (pool : ℕ) → length (filter (is_running_in pool) (replaced d w.callbacks)) ≡ length (filter (is_running_in pool) w.callbacks)
+      as_many pool =
+          let was : one_if (is_running_in pool m.callback) ≡ 0 = ap (λ b. one_if (b && (m.callback.pool.0 == pool))) (before_idle m.how m.callback.status m.status) in
+          let now : one_if (is_running_in pool d) ≡ 0 = ap (λ b. one_if (b && (m.callback.pool.0 == pool))) (after_idle m.how) in
+          omega (arith, length_filter_replaced (is_running_in pool) d m.callback 1 (length w.callbacks + 1) w.callbacks s.numbers m.found, was, now)
   staffed_on (Cancel m) =
       staffed_same (record nothing { count = length (filter m.test w.callbacks) }) m.tells refl refl refl m.workers
       (λ pool. running_callbacks (cancel_where m.test w.callbacks) m.callbacks pool
@@ -365,6 +375,7 @@ module _ (limits : Limits) (before : List Entry) (w : World) (entry : Entry) (af
   takes_by kept staff (Attach m) worker pool by takes home = absurd (false_true (sym (ap (λ (t : Deed). is_some t.taken) m.tells) ∙ takes))
   takes_by kept staff (Detach m) worker pool by takes home = absurd (false_true (sym (ap (λ (t : Deed). is_some t.taken) m.tells) ∙ takes))
   takes_by kept staff (Amend m) worker pool by takes home = absurd (false_true (sym (ap (λ (t : Deed). is_some t.taken) m.tells) ∙ takes))
+  takes_by kept staff (Operate m) worker pool by takes home = absurd (false_true (sym (ap (λ (t : Deed). is_some t.taken) m.tells) ∙ takes))
   takes_by kept staff (Cancel m) worker pool by takes home = absurd (false_true (sym (ap (λ (t : Deed). is_some t.taken) m.tells) ∙ takes))
   takes_by kept staff (Return m) worker pool by takes home = absurd (false_true (sym (ap (λ (t : Deed). is_some t.taken) m.tells) ∙ takes))
 

@@ -31,7 +31,7 @@ use Rattle.std.specs.List.{range_with_len}
 use Rattle.tp_base.specs.declared.ids.ObjectId.{ObjectId}
 use Rattle.tp_model.specs.Sources.{Job, firing, sources_of, rows_of}
 use Rattle.tp_model.specs.World.{World, new_pool, unattached, BegunWait}
-use Rattle.tp_model.specs.Counts.{is_pending, numbered, has_number}
+use Rattle.tp_model.specs.Counts.{is_expected, is_pending, numbered, has_number}
 use Rattle.tp_model.specs.Changes.{returned, change_pool, pool_after, with_pool, with_object, marked, changed, replaced, loosened, release_object, new_wait, end_wait}
 use Rattle.tp_base.specs.Actors.{is_same_actor}
 use Rattle.tp_base.specs.declared.calls.Kind.{Kind}
@@ -40,10 +40,10 @@ use Rattle.tp_model.specs.Conditions.{is_in_wait, is_same_kind}
 use Rattle.tp_model.specs.Waits.{is_of, is_cancelled_by, cancel_where, is_covered_by, wait_of}
 use Rattle.tp_model.specs.Support.Sound.{IsSound, IsMade, is_wait_at, count_armed}
 use Rattle.tp_model.specs.Support.Allowed.{IsAllowed, IsMadeBy, Runs, MayMark, MayEnd, IsTarget}
-use Rattle.tp_model.specs.Laws.Entries.{made_by, queued_by, begins_by, is_ending, Sets, sets_by, set_on, wait_made, wait_numbered}
+use Rattle.tp_model.specs.Laws.Entries.{made_by, queued_new, started_by, begins_by, is_ending, Sets, sets_by, set_on, wait_made, wait_numbered}
 use Rattle.tp_model.specs.Support.Told.{Told, deed_by, nothing, silent, maxima_by, told, told_by, is_free}
-use Rattle.tp_model.specs.Support.Moves.{Move, Stay, Mark as Marking, Attach, Detach, Take, Return, Moves, Leads, AreNew, maximum_at, is_new, numbers_of, Amend, Asking, IsFreeFor, asked_slots, Cancel, WaitsMove, Keep, Begin, End, ArmsMove, ObjectsMove, count_rows, count_allowed}
-use Rattle.tp_model.proofs.Firing.{numbers_rows, waiting_rows, new_rows, numbered_made}
+use Rattle.tp_model.specs.Support.Moves.{Move, Stay, Mark as Marking, Attach, Detach, Take, Return, Moves, Leads, AreNew, maximum_at, is_new, numbers_of, Amend, Operate, Asking, IsFreeFor, asked_slots, Cancel, WaitsMove, Keep, Begin, End, ArmsMove, ObjectsMove, count_rows, count_allowed}
+use Rattle.tp_model.proofs.Firing.{numbers_rows, waiting_rows, expecting_rows, new_rows, numbered_made}
 use Rattle.tp_model.proofs.Arming.{count_rows_of, armed_fewer}
 use Rattle.tp_model.proofs.Preserving.{wait_row, numbered_append, kind_released, fired_counted}
 use Rattle.tp_model.proofs.Cancelling.{cancelled_pending, cancelled_found_out, among_numbers}
@@ -99,6 +99,8 @@ maxima_changed fresh w (change.ChangePool pool how) a other = maxima_put w pool.
 maxima_changed fresh w (change.CreateObject row) a pool = refl
 maxima_changed fresh w (change.ReleaseObject object) a pool = released_maxima w object (numbered w.objects object.0) pool
 maxima_changed fresh w (change.QueueCallback c) a pool = refl
+maxima_changed fresh w (change.ExpectCallback c) a pool = refl
+maxima_changed fresh w (change.Operate c how) a pool = refl
 maxima_changed fresh w (change.CreateKernel state) a pool = refl
 maxima_changed fresh w (change.ChangeKernel kernel how) a pool = refl
 maxima_changed fresh w (change.Attach worker at) a pool = refl
@@ -185,11 +187,15 @@ wait_appended objects row object = of_row (numbered objects object) refl
 
 -- ---- callbacks and workers
 
+none_front : (xs ys : List ℕ) → xs ++ ys ≡ [] → xs ≡ []
+none_front [] ys e = refl
+none_front (x ∷ xs) ys e = absurd cc
+
 module _ (fresh : ℕ) (w : World) (entry : Entry) where
   -- nothing is made
-  unmade : (after : World) → made_by entry ≡ [] → queued_by entry.answer ≡ [] → ArmsMove w entry after [] → Move w entry after.callbacks after.workers → Moves fresh w entry after
+  unmade : (after : World) → made_by entry ≡ [] → queued_new entry ≡ [] → ArmsMove w entry after [] → Move w entry after.callbacks after.workers → Moves fresh w entry after
   unmade after made queued arms move =
-      record { kept = after.callbacks; new = []; move = move; rows = tt; made = made; queued = queued; callbacks = sym (append-nil after.callbacks); arms = arms }
+      record { kept = after.callbacks; new = []; move = move; rows = tt; made = made; queued = queued; started = none_front (started_by entry.answer) (queued_new entry) made; callbacks = sym (append-nil after.callbacks); arms = arms }
 
   -- and no more is armed
   quiet : (after : World) → sets_by entry ≡ None → ((object : ℕ) → count_armed object after.armings ≤ count_armed object w.armings) → ArmsMove w entry after []
@@ -203,7 +209,7 @@ module _ (fresh : ℕ) (w : World) (entry : Entry) where
       unmade after (ap (λ (t : Told). t.made) tells) (ap (λ (t : Told). t.queued) tells) (same_armed after (ap (λ (t : Told). t.sets) tells) armings)
       (Stay (record { tells = ap (λ (t : Told). t.deed) tells; callbacks = callbacks; workers = workers }))
 
-  pool_moves : (pool : ℕ) (how : PoolChange) (row : Option PoolRow) → made_by entry ≡ [] → queued_by entry.answer ≡ [] → deed_by entry ≡ nothing → sets_by entry ≡ None → Moves fresh w entry (change_pool w pool how row)
+  pool_moves : (pool : ℕ) (how : PoolChange) (row : Option PoolRow) → made_by entry ≡ [] → queued_new entry ≡ [] → deed_by entry ≡ nothing → sets_by entry ≡ None → Moves fresh w entry (change_pool w pool how row)
   pool_moves pool how None made queued tells sets = unmade w made queued (same_armed w sets refl) (Stay (record { tells = tells; callbacks = refl; workers = refl }))
   pool_moves pool how (Some row) made queued tells sets = unmade (with_pool w pool (pool_after how row)) made queued (same_armed (with_pool w pool (pool_after how row)) sets refl) (Stay (record { tells = tells; callbacks = refl; workers = refl }))
 
@@ -233,7 +239,7 @@ module _ (fresh : ℕ) (w : World) (entry : Entry) where
   mark_moves : (by : Busy) (mark : Mark) → MayMark w by mark → entry.who ≡ Worker by.worker → told_by entry ≡ told fresh w (change.Mark by mark) → Moves fresh w entry (changed w (change.Mark by mark))
   mark_moves by Long may actor tells =
       unmade (changed w (change.Mark by Long)) (ap (λ (t : Told). t.made) tells) (ap (λ (t : Told). t.queued) tells) (same_armed (changed w (change.Mark by Long)) (ap (λ (t : Told). t.sets) tells) refl)
-      (Marking (record { old = by.callback; new = marked Long by.callback; tells = ap (λ (t : Told). t.deed) tells; found = may.runs.found; status = refl; object = refl; pool = refl; callbacks = refl; workers = refl }))
+      (Marking (record { old = by.callback; new = marked Long by.callback; tells = ap (λ (t : Told). t.deed) tells; found = may.runs.found; status = refl; object = refl; pool = refl; result = refl; callbacks = refl; workers = refl }))
   mark_moves by Loose may actor tells =
       unmade (changed w (change.Mark by Loose)) (ap (λ (t : Told). t.made) tells) (ap (λ (t : Told). t.queued) tells) (same_armed (changed w (change.Mark by Loose)) (ap (λ (t : Told). t.sets) tells) refl)
       (amends by may.runs actor true None tt (record by.callback { status = loosened by.callback.status }) (ap (λ (t : Told). t.deed) tells)
@@ -268,6 +274,7 @@ module _ (fresh : ℕ) (w : World) (entry : Entry) where
         rows = (record { numbered = a.number; unbegun = is_new_one }, tt);
         made = ap (λ (t : Told). t.made) tells ∙ ap (λ n. n ∷ []) (sym a.number);
         queued = ap (λ (t : Told). t.queued) tells ∙ ap (λ n. n ∷ []) (sym a.number) ∙ sym (ap (λ b. numbers_of (cond b (c ∷ []) [])) a.pending);
+        started = ap (λ (t : Told). t.started) tells ∙ sym (ap (λ b. numbers_of (cond b (c ∷ []) [])) (pending_unexpected c.status a.pending));
         callbacks = refl;
         arms = λ object wait.
             let none : count_rows object (c ∷ []) ≡ 0 = ap (λ b. length (cond b (c ∷ []) [])) (apart object wait (c.object.0 == object) refl) in
@@ -281,6 +288,31 @@ module _ (fresh : ℕ) (w : World) (entry : Entry) where
       pending_new : (s : Status) → is_pending s ≡ true → is_new s ≡ true
       pending_new Pending e = refl
       pending_new _ e = absurd (false_true e)
+
+      pending_unexpected : (s : Status) → is_pending s ≡ true → is_expected s ≡ false
+      pending_unexpected Pending e = refl
+      pending_unexpected _ e = absurd (false_true e)
+  change_moves (change.ExpectCallback c) s a by tells =
+      record {
+        kept = w.callbacks;
+        new = c ∷ [];
+        move = Stay (record { tells = ap (λ (t : Told). t.deed) tells; callbacks = refl; workers = refl });
+        rows = (record { numbered = a.number; unbegun = ap is_new a.expected }, tt);
+        made = ap (λ (t : Told). t.made) tells ∙ ap (λ n. n ∷ []) (sym a.number);
+        queued = ap (λ (t : Told). t.queued) tells ∙ sym (ap (λ s. numbers_of (cond (is_pending s) (c ∷ []) [])) a.expected);
+        started = ap (λ (t : Told). t.started) tells ∙ ap (λ n. n ∷ []) (sym a.number) ∙ sym (ap (λ s. numbers_of (cond (is_expected s) (c ∷ []) [])) a.expected);
+        callbacks = refl;
+        arms = λ object wait.
+            let none : count_rows object (c ∷ []) ≡ 0 = ap (λ b. length (cond b (c ∷ []) [])) (apart object wait (c.object.0 == object) refl) in
+            omega (arith, none, ap (λ (x : Option Sets). count_allowed (set_on object x) (count_armed object w.armings)) (ap (λ (t : Told). t.sets) tells));
+      }
+    where
+      apart : (object : ℕ) → is_wait_at w.objects object ≡ true → (b : Bool) → (c.object.0 == object) ≡ b → (c.object.0 == object) ≡ false
+      apart object wait false is = is
+      apart object wait true is = absurd (false_true (sym by ∙ ap (is_wait_at w.objects) (eqb-true c.object.0 object is) ∙ wait))
+  change_moves (change.Operate c how) s a by tells =
+      unmade (changed w (change.Operate c how)) (ap (λ (t : Told). t.made) tells) (ap (λ (t : Told). t.queued) tells) (same_armed (changed w (change.Operate c how)) (ap (λ (t : Told). t.sets) tells) refl)
+      (Operate (record { callback = c; how = how; tells = ap (λ (t : Told). t.deed) tells; found = a.found; status = a.status; callbacks = refl; workers = refl }))
   change_moves (change.Fire trigger first count) s a by tells =
       let jobs : List Job = (firing trigger (sources_of w)).jobs in
       let told_range : range_with_len first count ≡ range_with_len first (length jobs) = ap (range_with_len first) a.counted in
@@ -291,6 +323,7 @@ module _ (fresh : ℕ) (w : World) (entry : Entry) where
         rows = subst (λ n. AreNew n (rows_of w.objects first jobs)) a.number (new_rows w.objects first jobs);
         made = ap (λ (t : Told). t.made) tells ∙ told_range ∙ sym (numbers_rows w.objects first jobs);
         queued = ap (λ (t : Told). t.queued) tells ∙ told_range ∙ sym (waiting_rows w.objects first jobs);
+        started = ap (λ (t : Told). t.started) tells ∙ sym (expecting_rows w.objects first jobs);
         callbacks = refl;
         arms = λ object wait.
             omega (
@@ -355,6 +388,7 @@ module _ (fresh : ℕ) (w : World) (entry : Entry) where
         rows = subst (λ n. AreNew n (rows_of w.objects first jobs)) a.number (new_rows w.objects first jobs);
         made = ap (λ (t : Told). t.made) tells ∙ told_range ∙ sym (numbers_rows w.objects first jobs);
         queued = ap (λ (t : Told). t.queued) tells ∙ told_range ∙ sym (waiting_rows w.objects first jobs);
+        started = ap (λ (t : Told). t.started) tells ∙ sym (expecting_rows w.objects first jobs);
         callbacks = refl;
         arms = λ object wait.
             omega (
@@ -413,6 +447,8 @@ module _ (fresh : ℕ) (w : World) (entry : Entry) where
   change_objects change.Keep tells = same_objects (changed w change.Keep) (ap (λ (t : Told). t.wait) tells) (λ n. refl)
   change_objects change.CreatePool tells = same_objects (changed w change.CreatePool) (ap (λ (t : Told). t.wait) tells) (λ n. refl)
   change_objects (change.QueueCallback c) tells = same_objects (changed w (change.QueueCallback c)) (ap (λ (t : Told). t.wait) tells) (λ n. refl)
+  change_objects (change.ExpectCallback c) tells = same_objects (changed w (change.ExpectCallback c)) (ap (λ (t : Told). t.wait) tells) (λ n. refl)
+  change_objects (change.Operate c how) tells = same_objects (changed w (change.Operate c how)) (ap (λ (t : Told). t.wait) tells) (λ n. refl)
   change_objects (change.Fire trigger first count) tells = same_objects (changed w (change.Fire trigger first count)) (ap (λ (t : Told). t.wait) tells) (λ n. refl)
   change_objects (change.CreateKernel state) tells = same_objects (changed w (change.CreateKernel state)) (ap (λ (t : Told). t.wait) tells) (λ n. refl)
   change_objects (change.ChangeKernel kernel how) tells = same_objects (changed w (change.ChangeKernel kernel how)) (ap (λ (t : Told). t.wait) tells) (λ n. refl)
@@ -513,6 +549,8 @@ module _ (fresh : ℕ) (w : World) (entry : Entry) where
   change_waits change.CreatePool s a by tells = waits_same change.CreatePool refl refl tells refl
   change_waits (change.CreateObject row) s a by tells = waits_same (change.CreateObject row) refl refl tells refl
   change_waits (change.QueueCallback c) s a by tells = waits_same (change.QueueCallback c) refl refl tells refl
+  change_waits (change.ExpectCallback c) s a by tells = waits_same (change.ExpectCallback c) refl refl tells refl
+  change_waits (change.Operate c how) s a by tells = waits_same (change.Operate c how) refl refl tells refl
   change_waits (change.CreateKernel state) s a by tells = waits_same (change.CreateKernel state) refl refl tells refl
   change_waits (change.ChangeKernel kernel how) s a by tells = waits_same (change.ChangeKernel kernel how) refl refl tells refl
   change_waits (change.Attach worker pool) s a by tells = waits_same (change.Attach worker pool) refl refl tells refl

@@ -10,6 +10,8 @@ use Rattle.std.proofs.lemmas.List.Sums.{sum_by_push}
 use Rattle.std.proofs.lemmas.List.Folds.{list_any-append}
 use Rattle.std.proofs.lemmas.List.FromFn.{length-range_with_len}
 use Rattle.tp_base.specs.declared.ids.ObjectId.{ObjectId}
+use Rattle.tp_base.specs.declared.plans.IoStep.{IoStep}
+use Rattle.tp_base.specs.declared.plans.IoStep.TheVariants.{Issue, GiveUp, Complete}
 use Rattle.tp_base.specs.declared.rows.Status.{Status}
 use Rattle.tp_base.specs.declared.rows.Status.TheVariants.{Expected, Issued, Pending, Running, Returned, Cancelled}
 use Rattle.tp_base.specs.declared.rows.CallbackRow.{CallbackRow}
@@ -17,16 +19,16 @@ use Rattle.tp_base.specs.declared.rows.WorkerRow.{WorkerRow}
 use Rattle.tp_base.specs.declared.answers.Entry.{Entry}
 use Rattle.tp_model.specs.World.{World}
 use Rattle.tp_model.specs.Counts.{has_number, is_pending, is_running}
-use Rattle.tp_model.specs.Changes.{replaced, taken as taken_row, returned}
+use Rattle.tp_model.specs.Changes.{replaced, taken as taken_row, operated, status_before, returned}
 use Rattle.tp_model.specs.Support.Sound.{IsRising}
-use Rattle.tp_model.specs.Laws.Entries.{Run, is_among, times, numbers_made, numbers_queued, numbers_taken, numbers_cancelled, count_cancelled, made_by, queued_by, taken_by, cancelled_by, cancelled_count}
+use Rattle.tp_model.specs.Laws.Entries.{Run, is_among, times, numbers_made, numbers_queued, numbers_taken, numbers_cancelled, count_cancelled, made_by, queued_by, queued_new, completed_by, is_complete_call, Event, event, Runs as Taking, taken_by, cancelled_by, cancelled_count}
 use Rattle.tp_model.specs.Laws.Once.{is_left, left, TakesReady, TakesUncancelled}
-use Rattle.tp_model.specs.Support.Told.{Deed, deed_by, nothing}
-use Rattle.tp_model.specs.Support.Moves.{Asking, asked_slots, Move, Stay, Mark, Attach, Detach, Take, Return, Moves, run_of, AreNew, is_new, numbers_of, waiting_of, Amend, Cancel}
+use Rattle.tp_model.specs.Support.Told.{Deed, deed_by, deed_of, nothing}
+use Rattle.tp_model.specs.Support.Moves.{Asking, asked_slots, Move, Stay, Mark, Attach, Detach, Take, Return, Moves, run_of, AreNew, is_new, numbers_of, waiting_of, Amend, Operate, Cancel}
 use Rattle.tp_model.specs.Waits.{cancelled as cancelled_row, cancel_where}
 use Rattle.tp_model.proofs.Cancelling.{IsPendingTest, cancelled_if, cancelled_found, length_cancelled, find_cancelled, count_uncancelled, count_cancelled as count_dropped}
 use Rattle.tp_model.proofs.Callbacks.{find_appended, find_replaced, find_replaced_other, length_replaced, length_filter_replaced, kept_found}
-use Rattle.tp_model.proofs.Refusals.{false_true, or_true}
+use Rattle.tp_model.proofs.Refusals.{false_true, or_true, or_false}
 
 -- ---- what a status says
 
@@ -101,7 +103,7 @@ pub record Agrees (made queued taken cancelled : List ℕ) (count : ℕ) (cs : L
 -- with what an entry tells of the callbacks that there are
 abbrev AgreesWith : List ℕ → List ℕ → List ℕ → List ℕ → ℕ → Deed → List CallbackRow → Type 0
 AgreesWith made queued taken cancelled count deed cs =
-    Agrees made queued (taken ++ option_to_list deed.taken) (cancelled ++ option_to_list deed.cancelled) (count + deed.count) cs
+    Agrees made (queued ++ deed.completed) (taken ++ option_to_list deed.taken) (cancelled ++ option_to_list deed.cancelled) (count + deed.count) cs
 
 range_more : (a n : ℕ) → range_with_len a n ++ (a + n) ∷ [] ≡ range_with_len a (n + 1)
 range_more a zero = let next : a + 0 ≡ a = omega arith in ap (λ m. m ∷ []) next
@@ -168,7 +170,7 @@ module _ (made queued taken cancelled : List ℕ) (count : ℕ) (cs : List Callb
       record {
         in_order = a.in_order;
         taken_begun = λ n. ap (times n) (append-nil taken) ∙ a.taken_begun n;
-        pending_queued = a.pending_queued;
+        pending_queued = λ n c found waits. among_front n queued [] (a.pending_queued n c found waits);
         named_cancelled = λ n named. a.named_cancelled n (ap (is_among n) (sym (append-nil cancelled)) ∙ named);
         as_many_taken = ap length (append-nil taken) ∙ a.as_many_taken;
         as_many_cancelled = omega (arith, ap length (append-nil cancelled), a.as_many_cancelled);
@@ -228,40 +230,77 @@ module _ (made queued taken cancelled : List ℕ) (count : ℕ) (cs : List Callb
           | false ↦ λ e. (before.0, find_replaced_other d n cs e ∙ before.1, before.2)
         ] refl
 
+    as_many : (p : CallbackRow → Bool) → p d ≡ p c → length (filter p cs) ≡ length (filter p (replaced d cs))
+    as_many p same = omega (arith, length_filter_replaced p d c 1 fresh cs rising found, ap one_if same)
+
+    begun_still : has_begun d.status ≡ has_begun c.status → (n : ℕ) → times_begun (find (has_number n) cs) ≡ times_begun (find (has_number n) (replaced d cs))
+    begun_still same_begun n =
+        elim (has_number n d) as (λ b. has_number n d ≡ b → times_begun (find (has_number n) cs) ≡ times_begun (find (has_number n) (replaced d cs))) [
+          | true ↦ λ e.
+              let is : d.number ≡ n = eqb-true d.number n e in
+              subst (λ k. times_begun (find (has_number k) cs) ≡ times_begun (find (has_number k) (replaced d cs))) is
+              (ap times_begun found ∙ ap one_if (sym same_begun) ∙ ap times_begun (sym (find_replaced d c cs found)))
+          | false ↦ λ e. ap times_begun (sym (find_replaced_other d n cs e))
+        ] refl
+
     -- a callback that begins nothing new, nor is cancelled
-    agrees_marked : Agrees made queued taken cancelled count cs → has_begun d.status ≡ has_begun c.status → is_cancelled d.status ≡ is_cancelled c.status → (is_pending d.status ≡ true → is_pending c.status ≡ true)
-        → AgreesWith made queued taken cancelled count nothing (replaced d cs)
-    agrees_marked a same_begun same_cancelled waits =
+    agrees_put : (more : List ℕ) → Agrees made queued taken cancelled count cs → has_begun d.status ≡ has_begun c.status → is_cancelled d.status ≡ is_cancelled c.status
+        → ((n : ℕ) (x : CallbackRow) → find (has_number n) (replaced d cs) ≡ Some x → is_pending x.status ≡ true → is_among n (queued ++ more) ≡ true)
+        → AgreesWith made queued taken cancelled count (record nothing { completed = more }) (replaced d cs)
+    agrees_put more a same_begun same_cancelled pends =
         record {
           in_order = a.in_order ∙ ap (range_with_len 1) (sym (length_replaced d cs));
-          taken_begun = λ n. ap (times n) (append-nil taken) ∙ a.taken_begun n ∙ as_begun n;
-          pending_queued = replaced_pending a.pending_queued waits;
+          taken_begun = λ n. ap (times n) (append-nil taken) ∙ a.taken_begun n ∙ begun_still same_begun n;
+          pending_queued = pends;
           named_cancelled = λ n named. replaced_cancelled a.named_cancelled (λ e. same_cancelled ∙ e) n (ap (is_among n) (sym (append-nil cancelled)) ∙ named);
           as_many_taken = ap length (append-nil taken) ∙ a.as_many_taken ∙ as_many begun same_begun;
           as_many_cancelled = omega (arith, ap length (append-nil cancelled), a.as_many_cancelled, as_many dropped same_cancelled);
         }
-      where
-        as_many : (p : CallbackRow → Bool) → p d ≡ p c → length (filter p cs) ≡ length (filter p (replaced d cs))
-        as_many p same = omega (arith, length_filter_replaced p d c 1 fresh cs rising found, ap one_if same)
 
-        as_begun : (n : ℕ) → times_begun (find (has_number n) cs) ≡ times_begun (find (has_number n) (replaced d cs))
-        as_begun n =
-            elim (has_number n d) as (λ b. has_number n d ≡ b → times_begun (find (has_number n) cs) ≡ times_begun (find (has_number n) (replaced d cs))) [
-              | true ↦ λ e.
-                  let is : d.number ≡ n = eqb-true d.number n e in
-                  subst (λ k. times_begun (find (has_number k) cs) ≡ times_begun (find (has_number k) (replaced d cs))) is
-                  (ap times_begun found ∙ ap one_if (sym same_begun) ∙ ap times_begun (sym (find_replaced d c cs found)))
-              | false ↦ λ e. ap times_begun (sym (find_replaced_other d n cs e))
+    agrees_marked : Agrees made queued taken cancelled count cs → has_begun d.status ≡ has_begun c.status → is_cancelled d.status ≡ is_cancelled c.status → (is_pending d.status ≡ true → is_pending c.status ≡ true)
+        → AgreesWith made queued taken cancelled count nothing (replaced d cs)
+    agrees_marked a same_begun same_cancelled waits = agrees_put [] a same_begun same_cancelled (λ n x there pends. among_front n queued [] (replaced_pending a.pending_queued waits n x there pends))
+
+    -- an operation completes, so that its callback is pending
+    agrees_completed : Agrees made queued taken cancelled count cs → has_begun d.status ≡ has_begun c.status → is_cancelled d.status ≡ is_cancelled c.status
+        → AgreesWith made queued taken cancelled count (record nothing { completed = d.number ∷ [] }) (replaced d cs)
+    agrees_completed a same_begun same_cancelled = agrees_put (d.number ∷ []) a same_begun same_cancelled pends
+      where
+        pends : (n : ℕ) (x : CallbackRow) → find (has_number n) (replaced d cs) ≡ Some x → is_pending x.status ≡ true → is_among n (queued ++ d.number ∷ []) ≡ true
+        pends n x there waits =
+            elim (has_number n d) as (λ b. has_number n d ≡ b → is_among n (queued ++ d.number ∷ []) ≡ true) [
+              | true ↦ λ e. among_back n queued d.number e
+              | false ↦ λ e. among_front n queued (d.number ∷ []) (a.pending_queued n x (sym (find_replaced_other d n cs e) ∙ there) waits)
             ] refl
 
+    -- an operation is not issued, so that its callback is cancelled
+    agrees_given_up : Agrees made queued taken cancelled count cs → has_begun d.status ≡ has_begun c.status → is_cancelled d.status ≡ true → is_cancelled c.status ≡ false → is_pending d.status ≡ false
+        → AgreesWith made queued taken cancelled count (record nothing { cancelled = Some d.number }) (replaced d cs)
+    agrees_given_up a same_begun now before unpending =
+        record {
+          in_order = a.in_order ∙ ap (range_with_len 1) (sym (length_replaced d cs));
+          taken_begun = λ n. ap (times n) (append-nil taken) ∙ a.taken_begun n ∙ begun_still same_begun n;
+          pending_queued = λ n x there pends. among_front n queued [] (replaced_pending a.pending_queued (λ e. absurd (false_true (sym unpending ∙ e))) n x there pends);
+          named_cancelled = λ n named. either n named (d.number == n) refl;
+          as_many_taken = ap length (append-nil taken) ∙ a.as_many_taken ∙ as_many begun same_begun;
+          as_many_cancelled = omega (arith, length-append cancelled (d.number ∷ []), a.as_many_cancelled, length_filter_replaced dropped d c 1 fresh cs rising found, ap one_if now, ap one_if before);
+        }
+      where
+        front : (n : ℕ) (xs : List ℕ) → is_among n (xs ++ d.number ∷ []) ≡ true → (d.number == n) ≡ false → is_among n xs ≡ true
+        front n xs named other = sym (or_false (is_among n xs)) ∙ sym (list_any-append (λ m. m == n) xs (d.number ∷ []) ∙ ap (λ b. is_among n xs || (b || false)) other) ∙ named
+
+        either : (n : ℕ) → is_among n (cancelled ++ d.number ∷ []) ≡ true → (b : Bool) → (d.number == n) ≡ b → (x : CallbackRow) × (find (has_number n) (replaced d cs) ≡ Some x) × (is_cancelled x.status ≡ true)
+        either n named true e = (d, ap (λ k. find (has_number k) (replaced d cs)) (sym (eqb-true d.number n e)) ∙ find_replaced d c cs found, now)
+        either n named false e = replaced_cancelled a.named_cancelled (λ _. now) n (front n cancelled named e)
+
     -- a pending callback is taken
-    agrees_taken : (run : Option Run) → Agrees made queued taken cancelled count cs → is_pending c.status ≡ true → has_begun d.status ≡ true → is_cancelled d.status ≡ false → is_pending d.status ≡ false
-        → AgreesWith made queued taken cancelled count (record nothing { taken = Some d.number; run = run }) (replaced d cs)
-    agrees_taken run a waits begins uncancelled unpending =
+    agrees_taken : (run : Option Run) (happens : Option Event) → Agrees made queued taken cancelled count cs → is_pending c.status ≡ true → has_begun d.status ≡ true → is_cancelled d.status ≡ false → is_pending d.status ≡ false
+        → AgreesWith made queued taken cancelled count (record nothing { taken = Some d.number; run = run; event = happens }) (replaced d cs)
+    agrees_taken run happens a waits begins uncancelled unpending =
         record {
           in_order = a.in_order ∙ ap (range_with_len 1) (sym (length_replaced d cs));
           taken_begun = λ n. times_more n ∙ as_begun n;
-          pending_queued = replaced_pending a.pending_queued (λ e. absurd (false_true (sym unpending ∙ e)));
+          pending_queued = λ n x there pends. among_front n queued [] (replaced_pending a.pending_queued (λ e. absurd (false_true (sym unpending ∙ e))) n x there pends);
           named_cancelled = λ n named. replaced_cancelled a.named_cancelled (λ e. absurd (false_true (sym (pending_uncancelled c.status waits) ∙ e))) n (ap (is_among n) (sym (append-nil cancelled)) ∙ named);
           as_many_taken = omega (arith, length-append taken (d.number ∷ []), a.as_many_taken, length_filter_replaced begun d c 1 fresh cs rising found, ap one_if begins, ap one_if (pending_unbegun c.status waits));
           as_many_cancelled = omega (arith, ap length (append-nil cancelled), a.as_many_cancelled, length_filter_replaced dropped d c 1 fresh cs rising found, ap one_if uncancelled, ap one_if (pending_uncancelled c.status waits));
@@ -316,7 +355,7 @@ module _ (made queued taken cancelled : List ℕ) (count : ℕ) (cs : List Callb
       record {
         in_order = a.in_order ∙ ap (range_with_len 1) (sym (length_cancelled test cs));
         taken_begun = λ n. ap (times n) (append-nil taken) ∙ a.taken_begun n ∙ sym (ap times_begun (find_cancelled test cs n) ∙ still_begun n (find (has_number n) cs));
-        pending_queued = λ n c found waits. a.pending_queued n c (was_pending n (find (has_number n) cs) c (sym (find_cancelled test cs n) ∙ found) waits) waits;
+        pending_queued = λ n c found waits. among_front n queued [] (a.pending_queued n c (was_pending n (find (has_number n) cs) c (sym (find_cancelled test cs n) ∙ found) waits) waits);
         named_cancelled = λ n named.
             let old = a.named_cancelled n (ap (is_among n) (sym (append-nil cancelled)) ∙ named) in
             let now = stays_cancelled (find (has_number n) cs) old.0 old.1 old.2 in
@@ -346,8 +385,8 @@ move_agrees made queued taken cancelled count fresh w entry kept staff rising a 
     of_move (Detach m) = to nothing w.callbacks m.tells m.callbacks still
     of_move (Take m) =
         let d : CallbackRow = taken_row m.callback m.worker in
-        to (record nothing { taken = Some m.callback.number; run = Some (run_of m.callback) }) (replaced d w.callbacks) m.tells m.callbacks
-        (agrees_taken made queued taken cancelled count w.callbacks fresh m.callback d rising m.found (Some (run_of m.callback)) a m.waits refl refl refl)
+        to (record nothing { taken = Some m.callback.number; run = Some (run_of m.callback); event = event m.callback.number (Taking m.callback.result) }) (replaced d w.callbacks) m.tells m.callbacks
+        (agrees_taken made queued taken cancelled count w.callbacks fresh m.callback d rising m.found (Some (run_of m.callback)) (event m.callback.number (Taking m.callback.result)) a m.waits refl refl refl)
     of_move (Return m) =
         let d : CallbackRow = returned m.callback in
         to (record nothing { returned = true; words = Some m.words }) (replaced d w.callbacks) m.tells m.callbacks
@@ -356,6 +395,19 @@ move_agrees made queued taken cancelled count fresh w entry kept staff rising a 
         let d : CallbackRow = record m.callback { status = Running m.worker (m.associated && not m.loose) (asked_slots m.asks m.slots) } in
         to (record nothing { loosened = m.loose; asked = option_map (λ (a : Asking). a.kind) m.asks }) (replaced d w.callbacks) m.tells m.callbacks
         (agrees_marked made queued taken cancelled count w.callbacks fresh m.callback d rising m.found a (sym (ap has_begun m.running)) (sym (ap is_cancelled m.running)) (λ e. absurd (false_true e)))
+    of_move (Operate m) = operates m.how m.callback m.found m.status m.tells m.callbacks
+      where
+        operates : (how : IoStep) (c : CallbackRow) → find (has_number c.number) w.callbacks ≡ Some c → c.status ≡ status_before how → deed_by entry ≡ deed_of c.number how → kept ≡ replaced (operated how c) w.callbacks
+            → AgreesWith made queued taken cancelled count (deed_by entry) kept
+        operates Issue c found comes tells same =
+            to (deed_of c.number Issue) (replaced (operated Issue c) w.callbacks) tells same
+            (agrees_marked made queued taken cancelled count w.callbacks fresh c (operated Issue c) rising found a (sym (ap has_begun comes)) (sym (ap is_cancelled comes)) (λ e. absurd (false_true e)))
+        operates GiveUp c found comes tells same =
+            to (deed_of c.number GiveUp) (replaced (operated GiveUp c) w.callbacks) tells same
+            (agrees_given_up made queued taken cancelled count w.callbacks fresh c (operated GiveUp c) rising found a (sym (ap has_begun comes)) refl (ap is_cancelled comes) refl)
+        operates (Complete error bytes) c found comes tells same =
+            to (deed_of c.number (Complete error bytes)) (replaced (operated (Complete error bytes) c) w.callbacks) tells same
+            (agrees_completed made queued taken cancelled count w.callbacks fresh c (operated (Complete error bytes) c) rising found a (sym (ap has_begun comes)) (sym (ap is_cancelled comes)))
     of_move (Cancel m) =
         to (record nothing { count = length (filter m.test w.callbacks) }) (cancel_where m.test w.callbacks) m.tells m.callbacks
         (agrees_cancelled made queued taken cancelled count w.callbacks m.test m.waits a)
@@ -369,6 +421,7 @@ move_as_many w entry kept staff (Detach m) = ap length m.callbacks
 move_as_many w entry kept staff (Take m) = ap length m.callbacks ∙ length_replaced (taken_row m.callback m.worker) w.callbacks
 move_as_many w entry kept staff (Return m) = ap length m.callbacks ∙ length_replaced (returned m.callback) w.callbacks
 move_as_many w entry kept staff (Amend m) = ap length m.callbacks ∙ length_replaced (record m.callback { status = Running m.worker (m.associated && not m.loose) (asked_slots m.asks m.slots) }) w.callbacks
+move_as_many w entry kept staff (Operate m) = ap length m.callbacks ∙ length_replaced (operated m.how m.callback) w.callbacks
 move_as_many w entry kept staff (Cancel m) = ap length m.callbacks ∙ length_cancelled m.test w.callbacks
 
 -- the callbacks that are made, one by one
@@ -398,7 +451,7 @@ AgreesAfter history w = Agrees (numbers_made history) (numbers_queued history) (
 
 -- one entry more tells what it tells besides
 agrees_entry : (before : List Entry) (entry : Entry) (cs : List CallbackRow)
-    → AgreesWith (numbers_made before ++ made_by entry) (numbers_queued before ++ queued_by entry.answer) (numbers_taken before) (numbers_cancelled before) (count_cancelled before) (deed_by entry) cs
+    → Agrees (numbers_made before ++ made_by entry) (numbers_queued before ++ queued_by entry.answer) (numbers_taken before ++ option_to_list (taken_by entry.answer)) (numbers_cancelled before ++ option_to_list (cancelled_by entry.answer)) (count_cancelled before + cancelled_count entry.answer) cs
     → Agrees (numbers_made (before ++ entry ∷ [])) (numbers_queued (before ++ entry ∷ [])) (numbers_taken (before ++ entry ∷ [])) (numbers_cancelled (before ++ entry ∷ [])) (count_cancelled (before ++ entry ∷ [])) cs
 agrees_entry before entry cs a =
     subst (λ m. Agrees m (numbers_queued all) (numbers_taken all) (numbers_cancelled all) (count_cancelled all) cs) (sym (lists made_by))
@@ -421,16 +474,28 @@ agrees_entry before entry cs a =
     ones : (f : Entry → Option ℕ) → filter_map f (before ++ entry ∷ []) ≡ filter_map f before ++ option_to_list (f entry)
     ones f = filter_map-append f before (entry ∷ []) ∙ ap (λ t. filter_map f before ++ t) (single (f entry))
 
+-- what an entry tells to be pending was made before, or is made by it
+pub queued_split : (entry : Entry) → completed_by entry ++ queued_new entry ≡ queued_by entry.answer
+queued_split entry =
+    elim (is_complete_call entry.call) as (λ b. cond b (queued_by entry.answer) [] ++ cond b [] (queued_by entry.answer) ≡ queued_by entry.answer) [ true ↦ append-nil (queued_by entry.answer) | false ↦ refl ]
+
 pub agrees_on : (before : List Entry) (w : World) (entry : Entry) (after : World) → IsRising 1 (length w.callbacks + 1) w.callbacks → AgreesAfter before w → Moves (length w.callbacks + 1) w entry after → AgreesAfter (before ++ entry ∷ []) after
 agrees_on before w entry after rising a moves =
     let moved = move_agrees (numbers_made before) (numbers_queued before) (numbers_taken before) (numbers_cancelled before) (count_cancelled before) (length w.callbacks + 1) w entry moves.kept after.workers rising a moves.move in
     let longer : length w.callbacks + 1 ≡ length moves.kept + 1 = ap (λ n. n + 1) (sym (move_as_many w entry moves.kept after.workers moves.move)) in
-    let made = new_agree (numbers_made before) (numbers_queued before) (numbers_taken before ++ option_to_list (taken_by entry.answer)) (numbers_cancelled before ++ option_to_list (cancelled_by entry.answer)) (count_cancelled before + cancelled_count entry.answer)
+    let made = new_agree (numbers_made before) (numbers_queued before ++ completed_by entry) (numbers_taken before ++ option_to_list (taken_by entry.answer)) (numbers_cancelled before ++ option_to_list (cancelled_by entry.answer)) (count_cancelled before + cancelled_count entry.answer)
     (length w.callbacks + 1) moves.kept moves.new longer moves.rows moved in
     agrees_entry before entry after.callbacks
-    (subst (λ m. AgreesWith (numbers_made before ++ m) (numbers_queued before ++ queued_by entry.answer) (numbers_taken before) (numbers_cancelled before) (count_cancelled before) (deed_by entry) after.callbacks) (sym moves.made)
-    (subst (λ q. AgreesWith (numbers_made before ++ numbers_of moves.new) (numbers_queued before ++ q) (numbers_taken before) (numbers_cancelled before) (count_cancelled before) (deed_by entry) after.callbacks) (sym moves.queued)
-    (subst (AgreesWith (numbers_made before ++ numbers_of moves.new) (numbers_queued before ++ waiting_of moves.new) (numbers_taken before) (numbers_cancelled before) (count_cancelled before) (deed_by entry)) (sym moves.callbacks) made)))
+    (subst (λ m. AgreesMade m (numbers_queued before ++ queued_by entry.answer) after.callbacks) (sym moves.made)
+    (subst (λ q. AgreesMade (numbers_of moves.new) q after.callbacks) queued
+    (subst (λ cs. AgreesMade (numbers_of moves.new) ((numbers_queued before ++ completed_by entry) ++ waiting_of moves.new) cs) (sym moves.callbacks) made)))
+  where
+    AgreesMade : List ℕ → List ℕ → List CallbackRow → Type 0
+    AgreesMade m q cs = Agrees (numbers_made before ++ m) q (numbers_taken before ++ option_to_list (taken_by entry.answer)) (numbers_cancelled before ++ option_to_list (cancelled_by entry.answer)) (count_cancelled before + cancelled_count entry.answer) cs
+
+    queued : (numbers_queued before ++ completed_by entry) ++ waiting_of moves.new ≡ numbers_queued before ++ queued_by entry.answer
+    queued =
+        ap (λ q. (numbers_queued before ++ completed_by entry) ++ q) (sym moves.queued) ∙ append_assoc (numbers_queued before) (completed_by entry) (queued_new entry) ∙ ap (λ q. numbers_queued before ++ q) (queued_split entry)
 
 -- ---- what the law says of an entry
 
@@ -448,6 +513,7 @@ taken_waits w entry kept staff n (Attach m) e = absurd (let h = sym (ap (λ (t :
 taken_waits w entry kept staff n (Detach m) e = absurd (let h = sym (ap (λ (t : Deed). t.taken) m.tells) ∙ e in cc)
 taken_waits w entry kept staff n (Return m) e = absurd (let h = sym (ap (λ (t : Deed). t.taken) m.tells) ∙ e in cc)
 taken_waits w entry kept staff n (Amend m) e = absurd (let h = sym (ap (λ (t : Deed). t.taken) m.tells) ∙ e in cc)
+taken_waits w entry kept staff n (Operate m) e = absurd (let h = sym (ap (λ (t : Deed). t.taken) m.tells) ∙ e in cc)
 taken_waits w entry kept staff n (Cancel m) e = absurd (let h = sym (ap (λ (t : Deed). t.taken) m.tells) ∙ e in cc)
 
 -- a first place that passes is within the list

@@ -9,6 +9,8 @@ use Rattle.tp_base.specs.declared.plans.Change.TheVariants as change
 use Rattle.tp_base.specs.declared.plans.Mark.{Mark}
 use Rattle.tp_base.specs.declared.plans.Mark.TheVariants.{Long, Loose, Asks}
 use Rattle.tp_base.specs.Actions.{filled}
+use Rattle.tp_base.specs.declared.plans.IoStep.{IoStep}
+use Rattle.tp_base.specs.declared.plans.IoStep.TheVariants.{Issue, GiveUp, Complete}
 use Rattle.tp_base.specs.declared.plans.PoolChange.{PoolChange}
 use Rattle.tp_base.specs.declared.rows.Slots.{Slots}
 use Rattle.tp_base.specs.declared.rows.Status.{Status}
@@ -43,7 +45,7 @@ use Rattle.tp_model.proofs.Firing.{armable_made, AreOf, AreJobsOf, AreSourcesIn,
 use Rattle.tp_model.proofs.Arming.{IsApart, IsCounted, firing_counted, timed_disarmed}
 use Rattle.tp_model.specs.World.{World, BegunWait, opening, unattached, new_pool}
 use Rattle.tp_model.specs.Counts.{numbered, has_number, is_pending, is_running}
-use Rattle.tp_model.specs.Changes.{with_new_pool, with_pool, with_object, with_new_callback, with_callback, with_worker, with_client, replaced, change_pool, pool_after, taken, loosened, marked, returned, finished, release_object, new_wait, begin_wait, without_run, without_wait, end_wait, kernels_left, changed}
+use Rattle.tp_model.specs.Changes.{with_new_pool, with_pool, with_object, with_new_callback, with_callback, with_worker, with_client, replaced, change_pool, pool_after, taken, loosened, marked, operated, status_before, returned, finished, release_object, new_wait, begin_wait, without_run, without_wait, end_wait, kernels_left, changed}
 use Rattle.tp_base.specs.declared.rows.KernelRow.{KernelRow}
 use Rattle.tp_base.specs.Kernels.{state_after}
 use Rattle.tp_model.specs.Actions.{no_actions, asking, slots_of, returning}
@@ -55,7 +57,7 @@ use Rattle.tp_model.specs.Support.Allowed.{IsAllowed, IsTargetMade, news}
 use Rattle.tp_model.proofs.Lists.{all_along, all_below, find_all, set_kept, slice_get_append, all_append, all_map, all_get, all_set, all_filter, any_filter_none, get_set, get_set_other}
 use Rattle.tp_model.proofs.Cancelling.{IsPendingTest, cancelled_pending, cancelled_if, cancelled_number, running_passed, find_uncancelled}
 use Rattle.tp_model.proofs.Callbacks.{rising_append, rising_map, rising_replaced, find_replaced, find_replaced_other, find_appended}
-use Rattle.tp_model.proofs.Refusals.{neither, numbered_some, numbered_at, false_true, and_false, same_actor_sym}
+use Rattle.tp_model.proofs.Refusals.{neither, both, numbered_some, numbered_at, false_true, and_false, same_actor_sym}
 use Rattle.tp_model.proofs.Waiting.{waits_still, waits_longer, left_replaced, left_cancelled, target_named, new_wait_sound}
 
 -- ---- workers
@@ -430,6 +432,27 @@ sound_marked fresh w (Asks kind action) c found s =
     still Returned = refl
     still Cancelled = refl
 
+-- an operation that goes a step runs nowhere, and its callback might be run before
+sound_operated : (fresh : ℕ) (w : World) (how : IoStep) (c : CallbackRow) → find (has_number c.number) w.callbacks ≡ Some c → c.status ≡ status_before how → IsSound fresh w → IsSound fresh (with_callback w (operated how c))
+sound_operated fresh w how c found comes s =
+    sound_same fresh w (operated how c) c refl refl refl (λ worker associated slots e. absurd (idle how (sym comes ∙ e)))
+    (λ target left. might target (ap is_left comes ∙ left_before how) left) found s
+  where
+    idle : {worker : ℕ} {associated : Bool} {slots : Slots} → (step : IoStep) → status_before step ≡ Running worker associated slots → ⊥
+    idle Issue e = cc
+    idle GiveUp e = cc
+    idle (Complete error bytes) e = cc
+
+    left_before : (step : IoStep) → is_left (status_before step) ≡ true
+    left_before Issue = refl
+    left_before GiveUp = refl
+    left_before (Complete error bytes) = refl
+
+    might : (target : WaitTarget) → is_left c.status ≡ true → is_left_of target (operated how c) ≡ true → is_left_of target c ≡ true
+    might (Object object) l left = ap₂ (λ a b. a && b) (both (c.object.0 == object.0) (is_left (operated how c).status) left).0 l
+    might (Group group) l left = ap₂ (λ a b. a && b) (both (c.group.0 == group.0) (is_left (operated how c).status) left).0 l
+    might (Kernel kernel) l left = absurd (false_true left)
+
 -- the rows of other objects stay where one is put in another's place, and so do the kinds where one is released
 numbered_set_other : (objects : List ObjectRow) (m n : ℕ) (row : ObjectRow) → 1 ≤ m → (n == m) ≡ false → numbered (slice_set objects (m - 1) row) n ≡ numbered objects n
 numbered_set_other objects m n row from_one apart =
@@ -664,6 +687,8 @@ changed_sound fresh w (change.ChangePool pool how) s a = none_made fresh (change
 changed_sound fresh w (change.CreateObject row) s a = none_made fresh (with_object w row) (sound_object fresh w row a.home s)
 changed_sound fresh w (change.ReleaseObject object) s a = none_made fresh (changed w (change.ReleaseObject object)) (sound_release fresh w object (numbered w.objects object.0) refl s)
 changed_sound fresh w (change.QueueCallback c) s a = sound_new_callback fresh w c a.number a.home a.object s
+changed_sound fresh w (change.ExpectCallback c) s a = sound_new_callback fresh w c a.number a.home a.object s
+changed_sound fresh w (change.Operate c how) s a = none_made fresh (changed w (change.Operate c how)) (sound_operated fresh w how c a.found a.status s)
 changed_sound fresh w (change.Fire trigger first count) s a = renumbered w (firing trigger (sources_of w)) fresh first count a.number a.counted (sound_fired fresh w trigger a.ready s)
 changed_sound fresh w (change.CreateKernel state) s a = none_made fresh (changed w (change.CreateKernel state)) (sound_kernels fresh w (w.kernels ++ new_kernel state ∷ []) s)
 changed_sound fresh w (change.ChangeKernel kernel how) s a = none_made fresh (changed w (change.ChangeKernel kernel how)) (sound_kernels fresh w (kernel_changed (state_after how) w.kernels kernel.0) s)

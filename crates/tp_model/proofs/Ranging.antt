@@ -9,6 +9,8 @@ use Rattle.tp_base.specs.declared.answers.Refusal.{Refusal}
 use Rattle.tp_base.specs.declared.plans.Busy.{Busy}
 use Rattle.tp_base.specs.declared.plans.Mark.{Mark}
 use Rattle.tp_base.specs.declared.plans.Mark.TheVariants.{Long, Loose, Asks}
+use Rattle.tp_base.specs.declared.plans.IoStep.{IoStep}
+use Rattle.tp_base.specs.declared.plans.IoStep.TheVariants.{Issue, GiveUp, Complete}
 use Rattle.tp_base.specs.declared.plans.PoolChange.{PoolChange}
 use Rattle.tp_base.specs.declared.plans.Change.{Change}
 use Rattle.tp_base.specs.declared.plans.Change.TheVariants as change
@@ -43,10 +45,10 @@ use Rattle.tp_model.proofs.Preserving.{sources_in}
 use Rattle.tp_model.specs.World.{World, BegunWait}
 use Rattle.tp_model.specs.Counts.{numbered, has_number}
 use Rattle.tp_model.specs.Conditions.{busy_of}
-use Rattle.tp_model.specs.Changes.{kernels_taken, kernels_left, new_wait, change_pool, replaced, taken, marked, returned, changed, release_object}
+use Rattle.tp_model.specs.Changes.{kernels_taken, kernels_left, new_wait, change_pool, replaced, taken, marked, operated, returned, changed, release_object}
 use Rattle.tp_model.specs.Refusing.{first_refusal, unless_refused}
 use Rattle.tp_model.specs.Support.Allowed.{IsAllowed, IsReady, MayChange, Suits}
-use Rattle.tp_model.specs.Support.Ranged.{IsStateInRange, IsTargetInRange, IsObjectInRange, IsCallbackInRange, AreRowsInRange, IsTriggerInRange, IsChangeInRange, IsPlanInRange}
+use Rattle.tp_model.specs.Support.Ranged.{IsStateInRange, IsTargetInRange, IsObjectInRange, IsCallbackInRange, AreRowsInRange, IsTriggerInRange, IsStepInRange, IsChangeInRange, IsPlanInRange}
 use Rattle.tp_model.specs.Support.Remembered.{lives, forget}
 use Rattle.tp_base.specs.declared.ids.Who.TheVariants.{Worker}
 use Rattle.std.proofs.lemmas.Bool.{leb-true}
@@ -99,6 +101,11 @@ mark_rows w Long c found rows = put_row (marked Long c) w.callbacks (same_number
 mark_rows w Loose c found rows = put_row (marked Loose c) w.callbacks (same_numbers (marked Loose c) c refl refl refl refl refl (found_row c w.callbacks found rows.callbacks)) rows.callbacks
 mark_rows w (Asks kind action) c found rows =
     put_row (marked (Asks kind action) c) w.callbacks (same_numbers (marked (Asks kind action) c) c refl refl refl refl refl (found_row c w.callbacks found rows.callbacks)) rows.callbacks
+
+operated_row : (how : IoStep) (c : CallbackRow) → IsStepInRange how → IsCallbackInRange c → IsCallbackInRange (operated how c)
+operated_row Issue c r h = record { number = h.number; object = h.object; routine = h.routine; context = h.context; result = h.result }
+operated_row GiveUp c r h = record { number = h.number; object = h.object; routine = h.routine; context = h.context; result = h.result }
+operated_row (Complete error bytes) c r h = record { number = h.number; object = h.object; routine = h.routine; context = h.context; result = r }
 
 release_rows : (w : World) (object : ObjectId) (row : Option ObjectRow) → numbered w.objects object.0 ≡ row → AreRowsInRange w → AreRowsInRange (release_object w object row)
 release_rows w object None is rows = rows
@@ -235,6 +242,9 @@ changed_rows fresh w (change.ChangePool pool how) s a r rows = pool_rows w pool.
 changed_rows fresh w (change.CreateObject row) s a r rows = record { objects = all_append IsObjectInRange w.objects row rows.objects r; callbacks = rows.callbacks; timers = rows.timers; armings = rows.armings; kernels = rows.kernels; waits = rows.waits }
 changed_rows fresh w (change.ReleaseObject object) s a r rows = release_rows w object (numbered w.objects object.0) refl rows
 changed_rows fresh w (change.QueueCallback c) s a r rows = record { objects = rows.objects; callbacks = all_append IsCallbackInRange w.callbacks c rows.callbacks r; timers = rows.timers; armings = rows.armings; kernels = rows.kernels; waits = rows.waits }
+changed_rows fresh w (change.ExpectCallback c) s a r rows = record { objects = rows.objects; callbacks = all_append IsCallbackInRange w.callbacks c rows.callbacks r; timers = rows.timers; armings = rows.armings; kernels = rows.kernels; waits = rows.waits }
+changed_rows fresh w (change.Operate c how) s a r rows =
+    record { objects = rows.objects; callbacks = put_row (operated how c) w.callbacks (operated_row how c r (found_row c w.callbacks a.found rows.callbacks)) rows.callbacks; timers = rows.timers; armings = rows.armings; kernels = rows.kernels; waits = rows.waits }
 changed_rows fresh w (change.Fire trigger first count) s a r rows =
     let f : Firing = firing trigger (sources_of w) in
     let made : IsFiringIn w.objects f = fired_in w trigger a.ready (sources_in fresh w s) in

@@ -12,14 +12,14 @@ use Rattle.tp_base.specs.declared.rows.CallbackRow.{CallbackRow}
 use Rattle.tp_base.specs.declared.rows.WorkerRow.{WorkerRow}
 use Rattle.tp_model.specs.World.{World}
 use Rattle.tp_model.specs.Counts.{has_number, is_running}
-use Rattle.tp_model.specs.Changes.{replaced, taken as taken_row, returned}
+use Rattle.tp_model.specs.Changes.{replaced, taken as taken_row, operated, returned}
 use Rattle.tp_model.specs.Actions.{no_actions}
 use Rattle.tp_model.specs.Laws.Entries.{Run, run_by}
 use Rattle.tp_model.specs.Laws.Covered.{returns, loosens}
 use Rattle.tp_model.specs.Support.Told.{Deed}
-use Rattle.tp_model.specs.Support.Moves.{asked_slots, Move, Stay, Mark, Attach, Detach, Take, Return, Amend, Cancel, Moves, run_of}
+use Rattle.tp_model.specs.Support.Moves.{asked_slots, Move, Stay, Mark, Attach, Detach, Take, Return, Amend, Operate, Cancel, Moves, run_of}
 use Rattle.tp_model.proofs.Cancelling.{running_passed, find_uncancelled}
-use Rattle.tp_model.proofs.Callbacks.{find_replaced, find_replaced_other, pending_not_running}
+use Rattle.tp_model.proofs.Callbacks.{find_replaced, find_replaced_other, pending_not_running, before_idle}
 use Rattle.tp_model.proofs.Places.{LastPlace, Here, Earlier, last_place, any_last, find_front}
 use Rattle.tp_model.proofs.Refusals.{false_true, is_own_actor}
 
@@ -100,6 +100,12 @@ module _ (w : World) (entry : Entry) (kept : List CallbackRow) (staff : List Wor
       let is : m.callback.number ≡ run.number = eqb-true m.callback.number run.number e in
       let same : m.callback ≡ f.row = same_row run.number m.callback.number f.row m.callback w.callbacks is f.found m.found in
       absurd (false_true (sym (pending_not_running m.callback.status m.waits) ∙ ap (λ (x : CallbackRow). is_running x.status) same ∙ ap is_running f.status))))
+  kept_running (Operate m) =
+      subst (λ cs. IsRunning cs who run (loose || (loosens who entry || false))) (sym m.callbacks)
+      (apart (operated m.how m.callback) (λ e.
+      let is : m.callback.number ≡ run.number = eqb-true m.callback.number run.number e in
+      let same : m.callback ≡ f.row = same_row run.number m.callback.number f.row m.callback w.callbacks is f.found m.found in
+      absurd (false_true (sym (before_idle m.how m.callback.status m.status) ∙ ap (λ (x : CallbackRow). is_running x.status) same ∙ ap is_running f.status))))
   kept_running (Return m) =
       subst (λ cs. IsRunning cs who run (loose || (loosens who entry || false))) (sym m.callbacks)
       (apart (returned m.callback) (λ e.
@@ -161,6 +167,7 @@ taken_runs w entry kept staff run (Attach m) e = absurd (let h = sym (ap (λ (d 
 taken_runs w entry kept staff run (Detach m) e = absurd (let h = sym (ap (λ (d : Deed). d.run) m.tells) ∙ e in cc)
 taken_runs w entry kept staff run (Return m) e = absurd (let h = sym (ap (λ (d : Deed). d.run) m.tells) ∙ e in cc)
 taken_runs w entry kept staff run (Amend m) e = absurd (let h = sym (ap (λ (d : Deed). d.run) m.tells) ∙ e in cc)
+taken_runs w entry kept staff run (Operate m) e = absurd (let h = sym (ap (λ (d : Deed). d.run) m.tells) ∙ e in cc)
 taken_runs w entry kept staff run (Cancel m) e = absurd (let h = sym (ap (λ (d : Deed). d.run) m.tells) ∙ e in cc)
 
 pub runs_on_more : (fresh : ℕ) (before : List Entry) (w : World) (x : Entry) (after : World) → AreRunning before w → Moves fresh w x after → AreRunning (before ++ x ∷ []) after

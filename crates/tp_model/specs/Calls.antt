@@ -8,5 +8,6 @@ pub mod InCallback
 pub mod Kernels
 pub mod Timers
 pub mod WaitObjects
+pub mod Io
 pub mod Waits
 pub mod Clients

@@ -10,7 +10,11 @@ use Rattle.tp_base.specs.declared.plans.PoolChange.TheVariants.{Close, Maximum, 
 use Rattle.tp_base.specs.declared.plans.Busy.{Busy}
 use Rattle.tp_base.specs.declared.plans.ActionWords.{ActionWords}
 use Rattle.tp_base.specs.declared.rows.Status.{Status}
-use Rattle.tp_base.specs.declared.rows.Status.TheVariants.{Running, Returned}
+use Rattle.tp_base.specs.declared.rows.Status.TheVariants.{Expected, Issued, Pending, Running, Returned, Cancelled}
+use Rattle.tp_base.specs.declared.plans.IoStep.{IoStep}
+use Rattle.tp_base.specs.declared.plans.IoStep.TheVariants.{Issue, GiveUp, Complete}
+use Rattle.tp_base.specs.declared.answers.TakeResult.{TakeResult}
+use Rattle.tp_base.specs.declared.answers.TakeResult.TheVariants.{Io}
 use Rattle.tp_base.specs.declared.plans.WaitEnd.{WaitEnd}
 use Rattle.tp_base.specs.declared.plans.WaitEnd.TheVariants.{Free, Exhausted}
 use Rattle.tp_base.specs.declared.rows.KernelRow.{KernelRow}
@@ -97,6 +101,25 @@ marked Long c = record c { long = true }
 marked Loose c = record c { status = loosened c.status }
 marked (Asks kind action) c = record c { status = asking kind action c.status }
 
+-- the operation of a callback is issued from where it is expected, and completes from where it is issued
+abbrev pub status_before : IoStep → Status
+status_before Issue = Expected
+status_before GiveUp = Expected
+status_before (Complete error bytes) = Issued
+
+abbrev pub status_after : IoStep → Status
+status_after Issue = Issued
+status_after GiveUp = Cancelled
+status_after (Complete error bytes) = Pending
+
+abbrev pub result_after : IoStep → TakeResult → TakeResult
+result_after Issue result = result
+result_after GiveUp result = result
+result_after (Complete error bytes) result = Io error bytes
+
+abbrev pub operated : IoStep → CallbackRow → CallbackRow
+operated how c = record c { status = status_after how; result = result_after how c.result }
+
 abbrev pub returned : CallbackRow → CallbackRow
 returned c = record c { status = Returned }
 
@@ -146,6 +169,8 @@ changed w (change.ChangePool pool how) = change_pool w pool.0 how (slice_get w.p
 changed w (change.CreateObject row) = with_object w row
 changed w (change.ReleaseObject object) = release_object w object (numbered w.objects object.0)
 changed w (change.QueueCallback callback) = with_new_callback w callback
+changed w (change.ExpectCallback callback) = with_new_callback w callback
+changed w (change.Operate callback how) = with_callback w (operated how callback)
 changed w (change.Fire trigger first count) = fired w first (firing trigger (sources_of w))
 changed w (change.CreateKernel state) = record w { kernels = w.kernels ++ new_kernel state ∷ [] }
 changed w (change.ChangeKernel kernel how) = record w { kernels = kernel_changed (state_after how) w.kernels kernel.0 }

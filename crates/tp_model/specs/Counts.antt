@@ -18,6 +18,22 @@ use Rattle.tp_model.specs.World.{World}
 abbrev pub numbered : {R : Type 0} → List R → ℕ → Option R
 numbered rows number = if number == 0 then None else slice_get rows (number - 1)
 
+-- its operation is announced
+abbrev pub is_expected : Status → Bool
+is_expected Expected = true
+is_expected _ = false
+
+-- its operation is under way
+abbrev pub is_issued : Status → Bool
+is_issued Issued = true
+is_issued _ = false
+
+-- its operation is announced or under way
+abbrev pub is_operating : Status → Bool
+is_operating Expected = true
+is_operating Issued = true
+is_operating _ = false
+
 abbrev pub is_pending : Status → Bool
 is_pending Pending = true
 is_pending _ = false

@@ -8,11 +8,13 @@ pub mod Maximum
 pub mod Covered
 pub mod Actions
 pub mod Armed
+pub mod Io
 use Once.{AreOnce}
 use Maximum.{IsWithinMaximum}
 use Covered.{AreCovered}
 use Actions.{AreActions}
 use Armed.{AreArmed}
+use Io.{AreOperated}
 
 pub record KeepsLaws (limits : Limits) (history : List Entry) : Type 0 where
   pub once : AreOnce limits history
@@ -20,3 +22,4 @@ pub record KeepsLaws (limits : Limits) (history : List Entry) : Type 0 where
   pub covered : AreCovered history
   pub actions : AreActions history
   pub armed : AreArmed history
+  pub operated : AreOperated history

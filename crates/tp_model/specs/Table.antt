@@ -2,7 +2,7 @@
 use Rattle.std.specs.Prelude.{ℕ, ◌+◌, length}
 use Rattle.tp_base.specs.declared.ids.Who.{Who}
 use Rattle.tp_base.specs.declared.calls.Call.{Call}
-use Rattle.tp_base.specs.declared.calls.Call.TheVariants.{CreatePool, ClosePool, SetMaximum, SetMinimum, Create, CloseObject, SubmitSimple, SubmitWork, SetTimer, SetTimerEx, IsTimerSet, Advance, BeginWait, BeginAcquire, End, CreateEvent, CreateSemaphore, CreateLock, SetEvent, ResetEvent, ReleaseSemaphore, ReleaseLock, Attach, Detach, Take, Return, MayRunLong, Disassociate, OnReturn, Finish, SetWait}
+use Rattle.tp_base.specs.declared.calls.Call.TheVariants.{CreatePool, ClosePool, SetMaximum, SetMinimum, Create, CloseObject, SubmitSimple, SubmitWork, SetTimer, SetTimerEx, IsTimerSet, Advance, BeginWait, BeginAcquire, End, CreateEvent, CreateSemaphore, CreateLock, SetEvent, ResetEvent, ReleaseSemaphore, ReleaseLock, Attach, Detach, Take, Return, MayRunLong, Disassociate, OnReturn, Finish, SetWait, StartIo, IssueIo, CancelIo, CompleteIo}
 use Rattle.tp_base.specs.declared.plans.Plan.{Plan}
 use Rattle.tp_model.specs.World.{World}
 use Rattle.tp_model.specs.Step.{Step, stepped, within}
@@ -13,6 +13,7 @@ use Rattle.tp_model.specs.Calls.Workers.{attach_plan, detach_plan, take_plan, re
 use Rattle.tp_model.specs.Calls.InCallback.{may_run_long_plan, disassociate_plan, on_return_plan}
 use Rattle.tp_model.specs.Calls.Timers.{set_timer_plan, set_timer_ex_plan, is_timer_set_plan, advance_plan}
 use Rattle.tp_model.specs.Calls.WaitObjects.{set_wait_plan}
+use Rattle.tp_model.specs.Calls.Io.{start_io_plan, issue_io_plan, cancel_io_plan, complete_io_plan}
 use Rattle.tp_model.specs.Calls.Waits.{begin_wait_plan, begin_acquire_plan, end_plan}
 use Rattle.tp_model.specs.Calls.Kernels.{create_event_plan, create_semaphore_plan, create_lock_plan, set_event_plan, reset_event_plan, release_semaphore_plan, release_lock_plan}
 use Rattle.tp_model.specs.Calls.Clients.{finish_plan}
@@ -32,6 +33,10 @@ plan_at w fresh room who (SetTimerEx object due period window) = set_timer_ex_pl
 plan_at w fresh room who (IsTimerSet object) = is_timer_set_plan w who object
 plan_at w fresh room who (Advance ticks) = advance_plan w fresh who ticks
 plan_at w fresh room who (SetWait object kernel timeout) = set_wait_plan w fresh who object kernel timeout
+plan_at w fresh room who (StartIo object) = start_io_plan w fresh who object
+plan_at w fresh room who (IssueIo object) = issue_io_plan w who object
+plan_at w fresh room who (CancelIo object) = cancel_io_plan w who object
+plan_at w fresh room who (CompleteIo callback error bytes) = complete_io_plan w who callback error bytes
 plan_at w fresh room who (BeginWait kind object cancel) = begin_wait_plan w who kind object cancel
 plan_at w fresh room who (BeginAcquire kernel) = begin_acquire_plan w who kernel
 plan_at w fresh room who End = end_plan w room who

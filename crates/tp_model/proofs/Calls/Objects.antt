@@ -1,5 +1,5 @@
 -- The facts of calls on objects of all kinds.
-use Rattle.std.proofs.Common.{◌≡◌, ℕ, true, false, not, ◌||◌, length, Option, Some, None, is_some, refl, ap, arith, ◌+◌, nat_lt}
+use Rattle.std.proofs.Common.{◌≡◌, ℕ, true, false, not, ◌||◌, length, Option, Some, None, is_some, refl, sym, ap, ap₂, arith, ◌+◌, ◌&&◌, ◌==◌, ◌∷◌, [], ◌++◌, nat_lt}
 use Rattle.std.specs.Option.{option_map_or}
 use Rattle.std.proofs.lemmas.Bool.{leb-false}
 use Rattle.tp_base.specs.declared.ids.Who.{Who}
@@ -11,19 +11,24 @@ use Rattle.tp_base.specs.declared.calls.Call.TheVariants.{Create, CloseObject}
 use Rattle.tp_base.specs.declared.answers.Answer.TheVariants as answer
 use Rattle.tp_base.specs.declared.plans.Change.TheVariants as change
 use Rattle.tp_base.specs.declared.plans.Plan.TheVariants as plan
+use Rattle.tp_base.specs.declared.answers.Refusal.TheVariants.{OperationsOutstanding}
+use Rattle.tp_base.specs.declared.rows.Status.{Status}
+use Rattle.tp_base.specs.declared.rows.Status.TheVariants.{Expected, Issued}
+use Rattle.tp_base.specs.declared.rows.CallbackRow.{CallbackRow}
 use Rattle.tp_base.specs.declared.rows.ObjectRow.{ObjectRow}
 use Rattle.tp_base.specs.declared.rows.WaitTarget.TheVariants.{Object}
 use Rattle.tp_base.specs.Ranges.{IsCallInRange}
 use Rattle.tp_model.specs.World.{World}
-use Rattle.tp_model.specs.Counts.{numbered}
+use Rattle.tp_model.specs.Counts.{numbered, is_live, is_operating}
 use Rattle.tp_model.specs.Conditions.{is_actor, is_pool, is_finished, is_no_group_or_group, is_object, is_released}
 use Rattle.tp_model.specs.Refusing.{first_refusal, unless_refused, object_refusals}
 use Rattle.tp_model.specs.Sources.{new_object}
-use Rattle.tp_model.specs.Calls.Objects.{create_refusals, create_plan, close_object_plan}
+use Rattle.tp_model.specs.Calls.Objects.{create_refusals, create_plan, is_operation_of, has_operations, close_object_refusals, close_object_plan}
 use Rattle.tp_model.specs.Support.Allowed.{IsUnreleased}
 use Rattle.tp_model.specs.Support.Safe.{IsSafe}
-use Rattle.tp_model.specs.Support.Remembered.{forget}
+use Rattle.tp_model.specs.Support.Remembered.{lives, forget}
 use Rattle.tp_model.specs.Support.Ranged.{IsRanged, IsPlanInRange}
+use Rattle.tp_model.proofs.Lists.{any_filter}
 use Rattle.tp_model.proofs.Refusals.{neither, not_false, made, false_true}
 use Rattle.tp_model.proofs.Forgetting.{outstanding_forget}
 use Rattle.tp_model.proofs.Planning.{safe_unless}
@@ -63,7 +68,7 @@ unreleased w object there live = of_row (numbered w.objects object.0) refl there
 pub close_object_safe : (fresh : ℕ) (w : World) (who : Who) (kind : Kind) (object : ObjectId) → IsSafe fresh w who (CloseObject kind object) (close_object_plan w who kind object)
 unfolding close_object_plan
 close_object_safe fresh w who kind object =
-    safe_unless fresh w who (CloseObject kind object) (object_refusals w who kind object.0) _
+    safe_unless fresh w who (CloseObject kind object) (close_object_refusals w who kind object) _
     (λ none.
     let there = not_false (is_object w object.0) (neither (not (is_actor w who)) (not (is_object w object.0)) none.0).1 in
     let live = (neither (is_finished w who) (is_released w object.0) none.1.1.0).1 in
@@ -72,8 +77,17 @@ close_object_safe fresh w who kind object =
 pub close_object_forget : (w : World) (who : Who) (kind : Kind) (object : ObjectId) → close_object_plan (forget w) who kind object ≡ close_object_plan w who kind object
 unfolding close_object_plan
 close_object_forget w who kind object =
-    ap (λ n. unless_refused (first_refusal (object_refusals w who kind object.0)) (plan.Does (answer.Closed (nat_lt 0 n)) (change.ReleaseObject object))) (outstanding_forget w (Object object))
+    ap₂ (λ b n. unless_refused (first_refusal (object_refusals w who kind object.0 ++ (b, OperationsOutstanding object) ∷ [])) (plan.Does (answer.Closed (nat_lt 0 n)) (change.ReleaseObject object)))
+    (any_filter (is_operation_of object.0) lives over w.callbacks) (outstanding_forget w (Object object))
+  where
+    idle : (s : Status) → is_live s ≡ false → is_operating s ≡ false
+    idle Expected e = absurd (false_true (sym e))
+    idle Issued e = absurd (false_true (sym e))
+    idle _ e = refl
 
-pub close_object_ranged : (w : World) (who : Who) (kind : Kind) (object : ObjectId) → IsPlanInRange (close_object_plan w who kind object)
+    over : (c : CallbackRow) → lives c ≡ false → is_operation_of object.0 c ≡ false
+    over c dead = ap (λ b. b && (c.object.0 == object.0)) (idle c.status dead)
+
+pub close_object_ranged : (w : World) (who : Who) (kind : Kind) (object : ObjectId) → IsCallInRange (CloseObject kind object) → IsPlanInRange (close_object_plan w who kind object)
 unfolding close_object_plan
-close_object_ranged w who kind object = ranged_unless (object_refusals w who kind object.0) _ _ (tt, tt)
+close_object_ranged w who kind object c = ranged_unless (close_object_refusals w who kind object) _ (tt, (tt, (tt, (tt, (tt, (c, tt)))))) (tt, tt)

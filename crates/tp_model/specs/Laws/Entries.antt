@@ -5,13 +5,14 @@ use Rattle.std.specs.List.{filter, list_any, position, range_with_len, flat_map,
 use Rattle.tp_base.specs.declared.ids.Who.TheVariants.{Worker}
 use Rattle.tp_base.specs.declared.ids.ObjectId.{ObjectId}
 use Rattle.tp_base.specs.declared.calls.Call.{Call}
-use Rattle.tp_base.specs.declared.calls.Call.TheVariants.{OnReturn, Return, SetMaximum, SetMinimum, BeginWait, End, Disassociate, Create, SetWait}
+use Rattle.tp_base.specs.declared.calls.Call.TheVariants.{OnReturn, Return, SetMaximum, SetMinimum, BeginWait, End, Disassociate, Create, SetWait, CompleteIo}
 use Rattle.tp_base.specs.declared.answers.ActionKind.{ActionKind}
 use Rattle.tp_base.specs.declared.plans.ActionWords.{ActionWords}
 use Rattle.tp_base.specs.declared.calls.Kind.{Kind}
 use Rattle.tp_base.specs.declared.calls.Kind.TheVariants.{Wait}
 use Rattle.tp_base.specs.declared.answers.Answer.{Answer}
-use Rattle.tp_base.specs.declared.answers.Answer.TheVariants.{Made, Queued, WasSet, Count, Advanced, Returned, Started, Cancelled, Closing, Begun, Attached, Taken, Ended, Exhausted, Stalled}
+use Rattle.tp_base.specs.declared.answers.Answer.TheVariants.{Made, Queued, WasSet, Count, Advanced, Returned, Started, Operation, Cancelled, Closing, Begun, Attached, Taken, Ended, Exhausted, Stalled, Refused}
+use Rattle.tp_base.specs.declared.answers.TakeResult.{TakeResult}
 use Rattle.tp_base.specs.declared.answers.Entry.{Entry}
 use Rattle.tp_base.specs.declared.limits.Limits.{Limits}
 use Rattle.tp_base.specs.Actors.{is_same_actor}
@@ -43,9 +44,20 @@ abbrev pub started_by : Answer → List ℕ
 started_by (Started callback) = callback ∷ []
 started_by _ = []
 
+abbrev pub is_complete_call : Call → Bool
+is_complete_call (CompleteIo callback error bytes) = true
+is_complete_call _ = false
+
+-- what is pending as an operation completes was made before, and else what an entry tells to be pending is made by it
+abbrev pub completed_by : Entry → List ℕ
+completed_by entry = if is_complete_call entry.call then queued_by entry.answer else []
+
+abbrev pub queued_new : Entry → List ℕ
+queued_new entry = if is_complete_call entry.call then [] else queued_by entry.answer
+
 -- those that an entry makes
 abbrev pub made_by : Entry → List ℕ
-made_by entry = started_by entry.answer ++ queued_by entry.answer
+made_by entry = started_by entry.answer ++ queued_new entry
 
 abbrev pub taken_by : Answer → Option ℕ
 taken_by (Taken callback object routine context result) = Some callback
@@ -203,6 +215,39 @@ is_disassociate_call _ = false
 -- an accepted Disassociate
 abbrev pub is_loosened : Entry → Bool
 is_loosened entry = is_disassociate_call entry.call && not (is_refusal entry.answer)
+
+-- ---- operations of I/O objects
+
+-- what happens to an operation, and that its callback is taken
+pub data Happening : Type 0 where
+  Starts : Happening
+  Issues : Happening
+  GivesUp : Happening
+  Completes : (error bytes : ℕ) → Happening
+  Runs : TakeResult → Happening
+
+-- to the callback of a number
+pub record Event : Type 0 where
+  pub number : ℕ
+  pub what : Happening
+
+abbrev pub event : ℕ → Happening → Option Event
+event number what = Some (record { number = number; what = what })
+
+abbrev pub completion : Call → Option Event
+completion (CompleteIo callback error bytes) = event callback (Completes error bytes)
+completion _ = None
+
+abbrev pub event_of : Answer → Call → Option Event
+event_of (Operation callback) call = event callback Issues
+event_of (Cancelled callback) call = event callback GivesUp
+event_of (Taken callback object routine context result) call = event callback (Runs result)
+event_of (Refused refusal) call = None
+event_of answer call = completion call
+
+-- what an entry tells to happen to a callback that was there before
+abbrev pub event_by : Entry → Option Event
+event_by entry = event_of entry.answer entry.call
 
 -- ---- wait objects
 

@@ -25,13 +25,15 @@ use Rattle.tp_base.specs.declared.calls.Kind.{Kind}
 use Rattle.tp_base.specs.declared.calls.Kind.TheVariants.{Timer, Wait}
 use Rattle.tp_base.specs.declared.plans.Trigger.{Trigger}
 use Rattle.tp_base.specs.declared.plans.Trigger.TheVariants as trigger
+use Rattle.tp_base.specs.declared.plans.IoStep.{IoStep}
 use Rattle.tp_base.specs.declared.plans.Change.{Change}
 use Rattle.tp_base.specs.declared.plans.Change.TheVariants as change
 use Rattle.tp_base.specs.declared.rows.Slots.{Slots}
-use Rattle.tp_base.specs.declared.rows.Status.TheVariants.{Running}
+use Rattle.tp_base.specs.declared.rows.Status.TheVariants.{Expected, Running}
 use Rattle.tp_base.specs.declared.rows.ObjectRow.{ObjectRow}
 use Rattle.tp_base.specs.declared.rows.CallbackRow.{CallbackRow}
 use Rattle.tp_base.specs.Timers.{clock_end}
+use Rattle.tp_model.specs.Changes.{status_before}
 use Rattle.tp_base.specs.Kernels.{is_waitable, may_take, is_event, is_semaphore, passes_by, takings_of}
 use Rattle.tp_model.specs.Kernels.{is_kernel, is_kernel_that}
 use Rattle.tp_model.specs.Sources.{count_fired, slots_after}
@@ -55,6 +57,19 @@ pub record IsNewCallback (fresh : ℕ) (w : World) (callback : CallbackRow) : Ty
   pub object : IsCallbackSound w.objects callback
   pub home : callback.pool.0 < length w.pools
   pub room : lacks_slots_for w 1 ≡ false
+
+-- and one that expects an operation, of an object
+pub record IsNewOperation (fresh : ℕ) (w : World) (callback : CallbackRow) : Type 0 where
+  pub number : callback.number ≡ fresh
+  pub expected : callback.status ≡ Expected
+  pub object : IsCallbackSound w.objects callback
+  pub home : callback.pool.0 < length w.pools
+  pub room : lacks_slots_for w 1 ≡ false
+
+-- an operation that comes from where the step begins
+pub record MayOperate (w : World) (callback : CallbackRow) (how : IoStep) : Type 0 where
+  pub found : callback_of w callback.number ≡ Some callback
+  pub status : callback.status ≡ status_before how
 
 -- the kernel object is of the change's kind; a semaphore's count stays within its maximum
 abbrev pub Suits : KernelChange → KernelState → Type 0
@@ -199,6 +214,8 @@ IsAllowed fresh w (change.ChangePool pool how) = pool.0 < length w.pools
 IsAllowed fresh w (change.CreateObject row) = IsNewObject w row
 IsAllowed fresh w (change.ReleaseObject object) = IsUnreleased w object
 IsAllowed fresh w (change.QueueCallback callback) = IsNewCallback fresh w callback
+IsAllowed fresh w (change.ExpectCallback callback) = IsNewOperation fresh w callback
+IsAllowed fresh w (change.Operate callback how) = MayOperate w callback how
 IsAllowed fresh w (change.Fire trigger first count) = MayFire fresh w trigger first count
 IsAllowed fresh w (change.CreateKernel state) = IsNewKernel w state
 IsAllowed fresh w (change.ChangeKernel object how) = MayChange w object how
@@ -225,6 +242,7 @@ price _ = 1
 -- how many callbacks it makes
 abbrev pub news : Change → ℕ
 news (change.QueueCallback callback) = 1
+news (change.ExpectCallback callback) = 1
 news (change.Fire trigger first count) = count
 news (change.Return by words first count) = count
 news _ = 0
@@ -232,6 +250,7 @@ news _ = 0
 -- by whom a change can be made; and a callback that no trigger makes is of no wait object
 abbrev pub IsMadeBy : World → Who → Change → Type 0
 IsMadeBy w who (change.QueueCallback callback) = is_wait_at w.objects callback.object.0 ≡ false
+IsMadeBy w who (change.ExpectCallback callback) = is_wait_at w.objects callback.object.0 ≡ false
 IsMadeBy w who (change.Attach worker pool) = who ≡ Worker worker
 IsMadeBy w who (change.Detach by) = who ≡ Worker by.worker
 IsMadeBy w who (change.Take by callback) = who ≡ Worker by.worker

@@ -13,19 +13,20 @@ use Rattle.tp_base.specs.declared.answers.Entry.{Entry}
 use Rattle.tp_base.specs.declared.rows.Status.{Status}
 use Rattle.tp_base.specs.declared.rows.Slots.{Slots}
 use Rattle.tp_base.specs.declared.rows.Status.TheVariants.{Expected, Pending, Running}
+use Rattle.tp_base.specs.declared.plans.IoStep.{IoStep}
 use Rattle.tp_base.specs.declared.rows.WaitTarget.TheVariants.{Object}
 use Rattle.tp_base.specs.declared.rows.PoolRow.{PoolRow}
 use Rattle.tp_base.specs.declared.rows.CallbackRow.{CallbackRow}
 use Rattle.tp_base.specs.declared.rows.WorkerRow.{WorkerRow}
 use Rattle.tp_model.specs.World.{World, BegunWait}
-use Rattle.tp_model.specs.Counts.{numbered, has_number, is_pending, running, maximum}
+use Rattle.tp_model.specs.Counts.{numbered, has_number, is_expected, is_pending, running, maximum}
 use Rattle.tp_base.specs.Actors.{is_same_actor}
 use Rattle.tp_model.specs.Conditions.{is_in_wait}
 use Rattle.tp_model.specs.Waits.{cancel_where, is_covered_by, is_of, held, wait_of}
-use Rattle.tp_model.specs.Changes.{replaced, taken, returned}
-use Rattle.tp_model.specs.Laws.Entries.{Run, Begins, begins_by, is_among, is_ending, is_freeing, made_by, queued_by, maximum_after, set_by, makes_wait}
+use Rattle.tp_model.specs.Changes.{replaced, taken, returned, status_before, operated}
+use Rattle.tp_model.specs.Laws.Entries.{Run, Begins, begins_by, is_among, is_ending, is_freeing, made_by, queued_new, started_by, event, Runs as Taking, maximum_after, set_by, makes_wait}
 use Rattle.tp_model.specs.Support.Sound.{is_wait_at, count_armed}
-use Rattle.tp_model.specs.Support.Told.{deed_by, nothing}
+use Rattle.tp_model.specs.Support.Told.{deed_by, deed_of, nothing}
 
 -- ---- callbacks and workers that there are; `kept` and `staff` are what becomes of them
 
@@ -35,7 +36,7 @@ pub record Stays (w : World) (entry : Entry) (kept : List CallbackRow) (staff : 
   pub callbacks : kept ≡ w.callbacks
   pub workers : staff ≡ w.workers
 
--- a callback changes, and its status, its object and its pool stay the same
+-- a callback changes, and its status, its object, its pool and its result stay the same
 pub record Marks (w : World) (entry : Entry) (kept : List CallbackRow) (staff : List WorkerRow) : Type 0 where
   pub old : CallbackRow
   pub new : CallbackRow
@@ -44,6 +45,7 @@ pub record Marks (w : World) (entry : Entry) (kept : List CallbackRow) (staff : 
   pub status : new.status ≡ old.status
   pub object : new.object ≡ old.object
   pub pool : new.pool ≡ old.pool
+  pub result : new.result ≡ old.result
   pub callbacks : kept ≡ replaced new w.callbacks
   pub workers : staff ≡ w.workers
 
@@ -84,7 +86,7 @@ pub record Takes (w : World) (entry : Entry) (kept : List CallbackRow) (staff : 
   pub callback : CallbackRow
   pub actor : IsFree w entry worker
   pub home : actor.row.pool ≡ Some pool
-  pub tells : deed_by entry ≡ record nothing { taken = Some callback.number; run = Some (run_of callback) }
+  pub tells : deed_by entry ≡ record nothing { taken = Some callback.number; run = Some (run_of callback); event = event callback.number (Taking callback.result) }
   pub found : find (has_number callback.number) w.callbacks ≡ Some callback
   pub waits : is_pending callback.status ≡ true
   pub pool_same : callback.pool ≡ pool
@@ -145,6 +147,16 @@ pub record Amends (w : World) (entry : Entry) (kept : List CallbackRow) (staff :
   pub callbacks : kept ≡ replaced (record callback { status = Running worker (associated && not loose) (asked_slots asks slots) }) w.callbacks
   pub workers : staff ≡ w.workers
 
+-- an operation goes a step
+pub record Operates (w : World) (entry : Entry) (kept : List CallbackRow) (staff : List WorkerRow) : Type 0 where
+  pub callback : CallbackRow
+  pub how : IoStep
+  pub tells : deed_by entry ≡ deed_of callback.number how
+  pub found : find (has_number callback.number) w.callbacks ≡ Some callback
+  pub status : callback.status ≡ status_before how
+  pub callbacks : kept ≡ replaced (operated how callback) w.callbacks
+  pub workers : staff ≡ w.workers
+
 -- the pending callbacks that pass a test are cancelled
 pub record Cancels (w : World) (entry : Entry) (kept : List CallbackRow) (staff : List WorkerRow) : Type 0 where
   pub test : CallbackRow → Bool
@@ -161,6 +173,7 @@ pub data Move (w : World) (entry : Entry) (kept : List CallbackRow) (staff : Lis
   Take : Takes w entry kept staff → Move w entry kept staff
   Return : Returns w entry kept staff → Move w entry kept staff
   Amend : Amends w entry kept staff → Move w entry kept staff
+  Operate : Operates w entry kept staff → Move w entry kept staff
   Cancel : Cancels w entry kept staff → Move w entry kept staff
 
 -- ---- callbacks that are made
@@ -184,6 +197,9 @@ numbers_of cs = map (λ c. c.number) cs
 
 abbrev pub waiting_of : List CallbackRow → List ℕ
 waiting_of cs = numbers_of (filter (λ c. is_pending c.status) cs)
+
+abbrev pub expecting_of : List CallbackRow → List ℕ
+expecting_of cs = numbers_of (filter (λ c. is_expected c.status) cs)
 
 -- ---- wait objects
 
@@ -211,7 +227,8 @@ pub record Moves (fresh : ℕ) (w : World) (entry : Entry) (after : World) : Typ
   pub move : Move w entry kept after.workers
   pub rows : AreNew fresh new
   pub made : made_by entry ≡ numbers_of new
-  pub queued : queued_by entry.answer ≡ waiting_of new
+  pub queued : queued_new entry ≡ waiting_of new
+  pub started : started_by entry.answer ≡ expecting_of new
   pub callbacks : after.callbacks ≡ kept ++ new
   pub arms : ArmsMove w entry after new
 

@@ -9,6 +9,9 @@ use Rattle.tp_base.specs.declared.rows.WaitTarget.TheVariants.{Kernel}
 use Rattle.tp_base.specs.Ranges.{count_most, AreLimitsInRange, IsRoutineInRange, IsResultInRange, IsRefusalInRange, IsAnswerInRange, IsLookInRange}
 use Rattle.tp_base.specs.declared.plans.Trigger.{Trigger}
 use Rattle.tp_base.specs.declared.plans.Trigger.TheVariants.{SetTimer, SetWait}
+use Rattle.tp_base.specs.declared.answers.TakeResult.TheVariants.{Io}
+use Rattle.tp_base.specs.declared.plans.IoStep.{IoStep}
+use Rattle.tp_base.specs.declared.plans.IoStep.TheVariants.{Complete}
 use Rattle.tp_base.specs.declared.plans.Change.{Change}
 use Rattle.tp_base.specs.declared.plans.Change.TheVariants as change
 use Rattle.tp_base.specs.declared.plans.Plan.{Plan}
@@ -60,9 +63,15 @@ IsTriggerInRange (SetTimer object due period window) = object.0 ≤ 65535
 IsTriggerInRange (SetWait object named timeout) = object.0 ≤ 65535
 IsTriggerInRange _ = Unit {0}
 
+abbrev pub IsStepInRange : IoStep → Type 0
+IsStepInRange (Complete error bytes) = IsResultInRange (Io error bytes)
+IsStepInRange _ = Unit {0}
+
 abbrev pub IsChangeInRange : Change → Type 0
 IsChangeInRange (change.CreateObject row) = IsObjectInRange row
 IsChangeInRange (change.QueueCallback callback) = IsCallbackInRange callback
+IsChangeInRange (change.ExpectCallback callback) = IsCallbackInRange callback
+IsChangeInRange (change.Operate callback how) = IsStepInRange how
 IsChangeInRange (change.Fire trigger first count) = IsTriggerInRange trigger × (first + count ≤ 2 ^ 64)
 IsChangeInRange (change.Return by words first count) = first + count ≤ 2 ^ 64
 IsChangeInRange (change.CreateKernel state) = IsStateInRange state

@@ -9,6 +9,8 @@ use Rattle.tp_base.specs.declared.plans.WaitEnd.{WaitEnd}
 use Rattle.tp_base.specs.declared.plans.WaitEnd.TheVariants.{Free, Exhausted}
 use Rattle.tp_base.specs.declared.rows.WaitTarget.{WaitTarget}
 use Rattle.tp_base.specs.declared.rows.WaitTarget.TheVariants.{Object}
+use Rattle.tp_base.specs.declared.plans.IoStep.{IoStep}
+use Rattle.tp_base.specs.declared.plans.IoStep.TheVariants.{Issue, GiveUp, Complete}
 use Rattle.tp_base.specs.declared.plans.PoolChange.{PoolChange}
 use Rattle.tp_base.specs.declared.plans.PoolChange.TheVariants.{Close, Maximum, Minimum}
 use Rattle.tp_base.specs.declared.plans.Trigger.{Trigger}
@@ -17,7 +19,7 @@ use Rattle.tp_base.specs.declared.plans.Change.{Change}
 use Rattle.tp_base.specs.declared.plans.Change.TheVariants as change
 use Rattle.tp_model.specs.World.{World}
 use Rattle.tp_model.specs.Waits.{is_cancelled_by}
-use Rattle.tp_model.specs.Laws.Entries.{Run, Begins, begins_by, is_ending, is_freeing, is_loosened, asked_by, words_by, made_by, queued_by, taken_by, run_by, cancelled_by, cancelled_count, attached_by, is_returned, maximum_after, Sets, sets_by, wait_made, wait_numbered}
+use Rattle.tp_model.specs.Laws.Entries.{Run, Begins, begins_by, is_ending, is_freeing, is_loosened, asked_by, words_by, made_by, queued_new, completed_by, started_by, Happening, Event, event, event_by, Issues, GivesUp, Completes, Runs as Taking, taken_by, run_by, cancelled_by, cancelled_count, attached_by, is_returned, maximum_after, Sets, sets_by, wait_made, wait_numbered}
 
 -- of callbacks that were there before, and of the worker
 pub record Deed : Type 0 where
@@ -30,6 +32,8 @@ pub record Deed : Type 0 where
   pub loosened : Bool
   pub asked : Option ActionKind
   pub words : Option ActionWords
+  pub completed : List ℕ
+  pub event : Option Event
 
 abbrev pub deed_by : Entry → Deed
 deed_by entry = record {
@@ -42,14 +46,17 @@ deed_by entry = record {
   loosened = is_loosened entry;
   asked = asked_by entry;
   words = words_by entry.answer;
+  completed = completed_by entry;
+  event = event_by entry;
 }
 
 abbrev pub nothing : Deed
-nothing = record { taken = None; run = None; cancelled = None; count = 0; attached = None; returned = false; loosened = false; asked = None; words = None }
+nothing = record { taken = None; run = None; cancelled = None; count = 0; attached = None; returned = false; loosened = false; asked = None; words = None; completed = []; event = None }
 
 pub record Told : Type 0 where
   pub made : List ℕ
   pub queued : List ℕ
+  pub started : List ℕ
   pub deed : Deed
   pub begun : Option Begins
   pub ending : Bool
@@ -63,7 +70,8 @@ pub record Told : Type 0 where
 abbrev pub told_by : Entry → Told
 told_by entry = record {
   made = made_by entry;
-  queued = queued_by entry.answer;
+  queued = queued_new entry;
+  started = started_by entry.answer;
   deed = deed_by entry;
   begun = begins_by entry;
   ending = is_ending entry;
@@ -74,7 +82,7 @@ told_by entry = record {
 }
 
 abbrev pub silent : Told
-silent = record { made = []; queued = []; deed = nothing; begun = None; ending = false; freeing = false; wait = None; sets = None; maxima = λ pool maximum. maximum }
+silent = record { made = []; queued = []; started = []; deed = nothing; begun = None; ending = false; freeing = false; wait = None; sets = None; maxima = λ pool maximum. maximum }
 
 abbrev pub maxima_by : ℕ → PoolChange → ℕ → ℕ → ℕ
 maxima_by pool Close other maximum = maximum
@@ -93,15 +101,34 @@ abbrev pub sets_of : Trigger → Option Sets
 sets_of (SetWait object kernel timeout) = Some (record { object = object; named = is_some kernel })
 sets_of _ = None
 
+-- of an operation
+abbrev pub cancelled_of : ℕ → IoStep → Option ℕ
+cancelled_of number GiveUp = Some number
+cancelled_of number _ = None
+
+abbrev pub completed_of : ℕ → IoStep → List ℕ
+completed_of number (Complete error bytes) = number ∷ []
+completed_of number _ = []
+
+abbrev pub happening_of : IoStep → Happening
+happening_of Issue = Issues
+happening_of GiveUp = GivesUp
+happening_of (Complete error bytes) = Completes error bytes
+
+abbrev pub deed_of : ℕ → IoStep → Deed
+deed_of number how = record nothing { cancelled = cancelled_of number how; completed = completed_of number how; event = event number (happening_of how) }
+
 -- what the entry of a change tells, with the number that the next callback gets
 abbrev pub told : ℕ → World → Change → Told
 told fresh w (change.ChangePool pool how) = record silent { maxima = maxima_by pool.0 how }
 told fresh w (change.CreateObject row) = record silent { wait = wait_numbered row.kind (length w.objects + 1) }
 told fresh w (change.QueueCallback callback) = record silent { made = fresh ∷ []; queued = fresh ∷ [] }
+told fresh w (change.ExpectCallback callback) = record silent { made = fresh ∷ []; started = fresh ∷ [] }
+told fresh w (change.Operate callback how) = record silent { deed = deed_of callback.number how }
 told fresh w (change.Fire trigger first count) = record silent { made = range_with_len first count; queued = range_with_len first count; sets = sets_of trigger }
 told fresh w (change.Attach worker pool) = record silent { deed = record nothing { attached = Some pool.0 } }
 told fresh w (change.Take by callback) =
-    record silent { deed = record nothing { taken = Some callback.number; run = Some (record { number = callback.number; object = callback.object }) } }
+    record silent { deed = record nothing { taken = Some callback.number; run = Some (record { number = callback.number; object = callback.object }); event = event callback.number (Taking callback.result) } }
 told fresh w (change.Mark by Loose) = record silent { deed = record nothing { loosened = true } }
 told fresh w (change.Mark by (Asks kind action)) = record silent { deed = record nothing { asked = Some kind } }
 told fresh w (change.BeginWait who target cancel) =

@@ -1,0 +1,93 @@
+-- Calls on I/O objects: StartThreadpoolIo and CancelThreadpoolIo; an operation is issued, and the system completes it.
+use Rattle.std.specs.Prelude.{ℕ, Bool, not, ◌&&◌, ◌==◌, List, [], ◌∷◌, ◌++◌, is_none, if◌then◌else◌, Option, None, Some}
+use Rattle.std.specs.List.{find}
+use Rattle.tp_base.specs.declared.ids.Who.{Who}
+use Rattle.tp_base.specs.declared.ids.ObjectId.{ObjectId}
+use Rattle.tp_base.specs.declared.calls.Kind.TheVariants.{Io}
+use Rattle.tp_base.specs.declared.answers.Refusal.{Refusal}
+use Rattle.tp_base.specs.declared.answers.Refusal.TheVariants.{NoSuch, Released, NotRunning, InWait, NotStarted, NoOperation, CallbackLimit}
+use Rattle.tp_base.specs.declared.answers.TakeResult.TheVariants.{Plain}
+use Rattle.tp_base.specs.declared.answers.Answer.TheVariants as answer
+use Rattle.tp_base.specs.declared.plans.IoStep.TheVariants.{Issue, GiveUp, Complete}
+use Rattle.tp_base.specs.declared.plans.Plan.{Plan}
+use Rattle.tp_base.specs.declared.plans.Plan.TheVariants.{Refused, Does}
+use Rattle.tp_base.specs.declared.plans.Change.TheVariants as change
+use Rattle.tp_base.specs.declared.rows.Status.TheVariants.{Expected}
+use Rattle.tp_base.specs.declared.rows.ObjectRow.{ObjectRow}
+use Rattle.tp_base.specs.declared.rows.CallbackRow.{CallbackRow}
+use Rattle.tp_model.specs.World.{World}
+use Rattle.tp_model.specs.Counts.{numbered, callback_of, is_expected, is_issued}
+use Rattle.tp_model.specs.Conditions.{is_actor, is_finished, is_without_callback, is_in_wait, lacks_slots_for}
+use Rattle.tp_model.specs.Sources.{new_callback}
+use Rattle.tp_model.specs.Refusing.{first_refusal, unless_refused, object_refusals}
+
+-- ---- StartIo: StartThreadpoolIo
+
+abbrev pub start_io_refusals : World → Who → ℕ → List (Bool × Refusal)
+start_io_refusals w who object = object_refusals w who Io object ++ (lacks_slots_for w 1, CallbackLimit) ∷ []
+
+-- its result is that of the operation, once that completes
+abbrev pub expecting : ℕ → ObjectId → ObjectRow → CallbackRow
+expecting fresh object row = record (new_callback fresh object row Plain) { status = Expected }
+
+-- with the number that the callback gets
+abbrev pub start_io : ℕ → ObjectId → Option ObjectRow → Plan
+start_io fresh object None = Refused NoSuch
+start_io fresh object (Some row) = Does (answer.Started fresh) (change.ExpectCallback (expecting fresh object row))
+
+unfoldable pub start_io_plan : World → ℕ → Who → ObjectId → Plan
+start_io_plan w fresh who object =
+    unless_refused (first_refusal (start_io_refusals w who object.0)) (start_io fresh object (numbered w.objects object.0))
+
+-- ---- IssueIo and CancelIo: the first callback of the object that expects an operation gets it, or is cancelled
+
+abbrev pub is_expected_of : ℕ → CallbackRow → Bool
+is_expected_of object c = is_expected c.status && (c.object.0 == object)
+
+-- the one of least number
+abbrev pub first_expected : World → ℕ → Option CallbackRow
+first_expected w object = find (is_expected_of object) w.callbacks
+
+abbrev pub expected_refusals : World → Who → ℕ → List (Bool × Refusal)
+expected_refusals w who object = object_refusals w who Io object ++ (is_none (first_expected w object), NotStarted) ∷ []
+
+abbrev pub issue_io : Option CallbackRow → Plan
+issue_io None = Refused NotStarted
+issue_io (Some c) = Does (answer.Operation c.number) (change.Operate c Issue)
+
+unfoldable pub issue_io_plan : World → Who → ObjectId → Plan
+issue_io_plan w who object = unless_refused (first_refusal (expected_refusals w who object.0)) (issue_io (first_expected w object.0))
+
+abbrev pub cancel_io : Option CallbackRow → Plan
+cancel_io None = Refused NotStarted
+cancel_io (Some c) = Does (answer.Cancelled c.number) (change.Operate c GiveUp)
+
+unfoldable pub cancel_io_plan : World → Who → ObjectId → Plan
+cancel_io_plan w who object = unless_refused (first_refusal (expected_refusals w who object.0)) (cancel_io (first_expected w object.0))
+
+-- ---- CompleteIo: an operation is over, and its callback is pending
+
+abbrev pub issued_row : Option CallbackRow → Option CallbackRow
+issued_row None = None
+issued_row (Some c) = if is_issued c.status then Some c else None
+
+-- the callback of a number, if its operation is under way
+abbrev pub issued_of : World → ℕ → Option CallbackRow
+issued_of w callback = issued_row (callback_of w callback)
+
+abbrev pub complete_io_refusals : World → Who → ℕ → List (Bool × Refusal)
+complete_io_refusals w who callback =
+    (not (is_actor w who), NoSuch)
+    ∷ (is_finished w who, Released)
+    ∷ (is_without_callback w who, NotRunning)
+    ∷ (is_in_wait w who, InWait)
+    ∷ (is_none (issued_of w callback), NoOperation)
+    ∷ []
+
+abbrev pub complete_io : ℕ → ℕ → Option CallbackRow → Plan
+complete_io error bytes None = Refused NoOperation
+complete_io error bytes (Some c) = Does (answer.Queued c.number 1) (change.Operate c (Complete error bytes))
+
+unfoldable pub complete_io_plan : World → Who → ℕ → ℕ → ℕ → Plan
+complete_io_plan w who callback error bytes =
+    unless_refused (first_refusal (complete_io_refusals w who callback)) (complete_io error bytes (issued_of w callback))
