@@ -1,5 +1,5 @@
 -- The law Io: what the entries tell of a callback is the way on which its status has come.
-use Rattle.std.proofs.Common.{◌≡◌, ℕ, ◌+◌, ◌<◌, ◌≤◌, ◌==◌, Bool, true, false, cond, not, ◌&&◌, List, [], ◌∷◌, ◌++◌, length, map, Option, Some, None, refl, sym, ap, ◌∙◌, subst, find, filter, arith, eqb-true, ne_eqb, append-nil, append_assoc}
+use Rattle.std.proofs.Common.{◌≡◌, ℕ, ◌+◌, ◌<◌, ◌==◌, Bool, true, false, cond, not, ◌&&◌, List, [], ◌∷◌, ◌++◌, length, map, Option, Some, None, refl, sym, ap, ◌∙◌, subst, find, filter, arith, eqb-true, ne_eqb, append-nil}
 use Rattle.std.proofs.lemmas.Grind.{flat_map-append}
 use Rattle.tp_base.specs.declared.answers.Entry.{Entry}
 use Rattle.tp_base.specs.declared.answers.TakeResult.{TakeResult}
@@ -13,8 +13,8 @@ use Rattle.tp_base.specs.declared.rows.WorkerRow.{WorkerRow}
 use Rattle.tp_model.specs.World.{World}
 use Rattle.tp_model.specs.Counts.{has_number, is_expected, is_pending}
 use Rattle.tp_model.specs.Changes.{replaced, taken as taken_row, returned, operated, status_before}
-use Rattle.tp_model.specs.Waits.{cancelled as cancelled_row, cancel_where}
-use Rattle.tp_model.specs.Laws.Entries.{Happening, Starts, Issues, GivesUp, Completes, Runs, Event, event_by, started_by}
+use Rattle.tp_model.specs.Waits.{cancelled as cancelled_row}
+use Rattle.tp_model.specs.Laws.Entries.{Happening, Starts, Issues, GivesUp, Completes, Runs, event_by}
 use Rattle.tp_model.specs.Laws.Io.{AreOperated, IsWay, Untaken, Plain, Started, GivenUp, Issued as IssuedWay, Completed, Taken, starts, happens_to, happening, happenings}
 use Rattle.tp_model.specs.Support.Sound.{IsRising}
 use Rattle.tp_model.specs.Support.Told.{Deed, happening_of}

@@ -9,7 +9,7 @@ use Rattle.tp_base.specs.declared.rows.Slots.{Slots}
 use Rattle.tp_base.specs.declared.plans.Mark.{Mark}
 use Rattle.tp_base.specs.declared.plans.Mark.TheVariants.{Long, Loose, Asks}
 use Rattle.tp_base.specs.Actions.{filled, word, is_unasked}
-use Rattle.tp_model.specs.Actions.{asking, slots_of, words_of, returning}
+use Rattle.tp_model.specs.Actions.{asking, slots_of, returning}
 use Rattle.tp_model.proofs.Performing.{returning_counted}
 use Rattle.tp_model.proofs.Actions.{words_unasked}
 use Rattle.tp_base.specs.declared.plans.PoolChange.{PoolChange}

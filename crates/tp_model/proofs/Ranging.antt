@@ -1,5 +1,5 @@
 -- From what it follows that the numbers of a plan are in range; and each change keeps those of the rows.
-use Rattle.std.proofs.Common.{◌≡◌, ℕ, ◌+◌, ◌-◌, ◌<◌, ◌≤◌, ◌^◌, Bool, true, false, cond, not, ◌==◌, List, [], ◌∷◌, length, map, arith, slice_get, Option, Some, None, refl, sym, subst, ap, find, ◌++◌, ◌∙◌, zero, suc}
+use Rattle.std.proofs.Common.{◌≡◌, ℕ, ◌+◌, ◌-◌, ◌<◌, ◌≤◌, ◌^◌, Bool, true, false, cond, not, ◌==◌, List, [], ◌∷◌, length, arith, slice_get, Option, Some, None, refl, sym, subst, ap, find, ◌++◌, ◌∙◌, zero, suc}
 use Rattle.std.specs.List.{AllByRecursion}
 use Rattle.tp_base.specs.Ranges.{IsRoutineInRange, IsRefusalInRange, IsResultInRange}
 use Rattle.tp_base.specs.declared.ids.Who.{Who}
