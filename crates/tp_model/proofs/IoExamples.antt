@@ -1,5 +1,5 @@
 -- I/O objects in small plays, by computation alone; and histories that the law Io refuses.
-use Rattle.std.proofs.Common.{◌≡◌, ℕ, List, [], ◌∷◌, refl, true, false}
+use Rattle.std.proofs.Common.{◌≡◌, ℕ, [], ◌∷◌, refl, true, false}
 use Rattle.tp_base.specs.declared.ids.Who.TheVariants.{Client, Worker}
 use Rattle.tp_base.specs.declared.calls.Priority.TheVariants.{Normal}
 use Rattle.tp_base.specs.declared.calls.Kind.TheVariants.{Work, Io}
@@ -19,7 +19,7 @@ use Rattle.tp_model.specs.Calls.Io.{start_io_plan, issue_io_plan, cancel_io_plan
 use Rattle.tp_model.specs.Calls.Workers.{attach_plan, take_plan, return_plan}
 use Rattle.tp_model.specs.Calls.Waits.{begin_wait_plan, end_plan}
 use Rattle.tp_model.specs.History.{play}
-use Rattle.tp_model.specs.Laws.Entries.{Happening, Starts, Issues, GivesUp, Completes, Runs, numbers_made, numbers_queued}
+use Rattle.tp_model.specs.Laws.Entries.{Starts, Issues, GivesUp, Completes, Runs, numbers_made, numbers_queued}
 use Rattle.tp_model.specs.Laws.Io.{AreOperated, IsWay, Untaken, Plain, Started, GivenUp, Issued, Completed, Taken}
 
 limits : Limits
