@@ -20,13 +20,13 @@ use Rattle.tp_base.specs.declared.rows.TimerSetting.{TimerSetting}
 use Rattle.tp_base.specs.declared.rows.Arming.{Arming}
 use Rattle.tp_base.specs.Armings.{is_armed, is_arming_of, is_arming_on, is_set}
 use Rattle.tp_base.specs.Kernels.{is_signalled, taken, state_after}
-use Rattle.tp_base.specs.Ranges.{IsResultInRange}
 use Rattle.tp_base.specs.Timers.{with_setting, without_setting, set_again, set_all_again, setting_for, set_timer, expires_before, expires_at_once, expired, after_expiry, is_due, next_due, clock_end}
 use Rattle.tp_model.specs.World.{World}
 use Rattle.tp_model.specs.Counts.{numbered, is_running}
 use Rattle.tp_model.specs.Conditions.{is_same_kind}
 use Rattle.tp_model.specs.Kernels.{is_one_that}
 use Rattle.tp_model.specs.Sources.{Sources, Job, Firing, job, jobless, with_state, disarmed, release_to, release_first, release_times, signal, arm, expiry_job, firing, sources_of, rows_of, object_row, no_object}
+use Rattle.tp_model.specs.Laws.Entries.{is_completion}
 use Rattle.tp_model.specs.Support.Allowed.{IsReady, IsTimer}
 use Rattle.tp_model.specs.Support.Sound.{IsMade, is_wait_at, may_be_armed}
 use Rattle.tp_model.specs.Support.Moves.{AreNew, numbers_of, waiting_of, expecting_of}
@@ -50,10 +50,6 @@ waiting_rows objects fresh (j ∷ js) = ap (λ ns. fresh ∷ ns) (waiting_rows o
 pub expecting_rows : (objects : List ObjectRow) (fresh : ℕ) (jobs : List Job) → expecting_of (rows_of objects fresh jobs) ≡ []
 expecting_rows objects fresh [] = refl
 expecting_rows objects fresh (j ∷ js) = expecting_rows objects (fresh + 1) js
-
-pub new_rows : (objects : List ObjectRow) (fresh : ℕ) (jobs : List Job) → AreNew fresh (rows_of objects fresh jobs)
-new_rows objects fresh [] = tt
-new_rows objects fresh (j ∷ js) = (record { numbered = refl; unbegun = refl }, new_rows objects (fresh + 1) js)
 
 -- none of them runs
 still_rows : (objects : List ObjectRow) (fresh : ℕ) (jobs : List Job) → filter (λ (c : CallbackRow). is_running c.status) (rows_of objects fresh jobs) ≡ []
@@ -135,7 +131,11 @@ pub record AreSourcesOf (P R : ℕ → Type 0) (s : Sources) : Type 0 where
   pub armings : AllByRecursion (λ (a : Arming). R a.object.0) s.armings
 
 abbrev pub AreJobsOf : (ℕ → Type 0) → List Job → Type 0
-AreJobsOf P jobs = AllByRecursion (λ (j : Job). P j.object.0 × IsResultInRange j.result) jobs
+AreJobsOf P jobs = AllByRecursion (λ (j : Job). P j.object.0 × (is_completion j.result ≡ false)) jobs
+
+pub new_rows : (P : ℕ → Type 0) (objects : List ObjectRow) (fresh : ℕ) (jobs : List Job) → AreJobsOf P jobs → AreNew fresh (rows_of objects fresh jobs)
+new_rows P objects fresh [] all = tt
+new_rows P objects fresh (j ∷ js) all = (record { numbered = refl; unbegun = refl; plain = λ _. all.0.1 }, new_rows P objects (fresh + 1) js all.1)
 
 pub record IsFiringOf (P R : ℕ → Type 0) (f : Firing) : Type 0 where
   pub sources : AreSourcesOf P R f.sources
@@ -161,7 +161,7 @@ module _ (P R : ℕ → Type 0) (of : (n : ℕ) → R n → P n) where
       let rest : AreSourcesOf P R (disarmed a.object f.sources) = disarmed_of a.object f.sources all.sources in
       record {
         sources = record { settings = rest.settings; armings = rest.armings };
-        jobs = all_append (λ (j : Job). P j.object.0 × IsResultInRange j.result) f.jobs (job a.object WaitObject0) all.jobs (of a.object.0 (known a refl), tt);
+        jobs = all_append (λ (j : Job). P j.object.0 × (is_completion j.result ≡ false)) f.jobs (job a.object WaitObject0) all.jobs (of a.object.0 (known a refl), refl);
       }
 
   release_times_of : (n kernel : ℕ) (f : Firing) → IsFiringOf P R f → IsFiringOf P R (release_times n kernel f)
@@ -182,9 +182,9 @@ module _ (P R : ℕ → Type 0) (of : (n : ℕ) → R n → P n) where
   arm_of object kernel timeout s here all =
       elim (is_one_that is_signalled s.kernels kernel.0) as (λ b. IsFiringOf P R (cond b (record { sources = with_state taken kernel.0 s; jobs = job object WaitObject0 ∷ [] })
       (cond (expires_at_once s.now timeout) (record { sources = s; jobs = job object WaitTimeout ∷ [] }) (jobless (record s { settings = set_timer s.now object timeout 0 0 s.settings; armings = s.armings ++ record { object = object; kernel = kernel } ∷ [] }))))) [
-        | true ↦ record { sources = record { settings = all.settings; armings = all.armings }; jobs = ((of object.0 here, tt), tt) }
+        | true ↦ record { sources = record { settings = all.settings; armings = all.armings }; jobs = ((of object.0 here, refl), tt) }
         | false ↦ elim (expires_at_once s.now timeout) as (λ b. IsFiringOf P R (cond b (record { sources = s; jobs = job object WaitTimeout ∷ [] }) (jobless (record s { settings = set_timer s.now object timeout 0 0 s.settings; armings = s.armings ++ record { object = object; kernel = kernel } ∷ [] })))) [
-          | true ↦ record { sources = all; jobs = ((of object.0 here, tt), tt) }
+          | true ↦ record { sources = all; jobs = ((of object.0 here, refl), tt) }
           | false ↦ record {
             sources = record {
               settings = of_set P s.now object timeout 0 0 s.settings (of object.0 here) all.settings;
@@ -197,13 +197,13 @@ module _ (P R : ℕ → Type 0) (of : (n : ℕ) → R n → P n) where
 
   expiry_of : (armings : List Arming) (settings : List TimerSetting) → AreOf P settings → AreJobsOf P (map (expiry_job armings) settings)
   expiry_of armings [] all = tt
-  expiry_of armings (s ∷ ss) all = ((all.0, elim (is_armed s.object.0 armings) as (λ b. IsResultInRange (cond b WaitTimeout Plain)) [ true ↦ tt | false ↦ tt ]), expiry_of armings ss all.1)
+  expiry_of armings (s ∷ ss) all = ((all.0, elim (is_armed s.object.0 armings) as (λ b. is_completion (cond b WaitTimeout Plain) ≡ false) [ true ↦ refl | false ↦ refl ]), expiry_of armings ss all.1)
 
   pub firing_of : (trigger : Trigger) (s : Sources) → IsTriggerOf P R trigger → AreSourcesOf P R s → IsFiringOf P R (firing trigger s)
   firing_of (SetTimer object due period window) s here all =
       record {
         sources = record { settings = of_set P s.now object due period window s.settings here all.settings; armings = all.armings };
-        jobs = elim (expires_at_once s.now due) as (λ b. AreJobsOf P (cond b (job object Plain ∷ []) [])) [ true ↦ ((here, tt), tt) | false ↦ tt ];
+        jobs = elim (expires_at_once s.now due) as (λ b. AreJobsOf P (cond b (job object Plain ∷ []) [])) [ true ↦ ((here, refl), tt) | false ↦ tt ];
       }
   firing_of (Advance now) s here all =
       record {

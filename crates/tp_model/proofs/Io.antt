@@ -1,5 +1,5 @@
 -- The law Io: what the entries tell of a callback is the way on which its status has come.
-use Rattle.std.proofs.Common.{◌≡◌, ℕ, ◌+◌, ◌<◌, ◌≤◌, ◌==◌, Bool, true, false, cond, not, ◌&&◌, List, [], ◌∷◌, ◌++◌, length, map, Option, Some, None, refl, sym, ap, ◌∙◌, subst, find, filter, arith, eqb-true, ne_eqb, append-nil, append_assoc}
+use Rattle.std.proofs.Common.{◌≡◌, ℕ, ◌+◌, ◌<◌, ◌==◌, Bool, true, false, cond, not, ◌&&◌, List, [], ◌∷◌, ◌++◌, length, map, Option, Some, None, refl, sym, ap, ◌∙◌, subst, find, filter, arith, eqb-true, ne_eqb, append-nil}
 use Rattle.std.proofs.lemmas.Grind.{flat_map-append}
 use Rattle.tp_base.specs.declared.answers.Entry.{Entry}
 use Rattle.tp_base.specs.declared.answers.TakeResult.{TakeResult}
@@ -13,8 +13,8 @@ use Rattle.tp_base.specs.declared.rows.WorkerRow.{WorkerRow}
 use Rattle.tp_model.specs.World.{World}
 use Rattle.tp_model.specs.Counts.{has_number, is_expected, is_pending}
 use Rattle.tp_model.specs.Changes.{replaced, taken as taken_row, returned, operated, status_before}
-use Rattle.tp_model.specs.Waits.{cancelled as cancelled_row, cancel_where}
-use Rattle.tp_model.specs.Laws.Entries.{Happening, Starts, Issues, GivesUp, Completes, Runs, Event, event_by, started_by}
+use Rattle.tp_model.specs.Waits.{cancelled as cancelled_row}
+use Rattle.tp_model.specs.Laws.Entries.{Happening, Starts, Issues, GivesUp, Completes, Runs, event_by, is_completion}
 use Rattle.tp_model.specs.Laws.Io.{AreOperated, IsWay, Untaken, Plain, Started, GivenUp, Issued as IssuedWay, Completed, Taken, starts, happens_to, happening, happenings}
 use Rattle.tp_model.specs.Support.Sound.{IsRising}
 use Rattle.tp_model.specs.Support.Told.{Deed, happening_of}
@@ -27,9 +27,9 @@ use Rattle.tp_model.proofs.Refusals.{false_true}
 
 -- ---- what a status says
 
--- a callback that waits for a worker has no operation, or one that completed
+-- a callback that waits for a worker has no operation and no result of one, or one that completed with its result
 pub data IsReady (result : TakeResult) (h : List Happening) : Type 0 where
-  Plainly : h ≡ [] → IsReady result h
+  Plainly : is_completion result ≡ false → h ≡ [] → IsReady result h
   Done : (error bytes : ℕ) → result ≡ Io error bytes → h ≡ Starts ∷ Issues ∷ Completes error bytes ∷ [] → IsReady result h
 
 -- one that was taken was ready before, and one that was cancelled was ready or gave its operation up
@@ -182,7 +182,7 @@ new_came fresh n (c ∷ new) rows =
     own here none Expected is fresh_one =
         subst (λ s. CameTo s c.result (starts n (expecting_of (c ∷ new)))) (sym is) (ap (λ s. starts n (numbers_with (is_expected s))) is ∙ ap (λ b. happened b) here ∙ ap (λ l. Starts ∷ l) none)
     own here none Pending is fresh_one =
-        subst (λ s. CameTo s c.result (starts n (expecting_of (c ∷ new)))) (sym is) (Plainly (ap (λ s. starts n (numbers_with (is_expected s))) is ∙ none))
+        subst (λ s. CameTo s c.result (starts n (expecting_of (c ∷ new)))) (sym is) (Plainly (rows.0.plain (ap is_pending is)) (ap (λ s. starts n (numbers_with (is_expected s))) is ∙ none))
     own here none Issued is fresh_one = absurd (false_true (sym (ap is_new is) ∙ fresh_one))
     own here none (Running worker associated slots) is fresh_one = absurd (false_true (sym (ap is_new is) ∙ fresh_one))
     own here none Returned is fresh_one = absurd (false_true (sym (ap is_new is) ∙ fresh_one))
@@ -238,14 +238,14 @@ on_their_way_more before w x after rising on moves n =
 -- ---- what the law says
 
 ready_way : (result : TakeResult) (h : List Happening) → IsReady result h → IsWay h
-ready_way result h (Plainly e) = Untaken e
+ready_way result h (Plainly plain e) = Untaken e
 ready_way result h (Done error bytes is e) = Completed error bytes e
 
 taken_way : (result : TakeResult) (h : List Happening) → IsTaken result h → IsWay h
 taken_way result h t = of_ready t.ready
   where
     of_ready : IsReady result t.front → IsWay h
-    of_ready (Plainly e) = Plain result (t.whole ∙ ap (λ l. l ++ Runs result ∷ []) e)
+    of_ready (Plainly plain e) = Plain result plain (t.whole ∙ ap (λ l. l ++ Runs result ∷ []) e)
     of_ready (Done error bytes is e) = Taken error bytes (t.whole ∙ ap (λ l. l ++ Runs result ∷ []) e ∙ ap (λ r. Starts ∷ Issues ∷ Completes error bytes ∷ Runs r ∷ []) is)
 
 came_way : (o : Option CallbackRow) (h : List Happening) → Came o h → IsWay h

@@ -1,5 +1,5 @@
 -- I/O objects in small plays, by computation alone; and histories that the law Io refuses.
-use Rattle.std.proofs.Common.{◌≡◌, ℕ, List, [], ◌∷◌, refl, true, false}
+use Rattle.std.proofs.Common.{◌≡◌, ℕ, [], ◌∷◌, refl, true, false}
 use Rattle.tp_base.specs.declared.ids.Who.TheVariants.{Client, Worker}
 use Rattle.tp_base.specs.declared.calls.Priority.TheVariants.{Normal}
 use Rattle.tp_base.specs.declared.calls.Kind.TheVariants.{Work, Io}
@@ -19,7 +19,7 @@ use Rattle.tp_model.specs.Calls.Io.{start_io_plan, issue_io_plan, cancel_io_plan
 use Rattle.tp_model.specs.Calls.Workers.{attach_plan, take_plan, return_plan}
 use Rattle.tp_model.specs.Calls.Waits.{begin_wait_plan, end_plan}
 use Rattle.tp_model.specs.History.{play}
-use Rattle.tp_model.specs.Laws.Entries.{Happening, Starts, Issues, GivesUp, Completes, Runs, numbers_made, numbers_queued}
+use Rattle.tp_model.specs.Laws.Entries.{Starts, Issues, GivesUp, Completes, Runs, numbers_made, numbers_queued}
 use Rattle.tp_model.specs.Laws.Io.{AreOperated, IsWay, Untaken, Plain, Started, GivenUp, Issued, Completed, Taken}
 
 limits : Limits
@@ -269,6 +269,20 @@ completes_and_queues : numbers_queued (started 1 ∷ issued 1 ∷ completed 1 8 
 unfolding started issued completed
 completes_and_queues = refl
 
+-- a callback without an operation that is taken with the result of one
+completed_simply : AreOperated (takes 1 8 ∷ []) → ⊥
+unfolding takes
+completed_simply law = none (law.ways 1)
+  where
+    none : IsWay (Runs (result.Io 0 8) ∷ []) → ⊥
+    none (Untaken e) = cc
+    none (Plain r p e) = cc
+    none (Started e) = cc
+    none (GivenUp e) = cc
+    none (Issued e) = cc
+    none (Completed error bytes e) = cc
+    none (Taken error bytes e) = cc
+
 -- an operation that completes twice
 completed_twice : AreOperated (started 1 ∷ issued 1 ∷ completed 1 8 ∷ completed 1 8 ∷ []) → ⊥
 unfolding started issued completed
@@ -276,7 +290,7 @@ completed_twice law = none (law.ways 1)
   where
     none : IsWay (Starts ∷ Issues ∷ Completes 0 8 ∷ Completes 0 8 ∷ []) → ⊥
     none (Untaken e) = cc
-    none (Plain r e) = cc
+    none (Plain r p e) = cc
     none (Started e) = cc
     none (GivenUp e) = cc
     none (Issued e) = cc
@@ -290,7 +304,7 @@ taken_under_way law = none (law.ways 1)
   where
     none : IsWay (Starts ∷ Issues ∷ Runs (result.Io 0 8) ∷ []) → ⊥
     none (Untaken e) = cc
-    none (Plain r e) = cc
+    none (Plain r p e) = cc
     none (Started e) = cc
     none (GivenUp e) = cc
     none (Issued e) = cc
@@ -304,7 +318,7 @@ completed_unissued law = none (law.ways 1)
   where
     none : IsWay (Starts ∷ Completes 0 8 ∷ []) → ⊥
     none (Untaken e) = cc
-    none (Plain r e) = cc
+    none (Plain r p e) = cc
     none (Started e) = cc
     none (GivenUp e) = cc
     none (Issued e) = cc
@@ -318,7 +332,7 @@ cancelled_late law = none (law.ways 1)
   where
     none : IsWay (Starts ∷ Issues ∷ GivesUp ∷ []) → ⊥
     none (Untaken e) = cc
-    none (Plain r e) = cc
+    none (Plain r p e) = cc
     none (Started e) = cc
     none (GivenUp e) = cc
     none (Issued e) = cc
@@ -332,7 +346,7 @@ issued_after_all law = none (law.ways 1)
   where
     none : IsWay (Starts ∷ GivesUp ∷ Issues ∷ []) → ⊥
     none (Untaken e) = cc
-    none (Plain r e) = cc
+    none (Plain r p e) = cc
     none (Started e) = cc
     none (GivenUp e) = cc
     none (Issued e) = cc
@@ -346,7 +360,7 @@ unstarted law = none (law.ways 1)
   where
     none : IsWay (Issues ∷ []) → ⊥
     none (Untaken e) = cc
-    none (Plain r e) = cc
+    none (Plain r p e) = cc
     none (Started e) = cc
     none (GivenUp e) = cc
     none (Issued e) = cc
@@ -360,7 +374,7 @@ other_bytes law = none (law.ways 1)
   where
     none : IsWay (Starts ∷ Issues ∷ Completes 0 8 ∷ Runs (result.Io 0 9) ∷ []) → ⊥
     none (Untaken e) = cc
-    none (Plain r e) = cc
+    none (Plain r p e) = cc
     none (Started e) = cc
     none (GivenUp e) = cc
     none (Issued e) = cc

@@ -9,8 +9,8 @@ use Rattle.tp_base.specs.declared.rows.Slots.{Slots}
 use Rattle.tp_base.specs.declared.plans.Mark.{Mark}
 use Rattle.tp_base.specs.declared.plans.Mark.TheVariants.{Long, Loose, Asks}
 use Rattle.tp_base.specs.Actions.{filled, word, is_unasked}
-use Rattle.tp_model.specs.Actions.{asking, slots_of, words_of, returning}
-use Rattle.tp_model.proofs.Performing.{returning_counted}
+use Rattle.tp_model.specs.Actions.{asking, slots_of, returning}
+use Rattle.tp_model.proofs.Performing.{returning_of, returning_counted}
 use Rattle.tp_model.proofs.Actions.{words_unasked}
 use Rattle.tp_base.specs.declared.plans.PoolChange.{PoolChange}
 use Rattle.tp_base.specs.declared.plans.PoolChange.TheVariants.{Close, Maximum, Minimum}
@@ -38,14 +38,14 @@ use Rattle.tp_base.specs.declared.calls.Kind.{Kind}
 use Rattle.tp_base.specs.declared.calls.Kind.TheVariants.{Work, Timer, Wait, Io}
 use Rattle.tp_model.specs.Conditions.{is_in_wait, is_same_kind}
 use Rattle.tp_model.specs.Waits.{is_of, is_cancelled_by, cancel_where, is_covered_by, wait_of}
-use Rattle.tp_model.specs.Support.Sound.{IsSound, IsMade, is_wait_at, count_armed}
+use Rattle.tp_model.specs.Support.Sound.{IsSound, IsMade, is_wait_at, may_be_armed, count_armed}
 use Rattle.tp_model.specs.Support.Allowed.{IsAllowed, IsMadeBy, Runs, MayMark, MayEnd, IsTarget}
 use Rattle.tp_model.specs.Laws.Entries.{made_by, queued_new, started_by, begins_by, is_ending, Sets, sets_by, set_on, wait_made, wait_numbered}
 use Rattle.tp_model.specs.Support.Told.{Told, deed_by, nothing, silent, maxima_by, told, told_by, is_free}
 use Rattle.tp_model.specs.Support.Moves.{Move, Stay, Mark as Marking, Attach, Detach, Take, Return, Moves, Leads, AreNew, maximum_at, is_new, numbers_of, Amend, Operate, Asking, IsFreeFor, asked_slots, Cancel, WaitsMove, Keep, Begin, End, ArmsMove, ObjectsMove, count_rows, count_allowed}
-use Rattle.tp_model.proofs.Firing.{numbers_rows, waiting_rows, expecting_rows, new_rows, numbered_made}
+use Rattle.tp_model.proofs.Firing.{numbers_rows, waiting_rows, expecting_rows, new_rows, numbered_made, fired_in, armable_made}
 use Rattle.tp_model.proofs.Arming.{count_rows_of, armed_fewer}
-use Rattle.tp_model.proofs.Preserving.{wait_row, numbered_append, kind_released, fired_counted}
+use Rattle.tp_model.proofs.Preserving.{sources_in, wait_row, numbered_append, kind_released, fired_counted}
 use Rattle.tp_model.proofs.Cancelling.{cancelled_pending, cancelled_found_out, among_numbers}
 use Rattle.tp_model.proofs.Lists.{find_more, get_set, get_set_other}
 use Rattle.tp_model.proofs.Refusals.{false_true, and_false, and_true, or_false, numbered_at}
@@ -271,7 +271,7 @@ module _ (fresh : ℕ) (w : World) (entry : Entry) where
         kept = w.callbacks;
         new = c ∷ [];
         move = Stay (record { tells = ap (λ (t : Told). t.deed) tells; callbacks = refl; workers = refl });
-        rows = (record { numbered = a.number; unbegun = is_new_one }, tt);
+        rows = (record { numbered = a.number; unbegun = is_new_one; plain = λ _. by.1 }, tt);
         made = ap (λ (t : Told). t.made) tells ∙ ap (λ n. n ∷ []) (sym a.number);
         queued = ap (λ (t : Told). t.queued) tells ∙ ap (λ n. n ∷ []) (sym a.number) ∙ sym (ap (λ b. numbers_of (cond b (c ∷ []) [])) a.pending);
         started = ap (λ (t : Told). t.started) tells ∙ sym (ap (λ b. numbers_of (cond b (c ∷ []) [])) (pending_unexpected c.status a.pending));
@@ -283,7 +283,7 @@ module _ (fresh : ℕ) (w : World) (entry : Entry) where
     where
       apart : (object : ℕ) → is_wait_at w.objects object ≡ true → (b : Bool) → (c.object.0 == object) ≡ b → (c.object.0 == object) ≡ false
       apart object wait false is = is
-      apart object wait true is = absurd (false_true (sym by ∙ ap (is_wait_at w.objects) (eqb-true c.object.0 object is) ∙ wait))
+      apart object wait true is = absurd (false_true (sym by.0 ∙ ap (is_wait_at w.objects) (eqb-true c.object.0 object is) ∙ wait))
 
       pending_new : (s : Status) → is_pending s ≡ true → is_new s ≡ true
       pending_new Pending e = refl
@@ -297,7 +297,7 @@ module _ (fresh : ℕ) (w : World) (entry : Entry) where
         kept = w.callbacks;
         new = c ∷ [];
         move = Stay (record { tells = ap (λ (t : Told). t.deed) tells; callbacks = refl; workers = refl });
-        rows = (record { numbered = a.number; unbegun = ap is_new a.expected }, tt);
+        rows = (record { numbered = a.number; unbegun = ap is_new a.expected; plain = λ pends. absurd (false_true (sym (ap is_pending a.expected) ∙ pends)) }, tt);
         made = ap (λ (t : Told). t.made) tells ∙ ap (λ n. n ∷ []) (sym a.number);
         queued = ap (λ (t : Told). t.queued) tells ∙ sym (ap (λ s. numbers_of (cond (is_pending s) (c ∷ []) [])) a.expected);
         started = ap (λ (t : Told). t.started) tells ∙ ap (λ n. n ∷ []) (sym a.number) ∙ sym (ap (λ s. numbers_of (cond (is_expected s) (c ∷ []) [])) a.expected);
@@ -320,7 +320,7 @@ module _ (fresh : ℕ) (w : World) (entry : Entry) where
         kept = w.callbacks;
         new = rows_of w.objects first jobs;
         move = Stay (record { tells = ap (λ (t : Told). t.deed) tells; callbacks = refl; workers = refl });
-        rows = subst (λ n. AreNew n (rows_of w.objects first jobs)) a.number (new_rows w.objects first jobs);
+        rows = subst (λ n. AreNew n (rows_of w.objects first jobs)) a.number (new_rows (IsMade (length w.objects)) w.objects first jobs (fired_in w trigger a.ready (sources_in fresh w s)).jobs);
         made = ap (λ (t : Told). t.made) tells ∙ told_range ∙ sym (numbers_rows w.objects first jobs);
         queued = ap (λ (t : Told). t.queued) tells ∙ told_range ∙ sym (waiting_rows w.objects first jobs);
         started = ap (λ (t : Told). t.started) tells ∙ sym (expecting_rows w.objects first jobs);
@@ -385,7 +385,7 @@ module _ (fresh : ℕ) (w : World) (entry : Entry) where
           callbacks = refl;
           workers = refl;
         });
-        rows = subst (λ n. AreNew n (rows_of w.objects first jobs)) a.number (new_rows w.objects first jobs);
+        rows = subst (λ n. AreNew n (rows_of w.objects first jobs)) a.number (new_rows (IsMade (length w.objects)) w.objects first jobs (returning_of (IsMade (length w.objects)) (λ n. may_be_armed w.objects n ≡ true) (λ n may. armable_made w.objects n may) w words of (sources_in fresh w s)).jobs);
         made = ap (λ (t : Told). t.made) tells ∙ told_range ∙ sym (numbers_rows w.objects first jobs);
         queued = ap (λ (t : Told). t.queued) tells ∙ told_range ∙ sym (waiting_rows w.objects first jobs);
         started = ap (λ (t : Told). t.started) tells ∙ sym (expecting_rows w.objects first jobs);

@@ -39,7 +39,7 @@ use Rattle.tp_model.specs.Support.Told.{sets_of}
 use Rattle.tp_model.specs.Support.Moves.{count_allowed}
 use Rattle.std.specs.Option.{option_map_or}
 use Rattle.std.proofs.lemmas.List.{append_assoc, append-nil}
-use Rattle.tp_model.specs.Sources.{Sources, Job, Firing, firing, sources_of, rows_of, new_callback, object_row, fired, count_fired}
+use Rattle.tp_model.specs.Sources.{Sources, Job, Firing, firing, sources_of, rows_of, new_callback, object_row, fired}
 use Rattle.tp_model.specs.Support.Allowed.{IsReady}
 use Rattle.tp_model.proofs.Firing.{armable_made, AreOf, AreJobsOf, AreSourcesIn, IsFiringIn, row_of_made, made_stands, fired_in, fired_clock}
 use Rattle.tp_model.proofs.Arming.{IsApart, IsCounted, firing_counted, timed_disarmed}

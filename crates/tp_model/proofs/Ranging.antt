@@ -1,5 +1,5 @@
 -- From what it follows that the numbers of a plan are in range; and each change keeps those of the rows.
-use Rattle.std.proofs.Common.{◌≡◌, ℕ, ◌+◌, ◌-◌, ◌<◌, ◌≤◌, ◌^◌, Bool, true, false, cond, not, ◌==◌, List, [], ◌∷◌, length, map, arith, slice_get, Option, Some, None, refl, sym, subst, ap, find, ◌++◌, ◌∙◌, zero, suc}
+use Rattle.std.proofs.Common.{◌≡◌, ℕ, ◌+◌, ◌-◌, ◌<◌, ◌≤◌, ◌^◌, Bool, true, false, cond, not, ◌==◌, List, [], ◌∷◌, length, arith, slice_get, Option, Some, None, refl, sym, subst, ap, find, ◌++◌, ◌∙◌, zero, suc}
 use Rattle.std.specs.List.{AllByRecursion}
 use Rattle.tp_base.specs.Ranges.{IsRoutineInRange, IsRefusalInRange, IsResultInRange}
 use Rattle.tp_base.specs.declared.ids.Who.{Who}
@@ -32,7 +32,8 @@ use Rattle.tp_base.specs.declared.plans.Trigger.{Trigger}
 use Rattle.tp_base.specs.declared.plans.Trigger.TheVariants.{SetTimer, Advance, SetWait, SetEvent, ReleaseSemaphore}
 use Rattle.tp_base.specs.declared.plans.KernelChange.{KernelChange}
 use Rattle.tp_base.specs.declared.plans.KernelChange.TheVariants.{Set, Raise}
-use Rattle.tp_base.specs.declared.answers.TakeResult.TheVariants.{WaitObject0, WaitTimeout}
+use Rattle.tp_base.specs.declared.answers.TakeResult.{TakeResult}
+use Rattle.tp_base.specs.declared.answers.TakeResult.TheVariants.{Plain, WaitObject0, WaitTimeout, Io}
 use Rattle.tp_base.specs.declared.ids.KernelId.{KernelId}
 use Rattle.tp_base.specs.declared.rows.Arming.{Arming}
 use Rattle.std.specs.Prelude.{ℤ}
@@ -47,6 +48,7 @@ use Rattle.tp_model.specs.Counts.{numbered, has_number}
 use Rattle.tp_model.specs.Conditions.{busy_of}
 use Rattle.tp_model.specs.Changes.{kernels_taken, kernels_left, new_wait, change_pool, replaced, taken, marked, operated, returned, changed, release_object}
 use Rattle.tp_model.specs.Refusing.{first_refusal, unless_refused}
+use Rattle.tp_model.specs.Laws.Entries.{is_completion}
 use Rattle.tp_model.specs.Support.Allowed.{IsAllowed, IsReady, MayChange, Suits}
 use Rattle.tp_model.specs.Support.Ranged.{IsStateInRange, IsTargetInRange, IsObjectInRange, IsCallbackInRange, AreRowsInRange, IsTriggerInRange, IsStepInRange, IsChangeInRange, IsPlanInRange}
 use Rattle.tp_model.specs.Support.Remembered.{lives, forget}
@@ -71,7 +73,7 @@ use Rattle.tp_model.proofs.Performing.{returning_of}
 use Rattle.tp_model.proofs.Firing.{armable_made}
 use Rattle.tp_model.proofs.Kernels.{all_changed, state_ranged, taken_ranged, taken_state_ranged}
 use Rattle.tp_model.proofs.Lists.{all_append, all_appended, all_filter, all_get, all_map, find_all, all_set}
-use Rattle.tp_model.proofs.Refusals.{NoneHolds, none_holds, numbered_some}
+use Rattle.tp_model.proofs.Refusals.{NoneHolds, none_holds, numbered_some, false_true}
 
 -- ---- rows
 
@@ -119,12 +121,18 @@ cancel_rows test cs all =
     (λ c h. elim (test c) as (λ b. IsCallbackInRange (cond b (cancelled c) c)) [ true ↦ record { number = h.number; object = h.object; routine = h.routine; context = h.context; result = h.result } | false ↦ h ]) cs all
 
 -- the rows of jobs
+plain_ranged : (r : TakeResult) → is_completion r ≡ false → IsResultInRange r
+plain_ranged Plain e = tt
+plain_ranged WaitObject0 e = tt
+plain_ranged WaitTimeout e = tt
+plain_ranged (Io error bytes) e = absurd (false_true (sym e))
+
 job_rows : (objects : List ObjectRow) (fresh : ℕ) (jobs : List Job) → AllByRecursion IsObjectInRange objects → AreJobsOf (IsMade (length objects)) jobs → AreJobsOf (λ n. n ≤ 65535) jobs → fresh + length jobs ≤ 2 ^ 64
     → AllByRecursion IsCallbackInRange (rows_of objects fresh jobs)
 job_rows objects fresh [] os made few fits = tt
 job_rows objects fresh (j ∷ js) os made few fits =
     let o : IsObjectInRange (object_row objects j.object) = row_of_made IsObjectInRange objects j.object os made.0.0 in
-    (record { number = omega (arith, fits); object = few.0.0; routine = o.routine; context = o.context; result = few.0.1 }, job_rows objects (fresh + 1) js os made.1 few.1 (omega (arith, fits)))
+    (record { number = omega (arith, fits); object = few.0.0; routine = o.routine; context = o.context; result = plain_ranged j.result few.0.1 }, job_rows objects (fresh + 1) js os made.1 few.1 (omega (arith, fits)))
 
 trigger_few : (trigger : Trigger) → IsTriggerInRange trigger → IsTriggerOf (λ n. n ≤ 65535) (λ n. n ≤ 65535) trigger
 trigger_few (SetTimer object due period window) here = here

@@ -3,9 +3,10 @@
 //!
 //! Nothing here is run, but a caller can know something by it. In the body of a function that has a
 //! legal history, the line `legal_keeps_laws();` gives the proof that the history keeps the laws:
-//! no callback of it was taken twice, none above its pool's maximum, and none that a wait was for
-//! after the wait has ended, each return tells of exactly the actions that its callback asked for,
-//! and no wait object got two callbacks for one time that it was set.
+//! no callback of it was taken twice, none above its pool's maximum, none that a wait was for after
+//! the wait has ended, and none of an operation but with the error and the bytes with which it had
+//! completed; each return tells of exactly the actions that its callback asked for; and no wait object
+//! got two callbacks for one time that it was set.
 
 #![tactic(auto)]
 

@@ -1,12 +1,11 @@
 -- The facts of calls on I/O objects.
-use Rattle.std.proofs.Common.{◌≡◌, ℕ, ◌+◌, ◌<◌, ◌^◌, ◌&&◌, ◌==◌, ◌∙◌, Bool, true, false, cond, not, length, List, [], ◌∷◌, ◌++◌, Option, Some, None, is_none, refl, sym, ap, subst, find, filter, eqb-true, arith}
+use Rattle.std.proofs.Common.{◌≡◌, ℕ, ◌+◌, ◌<◌, ◌^◌, ◌&&◌, ◌==◌, ◌∙◌, true, false, cond, not, length, List, [], ◌∷◌, ◌++◌, Option, Some, None, is_none, refl, sym, ap, subst, find, filter, eqb-true, arith}
 use Rattle.std.specs.Option.{option_map_or}
 use Rattle.tp_base.specs.declared.ids.Who.{Who}
 use Rattle.tp_base.specs.declared.ids.ObjectId.{ObjectId}
 use Rattle.tp_base.specs.declared.calls.Kind.TheVariants.{Wait, Io}
 use Rattle.tp_base.specs.declared.calls.Call.TheVariants.{StartIo, IssueIo, CancelIo, CompleteIo}
 use Rattle.tp_base.specs.declared.answers.Refusal.TheVariants.{NoSuch, Released, NotRunning, InWait, NotStarted, NoOperation}
-use Rattle.tp_base.specs.declared.plans.IoStep.TheVariants.{Complete}
 use Rattle.tp_base.specs.declared.plans.Plan.{Plan}
 use Rattle.tp_base.specs.declared.rows.Status.{Status}
 use Rattle.tp_base.specs.declared.rows.Status.TheVariants.{Expected, Issued}

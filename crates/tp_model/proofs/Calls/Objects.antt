@@ -23,7 +23,7 @@ use Rattle.tp_model.specs.Counts.{numbered, is_live, is_operating}
 use Rattle.tp_model.specs.Conditions.{is_actor, is_pool, is_finished, is_no_group_or_group, is_object, is_released}
 use Rattle.tp_model.specs.Refusing.{first_refusal, unless_refused, object_refusals}
 use Rattle.tp_model.specs.Sources.{new_object}
-use Rattle.tp_model.specs.Calls.Objects.{create_refusals, create_plan, is_operation_of, has_operations, close_object_refusals, close_object_plan}
+use Rattle.tp_model.specs.Calls.Objects.{create_refusals, create_plan, is_operation_of, close_object_refusals, close_object_plan}
 use Rattle.tp_model.specs.Support.Allowed.{IsUnreleased}
 use Rattle.tp_model.specs.Support.Safe.{IsSafe}
 use Rattle.tp_model.specs.Support.Remembered.{lives, forget}

@@ -54,7 +54,7 @@ submit_work_safe fresh w who object s =
     submits (Some row) is apart fits =
         let at = numbered_some w.objects object.0 row is in
         let home = all_get (λ (o : ObjectRow). o.env.pool.0 < length w.pools) w.objects _ row s.object_pools at.0 in
-        record { allowed = record { number = refl; pending = refl; object = λ _. record { row = row; stands = is; home = refl }; home = home; room = fits }; made_by = apart; accepted = refl; tells = refl }
+        record { allowed = record { number = refl; pending = refl; object = λ _. record { row = row; stands = is; home = refl }; home = home; room = fits }; made_by = (apart, refl); accepted = refl; tells = refl }
 
 pub submit_work_forget : (fresh : ℕ) (w : World) (who : Who) (object : ObjectId) → submit_work_plan (forget w) fresh who object ≡ submit_work_plan w fresh who object
 unfolding submit_work_plan
@@ -83,7 +83,7 @@ submit_simple_safe fresh w who routine context env =
     (λ none.
     let there = neither (not (is_actor w who) || not (is_pool w env.pool.0)) (not (is_no_group_or_group w env.group.0)) none.0 in
     let home = made w.pools env.pool.0 (not_false (is_pool w env.pool.0) (neither (not (is_actor w who)) (not (is_pool w env.pool.0)) there.0).1) in
-    record { allowed = record { number = refl; pending = refl; object = λ named. absurd (named refl); home = home; room = none.1.1.1.1.1.1.0 }; made_by = refl; accepted = refl; tells = refl })
+    record { allowed = record { number = refl; pending = refl; object = λ named. absurd (named refl); home = home; room = none.1.1.1.1.1.1.0 }; made_by = (refl, refl); accepted = refl; tells = refl })
 
 pub submit_simple_forget : (fresh : ℕ) (w : World) (who : Who) (routine : RoutineId) (context : ℕ) (env : Environ) → submit_simple_plan (forget w) fresh who routine context env ≡ submit_simple_plan w fresh who routine context env
 unfolding submit_simple_plan

@@ -13,6 +13,7 @@ use Rattle.tp_base.specs.declared.calls.Kind.TheVariants.{Wait}
 use Rattle.tp_base.specs.declared.answers.Answer.{Answer}
 use Rattle.tp_base.specs.declared.answers.Answer.TheVariants.{Made, Queued, WasSet, Count, Advanced, Returned, Started, Operation, Cancelled, Closing, Begun, Attached, Taken, Ended, Exhausted, Stalled, Refused}
 use Rattle.tp_base.specs.declared.answers.TakeResult.{TakeResult}
+use Rattle.tp_base.specs.declared.answers.TakeResult.TheVariants.{Io}
 use Rattle.tp_base.specs.declared.answers.Entry.{Entry}
 use Rattle.tp_base.specs.declared.limits.Limits.{Limits}
 use Rattle.tp_base.specs.Actors.{is_same_actor}
@@ -217,6 +218,11 @@ abbrev pub is_loosened : Entry → Bool
 is_loosened entry = is_disassociate_call entry.call && not (is_refusal entry.answer)
 
 -- ---- operations of I/O objects
+
+-- the result of an operation
+abbrev pub is_completion : TakeResult → Bool
+is_completion (Io error bytes) = true
+is_completion _ = false
 
 -- what happens to an operation, and that its callback is taken
 pub data Happening : Type 0 where

@@ -1,10 +1,10 @@
 -- The law Io: each operation goes its way, one step after another, and its callback is taken with what it completed with.
-use Rattle.std.specs.Prelude.{◌≡◌, ℕ, ◌==◌, List, [], ◌∷◌, ◌++◌, map, if◌then◌else◌, Option, None, Some}
+use Rattle.std.specs.Prelude.{◌≡◌, ℕ, ◌==◌, false, List, [], ◌∷◌, ◌++◌, map, if◌then◌else◌, Option, None, Some}
 use Rattle.std.specs.List.{filter, flat_map}
 use Rattle.tp_base.specs.declared.answers.Entry.{Entry}
 use Rattle.tp_base.specs.declared.answers.TakeResult.{TakeResult}
 use Rattle.tp_base.specs.declared.answers.TakeResult.TheVariants as result
-use Rattle.tp_model.specs.Laws.Entries.{Happening, Starts, Issues, GivesUp, Completes, Runs, Event, event_by, started_by}
+use Rattle.tp_model.specs.Laws.Entries.{Happening, Starts, Issues, GivesUp, Completes, Runs, Event, event_by, started_by, is_completion}
 
 abbrev pub starts : ℕ → List ℕ → List Happening
 starts n numbers = map (λ m. Starts) (filter (λ m. m == n) numbers)
@@ -23,7 +23,7 @@ happenings n history = flat_map (happening n) history
 -- the ways of a callback: of one without an operation, which is taken or not, and of one with an operation
 pub data IsWay (h : List Happening) : Type 0 where
   Untaken : h ≡ [] → IsWay h
-  Plain : (result : TakeResult) → h ≡ Runs result ∷ [] → IsWay h
+  Plain : (result : TakeResult) → is_completion result ≡ false → h ≡ Runs result ∷ [] → IsWay h
   Started : h ≡ Starts ∷ [] → IsWay h
   GivenUp : h ≡ Starts ∷ GivesUp ∷ [] → IsWay h
   Issued : h ≡ Starts ∷ Issues ∷ [] → IsWay h

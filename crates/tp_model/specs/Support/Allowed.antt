@@ -41,6 +41,7 @@ use Rattle.tp_model.specs.World.{World, BegunWait, unattached, unfinished}
 use Rattle.tp_model.specs.Counts.{numbered, callback_of, is_pending, maximum, running, slots}
 use Rattle.tp_model.specs.Conditions.{is_actor, is_in_wait, is_object, lacks_slots_for}
 use Rattle.tp_model.specs.Waits.{wait_of, held}
+use Rattle.tp_model.specs.Laws.Entries.{is_completion}
 use Rattle.tp_model.specs.Support.Sound.{IsCallbackSound, is_wait_at}
 
 -- an object that has its place, in a pool that was made
@@ -247,9 +248,9 @@ news (change.Fire trigger first count) = count
 news (change.Return by words first count) = count
 news _ = 0
 
--- by whom a change can be made; and a callback that no trigger makes is of no wait object
+-- by whom a change can be made; and a callback that no trigger makes is of no wait object, and has no operation's result
 abbrev pub IsMadeBy : World → Who → Change → Type 0
-IsMadeBy w who (change.QueueCallback callback) = is_wait_at w.objects callback.object.0 ≡ false
+IsMadeBy w who (change.QueueCallback callback) = (is_wait_at w.objects callback.object.0 ≡ false) × (is_completion callback.result ≡ false)
 IsMadeBy w who (change.ExpectCallback callback) = is_wait_at w.objects callback.object.0 ≡ false
 IsMadeBy w who (change.Attach worker pool) = who ≡ Worker worker
 IsMadeBy w who (change.Detach by) = who ≡ Worker by.worker

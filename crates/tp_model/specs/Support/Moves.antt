@@ -24,7 +24,7 @@ use Rattle.tp_base.specs.Actors.{is_same_actor}
 use Rattle.tp_model.specs.Conditions.{is_in_wait}
 use Rattle.tp_model.specs.Waits.{cancel_where, is_covered_by, is_of, held, wait_of}
 use Rattle.tp_model.specs.Changes.{replaced, taken, returned, status_before, operated}
-use Rattle.tp_model.specs.Laws.Entries.{Run, Begins, begins_by, is_among, is_ending, is_freeing, made_by, queued_new, started_by, event, Runs as Taking, maximum_after, set_by, makes_wait}
+use Rattle.tp_model.specs.Laws.Entries.{Run, Begins, begins_by, is_among, is_ending, is_freeing, made_by, queued_new, started_by, event, Runs as Taking, is_completion, maximum_after, set_by, makes_wait}
 use Rattle.tp_model.specs.Support.Sound.{is_wait_at, count_armed}
 use Rattle.tp_model.specs.Support.Told.{deed_by, deed_of, nothing}
 
@@ -183,10 +183,11 @@ is_new Expected = true
 is_new Pending = true
 is_new _ = false
 
--- numbered on from a number, and none of them has begun
+-- numbered on from a number, none of them has begun, and what is pending has no operation's result
 pub record IsNew (number : ℕ) (c : CallbackRow) : Type 0 where
   pub numbered : c.number ≡ number
   pub unbegun : is_new c.status ≡ true
+  pub plain : is_pending c.status ≡ true → is_completion c.result ≡ false
 
 abbrev pub AreNew : ℕ → List CallbackRow → Type 0
 AreNew number [] = Unit {0}

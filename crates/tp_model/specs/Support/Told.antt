@@ -54,6 +54,7 @@ abbrev pub nothing : Deed
 nothing = record { taken = None; run = None; cancelled = None; count = 0; attached = None; returned = false; loosened = false; asked = None; words = None; completed = []; event = None }
 
 pub record Told : Type 0 where
+  -- the callbacks that are made, and of these those that are pending and those that expect an operation
   pub made : List ℕ
   pub queued : List ℕ
   pub started : List ℕ
