@@ -195,7 +195,6 @@ begun_by i l who object cancel place barriers begun is k may settled at barriers
       queued = k.queued;
       tallied = k.tallied;
       listed = k.listed;
-      pending = k.pending;
       timed = k.timed;
       kernels = k.kernels;
       slotted = k.slotted;
@@ -271,7 +270,6 @@ acquires i l who kernel cancel place barriers begun is k allowed at barriers_now
       queued = k.queued;
       tallied = k.tallied;
       listed = k.listed;
-      pending = k.pending;
       timed = k.timed;
       kernels = k.kernels;
       covered = subst (λ x. AreCovered i.limits cs begun.waits x) (sym (barriers_now ∙ ap (λ ns. with_wait i.barriers place (Some ns)) (sym covers)))
