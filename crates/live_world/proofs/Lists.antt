@@ -23,6 +23,10 @@ filter_map {X} p f (x ∷ xs) =
       | false ↦ filter_map p f xs
     ]
 
+pub filter_alike : {X : Type 0} (p q : X → Bool) (xs : List X) → AllByRecursion (λ x. p x ≡ q x) xs → filter p xs ≡ filter q xs
+filter_alike p q [] all = refl
+filter_alike p q (x ∷ xs) all = ap₂ (λ b t. cond b (x ∷ t) t) all.0 (filter_alike p q xs all.1)
+
 pub filter_both : {X : Type 0} (p q : X → Bool) (xs : List X) → filter p (filter q xs) ≡ filter (λ x. q x && p x) xs
 filter_both p q [] = refl
 filter_both {X} p q (x ∷ xs) =
