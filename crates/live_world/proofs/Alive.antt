@@ -1,35 +1,33 @@
 -- Callbacks that live, as they change.
-use Rattle.std.proofs.Common.{◌≡◌, true, false, cond, not, ◌||◌, ◌==◌, [], ◌∷◌, ◌++◌, sym, ap, ap₂, ◌∙◌, subst, filter}
+use Rattle.std.proofs.Common.{◌≡◌, true, false, cond, not, ◌==◌, [], ◌∷◌, ◌++◌, sym, ap, ap₂, ◌∙◌, subst, filter}
 use Rattle.std.specs.List.{AllByRecursion}
 use Rattle.std.proofs.lemmas.List.Elements.{filter-append}
 use Rattle.tp_base.specs.declared.limits.Limits.{Limits}
 use Rattle.tp_base.specs.declared.rows.CallbackRow.{CallbackRow}
 use Rattle.callback_rows.specs.LiveCallbacks.{LiveCallbacks}
-use Rattle.tp_model.specs.Counts.{has_number, is_running}
+use Rattle.tp_model.specs.Counts.{has_number}
 use Rattle.tp_model.specs.Changes.{replaced}
 use Rattle.tp_model.specs.Support.Remembered.{lives}
-use Rattle.tp_model.proofs.Lists.{all_append, all_filter, all_map, filter_filter}
-use Rattle.tp_model.proofs.Callbacks.{filter_replaced_out, pending_lives}
-use Rattle.live_world.specs.Invariant.{AreLive, waits, waits_or_runs}
+use Rattle.tp_model.proofs.Lists.{all_map, filter_filter}
+use Rattle.tp_model.proofs.Callbacks.{filter_replaced_out}
+use Rattle.live_world.specs.Invariant.{AreLive}
 use Rattle.live_world.proofs.Lists.{filter_all, all_pass}
 
--- a callback that waits is made
-pub alive_more : {limits : Limits} (callbacks : LiveCallbacks) (c : CallbackRow) → waits c ≡ true → AreLive limits callbacks → AreLive limits (record callbacks { rows = callbacks.rows ++ c ∷ [] })
-alive_more callbacks c pends k =
+-- a callback is made
+pub alive_more : {limits : Limits} (callbacks : LiveCallbacks) (c : CallbackRow) → lives c ≡ true → AreLive limits callbacks → AreLive limits (record callbacks { rows = callbacks.rows ++ c ∷ [] })
+alive_more callbacks c here k =
     record {
       slot_limit = k.slot_limit;
-      live = filter-append lives callbacks.rows (c ∷ []) ∙ ap₂ (λ xs b. xs ++ cond b (c ∷ []) []) k.live (pending_lives c.status pends);
-      at_work = all_append (λ x. waits_or_runs x ≡ true) callbacks.rows c k.at_work (ap (λ b. b || is_running c.status) pends);
+      live = filter-append lives callbacks.rows (c ∷ []) ∙ ap₂ (λ xs b. xs ++ cond b (c ∷ []) []) k.live here;
     }
 
 -- a row gets the place of another
-pub alive_replaced : {limits : Limits} (callbacks : LiveCallbacks) (r : CallbackRow) → lives r ≡ true → waits_or_runs r ≡ true → AreLive limits callbacks → AreLive limits (record callbacks { rows = replaced r callbacks.rows })
-alive_replaced callbacks r here busy k =
+pub alive_replaced : {limits : Limits} (callbacks : LiveCallbacks) (r : CallbackRow) → lives r ≡ true → AreLive limits callbacks → AreLive limits (record callbacks { rows = replaced r callbacks.rows })
+alive_replaced callbacks r here k =
     let all : AllByRecursion (λ x. lives x ≡ true) callbacks.rows = subst (λ xs. AllByRecursion (λ x. lives x ≡ true) xs) k.live (all_pass lives callbacks.rows) in
     record {
       slot_limit = k.slot_limit;
       live = filter_all lives (replaced r callbacks.rows) (all_map (λ x. lives x ≡ true) (λ c. cond (has_number r.number c) r c) (λ c h. elim (has_number r.number c) as (λ b. lives (cond b r c) ≡ true) [ true ↦ here | false ↦ h ]) callbacks.rows all);
-      at_work = all_map (λ x. waits_or_runs x ≡ true) (λ c. cond (has_number r.number c) r c) (λ c h. elim (has_number r.number c) as (λ b. waits_or_runs (cond b r c) ≡ true) [ true ↦ busy | false ↦ h ]) callbacks.rows k.at_work;
     }
 
 -- the rows without that of a callback which is over
@@ -42,5 +40,4 @@ alive_less callbacks r over k =
     record {
       slot_limit = k.slot_limit;
       live = ap (filter lives) rows_now ∙ filter_filter lives lives (λ _ e. e) (replaced r callbacks.rows) ∙ sym rows_now;
-      at_work = all_filter (λ x. waits_or_runs x ≡ true) (λ (x : CallbackRow). not (x.number == r.number)) callbacks.rows k.at_work;
     }

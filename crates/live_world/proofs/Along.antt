@@ -2,19 +2,21 @@
 use Rattle.std.proofs.Common.{◌≡◌, ℕ, ◌+◌, ◌<◌, ◌≤◌, Bool, true, false, cond, ◌&&◌, ◌||◌, ◌==◌, List, [], ◌∷◌, length, map, nat_lt, slice_get, Option, Some, None, refl, sym, ap, ◌∙◌, subst, arith, filter, find, option_map, eqb-true, ne_eqb}
 use Rattle.std.specs.List.{AllByRecursion, list_any}
 use Rattle.tp_base.specs.declared.ids.ObjectId.{ObjectId}
+use Rattle.tp_base.specs.declared.rows.Status.{Status}
+use Rattle.tp_base.specs.declared.rows.Status.TheVariants.{Expected, Issued, Pending, Running, Returned, Cancelled}
 use Rattle.tp_base.specs.declared.rows.CallbackRow.{CallbackRow}
 use Rattle.tp_base.specs.declared.rows.WaitTarget.TheVariants.{Object}
 use Rattle.keyed_lists.specs.Keyed.{Entry, first_of, next_of, has}
 use Rattle.tp_model.specs.World.{World}
-use Rattle.tp_model.specs.Counts.{has_number}
+use Rattle.tp_model.specs.Counts.{has_number, is_pending}
 use Rattle.tp_model.specs.Support.Sound.{IsRising}
 use Rattle.tp_model.specs.Waits.{is_held_for, is_outstanding_for}
-use Rattle.tp_model.proofs.Lists.{all_along, find_all}
+use Rattle.tp_model.proofs.Lists.{all_along, filter_agree, find_all}
 use Rattle.tp_model.proofs.Refusals.{both, and_false}
 use Rattle.live_world.specs.Parts.{is_tied, tied_entry}
-use Rattle.live_world.specs.Invariant.{waits}
-use Rattle.live_world.specs.Waiting.{numbers_of, outstanding_of}
-use Rattle.live_world.proofs.Lists.{all_pass, filter_none}
+use Rattle.live_world.specs.Invariant.{waits, runs}
+use Rattle.live_world.specs.Waiting.{numbers_of, outstanding_of, is_pending_for, pending_of}
+use Rattle.live_world.proofs.Lists.{all_pass, filter_both, filter_none}
 use Rattle.live_world.proofs.Listed.{held_alike}
 use Rattle.live_world.proofs.Walks.{Rises, rest, IsAmong, rises_filter, rest_first, first_among, rest_next, found_among}
 
@@ -193,55 +195,137 @@ pub next_row : (w : World) (object : ObjectId) (c : CallbackRow) (next : Option 
     → next ≡ find (λ (x : CallbackRow). nat_lt c.number x.number) (outstanding_of w object)
 next_row w object c next same is = is ∙ ap (λ o. find (λ (x : CallbackRow). nat_lt c.number x.number) (outstanding_of w o)) same
 
+-- where one of them is next
+pub record AtNext (w : World) (object : ObjectId) (c : CallbackRow) (next : Option CallbackRow) : Type 0 where
+  pub there : find (has_number c.number) (outstanding_of w c.object) ≡ Some c
+  pub step : (after : Option CallbackRow) → after ≡ find (λ (x : CallbackRow). nat_lt c.number x.number) (outstanding_of w c.object) → rest number_of (outstanding_of w object) next ≡ c ∷ rest number_of (outstanding_of w object) after
+  pub later : (after : Option CallbackRow) → after ≡ find (λ (x : CallbackRow). nat_lt c.number x.number) (outstanding_of w c.object) → length (rest number_of (outstanding_of w object) after) < length (rest number_of (outstanding_of w object) next)
+  pub among : (after : Option CallbackRow) → after ≡ find (λ (x : CallbackRow). nat_lt c.number x.number) (outstanding_of w c.object) → IsAmong number_of (outstanding_of w object) after
+
+pub at_next : (w : World) (fresh : ℕ) (object : ObjectId) (c : CallbackRow) (next : Option CallbackRow) → IsRising 1 fresh w.callbacks → next ≡ Some c → IsAmong number_of (outstanding_of w object) next → AtNext w object c next
+at_next w fresh object c next rising is among =
+    let ys : List CallbackRow = outstanding_of w object in
+    let there : IsAmong number_of ys (Some c) = subst (IsAmong number_of ys) is among in
+    let at = at_row fresh w.callbacks object c rising there in
+    record {
+      there = ap (λ o. find (has_number c.number) (outstanding_of w o)) at.same ∙ there;
+      step = λ after found. left at after found;
+      later = λ after found. omega (arith, ap length (left at after found));
+      among = λ after found. subst (IsAmong number_of ys) (sym (next_row w object c after at.same found)) at.among;
+    }
+  where
+    left : AtRow w.callbacks object c → (after : Option CallbackRow) → after ≡ find (λ (x : CallbackRow). nat_lt c.number x.number) (outstanding_of w c.object) → rest number_of (outstanding_of w object) next ≡ c ∷ rest number_of (outstanding_of w object) after
+    left at after found = ap (rest number_of (outstanding_of w object)) is ∙ at.step ∙ ap (λ o. c ∷ rest number_of (outstanding_of w object) o) (sym (next_row w object c after at.same found))
+
+-- all is left from the first on
+pub first_whole : (w : World) (fresh : ℕ) (object : ObjectId) (next : Option CallbackRow) → IsRising 1 fresh w.callbacks → next ≡ slice_get (outstanding_of w object) 0 → rest number_of (outstanding_of w object) next ≡ outstanding_of w object
+first_whole w fresh object next rising is = ap (rest number_of (outstanding_of w object)) is ∙ rest_first number_of 1 (outstanding_of w object) (outstanding_rise fresh w.callbacks object rising)
+
+pub first_is_among : (w : World) (object : ObjectId) (next : Option CallbackRow) → next ≡ slice_get (outstanding_of w object) 0 → IsAmong number_of (outstanding_of w object) next
+first_is_among w object next is = subst (IsAmong number_of (outstanding_of w object)) (sym is) (first_among number_of (outstanding_of w object))
+
+-- ---- they are counted
+
 -- what was counted so far, and what is left
-pub record Counting (ys : List CallbackRow) (next : Option CallbackRow) (all pending : ℕ) : Type 0 where
+pub record Counting (ys : List CallbackRow) (next : Option CallbackRow) (all pending running : ℕ) : Type 0 where
   pub all_counted : all + length (rest number_of ys next) ≡ length ys
   pub pending_counted : pending + length (filter waits (rest number_of ys next)) ≡ length (filter waits ys)
-  pub within : pending ≤ all
+  pub running_counted : running + length (filter runs (rest number_of ys next)) ≡ length (filter runs ys)
+  pub pending_within : pending ≤ all
+  pub running_within : running ≤ all
   pub among : IsAmong number_of ys next
 
-pub counting_first : (w : World) (fresh : ℕ) (object : ObjectId) (next : Option CallbackRow) → IsRising 1 fresh w.callbacks → next ≡ slice_get (outstanding_of w object) 0 → Counting (outstanding_of w object) next 0 0
+pub counting_first : (w : World) (fresh : ℕ) (object : ObjectId) (next : Option CallbackRow) → IsRising 1 fresh w.callbacks → next ≡ slice_get (outstanding_of w object) 0 → Counting (outstanding_of w object) next 0 0 0
 counting_first w fresh object next rising is =
-    let ys : List CallbackRow = outstanding_of w object in
-    let whole : rest number_of ys next ≡ ys = ap (rest number_of ys) is ∙ rest_first number_of 1 ys (outstanding_rise fresh w.callbacks object rising) in
+    let whole = first_whole w fresh object next rising is in
     record {
       all_counted = omega (arith, ap length whole);
       pending_counted = omega (arith, ap (λ xs. length (filter waits xs)) whole);
-      within = omega arith;
-      among = subst (IsAmong number_of ys) (sym is) (first_among number_of ys);
+      running_counted = omega (arith, ap (λ xs. length (filter runs xs)) whole);
+      pending_within = omega arith;
+      running_within = omega arith;
+      among = first_is_among w object next is;
     }
 
 -- one more
-pub record CountsOne (w : World) (object : ObjectId) (c : CallbackRow) (next : Option CallbackRow) (all pending : ℕ) : Type 0 where
-  pub there : find (has_number c.number) (outstanding_of w c.object) ≡ Some c
+pub record CountsOne (w : World) (object : ObjectId) (c : CallbackRow) (next : Option CallbackRow) (all pending running : ℕ) : Type 0 where
+  pub at : AtNext w object c next
   pub fewer : all < length (outstanding_of w object)
-  pub later : (after : Option CallbackRow) → after ≡ find (λ (x : CallbackRow). nat_lt c.number x.number) (outstanding_of w c.object) → length (rest number_of (outstanding_of w object) after) < length (rest number_of (outstanding_of w object) next)
-  pub goes_on : (after : Option CallbackRow) (more waiting : ℕ) → after ≡ find (λ (x : CallbackRow). nat_lt c.number x.number) (outstanding_of w c.object) → more ≡ all + 1 → waiting ≡ pending + cond (waits c) 1 0 → Counting (outstanding_of w object) after more waiting
+  pub goes_on : (after : Option CallbackRow) (more waiting busy : ℕ) → after ≡ find (λ (x : CallbackRow). nat_lt c.number x.number) (outstanding_of w c.object) → more ≡ all + 1 → waiting ≡ pending + cond (waits c) 1 0 → busy ≡ running + cond (runs c) 1 0
+      → Counting (outstanding_of w object) after more waiting busy
 
-pub counts_one : (w : World) (fresh : ℕ) (object : ObjectId) (c : CallbackRow) (next : Option CallbackRow) (all pending : ℕ) → IsRising 1 fresh w.callbacks → next ≡ Some c → Counting (outstanding_of w object) next all pending → CountsOne w object c next all pending
-counts_one w fresh object c next all pending rising is k =
+pub counts_one : (w : World) (fresh : ℕ) (object : ObjectId) (c : CallbackRow) (next : Option CallbackRow) (all pending running : ℕ) → IsRising 1 fresh w.callbacks → next ≡ Some c → Counting (outstanding_of w object) next all pending running → CountsOne w object c next all pending running
+counts_one w fresh object c next all pending running rising is k =
     let ys : List CallbackRow = outstanding_of w object in
-    let there : IsAmong number_of ys (Some c) = subst (IsAmong number_of ys) is k.among in
-    let at = at_row fresh w.callbacks object c rising there in
-    let left : rest number_of ys next ≡ c ∷ rest number_of ys (find (λ (x : CallbackRow). nat_lt c.number x.number) ys) = ap (rest number_of ys) is ∙ at.step in
+    let at = at_next w fresh object c next rising is k.among in
     record {
-      there = ap (λ o. find (has_number c.number) (outstanding_of w o)) at.same ∙ there;
-      fewer = omega (arith, k.all_counted, ap length left);
-      later = λ after found. omega (arith, ap length left, ap (λ o. length (rest number_of ys o)) (next_row w object c after at.same found));
-      goes_on = λ after more waiting found one_more one_waiting.
-          let after_is = next_row w object c after at.same found in
+      at = at;
+      fewer = omega (arith, k.all_counted, ap length (at.step (find (λ (x : CallbackRow). nat_lt c.number x.number) (outstanding_of w c.object)) refl));
+      goes_on = λ after more waiting busy found one_more one_waiting one_busy.
           record {
-            all_counted = omega (arith, k.all_counted, ap length left, ap (λ o. length (rest number_of ys o)) after_is, one_more);
-            pending_counted = counted (waits c) waiting (rest number_of ys after) one_waiting (ap (λ xs. length (filter waits xs)) (left ∙ ap (λ o. c ∷ rest number_of ys o) (sym after_is)));
-            within = fits (waits c) waiting more one_waiting one_more;
-            among = subst (IsAmong number_of ys) (sym after_is) at.among;
+            all_counted = omega (arith, k.all_counted, ap length (at.step after found), one_more);
+            pending_counted = counted waits (waits c) pending waiting (rest number_of ys after) one_waiting (ap (λ xs. length (filter waits xs)) (at.step after found)) k.pending_counted;
+            running_counted = counted runs (runs c) running busy (rest number_of ys after) one_busy (ap (λ xs. length (filter runs xs)) (at.step after found)) k.running_counted;
+            pending_within = fits (waits c) pending waiting more k.pending_within one_waiting one_more;
+            running_within = fits (runs c) running busy more k.running_within one_busy one_more;
+            among = at.among after found;
           };
     }
   where
-    counted : (b : Bool) (waiting : ℕ) (xs : List CallbackRow) → waiting ≡ pending + cond b 1 0 → length (filter waits (rest number_of (outstanding_of w object) next)) ≡ length (cond b (c ∷ filter waits xs) (filter waits xs)) → waiting + length (filter waits xs) ≡ length (filter waits (outstanding_of w object))
-    counted true waiting xs e left = omega (arith, k.pending_counted, e, left)
-    counted false waiting xs e left = omega (arith, k.pending_counted, e, left)
+    counted : (p : CallbackRow → Bool) (b : Bool) (before now : ℕ) (xs : List CallbackRow) → now ≡ before + cond b 1 0 → length (filter p (rest number_of (outstanding_of w object) next)) ≡ length (cond b (c ∷ filter p xs) (filter p xs))
+        → before + length (filter p (rest number_of (outstanding_of w object) next)) ≡ length (filter p (outstanding_of w object)) → now + length (filter p xs) ≡ length (filter p (outstanding_of w object))
+    counted p true before now xs e left so_far = omega (arith, so_far, e, left)
+    counted p false before now xs e left so_far = omega (arith, so_far, e, left)
 
-    fits : (b : Bool) (waiting more : ℕ) → waiting ≡ pending + cond b 1 0 → more ≡ all + 1 → waiting ≤ more
-    fits true waiting more e m = omega (arith, e, m, k.within)
-    fits false waiting more e m = omega (arith, e, m, k.within)
+    fits : (b : Bool) (before now more : ℕ) → before ≤ all → now ≡ before + cond b 1 0 → more ≡ all + 1 → now ≤ more
+    fits true before now more le e m = omega (arith, e, m, le)
+    fits false before now more le e m = omega (arith, e, m, le)
+
+-- ---- the pending ones among them
+
+pub pending_among : (object : ObjectId) (cs : List CallbackRow) → filter waits (filter (is_outstanding_for (Object object)) cs) ≡ filter (is_pending_for object) cs
+pending_among object cs =
+    filter_both waits (is_outstanding_for (Object object)) cs
+    ∙ filter_agree (λ (c : CallbackRow). is_outstanding_for (Object object) c && waits c) (is_pending_for object) (λ c. alike (c.object.0 == object.0) c.status) cs
+  where
+    alike : (b : Bool) (s : Status) → ((b && is_held_for (Object object) s) && is_pending s) ≡ (is_pending s && b)
+    alike true Expected = refl
+    alike true Issued = refl
+    alike true Pending = refl
+    alike true (Running worker true slots) = refl
+    alike true (Running worker false slots) = refl
+    alike true Returned = refl
+    alike true Cancelled = refl
+    alike false Expected = refl
+    alike false Issued = refl
+    alike false Pending = refl
+    alike false (Running worker associated slots) = refl
+    alike false Returned = refl
+    alike false Cancelled = refl
+
+-- none of them stands before the next
+pub record Seeking (object : ObjectId) (w : World) (next : Option CallbackRow) : Type 0 where
+  pub left : filter waits (rest number_of (outstanding_of w object) next) ≡ pending_of w object
+  pub among : IsAmong number_of (outstanding_of w object) next
+
+pub seeking_first : (w : World) (fresh : ℕ) (object : ObjectId) (next : Option CallbackRow) → IsRising 1 fresh w.callbacks → next ≡ slice_get (outstanding_of w object) 0 → Seeking object w next
+seeking_first w fresh object next rising is = record { left = ap (filter waits) (first_whole w fresh object next rising is) ∙ pending_among object w.callbacks; among = first_is_among w object next is }
+
+-- the next is one of them, or it is passed over
+pub record Seeks (object : ObjectId) (w : World) (c : CallbackRow) (next : Option CallbackRow) : Type 0 where
+  pub at : AtNext w object c next
+  pub first : waits c ≡ true → slice_get (pending_of w object) 0 ≡ Some c
+  pub others : waits c ≡ false → (after : Option CallbackRow) → after ≡ find (λ (x : CallbackRow). nat_lt c.number x.number) (outstanding_of w c.object) → Seeking object w after
+
+pub seeks : (w : World) (fresh : ℕ) (object : ObjectId) (c : CallbackRow) (next : Option CallbackRow) → IsRising 1 fresh w.callbacks → next ≡ Some c → Seeking object w next → Seeks object w c next
+seeks w fresh object c next rising is k =
+    let at = at_next w fresh object c next rising is k.among in
+    record {
+      at = at;
+      first = λ pends. ap (λ xs. slice_get xs 0) (sym k.left ∙ left at (find (λ (x : CallbackRow). nat_lt c.number x.number) (outstanding_of w c.object)) refl true pends);
+      others = λ passed after found. record { left = sym (left at after found false passed) ∙ k.left; among = at.among after found };
+    }
+  where
+    left : AtNext w object c next → (after : Option CallbackRow) → after ≡ find (λ (x : CallbackRow). nat_lt c.number x.number) (outstanding_of w c.object) → (b : Bool) → waits c ≡ b
+        → filter waits (rest number_of (outstanding_of w object) next) ≡ cond b (c ∷ filter waits (rest number_of (outstanding_of w object) after)) (filter waits (rest number_of (outstanding_of w object) after))
+    left at after found b e = ap (filter waits) (at.step after found) ∙ ap (λ t. cond t (c ∷ filter waits (rest number_of (outstanding_of w object) after)) (filter waits (rest number_of (outstanding_of w object) after))) e

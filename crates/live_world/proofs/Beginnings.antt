@@ -1,5 +1,5 @@
 -- What a wait that begins covers, what it cancels, and what the parts show then.
-use Rattle.std.proofs.Common.{◌≡◌, ℕ, ◌+◌, Bool, true, false, cond, not, ◌&&◌, ◌||◌, ◌==◌, List, [], ◌∷◌, ◌++◌, length, map, slice_set, Some, refl, sym, ap, ap₂, ◌∙◌, subst, arith, filter, find, eq-eqb, ne_eqb}
+use Rattle.std.proofs.Common.{◌≡◌, ℕ, suc, ◌+◌, Bool, true, false, cond, not, ◌&&◌, ◌||◌, ◌==◌, List, [], ◌∷◌, ◌++◌, length, map, slice_set, Some, refl, sym, ap, ap₂, ◌∙◌, subst, arith, filter, find, eq-eqb, ne_eqb}
 use Rattle.std.specs.List.{AllByRecursion}
 use Rattle.std.specs.Option.{option_map_or}
 use Rattle.std.specs.Vec.{with_item}
@@ -21,7 +21,7 @@ use Rattle.tp_base.specs.declared.plans.Change.TheVariants as change
 use Rattle.tp_model.specs.Support.Remembered.{lives, forget}
 use Rattle.tp_model.proofs.Forgetting.{over_not_covered, over_not_cancelled}
 use Rattle.tp_model.specs.Waits.{is_held_for, is_outstanding_for, is_cancelled_by, is_covered_by, cancelled, cancel_where, covered_of}
-use Rattle.tp_model.proofs.Lists.{all_along, all_filter, filter_filter}
+use Rattle.tp_model.proofs.Lists.{all_along, all_filter, filter_agree, filter_filter}
 use Rattle.tp_model.proofs.Callbacks.{found_bounds}
 use Rattle.tp_model.proofs.Preserving.{sound_begin_wait}
 use Rattle.tp_model.proofs.Refusals.{and_false}
@@ -30,127 +30,16 @@ use Rattle.live_world.specs.declared.LiveWorld.TheInside.{Inside}
 use Rattle.live_world.specs.Live.{Live, moved, became, settled}
 use Rattle.live_world.specs.Parts.{place_of, is_held_among, held_among}
 use Rattle.live_world.specs.View.{shown, IsLiveWorld}
-use Rattle.live_world.specs.Invariant.{AreCovered, AreWanted, waits, waits_or_runs}
-use Rattle.live_world.specs.Waiting.{numbers_of}
-use Rattle.live_world.proofs.Lists.{filter_all, all_pass, none_passes}
-use Rattle.live_world.proofs.Along.{number_of, numbers_shown}
+use Rattle.live_world.specs.Invariant.{AreCovered, AreWanted, waits, runs}
+use Rattle.live_world.specs.Waiting.{numbers_of, is_covered_among}
+use Rattle.live_world.proofs.Lists.{filter_all, filter_alike, filter_both, filter_map, all_pass, none_passes}
+use Rattle.live_world.proofs.Along.{number_of, numbers_shown, pending_among}
 use Rattle.live_world.proofs.Cancelled.{none_where}
 use Rattle.live_world.proofs.Covered.{covered_begun}
 use Rattle.live_world.proofs.Wanted.{wanted_covering, wanted_begun}
 use Rattle.live_world.proofs.Moving.{Becomes, became_by, moved_by}
 
-and_true : (b : Bool) → (b && true) ≡ b
-and_true true = refl
-and_true false = refl
-
 -- ---- what a wait covers
-
--- a callback that waits or runs, and isn't cancelled
-covers_one : (object : ObjectId) (cancel b : Bool) (s : Status) → (is_pending s || is_running s) ≡ true → (cancel && (is_pending s && b)) ≡ false → ((b && is_held_for (Object object) s) && (is_running s || not (cancel && true))) ≡ (b && is_held_for (Object object) s)
-covers_one object cancel b Expected busy left = absurd cc
-covers_one object cancel b Issued busy left = absurd cc
-covers_one object cancel b Returned busy left = absurd cc
-covers_one object cancel b Cancelled busy left = absurd cc
-covers_one object cancel b (Running worker associated slots) busy left = and_true (b && associated)
-covers_one object true true Pending busy left = absurd cc
-covers_one object true false Pending busy left = refl
-covers_one object false true Pending busy left = refl
-covers_one object false false Pending busy left = refl
-
-pub covers_outstanding : (object : ObjectId) (cancel : Bool) (cs : List CallbackRow) → AllByRecursion (λ c. waits_or_runs c ≡ true) cs → AllByRecursion (λ c. is_cancelled_by (Object object) cancel c ≡ false) cs → covered_of (Object object) cancel cs ≡ map number_of (filter (is_outstanding_for (Object object)) cs)
-covers_outstanding object cancel cs busy left = ap (map number_of) (each cs busy left)
-  where
-    each : (ds : List CallbackRow) → AllByRecursion (λ c. waits_or_runs c ≡ true) ds → AllByRecursion (λ c. is_cancelled_by (Object object) cancel c ≡ false) ds → filter (is_covered_by (Object object) cancel) ds ≡ filter (is_outstanding_for (Object object)) ds
-    each [] b l = refl
-    each (d ∷ ds) b l = ap₂ (λ t xs. cond t (d ∷ xs) xs) (covers_one object cancel (d.object.0 == object.0) d.status b.0 l.0) (each ds b.1 l.1)
-
--- ---- how many it covers, and how many it cancels
-
-one_if : Bool → ℕ
-one_if b = cond b 1 0
-
-cancel_one : (object : ObjectId) (b t : Bool) (s : Status) → (is_pending s || is_running s) ≡ true → (is_pending s && b) ≡ t
-    → cond (cond t ((b && false) && (false || false)) ((b && is_held_for (Object object) s) && (is_running s || false))) 1 0 + cond ((b && is_held_for (Object object) s) && is_pending s) 1 0 ≡ cond (b && is_held_for (Object object) s) 1 0
-cancel_one object b t Expected busy is = absurd cc
-cancel_one object b t Issued busy is = absurd cc
-cancel_one object b t Returned busy is = absurd cc
-cancel_one object b t Cancelled busy is = absurd cc
-cancel_one object true true Pending busy is = omega arith
-cancel_one object true false Pending busy is = absurd cc
-cancel_one object false true Pending busy is = absurd cc
-cancel_one object false false Pending busy is = omega arith
-cancel_one object b true (Running worker associated slots) busy is = absurd cc
-cancel_one object true false (Running worker true slots) busy is = omega arith
-cancel_one object true false (Running worker false slots) busy is = omega arith
-cancel_one object false false (Running worker associated slots) busy is = omega arith
-
-length_cond : (b : Bool) (c : CallbackRow) (cs : List CallbackRow) → length (cond b (c ∷ cs) cs) ≡ cond b 1 0 + length cs
-length_cond true c cs = omega arith
-length_cond false c cs = omega arith
-
-pub covers_and_cancels : (object : ObjectId) (cs : List CallbackRow) → AllByRecursion (λ c. waits_or_runs c ≡ true) cs
-    → length (covered_of (Object object) true (cancel_where (is_cancelled_by (Object object) true) cs)) + length (filter waits (filter (is_outstanding_for (Object object)) cs)) ≡ length (filter (is_outstanding_for (Object object)) cs)
-covers_and_cancels object cs busy = ap (λ n. n + length (filter waits (filter (is_outstanding_for (Object object)) cs))) (length-map (filter (is_covered_by (Object object) true) (cancel_where (is_cancelled_by (Object object) true) cs)) number_of) ∙ each cs busy
-  where
-    covers : CallbackRow → Bool
-    covers = is_covered_by (Object object) true
-
-    p : CallbackRow → Bool
-    p = is_outstanding_for (Object object)
-
-    test : CallbackRow → Bool
-    test = is_cancelled_by (Object object) true
-
-    each : (ds : List CallbackRow) → AllByRecursion (λ c. waits_or_runs c ≡ true) ds → length (filter covers (cancel_where test ds)) + length (filter waits (filter p ds)) ≡ length (filter p ds)
-    each [] b = omega arith
-    each (d ∷ ds) b =
-        let here : cond (covers (cond (test d) (cancelled d) d)) 1 0 + cond (p d && waits d) 1 0 ≡ cond (p d) 1 0
-        = ap (λ t. cond t 1 0 + cond (p d && waits d) 1 0) (elim (test d) as (λ t. covers (cond t (cancelled d) d) ≡ cond t (((d.object.0 == object.0) && false) && (false || false)) (((d.object.0 == object.0) && is_held_for (Object object) d.status) && (is_running d.status || false))) [ true ↦ refl | false ↦ refl ])
-        ∙ cancel_one object (d.object.0 == object.0) (test d) d.status b.0 refl in
-        let kept : length (filter waits (filter p (d ∷ ds))) ≡ cond (p d && waits d) 1 0 + length (filter waits (filter p ds))
-        = elim (p d) as (λ t. length (filter waits (cond t (d ∷ filter p ds) (filter p ds))) ≡ cond (t && waits d) 1 0 + length (filter waits (filter p ds))) [ true ↦ length_cond (waits d) d (filter waits (filter p ds)) | false ↦ omega arith ] in
-        omega (arith, each ds b.1, here, kept, length_cond (covers (cond (test d) (cancelled d) d)) (cond (test d) (cancelled d) d) (filter covers (cancel_where test ds)), length_cond (p d) d (filter p ds))
-
-pub cancels_pending : (object : ObjectId) (cs : List CallbackRow) → length (filter (is_cancelled_by (Object object) true) cs) ≡ length (filter waits (filter (is_outstanding_for (Object object)) cs))
-cancels_pending object [] = refl
-cancels_pending object (c ∷ cs) =
-    length_cond (is_cancelled_by (Object object) true c) c (filter (is_cancelled_by (Object object) true) cs)
-    ∙ ap₂ (λ t n. cond t 1 0 + n) (alike (c.object.0 == object.0) c.status) (cancels_pending object cs)
-    ∙ elim (is_outstanding_for (Object object) c) as (λ t. cond (t && waits c) 1 0 + length (filter waits (filter (is_outstanding_for (Object object)) cs)) ≡ length (filter waits (cond t (c ∷ filter (is_outstanding_for (Object object)) cs) (filter (is_outstanding_for (Object object)) cs)))) [
-      | true ↦ sym (length_cond (waits c) c (filter waits (filter (is_outstanding_for (Object object)) cs)))
-      | false ↦ omega arith
-    ]
-  where
-    alike : (b : Bool) (s : Status) → (is_pending s && b) ≡ ((b && is_held_for (Object object) s) && is_pending s)
-    alike true Expected = refl
-    alike true Issued = refl
-    alike true Pending = refl
-    alike true (Running worker true slots) = refl
-    alike true (Running worker false slots) = refl
-    alike true Returned = refl
-    alike true Cancelled = refl
-    alike false Expected = refl
-    alike false Issued = refl
-    alike false Pending = refl
-    alike false (Running worker associated slots) = refl
-    alike false Returned = refl
-    alike false Cancelled = refl
-
--- without cancel nothing is cancelled, and all is covered
-pub covers_all : (object : ObjectId) (cs : List CallbackRow) → AllByRecursion (λ c. waits_or_runs c ≡ true) cs → length (covered_of (Object object) false (cancel_where (is_cancelled_by (Object object) false) cs)) ≡ length (filter (is_outstanding_for (Object object)) cs)
-covers_all object cs busy =
-    ap (λ ds. length (covered_of (Object object) false ds)) (none_where cs (is_cancelled_by (Object object) false) (none cs))
-    ∙ ap length (covers_outstanding object false cs busy (none cs)) ∙ length-map (filter (is_outstanding_for (Object object)) cs) number_of
-  where
-    none : (ds : List CallbackRow) → AllByRecursion (λ c. is_cancelled_by (Object object) false c ≡ false) ds
-    none [] = tt
-    none (d ∷ ds) = (refl, none ds)
-
-pub cancels_none : (object : ObjectId) (cs : List CallbackRow) → filter (is_cancelled_by (Object object) false) cs ≡ []
-cancels_none object [] = refl
-cancels_none object (c ∷ cs) = cancels_none object cs
-
--- ---- the parts
 
 -- each row is found by its number
 each_found : (low fresh : ℕ) (cs : List CallbackRow) → IsRising low fresh cs → AllByRecursion (λ c. find (has_number c.number) cs ≡ Some c) cs
@@ -162,11 +51,101 @@ each_found low fresh (c ∷ cs) r = (
       cs (each_found (c.number + 1) fresh cs r.1),
 )
 
+-- what is outstanding, or with cancel what of it runs
+pub covers_outstanding : (fresh : ℕ) (object : ObjectId) (cancel : Bool) (cs : List CallbackRow) → IsRising 1 fresh cs → covered_of (Object object) cancel cs ≡ filter (is_covered_among cs cancel) (map number_of (filter (is_outstanding_for (Object object)) cs))
+covers_outstanding fresh object cancel cs rising =
+    ap (map number_of)
+    (filter_alike (is_covered_by (Object object) cancel) (λ c. p c && q c.number) cs (all_along (λ c. find (has_number c.number) cs ≡ Some c) (λ c. is_covered_by (Object object) cancel c ≡ (p c && q c.number)) one cs (each_found 1 fresh cs rising))
+    ∙ sym (filter_both (λ (c : CallbackRow). q c.number) p cs))
+    ∙ sym (filter_map q number_of (filter p cs))
+  where
+    p : CallbackRow → Bool
+    p = is_outstanding_for (Object object)
+
+    q : ℕ → Bool
+    q = is_covered_among cs cancel
+
+    alike : (a b : Bool) → (a || not (b && true)) ≡ (not b || a)
+    alike true true = refl
+    alike true false = refl
+    alike false true = refl
+    alike false false = refl
+
+    one : (c : CallbackRow) → find (has_number c.number) cs ≡ Some c → is_covered_by (Object object) cancel c ≡ (p c && q c.number)
+    one c found = ap (λ b. p c && b) (alike (runs c) cancel ∙ ap (λ o. not cancel || option_map_or runs o false) (sym found))
+
+-- ---- how many it covers, and how many it cancels
+
+-- a wait with cancel covers what runs
+pub covers_running : (object : ObjectId) (cs : List CallbackRow) → length (covered_of (Object object) true (cancel_where (is_cancelled_by (Object object) true) cs)) ≡ length (filter runs (filter (is_outstanding_for (Object object)) cs))
+covers_running object cs = length-map (filter covers (cancel_where test cs)) number_of ∙ each cs ∙ ap length (sym (filter_both runs p cs))
+  where
+    covers : CallbackRow → Bool
+    covers = is_covered_by (Object object) true
+
+    p : CallbackRow → Bool
+    p = is_outstanding_for (Object object)
+
+    test : CallbackRow → Bool
+    test = is_cancelled_by (Object object) true
+
+    one : (b t : Bool) (s : Status) → (is_pending s && b) ≡ t → cond t ((b && false) && (false || false)) ((b && is_held_for (Object object) s) && (is_running s || false)) ≡ ((b && is_held_for (Object object) s) && is_running s)
+    one b true Expected is = absurd cc
+    one b false Expected is = refl
+    one b true Issued is = absurd cc
+    one b false Issued is = refl
+    one true true Pending is = refl
+    one true false Pending is = absurd cc
+    one false true Pending is = absurd cc
+    one false false Pending is = refl
+    one b true (Running worker associated slots) is = absurd cc
+    one b false (Running worker associated slots) is = refl
+    one b true Returned is = absurd cc
+    one b false Returned is = refl
+    one b true Cancelled is = absurd cc
+    one b false Cancelled is = refl
+
+    each : (ds : List CallbackRow) → length (filter covers (cancel_where test ds)) ≡ length (filter (λ c. p c && runs c) ds)
+    each [] = refl
+    each (d ∷ ds) =
+        ap (λ b. length (cond b (cond (test d) (cancelled d) d ∷ filter covers (cancel_where test ds)) (filter covers (cancel_where test ds))))
+        (elim (test d) as (λ t. covers (cond t (cancelled d) d) ≡ cond t (((d.object.0 == object.0) && false) && (false || false)) (((d.object.0 == object.0) && is_held_for (Object object) d.status) && (is_running d.status || false))) [ true ↦ refl | false ↦ refl ]
+        ∙ one (d.object.0 == object.0) (test d) d.status refl)
+        ∙ elim (p d && runs d) as (λ b. length (cond b (cond (test d) (cancelled d) d ∷ filter covers (cancel_where test ds)) (filter covers (cancel_where test ds))) ≡ length (cond b (d ∷ filter (λ c. p c && runs c) ds) (filter (λ c. p c && runs c) ds))) [
+          | true ↦ ap suc (each ds)
+          | false ↦ each ds
+        ]
+
+-- and cancels what is pending
+pub cancels_pending : (object : ObjectId) (cs : List CallbackRow) → length (filter (is_cancelled_by (Object object) true) cs) ≡ length (filter waits (filter (is_outstanding_for (Object object)) cs))
+cancels_pending object cs = ap length (sym (pending_among object cs))
+
+-- without cancel nothing is cancelled, and all is covered
+pub covers_all : (object : ObjectId) (cs : List CallbackRow) → length (covered_of (Object object) false (cancel_where (is_cancelled_by (Object object) false) cs)) ≡ length (filter (is_outstanding_for (Object object)) cs)
+covers_all object cs =
+    ap (λ ds. length (covered_of (Object object) false ds)) (none_where cs (is_cancelled_by (Object object) false) (none cs))
+    ∙ length-map (filter (is_covered_by (Object object) false) cs) number_of
+    ∙ ap length (filter_agree (is_covered_by (Object object) false) (is_outstanding_for (Object object)) (λ c. all (is_outstanding_for (Object object) c) (is_running c.status)) cs)
+  where
+    none : (ds : List CallbackRow) → AllByRecursion (λ c. is_cancelled_by (Object object) false c ≡ false) ds
+    none [] = tt
+    none (d ∷ ds) = (refl, none ds)
+
+    all : (a b : Bool) → (a && (b || true)) ≡ a
+    all true true = refl
+    all true false = refl
+    all false b = refl
+
+pub cancels_none : (object : ObjectId) (cs : List CallbackRow) → filter (is_cancelled_by (Object object) false) cs ≡ []
+cancels_none object [] = refl
+cancels_none object (c ∷ cs) = cancels_none object cs
+
+-- ---- the parts
+
 -- what is outstanding is held
-all_held : (fresh : ℕ) (object : ObjectId) (cs : List CallbackRow) → IsRising 1 fresh cs → filter (is_held_among cs (Object object)) (map number_of (filter (is_outstanding_for (Object object)) cs)) ≡ map number_of (filter (is_outstanding_for (Object object)) cs)
+all_held : (fresh : ℕ) (object : ObjectId) (cs : List CallbackRow) → IsRising 1 fresh cs → AllByRecursion (λ n. is_held_among cs (Object object) n ≡ true) (map number_of (filter (is_outstanding_for (Object object)) cs))
 all_held fresh object cs rising =
-    filter_all (is_held_among cs (Object object)) (map number_of (filter (is_outstanding_for (Object object)) cs))
-    (held (filter (is_outstanding_for (Object object)) cs) (all_filter (λ c. find (has_number c.number) cs ≡ Some c) (is_outstanding_for (Object object)) cs (each_found 1 fresh cs rising)) (all_pass (is_outstanding_for (Object object)) cs))
+    held (filter (is_outstanding_for (Object object)) cs) (all_filter (λ c. find (has_number c.number) cs ≡ Some c) (is_outstanding_for (Object object)) cs (each_found 1 fresh cs rising)) (all_pass (is_outstanding_for (Object object)) cs)
   where
     held : (ds : List CallbackRow) → AllByRecursion (λ c. find (has_number c.number) cs ≡ Some c) ds → AllByRecursion (λ c. is_outstanding_for (Object object) c ≡ true) ds → AllByRecursion (λ n. is_held_among cs (Object object) n ≡ true) (map number_of ds)
     held [] found passes = tt
@@ -174,7 +153,7 @@ all_held fresh object cs rising =
 
 pub begun_by : (i : Inside) (l : Live) (who : Who) (object : ObjectId) (cancel : Bool) (place : ℕ) (barriers : Covers) (begun : BegunWaits) → shown i ≡ l → IsLiveWorld i
     → MayBegin l.world who (Object object) → filter (is_cancelled_by (Object object) cancel) l.world.callbacks ≡ [] → place_of i.limits who ≡ Some place
-    → barriers ≡ with_wait i.barriers place (Some (numbers_of i.outstanding.entries object.0)) → begun.waits ≡ i.waits.waits ++ new_wait who (Object object) cancel i.callbacks.rows ∷ []
+    → barriers ≡ with_wait i.barriers place (Some (filter (is_covered_among i.callbacks.rows cancel) (numbers_of i.outstanding.entries object.0))) → begun.waits ≡ i.waits.waits ++ new_wait who (Object object) cancel i.callbacks.rows ∷ []
     → Becomes (record i { barriers = barriers; waits = begun }) (became l (begin_wait l.world who (Object object) cancel l.world.callbacks))
 begun_by i l who object cancel place barriers begun is k may settled at barriers_now waits_now =
     let cs : List CallbackRow = i.callbacks.rows in
@@ -183,9 +162,12 @@ begun_by i l who object cancel place barriers begun is k may settled at barriers
     let b : BegunWait = new_wait who (Object object) cancel cs in
     let may_here : MayBegin w who (Object object) = subst (λ (x : Live). MayBegin x.world who (Object object)) (sym is) may in
     let left : AllByRecursion (λ c. is_cancelled_by (Object object) cancel c ≡ false) cs = none_passes (is_cancelled_by (Object object) cancel) cs (ap (λ (x : Live). filter (is_cancelled_by (Object object) cancel) x.world.callbacks) is ∙ settled) in
-    let covers : b.covered ≡ map number_of (filter (is_outstanding_for (Object object)) cs) = covers_outstanding object cancel cs k.alive.at_work left in
-    let numbers : numbers_of i.outstanding.entries object.0 ≡ b.covered = numbers_shown cs object i.outstanding.entries k.listed.listed ∙ sym covers in
-    let held : held_among cs b ≡ b.covered = ap (filter (is_held_among cs (Object object))) covers ∙ all_held (i.made + 1) object cs k.sound.numbers ∙ sym covers in
+    let q : ℕ → Bool = is_covered_among cs cancel in
+    let all : List ℕ = map number_of (filter (is_outstanding_for (Object object)) cs) in
+    let covers : b.covered ≡ filter q all = covers_outstanding (i.made + 1) object cancel cs k.sound.numbers in
+    let numbers : filter q (numbers_of i.outstanding.entries object.0) ≡ b.covered = ap (filter q) (numbers_shown cs object i.outstanding.entries k.listed.listed) ∙ sym covers in
+    let held : held_among cs b ≡ b.covered
+    = ap (filter (is_held_among cs (Object object))) covers ∙ filter_all (is_held_among cs (Object object)) (filter q all) (all_filter (λ n. is_held_among cs (Object object) n ≡ true) q all (all_held (i.made + 1) object cs k.sound.numbers)) ∙ sym covers in
     let sound : IsSound (i.made + 1) v = subst (λ ds. IsSound (i.made + 1) (begin_wait w who (Object object) cancel ds)) (none_where cs (is_cancelled_by (Object object) cancel) left) (sound_begin_wait (i.made + 1) w who (Object object) cancel may_here.none may_here.made k.sound) in
     let r = became_by (record i { barriers = barriers; waits = begun }) v sound
     (record {
@@ -195,7 +177,6 @@ begun_by i l who object cancel place barriers begun is k may settled at barriers
       queued = k.queued;
       tallied = k.tallied;
       listed = k.listed;
-      pending = k.pending;
       timed = k.timed;
       kernels = k.kernels;
       slotted = k.slotted;
@@ -271,7 +252,6 @@ acquires i l who kernel cancel place barriers begun is k allowed at barriers_now
       queued = k.queued;
       tallied = k.tallied;
       listed = k.listed;
-      pending = k.pending;
       timed = k.timed;
       kernels = k.kernels;
       covered = subst (λ x. AreCovered i.limits cs begun.waits x) (sym (barriers_now ∙ ap (λ ns. with_wait i.barriers place (Some ns)) (sym covers)))

@@ -1,7 +1,7 @@
 -- Callbacks of an object that are cancelled one after another.
-use Rattle.std.proofs.Common.{◌≡◌, ℕ, ◌<◌, Bool, true, false, cond, not, ◌&&◌, ◌==◌, List, [], ◌∷◌, length, slice_get, Some, None, refl, sym, ap, ap₂, ◌∙◌, arith, filter, find, eq-eqb}
+use Rattle.std.proofs.Common.{◌≡◌, ℕ, ◌<◌, Bool, true, false, cond, not, ◌&&◌, ◌==◌, List, [], ◌∷◌, length, map, nat_lt, slice_get, Option, Some, None, refl, sym, ap, ap₂, ◌∙◌, subst, arith, filter, find, eq-eqb, ne_eqb}
 use Rattle.std.specs.List.{AllByRecursion}
-use Rattle.std.proofs.lemmas.List.Sums.{length-filter, count_by-le-length}
+use Rattle.std.proofs.lemmas.Bool.{ltb-true}
 use Rattle.tp_base.specs.declared.ids.ObjectId.{ObjectId}
 use Rattle.tp_base.specs.declared.rows.CallbackRow.{CallbackRow}
 use Rattle.tp_base.specs.declared.rows.WaitTarget.TheVariants.{Object}
@@ -9,82 +9,117 @@ use Rattle.tp_model.specs.Counts.{has_number, is_pending}
 use Rattle.tp_model.specs.Changes.{replaced, with_callback}
 use Rattle.tp_model.specs.Support.Sound.{IsRising}
 use Rattle.tp_model.specs.Support.Remembered.{lives, forget}
-use Rattle.tp_model.specs.Waits.{cancelled, cancel_where}
-use Rattle.tp_model.proofs.Lists.{filter_filter}
+use Rattle.tp_model.specs.Waits.{is_outstanding_for, cancelled, cancel_where}
+use Rattle.tp_model.proofs.Lists.{filter_filter, find_kept, find_passes}
 use Rattle.tp_model.proofs.Callbacks.{found_all, filter_replaced_out, over_not_pending}
 use Rattle.tp_model.proofs.Cancelling.{cancelled_pending, cancelled_if}
-use Rattle.tp_model.proofs.Forgetting.{cancel_forget}
-use Rattle.tp_model.proofs.Refusals.{both}
+use Rattle.tp_model.proofs.Forgetting.{cancel_forget, over_not_outstanding}
+use Rattle.tp_model.proofs.Refusals.{and_false}
+use Rattle.live_world.specs.Invariant.{waits}
 use Rattle.live_world.specs.Live.{Live, became, without_pending}
-use Rattle.live_world.specs.Waiting.{is_pending_for, pending_of}
-use Rattle.live_world.proofs.Lists.{none_passes, no_first}
-use Rattle.live_world.proofs.Along.{first_passes, first_by_number}
+use Rattle.live_world.specs.Waiting.{is_pending_for, outstanding_of, pending_of}
+use Rattle.live_world.proofs.Lists.{none_passes}
+use Rattle.live_world.proofs.Walks.{rest, IsAmong, rest_without, passing_without}
+use Rattle.live_world.proofs.Along.{number_of, first_passes, first_by_number, Seeking, Seeks, seeking_first, seeks}
 
 pub none_where : (cs : List CallbackRow) (t : CallbackRow → Bool) → AllByRecursion (λ c. t c ≡ false) cs → cancel_where t cs ≡ cs
 none_where [] t all = refl
 none_where (c ∷ cs) t all = ap₂ (λ b ds. cond b (cancelled c) c ∷ ds) all.0 (none_where cs t all.1)
 
--- where nothing is pending, all of it is cancelled
-pub cancelling_ended : (object : ObjectId) (now : Live) → None ≡ slice_get (pending_of now.world object) 0 → forget now.world ≡ now.world → now ≡ without_pending now object
-cancelling_ended object now none living =
+-- what is left to cancel leads to where all of it leads, and none of it stands before the next
+pub record Cancelling (object : ObjectId) (before now : Live) (next : Option CallbackRow) : Type 0 where
+  pub leads : without_pending now object ≡ without_pending before object
+  pub seeks : Seeking object now.world next
+
+pub cancelling_first : (object : ObjectId) (fresh : ℕ) (now : Live) (next : Option CallbackRow) → IsRising 1 fresh now.world.callbacks → next ≡ slice_get (outstanding_of now.world object) 0 → Cancelling object now now next
+cancelling_first object fresh now next rising is = record { leads = refl; seeks = seeking_first now.world fresh object next rising is }
+
+-- where nothing is left, all of it is cancelled
+pub cancelling_ended : (object : ObjectId) (before now : Live) (next : Option CallbackRow) → next ≡ None → forget now.world ≡ now.world → Cancelling object before now next → now ≡ without_pending before object
+cancelling_ended object before now next ends living k =
+    let none : pending_of now.world object ≡ [] = sym k.seeks.left ∙ ap (λ o. filter waits (rest number_of (outstanding_of now.world object) o)) ends in
     ap (λ w. record { world = w; made = now.made }) (sym living)
-    ∙ ap (λ cs. became now (record now.world { callbacks = cs })) (sym (none_where now.world.callbacks (is_pending_for object) (none_passes (is_pending_for object) now.world.callbacks (no_first (pending_of now.world object) none))))
+    ∙ ap (λ cs. became now (record now.world { callbacks = cs })) (sym (none_where now.world.callbacks (is_pending_for object) (none_passes (is_pending_for object) now.world.callbacks none)))
+    ∙ k.leads
 
--- the first that is pending
-pub record CancelsFirst (object : ObjectId) (now : Live) (c : CallbackRow) : Type 0 where
-  pub found : find (has_number c.number) now.world.callbacks ≡ Some c
-  pub pends : is_pending c.status ≡ true
+-- ---- one of them
+
+-- it is passed over or cancelled
+pub record CancelsNext (object : ObjectId) (before now : Live) (c : CallbackRow) (next : Option CallbackRow) : Type 0 where
+  pub seeks : Seeks object now.world c next
+  pub found : waits c ≡ true → find (has_number c.number) now.world.callbacks ≡ Some c
+  pub passes : waits c ≡ false → (after : Option CallbackRow) → after ≡ find (λ (x : CallbackRow). nat_lt c.number x.number) (outstanding_of now.world c.object) → Cancelling object before now after
+  pub cancels : waits c ≡ true → (after : Option CallbackRow) → after ≡ find (λ (x : CallbackRow). nat_lt c.number x.number) (outstanding_of now.world c.object)
+      → (new : Live) → new ≡ became now (with_callback now.world (cancelled c)) → Cancelling object before new after
+  -- as much is left without it
+  pub same : (after : Option CallbackRow) → after ≡ find (λ (x : CallbackRow). nat_lt c.number x.number) (outstanding_of now.world c.object)
+      → (new : Live) → new ≡ became now (with_callback now.world (cancelled c)) → rest number_of (outstanding_of new.world object) after ≡ rest number_of (outstanding_of now.world object) after
+
+module _ (object : ObjectId) (fresh : ℕ) (now : Live) (c : CallbackRow) (rising : IsRising 1 fresh now.world.callbacks) where
+  abbrev cs : List CallbackRow
+  cs = now.world.callbacks
+
+  abbrev r : CallbackRow
+  r = cancelled c
+
+  abbrev ys : List CallbackRow
+  ys = outstanding_of now.world object
+
+  -- what passes a test of callbacks that aren't over, without this one
+  others : (p : CallbackRow → Bool) → ((x : CallbackRow) → lives x ≡ false → p x ≡ false) → p r ≡ false → (new : Live) → new ≡ became now (with_callback now.world r) → filter p new.world.callbacks ≡ filter (λ (x : CallbackRow). not (has_number c.number x)) (filter p cs)
+  others p over out new is = ap (λ (l : Live). filter p l.world.callbacks) is ∙ filter_filter p lives over (replaced r cs) ∙ filter_replaced_out p r cs out
+
+  outstanding_others : (new : Live) → new ≡ became now (with_callback now.world r) → outstanding_of new.world object ≡ filter (λ (x : CallbackRow). not (has_number c.number x)) ys
+  outstanding_others new is = others (is_outstanding_for (Object object)) (over_not_outstanding (Object object)) (and_false (c.object.0 == object.0)) new is
+
   -- without it there is as much left to cancel, but for it
-  pub leads : (new : Live) → new ≡ became now (with_callback now.world (cancelled c)) → without_pending new object ≡ without_pending now object
-  pub fewer : (new : Live) → new ≡ became now (with_callback now.world (cancelled c)) → length (pending_of new.world object) < length (pending_of now.world object)
+  leads : is_pending_for object c ≡ true → find (has_number c.number) cs ≡ Some c → (new : Live) → new ≡ became now (with_callback now.world r) → without_pending new object ≡ without_pending now object
+  leads passes there new is =
+      ap (λ l. without_pending l object) is
+      ∙ ap (λ ds. record { world = record now.world { callbacks = ds }; made = now.made }) (cancel_forget lives (is_pending_for object) (cancelled_pending (Object object) true) (λ x e. e) (replaced r cs) ∙ ap (filter lives) (each cs (found_all (λ x. x ≡ c) c.number c 1 fresh cs rising there refl)))
+    where
+      each : (ds : List CallbackRow) → AllByRecursion (λ x. has_number c.number x ≡ true → x ≡ c) ds → cancel_where (is_pending_for object) (replaced r ds) ≡ cancel_where (is_pending_for object) ds
+      each [] same = refl
+      each (d ∷ ds) same =
+          ap₂ (λ (x : CallbackRow) (xs : List CallbackRow). x ∷ xs)
+          (elim (has_number c.number d) as (λ b. has_number c.number d ≡ b → cancelled_if (is_pending_for object) (cond b r d) ≡ cancelled_if (is_pending_for object) d) [
+            | true ↦ λ e. sym (ap (λ (x : CallbackRow). cancelled_if (is_pending_for object) x) (same.0 e) ∙ ap (λ b. cond b (cancelled c) c) passes)
+            | false ↦ λ e. refl
+          ] refl)
+          (each ds same.1)
 
-pub cancels_first : (object : ObjectId) (fresh : ℕ) (now : Live) (c : CallbackRow) → IsRising 1 fresh now.world.callbacks → slice_get (pending_of now.world object) 0 ≡ Some c → CancelsFirst object now c
-cancels_first object fresh now c rising first =
-    record {
-      found = there;
-      pends = (both (is_pending c.status) (c.object.0 == object.0) passes).0;
-      leads = λ new becomes.
-          ap (λ l. without_pending l object) becomes
-          ∙ ap (λ ds. record { world = record now.world { callbacks = ds }; made = now.made }) (cancel_forget lives test (cancelled_pending (Object object) true) (λ x e. e) (replaced r cs) ∙ ap (filter lives) (each cs (found_all (λ x. x ≡ c) c.number c 1 fresh cs rising there refl)));
-      fewer = λ new becomes. omega (arith, ap (λ (l : Live). length (pending_of l.world object)) becomes, ap length others, shorter (filter test cs) first);
-    }
-  where
-    cs : List CallbackRow
-    cs = now.world.callbacks
+  -- the next is behind it
+  behind : (after : Option CallbackRow) → after ≡ find (λ (x : CallbackRow). nat_lt c.number x.number) (outstanding_of now.world c.object) → (d : CallbackRow) → after ≡ Some d → c.number < d.number
+  behind after is d some = ltb-true c.number d.number (find_passes (λ (x : CallbackRow). nat_lt c.number x.number) d (outstanding_of now.world c.object) (sym is ∙ some))
 
-    r : CallbackRow
-    r = cancelled c
+  same_rest : (after : Option CallbackRow) → after ≡ find (λ (x : CallbackRow). nat_lt c.number x.number) (outstanding_of now.world c.object) → (new : Live) → new ≡ became now (with_callback now.world r) → rest number_of (outstanding_of new.world object) after ≡ rest number_of ys after
+  same_rest after found new is = ap (λ xs. rest number_of xs after) (outstanding_others new is) ∙ rest_without number_of c.number ys after (behind after found)
 
-    test : CallbackRow → Bool
-    test = is_pending_for object
+  still_among : (after : Option CallbackRow) → ((d : CallbackRow) → after ≡ Some d → c.number < d.number) → IsAmong number_of ys after → IsAmong number_of (filter (λ (x : CallbackRow). not (has_number c.number x)) ys) after
+  still_among None past there = tt
+  still_among (Some d) past there = find_kept (λ (x : CallbackRow). x.number == d.number) (λ (x : CallbackRow). not (has_number c.number x)) d (ap not (ne_eqb d.number c.number (λ same. omega (arith, same, past d refl)))) ys there
 
-    passes : test c ≡ true
-    passes = first_passes test c cs first
-
-    there : find (has_number c.number) cs ≡ Some c
-    there = first_by_number fresh cs test c rising first
-
-    each : (ds : List CallbackRow) → AllByRecursion (λ x. has_number c.number x ≡ true → x ≡ c) ds → cancel_where test (replaced r ds) ≡ cancel_where test ds
-    each [] same = refl
-    each (d ∷ ds) same =
-        ap₂ (λ (x : CallbackRow) (xs : List CallbackRow). x ∷ xs)
-        (elim (has_number c.number d) as (λ b. has_number c.number d ≡ b → cancelled_if test (cond b r d) ≡ cancelled_if test d) [
-          | true ↦ λ e. sym (ap (λ (x : CallbackRow). cancelled_if test x) (same.0 e) ∙ ap (λ b. cond b (cancelled c) c) passes)
-          | false ↦ λ e. refl
-        ] refl)
-        (each ds same.1)
-
-    others : filter test (filter lives (replaced r cs)) ≡ filter (λ x. not (has_number c.number x)) (filter test cs)
-    others = filter_filter test lives (λ x e. ap (λ b. b && (x.object.0 == object.0)) (over_not_pending x.status e)) (replaced r cs) ∙ filter_replaced_out test r cs refl
-
-    shorter : (ys : List CallbackRow) → slice_get ys 0 ≡ Some c → length (filter (λ (x : CallbackRow). not (has_number c.number x)) ys) < length ys
-    shorter [] e = absurd cc
-    shorter (y ∷ ys) e =
-        let same : y ≡ c = cc in
-        let gone : not (has_number c.number y) ≡ false = ap (λ (x : CallbackRow). not (x.number == c.number)) same ∙ ap not (eq-eqb c.number c.number refl) in
-        omega (
-          arith,
-          ap (λ b. length (cond b (y ∷ filter (λ (x : CallbackRow). not (has_number c.number x)) ys) (filter (λ (x : CallbackRow). not (has_number c.number x)) ys))) gone,
-          length-filter (λ (x : CallbackRow). not (has_number c.number x)) ys,
-          count_by-le-length (λ (x : CallbackRow). not (has_number c.number x)) ys,
-        )
+  pub cancels_next : (before : Live) (next : Option CallbackRow) → next ≡ Some c → Cancelling object before now next → CancelsNext object before now c next
+  cancels_next before next is k =
+      let s = seeks now.world fresh object c next rising is k.seeks in
+      record {
+        seeks = s;
+        found = λ pends. first_by_number fresh cs (is_pending_for object) c rising (s.first pends);
+        passes = λ passed after found. record { leads = k.leads; seeks = s.others passed after found };
+        cancels = λ pends after found new becomes. record {
+          leads = leads (first_passes (is_pending_for object) c cs (s.first pends)) (first_by_number fresh cs (is_pending_for object) c rising (s.first pends)) new becomes ∙ k.leads;
+          seeks = record { left = left s k pends after found new becomes; among = subst (λ xs. IsAmong number_of xs after) (sym (outstanding_others new becomes)) (still_among after (behind after found) (s.at.among after found)) };
+        };
+        same = same_rest;
+      }
+    where
+      left : Seeks object now.world c next → Cancelling object before now next → waits c ≡ true → (after : Option CallbackRow) → after ≡ find (λ (x : CallbackRow). nat_lt c.number x.number) (outstanding_of now.world c.object) → (new : Live) → new ≡ became now (with_callback now.world r)
+          → filter waits (rest number_of (outstanding_of new.world object) after) ≡ pending_of new.world object
+      left s k pends after found new becomes =
+          let tail : List CallbackRow = filter waits (rest number_of ys after) in
+          let whole : c ∷ tail ≡ pending_of now.world object = ap (λ b. cond b (c ∷ tail) tail) (sym pends) ∙ ap (filter waits) (sym (s.at.step after found)) ∙ k.seeks.left in
+          ap (filter waits) (same_rest after found new becomes)
+          ∙ sym (passing_without number_of c.number waits ys after (behind after found))
+          ∙ ap (λ b. cond b (c ∷ filter (λ (x : CallbackRow). not (has_number c.number x)) tail) (filter (λ (x : CallbackRow). not (has_number c.number x)) tail)) (sym (ap not (eq-eqb c.number c.number refl)))
+          ∙ ap (filter (λ (x : CallbackRow). not (has_number c.number x))) whole
+          ∙ sym (others (is_pending_for object) (λ x e. ap (λ b. b && (x.object.0 == object.0)) (over_not_pending x.status e)) refl new becomes)

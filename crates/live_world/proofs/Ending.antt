@@ -54,7 +54,6 @@ ended i l who how place barriers waits kernels is k allowed at barriers_now wait
       queued = k.queued;
       tallied = k.tallied;
       listed = k.listed;
-      pending = k.pending;
       timed = k.timed;
       kernels = subst (λ (t : Kernels). AreKernels i.limits t) (sym kernels_now)
           (record {

@@ -17,10 +17,10 @@ use Rattle.tp_model.specs.Support.Sound.{IsRising}
 use Rattle.tp_model.specs.Support.Remembered.{lives}
 use Rattle.tp_model.specs.Waits.{is_held_for}
 use Rattle.tp_model.proofs.Lists.{all_filter, filter_filter}
-use Rattle.tp_model.proofs.Callbacks.{filter_replaced_out, found_all, over_not_pending}
+use Rattle.tp_model.proofs.Callbacks.{filter_replaced_out, found_all}
 use Rattle.tp_model.proofs.Forgetting.{over_not_held}
 use Rattle.live_world.specs.Parts.{is_tied, tied_entry}
-use Rattle.live_world.specs.Invariant.{AreListed, waits}
+use Rattle.live_world.specs.Invariant.{AreListed}
 use Rattle.live_world.proofs.Lists.{filter_map}
 
 -- which object it is makes no difference to what is held for it
@@ -42,9 +42,6 @@ pending_tied object Cancelled e = absurd cc
 
 pub over_untied : (c : CallbackRow) → lives c ≡ false → is_tied c ≡ false
 over_untied c e = over_not_held (Object c.object) c.status e
-
-pub over_unpending : (c : CallbackRow) → lives c ≡ false → waits c ≡ false
-over_unpending c e = over_not_pending c.status e
 
 module _ {limits : Limits} {test : CallbackRow → Bool} {cs : List CallbackRow} {lists : Keyed} where
   -- a callback is made

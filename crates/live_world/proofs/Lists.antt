@@ -1,5 +1,5 @@
 -- Lists: what passes a test, and what stays so when a row is set.
-use Rattle.std.proofs.Common.{◌≡◌, ℕ, suc, zero, ◌+◌, ◌<◌, ◌≤◌, Bool, true, false, cond, ◌||◌, nat_lt, List, [], ◌∷◌, ◌++◌, length, map, slice_get, slice_set, replicate, Some, None, refl, ap, ap₂, ◌∙◌, arith, filter, length-append, lt-ltb}
+use Rattle.std.proofs.Common.{◌≡◌, ℕ, suc, zero, ◌+◌, ◌<◌, ◌≤◌, Bool, true, false, cond, ◌&&◌, ◌||◌, nat_lt, List, [], ◌∷◌, ◌++◌, length, map, slice_get, slice_set, replicate, Some, None, refl, ap, ap₂, ◌∙◌, arith, filter, length-append, lt-ltb}
 use Rattle.std.specs.List.{AllByRecursion, list_any}
 use Rattle.std.specs.Option.{option_map_or}
 use Rattle.std.proofs.lemmas.List.Elements.{filter-append}
@@ -21,6 +21,18 @@ filter_map {X} p f (x ∷ xs) =
     elim (p (f x)) as (λ b. cond b (f x ∷ filter p (map f xs)) (filter p (map f xs)) ≡ map f (cond b (x ∷ filter (λ y. p (f y)) xs) (filter (λ y. p (f y)) xs))) [
       | true ↦ ap (λ t. f x ∷ t) (filter_map p f xs)
       | false ↦ filter_map p f xs
+    ]
+
+pub filter_alike : {X : Type 0} (p q : X → Bool) (xs : List X) → AllByRecursion (λ x. p x ≡ q x) xs → filter p xs ≡ filter q xs
+filter_alike p q [] all = refl
+filter_alike p q (x ∷ xs) all = ap₂ (λ b t. cond b (x ∷ t) t) all.0 (filter_alike p q xs all.1)
+
+pub filter_both : {X : Type 0} (p q : X → Bool) (xs : List X) → filter p (filter q xs) ≡ filter (λ x. q x && p x) xs
+filter_both p q [] = refl
+filter_both {X} p q (x ∷ xs) =
+    elim (q x) as (λ b. filter p (cond b (x ∷ filter q xs) (filter q xs)) ≡ cond (b && p x) (x ∷ filter (λ y. q y && p y) xs) (filter (λ y. q y && p y) xs)) [
+      | true ↦ ap (λ t. cond (p x) (x ∷ t) t) (filter_both p q xs)
+      | false ↦ filter_both p q xs
     ]
 
 pub all_pass : {X : Type 0} (p : X → Bool) (xs : List X) → AllByRecursion (λ x. p x ≡ true) (filter p xs)

@@ -39,7 +39,7 @@ use Rattle.tp_model.specs.Support.Allowed.{IsAllowed, Idles, Runs, news}
 use Rattle.tp_model.specs.Support.Sound.{IsSound, IsRising}
 use Rattle.tp_model.specs.Support.Remembered.{lives, forget}
 use Rattle.tp_model.proofs.Lists.{all_set, all_get, find_all}
-use Rattle.tp_model.proofs.Callbacks.{found_bounds, find_replaced as find_here, pending_not_running, rising_replaced}
+use Rattle.tp_model.proofs.Callbacks.{found_bounds, find_replaced as find_here, pending_lives, pending_not_running, rising_replaced}
 use Rattle.tp_model.proofs.Refusals.{numbered_at}
 use Rattle.tp_model.proofs.Preserving.{changed_sound, sound_cancelled, sound_returned, sound_kernels}
 use Rattle.tp_model.proofs.Forgetting.{forget_sound}
@@ -48,10 +48,10 @@ use Rattle.live_world.specs.declared.LiveWorld.TheInside.{Inside}
 use Rattle.live_world.specs.Live.{Live, moved, became, with_kernels}
 use Rattle.live_world.specs.Parts.{world_of, shown_worker, is_tied, tied_entry}
 use Rattle.live_world.specs.View.{shown, IsLiveWorld}
-use Rattle.live_world.specs.Invariant.{AreSized, AreLive, AreQueued, AreTallied, AreListed, AreCovered, AreTimed, AreKernels, AreSlotted, AreWanted, IsHome, IsMarked, AreMarked, waits}
+use Rattle.live_world.specs.Invariant.{AreSized, AreLive, AreQueued, AreTallied, AreListed, AreCovered, AreTimed, AreKernels, AreSlotted, AreWanted, IsHome, IsMarked, AreMarked}
 use Rattle.live_world.proofs.Lists.{set_twice, set_there}
 use Rattle.live_world.proofs.Alive.{alive_more, alive_replaced, alive_less, removed_rows}
-use Rattle.live_world.proofs.Listed.{pending_tied, over_untied, over_unpending, listed_more, listed_same, listed_less, listed_lives}
+use Rattle.live_world.proofs.Listed.{pending_tied, over_untied, listed_more, listed_same, listed_less, listed_lives}
 use Rattle.live_world.proofs.Covered.{covered_replaced, covered_less, covered_lives, covered_more}
 use Rattle.live_world.proofs.Queued.{queued_entry, queued_more, queued_less, queued_same, queued_lives}
 use Rattle.live_world.proofs.Tallied.{AreApart, is_behind, runs_nothing, runs_this, worker_changed, idle_alike, busy_alike, tallied_more, tallied_free, tallied_both, tallied_still, tallied_lives, pending_apart, marked_set, marked_apart, marked_replaced, marked_others, others_apart, same_found}
@@ -66,7 +66,6 @@ pub record After (i : Inside) (v : World) : Type 0 where
   pub queued : AreQueued i.limits i.callbacks.rows i.queues
   pub tallied : AreTallied i.callbacks.rows i.pools.workers
   pub listed : AreListed i.limits is_tied i.callbacks.rows i.outstanding
-  pub pending : AreListed i.limits waits i.callbacks.rows i.pending
   pub covered : AreCovered i.limits i.callbacks.rows i.waits.waits i.barriers
   pub timed : AreTimed i.limits i.objects i.timers
   pub kernels : AreKernels i.limits i.kernels
@@ -87,7 +86,6 @@ became_by j v s a =
         queued = a.queued;
         tallied = a.tallied;
         listed = a.listed;
-        pending = a.pending;
         covered = a.covered;
         timed = a.timed;
         kernels = a.kernels;
@@ -166,7 +164,6 @@ free_after i number row new target k is idle none home shows =
       alive = k.alive;
       queued = k.queued;
       listed = k.listed;
-      pending = k.pending;
       timed = k.timed;
       kernels = k.kernels;
       slotted = k.slotted;
@@ -220,18 +217,17 @@ queue_there i l c is k found =
 -- ---- a callback begins
 
 -- the parts that change, by what each became
-abbrev pub with_changed : Inside → Pools → LiveCallbacks → Pending → Keyed → Keyed → Covers → Inside
-with_changed i pools callbacks queues outstanding pending barriers = record i { pools = pools; callbacks = callbacks; queues = queues; outstanding = outstanding; pending = pending; barriers = barriers }
+abbrev pub with_changed : Inside → Pools → LiveCallbacks → Pending → Keyed → Covers → Inside
+with_changed i pools callbacks queues outstanding barriers = record i { pools = pools; callbacks = callbacks; queues = queues; outstanding = outstanding; barriers = barriers }
 
-pub with_parts : (i : Inside) (v : World) (pools p : Pools) (callbacks c : LiveCallbacks) (queues q : Pending) (outstanding o : Keyed) (pending d : Keyed) (barriers b : Covers) → pools ≡ p → callbacks ≡ c → queues ≡ q → outstanding ≡ o → pending ≡ d → barriers ≡ b
-    → After (with_changed i p c q o d b) v → After (with_changed i pools callbacks queues outstanding pending barriers) v
-with_parts i v pools p callbacks c queues q outstanding o pending d barriers b ep ec eq eo ed eb a =
-    subst (λ x. After (with_changed i x callbacks queues outstanding pending barriers) v) (sym ep)
-    (subst (λ x. After (with_changed i p x queues outstanding pending barriers) v) (sym ec)
-    (subst (λ x. After (with_changed i p c x outstanding pending barriers) v) (sym eq)
-    (subst (λ x. After (with_changed i p c q x pending barriers) v) (sym eo)
-    (subst (λ x. After (with_changed i p c q o x barriers) v) (sym ed)
-    (subst (λ x. After (with_changed i p c q o d x) v) (sym eb) a)))))
+pub with_parts : (i : Inside) (v : World) (pools p : Pools) (callbacks c : LiveCallbacks) (queues q : Pending) (outstanding o : Keyed) (barriers b : Covers) → pools ≡ p → callbacks ≡ c → queues ≡ q → outstanding ≡ o → barriers ≡ b
+    → After (with_changed i p c q o b) v → After (with_changed i pools callbacks queues outstanding barriers) v
+with_parts i v pools p callbacks c queues q outstanding o barriers b ep ec eq eo eb a =
+    subst (λ x. After (with_changed i x callbacks queues outstanding barriers) v) (sym ep)
+    (subst (λ x. After (with_changed i p x queues outstanding barriers) v) (sym ec)
+    (subst (λ x. After (with_changed i p c x outstanding barriers) v) (sym eq)
+    (subst (λ x. After (with_changed i p c q x barriers) v) (sym eo)
+    (subst (λ x. After (with_changed i p c q o x) v) (sym eb) a))))
 
 -- what leaves each list of numbers
 abbrev pub unlisted : Keyed → ℕ → Keyed
@@ -240,14 +236,13 @@ unlisted lists number = record lists { entries = filter (λ (e : Entry). not (e.
 abbrev pub left : Covers → ℕ → Covers
 left barriers number = record barriers { waits = map (option_map (all_but number)) barriers.waits }
 
-pub taken_by : (i : Inside) (l : Live) (by : Idle) (c : CallbackRow) (pools : Pools) (callbacks : LiveCallbacks) (queues : Pending) (pending : Keyed) → shown i ≡ l → IsLiveWorld i → IsAllowed (l.made + 1) l.world (change.Take by c)
+pub taken_by : (i : Inside) (l : Live) (by : Idle) (c : CallbackRow) (pools : Pools) (callbacks : LiveCallbacks) (queues : Pending) → shown i ≡ l → IsLiveWorld i → IsAllowed (l.made + 1) l.world (change.Take by c)
     → pools ≡ with_kept_worker by.worker (λ w. record w { callback = c.number; long = c.long }) i.pools
     → callbacks ≡ record i.callbacks { rows = replaced (taken c by.worker) i.callbacks.rows }
     → queues ≡ with_queue i.queues by.pool.0 (without_number c.number (queue_of i.queues by.pool.0))
-    → pending ≡ unlisted i.pending c.number
-    → Becomes (record i { pools = pools; callbacks = callbacks; queues = queues; pending = pending }) (moved l (change.Take by c))
-taken_by i l by c pools callbacks queues pending is k allowed pools_now rows_now queues_now pending_now =
-    moved_by i (record i { pools = pools; callbacks = callbacks; queues = queues; pending = pending }) l (change.Take by c) is k allowed (omega arith) (λ a.
+    → Becomes (record i { pools = pools; callbacks = callbacks; queues = queues }) (moved l (change.Take by c))
+taken_by i l by c pools callbacks queues is k allowed pools_now rows_now queues_now =
+    moved_by i (record i { pools = pools; callbacks = callbacks; queues = queues }) l (change.Take by c) is k allowed (omega arith) (λ a.
     let b = is_behind i.pools.workers by.worker (Some by.pool) None a.idles in
     let r : CallbackRow = taken c by.worker in
     let new : kept.WorkerRow = record b.row { callback = c.number; long = c.long } in
@@ -257,20 +252,19 @@ taken_by i l by c pools callbacks queues pending is k allowed pools_now rows_now
     let idle : b.row.callback ≡ 0 = runs_nothing b.row.callback b.same_callback in
     let shows : shown_worker new ≡ target = ap₂ (λ (p : Option PoolId) (z : Bool). record { pool = p; callback = cond z None (Some c.number) }) b.same_pool (ne_eqb c.number 0 busy) in
     let home : c.pool.0 < length i.pools.pools = find_all (λ (x : CallbackRow). x.pool.0 < length i.pools.pools) (has_number c.number) c i.callbacks.rows k.sound.callback_pools a.found in
-    let alive_now = alive_replaced i.callbacks r refl refl k.alive in
+    let alive_now = alive_replaced i.callbacks r refl k.alive in
     with_parts i (changed (shown i).world (change.Take by c)) pools (record i.pools { workers = slice_set i.pools.workers (by.worker - 1) new }) callbacks (record i.callbacks { rows = replaced r i.callbacks.rows })
-    queues (with_queue i.queues c.pool.0 (without_number c.number (queue_of i.queues c.pool.0))) i.outstanding i.outstanding pending (unlisted i.pending c.number) i.barriers i.barriers
+    queues (with_queue i.queues c.pool.0 (without_number c.number (queue_of i.queues c.pool.0))) i.outstanding i.outstanding i.barriers i.barriers
     (pools_now ∙ worker_changed i.pools by.worker b.row (λ w. record w { callback = c.number; long = c.long }) b.at_place b.from_one)
     rows_now
     (queues_now ∙ ap (λ (p : PoolId). with_queue i.queues p.0 (without_number c.number (queue_of i.queues p.0))) (sym a.home))
-    refl pending_now refl
+    refl refl
     (record {
       shows = shows_along i.limits i.pools i.objects i.callbacks.rows i.kernels i.clients.items i.waits.waits i.timers.settings i.clock (slice_set i.pools.workers (by.worker - 1) new) (replaced r i.callbacks.rows) (replaced r i.callbacks.rows) (slice_set (shown i).world.workers (by.worker - 1) target)
           (sym alive_now.live) (set_shown i.pools.workers by.worker new target shows);
       sized = sized_worker i.pools (by.worker - 1) new (same_home i.pools (by.worker - 1) b.row new b.at_place refl k.sized) k.sized;
       alive = alive_now;
       listed = listed_same (i.made + 1) r c refl refl (sym (pending_tied c.object c.status a.pending)) k.sound.numbers a.found k.listed;
-      pending = listed_less r refl k.pending;
       timed = k.timed;
       kernels = k.kernels;
       slotted = slots_replaced (taken c by.worker) k.slotted;
@@ -335,18 +329,17 @@ marked_long i l by pools callbacks is k allowed pools_now rows_now =
     let r : CallbackRow = marked Long c in
     let new : kept.WorkerRow = record on.row { long = true } in
     let rest : kept.WorkerRow = record on.row { callback = 0; long = false } in
-    let alive_now = alive_replaced i.callbacks r (ap is_live a.runs.running) (ap (λ s. is_pending s || is_running s) a.runs.running) k.alive in
+    let alive_now = alive_replaced i.callbacks r (ap is_live a.runs.running) k.alive in
     with_parts i (changed (shown i).world (change.Mark by Long)) pools (record i.pools { workers = slice_set i.pools.workers (by.worker - 1) new }) callbacks (record i.callbacks { rows = replaced r i.callbacks.rows })
-    i.queues i.queues i.outstanding i.outstanding i.pending i.pending i.barriers i.barriers
+    i.queues i.queues i.outstanding i.outstanding i.barriers i.barriers
     (pools_now ∙ worker_changed i.pools by.worker on.row (λ w. record w { long = true }) on.at_place on.from_one)
-    rows_now refl refl refl refl
+    rows_now refl refl refl
     (record {
       shows = shows_along i.limits i.pools i.objects i.callbacks.rows i.kernels i.clients.items i.waits.waits i.timers.settings i.clock (slice_set i.pools.workers (by.worker - 1) new) (replaced r i.callbacks.rows) (replaced r i.callbacks.rows) (shown i).world.workers
           (sym alive_now.live) (shows_same i.pools.workers (by.worker - 1) on.row new on.at_place refl);
       sized = sized_worker i.pools (by.worker - 1) new (same_home i.pools (by.worker - 1) on.row new on.at_place refl k.sized) k.sized;
       alive = alive_now;
       listed = listed_same (i.made + 1) r c refl refl refl k.sound.numbers a.runs.found k.listed;
-      pending = listed_same (i.made + 1) r c refl refl refl k.sound.numbers a.runs.found k.pending;
       timed = k.timed;
       kernels = k.kernels;
       slotted = slots_replaced r k.slotted;
@@ -385,16 +378,15 @@ ended_by i l by pools callbacks outstanding barriers is k running pools_now rows
     let b = became_by (record i { pools = pools; callbacks = callbacks; outstanding = outstanding; barriers = barriers }) v
     (sound_returned (i.made + 1) (shown i).world by.worker target by.pool c on.from_one refl (record { callback = c; associated = a.associated; slots = a.slots; found = a.found; runs = a.running; at_home = a.home }) a.found k.sound)
     (with_parts i v pools (record i.pools { workers = slice_set i.pools.workers (by.worker - 1) new }) callbacks (record i.callbacks { rows = others })
-    i.queues i.queues outstanding (unlisted i.outstanding c.number) i.pending i.pending barriers (left i.barriers c.number)
+    i.queues i.queues outstanding (unlisted i.outstanding c.number) barriers (left i.barriers c.number)
     (pools_now ∙ worker_changed i.pools by.worker on.row (λ w. record w { callback = 0; long = false }) on.at_place on.from_one)
-    rows_now refl listed_now refl left_now
+    rows_now refl listed_now left_now
     (record {
       shows = shows_along i.limits i.pools i.objects i.callbacks.rows i.kernels i.clients.items i.waits.waits i.timers.settings i.clock (slice_set i.pools.workers (by.worker - 1) new) others (replaced r i.callbacks.rows) (slice_set (shown i).world.workers (by.worker - 1) target)
           removed (set_shown i.pools.workers by.worker new target shows);
       sized = sized_worker i.pools (by.worker - 1) new (same_home i.pools (by.worker - 1) on.row new on.at_place refl k.sized) k.sized;
       alive = alive_less i.callbacks r refl k.alive;
       listed = subst (λ cs. AreListed i.limits is_tied cs (unlisted i.outstanding c.number)) (sym removed) (listed_lives over_untied (listed_less r refl k.listed));
-      pending = subst (λ cs. AreListed i.limits waits cs i.pending) (sym removed) (listed_lives over_unpending (listed_same (i.made + 1) r c refl refl (sym on.waits_not) k.sound.numbers a.found k.pending));
       timed = k.timed;
       kernels = k.kernels;
       slotted = slots_fewer (λ (x : CallbackRow). not (x.number == c.number)) k.slotted;
@@ -417,20 +409,19 @@ ended_by i l by pools callbacks outstanding barriers is k running pools_now rows
 abbrev pub more_listed : Keyed → CallbackRow → Keyed
 more_listed lists c = record lists { entries = lists.entries ++ tied_entry c ∷ [] }
 
-pub queued_by : (i : Inside) (l : Live) (c : CallbackRow) (callbacks : LiveCallbacks) (queues : Pending) (outstanding pending : Keyed) → shown i ≡ l → IsLiveWorld i → IsAllowed (l.made + 1) l.world (change.QueueCallback c)
+pub queued_by : (i : Inside) (l : Live) (c : CallbackRow) (callbacks : LiveCallbacks) (queues : Pending) (outstanding : Keyed) → shown i ≡ l → IsLiveWorld i → IsAllowed (l.made + 1) l.world (change.QueueCallback c)
     → callbacks ≡ record i.callbacks { rows = i.callbacks.rows ++ c ∷ [] } → queues ≡ queued_entry i.queues c
-    → outstanding ≡ more_listed i.outstanding c → pending ≡ more_listed i.pending c
-    → Becomes (record i { callbacks = callbacks; queues = queues; outstanding = outstanding; pending = pending; made = i.made + 1 }) (moved l (change.QueueCallback c))
-queued_by i l c callbacks queues outstanding pending is k allowed rows_now queues_now listed_now pending_now =
-    moved_by i (record i { callbacks = callbacks; queues = queues; outstanding = outstanding; pending = pending; made = i.made + 1 }) l (change.QueueCallback c) is k allowed refl (λ a.
-    let alive_now = alive_more i.callbacks c a.pending k.alive in
-    with_parts (record i { made = i.made + 1 }) (changed (shown i).world (change.QueueCallback c)) i.pools i.pools callbacks (record i.callbacks { rows = i.callbacks.rows ++ c ∷ [] }) queues (queued_entry i.queues c) outstanding (more_listed i.outstanding c) pending (more_listed i.pending c) i.barriers i.barriers
-    refl rows_now queues_now listed_now pending_now refl
+    → outstanding ≡ more_listed i.outstanding c
+    → Becomes (record i { callbacks = callbacks; queues = queues; outstanding = outstanding; made = i.made + 1 }) (moved l (change.QueueCallback c))
+queued_by i l c callbacks queues outstanding is k allowed rows_now queues_now listed_now =
+    moved_by i (record i { callbacks = callbacks; queues = queues; outstanding = outstanding; made = i.made + 1 }) l (change.QueueCallback c) is k allowed refl (λ a.
+    let alive_now = alive_more i.callbacks c (pending_lives c.status a.pending) k.alive in
+    with_parts (record i { made = i.made + 1 }) (changed (shown i).world (change.QueueCallback c)) i.pools i.pools callbacks (record i.callbacks { rows = i.callbacks.rows ++ c ∷ [] }) queues (queued_entry i.queues c) outstanding (more_listed i.outstanding c) i.barriers i.barriers
+    refl rows_now queues_now listed_now refl
     (record {
       shows = ap (λ cs. record (shown i).world { callbacks = cs }) (sym alive_now.live);
       sized = k.sized;
       listed = listed_more c (pending_tied c.object c.status a.pending) k.listed;
-      pending = listed_more c a.pending k.pending;
       timed = k.timed;
       kernels = k.kernels;
       slotted = slots_more c (slots_here (length i.kernels.armed) i.limits.slots k.alive.live (ltb-false i.limits.slots (length (filter lives i.callbacks.rows) + length i.kernels.armed + 1) a.room)) k.slotted;
@@ -454,10 +445,10 @@ loosened_by i l by callbacks outstanding barriers is k allowed rows_now listed_n
     let r : CallbackRow = marked Loose c in
     let runs : r.status ≡ Running by.worker false a.runs.slots = ap loosened a.runs.running in
     let untied : is_tied r ≡ false = ap (is_held_for (target.Object c.object)) runs in
-    let alive_now = alive_replaced i.callbacks r (ap is_live runs) (ap (λ s. is_pending s || is_running s) runs) k.alive in
+    let alive_now = alive_replaced i.callbacks r (ap is_live runs) k.alive in
     with_parts i (changed (shown i).world (change.Mark by Loose)) i.pools i.pools callbacks (record i.callbacks { rows = replaced r i.callbacks.rows })
-    i.queues i.queues outstanding (unlisted i.outstanding c.number) i.pending i.pending barriers (left i.barriers c.number)
-    refl rows_now refl listed_now refl left_now
+    i.queues i.queues outstanding (unlisted i.outstanding c.number) barriers (left i.barriers c.number)
+    refl rows_now refl listed_now left_now
     (record {
       shows = ap (λ cs. record (shown i).world { callbacks = cs }) (sym alive_now.live);
       sized = k.sized;
@@ -466,7 +457,6 @@ loosened_by i l by callbacks outstanding barriers is k allowed rows_now listed_n
       tallied = tallied_still (i.made + 1) r c i.callbacks.rows i.pools.workers (λ p. ap (λ b. b && (c.pool.0 == p)) (ap is_running runs ∙ sym on.ran)) (λ p. ap (λ b. (b && (c.pool.0 == p)) && c.long) (ap is_running runs ∙ sym on.ran)) k.sound.numbers a.runs.found
           (marked_replaced r c i.callbacks.rows i.pools.workers a.runs.found refl k.tallied.marked) k.tallied;
       listed = listed_less r untied k.listed;
-      pending = listed_same (i.made + 1) r c refl refl (ap is_pending runs ∙ sym on.waits_not) k.sound.numbers a.runs.found k.pending;
       timed = k.timed;
       kernels = k.kernels;
       slotted = slots_replaced r k.slotted;
@@ -485,7 +475,7 @@ asked_by i l by kind action callbacks is k allowed rows_now =
     let r : CallbackRow = marked (Asks kind action) c in
     let runs : r.status ≡ Running by.worker a.runs.associated (filled kind action a.runs.slots) = ap (asking kind action) a.runs.running in
     let tied : is_tied r ≡ is_tied c = ap (is_held_for (target.Object c.object)) runs ∙ sym (ap (is_held_for (target.Object c.object)) a.runs.running) in
-    let alive_now = alive_replaced i.callbacks r (ap is_live runs) (ap (λ s. is_pending s || is_running s) runs) k.alive in
+    let alive_now = alive_replaced i.callbacks r (ap is_live runs) k.alive in
     subst (λ x. After (record i { callbacks = x }) (changed (shown i).world (change.Mark by (Asks kind action)))) (sym rows_now)
     (record {
       shows = ap (λ cs. record (shown i).world { callbacks = cs }) (sym alive_now.live);
@@ -495,7 +485,6 @@ asked_by i l by kind action callbacks is k allowed rows_now =
       tallied = tallied_still (i.made + 1) r c i.callbacks.rows i.pools.workers (λ p. ap (λ b. b && (c.pool.0 == p)) (ap is_running runs ∙ sym on.ran)) (λ p. ap (λ b. (b && (c.pool.0 == p)) && c.long) (ap is_running runs ∙ sym on.ran)) k.sound.numbers a.runs.found
           (marked_replaced r c i.callbacks.rows i.pools.workers a.runs.found refl k.tallied.marked) k.tallied;
       listed = listed_same (i.made + 1) r c refl refl tied k.sound.numbers a.runs.found k.listed;
-      pending = listed_same (i.made + 1) r c refl refl (ap is_pending runs ∙ sym on.waits_not) k.sound.numbers a.runs.found k.pending;
       timed = k.timed;
       kernels = k.kernels;
       slotted = slots_replaced r k.slotted;
@@ -505,13 +494,13 @@ asked_by i l by kind action callbacks is k allowed rows_now =
 
 -- ---- a pending callback is cancelled
 
-pub cancelled_by : (i : Inside) (l : Live) (c : CallbackRow) (callbacks : LiveCallbacks) (queues : Pending) (outstanding pending : Keyed) (barriers : Covers) → shown i ≡ l → IsLiveWorld i
+pub cancelled_by : (i : Inside) (l : Live) (c : CallbackRow) (callbacks : LiveCallbacks) (queues : Pending) (outstanding : Keyed) (barriers : Covers) → shown i ≡ l → IsLiveWorld i
     → callback_of l.world c.number ≡ Some c → is_pending c.status ≡ true
     → callbacks ≡ record i.callbacks { rows = filter (λ (x : CallbackRow). not (x.number == c.number)) i.callbacks.rows }
     → queues ≡ with_queue i.queues c.pool.0 (without_number c.number (queue_of i.queues c.pool.0))
-    → outstanding ≡ unlisted i.outstanding c.number → pending ≡ unlisted i.pending c.number → barriers ≡ left i.barriers c.number
-    → Becomes (record i { callbacks = callbacks; queues = queues; outstanding = outstanding; pending = pending; barriers = barriers }) (became l (with_callback l.world (cancelled c)))
-cancelled_by i l c callbacks queues outstanding pending barriers is k found pends rows_now queues_now listed_now pending_now left_now =
+    → outstanding ≡ unlisted i.outstanding c.number → barriers ≡ left i.barriers c.number
+    → Becomes (record i { callbacks = callbacks; queues = queues; outstanding = outstanding; barriers = barriers }) (became l (with_callback l.world (cancelled c)))
+cancelled_by i l c callbacks queues outstanding barriers is k found pends rows_now queues_now listed_now left_now =
     let found_here : find (has_number c.number) i.callbacks.rows ≡ Some c = ap (λ (x : Live). callback_of x.world c.number) is ∙ found in
     let r : CallbackRow = cancelled c in
     let others : List CallbackRow = filter (λ (x : CallbackRow). not (x.number == c.number)) i.callbacks.rows in
@@ -521,9 +510,9 @@ cancelled_by i l c callbacks queues outstanding pending barriers is k found pend
     let marks : AreMarked (replaced r i.callbacks.rows) i.pools.workers = marked_replaced r c i.callbacks.rows i.pools.workers found_here refl k.tallied.marked in
     let apart : AreApart c.number i.pools.workers = pending_apart c i.callbacks.rows 1 i.pools.workers found_here pends k.sound.workers in
     let v : World = with_callback (shown i).world r in
-    let b = became_by (record i { callbacks = callbacks; queues = queues; outstanding = outstanding; pending = pending; barriers = barriers }) v (sound_cancelled (i.made + 1) (shown i).world c found_here pends k.sound)
+    let b = became_by (record i { callbacks = callbacks; queues = queues; outstanding = outstanding; barriers = barriers }) v (sound_cancelled (i.made + 1) (shown i).world c found_here pends k.sound)
     (with_parts i v i.pools i.pools callbacks (record i.callbacks { rows = others }) queues (with_queue i.queues c.pool.0 (without_number c.number (queue_of i.queues c.pool.0)))
-    outstanding (unlisted i.outstanding c.number) pending (unlisted i.pending c.number) barriers (left i.barriers c.number) refl rows_now queues_now listed_now pending_now left_now
+    outstanding (unlisted i.outstanding c.number) barriers (left i.barriers c.number) refl rows_now queues_now listed_now left_now
     (record {
       shows = ap (λ cs. record (shown i).world { callbacks = cs }) removed;
       sized = k.sized;
@@ -534,7 +523,6 @@ cancelled_by i l c callbacks queues outstanding pending barriers is k found pend
           (tallied_lives (replaced r i.callbacks.rows) i.pools.workers (subst (λ cs. AreMarked cs i.pools.workers) removed (marked_others c.number i.callbacks.rows i.pools.workers apart k.tallied.marked))
           (tallied_still (i.made + 1) r c i.callbacks.rows i.pools.workers (λ p. ap (λ b. b && (c.pool.0 == p)) (sym still)) (λ p. ap (λ b. (b && (c.pool.0 == p)) && c.long) (sym still)) k.sound.numbers found_here marks k.tallied));
       listed = subst (λ cs. AreListed i.limits is_tied cs (unlisted i.outstanding c.number)) (sym removed) (listed_lives over_untied (listed_less r refl k.listed));
-      pending = subst (λ cs. AreListed i.limits waits cs (unlisted i.pending c.number)) (sym removed) (listed_lives over_unpending (listed_less r refl k.pending));
       timed = k.timed;
       kernels = k.kernels;
       slotted = slots_fewer (λ (x : CallbackRow). not (x.number == c.number)) k.slotted;

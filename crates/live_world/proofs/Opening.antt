@@ -17,7 +17,7 @@ use Rattle.tp_model.specs.Support.Remembered.{forget}
 use Rattle.tp_model.proofs.Preserving.{opening_sound}
 use Rattle.live_world.specs.declared.objects.Object.{Object}
 use Rattle.live_world.specs.Parts.{world_of, shown_worker, is_tied, is_timed_kind}
-use Rattle.live_world.specs.Invariant.{AreSized, AreLive, AreQueued, AreTallied, AreListed, AreCovered, AreTimed, AreKernels, AreSlotted, AreWanted, IsHome, IsMarked, waits}
+use Rattle.live_world.specs.Invariant.{AreSized, AreLive, AreQueued, AreTallied, AreListed, AreCovered, AreTimed, AreKernels, AreSlotted, AreWanted, IsHome, IsMarked}
 use Rattle.live_world.specs.View.{shown}
 use Rattle.live_world.specs.declared.LiveWorld.TheInside.{Inside}
 use Rattle.live_world.proofs.Moving.{Becomes}
@@ -68,7 +68,6 @@ pub record IsOpened (i : Inside) : Type 0 where
   pub callbacks : i.callbacks ≡ opened_callbacks i.limits
   pub queues : i.queues ≡ opened_queues i.limits
   pub outstanding : i.outstanding ≡ opened_lists i.limits
-  pub pending : i.pending ≡ opened_lists i.limits
   pub barriers : i.barriers ≡ opened_barriers i.limits
   pub timers : i.timers ≡ opened_timers i.limits
   pub clock : i.clock ≡ 0
@@ -156,11 +155,10 @@ opened i o =
     record {
       keeps = record {
         sized = both (λ p t. AreSized limits p t i.clients.items) o.pools o.objects (subst (λ cl. AreSized limits (opened_pools limits) (opened_objects limits) cl) (sym o.clients) (sized_opened limits o.in_range));
-        alive = subst (λ c. AreLive limits c) (sym o.callbacks) (record { slot_limit = refl; live = refl; at_work = tt });
+        alive = subst (λ c. AreLive limits c) (sym o.callbacks) (record { slot_limit = refl; live = refl });
         queued = both (λ cs q. AreQueued limits cs q) rows o.queues (queued_opened limits);
         tallied = both (λ cs ws. AreTallied cs ws) rows (ap (λ (p : Pools). p.workers) o.pools) (tallied_opened limits);
         listed = both (λ cs k. AreListed limits is_tied cs k) rows o.outstanding (listed_opened limits is_tied);
-        pending = both (λ cs k. AreListed limits waits cs k) rows o.pending (listed_opened limits waits);
         timed = subst (λ n. AreTimed limits i.objects n) (sym o.timers) (subst (λ t. AreTimed limits t (opened_timers limits)) (sym o.objects) (timed_opened limits));
         covered = both (λ cs b. AreCovered limits cs i.waits.waits b) rows o.barriers (subst (λ bs. AreCovered limits [] bs (opened_barriers limits)) (sym o.waits) (covered_opened limits));
         kernels = subst (λ (t : Kernels). AreKernels limits t) (sym o.kernels) (record { kernel_limit = refl; kernels_within = omega arith; armed_limit = refl; once = tt });

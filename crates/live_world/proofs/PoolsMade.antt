@@ -47,7 +47,6 @@ pools_moved i l ch pools rows is k allowed none same now more within =
       queued = k.queued;
       tallied = k.tallied;
       listed = k.listed;
-      pending = k.pending;
       covered = k.covered;
       timed = k.timed;
       kernels = k.kernels;

@@ -1,11 +1,11 @@
 -- Rising things, gone along one after another.
-use Rattle.std.proofs.Common.{◌≡◌, ℕ, suc, ◌+◌, ◌<◌, ◌≤◌, Bool, true, false, cond, ◌==◌, List, [], ◌∷◌, map, get_or, nat_lt, nat_le, slice_get, Option, Some, None, refl, sym, ap, ap₂, ◌∙◌, subst, arith, filter, find, eqb-true, eq-eqb, ne_eqb, lt-ltb, le-ltb}
+use Rattle.std.proofs.Common.{◌≡◌, ℕ, suc, ◌+◌, ◌<◌, ◌≤◌, Bool, true, false, cond, not, ◌==◌, List, [], ◌∷◌, map, get_or, nat_lt, nat_le, slice_get, Option, Some, None, refl, sym, ap, ap₂, ◌∙◌, subst, arith, filter, find, eqb-true, eq-eqb, ne_eqb, lt-ltb, le-ltb, leb-true}
 use Rattle.std.specs.List.{AllByRecursion, AllPairs}
 use Rattle.std.proofs.lemmas.List.Elements.{recursion_from_All}
 use Rattle.std.proofs.lemmas.Bool.{le-leb, lt-leb}
 use Rattle.std.proofs.lemmas.Bool.{ltb-true}
-use Rattle.tp_model.proofs.Lists.{all_along, find_all, find_passes}
-use Rattle.live_world.proofs.Lists.{filter_all}
+use Rattle.tp_model.proofs.Lists.{all_along, all_filter, filter_filter, find_all, find_passes}
+use Rattle.live_world.proofs.Lists.{all_pass, filter_all}
 
 module _ {X : Type 0} (key : X → ℕ) where
   -- each key is above those before it
@@ -107,6 +107,25 @@ module _ {X : Type 0} (key : X → ℕ) where
       known : (o : Option X) → find p xs ≡ o → IsAmong xs (find p xs)
       known None e = subst (IsAmong xs) (sym e) tt
       known (Some z) e = subst (IsAmong xs) (sym e) (found low xs z r e)
+
+  -- what is left from something on is the same without a key below it
+  pub rest_without : (n : ℕ) (xs : List X) (o : Option X) → ((x : X) → o ≡ Some x → n < key x) → rest (filter (λ y. not (key y == n)) xs) o ≡ rest xs o
+  rest_without n xs None past = refl
+  rest_without n xs (Some x) past = filter_filter (λ y. nat_le (key x) (key y)) (λ y. not (key y == n)) (λ y gone. behind y (key y == n) refl gone) xs
+    where
+      behind : (y : X) (b : Bool) → (key y == n) ≡ b → not b ≡ false → nat_le (key x) (key y) ≡ false
+      behind y true e gone = lt-leb (key x) (key y) (omega (arith, eqb-true (key y) n e, past x refl))
+      behind y false e gone = absurd cc
+
+  -- and so are those of it that pass a test
+  pub passing_without : (n : ℕ) (p : X → Bool) (xs : List X) (o : Option X) → ((x : X) → o ≡ Some x → n < key x) → filter (λ y. not (key y == n)) (filter p (rest xs o)) ≡ filter p (rest xs o)
+  passing_without n p xs None past = refl
+  passing_without n p xs (Some x) past =
+      filter_all (λ y. not (key y == n)) (filter p (rest xs (Some x)))
+      (all_filter (λ y. not (key y == n) ≡ true) p (rest xs (Some x))
+      (all_along (λ y. nat_le (key x) (key y) ≡ true) (λ y. not (key y == n) ≡ true)
+      (λ y le. ap not (ne_eqb (key y) n (λ same. omega (arith, same, leb-true (key x) (key y) le, past x refl))))
+      (rest xs (Some x)) (all_pass (λ y. nat_le (key x) (key y)) xs)))
 
   pub rises_filter : (p : X → Bool) (low : ℕ) (xs : List X) → Rises low xs → Rises low (filter p xs)
   rises_filter p low [] r = tt

@@ -31,8 +31,8 @@ use Rattle.live_world.specs.declared.objects.Object.{Object}
 abbrev pub waits : CallbackRow → Bool
 waits c = is_pending c.status
 
-abbrev pub waits_or_runs : CallbackRow → Bool
-waits_or_runs c = is_pending c.status || is_running c.status
+abbrev pub runs : CallbackRow → Bool
+runs c = is_running c.status
 
 -- a worker's pool was made
 abbrev pub IsHome : ℕ → WorkerRow → Type 0
@@ -50,11 +50,10 @@ pub record AreSized (limits : Limits) (pools : Pools) (objects : Table Object) (
   pub objects_within : length objects.rows ≤ limits.objects
   pub client_count : length clients ≡ limits.clients
 
--- no callback that is over is kept, and each that is kept waits for a worker or runs
+-- no callback that is over is kept
 pub record AreLive (limits : Limits) (callbacks : LiveCallbacks) : Type 0 where
   pub slot_limit : callbacks.slots ≡ limits.slots
   pub live : filter lives callbacks.rows ≡ callbacks.rows
-  pub at_work : AllByRecursion (λ c. waits_or_runs c ≡ true) callbacks.rows
 
 -- the queues hold exactly the pending callbacks, in the order in which they are taken
 pub record AreQueued (limits : Limits) (callbacks : List CallbackRow) (queues : Pending) : Type 0 where

@@ -1,6 +1,6 @@
 -- What is outstanding for an object, and how far a wait has come.
-use Rattle.std.specs.Prelude.{ℕ, Bool, ◌&&◌, ◌==◌, List, [], ◌∷◌, map, if◌then◌else◌, Option, None, Some}
-use Rattle.std.specs.List.{filter}
+use Rattle.std.specs.Prelude.{ℕ, Bool, false, not, ◌&&◌, ◌||◌, ◌==◌, List, [], ◌∷◌, map, if◌then◌else◌, Option, None, Some}
+use Rattle.std.specs.List.{filter, find}
 use Rattle.std.specs.Option.{option_map_or}
 use Rattle.tp_base.specs.declared.ids.Who.{Who}
 use Rattle.tp_base.specs.declared.ids.ObjectId.{ObjectId}
@@ -9,9 +9,10 @@ use Rattle.tp_base.specs.declared.rows.WaitTarget.{WaitTarget}
 use Rattle.tp_base.specs.declared.rows.WaitTarget.TheVariants.{Object, Group, Kernel}
 use Rattle.keyed_lists.specs.Keyed.{Entry}
 use Rattle.tp_model.specs.World.{World, BegunWait}
-use Rattle.tp_model.specs.Counts.{is_pending}
+use Rattle.tp_model.specs.Counts.{has_number, is_pending}
 use Rattle.tp_model.specs.Waits.{is_outstanding_for, wait_of, held}
 use Rattle.tp_model.specs.Calls.Waits.{holds_starved}
+use Rattle.live_world.specs.Invariant.{runs}
 use Rattle.live_world.specs.declared.waits.Progress.{Progress}
 use Rattle.live_world.specs.declared.waits.Progress.TheVariants.{NotBegun, Free, Starved, Holds, Acquires}
 
@@ -29,6 +30,10 @@ pending_of w object = filter (is_pending_for object) w.callbacks
 -- the numbers of a key
 abbrev pub numbers_of : List Entry → ℕ → List ℕ
 numbers_of entries key = map (λ (e : Entry). e.number) (filter (λ (e : Entry). e.key == key) entries)
+
+-- whether a wait covers an outstanding callback, by its number: with cancel it covers what runs
+abbrev pub is_covered_among : List CallbackRow → Bool → ℕ → Bool
+is_covered_among callbacks cancel number = not cancel || option_map_or runs (find (has_number number) callbacks) false
 
 -- what an actor's wait holds, if it has begun one
 abbrev pub held_by : World → Who → List ℕ

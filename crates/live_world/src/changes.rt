@@ -20,6 +20,7 @@ use crate::begun::Begins;
 use crate::kernels::{end_acquire, slots_of};
 use crate::objects::{Object, is_timed_kind};
 use crate::waiting::begin_covering;
+use crate::waits::is_pending;
 use tp_base::answers::{ActionKind, SlotWord};
 use tp_base::calls::Priority;
 use tp_base::ids::{KernelId, ObjectId, PoolId, Who};
@@ -215,7 +216,6 @@ impl LiveWorld {
             callback.number,
         );
         self.outstanding.add(callback.object.0, callback.number);
-        self.pending.add(callback.object.0, callback.number);
         self.made += 1;
     }
 
@@ -266,7 +266,6 @@ impl LiveWorld {
         };
         let _was_there = self.callbacks.replace(running);
         let _was_pending = self.queues.remove(by.pool.0, callback.number);
-        let _was_listed = self.pending.remove(callback.number);
         self.pools.take(by.worker, callback.number, callback.long);
     }
 
@@ -386,17 +385,21 @@ impl LiveWorld {
         let _was_there = self.callbacks.remove(callback.number);
         let _was_pending = self.queues.remove(callback.pool.0, callback.number);
         let _was_outstanding = self.outstanding.remove(callback.number);
-        let _was_listed = self.pending.remove(callback.number);
         self.barriers.left(callback.number);
     }
 
-    // Cancels what is pending of an object, the first of it each time.
+    // Cancels what is pending of an object. Walks what is outstanding for the object.
     fn cancel_pending(&mut self, object: ObjectId)
         ensures { self.new ≡ without_pending self.old object }
     {
-        while let Some(callback) = self.first_pending(object) {
+        self.is_reachable();
+        let mut next = self.first_outstanding(object);
+        while let Some(callback) = next {
             self.is_reachable();
-            self.cancel_callback(callback);
+            next = self.next_outstanding(&callback);
+            if is_pending(&callback) {
+                self.cancel_callback(callback);
+            }
         }
         self.is_reachable();
     }
@@ -411,7 +414,8 @@ impl LiveWorld {
         }
     }
 
-    // Begins a wait that covers all that is outstanding for the object.
+    // Begins a wait that covers what is outstanding for the object: all of it, or with cancel what of it
+    // runs.
     fn cover_outstanding(&mut self, who: Who, object: ObjectId, cancel: bool)
         requires allowed { MayBegin self.old.world who (WaitTarget.Object object) }
         requires settled { filter (is_cancelled_by (WaitTarget.Object object) cancel) self.old.world.callbacks ≡ [] }
@@ -422,7 +426,14 @@ impl LiveWorld {
         let Some(waiter) = self.waiter(who) else {
             unreachable!()
         };
-        begin_covering(&mut self.barriers, waiter, &self.outstanding, object.0);
+        begin_covering(
+            &mut self.barriers,
+            waiter,
+            &self.outstanding,
+            object.0,
+            &self.callbacks,
+            cancel,
+        );
         let begins = Begins {
             who,
             target: WaitTarget::Object(object),

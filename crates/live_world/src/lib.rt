@@ -57,8 +57,6 @@ pub struct LiveWorld {
     queues: Queues,
     // What is outstanding for each object.
     outstanding: KeyedLists,
-    // And what of that is pending.
-    pending: KeyedLists,
     // What each begun wait still holds.
     barriers: Barriers,
     waits: BegunWaits,
@@ -101,7 +99,6 @@ impl LiveWorld {
         let callbacks = CallbackRows::open(alloc, limits.slots)?;
         let queues = Queues::open(alloc, limits.pools, limits.slots)?;
         let outstanding = KeyedLists::open(alloc, limits.objects + 1, limits.slots)?;
-        let pending = KeyedLists::open(alloc, limits.objects + 1, limits.slots)?;
         let barriers = Barriers::open(alloc, limits.clients + limits.workers, limits.slots)?;
         let wanted = waits::open_wanted(alloc, limits.clients + limits.workers)?;
         let clients = actors::open_clients(alloc, limits.clients)?;
@@ -114,7 +111,6 @@ impl LiveWorld {
             callbacks,
             queues,
             outstanding,
-            pending,
             barriers,
             waits: BegunWaits::none(),
             wanted,

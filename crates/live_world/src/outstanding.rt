@@ -5,9 +5,10 @@ ghost use Rattle.std.specs.Prelude.{◌≡◌, ◌+◌, ◌<◌, ◌≤◌, if�
 ghost use Rattle.tp_model.specs.Counts.{has_number};
 ghost use Rattle.tp_model.specs.Waits.{count_outstanding};
 ghost use Rattle.tp_model.specs.Calls.Waits.{count_covered, count_cancelled_by};
+ghost use Rattle.live_world.specs.Invariant.{waits, runs};
 
 use crate::LiveWorld;
-use crate::waits::is_pending;
+use crate::waits::{is_pending, is_running};
 use tp_base::ids::ObjectId;
 use tp_base::rows::{CallbackRow, WaitTarget};
 
@@ -18,36 +19,40 @@ pub struct WaitCounts {
     pub cancelled: u32,
 }
 
-// How many callbacks are outstanding for an object, and how many of them are pending.
+// How many callbacks are outstanding for an object, and how many of them are pending and run.
 #[derive(Clone, Copy)]
 struct Outstanding {
     all: u32,
     pending: u32,
+    running: u32,
 }
 
 impl Outstanding {
+    const NONE: Outstanding = Outstanding {
+        all: 0,
+        pending: 0,
+        running: 0,
+    };
+
     // One callback more.
-    fn with(self, pending: bool) -> Outstanding
+    fn with(self, callback: &CallbackRow) -> Outstanding
         requires fits { self.all < 65535 }
-        requires within { self.pending ≤ self.all }
+        requires pending { self.pending ≤ self.all }
+        requires running { self.running ≤ self.all }
         ensures all { result.all ≡ self.all + 1 }
-        ensures pending { result.pending ≡ self.pending + (if pending then 1 else 0) }
+        ensures pending { result.pending ≡ self.pending + (if waits callback.now then 1 else 0) }
+        ensures running { result.running ≡ self.running + (if runs callback.now then 1 else 0) }
     {
         Outstanding {
             all: self.all + 1,
-            pending: if pending {
-                self.pending + 1
-            } else {
-                self.pending
-            },
+            pending: self.pending + u32::from(is_pending(callback)),
+            running: self.running + u32::from(is_running(callback)),
         }
     }
 }
 
 impl LiveWorld {
     ghost use Rattle.live_world.specs.Waiting.{outstanding_of, pending_of};
-    ghost use Rattle.live_world.specs.Invariant.{waits};
-
     // The outstanding callback of least number.
     pub(crate) fn first_outstanding(&self, object: ObjectId) -> Option<CallbackRow>
         ensures { result ≡ slice_get (outstanding_of self.now.world object) 0 }
@@ -56,19 +61,6 @@ impl LiveWorld {
             return None;
         }
         match self.outstanding.first(object.0) {
-            Some(number) => self.callbacks.find(number),
-            None => None,
-        }
-    }
-
-    // The pending callback of least number.
-    pub(crate) fn first_pending(&self, object: ObjectId) -> Option<CallbackRow>
-        ensures { result ≡ slice_get (pending_of self.now.world object) 0 }
-    {
-        if object.0 > self.limits.objects {
-            return None;
-        }
-        match self.pending.first(object.0) {
             Some(number) => self.callbacks.find(number),
             None => None,
         }
@@ -92,23 +84,39 @@ impl LiveWorld {
         self.first_outstanding(object).is_some()
     }
 
+    // The pending callback of least number. Walks what is outstanding for the object before it.
+    pub(crate) fn first_pending(&self, object: ObjectId) -> Option<CallbackRow>
+        ensures { result ≡ slice_get (pending_of self.now.world object) 0 }
+    {
+        self.is_reachable();
+        let mut next = self.first_outstanding(object);
+        while let Some(callback) = next {
+            if is_pending(&callback) {
+                return Some(callback);
+            }
+            next = self.next_outstanding(&callback);
+        }
+        None
+    }
+
     // Walks what is outstanding for the object.
     fn count_outstanding(&self, object: ObjectId) -> Outstanding
         ensures all { result.all ≡ length (outstanding_of self.now.world object) }
         ensures pending { result.pending ≡ length (filter waits (outstanding_of self.now.world object)) }
+        ensures running { result.running ≡ length (filter runs (outstanding_of self.now.world object)) }
     {
         self.is_reachable();
-        let mut count = Outstanding { all: 0, pending: 0 };
+        let mut count = Outstanding::NONE;
         let mut next = self.first_outstanding(object);
         while let Some(callback) = next {
-            count = count.with(is_pending(&callback));
+            count = count.with(&callback);
             next = self.next_outstanding(&callback);
         }
         count
     }
 
-    /// How many callbacks a wait for the object would cover, and how many it would cancel before.
-    /// It walks what is outstanding for the object.
+    /// How many callbacks a wait for the object would cover, and how many it would cancel before. With
+    /// cancel it would cover those that run. It walks what is outstanding for the object.
     pub fn wait_counts(&self, object: ObjectId, cancel: bool) -> WaitCounts
         ensures covered { result.covered ≡ count_covered self.now.world (WaitTarget.Object object) cancel }
         ensures cancelled { result.cancelled ≡ count_cancelled_by self.now.world (WaitTarget.Object object) cancel }
@@ -117,7 +125,7 @@ impl LiveWorld {
         let count = self.count_outstanding(object);
         if cancel {
             WaitCounts {
-                covered: count.all - count.pending,
+                covered: count.running,
                 cancelled: count.pending,
             }
         } else {

@@ -57,13 +57,6 @@ fn tally_shown(waiting: u32, counts: Counts) -> Tally
     }
 }
 
-// Callbacks of the pool wait, or some of them run.
-fn is_at_work(tally: Tally) -> bool
-    ensures { result ≡ (nat_lt 0 tally.pending || nat_lt 0 tally.running) }
-{
-    0 < tally.pending || 0 < tally.running
-}
-
 // An object that isn't released is bound to the pool.
 fn is_bound_to(pool: PoolId, found: Found<'_, Object>) -> bool
     ensures { result ≡ is_bound pool.0 found.entry }
@@ -212,15 +205,21 @@ impl LiveWorld {
         false
     }
 
-    // Whether a callback of the pool is pending or runs.
+    // Whether a callback of the pool is under way. Walks the callbacks.
     fn has_callback(&self, pool: PoolId) -> bool
         ensures { result ≡ list_any (λ c. is_live c.status && (c.pool.0 == pool.0)) self.now.world.callbacks }
     {
-        let _ = &self.limits;
-        is_at_work(self.tally(pool))
+        let mut next = self.callbacks.after(0);
+        while let Some(callback) = next {
+            if callback.pool.0 == pool.0 {
+                return true;
+            }
+            next = self.callbacks.after(callback.number);
+        }
+        false
     }
 
-    /// Whether something of the pool is outstanding. Walks the objects.
+    /// Whether something of the pool is outstanding. Walks the objects and the callbacks.
     pub fn is_used(&self, pool: PoolId) -> bool
         ensures { result ≡ is_used self.now.world pool.0 }
     {

@@ -1,7 +1,7 @@
 //! The waits that actors have begun: what each still holds, or which kernel object it is for.
 
 ghost use Rattle.std.specs.Prelude.{◌≡◌, ◌+◌, ◌^◌, ◌<◌, IfOk, None, Some, is_none, replicate, slice_get};
-ghost use Rattle.tp_model.specs.Counts.{is_pending as is_pending_by};
+ghost use Rattle.tp_model.specs.Counts.{is_pending as is_pending_by, is_running as is_running_by};
 ghost use Rattle.tp_model.specs.Conditions.{is_in_wait};
 ghost use Rattle.tp_model.specs.Waits.{wait_of};
 ghost use Rattle.tp_model.specs.Calls.Waits.{is_starved, holds_starved};
@@ -53,6 +53,13 @@ pub(crate) fn is_pending(callback: &CallbackRow) -> bool
     matches!(callback.status, Status::Pending)
 }
 
+// A worker runs the callback.
+pub(crate) fn is_running(callback: &CallbackRow) -> bool
+    ensures { result ≡ is_running_by callback.now.status }
+{
+    matches!(callback.status, Status::Running { .. })
+}
+
 impl LiveWorld {
     ghost use Rattle.live_world.specs.Waiting.{held_by, progress_of};
 
@@ -92,12 +99,15 @@ impl LiveWorld {
 
     // Whether the actor's wait, of which this is the first held callback, holds one that is starved. Of
     // its object's pending callbacks it holds none without the first, and they are all of one pool, so
-    // that the first tells of all.
+    // that the first tells of all. It is looked for only where the history has no room for it to be run.
     fn holds_starved(&self, who: Who, waiter: u32, first: u64, room: u64) -> bool
         requires at { place_of self.now.world.limits who ≡ Some waiter }
         requires first { slice_get (held_by self.now.world who) 0 ≡ Some first }
         ensures { result ≡ holds_starved self.now.world room (held_by self.now.world who) }
     {
+        if 4 <= room {
+            return false;
+        }
         let Some(held) = self.callbacks.find(first) else {
             unreachable!()
         };
@@ -109,7 +119,8 @@ impl LiveWorld {
         }
     }
 
-    /// How far the actor's wait has come, where the history has this room left. It walks nothing.
+    /// How far the actor's wait has come, where the history has this room left. Where that is less
+    /// than 4, it walks what is outstanding for an object up to what is pending, and else nothing.
     pub fn progress(&self, who: Who, room: u64) -> Progress
         ensures { result ≡ progress_of self.now.world room who }
     {

@@ -7,8 +7,8 @@ remove-was_pending-requires c = queue_there c.self.inside c.args.self.now c.args
 
 pub invariant_of-self : goal.invariant_of-self
 invariant_of-self c =
-    (cancelled_by c.self.inside c.args.self.now c.args.callback c.remove-was_there.new.self c.remove-was_pending.new.self c.remove-was_outstanding.new.self c.remove-was_listed.new.self c.left.new.self c.self.view_is c.self.invariant c.requires.found c.requires.pending c.remove-was_there.ensures.after c.remove-was_pending.ensures.after c.remove-was_outstanding.ensures.after c.remove-was_listed.ensures.after c.left.ensures).keeps
+    (cancelled_by c.self.inside c.args.self.now c.args.callback c.remove-was_there.new.self c.remove-was_pending.new.self c.remove-was_outstanding.new.self c.left.new.self c.self.view_is c.self.invariant c.requires.found c.requires.pending c.remove-was_there.ensures.after c.remove-was_pending.ensures.after c.remove-was_outstanding.ensures.after c.left.ensures).keeps
 
 pub returns : goal.returns
 returns c =
-    (cancelled_by c.self.inside c.args.self.now c.args.callback c.remove-was_there.new.self c.remove-was_pending.new.self c.remove-was_outstanding.new.self c.remove-was_listed.new.self c.left.new.self c.self.view_is c.self.invariant c.requires.found c.requires.pending c.remove-was_there.ensures.after c.remove-was_pending.ensures.after c.remove-was_outstanding.ensures.after c.remove-was_listed.ensures.after c.left.ensures).becomes
+    (cancelled_by c.self.inside c.args.self.now c.args.callback c.remove-was_there.new.self c.remove-was_pending.new.self c.remove-was_outstanding.new.self c.left.new.self c.self.view_is c.self.invariant c.requires.found c.requires.pending c.remove-was_there.ensures.after c.remove-was_pending.ensures.after c.remove-was_outstanding.ensures.after c.left.ensures).becomes

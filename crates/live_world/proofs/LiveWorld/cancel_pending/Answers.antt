@@ -1,24 +1,34 @@
-use Rattle.std.proofs.Common.{◌+◌, sym, ◌∙◌}
-use Rattle.live_world.proofs.Cancelled.{CancelsFirst, cancelling_ended, cancels_first}
-use Rattle.live_world.proofs.Covered.{nowhere}
+use Rattle.std.proofs.Common.{◌+◌, length, sym, ap, ◌∙◌, arith}
+use Rattle.live_world.proofs.Cancelled.{CancelsNext, cancelling_first, cancelling_ended, cancels_next}
 use Rattle.live_world.proofs.LiveWorld.cancel_pending.Goals as goal
-use Rattle.live_world.proofs.LiveWorld.cancel_pending.Goals.{After-is_reachable}
+use Rattle.live_world.proofs.LiveWorld.cancel_pending.Goals.{After-is_reachable-in-Some}
 
-first : (c : After-is_reachable) → CancelsFirst c.args.object c.loop-callback.self c.in-Some.callback
-first c = cancels_first c.args.object (c.loop-callback.self.made + 1) c.loop-callback.self c.in-Some.callback c.is_reachable.ensures.sound.numbers (sym c.first_pending.ensures ∙ c.in-Some.is)
+one : (c : After-is_reachable-in-Some) → CancelsNext c.args.object c.args.self.now c.loop-next.self c.in-Some.callback c.loop-next.next
+one c = cancels_next c.args.object (c.loop-next.self.made + 1) c.loop-next.self c.in-Some.callback c.is_reachable-in-Some.ensures.sound.numbers c.args.self.now c.loop-next.next c.in-Some.is c.loop-next.invariant
+
+pub loop-next-init : goal.loop-next-init
+loop-next-init c = cancelling_first c.args.object (c.args.self.now.made + 1) c.args.self.now c.first_outstanding-next.result c.is_reachable.ensures.sound.numbers c.first_outstanding-next.ensures
+
+pub next_outstanding-next-requires : goal.next_outstanding-next-requires
+next_outstanding-next-requires c = (one (goal.at.next_outstanding-next-requires c).After-is_reachable-in-Some).seeks.at.there
 
 pub cancel_callback-requires-clause-found : goal.cancel_callback-requires-clause-found
-cancel_callback-requires-clause-found c = (first (goal.at.cancel_callback-requires-clause-found c).After-is_reachable).found
+cancel_callback-requires-clause-found c = (one (goal.at.cancel_callback-requires-clause-found c).After-is_reachable-in-Some).found (sym c.is_pending.ensures ∙ c.if-is_pending.true)
 
-pub cancel_callback-requires-clause-pending : goal.cancel_callback-requires-clause-pending
-cancel_callback-requires-clause-pending c = (first (goal.at.cancel_callback-requires-clause-pending c).After-is_reachable).pends
+pub loop-next-smaller-then-is_pending : goal.loop-next-smaller-then-is_pending
+loop-next-smaller-then-is_pending c =
+    let o = one (goal.at.loop-next-smaller-then-is_pending c).After-is_reachable-in-Some in
+    omega (arith, ap length (o.same c.next_outstanding-next.result c.next_outstanding-next.ensures c.cancel_callback.new.self c.cancel_callback.ensures), o.seeks.at.later c.next_outstanding-next.result c.next_outstanding-next.ensures)
 
-pub loop-callback-smaller : goal.loop-callback-smaller
-loop-callback-smaller c = (first (goal.at.loop-callback-smaller c).After-is_reachable).fewer c.cancel_callback.new.self c.cancel_callback.ensures
+pub loop-next-preserved-then-is_pending : goal.loop-next-preserved-then-is_pending
+loop-next-preserved-then-is_pending c =
+    (one (goal.at.loop-next-preserved-then-is_pending c).After-is_reachable-in-Some).cancels (sym c.is_pending.ensures ∙ c.if-is_pending.true) c.next_outstanding-next.result c.next_outstanding-next.ensures c.cancel_callback.new.self c.cancel_callback.ensures
 
-pub loop-callback-preserved : goal.loop-callback-preserved
-loop-callback-preserved c = (first (goal.at.loop-callback-preserved c).After-is_reachable).leads c.cancel_callback.new.self c.cancel_callback.ensures ∙ c.loop-callback.invariant
+pub loop-next-smaller : goal.loop-next-smaller
+loop-next-smaller c = (one (goal.at.loop-next-smaller c).After-is_reachable-in-Some).seeks.at.later c.next_outstanding-next.result c.next_outstanding-next.ensures
+
+pub loop-next-preserved : goal.loop-next-preserved
+loop-next-preserved c = (one (goal.at.loop-next-preserved c).After-is_reachable-in-Some).passes (sym c.is_pending.ensures ∙ c.if-is_pending.false) c.next_outstanding-next.result c.next_outstanding-next.ensures
 
 pub returns : goal.returns
-returns c =
-    cancelling_ended c.args.object c.loop-callback.self (sym (nowhere c.first_pending.result c.in_default.not-Some) ∙ c.first_pending.ensures) c.is_reachable-2.ensures.living ∙ c.loop-callback.invariant
+returns c = cancelling_ended c.args.object c.args.self.now c.loop-next.self c.loop-next.next c.in_default.is c.is_reachable-2.ensures.living c.loop-next.invariant

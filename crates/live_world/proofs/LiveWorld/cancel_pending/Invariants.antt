@@ -1,11 +1,12 @@
-use Rattle.std.proofs.Common.{◌≡◌, length}
-use Rattle.live_world.specs.Live.{without_pending}
-use Rattle.live_world.specs.Waiting.{pending_of}
+use Rattle.std.proofs.Common.{length}
+use Rattle.live_world.specs.Waiting.{outstanding_of}
+use Rattle.live_world.proofs.Walks.{rest}
+use Rattle.live_world.proofs.Along.{number_of}
+use Rattle.live_world.proofs.Cancelled.{Cancelling}
 use Rattle.live_world.proofs.LiveWorld.cancel_pending.Given as goal
 
--- what is left to cancel leads to where all of it leads
-abbrev pub invariant-loop-callback : goal.invariant-loop-callback
-invariant-loop-callback l = without_pending l.self l.fn.object ≡ without_pending l.fn.self l.fn.object
+abbrev pub invariant-loop-next : goal.invariant-loop-next
+invariant-loop-next l = Cancelling l.fn.object l.fn.self l.self l.next
 
-abbrev pub decreases-loop-callback : goal.decreases-loop-callback
-decreases-loop-callback l = length (pending_of l.self.world l.fn.object)
+abbrev pub decreases-loop-next : goal.decreases-loop-next
+decreases-loop-next l = length (rest number_of (outstanding_of l.self.world l.fn.object) l.next)

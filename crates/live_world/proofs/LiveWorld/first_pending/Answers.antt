@@ -1,28 +1,22 @@
-use Rattle.std.proofs.Common.{◌+◌, length, map, slice_get, refl, ap, ◌∙◌, arith}
-use Rattle.live_world.specs.Live.{Live}
-use Rattle.live_world.specs.Parts.{shown_object}
-use Rattle.live_world.specs.Invariant.{waits}
-use Rattle.live_world.specs.Waiting.{is_pending_for, pending_of}
-use Rattle.std.proofs.lemmas.List.{length-map}
-use Rattle.live_world.proofs.Along.{first_row, no_row, none_beyond}
-use Rattle.live_world.proofs.ObjectsMade.{objects_made}
+use Rattle.std.proofs.Common.{◌+◌, sym, ◌∙◌}
+use Rattle.live_world.proofs.Along.{Seeks, seeking_first, seeks}
 use Rattle.live_world.proofs.LiveWorld.first_pending.Goals as goal
+use Rattle.live_world.proofs.LiveWorld.first_pending.Goals.{In-Some}
 
-pub returns-then-object-self : goal.returns-then-object-self
-returns-then-object-self c =
-    let i = c.self.inside in
-    none_beyond (length (map shown_object i.objects.rows)) c.args.object waits (is_pending_for c.args.object) (λ _. refl) i.callbacks.rows (omega (arith, length-map i.objects.rows shown_object, c.self.invariant.sized.objects_within, c.if-object-self.true)) (objects_made (map shown_object i.objects.rows) i.callbacks.rows c.self.invariant.sound.callback_objects)
-    ∙ ap (λ (l : Live). slice_get (pending_of l.world c.args.object) 0) c.self.view_is
+one : (c : In-Some) → Seeks c.args.object c.args.self.now.world c.in-Some.callback c.loop-next.next
+one c = seeks c.args.self.now.world (c.args.self.now.made + 1) c.args.object c.in-Some.callback c.loop-next.next c.is_reachable.ensures.sound.numbers c.in-Some.is c.loop-next.invariant
 
-pub returns-in-Some : goal.returns-in-Some
-returns-in-Some c =
-    let i = c.self.inside in
-    c.find.ensures
-    ∙ first_row (i.made + 1) i.callbacks.rows c.args.object waits (is_pending_for c.args.object) (λ _. refl) i.pending.entries c.self.invariant.pending.listed c.first.result c.first.ensures c.in-Some.number c.self.invariant.sound.numbers c.in-Some.is
-    ∙ ap (λ (l : Live). slice_get (pending_of l.world c.args.object) 0) c.self.view_is
+pub loop-next-init : goal.loop-next-init
+loop-next-init c = seeking_first c.args.self.now.world (c.args.self.now.made + 1) c.args.object c.first_outstanding-next.result c.is_reachable.ensures.sound.numbers c.first_outstanding-next.ensures
 
-pub returns-in-None : goal.returns-in-None
-returns-in-None c =
-    let i = c.self.inside in
-    no_row (i.made + 1) i.callbacks.rows c.args.object waits (is_pending_for c.args.object) (λ _. refl) i.pending.entries c.self.invariant.pending.listed c.first.result c.first.ensures c.in-None.is
-    ∙ ap (λ (l : Live). slice_get (pending_of l.world c.args.object) 0) c.self.view_is
+pub returns-then-is_pending : goal.returns-then-is_pending
+returns-then-is_pending c = sym ((one (goal.at.returns-then-is_pending c).In-Some).first (sym c.is_pending.ensures ∙ c.if-is_pending.true))
+
+pub next_outstanding-next-requires : goal.next_outstanding-next-requires
+next_outstanding-next-requires c = (one (goal.at.next_outstanding-next-requires c).In-Some).at.there
+
+pub loop-next-smaller : goal.loop-next-smaller
+loop-next-smaller c = (one (goal.at.loop-next-smaller c).In-Some).at.later c.next_outstanding-next.result c.next_outstanding-next.ensures
+
+pub loop-next-preserved : goal.loop-next-preserved
+loop-next-preserved c = (one (goal.at.loop-next-preserved c).In-Some).others (sym c.is_pending.ensures ∙ c.if-is_pending.false) c.next_outstanding-next.result c.next_outstanding-next.ensures

@@ -14,7 +14,6 @@ parts c = record {
   callbacks = c.in_ok-callbacks.callbacks;
   queues = c.in_ok-queues.queues;
   outstanding = c.in_ok-outstanding.outstanding;
-  pending = c.in_ok-pending.pending;
   barriers = c.in_ok-barriers.barriers;
   waits = c.none.result;
   wanted = c.in_ok-wanted.wanted;
@@ -36,7 +35,6 @@ opened_here c =
       callbacks = c.in_ok-callbacks.ensures;
       queues = ap₂ (λ n qs. record { slots = n; queues = qs }) c.in_ok-queues.ensures.slots c.in_ok-queues.ensures.empty;
       outstanding = c.in_ok-outstanding.ensures;
-      pending = c.in_ok-pending.ensures;
       barriers = ap₂ (λ n ws. record { slots = n; waits = ws }) c.in_ok-barriers.ensures.slots c.in_ok-barriers.ensures.waits;
       clients = c.in_ok-clients.ensures;
       timers = c.in_ok-timers.ensures;

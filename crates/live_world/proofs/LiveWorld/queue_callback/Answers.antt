@@ -82,15 +82,12 @@ may_list i l c test lists is k allowed listed =
 pub add-requires : goal.add-requires
 add-requires c = let may = may_list c.self.inside c.args.self.now c.args.callback is_tied c.self.inside.outstanding c.self.view_is c.self.invariant c.requires.allowed c.self.invariant.listed in record { key = may.key; room = may.room; last = may.last }
 
-pub add-requires-2 : goal.add-requires-2
-add-requires-2 c = let may = may_list c.self.inside c.args.self.now c.args.callback waits c.self.inside.pending c.self.view_is c.self.invariant c.requires.allowed c.self.invariant.pending in record { key = may.key; room = may.room; last = may.last }
-
 pub invariant_of-self : goal.invariant_of-self
 invariant_of-self c =
     let placed = c.push-2.ensures ∙ ap (λ p. with_queue c.self.inside.queues c.args.callback.pool.0 (with_entry (entry p c.args.callback.number) (queue_of c.self.inside.queues c.args.callback.pool.0))) c.priority_byte.ensures in
-    (queued_by c.self.inside c.args.self.now c.args.callback c.push.new.self c.push-2.new.self c.add.new.self c.add-2.new.self c.self.view_is c.self.invariant c.requires.allowed c.push.ensures placed c.add.ensures c.add-2.ensures).keeps
+    (queued_by c.self.inside c.args.self.now c.args.callback c.push.new.self c.push-2.new.self c.add.new.self c.self.view_is c.self.invariant c.requires.allowed c.push.ensures placed c.add.ensures).keeps
 
 pub returns : goal.returns
 returns c =
     let placed = c.push-2.ensures ∙ ap (λ p. with_queue c.self.inside.queues c.args.callback.pool.0 (with_entry (entry p c.args.callback.number) (queue_of c.self.inside.queues c.args.callback.pool.0))) c.priority_byte.ensures in
-    (queued_by c.self.inside c.args.self.now c.args.callback c.push.new.self c.push-2.new.self c.add.new.self c.add-2.new.self c.self.view_is c.self.invariant c.requires.allowed c.push.ensures placed c.add.ensures c.add-2.ensures).becomes
+    (queued_by c.self.inside c.args.self.now c.args.callback c.push.new.self c.push-2.new.self c.add.new.self c.self.view_is c.self.invariant c.requires.allowed c.push.ensures placed c.add.ensures).becomes

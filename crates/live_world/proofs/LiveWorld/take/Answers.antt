@@ -19,7 +19,7 @@ remove-was_pending-requires c =
     subst (λ (p : PoolId). p.0 < length c.self.inside.queues.queues) c.requires.home (queue_there c.self.inside c.args.self.now c.args.callback c.self.view_is c.self.invariant c.requires.found)
 
 pub invariant_of-self : goal.invariant_of-self
-invariant_of-self c = (taken_by c.self.inside c.args.self.now c.args.by c.args.callback c.take.new.self c.replace-was_there.new.self c.remove-was_pending.new.self c.remove-was_listed.new.self c.self.view_is c.self.invariant c.requires c.take.ensures c.replace-was_there.ensures.after c.remove-was_pending.ensures.after c.remove-was_listed.ensures.after).keeps
+invariant_of-self c = (taken_by c.self.inside c.args.self.now c.args.by c.args.callback c.take.new.self c.replace-was_there.new.self c.remove-was_pending.new.self c.self.view_is c.self.invariant c.requires c.take.ensures c.replace-was_there.ensures.after c.remove-was_pending.ensures.after).keeps
 
 pub returns : goal.returns
-returns c = (taken_by c.self.inside c.args.self.now c.args.by c.args.callback c.take.new.self c.replace-was_there.new.self c.remove-was_pending.new.self c.remove-was_listed.new.self c.self.view_is c.self.invariant c.requires c.take.ensures c.replace-was_there.ensures.after c.remove-was_pending.ensures.after c.remove-was_listed.ensures.after).becomes
+returns c = (taken_by c.self.inside c.args.self.now c.args.by c.args.callback c.take.new.self c.replace-was_there.new.self c.remove-was_pending.new.self c.self.view_is c.self.invariant c.requires c.take.ensures c.replace-was_there.ensures.after c.remove-was_pending.ensures.after).becomes

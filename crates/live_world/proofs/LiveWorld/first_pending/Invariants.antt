@@ -1,0 +1,11 @@
+use Rattle.std.proofs.Common.{length}
+use Rattle.live_world.specs.Waiting.{outstanding_of}
+use Rattle.live_world.proofs.Walks.{rest}
+use Rattle.live_world.proofs.Along.{number_of, Seeking}
+use Rattle.live_world.proofs.LiveWorld.first_pending.Given as goal
+
+abbrev pub invariant-loop-next : goal.invariant-loop-next
+invariant-loop-next l = Seeking l.fn.object l.self.world l.next
+
+abbrev pub decreases-loop-next : goal.decreases-loop-next
+decreases-loop-next l = length (rest number_of (outstanding_of l.self.world l.fn.object) l.next)
