@@ -1,5 +1,5 @@
 -- What is outstanding for an object, as the lists of objects give it.
-use Rattle.std.proofs.Common.{◌≡◌, ℕ, ◌+◌, ◌<◌, ◌≤◌, Bool, true, false, cond, ◌&&◌, ◌||◌, ◌==◌, List, [], ◌∷◌, length, map, nat_lt, slice_get, Option, Some, None, refl, sym, ap, ◌∙◌, subst, arith, filter, find, option_map, eqb-true, ne_eqb}
+use Rattle.std.proofs.Common.{◌≡◌, ℕ, ◌+◌, ◌<◌, ◌≤◌, Bool, true, false, cond, ◌&&◌, ◌||◌, ◌==◌, List, [], ◌∷◌, length, map, nat_lt, slice_get, Option, Some, None, refl, sym, ap, ◌∙◌, subst, arith, filter, find, option_map, is_some, eqb-true, ne_eqb}
 use Rattle.std.specs.List.{AllByRecursion, list_any}
 use Rattle.tp_base.specs.declared.ids.ObjectId.{ObjectId}
 use Rattle.tp_base.specs.declared.rows.Status.{Status}
@@ -111,6 +111,15 @@ entry_found test p t T same (c ∷ cs) =
     ∙ elim (p c && t c) as (λ b. option_map (λ (e : Entry). e.number) (cond b (Some (tied_entry c)) (find T (map tied_entry (filter test cs)))) ≡ option_map number_of (cond b (Some c) (find t (filter p cs)))) [ true ↦ refl | false ↦ entry_found test p t T same cs ]
     ∙ elim (p c) as (λ b. option_map number_of (cond (b && t c) (Some c) (find t (filter p cs))) ≡ option_map number_of (find t (cond b (c ∷ filter p cs) (filter p cs)))) [ true ↦ refl | false ↦ refl ]
 
+-- the first that passes, and whether one does
+pub first_filtered : (p : CallbackRow → Bool) (cs : List CallbackRow) → find p cs ≡ slice_get (filter p cs) 0
+first_filtered p [] = refl
+first_filtered p (c ∷ cs) = elim (p c) as (λ b. cond b (Some c) (find p cs) ≡ slice_get (cond b (c ∷ filter p cs) (filter p cs)) 0) [ true ↦ refl | false ↦ first_filtered p cs ]
+
+pub any_filtered : (p : CallbackRow → Bool) (cs : List CallbackRow) → list_any p cs ≡ is_some (slice_get (filter p cs) 0)
+any_filtered p [] = refl
+any_filtered p (c ∷ cs) = elim (p c) as (λ b. (b || list_any p cs) ≡ is_some (slice_get (cond b (c ∷ filter p cs) (filter p cs)) 0)) [ true ↦ refl | false ↦ any_filtered p cs ]
+
 -- what is listed for an object is what passes for it
 abbrev pub IsListedFor : ObjectId → (CallbackRow → Bool) → (CallbackRow → Bool) → Type 0
 IsListedFor object test p = (c : CallbackRow) → (test c && (c.object.0 == object.0)) ≡ p c
@@ -131,6 +140,13 @@ module _ (fresh : ℕ) (cs : List CallbackRow) (object : ObjectId) (test p : Cal
 
   pub first_row : (number : ℕ) → IsRising 1 fresh cs → first ≡ Some number → find (has_number number) cs ≡ slice_get (filter p cs) 0
   first_row number rising some = looked_up fresh cs p (λ _. true) number rising (first_shown ∙ some) ∙ first_found (filter p cs)
+
+  pub any_row : is_some first ≡ list_any p cs
+  any_row = sym (ap is_some first_shown) ∙ mapped (find (λ _. true) (filter p cs)) ∙ ap is_some (first_found (filter p cs)) ∙ sym (any_filtered p cs)
+    where
+      mapped : (o : Option CallbackRow) → is_some (option_map number_of o) ≡ is_some o
+      mapped None = refl
+      mapped (Some c) = refl
 
   pub no_row : first ≡ None → None ≡ slice_get (filter p cs) 0
   no_row none = none_up (filter p cs) (λ _. true) (first_shown ∙ none) ∙ first_found (filter p cs)

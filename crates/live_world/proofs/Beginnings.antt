@@ -177,6 +177,7 @@ begun_by i l who object cancel place barriers begun is k may settled at barriers
       queued = k.queued;
       tallied = k.tallied;
       listed = k.listed;
+      operating = k.operating;
       timed = k.timed;
       kernels = k.kernels;
       slotted = k.slotted;
@@ -252,6 +253,7 @@ acquires i l who kernel cancel place barriers begun is k allowed at barriers_now
       queued = k.queued;
       tallied = k.tallied;
       listed = k.listed;
+      operating = k.operating;
       timed = k.timed;
       kernels = k.kernels;
       covered = subst (λ x. AreCovered i.limits cs begun.waits x) (sym (barriers_now ∙ ap (λ ns. with_wait i.barriers place (Some ns)) (sym covers)))

@@ -54,6 +54,7 @@ ended i l who how place barriers waits kernels is k allowed at barriers_now wait
       queued = k.queued;
       tallied = k.tallied;
       listed = k.listed;
+      operating = k.operating;
       timed = k.timed;
       kernels = subst (λ (t : Kernels). AreKernels i.limits t) (sym kernels_now)
           (record {

@@ -4,6 +4,7 @@ pub mod Entries
 pub mod Queued
 pub mod Tallied
 pub mod Alive
+pub mod Operating
 pub mod Moving
 pub mod Counting
 pub mod Covered
@@ -33,3 +34,5 @@ pub mod Wanted
 pub mod Takings
 pub mod Due
 pub mod PoolsMade
+pub mod NewRow
+pub mod Operations

@@ -69,6 +69,7 @@ created i l row objects timers is k allowed now timers_now =
       queued = k.queued;
       tallied = k.tallied;
       listed = k.listed;
+      operating = k.operating;
       covered = k.covered;
       timed = timed_created i object fewer k;
       kernels = k.kernels;
@@ -124,6 +125,7 @@ released i l object live objects timers kernels armed is k allowed was now timer
       queued = k.queued;
       tallied = k.tallied;
       listed = k.listed;
+      operating = k.operating;
       covered = k.covered;
       timed = timed_released i object marked (numbered_some (shown i).world.objects object.0 a.row a.stands).1 refl k;
       kernels = record { kernel_limit = k.kernels.kernel_limit; kernels_within = k.kernels.kernels_within; armed_limit = k.kernels.armed_limit; once = less_once i object.0 k };
@@ -146,6 +148,7 @@ kernels_moved i l ch kernels rows is k allowed none same now within =
       queued = k.queued;
       tallied = k.tallied;
       listed = k.listed;
+      operating = k.operating;
       covered = k.covered;
       timed = k.timed;
       kernels = record { kernel_limit = k.kernels.kernel_limit; kernels_within = within; armed_limit = k.kernels.armed_limit; once = k.kernels.once };

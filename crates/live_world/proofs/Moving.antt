@@ -32,7 +32,7 @@ use Rattle.kernel_events.specs.Kernels.{Kernels}
 use Rattle.tp_base.specs.declared.rows.Status.TheVariants.{Running}
 use Rattle.tp_base.specs.declared.rows.WaitTarget.TheVariants as target
 use Rattle.tp_model.specs.World.{World, BegunWait}
-use Rattle.tp_model.specs.Counts.{has_number, callback_of, is_pending, is_running, is_live}
+use Rattle.tp_model.specs.Counts.{has_number, callback_of, is_operating, is_pending, is_running, is_live}
 use Rattle.tp_model.specs.Changes.{changed, replaced, with_callback, taken, loosened, marked, returned, without_run}
 use Rattle.tp_model.specs.Waits.{is_held_for, cancelled}
 use Rattle.tp_model.specs.Support.Allowed.{IsAllowed, Idles, Runs, news}
@@ -48,13 +48,14 @@ use Rattle.live_world.specs.declared.LiveWorld.TheInside.{Inside}
 use Rattle.live_world.specs.Live.{Live, moved, became, with_kernels}
 use Rattle.live_world.specs.Parts.{world_of, shown_worker, is_tied, tied_entry}
 use Rattle.live_world.specs.View.{shown, IsLiveWorld}
-use Rattle.live_world.specs.Invariant.{AreSized, AreLive, AreQueued, AreTallied, AreListed, AreCovered, AreTimed, AreKernels, AreSlotted, AreWanted, IsHome, IsMarked, AreMarked}
+use Rattle.live_world.specs.Invariant.{AreSized, AreLive, AreQueued, AreTallied, AreListed, AreOperating, AreCovered, AreTimed, AreKernels, AreSlotted, AreWanted, IsHome, IsMarked, AreMarked}
 use Rattle.live_world.proofs.Lists.{set_twice, set_there}
 use Rattle.live_world.proofs.Alive.{alive_more, alive_replaced, alive_less, removed_rows}
 use Rattle.live_world.proofs.Listed.{pending_tied, over_untied, listed_more, listed_same, listed_less, listed_lives}
+use Rattle.live_world.proofs.Operating.{operating_beside, operating_lives, operating_same, pending_apart, running_apart}
 use Rattle.live_world.proofs.Covered.{covered_replaced, covered_less, covered_lives, covered_more}
 use Rattle.live_world.proofs.Queued.{queued_entry, queued_more, queued_less, queued_same, queued_lives}
-use Rattle.live_world.proofs.Tallied.{AreApart, is_behind, runs_nothing, runs_this, worker_changed, idle_alike, busy_alike, tallied_more, tallied_free, tallied_both, tallied_still, tallied_lives, pending_apart, marked_set, marked_apart, marked_replaced, marked_others, others_apart, same_found}
+use Rattle.live_world.proofs.Tallied.{AreApart, is_behind, runs_nothing, runs_this, worker_changed, idle_alike, busy_alike, tallied_more, tallied_free, tallied_both, tallied_still, tallied_lives, still_apart, marked_set, marked_apart, marked_replaced, marked_others, others_apart, same_found}
 
 -- ---- what every change shows
 
@@ -66,6 +67,7 @@ pub record After (i : Inside) (v : World) : Type 0 where
   pub queued : AreQueued i.limits i.callbacks.rows i.queues
   pub tallied : AreTallied i.callbacks.rows i.pools.workers
   pub listed : AreListed i.limits is_tied i.callbacks.rows i.outstanding
+  pub operating : AreOperating i.limits i.callbacks.rows i.started i.operations
   pub covered : AreCovered i.limits i.callbacks.rows i.waits.waits i.barriers
   pub timed : AreTimed i.limits i.objects i.timers
   pub kernels : AreKernels i.limits i.kernels
@@ -86,6 +88,7 @@ became_by j v s a =
         queued = a.queued;
         tallied = a.tallied;
         listed = a.listed;
+        operating = a.operating;
         covered = a.covered;
         timed = a.timed;
         kernels = a.kernels;
@@ -117,10 +120,10 @@ slots_replaced {callbacks = callbacks} r k = record { counted = k.counted; slots
 pub slots_fewer : {limits : Limits} {callbacks : List CallbackRow} {kernels : Kernels} {armed : ℕ} (p : CallbackRow → Bool) → AreSlotted limits callbacks kernels armed → AreSlotted limits (filter p callbacks) kernels armed
 slots_fewer {callbacks = callbacks} p k = record { counted = k.counted; slots = omega (arith, length-filter p callbacks, count_by-le-length p callbacks, k.slots) }
 
-slots_more : {limits : Limits} {callbacks : List CallbackRow} {kernels : Kernels} {armed : ℕ} (c : CallbackRow) → length callbacks + length kernels.armed + 1 ≤ limits.slots → AreSlotted limits callbacks kernels armed → AreSlotted limits (callbacks ++ c ∷ []) kernels armed
+pub slots_more : {limits : Limits} {callbacks : List CallbackRow} {kernels : Kernels} {armed : ℕ} (c : CallbackRow) → length callbacks + length kernels.armed + 1 ≤ limits.slots → AreSlotted limits callbacks kernels armed → AreSlotted limits (callbacks ++ c ∷ []) kernels armed
 slots_more {callbacks = callbacks} c room k = record { counted = k.counted; slots = omega (arith, length-append callbacks (c ∷ []), room) }
 
-slots_here : {callbacks : List CallbackRow} (n most : ℕ) → filter lives callbacks ≡ callbacks → length (filter lives callbacks) + n + 1 ≤ most → length callbacks + n + 1 ≤ most
+pub slots_here : {callbacks : List CallbackRow} (n most : ℕ) → filter lives callbacks ≡ callbacks → length (filter lives callbacks) + n + 1 ≤ most → length callbacks + n + 1 ≤ most
 slots_here n most living room = omega (arith, ap length living, room)
 
 -- callbacks and workers alone change
@@ -164,6 +167,7 @@ free_after i number row new target k is idle none home shows =
       alive = k.alive;
       queued = k.queued;
       listed = k.listed;
+      operating = k.operating;
       timed = k.timed;
       kernels = k.kernels;
       slotted = k.slotted;
@@ -265,6 +269,7 @@ taken_by i l by c pools callbacks queues is k allowed pools_now rows_now queues_
       sized = sized_worker i.pools (by.worker - 1) new (same_home i.pools (by.worker - 1) b.row new b.at_place refl k.sized) k.sized;
       alive = alive_now;
       listed = listed_same (i.made + 1) r c refl refl (sym (pending_tied c.object c.status a.pending)) k.sound.numbers a.found k.listed;
+      operating = operating_same (i.made + 1) r c refl refl refl (pending_apart c.status a.pending) k.sound.numbers a.found k.operating;
       timed = k.timed;
       kernels = k.kernels;
       slotted = slots_replaced (taken c by.worker) k.slotted;
@@ -340,6 +345,7 @@ marked_long i l by pools callbacks is k allowed pools_now rows_now =
       sized = sized_worker i.pools (by.worker - 1) new (same_home i.pools (by.worker - 1) on.row new on.at_place refl k.sized) k.sized;
       alive = alive_now;
       listed = listed_same (i.made + 1) r c refl refl refl k.sound.numbers a.runs.found k.listed;
+      operating = operating_same (i.made + 1) r c refl refl (running_apart c.status on.ran) (running_apart c.status on.ran) k.sound.numbers a.runs.found k.operating;
       timed = k.timed;
       kernels = k.kernels;
       slotted = slots_replaced r k.slotted;
@@ -387,6 +393,7 @@ ended_by i l by pools callbacks outstanding barriers is k running pools_now rows
       sized = sized_worker i.pools (by.worker - 1) new (same_home i.pools (by.worker - 1) on.row new on.at_place refl k.sized) k.sized;
       alive = alive_less i.callbacks r refl k.alive;
       listed = subst (λ cs. AreListed i.limits is_tied cs (unlisted i.outstanding c.number)) (sym removed) (listed_lives over_untied (listed_less r refl k.listed));
+      operating = subst (λ cs. AreOperating i.limits cs i.started i.operations) (sym removed) (operating_lives (operating_same (i.made + 1) r c refl refl refl (running_apart c.status on.ran) k.sound.numbers a.found k.operating));
       timed = k.timed;
       kernels = k.kernels;
       slotted = slots_fewer (λ (x : CallbackRow). not (x.number == c.number)) k.slotted;
@@ -422,6 +429,7 @@ queued_by i l c callbacks queues outstanding is k allowed rows_now queues_now li
       shows = ap (λ cs. record (shown i).world { callbacks = cs }) (sym alive_now.live);
       sized = k.sized;
       listed = listed_more c (pending_tied c.object c.status a.pending) k.listed;
+      operating = operating_beside c (pending_apart c.status a.pending) k.operating;
       timed = k.timed;
       kernels = k.kernels;
       slotted = slots_more c (slots_here (length i.kernels.armed) i.limits.slots k.alive.live (ltb-false i.limits.slots (length (filter lives i.callbacks.rows) + length i.kernels.armed + 1) a.room)) k.slotted;
@@ -457,6 +465,7 @@ loosened_by i l by callbacks outstanding barriers is k allowed rows_now listed_n
       tallied = tallied_still (i.made + 1) r c i.callbacks.rows i.pools.workers (λ p. ap (λ b. b && (c.pool.0 == p)) (ap is_running runs ∙ sym on.ran)) (λ p. ap (λ b. (b && (c.pool.0 == p)) && c.long) (ap is_running runs ∙ sym on.ran)) k.sound.numbers a.runs.found
           (marked_replaced r c i.callbacks.rows i.pools.workers a.runs.found refl k.tallied.marked) k.tallied;
       listed = listed_less r untied k.listed;
+      operating = operating_same (i.made + 1) r c refl refl (ap is_operating runs) (running_apart c.status on.ran) k.sound.numbers a.runs.found k.operating;
       timed = k.timed;
       kernels = k.kernels;
       slotted = slots_replaced r k.slotted;
@@ -485,6 +494,7 @@ asked_by i l by kind action callbacks is k allowed rows_now =
       tallied = tallied_still (i.made + 1) r c i.callbacks.rows i.pools.workers (λ p. ap (λ b. b && (c.pool.0 == p)) (ap is_running runs ∙ sym on.ran)) (λ p. ap (λ b. (b && (c.pool.0 == p)) && c.long) (ap is_running runs ∙ sym on.ran)) k.sound.numbers a.runs.found
           (marked_replaced r c i.callbacks.rows i.pools.workers a.runs.found refl k.tallied.marked) k.tallied;
       listed = listed_same (i.made + 1) r c refl refl tied k.sound.numbers a.runs.found k.listed;
+      operating = operating_same (i.made + 1) r c refl refl (ap is_operating runs) (running_apart c.status on.ran) k.sound.numbers a.runs.found k.operating;
       timed = k.timed;
       kernels = k.kernels;
       slotted = slots_replaced r k.slotted;
@@ -508,7 +518,7 @@ cancelled_by i l c callbacks queues outstanding barriers is k found pends rows_n
     let home : c.pool.0 < length i.pools.pools = find_all (λ (x : CallbackRow). x.pool.0 < length i.pools.pools) (has_number c.number) c i.callbacks.rows k.sound.callback_pools found_here in
     let still : is_running c.status ≡ false = pending_not_running c.status pends in
     let marks : AreMarked (replaced r i.callbacks.rows) i.pools.workers = marked_replaced r c i.callbacks.rows i.pools.workers found_here refl k.tallied.marked in
-    let apart : AreApart c.number i.pools.workers = pending_apart c i.callbacks.rows 1 i.pools.workers found_here pends k.sound.workers in
+    let apart : AreApart c.number i.pools.workers = still_apart c i.callbacks.rows 1 i.pools.workers found_here still k.sound.workers in
     let v : World = with_callback (shown i).world r in
     let b = became_by (record i { callbacks = callbacks; queues = queues; outstanding = outstanding; barriers = barriers }) v (sound_cancelled (i.made + 1) (shown i).world c found_here pends k.sound)
     (with_parts i v i.pools i.pools callbacks (record i.callbacks { rows = others }) queues (with_queue i.queues c.pool.0 (without_number c.number (queue_of i.queues c.pool.0)))
@@ -523,6 +533,7 @@ cancelled_by i l c callbacks queues outstanding barriers is k found pends rows_n
           (tallied_lives (replaced r i.callbacks.rows) i.pools.workers (subst (λ cs. AreMarked cs i.pools.workers) removed (marked_others c.number i.callbacks.rows i.pools.workers apart k.tallied.marked))
           (tallied_still (i.made + 1) r c i.callbacks.rows i.pools.workers (λ p. ap (λ b. b && (c.pool.0 == p)) (sym still)) (λ p. ap (λ b. (b && (c.pool.0 == p)) && c.long) (sym still)) k.sound.numbers found_here marks k.tallied));
       listed = subst (λ cs. AreListed i.limits is_tied cs (unlisted i.outstanding c.number)) (sym removed) (listed_lives over_untied (listed_less r refl k.listed));
+      operating = subst (λ cs. AreOperating i.limits cs i.started i.operations) (sym removed) (operating_lives (operating_same (i.made + 1) r c refl refl refl (pending_apart c.status pends) k.sound.numbers found_here k.operating));
       timed = k.timed;
       kernels = k.kernels;
       slotted = slots_fewer (λ (x : CallbackRow). not (x.number == c.number)) k.slotted;

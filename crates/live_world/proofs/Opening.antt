@@ -11,6 +11,7 @@ use Rattle.std.specs.Option.{option_map_or}
 use Rattle.prio_queue.specs.Pending.{Pending, Entry}
 use Rattle.pool_rows.specs.Pools.{Pools, made_pool}
 use Rattle.pool_rows.specs.Workers.{runs_in, runs_long_in, unattached as unattached_row}
+use Rattle.tp_model.specs.Counts.{is_expected, is_operating}
 use Rattle.tp_model.specs.World.{World, BegunWait, opening, unattached, unfinished}
 use Rattle.tp_model.specs.Support.Sound.{IsSound}
 use Rattle.tp_model.specs.Support.Remembered.{forget}
@@ -68,6 +69,8 @@ pub record IsOpened (i : Inside) : Type 0 where
   pub callbacks : i.callbacks ≡ opened_callbacks i.limits
   pub queues : i.queues ≡ opened_queues i.limits
   pub outstanding : i.outstanding ≡ opened_lists i.limits
+  pub started : i.started ≡ opened_lists i.limits
+  pub operations : i.operations ≡ opened_lists i.limits
   pub barriers : i.barriers ≡ opened_barriers i.limits
   pub timers : i.timers ≡ opened_timers i.limits
   pub clock : i.clock ≡ 0
@@ -159,6 +162,10 @@ opened i o =
         queued = both (λ cs q. AreQueued limits cs q) rows o.queues (queued_opened limits);
         tallied = both (λ cs ws. AreTallied cs ws) rows (ap (λ (p : Pools). p.workers) o.pools) (tallied_opened limits);
         listed = both (λ cs k. AreListed limits is_tied cs k) rows o.outstanding (listed_opened limits is_tied);
+        operating = record {
+          expected = both (λ cs k. AreListed limits (λ (c : CallbackRow). is_expected c.status) cs k) rows o.started (listed_opened limits (λ (c : CallbackRow). is_expected c.status));
+          operating = both (λ cs k. AreListed limits (λ (c : CallbackRow). is_operating c.status) cs k) rows o.operations (listed_opened limits (λ (c : CallbackRow). is_operating c.status));
+        };
         timed = subst (λ n. AreTimed limits i.objects n) (sym o.timers) (subst (λ t. AreTimed limits t (opened_timers limits)) (sym o.objects) (timed_opened limits));
         covered = both (λ cs b. AreCovered limits cs i.waits.waits b) rows o.barriers (subst (λ bs. AreCovered limits [] bs (opened_barriers limits)) (sym o.waits) (covered_opened limits));
         kernels = subst (λ (t : Kernels). AreKernels limits t) (sym o.kernels) (record { kernel_limit = refl; kernels_within = omega arith; armed_limit = refl; once = tt });

@@ -227,6 +227,16 @@ queued_same {limits} {cs} {queues} fresh r c before after rising found k =
       held_all = k.held_all ∙ ap length (sym (filter_replaced_none waits r cs after (found_all (λ x. waits x ≡ false) r.number c 1 fresh cs rising found before)));
     }
 
+-- a callback is made that doesn't wait
+pub queued_beside : {limits : Limits} {cs : List CallbackRow} {queues : Pending} (c : CallbackRow) → is_pending c.status ≡ false → AreQueued limits cs queues → AreQueued limits (cs ++ c ∷ []) queues
+queued_beside {limits} {cs} {queues} c still k =
+    record {
+      queue_slots = k.queue_slots;
+      queue_count = k.queue_count;
+      queued = λ p. k.queued p ∙ ap (map entry_of) (sym (same_parts (cs ++ c ∷ []) cs p (λ test. waiting_more cs c p test false (ap (λ a. (a && (c.pool.0 == p)) && test c.priority) still) ∙ append-nil (waiting_among cs p test))));
+      held_all = k.held_all ∙ ap length (sym (filter-append waits cs (c ∷ []) ∙ ap (λ b. filter waits cs ++ cond b (c ∷ []) []) still ∙ append-nil (filter waits cs)));
+    }
+
 -- what is over never waits
 pub queued_lives : {limits : Limits} {cs : List CallbackRow} {queues : Pending} → AreQueued limits cs queues → AreQueued limits (filter lives cs) queues
 queued_lives {limits} {cs} {queues} k =

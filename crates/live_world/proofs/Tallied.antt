@@ -126,16 +126,16 @@ another_runs c runner associated slots cs at w found runs apart s busy same = in
         let status : Running at h.associated h.slots ≡ Running runner associated slots = sym h.runs ∙ ap (λ (x : CallbackRow). x.status) is ∙ runs in
         apart (same_worker at runner h.associated associated h.slots slots status)
 
--- no worker runs a callback that waits
-pub pending_apart : (c : CallbackRow) (cs : List CallbackRow) (at : ℕ) (ws : List kept.WorkerRow) → find (has_number c.number) cs ≡ Some c → is_pending c.status ≡ true → AreWorkersSound cs at (map shown_worker ws) → AreApart c.number ws
-pending_apart c cs at [] found pends s = tt
-pending_apart c cs at (w ∷ ws) found pends s = ((λ busy same. in_pool w.pool same (subst (λ b. IsWorkerSound cs at w.pool (cond b None (Some w.callback))) (ne_eqb w.callback 0 busy) s.0)), pending_apart c cs (at + 1) ws found pends s.1)
+-- no worker runs a callback that doesn't run
+pub still_apart : (c : CallbackRow) (cs : List CallbackRow) (at : ℕ) (ws : List kept.WorkerRow) → find (has_number c.number) cs ≡ Some c → is_running c.status ≡ false → AreWorkersSound cs at (map shown_worker ws) → AreApart c.number ws
+still_apart c cs at [] found still s = tt
+still_apart c cs at (w ∷ ws) found still s = ((λ busy same. in_pool w.pool same (subst (λ b. IsWorkerSound cs at w.pool (cond b None (Some w.callback))) (ne_eqb w.callback 0 busy) s.0)), still_apart c cs (at + 1) ws found still s.1)
   where
     in_pool : (pool : Option PoolId) → w.callback ≡ c.number → IsWorkerSound cs at pool (Some w.callback) → ⊥
     in_pool None same h = h
     in_pool (Some p) same h =
         let is : h.callback ≡ c = same_found w.callback c.number h.callback c cs (sym same) h.found found in
-        false_true (sym (ap is_pending h.runs) ∙ ap (λ (x : CallbackRow). is_pending x.status) is ∙ pends)
+        false_true (sym still ∙ sym (ap (λ (x : CallbackRow). is_running x.status) is) ∙ ap is_running h.runs)
 
 -- only one worker runs a callback, so once it runs nothing no worker does
 pub others_apart : (c : CallbackRow) (runner : ℕ) (associated : Bool) (slots : Slots) (cs : List CallbackRow) (first place : ℕ) (ws : List kept.WorkerRow) (new : kept.WorkerRow)

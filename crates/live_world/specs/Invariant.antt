@@ -21,7 +21,7 @@ use Rattle.pool_rows.specs.Workers.{runs_in, runs_long_in}
 use Rattle.pool_rows.specs.declared.WorkerRow.{WorkerRow}
 use Rattle.timer_objects.specs.Settings.{Timers, is_there}
 use Rattle.kernel_events.specs.Kernels.{Kernels}
-use Rattle.tp_model.specs.Counts.{has_number, is_pending, is_running, is_running_in, is_running_long_in}
+use Rattle.tp_model.specs.Counts.{has_number, is_expected, is_operating, is_pending, is_running, is_running_in, is_running_long_in}
 use Rattle.tp_model.specs.World.{BegunWait}
 use Rattle.tp_model.specs.Support.Allowed.{IsTarget}
 use Rattle.tp_model.specs.Support.Remembered.{lives}
@@ -85,6 +85,11 @@ pub record AreListed (limits : Limits) (test : CallbackRow → Bool) (callbacks 
 pub record IsWaitKept (limits : Limits) (b : BegunWait) : Type 0 where
   pub actor : is_some (place_of limits b.actor) ≡ true
   pub target : IsTarget b.target
+
+-- what expects its operation is listed, and what expects it or has it under way
+pub record AreOperating (limits : Limits) (callbacks : List CallbackRow) (started operations : Keyed) : Type 0 where
+  pub expected : AreListed limits (λ c. is_expected c.status) callbacks started
+  pub operating : AreListed limits (λ c. is_operating c.status) callbacks operations
 
 -- the barriers hold of each begun wait exactly what it still holds
 pub record AreCovered (limits : Limits) (callbacks : List CallbackRow) (waits : List BegunWait) (barriers : Covers) : Type 0 where

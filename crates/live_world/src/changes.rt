@@ -37,7 +37,7 @@ pub(crate) const NO_ACTIONS: Slots = Slots {
 };
 
 // The priority as the queues know it.
-fn priority_byte(priority: Priority) -> u8
+pub(crate) fn priority_byte(priority: Priority) -> u8
     ensures { result ≡ priority_byte_of priority }
 {
     match priority {
@@ -130,6 +130,8 @@ impl LiveWorld {
             Change::CreateObject(row) => self.create_object(row),
             Change::ReleaseObject { object } => self.release_object(object),
             Change::QueueCallback(callback) => self.queue_callback(callback),
+            Change::ExpectCallback(callback) => self.expect_callback(callback),
+            Change::Operate { callback, how } => self.operate(callback, how),
             Change::Fire { trigger, .. } => self.fire(trigger),
             Change::CreateKernel(state) => self.create_kernel(state),
             Change::ChangeKernel { kernel, how } => self.change_kernel(kernel, how),

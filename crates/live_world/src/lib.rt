@@ -39,6 +39,7 @@ mod begun;
 pub mod callbacks;
 mod changes;
 mod firing;
+mod io;
 mod kernels;
 mod objects;
 pub mod outstanding;
@@ -57,6 +58,10 @@ pub struct LiveWorld {
     queues: Queues,
     // What is outstanding for each object.
     outstanding: KeyedLists,
+    // What of that expects its operation.
+    started: KeyedLists,
+    // And what expects its operation or has it under way.
+    operations: KeyedLists,
     // What each begun wait still holds.
     barriers: Barriers,
     waits: BegunWaits,
@@ -99,6 +104,8 @@ impl LiveWorld {
         let callbacks = CallbackRows::open(alloc, limits.slots)?;
         let queues = Queues::open(alloc, limits.pools, limits.slots)?;
         let outstanding = KeyedLists::open(alloc, limits.objects + 1, limits.slots)?;
+        let started = KeyedLists::open(alloc, limits.objects + 1, limits.slots)?;
+        let operations = KeyedLists::open(alloc, limits.objects + 1, limits.slots)?;
         let barriers = Barriers::open(alloc, limits.clients + limits.workers, limits.slots)?;
         let wanted = waits::open_wanted(alloc, limits.clients + limits.workers)?;
         let clients = actors::open_clients(alloc, limits.clients)?;
@@ -111,6 +118,8 @@ impl LiveWorld {
             callbacks,
             queues,
             outstanding,
+            started,
+            operations,
             barriers,
             waits: BegunWaits::none(),
             wanted,

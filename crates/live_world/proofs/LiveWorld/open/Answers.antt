@@ -14,6 +14,8 @@ parts c = record {
   callbacks = c.in_ok-callbacks.callbacks;
   queues = c.in_ok-queues.queues;
   outstanding = c.in_ok-outstanding.outstanding;
+  started = c.in_ok-started.started;
+  operations = c.in_ok-operations.operations;
   barriers = c.in_ok-barriers.barriers;
   waits = c.none.result;
   wanted = c.in_ok-wanted.wanted;
@@ -35,6 +37,8 @@ opened_here c =
       callbacks = c.in_ok-callbacks.ensures;
       queues = ap₂ (λ n qs. record { slots = n; queues = qs }) c.in_ok-queues.ensures.slots c.in_ok-queues.ensures.empty;
       outstanding = c.in_ok-outstanding.ensures;
+      started = c.in_ok-started.ensures;
+      operations = c.in_ok-operations.ensures;
       barriers = ap₂ (λ n ws. record { slots = n; waits = ws }) c.in_ok-barriers.ensures.slots c.in_ok-barriers.ensures.waits;
       clients = c.in_ok-clients.ensures;
       timers = c.in_ok-timers.ensures;

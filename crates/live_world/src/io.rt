@@ -1,0 +1,121 @@
+//! Operations of I/O objects: a callback expects one, it is issued or given up, and it completes.
+
+ghost use Rattle.std.specs.Prelude.{◌≡◌, ◌+◌, ◌^◌, ◌<◌};
+ghost use Rattle.tp_model.specs.Calls.Io.{first_expected, issued_of};
+ghost use Rattle.tp_model.specs.Calls.Objects.{has_operations};
+ghost use Rattle.tp_model.specs.Support.Allowed.{IsAllowed};
+ghost use Rattle.live_world.specs.Live.{moved};
+
+use crate::LiveWorld;
+use crate::changes::priority_byte;
+use tp_base::answers::TakeResult;
+use tp_base::ids::ObjectId;
+use tp_base::plans::{Change, IoStep};
+use tp_base::rows::{CallbackRow, Status};
+
+impl LiveWorld {
+    /// The callback of an object that has expected its operation longest, if one expects it.
+    pub fn first_expected(&self, object: ObjectId) -> Option<CallbackRow>
+        ensures { result ≡ first_expected self.now.world object.0 }
+    {
+        if object.0 > self.limits.objects {
+            return None;
+        }
+        match self.started.first(object.0) {
+            Some(number) => self.callbacks.find(number),
+            None => None,
+        }
+    }
+
+    /// Whether a callback of the object expects an operation or has it under way.
+    pub fn has_operations(&self, object: ObjectId) -> bool
+        ensures { result ≡ has_operations self.now.world object.0 }
+    {
+        if object.0 > self.limits.objects {
+            return false;
+        }
+        self.operations.first(object.0).is_some()
+    }
+
+    /// The callback of a number, if its operation is under way.
+    pub fn issued(&self, callback: u64) -> Option<CallbackRow>
+        ensures { result ≡ issued_of self.now.world callback }
+    {
+        match self.callbacks.find(callback) {
+            Some(row) => match row.status {
+                Status::Issued => Some(row),
+                _ => None,
+            },
+            None => None,
+        }
+    }
+
+    // Makes a callback that expects an operation.
+    pub(crate) fn expect_callback(&mut self, callback: CallbackRow)
+        requires allowed { IsAllowed (self.old.made + 1) self.old.world (Change.ExpectCallback callback) }
+        requires young { self.old.made < 2 ^ 63 }
+        ensures { self.new ≡ moved self.old (Change.ExpectCallback callback) }
+    {
+        self.callbacks.push(callback);
+        self.outstanding.add(callback.object.0, callback.number);
+        self.started.add(callback.object.0, callback.number);
+        self.operations.add(callback.object.0, callback.number);
+        self.made += 1;
+    }
+
+    // What becomes of the operation of a callback.
+    pub(crate) fn operate(&mut self, callback: CallbackRow, how: IoStep)
+        requires { IsAllowed (self.old.made + 1) self.old.world (Change.Operate callback how) }
+        ensures { self.new ≡ moved self.old (Change.Operate callback how) }
+    {
+        match how {
+            IoStep::Issue => self.issue(callback),
+            IoStep::GiveUp => self.give_up(callback),
+            IoStep::Complete { error, bytes } => self.complete(callback, error, bytes),
+        }
+    }
+
+    // The operation is issued.
+    fn issue(&mut self, callback: CallbackRow)
+        requires { IsAllowed (self.old.made + 1) self.old.world (Change.Operate callback IoStep.Issue) }
+        ensures { self.new ≡ moved self.old (Change.Operate callback IoStep.Issue) }
+    {
+        let issued = CallbackRow {
+            status: Status::Issued,
+            ..callback
+        };
+        let _was_there = self.callbacks.replace(issued);
+        let _was_started = self.started.remove(callback.number);
+    }
+
+    // The operation isn't issued, and the callback never runs.
+    fn give_up(&mut self, callback: CallbackRow)
+        requires { IsAllowed (self.old.made + 1) self.old.world (Change.Operate callback IoStep.GiveUp) }
+        ensures { self.new ≡ moved self.old (Change.Operate callback IoStep.GiveUp) }
+    {
+        let _was_there = self.callbacks.remove(callback.number);
+        let _was_outstanding = self.outstanding.remove(callback.number);
+        let _was_started = self.started.remove(callback.number);
+        let _was_operating = self.operations.remove(callback.number);
+        self.barriers.left(callback.number);
+    }
+
+    // The operation completes, and the callback waits for a worker, in its place by its number.
+    fn complete(&mut self, callback: CallbackRow, error: u32, bytes: u64)
+        requires { IsAllowed (self.old.made + 1) self.old.world (Change.Operate callback (IoStep.Complete error bytes)) }
+        ensures { self.new ≡ moved self.old (Change.Operate callback (IoStep.Complete error bytes)) }
+    {
+        let completed = CallbackRow {
+            status: Status::Pending,
+            result: TakeResult::Io { error, bytes },
+            ..callback
+        };
+        let _was_there = self.callbacks.replace(completed);
+        let _was_operating = self.operations.remove(callback.number);
+        self.queues.push(
+            callback.pool.0,
+            priority_byte(callback.priority),
+            callback.number,
+        );
+    }
+}
