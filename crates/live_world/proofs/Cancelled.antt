@@ -1,11 +1,11 @@
 -- Callbacks of an object that are cancelled one after another.
-use Rattle.std.proofs.Common.{◌≡◌, ℕ, ◌<◌, Bool, true, false, cond, not, ◌&&◌, ◌==◌, List, [], ◌∷◌, length, map, nat_lt, slice_get, Option, Some, None, refl, sym, ap, ap₂, ◌∙◌, subst, arith, filter, find, eq-eqb, ne_eqb}
+use Rattle.std.proofs.Common.{◌≡◌, ℕ, ◌<◌, Bool, true, false, cond, not, ◌&&◌, ◌==◌, List, [], ◌∷◌, nat_lt, slice_get, Option, Some, None, refl, sym, ap, ap₂, ◌∙◌, subst, arith, filter, find, eq-eqb, ne_eqb}
 use Rattle.std.specs.List.{AllByRecursion}
 use Rattle.std.proofs.lemmas.Bool.{ltb-true}
 use Rattle.tp_base.specs.declared.ids.ObjectId.{ObjectId}
 use Rattle.tp_base.specs.declared.rows.CallbackRow.{CallbackRow}
 use Rattle.tp_base.specs.declared.rows.WaitTarget.TheVariants.{Object}
-use Rattle.tp_model.specs.Counts.{has_number, is_pending}
+use Rattle.tp_model.specs.Counts.{has_number}
 use Rattle.tp_model.specs.Changes.{replaced, with_callback}
 use Rattle.tp_model.specs.Support.Sound.{IsRising}
 use Rattle.tp_model.specs.Support.Remembered.{lives, forget}

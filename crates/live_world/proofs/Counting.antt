@@ -1,28 +1,25 @@
 -- What is counted of a pool is what the world counts.
-use Rattle.std.proofs.Common.{◌≡◌, ℕ, suc, zero, ◌+◌, ◌-◌, ◌<◌, ◌≤◌, Bool, true, false, cond, ◌&&◌, ◌||◌, ◌==◌, List, [], ◌∷◌, length, nat_lt, slice_get, Option, Some, None, refl, sym, ap, ap₂, ◌∙◌, subst, arith, filter, option_map, is_none, IfSome, ne_eqb, lt-ltb}
-use Rattle.std.specs.List.{AllByRecursion, list_any}
+use Rattle.std.proofs.Common.{◌≡◌, ℕ, suc, zero, ◌+◌, ◌-◌, ◌<◌, ◌≤◌, Bool, true, false, cond, ◌&&◌, ◌==◌, List, [], ◌∷◌, length, nat_lt, slice_get, Option, Some, None, refl, sym, ap, ap₂, ◌∙◌, subst, arith, filter, option_map, is_none, IfSome, ne_eqb, lt-ltb}
+use Rattle.std.specs.List.{AllByRecursion}
 use Rattle.std.specs.Option.{option_map_or}
 use Rattle.std.proofs.lemmas.List.{length-map}
 use Rattle.tp_base.specs.declared.ids.PoolId.{PoolId}
 use Rattle.tp_base.specs.declared.rows.PoolRow.{PoolRow}
-use Rattle.tp_base.specs.declared.rows.Status.{Status}
-use Rattle.tp_base.specs.declared.rows.Status.TheVariants.{Expected, Issued, Pending, Running, Returned, Cancelled}
-use Rattle.tp_base.specs.declared.rows.CallbackRow.{CallbackRow}
 use Rattle.prio_queue.specs.Pending.{queue_of}
 use Rattle.pool_rows.specs.Pools.{counts_of}
 use Rattle.pool_rows.specs.Workers.{is_attached_to as is_attached_kept, runs_in, runs_long_in}
 use Rattle.pool_rows.specs.declared.Counts.{Counts}
 use Rattle.pool_rows.specs.declared.WorkerRow as kept
 use Rattle.tp_model.specs.World.{World}
-use Rattle.tp_model.specs.Counts.{is_pending, is_running, is_live, is_pending_in, is_running_in, is_attached_to, is_idle_in, running, running_long, attached, idle}
+use Rattle.tp_model.specs.Counts.{is_attached_to, is_idle_in, running, running_long, attached, idle}
 use Rattle.tp_model.proofs.Lists.{all_along}
 use Rattle.live_world.specs.declared.LiveWorld.TheInside.{Inside}
 use Rattle.live_world.specs.declared.pools.Tally.{Tally}
 use Rattle.live_world.specs.Tally.{tally_of, tally_shown}
 use Rattle.live_world.specs.Parts.{shown_worker}
 use Rattle.live_world.specs.View.{shown, IsLiveWorld}
-use Rattle.live_world.specs.Invariant.{IsHome, waits_or_runs}
-use Rattle.live_world.proofs.Lists.{filter_map, filter_none, past_end, some_pass}
+use Rattle.live_world.specs.Invariant.{IsHome}
+use Rattle.live_world.proofs.Lists.{filter_map, filter_none, past_end}
 use Rattle.live_world.proofs.Queued.{queue_shown, queue_nowhere}
 
 -- ---- workers
@@ -121,35 +118,3 @@ is_no_tally i pool k is = known (slice_get i.pools.pools pool) refl is
         (sym none_joined)
         (omega (arith, idle_shown i pool, attached_shown i pool, none_joined))
         (omega (arith, none_joined))
-
--- ---- what is outstanding
-
-shuffled : (a b c d : Bool) → ((a || b) || (c || d)) ≡ ((a || c) || (b || d))
-shuffled true b c d = refl
-shuffled false true true d = refl
-shuffled false true false d = refl
-shuffled false false c d = refl
-
-any_or : {X : Type 0} (p q r : X → Bool) (xs : List X) → AllByRecursion (λ x. r x ≡ (p x || q x)) xs → (list_any p xs || list_any q xs) ≡ list_any r xs
-any_or p q r [] all = refl
-any_or p q r (x ∷ xs) all = shuffled (p x) (list_any p xs) (q x) (list_any q xs) ∙ ap₂ (λ a b. a || b) (sym all.0) (any_or p q r xs all.1)
-
-lives_so : (s : Status) (b : Bool) → (is_pending s || is_running s) ≡ true → (is_live s && b) ≡ ((is_pending s && b) || (is_running s && b))
-lives_so Expected b e = absurd cc
-lives_so Issued b e = absurd cc
-lives_so Pending b e = sym (or_false b)
-  where
-    or_false : (x : Bool) → (x || false) ≡ x
-    or_false true = refl
-    or_false false = refl
-lives_so (Running worker associated slots) b e = refl
-lives_so Returned b e = absurd cc
-lives_so Cancelled b e = absurd cc
-
--- a callback of the pool is under way where one waits or runs
-pub outstanding : (pool : ℕ) (cs : List CallbackRow) → AllByRecursion (λ c. waits_or_runs c ≡ true) cs
-    → (nat_lt 0 (length (filter (is_pending_in pool) cs)) || nat_lt 0 (length (filter (is_running_in pool) cs))) ≡ list_any (λ (c : CallbackRow). is_live c.status && (c.pool.0 == pool)) cs
-outstanding pool cs all =
-    ap₂ (λ a b. a || b) (some_pass (is_pending_in pool) cs) (some_pass (is_running_in pool) cs)
-    ∙ any_or (is_pending_in pool) (is_running_in pool) (λ (c : CallbackRow). is_live c.status && (c.pool.0 == pool)) cs
-    (all_along (λ c. waits_or_runs c ≡ true) (λ (c : CallbackRow). (is_live c.status && (c.pool.0 == pool)) ≡ (is_pending_in pool c || is_running_in pool c)) (λ c h. lives_so c.status (c.pool.0 == pool) h) cs all)

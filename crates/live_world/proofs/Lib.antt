@@ -15,6 +15,7 @@ pub mod Ending
 pub mod Walks
 pub mod Numbers
 pub mod Along
+pub mod Looking
 pub mod Cancelled
 pub mod Beginnings
 pub mod ObjectsMade

@@ -1,5 +1,5 @@
 -- What the parts show after each change, and that they keep their invariant.
-use Rattle.std.proofs.Common.{◌≡◌, ◌≢◌, ℕ, ◌+◌, ◌-◌, ◌<◌, ◌≤◌, Bool, true, false, cond, not, ◌&&◌, ◌||◌, ◌==◌, List, [], ◌∷◌, ◌++◌, length, map, slice_get, slice_set, Option, Some, None, is_some, IsSomeAnd, refl, sym, ap, ap₂, ◌∙◌, subst, arith, filter, find, option_map, ne_eqb, length-set, length-append, ltb-false}
+use Rattle.std.proofs.Common.{◌≡◌, ◌≢◌, ℕ, ◌+◌, ◌-◌, ◌<◌, ◌≤◌, Bool, true, false, cond, not, ◌&&◌, ◌==◌, List, [], ◌∷◌, ◌++◌, length, map, slice_get, slice_set, Option, Some, None, is_some, IsSomeAnd, refl, sym, ap, ap₂, ◌∙◌, subst, arith, filter, find, option_map, ne_eqb, length-set, length-append, ltb-false}
 use Rattle.std.proofs.lemmas.List.{length-map, map-set}
 use Rattle.std.proofs.lemmas.List.Sums.{length-filter, count_by-le-length}
 use Rattle.std.proofs.lemmas.Option.{slice_get-map}
@@ -16,7 +16,6 @@ use Rattle.tp_base.specs.declared.plans.Change.{Change}
 use Rattle.tp_base.specs.declared.plans.Change.TheVariants as change
 use Rattle.tp_base.specs.declared.rows.CallbackRow.{CallbackRow}
 use Rattle.tp_base.specs.declared.rows.TimerSetting.{TimerSetting}
-use Rattle.tp_base.specs.declared.rows.KernelRow.{KernelRow}
 use Rattle.tp_base.specs.declared.rows.WorkerRow.{WorkerRow}
 use Rattle.tp_base.specs.declared.rows.ClientRow.{ClientRow}
 use Rattle.callback_rows.specs.LiveCallbacks.{LiveCallbacks}
@@ -41,11 +40,11 @@ use Rattle.tp_model.specs.Support.Remembered.{lives, forget}
 use Rattle.tp_model.proofs.Lists.{all_set, all_get, find_all}
 use Rattle.tp_model.proofs.Callbacks.{found_bounds, find_replaced as find_here, pending_lives, pending_not_running, rising_replaced}
 use Rattle.tp_model.proofs.Refusals.{numbered_at}
-use Rattle.tp_model.proofs.Preserving.{changed_sound, sound_cancelled, sound_returned, sound_kernels}
+use Rattle.tp_model.proofs.Preserving.{changed_sound, sound_cancelled, sound_returned}
 use Rattle.tp_model.proofs.Forgetting.{forget_sound}
 use Rattle.live_world.specs.declared.objects.Object.{Object}
 use Rattle.live_world.specs.declared.LiveWorld.TheInside.{Inside}
-use Rattle.live_world.specs.Live.{Live, moved, became, with_kernels}
+use Rattle.live_world.specs.Live.{Live, moved, became}
 use Rattle.live_world.specs.Parts.{world_of, shown_worker, is_tied, tied_entry}
 use Rattle.live_world.specs.View.{shown, IsLiveWorld}
 use Rattle.live_world.specs.Invariant.{AreSized, AreLive, AreQueued, AreTallied, AreListed, AreOperating, AreCovered, AreTimed, AreKernels, AreSlotted, AreWanted, IsHome, IsMarked, AreMarked}

@@ -1,5 +1,5 @@
 -- Whether a wait holds a callback that is starved, from the first pending callback of its object.
-use Rattle.std.proofs.Common.{◌≡◌, ◌≢◌, ℕ, ◌+◌, ◌≤◌, Bool, true, false, cond, ◌&&◌, ◌||◌, ◌==◌, List, [], ◌∷◌, nat_lt, slice_get, Option, Some, None, refl, sym, ap, ap₂, ◌∙◌, subst, arith, ⊎_elim, filter, find, eqb-true, eq-eqb}
+use Rattle.std.proofs.Common.{◌≡◌, ◌≢◌, ℕ, ◌+◌, ◌≤◌, Bool, true, false, cond, ◌&&◌, ◌||◌, ◌==◌, List, [], ◌∷◌, nat_lt, slice_get, Option, Some, None, refl, sym, ap, ap₂, ◌∙◌, subst, arith, ⊎_elim, filter, find, eqb-true, eq-eqb, le-ltb}
 use Rattle.std.specs.List.{list_any}
 use Rattle.std.specs.Option.{option_map_or}
 use Rattle.std.proofs.lemmas.Bool.{cases_eq}
@@ -24,7 +24,7 @@ use Rattle.tp_model.specs.Support.Allowed.{IsTarget}
 use Rattle.tp_model.specs.Support.Sound.{IsSound, IsRising, IsNamed, IsCallbackSound, IsWaitSound, is_left_of, is_left_among}
 use Rattle.tp_model.proofs.Lists.{find_all, find_kept}
 use Rattle.tp_model.proofs.Callbacks.{found_bounds, rising_filter}
-use Rattle.tp_model.proofs.Refusals.{both, false_true}
+use Rattle.tp_model.proofs.Refusals.{both, and_false, false_true}
 use Rattle.live_world.specs.declared.LiveWorld.TheInside.{Inside}
 use Rattle.live_world.specs.Live.{Live}
 use Rattle.live_world.specs.View.{shown, IsLiveWorld}
@@ -60,6 +60,17 @@ same_truth : (a b : Bool) → (a ≡ true → b ≡ true) → (b ≡ true → a 
 same_truth true b there back = sym (there refl)
 same_truth false true there back = back refl
 same_truth false false there back = refl
+
+-- where there is room none is starved
+pub not_starved : (w : World) (room : ℕ) (ns : List ℕ) → 4 ≤ room → holds_starved w room ns ≡ false
+not_starved w room [] many = refl
+not_starved w room (n ∷ ns) many = ap₂ (λ a b. a || b) (of_row (callback_of w n)) (not_starved w room ns many)
+  where
+    of_row : (o : Option CallbackRow) → option_map_or (is_starved w room) o false ≡ false
+    of_row None = refl
+    of_row (Some c) =
+        ap₂ (λ a b. is_pending c.status && (a || (b && (attached w c.pool.0 == 0)))) (le-ltb room 2 (omega (arith, many))) (le-ltb room 4 many)
+        ∙ and_false (is_pending c.status)
 
 -- the first row of rising numbers has the least
 first_least : (low fresh n : ℕ) (d : CallbackRow) (cs : List CallbackRow) → IsRising low fresh cs → find (has_number n) cs ≡ Some d → (p : CallbackRow) × (slice_get cs 0 ≡ Some p) × (p.number ≤ n)

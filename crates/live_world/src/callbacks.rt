@@ -1,6 +1,6 @@
 //! Callbacks: a new one, and those that wait for a worker.
 
-ghost use Rattle.std.specs.Prelude.{◌≡◌, ◌+◌, ◌^◌, ◌<◌};
+ghost use Rattle.std.specs.Prelude.{◌≡◌, ◌+◌, ◌^◌, ◌<◌, find, nat_lt};
 ghost use Rattle.tp_model.specs.Counts.{next};
 ghost use Rattle.tp_model.specs.Conditions.{lacks_slots_for};
 ghost use Rattle.tp_model.specs.Sources.{new_callback as new_callback_of};
@@ -41,6 +41,13 @@ impl LiveWorld {
             Some(number) => self.callbacks.find(number),
             None => None,
         }
+    }
+
+    // The callback of least number above this one, if one is kept.
+    pub(crate) fn callback_after(&self, number: u64) -> Option<CallbackRow>
+        ensures { result ≡ find (λ c. nat_lt number c.number) self.now.world.callbacks }
+    {
+        self.callbacks.after(number)
     }
 
     /// The number that the next callback gets.

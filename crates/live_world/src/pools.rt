@@ -209,12 +209,13 @@ impl LiveWorld {
     fn has_callback(&self, pool: PoolId) -> bool
         ensures { result ≡ list_any (λ c. is_live c.status && (c.pool.0 == pool.0)) self.now.world.callbacks }
     {
-        let mut next = self.callbacks.after(0);
+        self.is_reachable();
+        let mut next = self.callback_after(0);
         while let Some(callback) = next {
             if callback.pool.0 == pool.0 {
                 return true;
             }
-            next = self.callbacks.after(callback.number);
+            next = self.callback_after(callback.number);
         }
         false
     }

@@ -1,4 +1,4 @@
-use Rattle.std.proofs.Common.{◌+◌, length, ap, ◌∙◌, cond, filter, arith}
+use Rattle.std.proofs.Common.{◌+◌, length, ap, filter, arith}
 use Rattle.std.proofs.lemmas.List.Sums.{length-filter, count_by-le-length}
 use Rattle.tp_base.specs.declared.rows.WaitTarget.TheVariants.{Object}
 use Rattle.tp_model.specs.Waits.{is_outstanding_for}

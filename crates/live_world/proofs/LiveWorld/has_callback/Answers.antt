@@ -1,16 +1,30 @@
-use Rattle.std.proofs.Common.{◌&&◌, ◌||◌, ◌==◌, nat_lt, sym, ap, ◌∙◌}
+use Rattle.std.proofs.Common.{◌+◌, ◌==◌, sym, ap, ◌∙◌, eq-eqb, ne_eqb}
 use Rattle.std.specs.List.{list_any}
 use Rattle.tp_base.specs.declared.rows.CallbackRow.{CallbackRow}
-use Rattle.tp_model.specs.Counts.{is_live, pending, running}
-use Rattle.live_world.specs.declared.pools.Tally.{Tally}
-use Rattle.live_world.specs.Live.{Live}
-use Rattle.live_world.proofs.Counting.{outstanding}
+use Rattle.tp_model.specs.World.{World}
+use Rattle.live_world.proofs.Walks.{rest}
+use Rattle.live_world.proofs.Along.{number_of}
+use Rattle.live_world.proofs.Looking.{Looks, all_live, looking_first, looks}
 use Rattle.live_world.proofs.LiveWorld.has_callback.Goals as goal
+use Rattle.live_world.proofs.LiveWorld.has_callback.Goals.{In-Some}
+
+one : (c : In-Some) → Looks (λ x. x.pool.0 == c.args.pool.0) c.args.self.now.world.callbacks c.in-Some.callback c.loop-next.next
+one c = looks (λ x. x.pool.0 == c.args.pool.0) (c.args.self.now.made + 1) c.args.self.now.world.callbacks c.in-Some.callback c.loop-next.next c.is_reachable.ensures.sound.numbers c.in-Some.is c.loop-next.invariant
+
+pub loop-next-init : goal.loop-next-init
+loop-next-init c = looking_first (λ x. x.pool.0 == c.args.pool.0) (c.args.self.now.made + 1) c.args.self.now.world.callbacks c.callback_after-next.result c.is_reachable.ensures.sound.numbers c.callback_after-next.ensures
+
+pub returns-then-callback-pool : goal.returns-then-callback-pool
+returns-then-callback-pool c = sym ((one (goal.at.returns-then-callback-pool c).In-Some).passes (eq-eqb c.in-Some.callback.pool.0 c.args.pool.0 c.if-callback-pool.true)) ∙ all_live (λ x. x.pool.0 == c.args.pool.0) c.args.self.now.world.callbacks (ap (λ (w : World). w.callbacks) c.is_reachable.ensures.living)
+
+pub loop-next-smaller : goal.loop-next-smaller
+loop-next-smaller c = (one (goal.at.loop-next-smaller c).In-Some).later c.callback_after-next-in-Some.result c.callback_after-next-in-Some.ensures
+
+pub loop-next-preserved : goal.loop-next-preserved
+loop-next-preserved c = (one (goal.at.loop-next-preserved c).In-Some).others (ne_eqb c.in-Some.callback.pool.0 c.args.pool.0 c.if-callback-pool.false) c.callback_after-next-in-Some.result c.callback_after-next-in-Some.ensures
 
 pub returns : goal.returns
 returns c =
-    c.is_at_work.ensures
-    ∙ ap (λ (t : Tally). nat_lt 0 t.pending || nat_lt 0 t.running) c.tally.ensures
-    ∙ ap (λ (l : Live). nat_lt 0 (pending l.world c.args.pool.0) || nat_lt 0 (running l.world c.args.pool.0)) (sym c.self.view_is)
-    ∙ outstanding c.args.pool.0 c.self.inside.callbacks.rows c.self.invariant.alive.at_work
-    ∙ ap (λ (l : Live). list_any (λ (x : CallbackRow). is_live x.status && (x.pool.0 == c.args.pool.0)) l.world.callbacks) c.self.view_is
+    ap (λ o. list_any (λ (x : CallbackRow). x.pool.0 == c.args.pool.0) (rest number_of c.args.self.now.world.callbacks o)) (sym c.in_default.is)
+    ∙ c.loop-next.invariant.left
+    ∙ all_live (λ x. x.pool.0 == c.args.pool.0) c.args.self.now.world.callbacks (ap (λ (w : World). w.callbacks) c.is_reachable.ensures.living)
