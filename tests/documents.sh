@@ -111,7 +111,7 @@ tables_are() {
     diff <(tables_of "$here/$page" '| Call | Prints |' | sed -n '/^--$/d;s/\t.*//p') <(cd "$here/examples" && cat "$@")
 }
 try 'the tables of the README are its examples' 0 '' '' tables_are README.md shutdown.trace pools.trace
-try 'the tables of docs/MACHINE.md are its examples' 0 '' '' tables_are docs/MACHINE.md timer-shutdown.trace handover.trace on-return.trace event-timeout.trace
+try 'the tables of docs/MACHINE.md are its examples' 0 '' '' tables_are docs/MACHINE.md timer-shutdown.trace handover.trace on-return.trace event-timeout.trace io-shutdown.trace
 
 names_kit() { awk -v kit="$(sed -n "s/^kit='\(.*\)'/\1/p" "$tpool")" 'index($0, kit) { found = 1 } END { exit !found }' "$here/README.md"; }
 try 'the README names the kit of the script' 0 '' '' names_kit
