@@ -1,6 +1,7 @@
 pub mod Listed
 pub mod Lists
 pub mod Entries
+pub mod Completed
 pub mod Queued
 pub mod Tallied
 pub mod Alive

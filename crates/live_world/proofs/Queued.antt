@@ -8,7 +8,9 @@ use Rattle.tp_base.specs.declared.calls.Priority.{Priority}
 use Rattle.tp_base.specs.declared.calls.Priority.TheVariants.{High, Normal, Low}
 use Rattle.tp_base.specs.declared.limits.Limits.{Limits}
 use Rattle.tp_base.specs.declared.rows.CallbackRow.{CallbackRow}
-use Rattle.prio_queue.specs.Pending.{Pending, Entry, queue_of, with_queue, held, with_entry, without_number, has_number as entries_have, first_number}
+use Rattle.prio_queue.specs.Pending.{Pending, Entry, entry, queue_of, with_queue, held, with_entry, without_number, has_number as entries_have, first_number}
+use Rattle.prio_queue.specs.Line.{entries_of}
+use Rattle.prio_queue.proofs.Entries.{with_high, with_normal, with_low}
 use Rattle.tp_model.specs.Counts.{has_number, is_pending, is_pending_in, is_high, is_normal, is_low}
 use Rattle.tp_model.specs.Changes.{replaced}
 use Rattle.tp_model.specs.Support.Sound.{IsRising}
@@ -20,6 +22,7 @@ use Rattle.live_world.specs.Parts.{entry_of, priority_byte, waiting_among, queue
 use Rattle.live_world.specs.Invariant.{AreQueued, waits}
 use Rattle.live_world.proofs.Lists.{filter_map, filter_none, both_parts, one_more, one_if}
 use Rattle.live_world.proofs.Entries.{AreBelow, AreOf, below_fresh, entries, new_entry, three}
+use Rattle.live_world.proofs.Completed.{numbers, with_number, entries_numbered, filter_replaced_in, kept_without, no_entry}
 
 -- ---- the parts of a queue, one for each priority
 
@@ -138,12 +141,61 @@ filter_replaced_none p r (c ∷ cs) out all =
       | false ↦ λ e. ap (λ t. cond (p c) (c ∷ t) t) (filter_replaced_none p r cs out all.1)
     ] refl
 
--- the row before waits in another pool or doesn't wait, and the row after doesn't
-queue_apart : (cs : List CallbackRow) (r c : CallbackRow) (fresh pool : ℕ) → IsRising 1 fresh cs → find (has_number r.number) cs ≡ Some c → is_pending_in pool c ≡ false → is_pending r.status ≡ false → queue_among (replaced r cs) pool ≡ queue_among cs pool
+-- neither the row before nor the row after waits in this pool
+queue_apart : (cs : List CallbackRow) (r c : CallbackRow) (fresh pool : ℕ) → IsRising 1 fresh cs → find (has_number r.number) cs ≡ Some c → is_pending_in pool c ≡ false → is_pending_in pool r ≡ false → queue_among (replaced r cs) pool ≡ queue_among cs pool
 queue_apart cs r c fresh pool rising found before after =
     same_parts (replaced r cs) cs pool
-    (λ test. filter_replaced_none (λ x. is_pending_in pool x && test x.priority) r cs (ap (λ a. (a && (r.pool.0 == pool)) && test r.priority) after)
+    (λ test. filter_replaced_none (λ x. is_pending_in pool x && test x.priority) r cs (ap (λ a. a && test r.priority) after)
     (found_all (λ x. (is_pending_in pool x && test x.priority) ≡ false) r.number c 1 fresh cs rising found (ap (λ a. a && test c.priority) before)))
+
+-- the entries of a queue by the numbers of each priority
+queue_numbers : (cs : List CallbackRow) (pool : ℕ) → map entry_of (queue_among cs pool) ≡ entries_of (numbers (waiting_among cs pool is_high)) (numbers (waiting_among cs pool is_normal)) (numbers (waiting_among cs pool is_low))
+queue_numbers cs pool =
+    queue_entries cs pool
+    ∙ three _ _ _ _ _ _
+    (entries_numbered 0 (waiting_among cs pool is_high) (priority_of is_high 0 high_is cs pool))
+    (entries_numbered 1 (waiting_among cs pool is_normal) (priority_of is_normal 1 normal_is cs pool))
+    (entries_numbered 2 (waiting_among cs pool is_low) (priority_of is_low 2 low_is cs pool))
+
+-- a callback that stands there and comes to wait has its place in the queue
+queue_put : (cs : List CallbackRow) (r c : CallbackRow) (fresh : ℕ) → is_pending c.status ≡ false → is_pending r.status ≡ true → IsRising 1 fresh cs → find (has_number r.number) cs ≡ Some c
+    → with_entry (entry_of r) (map entry_of (queue_among cs r.pool.0)) ≡ map entry_of (queue_among (replaced r cs) r.pool.0)
+queue_put cs r c fresh before pends rising found =
+    ap (with_entry (entry_of r)) (queue_numbers cs pool) ∙ of_priority r.priority refl ∙ sym (queue_numbers (replaced r cs) pool)
+  where
+    pool : ℕ
+    pool = r.pool.0
+
+    now : (Priority → Bool) → List ℕ
+    now test = numbers (waiting_among cs pool test)
+
+    then : (Priority → Bool) → List ℕ
+    then test = numbers (waiting_among (replaced r cs) pool test)
+
+    fails : (test : Priority → Bool) → (is_pending_in pool c && test c.priority) ≡ false
+    fails test = ap (λ a. (a && (c.pool.0 == pool)) && test c.priority) before
+
+    is_test : (test : Priority → Bool) (b : Bool) → test r.priority ≡ b → (is_pending_in pool r && test r.priority) ≡ b
+    is_test test b is = ap₂ (λ a t. (a && t) && test r.priority) pends (eq-eqb pool pool refl) ∙ is
+
+    here : (test : Priority → Bool) → test r.priority ≡ true → with_number r.number (now test) ≡ then test
+    here test is = filter_replaced_in (λ x. is_pending_in pool x && test x.priority) r c 1 fresh cs (fails test) (is_test test true is) rising found
+
+    kept : (test : Priority → Bool) → test r.priority ≡ false → now test ≡ then test
+    kept test is =
+        let none = found_all (λ x. (is_pending_in pool x && test x.priority) ≡ false) r.number c 1 fresh cs rising found (fails test) in
+        sym (ap numbers (filter_replaced_none (λ x. is_pending_in pool x && test x.priority) r cs (is_test test false is) none))
+
+    of_priority : (p : Priority) → r.priority ≡ p → with_entry (entry (priority_byte p) r.number) (entries_of (now is_high) (now is_normal) (now is_low)) ≡ entries_of (then is_high) (then is_normal) (then is_low)
+    of_priority High is =
+        with_high r.number (now is_high) (now is_normal) (now is_low)
+        ∙ three _ _ _ _ _ _ (ap (map (entry 0)) (here is_high (ap is_high is))) (ap (map (entry 1)) (kept is_normal (ap is_normal is))) (ap (map (entry 2)) (kept is_low (ap is_low is)))
+    of_priority Normal is =
+        with_normal r.number (now is_high) (now is_normal) (now is_low)
+        ∙ three _ _ _ _ _ _ (ap (map (entry 0)) (kept is_high (ap is_high is))) (ap (map (entry 1)) (here is_normal (ap is_normal is))) (ap (map (entry 2)) (kept is_low (ap is_low is)))
+    of_priority Low is =
+        with_low r.number (now is_high) (now is_normal) (now is_low)
+        ∙ three _ _ _ _ _ _ (ap (map (entry 0)) (kept is_high (ap is_high is))) (ap (map (entry 1)) (kept is_normal (ap is_normal is))) (ap (map (entry 2)) (here is_low (ap is_low is)))
 
 -- ---- the queues of all pools
 
@@ -189,6 +241,33 @@ queued_more {limits} {cs} {queues} c home pends rising k =
       held_all = omega (arith, held_set queues pool entries_now within, longer, queue_shown pool k, k.held_all, one_more waits cs c pends);
     }
 
+-- a callback that stands there comes to wait
+pub queued_put : {limits : Limits} {cs : List CallbackRow} {queues : Pending} (fresh : ℕ) (r c : CallbackRow) → r.pool.0 < limits.pools → is_pending c.status ≡ false → is_pending r.status ≡ true → r.number ≡ c.number
+    → IsRising 1 fresh cs → find (has_number r.number) cs ≡ Some c → AreQueued limits cs queues → AreQueued limits (replaced r cs) (queued_entry queues r)
+queued_put {limits} {cs} {queues} fresh r c home before pends same_number rising found k =
+    let pool : ℕ = r.pool.0 in
+    let entries_now : List Entry = with_entry (entry_of r) (queue_of queues pool) in
+    let within : pool < length queues.queues = omega (arith, home, k.queue_count) in
+    let placed : entries_now ≡ map entry_of (queue_among (replaced r cs) pool) = ap (with_entry (entry_of r)) (k.queued pool) ∙ queue_put cs r c fresh before pends rising found in
+    let here : is_pending_in pool r ≡ true = ap₂ (λ a b. a && b) pends (eq-eqb pool pool refl) in
+    let none : (p : ℕ) → is_pending_in p c ≡ false = λ p. ap (λ b. b && (c.pool.0 == p)) before in
+    let longer : length entries_now ≡ length (filter (is_pending_in pool) (replaced r cs))
+    = ap length placed ∙ length-map (queue_among (replaced r cs) pool) entry_of ∙ length_queue (replaced r cs) pool in
+    let more_here : length (filter (is_pending_in pool) (replaced r cs)) + one_if (is_pending_in pool c) ≡ length (filter (is_pending_in pool) cs) + one_if (is_pending_in pool r)
+    = length_filter_replaced (is_pending_in pool) r c 1 fresh cs rising found in
+    let more : length (filter waits (replaced r cs)) + one_if (waits c) ≡ length (filter waits cs) + one_if (waits r) = length_filter_replaced waits r c 1 fresh cs rising found in
+    record {
+      queue_slots = k.queue_slots;
+      queue_count = length-set queues.queues pool entries_now ∙ k.queue_count;
+      queued = each_pool queues pool entries_now (λ p. map entry_of (queue_among (replaced r cs) p)) (λ p. map entry_of (queue_among cs p)) within placed
+          (λ p apart. ap (map entry_of) (sym (queue_apart cs r c fresh p rising found (none p) (ap (λ b. is_pending r.status && b) (ne_eqb r.pool.0 p apart) ∙ no_and (is_pending r.status))))) k.queued;
+      held_all = omega (arith, held_set queues pool entries_now within, longer, more_here, more, queue_shown pool k, k.held_all, ap one_if (none pool), ap one_if here, ap one_if before, ap one_if pends);
+    }
+  where
+    no_and : (b : Bool) → (b && false) ≡ false
+    no_and true = refl
+    no_and false = refl
+
 -- a pending callback ceases to wait
 pub queued_less : {limits : Limits} {cs : List CallbackRow} {queues : Pending} (fresh : ℕ) (r c : CallbackRow) → c.pool.0 < limits.pools → is_pending c.status ≡ true → is_pending r.status ≡ false → r.number ≡ c.number
     → IsRising 1 fresh cs → find (has_number r.number) cs ≡ Some c → AreQueued limits cs queues → AreQueued limits (replaced r cs) (with_queue queues c.pool.0 (without_number r.number (queue_of queues c.pool.0)))
@@ -208,7 +287,7 @@ queued_less {limits} {cs} {queues} fresh r c home pends over same_number rising 
       queue_slots = k.queue_slots;
       queue_count = length-set queues.queues pool entries_now ∙ k.queue_count;
       queued = each_pool queues pool entries_now (λ p. map entry_of (queue_among (replaced r cs) p)) (λ p. map entry_of (queue_among cs p)) within placed
-          (λ p apart. ap (map entry_of) (sym (queue_apart cs r c fresh p rising found (ap (λ b. is_pending c.status && b) (ne_eqb c.pool.0 p apart) ∙ no_and (is_pending c.status)) over))) k.queued;
+          (λ p apart. ap (map entry_of) (sym (queue_apart cs r c fresh p rising found (ap (λ b. is_pending c.status && b) (ne_eqb c.pool.0 p apart) ∙ no_and (is_pending c.status)) (ap (λ a. a && (r.pool.0 == p)) over)))) k.queued;
       held_all = omega (arith, held_set queues pool entries_now within, shorter, fewer_here, fewer, queue_shown pool k, k.held_all, ap one_if here, ap one_if gone, ap one_if pends, ap one_if over);
     }
   where
@@ -223,7 +302,7 @@ queued_same {limits} {cs} {queues} fresh r c before after rising found k =
     record {
       queue_slots = k.queue_slots;
       queue_count = k.queue_count;
-      queued = λ p. k.queued p ∙ ap (map entry_of) (sym (queue_apart cs r c fresh p rising found (ap (λ a. a && (c.pool.0 == p)) before) after));
+      queued = λ p. k.queued p ∙ ap (map entry_of) (sym (queue_apart cs r c fresh p rising found (ap (λ a. a && (c.pool.0 == p)) before) (ap (λ a. a && (r.pool.0 == p)) after)));
       held_all = k.held_all ∙ ap length (sym (filter_replaced_none waits r cs after (found_all (λ x. waits x ≡ false) r.number c 1 fresh cs rising found before)));
     }
 
@@ -256,6 +335,19 @@ number_free {cs = cs} number pool below k = ap (entries_have number) (k.queued p
     none : (xs : List CallbackRow) → AreBelow number xs → entries_have number (map entry_of xs) ≡ false
     none [] h = refl
     none (x ∷ xs) h = ap₂ (λ a b. a || b) (ne_eqb x.number number (λ e. omega (arith, e, h.0))) (none xs h.1)
+
+-- no entry has the number of a callback that doesn't wait
+pub number_unqueued : {limits : Limits} {cs : List CallbackRow} {queues : Pending} (fresh : ℕ) (c : CallbackRow) (pool : ℕ) → is_pending c.status ≡ false → IsRising 1 fresh cs → find (has_number c.number) cs ≡ Some c
+    → AreQueued limits cs queues → entries_have c.number (queue_of queues pool) ≡ false
+number_unqueued {cs = cs} fresh c pool idle rising found k =
+    ap (entries_have c.number) (k.queued pool)
+    ∙ no_entry c.number (queue_among cs pool) (both_parts _ (waiting_among cs pool is_high ++ waiting_among cs pool is_normal) (waiting_among cs pool is_low)
+    (both_parts _ (waiting_among cs pool is_high) (waiting_among cs pool is_normal) (without is_high) (without is_normal)) (without is_low))
+  where
+    without : (test : Priority → Bool) → AllByRecursion (λ x. has_number c.number x ≡ false) (waiting_among cs pool test)
+    without test =
+        let none = found_all (λ x. (is_pending_in pool x && test x.priority) ≡ false) c.number c 1 fresh cs rising found (ap (λ a. (a && (c.pool.0 == pool)) && test c.priority) idle) in
+        kept_without (λ x. is_pending_in pool x && test x.priority) c.number cs none
 
 -- the callback at the head of a queue is found by its number
 pub queue_found : (fresh : ℕ) (cs : List CallbackRow) (pool : ℕ) (c : CallbackRow) → IsRising 1 fresh cs → slice_get (queue_among cs pool) 0 ≡ Some c → find (has_number c.number) cs ≡ Some c
