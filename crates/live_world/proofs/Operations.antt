@@ -176,7 +176,7 @@ room_to_wait i l c error bytes is k allowed =
     omega (
       arith,
       more,
-      ap (λ b. cond b 1 0) (ap is_pending a.status),
+      ap {B = ℕ} (λ b. cond b 1 0) (ap is_pending a.status),
       length-filter waits (replaced r i.callbacks.rows),
       count_by-le-length waits (replaced r i.callbacks.rows),
       length-map i.callbacks.rows (λ (x : CallbackRow). cond (has_number r.number x) r x),
