@@ -8,18 +8,29 @@ use tp_base::answers::{ActionKind, Answer, Look, Refusal, SlotWord, TakeResult};
 use tp_base::calls::{Environ, Kind, Lock, Priority};
 use tp_base::ids::{GroupId, KernelId, ObjectId, PoolId, RoutineId};
 
-// Makes a work object of the default pool.
+// An environment of the default pool.
+const PLAIN: Environ = Environ {
+    pool: PoolId(0),
+    group: GroupId(0),
+    cancel: RoutineId(0),
+    priority: Priority::Normal,
+    long: false,
+};
+
+// Makes a work object.
 const CREATE: Call = Call::Create {
     kind: Kind::Work,
     routine: RoutineId(1),
     context: 0,
-    env: Environ {
-        pool: PoolId(0),
-        group: GroupId(0),
-        cancel: RoutineId(0),
-        priority: Priority::Normal,
-        long: false,
-    },
+    env: PLAIN,
+};
+
+// Makes an I/O object.
+const CREATE_IO: Call = Call::Create {
+    kind: Kind::Io,
+    routine: RoutineId(1),
+    context: 0,
+    env: PLAIN,
 };
 
 const SUBMIT: Call = Call::SubmitWork {
@@ -409,6 +420,114 @@ fn actions_are_performed_on_return(rt: HostRuntime) -> Result<(), Fail> {
         assert_eq!(rt; book.step(who, call), outcome);
     }
     Ok(())
+}
+
+/// An operation is issued or given up in the order of its announcement, and completes in any order. Only
+/// then is its callback run, with what it came to; a wait is for it before, and the object stays open.
+#[test]
+fn operations_are_called_back_as_they_complete(rt: HostRuntime) -> Result<(), Fail> {
+    let mut book = book_of(rt.alloc(), 2, 40)?;
+    let (client, waiting, worker) = (Who::Client(1), Who::Client(2), Who::Worker(1));
+    let object = ObjectId(1);
+    let start = Call::StartIo { object };
+    let issue = Call::IssueIo { object };
+    let close = Call::CloseObject {
+        kind: Kind::Io,
+        object,
+    };
+    for (who, call, outcome) in [
+        (client, CREATE_IO, made(1)),
+        (client, issue, refused(Refusal::NotStarted)),
+        (client, start, started(1)),
+        (client, start, started(2)),
+        (client, start, started(3)),
+        (waiting, Call::CancelIo { object }, cancelled(1)),
+        (client, issue, issued(2)),
+        (client, completes(3, 5, 0), refused(Refusal::NoOperation)),
+        (client, issue, issued(3)),
+        (
+            client,
+            Call::CancelIo { object },
+            refused(Refusal::NotStarted),
+        ),
+        (
+            client,
+            close,
+            refused(Refusal::OperationsOutstanding { io: object }),
+        ),
+        (
+            waiting,
+            Call::BeginWait {
+                kind: Kind::Io,
+                object,
+                cancel: false,
+            },
+            Outcome::Done(Answer::Begun {
+                covered: 2,
+                cancelled: 0,
+            }),
+        ),
+        (client, completes(3, 5, 0), queued(3)),
+        (client, completes(3, 5, 0), refused(Refusal::NoOperation)),
+        (
+            worker,
+            Call::Attach,
+            Outcome::Done(Answer::Attached { pool: PoolId(0) }),
+        ),
+        (worker, Call::Take, taken_with(3, 5, 0)),
+        // It says itself that the other operation is over.
+        (worker, completes(2, 0, 512), queued(2)),
+        (client, close, Outcome::Done(Answer::Closed { later: true })),
+        (worker, Call::Return, returned_unasked()),
+        (
+            waiting,
+            Call::End,
+            Outcome::Look(Look::NotYet { callback: 2 }),
+        ),
+        (worker, Call::Take, taken_with(2, 0, 512)),
+        (worker, Call::Return, returned_unasked()),
+        (waiting, Call::End, Outcome::Done(Answer::Ended)),
+        (client, start, refused(Refusal::Released)),
+    ] {
+        assert!(rt; call.in_range());
+        assert_eq!(rt; book.step(who, call), outcome);
+    }
+    Ok(())
+}
+
+fn started(callback: u64) -> Outcome {
+    Outcome::Done(Answer::Started { callback })
+}
+
+fn issued(callback: u64) -> Outcome {
+    Outcome::Done(Answer::Operation { callback })
+}
+
+fn cancelled(callback: u64) -> Outcome {
+    Outcome::Done(Answer::Cancelled { callback })
+}
+
+fn completes(callback: u64, error: u32, bytes: u64) -> Call {
+    Call::CompleteIo {
+        callback,
+        error,
+        bytes,
+    }
+}
+
+fn taken_with(callback: u64, error: u32, bytes: u64) -> Outcome {
+    Outcome::Done(Answer::Taken {
+        callback,
+        object: ObjectId(1),
+        routine: RoutineId(1),
+        context: 0,
+        result: TakeResult::Io { error, bytes },
+    })
+}
+
+fn returned_unasked() -> Outcome {
+    let unasked = SlotWord::Unasked;
+    returned(unasked, unasked, unasked, unasked)
 }
 
 // A callback leaves this to its return, a semaphore to be raised by one.

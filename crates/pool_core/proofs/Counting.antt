@@ -28,6 +28,8 @@ few fresh w (change.ChangePool pool how) most room a = record { made = omega ari
 few fresh w (change.CreateObject row) most room a = record { made = omega arith; cost = omega arith }
 few fresh w (change.ReleaseObject object) most room a = record { made = omega arith; cost = omega arith }
 few fresh w (change.QueueCallback callback) most room a = record { made = omega arith; cost = omega arith }
+few fresh w (change.ExpectCallback callback) most room a = record { made = omega arith; cost = omega arith }
+few fresh w (change.Operate callback how) most room a = record { made = omega arith; cost = omega arith }
 few fresh w (change.CreateKernel state) most room a = record { made = omega arith; cost = omega arith }
 few fresh w (change.ChangeKernel kernel how) most room a = record { made = omega arith; cost = omega arith }
 few fresh w (change.Attach worker pool) most room a = record { made = omega arith; cost = omega arith }

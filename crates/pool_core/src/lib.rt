@@ -14,12 +14,13 @@
 //! |---|---|
 //! | `CreatePool`, `ClosePool` | `CreateThreadpool`, `CloseThreadpool` |
 //! | `SetMaximum`, `SetMinimum` | `SetThreadpoolThreadMaximum`, `SetThreadpoolThreadMinimum` |
-//! | `Create`, `CloseObject` | `CreateThreadpoolWork`, `CloseThreadpoolWork`, and those for timers and waits |
+//! | `Create`, `CloseObject` | `CreateThreadpoolWork`, `CloseThreadpoolWork`, and those for timers, waits and I/O |
 //! | `SubmitWork`, `SubmitSimple` | `SubmitThreadpoolWork`, `TrySubmitThreadpoolCallback` |
 //! | `SetTimer`, `SetTimerEx` | `SetThreadpoolTimer`, `SetThreadpoolTimerEx` |
 //! | `IsTimerSet` | `IsThreadpoolTimerSet` |
 //! | `SetWait` | `SetThreadpoolWait` |
-//! | `BeginWait`, then `End` | `WaitForThreadpoolWorkCallbacks`, and those for timers and waits |
+//! | `StartIo`, `CancelIo` | `StartThreadpoolIo`, `CancelThreadpoolIo` |
+//! | `BeginWait`, then `End` | `WaitForThreadpoolWorkCallbacks`, and those for timers, waits and I/O |
 //! | `CreateEvent`, `SetEvent`, `ResetEvent` | those of these names |
 //! | `CreateSemaphore`, `ReleaseSemaphore` | those of these names |
 //! | `CreateLock`, `ReleaseLock` | `CreateMutex`, `ReleaseMutex`, `InitializeCriticalSection`, `LeaveCriticalSection` |
@@ -27,6 +28,7 @@
 //! | `MayRunLong` | `CallbackMayRunLong` |
 //! | `Disassociate` | `DisassociateCurrentThreadFromCallback` |
 //! | `Attach`, `Detach`, `Take`, `Return` | none: what the threads of a pool do |
+//! | `IssueIo`, `CompleteIo` | none: a read, a write or the like, and the end of it |
 //! | `Advance`, `Finish` | none: time passes, and a client has no more to do |
 //!
 //! `open` takes all memory; `step` makes a call of an actor; `owed` is the number of entries for
@@ -66,6 +68,7 @@ use tp_base::plans::Change;
 mod clients;
 mod decisions;
 mod in_callback;
+mod io;
 mod kernels;
 mod objects;
 mod plans;

@@ -59,7 +59,8 @@ pub(crate) fn create(
     )
 }
 
-/// Releases an object. It is freed once none of its callbacks is outstanding.
+/// Releases an object, unless an operation of it is expected or under way. It is freed once none of
+/// its callbacks is outstanding.
 #[tactic(auto, unfolding(tp_model::specs::Calls::Objects::close_object_plan))]
 pub(crate) fn close_object(
     world: &LiveWorld,
@@ -70,7 +71,16 @@ pub(crate) fn close_object(
 ) -> Decision
     ensures { decided result change.new ≡ close_object_plan world.now.world who kind object }
 {
-    let refusal = object_refusal!(world, who, kind, object, []);
+    let refusal = object_refusal!(
+        world,
+        who,
+        kind,
+        object,
+        [(
+            world.has_operations(object),
+            Refusal::OperationsOutstanding { io: object }
+        )]
+    );
     if let Some(refusal) = refusal {
         return Decision::Refused(refusal);
     }

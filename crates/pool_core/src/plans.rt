@@ -7,7 +7,7 @@ ghost use Rattle.tp_model.specs.Table.{plan_at};
 
 use crate::decisions::Decision;
 use crate::{
-    clients, in_callback, kernels, objects, pools, timers, wait_objects, waits, work, workers,
+    clients, in_callback, io, kernels, objects, pools, timers, wait_objects, waits, work, workers,
 };
 use live_world::LiveWorld;
 use tp_base::calls::Call;
@@ -64,6 +64,14 @@ pub(crate) fn plan(
             kernel,
             timeout,
         } => wait_objects::set_wait(world, who, object, kernel, timeout, change),
+        Call::StartIo { object } => io::start_io(world, who, object, change),
+        Call::IssueIo { object } => io::issue_io(world, who, object, change),
+        Call::CancelIo { object } => io::cancel_io(world, who, object, change),
+        Call::CompleteIo {
+            callback,
+            error,
+            bytes,
+        } => io::complete_io(world, who, callback, error, bytes, change),
         Call::BeginWait {
             kind,
             object,
@@ -117,6 +125,8 @@ pub(crate) fn price(change: &Change) -> u64
         | Change::CreateObject(_)
         | Change::ReleaseObject { .. }
         | Change::QueueCallback(_)
+        | Change::ExpectCallback(_)
+        | Change::Operate { .. }
         | Change::Fire { .. }
         | Change::CreateKernel(_)
         | Change::ChangeKernel { .. }

@@ -1,0 +1,170 @@
+//! Calls on I/O objects: `StartThreadpoolIo` and `CancelThreadpoolIo`; and an operation is issued, and
+//! the system completes it.
+
+ghost use Rattle.pool_core.specs.Decided.{decided};
+ghost use Rattle.std.specs.Prelude.{◌≡◌, ◌+◌, ◌^◌, ◌<◌};
+ghost use Rattle.tp_model.specs.Calls.Io.{expecting as expecting_of, start_io_plan, issue_io_plan, cancel_io_plan, complete_io_plan};
+
+use crate::decisions::{Decision, accept};
+use crate::refusals::{either, first_of, object_refusal};
+use live_world::LiveWorld;
+use live_world::callbacks::new_callback;
+use tp_base::answers::{Answer, Refusal, TakeResult};
+use tp_base::calls::Kind;
+use tp_base::ids::{ObjectId, Who};
+use tp_base::plans::{Change, IoStep};
+use tp_base::rows::{CallbackRow, ObjectRow, Status};
+
+// A callback that expects an operation. It gets its result as that completes.
+fn expecting(number: u64, object: ObjectId, row: &ObjectRow) -> CallbackRow
+    ensures { result ≡ expecting_of number object row.now }
+{
+    CallbackRow {
+        status: Status::Expected,
+        ..new_callback(number, object, row, TakeResult::Plain)
+    }
+}
+
+/// Announces an operation of an I/O object, and makes the callback that expects it.
+#[tactic(auto, unfolding(tp_model::specs::Calls::Io::start_io_plan))]
+pub(crate) fn start_io(
+    world: &LiveWorld,
+    who: Who,
+    object: ObjectId,
+    change: &mut Change,
+) -> Decision
+    requires { world.now.made < 2 ^ 63 }
+    ensures { decided result change.new ≡ start_io_plan world.now.world (world.now.made + 1) who object }
+{
+    let refusal = object_refusal!(
+        world,
+        who,
+        Kind::Io,
+        object,
+        [(world.lacks_slots(1), Refusal::CallbackLimit)]
+    );
+    if let Some(refusal) = refusal {
+        return Decision::Refused(refusal);
+    }
+    let Some(row) = world.object(object) else {
+        return Decision::Refused(Refusal::NoSuch);
+    };
+    let callback = world.next_number();
+    accept(
+        change,
+        Answer::Started { callback },
+        Change::ExpectCallback(expecting(callback, object, &row)),
+    )
+}
+
+/// Issues the operation that the object's first expecting callback expects.
+#[tactic(auto, unfolding(tp_model::specs::Calls::Io::issue_io_plan))]
+pub(crate) fn issue_io(
+    world: &LiveWorld,
+    who: Who,
+    object: ObjectId,
+    change: &mut Change,
+) -> Decision
+    ensures { decided result change.new ≡ issue_io_plan world.now.world who object }
+{
+    let expected = world.first_expected(object);
+    let refusal = object_refusal!(
+        world,
+        who,
+        Kind::Io,
+        object,
+        [(expected.is_none(), Refusal::NotStarted)]
+    );
+    if let Some(refusal) = refusal {
+        return Decision::Refused(refusal);
+    }
+    let Some(callback) = expected else {
+        return Decision::Refused(Refusal::NotStarted);
+    };
+    accept(
+        change,
+        Answer::Operation {
+            callback: callback.number,
+        },
+        Change::Operate {
+            callback,
+            how: IoStep::Issue,
+        },
+    )
+}
+
+/// The object's first expecting callback expects its operation no more, and never runs.
+#[tactic(auto, unfolding(tp_model::specs::Calls::Io::cancel_io_plan))]
+pub(crate) fn cancel_io(
+    world: &LiveWorld,
+    who: Who,
+    object: ObjectId,
+    change: &mut Change,
+) -> Decision
+    ensures { decided result change.new ≡ cancel_io_plan world.now.world who object }
+{
+    let expected = world.first_expected(object);
+    let refusal = object_refusal!(
+        world,
+        who,
+        Kind::Io,
+        object,
+        [(expected.is_none(), Refusal::NotStarted)]
+    );
+    if let Some(refusal) = refusal {
+        return Decision::Refused(refusal);
+    }
+    let Some(callback) = expected else {
+        return Decision::Refused(Refusal::NotStarted);
+    };
+    accept(
+        change,
+        Answer::Cancelled {
+            callback: callback.number,
+        },
+        Change::Operate {
+            callback,
+            how: IoStep::GiveUp,
+        },
+    )
+}
+
+/// Completes an operation that is under way. Its callback is then pending.
+#[tactic(auto, unfolding(tp_model::specs::Calls::Io::complete_io_plan))]
+pub(crate) fn complete_io(
+    world: &LiveWorld,
+    who: Who,
+    callback: u64,
+    error: u32,
+    bytes: u64,
+    change: &mut Change,
+) -> Decision
+    ensures { decided result change.new ≡ complete_io_plan world.now.world who callback error bytes }
+{
+    let issued = world.issued(callback);
+    let actor = world.actor(who);
+    let refusal = first_of!([
+        (!actor.exists, Refusal::NoSuch),
+        (actor.finished, Refusal::Released),
+        (actor.is_idle, Refusal::NotRunning),
+        (actor.in_wait, Refusal::InWait),
+        (issued.is_none(), Refusal::NoOperation),
+    ]);
+    if let Some(refusal) = refusal {
+        return Decision::Refused(refusal);
+    }
+    let Some(callback) = issued else {
+        return Decision::Refused(Refusal::NoOperation);
+    };
+    accept(
+        change,
+        Answer::Queued {
+            first: callback.number,
+            count: 1,
+        },
+        Change::Operate {
+            callback,
+            how: IoStep::Complete { error, bytes },
+        },
+    )
+}
