@@ -1276,10 +1276,7 @@ fn answers_of_operations_there_and_back(rt: HostRuntime) -> Result<(), Fail> {
     let most = 18_446_744_073_709_551_615;
     let object = ObjectId(65_535);
     let cases = [
-        (
-            "w7 return -> started 4",
-            Answer::Started { callback: 4 },
-        ),
+        ("w7 return -> started 4", Answer::Started { callback: 4 }),
         (
             "w7 return -> operation 18446744073709551615",
             Answer::Operation { callback: most },
