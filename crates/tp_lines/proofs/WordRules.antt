@@ -39,17 +39,16 @@ rank field.Refusal = 5
 rank field.State = 6
 rank field.Target = 7
 rank field.Kind = 8
-rank field.Unbuilt = 9
-rank field.Priority = 10
-rank field.Length = 11
-rank field.Flag = 12
-rank field.Slot = 13
-rank field.Action = 14
-rank field.How = 15
-rank field.Reset = 16
-rank field.Signal = 17
-rank field.Lock = 18
-rank field.Owner = 19
+rank field.Priority = 9
+rank field.Length = 10
+rank field.Flag = 11
+rank field.Slot = 12
+rank field.Action = 13
+rank field.How = 14
+rank field.Reset = 15
+rank field.Signal = 16
+rank field.Lock = 17
+rank field.Owner = 18
 rank _ = 0
 
 abbrev pub first_of_two : Bool → Word → Option Word → Option Word

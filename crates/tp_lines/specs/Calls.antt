@@ -3,7 +3,6 @@ use Rattle.std.specs.Prelude.{◌≡◌, ℕ, ◌+◌, ◌≤◌, List, [], ◌�
 use Rattle.tp_base.specs.declared.calls.Call.{Call}
 use Rattle.tp_base.specs.declared.calls.Call.TheVariants as call
 use Rattle.tp_base.specs.declared.calls.Environ.{Environ}
-use Rattle.tp_base.specs.declared.calls.Kind.{Kind}
 use Rattle.tp_base.specs.declared.ids.Who.{Who}
 use Rattle.tp_base.specs.declared.ids.Who.TheVariants.{Client, Worker}
 use Rattle.tp_lines.specs.declared.parts.Part.{Part}
@@ -13,7 +12,6 @@ use Rattle.tp_lines.specs.declared.words.Word.{Word}
 use Rattle.tp_lines.specs.declared.words.Word.TheVariants as word
 use Rattle.tp_lines.specs.Parts.{AreFit, parts_of, row_text}
 use Rattle.tp_lines.specs.Rows.{RowTexts}
-use Rattle.tp_lines.specs.Shapes.{table_of_kind}
 use Rattle.tp_lines.specs.Values.{part_at, small_of, large_of, due_of, named_of, kind_of, priority_of, length_of, how_of, reset_of, signal_of, lock_of, owner_of, action_of}
 use Rattle.tp_lines.specs.Words.{text_of_who}
 
@@ -35,6 +33,10 @@ row_of (call.SetTimerEx object due period window) = (word.SetTimerEx, part.Short
 row_of (call.IsTimerSet object) = (word.IsTimerSet, part.Short object.0 ∷ [])
 row_of (call.Advance ticks) = (word.Advance, part.Time ticks ∷ [])
 row_of (call.SetWait object kernel timeout) = (word.SetWait, part.Short object.0 ∷ part.Named kernel ∷ part.Due timeout ∷ [])
+row_of (call.StartIo object) = (word.StartIo, part.Short object.0 ∷ [])
+row_of (call.IssueIo object) = (word.IssueIo, part.Short object.0 ∷ [])
+row_of (call.CancelIo object) = (word.CancelIo, part.Short object.0 ∷ [])
+row_of (call.CompleteIo callback error bytes) = (word.CompleteIo, part.Large callback ∷ part.Small error ∷ part.Large bytes ∷ [])
 row_of (call.BeginWait kind object cancel) = (word.BeginWait, part.Word (word.Kind kind) ∷ part.Short object.0 ∷ part.Word (word.How cancel) ∷ [])
 row_of (call.BeginAcquire kernel) = (word.BeginAcquire, part.Short kernel.0 ∷ [])
 row_of call.End = (word.End, [])
@@ -65,17 +67,6 @@ IsWhoInRange (Worker number) = (1 ≤ number) × (number ≤ 64)
 -- a line can have the numbers and words of the call
 abbrev pub FitsCall : Call → Type 0
 FitsCall made = AreFit (field.Call ∷ []) (parts_of (row_of made))
-
--- of the kinds of objects those that are built are read
-abbrev pub IsBuilt : Kind → Type 0
-IsBuilt kind = table_of_kind kind ≡ field.Kind
-
--- what besides the ranges of its numbers a call needs so that a line can have it: its kind is built
-abbrev pub IsReadable : Call → Type 0
-IsReadable (call.Create kind routine context env) = IsBuilt kind
-IsReadable (call.CloseObject kind object) = IsBuilt kind
-IsReadable (call.BeginWait kind object cancel) = IsBuilt kind
-IsReadable _ = Unit {0}
 
 -- the text is the line of this call by this actor, and a line can have their numbers
 pub record IsCallLine (who : Who) (made : Call) (text : List ℕ) : Type 0 where
@@ -122,6 +113,10 @@ call_at word.SetTimerEx parts = Some (call.SetTimerEx (record { 0 = small_of (pa
 call_at word.IsTimerSet parts = Some (call.IsTimerSet (record { 0 = small_of (part_at parts 1) }))
 call_at word.Advance parts = Some (call.Advance (large_of (part_at parts 1)))
 call_at word.SetWait parts = Some (call.SetWait (record { 0 = small_of (part_at parts 1) }) (named_of (part_at parts 2)) (due_of (part_at parts 3)))
+call_at word.StartIo parts = Some (call.StartIo (record { 0 = small_of (part_at parts 1) }))
+call_at word.IssueIo parts = Some (call.IssueIo (record { 0 = small_of (part_at parts 1) }))
+call_at word.CancelIo parts = Some (call.CancelIo (record { 0 = small_of (part_at parts 1) }))
+call_at word.CompleteIo parts = Some (call.CompleteIo (large_of (part_at parts 1)) (small_of (part_at parts 2)) (large_of (part_at parts 3)))
 call_at word.BeginWait parts = Some (call.BeginWait (kind_of (part_at parts 1)) (record { 0 = small_of (part_at parts 2) }) (how_of (part_at parts 3)))
 call_at word.BeginAcquire parts = Some (call.BeginAcquire (record { 0 = small_of (part_at parts 1) }))
 call_at word.End parts = Some call.End

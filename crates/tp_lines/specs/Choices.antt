@@ -58,7 +58,6 @@ default_word field.Refusal = word.NoSuch
 default_word field.State = word.Stay
 default_word field.Target = word.Kernel
 default_word field.Kind = word.Kind kind.Work
-default_word field.Unbuilt = word.Kind kind.Io
 default_word field.Priority = word.Priority priority.Normal
 default_word field.Length = word.Length false
 default_word field.How = word.How false

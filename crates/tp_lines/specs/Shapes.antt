@@ -1,7 +1,5 @@
 -- The words of lines: the field in which each stands, its text, and the fields behind it.
 use Rattle.std.specs.Prelude.{ℕ, List, [], ◌∷◌, codes}
-use Rattle.tp_base.specs.declared.calls.Kind.{Kind}
-use Rattle.tp_base.specs.declared.calls.Kind.TheVariants.{Work, Timer, Wait}
 use Rattle.tp_lines.specs.declared.words.Field.{Field}
 use Rattle.tp_lines.specs.declared.words.Field.TheVariants as field
 use Rattle.tp_lines.specs.declared.words.Word.{Word}
@@ -12,13 +10,6 @@ pub record Shape : Type 0 where
   pub table : Field
   pub text : List ℕ
   pub fields : List Field
-
--- of the kinds of objects those that are built are read
-abbrev pub table_of_kind : Kind → Field
-table_of_kind Work = field.Kind
-table_of_kind Timer = field.Kind
-table_of_kind Wait = field.Kind
-table_of_kind _ = field.Unbuilt
 
 abbrev pub shape_of : Word → Shape
 shape_of word.CreatePool = record { table = field.Call; text = codes "create-pool"; fields = [] }
@@ -34,6 +25,10 @@ shape_of word.SetTimerEx = record { table = field.Call; text = codes "set-timer-
 shape_of word.IsTimerSet = record { table = field.Call; text = codes "is-timer-set"; fields = field.Short ∷ [] }
 shape_of word.Advance = record { table = field.Call; text = codes "advance"; fields = field.Time ∷ [] }
 shape_of word.SetWait = record { table = field.Call; text = codes "set-wait"; fields = field.Short ∷ field.Named ∷ field.Due ∷ [] }
+shape_of word.StartIo = record { table = field.Call; text = codes "start-io"; fields = field.Short ∷ [] }
+shape_of word.IssueIo = record { table = field.Call; text = codes "issue-io"; fields = field.Short ∷ [] }
+shape_of word.CancelIo = record { table = field.Call; text = codes "cancel-io"; fields = field.Short ∷ [] }
+shape_of word.CompleteIo = record { table = field.Call; text = codes "complete-io"; fields = field.Large ∷ field.Small ∷ field.Large ∷ [] }
 shape_of word.BeginWait = record { table = field.Call; text = codes "wait"; fields = field.Kind ∷ field.Short ∷ field.How ∷ [] }
 shape_of word.BeginAcquire = record { table = field.Call; text = codes "acquire"; fields = field.Short ∷ [] }
 shape_of word.End = record { table = field.Call; text = codes "end"; fields = [] }
@@ -112,7 +107,7 @@ shape_of word.NoNeed = record { table = field.State; text = codes "no-need"; fie
 shape_of word.Stay = record { table = field.State; text = codes "stay"; fields = [] }
 shape_of word.Callback = record { table = field.Target; text = codes "callback"; fields = field.Large ∷ [] }
 shape_of word.Kernel = record { table = field.Target; text = codes "kernel"; fields = field.Short ∷ [] }
-shape_of (word.Kind kind) = record { table = table_of_kind kind; text = text_of_kind kind; fields = [] }
+shape_of (word.Kind kind) = record { table = field.Kind; text = text_of_kind kind; fields = [] }
 shape_of (word.Priority priority) = record { table = field.Priority; text = text_of_priority priority; fields = [] }
 shape_of (word.Length long) = record { table = field.Length; text = text_of_long long; fields = [] }
 shape_of (word.How cancel) = record { table = field.How; text = text_of_how cancel; fields = [] }

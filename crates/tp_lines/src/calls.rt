@@ -75,6 +75,20 @@ fn call_at(word: Word, parts: &Parts) -> Option<Call>
             kernel: parts.at(2).named(),
             timeout: parts.at(3).due(),
         },
+        Word::StartIo => Call::StartIo {
+            object: ObjectId(parts.at(1).small()),
+        },
+        Word::IssueIo => Call::IssueIo {
+            object: ObjectId(parts.at(1).small()),
+        },
+        Word::CancelIo => Call::CancelIo {
+            object: ObjectId(parts.at(1).small()),
+        },
+        Word::CompleteIo => Call::CompleteIo {
+            callback: parts.at(1).large(),
+            error: parts.at(2).small(),
+            bytes: parts.at(3).large(),
+        },
         Word::BeginWait => Call::BeginWait {
             kind: parts.at(1).kind(),
             object: ObjectId(parts.at(2).small()),
@@ -284,6 +298,22 @@ pub fn put_call(call: &Call, out: &mut [u8], at: usize) -> usize
             timeout,
         } => {
             parts!(out, at; first(Word::SetWait) number(u64::from(object.0)) named(*kernel) due(*timeout))
+        }
+        Call::StartIo { object } => {
+            parts!(out, at; first(Word::StartIo) number(u64::from(object.0)))
+        }
+        Call::IssueIo { object } => {
+            parts!(out, at; first(Word::IssueIo) number(u64::from(object.0)))
+        }
+        Call::CancelIo { object } => {
+            parts!(out, at; first(Word::CancelIo) number(u64::from(object.0)))
+        }
+        Call::CompleteIo {
+            callback,
+            error,
+            bytes,
+        } => {
+            parts!(out, at; first(Word::CompleteIo) number(*callback) number(u64::from(*error)) number(*bytes))
         }
         Call::BeginWait {
             kind,

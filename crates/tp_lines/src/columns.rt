@@ -9,7 +9,7 @@ use std::alloc::{AllocError, Global};
 use std::process::Abort;
 use std::test::Fail;
 
-fn call_patterns() -> [&'static str; 33] {
+fn call_patterns() -> [&'static str; 37] {
     [
         "c&|w~ create-pool",
         "c&|w~ close-pool #",
@@ -26,6 +26,10 @@ fn call_patterns() -> [&'static str; 33] {
         "c&|w~ is-timer-set #",
         "c&|w~ advance ^",
         "c&|w~ set-wait # NAMED DUE",
+        "c&|w~ start-io #",
+        "c&|w~ issue-io #",
+        "c&|w~ cancel-io #",
+        "c&|w~ complete-io @ $ @",
         "c&|w~ wait KIND # HOW",
         "c&|w~ acquire #",
         "c&|w~ end",
@@ -80,7 +84,7 @@ fn answer_patterns() -> [&'static str; 26] {
 
 fn alternatives(field: &str) -> &str {
     match field {
-        "KIND" => "work|timer|wait",
+        "KIND" => "work|timer|wait|io",
         "HOW" => "keep|cancel",
         "PRIORITY" => "high|normal|low",
         "LENGTH" => "short|long",

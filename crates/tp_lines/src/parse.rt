@@ -8,7 +8,7 @@ ghost use Rattle.tp_base.specs.declared.calls.Call.{Call};
 ghost use Rattle.tp_base.specs.declared.ids.Who.{Who};
 ghost use Rattle.tp_base.specs.Ranges.{IsCallInRange};
 ghost use Rattle.tp_lines.specs.Answers.{EntryLines, FitsOutcome, IsEntryLine, text_of_outcome};
-ghost use Rattle.tp_lines.specs.Calls.{CallLines, FitsCall, IsCallLine, IsReadable};
+ghost use Rattle.tp_lines.specs.Calls.{CallLines, FitsCall, IsCallLine};
 ghost use Rattle.tp_lines.specs.Faults.{IsAt, IsEntry, IsLine, IsLineFault};
 
 use crate::calls::read_call_line;
@@ -79,11 +79,11 @@ pub fn lines_hold_no_feed()
     ensures entries { (text : List ℕ) → IsEntry text → IsTrue (lacks 10 text) }
 {}
 
-/// The ranges of the parts of a call are those of the call: a line can have a call that is in range, if its
-/// other numbers have their 32 or 64 bits and its kind is read, and no other.
+/// The ranges of the parts of a call are those of the call: a line can have each call that is in range, and
+/// no other.
 pub fn ranges_agree()
     ensures fits { (call : Call) → FitsCall call → IsCallInRange call }
-    ensures in_range { (call : Call) → IsCallInRange call → IsReadable call → FitsCall call }
+    ensures in_range { (call : Call) → IsCallInRange call → FitsCall call }
 {}
 
 /// A text is the line of at most one call by one actor.

@@ -408,7 +408,6 @@ fn default_word(field: Field) -> Word
         Field::State => Word::Stay,
         Field::Target => Word::Kernel,
         Field::Kind => Word::Kind(Kind::Work),
-        Field::Unbuilt => Word::Kind(Kind::Io),
         Field::Priority => Word::Priority(Priority::Normal),
         Field::Length => Word::Length(false),
         Field::How => Word::How(false),

@@ -45,7 +45,7 @@ fn faults_of_calls(rt: HostRuntime) {
         ("c1 submit -1", 11, LineKind::Unexpected),
         ("c1 submit 05", 12, LineKind::Unexpected),
         ("c1 submit 65536", 15, LineKind::Unexpected),
-        ("c1 create io", 11, LineKind::Unexpected),
+        ("c1 create ios r1", 13, LineKind::Unexpected),
         ("c1 create work r0", 17, LineKind::Unexpected),
         (
             "c1 create work r1 x18446744073709551616",
@@ -279,6 +279,71 @@ fn faults_of_armed_waits(rt: HostRuntime) {
         (
             "c1 set-wait 1 none 9223372036854775808",
             38,
+            LineKind::Unexpected,
+        ),
+    ];
+    for (text, column, kind) in cases {
+        check_call_fault(&rt, text, LineFault { column, kind });
+    }
+}
+
+#[test]
+fn faults_of_operations(rt: HostRuntime) {
+    let cases = [
+        ("c1 create i", 12, LineKind::Unfinished),
+        ("c1 create io", 13, LineKind::Unfinished),
+        ("c1 create in", 12, LineKind::Unexpected),
+        ("c1 close io", 12, LineKind::Unfinished),
+        ("c1 close io 65536", 17, LineKind::Unexpected),
+        ("c1 wait io 3 keeps", 18, LineKind::Unexpected),
+        (
+            "c1 create io r1 x7 p0 normal short g0 q5",
+            40,
+            LineKind::Unexpected,
+        ),
+        ("c1 start", 9, LineKind::Unfinished),
+        ("c1 start-io", 12, LineKind::Unfinished),
+        ("c1 start-ios 1", 12, LineKind::Unexpected),
+        ("c1 start io 1", 9, LineKind::Unexpected),
+        ("c1 start-io o1", 13, LineKind::Unexpected),
+        ("c1 start-io 65536", 17, LineKind::Unexpected),
+        ("c1 start-io 1 2", 14, LineKind::Unexpected),
+        ("c1 is", 6, LineKind::Unfinished),
+        ("c1 issue-io 01", 14, LineKind::Unexpected),
+        ("c1 issue-io 65536", 17, LineKind::Unexpected),
+        ("c1 issue-timer 1", 10, LineKind::Unexpected),
+        ("c1 cancel-io", 13, LineKind::Unfinished),
+        ("c1 cancel-io none", 14, LineKind::Unexpected),
+        ("c1 cancel-io 65536", 18, LineKind::Unexpected),
+    ];
+    for (text, column, kind) in cases {
+        check_call_fault(&rt, text, LineFault { column, kind });
+    }
+}
+
+#[test]
+fn faults_of_completions(rt: HostRuntime) {
+    let cases = [
+        ("c1 complete", 12, LineKind::Unfinished),
+        ("c1 complete-io", 15, LineKind::Unfinished),
+        ("c1 completed-io 1 0 0", 12, LineKind::Unexpected),
+        ("c1 complete-io -1 0 0", 16, LineKind::Unexpected),
+        ("c1 complete-io 1", 17, LineKind::Unfinished),
+        ("c1 complete-io 1 0", 19, LineKind::Unfinished),
+        ("c1 complete-io 1 none 0", 18, LineKind::Unexpected),
+        ("c1 complete-io 1 -1 0", 18, LineKind::Unexpected),
+        ("c1 complete-io 1 00 0", 19, LineKind::Unexpected),
+        ("c1 complete-io 1 4294967296 0", 27, LineKind::Unexpected),
+        ("c1 complete-io 1 0 -1", 20, LineKind::Unexpected),
+        ("c1 complete-io 1 0 0 0", 21, LineKind::Unexpected),
+        (
+            "c1 complete-io 18446744073709551616 0 0",
+            35,
+            LineKind::Unexpected,
+        ),
+        (
+            "c1 complete-io 1 0 18446744073709551616",
+            39,
             LineKind::Unexpected,
         ),
     ];
@@ -650,6 +715,89 @@ fn calls_of_armed_waits_there_and_back(rt: HostRuntime) -> Result<(), Fail> {
         (
             "c1 set-wait 12 345 9223372036854775807",
             set_wait(12, Some(345), Some(9_223_372_036_854_775_807)),
+        ),
+    ];
+    for (text, call) in cases {
+        check_call(&rt, rt.alloc(), text, Who::Client(1), call)?;
+    }
+    Ok(())
+}
+
+fn complete_io(callback: u64, error: u32, bytes: u64) -> Call {
+    Call::CompleteIo {
+        callback,
+        error,
+        bytes,
+    }
+}
+
+#[test]
+fn calls_of_operations_there_and_back(rt: HostRuntime) -> Result<(), Fail> {
+    let most = 18_446_744_073_709_551_615;
+    let first = ObjectId(0);
+    let last = ObjectId(65_535);
+    let cases = [
+        ("c1 start-io 0", Call::StartIo { object: first }),
+        ("c1 start-io 65535", Call::StartIo { object: last }),
+        ("c1 issue-io 0", Call::IssueIo { object: first }),
+        ("c1 issue-io 65535", Call::IssueIo { object: last }),
+        ("c1 cancel-io 0", Call::CancelIo { object: first }),
+        ("c1 cancel-io 65535", Call::CancelIo { object: last }),
+        ("c1 complete-io 0 0 0", complete_io(0, 0, 0)),
+        ("c1 complete-io 4 0 512", complete_io(4, 0, 512)),
+        ("c1 complete-io 4 38 0", complete_io(4, 38, 0)),
+        (
+            "c1 complete-io 18446744073709551615 4294967295 18446744073709551615",
+            complete_io(most, 4_294_967_295, most),
+        ),
+    ];
+    for (text, call) in cases {
+        check_call(&rt, rt.alloc(), text, Who::Client(1), call)?;
+    }
+    Ok(())
+}
+
+#[test]
+fn calls_of_io_objects_there_and_back(rt: HostRuntime) -> Result<(), Fail> {
+    let env = Environ {
+        pool: PoolId(2),
+        group: GroupId(0),
+        cancel: RoutineId(0),
+        priority: Priority::Normal,
+        long: true,
+    };
+    let cases = [
+        (
+            "c1 create io r1 x7 p2 normal long g0 q0",
+            Call::Create {
+                kind: Kind::Io,
+                routine: RoutineId(1),
+                context: 7,
+                env,
+            },
+        ),
+        (
+            "c1 close io 3",
+            Call::CloseObject {
+                kind: Kind::Io,
+                object: ObjectId(3),
+            },
+        ),
+        (
+            "c1 wait io 3 cancel",
+            Call::BeginWait {
+                kind: Kind::Io,
+                object: ObjectId(3),
+                cancel: true,
+            },
+        ),
+        (
+            "c1 wait io 3 keep",
+            Call::BeginWait {
+                kind: Kind::Io,
+                object: ObjectId(3),
+                cancel: false,
+            },
         ),
     ];
     for (text, call) in cases {
@@ -1115,6 +1263,39 @@ fn entries_there_and_back(rt: HostRuntime) -> Result<(), Fail> {
         (
             "w7 return -> refused already-attached",
             Answer::Refused(Refusal::AlreadyAttached),
+        ),
+    ];
+    for (text, answer) in cases {
+        check_entry(&rt, rt.alloc(), text, answer)?;
+    }
+    Ok(())
+}
+
+#[test]
+fn answers_of_operations_there_and_back(rt: HostRuntime) -> Result<(), Fail> {
+    let most = 18_446_744_073_709_551_615;
+    let object = ObjectId(65_535);
+    let cases = [
+        ("w7 return -> started 4", Answer::Started { callback: 4 }),
+        (
+            "w7 return -> operation 18446744073709551615",
+            Answer::Operation { callback: most },
+        ),
+        (
+            "w7 return -> cancelled 0",
+            Answer::Cancelled { callback: 0 },
+        ),
+        (
+            "w7 return -> refused not-started",
+            Answer::Refused(Refusal::NotStarted),
+        ),
+        (
+            "w7 return -> refused no-operation",
+            Answer::Refused(Refusal::NoOperation),
+        ),
+        (
+            "w7 return -> refused operations-outstanding 65535",
+            Answer::Refused(Refusal::OperationsOutstanding { io: object }),
         ),
     ];
     for (text, answer) in cases {

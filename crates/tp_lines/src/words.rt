@@ -55,10 +55,8 @@ pub enum Field {
     State,
     /// What is waited for, and its field.
     Target,
-    /// A kind of objects that is built.
+    /// A kind of objects.
     Kind,
-    /// A kind of objects that isn't built yet. No line has it.
-    Unbuilt,
     Priority,
     /// Whether callbacks may run long.
     Length,
@@ -96,6 +94,10 @@ pub enum Word {
     IsTimerSet,
     Advance,
     SetWait,
+    StartIo,
+    IssueIo,
+    CancelIo,
+    CompleteIo,
     BeginWait,
     BeginAcquire,
     End,
@@ -206,6 +208,10 @@ macro_rules! words {
                 (Word::IsTimerSet) b"is-timer-set" [Short];
                 (Word::Advance) b"advance" [Time];
                 (Word::SetWait) b"set-wait" [Short Named Due];
+                (Word::StartIo) b"start-io" [Short];
+                (Word::IssueIo) b"issue-io" [Short];
+                (Word::CancelIo) b"cancel-io" [Short];
+                (Word::CompleteIo) b"complete-io" [Large Small Large];
                 (Word::BeginWait) b"wait" [Kind Short How];
                 (Word::BeginAcquire) b"acquire" [Short];
                 (Word::End) b"end" [];
@@ -301,8 +307,6 @@ macro_rules! words {
                 (Word::Kind(Kind::Work)) b"work" [];
                 (Word::Kind(Kind::Timer)) b"timer" [];
                 (Word::Kind(Kind::Wait)) b"wait" [];
-            }
-            Unbuilt {
                 (Word::Kind(Kind::Io)) b"io" [];
             }
             Priority {
@@ -411,7 +415,7 @@ macro_rules! all_words {
 /// All words.
 #[derive(Clone, Copy)]
 pub struct WordList {
-    pub words: [Word; 120],
+    pub words: [Word; 124],
 }
 
 pub const WORDS: WordList = WordList {

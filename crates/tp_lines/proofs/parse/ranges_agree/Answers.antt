@@ -5,4 +5,4 @@ pub returns-clause-fits : goal.returns-clause-fits
 returns-clause-fits c = λ made h. fits_range made h
 
 pub returns-clause-in_range : goal.returns-clause-in_range
-returns-clause-in_range c = λ made h k. range_fits made h k
+returns-clause-in_range c = λ made h. range_fits made h
