@@ -8,34 +8,29 @@ use tp_base::answers::{ActionKind, Answer, Look, Refusal, SlotWord, TakeResult};
 use tp_base::calls::{Environ, Kind, Lock, Priority};
 use tp_base::ids::{GroupId, KernelId, ObjectId, PoolId, RoutineId};
 
-// An environment of the default pool.
-const PLAIN: Environ = Environ {
-    pool: PoolId(0),
-    group: GroupId(0),
-    cancel: RoutineId(0),
-    priority: Priority::Normal,
-    long: false,
-};
-
-// Makes a work object.
-const CREATE: Call = Call::Create {
-    kind: Kind::Work,
-    routine: RoutineId(1),
-    context: 0,
-    env: PLAIN,
-};
-
-// Makes an I/O object.
-const CREATE_IO: Call = Call::Create {
-    kind: Kind::Io,
-    routine: RoutineId(1),
-    context: 0,
-    env: PLAIN,
-};
+mod armed_waits;
 
 const SUBMIT: Call = Call::SubmitWork {
     object: ObjectId(1),
 };
+
+// Makes an object of the default pool.
+fn create(kind: Kind) -> Call
+    ensures { IsCallInRange result }
+{
+    Call::Create {
+        kind,
+        routine: RoutineId(1),
+        context: 0,
+        env: Environ {
+            pool: PoolId(0),
+            group: GroupId(0),
+            cancel: RoutineId(0),
+            priority: Priority::Normal,
+            long: false,
+        },
+    }
+}
 
 // A book of so many clients and two workers.
 fn book_of(alloc: Global, clients: u32, capacity: u32) -> Result<Book, AllocError>
@@ -101,37 +96,26 @@ fn room_is_none_where_more_is_owed(rt: HostRuntime) -> Result<(), Fail> {
 #[test]
 fn a_full_history_takes_what_it_is_owed(rt: HostRuntime) -> Result<(), Fail> {
     let mut book = book_of(rt.alloc(), 8, 16)?;
-    let object = ObjectId(1);
     for (who, call, outcome) in [
         (
             Who::Client(8),
-            CREATE,
+            create(Kind::Work),
             Outcome::Done(Answer::Made { number: 1 }),
         ),
-        (Who::Client(8), SUBMIT, queued(1)),
+        (Who::Client(8), SUBMIT, queued(1, 1)),
         (
             Who::Worker(1),
             Call::Attach,
             Outcome::Done(Answer::Attached { pool: PoolId(0) }),
         ),
-        (
-            Who::Worker(1),
-            Call::Take,
-            Outcome::Done(Answer::Taken {
-                callback: 1,
-                object,
-                routine: RoutineId(1),
-                context: 0,
-                result: TakeResult::Plain,
-            }),
-        ),
-        (Who::Client(8), SUBMIT, queued(2)),
+        (Who::Worker(1), Call::Take, taken(1, 1, TakeResult::Plain)),
+        (Who::Client(8), SUBMIT, queued(2, 1)),
         (
             Who::Worker(2),
             Call::Attach,
             Outcome::Full { room: 1, cost: 2 },
         ),
-        (Who::Client(8), SUBMIT, queued(3)),
+        (Who::Client(8), SUBMIT, queued(3, 1)),
         (Who::Client(8), SUBMIT, Outcome::Full { room: 0, cost: 1 }),
         (
             Who::Worker(1),
@@ -172,7 +156,7 @@ fn a_wait_is_over_where_its_callback_has_no_room(rt: HostRuntime) -> Result<(), 
     ] {
         let mut book = book_of(rt.alloc(), 1, capacity)?;
         let client = Who::Client(1);
-        book.step(client, CREATE);
+        book.step(client, create(Kind::Work));
         book.step(client, SUBMIT);
         if attaches {
             book.step(Who::Worker(1), Call::Attach);
@@ -199,7 +183,7 @@ fn a_wait_is_over_only_for_what_it_holds(rt: HostRuntime) -> Result<(), Fail> {
         let mut book = book_of(rt.alloc(), 2, capacity)?;
         let worker = Who::Worker(1);
         for (who, call) in [
-            (Who::Client(1), CREATE),
+            (Who::Client(1), create(Kind::Work)),
             (Who::Client(1), SUBMIT),
             (worker, Call::Attach),
             (worker, Call::Take),
@@ -223,7 +207,6 @@ fn kernel_objects_are_taken_as_a_wait_ends(rt: HostRuntime) -> Result<(), Fail> 
     let (event, semaphore, mutex) = (KernelId(1), KernelId(2), KernelId(3));
     let done = Outcome::Done(Answer::Done);
     let ended = Outcome::Done(Answer::Ended);
-    let signalled = Outcome::Done(Answer::Queued { first: 0, count: 0 });
     let leaves = Call::ReleaseLock {
         lock: Lock::Mutex,
         kernel: mutex,
@@ -260,15 +243,15 @@ fn kernel_objects_are_taken_as_a_wait_ends(rt: HostRuntime) -> Result<(), Fail> 
             Call::SetEvent { kernel: event },
             refused(Refusal::InWait),
         ),
-        (first, Call::SetEvent { kernel: event }, signalled),
+        (first, Call::SetEvent { kernel: event }, queued(0, 0)),
         (second, Call::End, ended),
         // It is reset as it is taken.
         (first, Call::BeginAcquire { kernel: event }, done),
         (first, Call::End, not_yet(event)),
-        (second, Call::SetEvent { kernel: event }, signalled),
+        (second, Call::SetEvent { kernel: event }, queued(0, 0)),
         (second, Call::ResetEvent { kernel: event }, done),
         (first, Call::End, not_yet(event)),
-        (second, Call::SetEvent { kernel: event }, signalled),
+        (second, Call::SetEvent { kernel: event }, queued(0, 0)),
         (first, Call::End, ended),
         (
             second,
@@ -354,9 +337,9 @@ fn actions_are_performed_on_return(rt: HostRuntime) -> Result<(), Fail> {
             },
             made(4),
         ),
-        (client, CREATE, made(1)),
-        (client, SUBMIT, queued(1)),
-        (client, SUBMIT, queued(2)),
+        (client, create(Kind::Work), made(1)),
+        (client, SUBMIT, queued(1, 1)),
+        (client, SUBMIT, queued(2, 1)),
         (
             client,
             asks(ActionKind::Event, event),
@@ -367,7 +350,7 @@ fn actions_are_performed_on_return(rt: HostRuntime) -> Result<(), Fail> {
             Call::Attach,
             Outcome::Done(Answer::Attached { pool: PoolId(0) }),
         ),
-        (worker, Call::Take, taken(1)),
+        (worker, Call::Take, taken(1, 1, TakeResult::Plain)),
         (worker, Call::BeginAcquire { kernel: section }, done),
         (worker, Call::End, ended),
         (worker, asks(ActionKind::Section, section), done),
@@ -403,7 +386,7 @@ fn actions_are_performed_on_return(rt: HostRuntime) -> Result<(), Fail> {
         (client, Call::BeginAcquire { kernel: section }, done),
         (client, Call::End, ended),
         // The semaphore is at its maximum now, and the next callback has asked for nothing else.
-        (worker, Call::Take, taken(2)),
+        (worker, Call::Take, taken(2, 1, TakeResult::Plain)),
         (worker, asks(ActionKind::Semaphore, semaphore), done),
         (
             worker,
@@ -436,7 +419,7 @@ fn operations_are_called_back_as_they_complete(rt: HostRuntime) -> Result<(), Fa
         object,
     };
     for (who, call, outcome) in [
-        (client, CREATE_IO, made(1)),
+        (client, create(Kind::Io), made(1)),
         (client, issue, refused(Refusal::NotStarted)),
         (client, start, started(1)),
         (client, start, started(2)),
@@ -542,13 +525,14 @@ fn asks(kind: ActionKind, kernel: KernelId) -> Call
     }
 }
 
-fn taken(callback: u64) -> Outcome {
+// A callback is taken, and told this.
+fn taken(callback: u64, object: u32, told: TakeResult) -> Outcome {
     Outcome::Done(Answer::Taken {
         callback,
-        object: ObjectId(1),
+        object: ObjectId(object),
         routine: RoutineId(1),
         context: 0,
-        result: TakeResult::Plain,
+        result: told,
     })
 }
 
@@ -573,8 +557,8 @@ fn wait(cancel: bool) -> Call
     }
 }
 
-fn queued(first: u64) -> Outcome {
-    Outcome::Done(Answer::Queued { first, count: 1 })
+fn queued(first: u64, count: u32) -> Outcome {
+    Outcome::Done(Answer::Queued { first, count })
 }
 
 fn made(number: u32) -> Outcome {
