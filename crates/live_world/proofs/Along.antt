@@ -69,10 +69,6 @@ none_up cs t is = known (find t cs) refl is
     known None e h = sym e
     known (Some c) e h = absurd cc
 
--- and so is one that is found among some by its number
-pub found_row : (fresh : ℕ) (cs : List CallbackRow) (p : CallbackRow → Bool) (c : CallbackRow) → IsRising 1 fresh cs → find (has_number c.number) (filter p cs) ≡ Some c → find (has_number c.number) cs ≡ Some c
-found_row fresh cs p c rising found = looked_up fresh cs p (has_number c.number) c.number rising (ap (option_map number_of) found) ∙ found
-
 -- the first of what passes has passed
 pub first_passes : {X : Type 0} (p : X → Bool) (x : X) (xs : List X) → slice_get (filter p xs) 0 ≡ Some x → p x ≡ true
 first_passes p x [] e = absurd cc

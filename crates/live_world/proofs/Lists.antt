@@ -1,5 +1,5 @@
 -- Lists: what passes a test, and what stays so when a row is set.
-use Rattle.std.proofs.Common.{◌≡◌, ℕ, suc, zero, ◌+◌, ◌<◌, ◌≤◌, Bool, true, false, cond, ◌&&◌, ◌||◌, nat_lt, List, [], ◌∷◌, ◌++◌, length, map, slice_get, slice_set, replicate, Some, None, refl, ap, ap₂, ◌∙◌, arith, filter, length-append, lt-ltb}
+use Rattle.std.proofs.Common.{◌≡◌, ℕ, suc, zero, ◌+◌, ◌<◌, ◌≤◌, Bool, true, false, cond, ◌&&◌, ◌||◌, List, [], ◌∷◌, ◌++◌, length, map, slice_get, slice_set, replicate, Some, None, refl, ap, ap₂, ◌∙◌, arith, filter, length-append}
 use Rattle.std.specs.List.{AllByRecursion, list_any}
 use Rattle.std.specs.Option.{option_map_or}
 use Rattle.std.proofs.lemmas.List.Elements.{filter-append}
@@ -52,10 +52,6 @@ none_passes p (x ∷ xs) e =
       | false ↦ λ h. (refl, none_passes p xs h)
     ] e
 
-pub no_first : {X : Type 0} (xs : List X) → None ≡ slice_get xs 0 → xs ≡ []
-no_first [] e = refl
-no_first (x ∷ xs) e = absurd cc
-
 pub one_more : {X : Type 0} (p : X → Bool) (xs : List X) (x : X) → p x ≡ true → length (filter p (xs ++ x ∷ [])) ≡ length (filter p xs) + 1
 one_more p xs x e =
     ap length (filter-append p xs (x ∷ [])) ∙ length-append (filter p xs) (filter p (x ∷ [])) ∙ ap (λ b. length (filter p xs) + length (cond b (x ∷ []) [])) e
@@ -69,14 +65,6 @@ one_if b = cond b 1 0
 
 pub length_same : {X : Type 0} (p : X → Bool) (xs : List X) (i : ℕ) (old new : X) → slice_get xs i ≡ Some old → p old ≡ p new → length (filter p (slice_set xs i new)) ≡ length (filter p xs)
 length_same p xs i old new is same = omega (arith, length_filter_set p xs i old new is, ap (λ b. one_if b) same)
-
-pub some_pass : {X : Type 0} (p : X → Bool) (xs : List X) → nat_lt 0 (length (filter p xs)) ≡ list_any p xs
-some_pass p [] = refl
-some_pass p (x ∷ xs) =
-    elim (p x) as (λ b. nat_lt 0 (length (cond b (x ∷ filter p xs) (filter p xs))) ≡ (b || list_any p xs)) [
-      | true ↦ lt-ltb 0 (suc (length (filter p xs))) (omega arith)
-      | false ↦ some_pass p xs
-    ]
 
 -- ---- all of a list
 
