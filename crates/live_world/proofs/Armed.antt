@@ -1,14 +1,13 @@
 -- Armed waits: each object is armed once, and has one timeout at most.
-use Rattle.std.proofs.Common.{◌≡◌, ℕ, ◌+◌, ◌≤◌, ◌==◌, Bool, true, false, cond, not, ◌||◌, List, [], ◌∷◌, ◌++◌, length, map, Option, Some, None, refl, sym, ap, ap₂, ◌∙◌, subst, arith, filter, eqb-true, eq-eqb}
+use Rattle.std.proofs.Common.{◌≡◌, ℕ, ◌+◌, ◌≤◌, ◌==◌, Bool, true, false, cond, not, ◌||◌, List, [], ◌∷◌, ◌++◌, length, Option, Some, None, refl, sym, ap, ap₂, ◌∙◌, subst, arith, filter, eqb-true, eq-eqb}
 use Rattle.std.specs.Prelude.{ℤ}
-use Rattle.std.specs.List.{AllByRecursion}
 use Rattle.std.proofs.lemmas.List.Folds.{list_any-append}
 use Rattle.tp_base.specs.declared.ids.ObjectId.{ObjectId}
 use Rattle.tp_base.specs.declared.ids.KernelId.{KernelId}
 use Rattle.tp_base.specs.declared.rows.Arming.{Arming}
 use Rattle.tp_base.specs.declared.rows.TimerSetting.{TimerSetting}
 use Rattle.tp_base.specs.Armings.{is_armed, is_arming_of, is_set, without_arming, armed_behind}
-use Rattle.tp_base.specs.Timers.{with_setting, without_setting, set_again, setting_for, set_timer, expires_before, expires_at_once, is_due, next_due}
+use Rattle.tp_base.specs.Timers.{with_setting, without_setting, set_again, setting_for, set_timer, expires_before, is_due, next_due}
 use Rattle.tp_model.specs.Support.Sound.{count_armed, count_set, IsTimedOut}
 use Rattle.tp_model.proofs.Arming.{armed_most, behind_first, count_one, one_if}
 use Rattle.tp_model.proofs.Firing.{all_again, all_set_timer}

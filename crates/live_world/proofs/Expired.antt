@@ -1,9 +1,7 @@
 -- What the parts show after a timer or a timeout expired.
-use Rattle.std.proofs.Common.{◌≡◌, ℕ, ◌+◌, ◌-◌, ◌≤◌, ◌==◌, Bool, true, false, cond, List, [], ◌∷◌, length, map, Option, Some, None, refl, sym, ap, ◌∙◌, subst, arith, filter}
-use Rattle.std.proofs.lemmas.List.{length-map}
+use Rattle.std.proofs.Common.{◌≡◌, ℕ, ◌+◌, ◌-◌, ◌≤◌, Bool, true, false, cond, List, [], ◌∷◌, length, map, Some, None, refl, sym, ap, ◌∙◌, subst, arith}
 use Rattle.tp_base.specs.declared.ids.ObjectId.{ObjectId}
 use Rattle.tp_base.specs.declared.answers.TakeResult.TheVariants.{Plain, WaitTimeout}
-use Rattle.tp_base.specs.declared.rows.Arming.{Arming}
 use Rattle.tp_base.specs.declared.rows.TimerSetting.{TimerSetting}
 use Rattle.tp_base.specs.Armings.{is_armed, without_arming}
 use Rattle.tp_base.specs.Timers.{is_due, set_again, expired, after_expiry}
@@ -15,7 +13,6 @@ use Rattle.tp_model.specs.Support.Sound.{IsMade, IsTimedOut, count_set, may_be_a
 use Rattle.tp_model.specs.Support.Remembered.{forget}
 use Rattle.tp_model.proofs.Arming.{armed_has, armed_most, one_if}
 use Rattle.tp_model.proofs.Firing.{AreOf, armable_wait, of_again}
-use Rattle.tp_model.proofs.Lists.{length_filter_le}
 use Rattle.live_world.specs.declared.LiveWorld.TheInside.{Inside}
 use Rattle.live_world.specs.Live.{Live, Expires, IsOver, with_sources}
 use Rattle.live_world.specs.View.{shown, IsLiveWorld}

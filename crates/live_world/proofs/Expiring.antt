@@ -1,6 +1,6 @@
 -- Time passes: one timer or timeout after another expires.
-use Rattle.std.proofs.Common.{◌≡◌, ℕ, zero, suc, ◌+◌, ◌<◌, ◌≤◌, ◌^◌, ◌==◌, nat_lt, Bool, true, false, cond, not, ◌||◌, List, [], ◌∷◌, ◌++◌, length, map, Option, Some, None, refl, sym, ap, ap₂, ◌∙◌, subst, arith, filter, ltb-false, eq-eqb}
-use Rattle.std.specs.List.{AllByRecursion, list_any}
+use Rattle.std.proofs.Common.{◌≡◌, ℕ, suc, ◌+◌, ◌<◌, ◌≤◌, ◌^◌, ◌==◌, Bool, true, false, cond, not, ◌||◌, List, [], ◌∷◌, length, map, refl, sym, ap, ap₂, ◌∙◌, subst, arith, filter, eq-eqb}
+use Rattle.std.specs.List.{list_any}
 use Rattle.std.proofs.lemmas.Bool.{le-ltb}
 use Rattle.std.proofs.lemmas.List.{length-map}
 use Rattle.tp_base.specs.declared.ids.ObjectId.{ObjectId}
@@ -11,20 +11,19 @@ use Rattle.tp_base.specs.declared.rows.Arming.{Arming}
 use Rattle.tp_base.specs.declared.rows.TimerSetting.{TimerSetting}
 use Rattle.tp_base.specs.Armings.{is_armed, is_set, without_arming, armed_behind}
 use Rattle.tp_base.specs.Ranges.{AreLimitsInRange}
-use Rattle.tp_base.specs.Timers.{is_due, set_again, expired, after_expiry}
+use Rattle.tp_base.specs.Timers.{expired, after_expiry}
 use Rattle.timer_objects.specs.Settings.{told}
-use Rattle.tp_model.specs.World.{World}
 use Rattle.tp_model.specs.Counts.{slots}
 use Rattle.tp_model.specs.Conditions.{lacks_slots_for}
-use Rattle.tp_model.specs.Sources.{Sources, Job, Firing, job, sources_of, expiry_job, firing, count_fired, slots_after}
+use Rattle.tp_model.specs.Sources.{Sources, Job, job, sources_of, expiry_job, firing, slots_after}
 use Rattle.tp_model.specs.Support.Sound.{IsMade, count_set}
 use Rattle.tp_model.specs.Support.Remembered.{lives, forget}
-use Rattle.tp_model.proofs.Arming.{behind_first, count_one, jobs_others, one_if}
+use Rattle.tp_model.proofs.Arming.{behind_first, jobs_others, one_if}
 use Rattle.tp_model.proofs.Forgetting.{live_again}
 use Rattle.live_world.specs.Live.{Live, at_time, fired_to, next_of_object, count_left, expired_all, Expires, IsOver, with_sources}
 use Rattle.live_world.specs.Invariant.{AreOnce}
-use Rattle.live_world.proofs.Armed.{behind_length, behind_none, once_filter, without_length, without_unarmed}
-use Rattle.live_world.proofs.Firings.{behind, fired_over, fired_twice, next_over, one, same_sources, slots_fired, fired_none}
+use Rattle.live_world.proofs.Armed.{behind_length, behind_none, without_length, without_unarmed}
+use Rattle.live_world.proofs.Firings.{behind, fired_twice, next_over, one, same_sources, slots_fired, fired_none}
 
 -- ---- what expires, by what is told of it
 

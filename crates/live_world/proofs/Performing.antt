@@ -1,6 +1,6 @@
 -- The actions of a return, one after another: each may be performed in its turn, and together they come to what the model
 -- says.
-use Rattle.std.proofs.Common.{◌≡◌, ℕ, zero, suc, ◌+◌, ◌-◌, ◌<◌, ◌≤◌, ◌^◌, ◌==◌, Bool, true, false, not, cond, List, [], ◌∷◌, ◌++◌, length, get_or, Option, Some, None, refl, sym, ap, ap₂, ◌∙◌, subst, arith, find}
+use Rattle.std.proofs.Common.{◌≡◌, ℕ, zero, suc, ◌+◌, ◌-◌, ◌≤◌, ◌^◌, Bool, true, false, not, cond, List, [], ◌++◌, length, get_or, Option, Some, None, refl, sym, ap, ◌∙◌, arith, find}
 use Rattle.std.specs.Option.{option_map_or}
 use Rattle.std.proofs.lemmas.Bool.{le-ltb, leb-true}
 use Rattle.std.proofs.lemmas.List.{append-nil}
@@ -26,7 +26,7 @@ use Rattle.tp_model.specs.World.{World}
 use Rattle.tp_model.specs.Counts.{numbered}
 use Rattle.tp_model.specs.Kernels.{is_kernel_that, is_one_that, kernel_changed}
 use Rattle.tp_model.specs.Sources.{Firing, jobless, release_first, release_times, release_to, sources_of, with_state, signal}
-use Rattle.tp_model.specs.Actions.{act, perform, performed, returning, word_of, words_of}
+use Rattle.tp_model.specs.Actions.{act, perform, returning, word_of, words_of}
 use Rattle.tp_model.specs.Support.Remembered.{forget}
 use Rattle.tp_model.proofs.Actions.{may_raise_still}
 use Rattle.tp_model.proofs.Performing.{performed_keeps, returning_within}

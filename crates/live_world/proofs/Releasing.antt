@@ -1,5 +1,5 @@
 -- A kernel object releases the waits that are armed on it, one after another.
-use Rattle.std.proofs.Common.{◌≡◌, ℕ, zero, suc, ◌+◌, ◌-◌, ◌<◌, ◌≤◌, ◌^◌, ◌==◌, Bool, true, false, cond, ◌||◌, List, [], ◌∷◌, length, option_map, Option, Some, None, refl, sym, ap, ap₂, ◌∙◌, subst, arith, filter, find, eq-eqb}
+use Rattle.std.proofs.Common.{◌≡◌, ℕ, zero, suc, ◌+◌, ◌-◌, ◌<◌, ◌≤◌, ◌^◌, ◌==◌, Bool, true, false, cond, ◌||◌, List, [], ◌∷◌, length, option_map, Option, Some, None, refl, sym, ap, ap₂, ◌∙◌, subst, arith, find, eq-eqb}
 use Rattle.std.proofs.lemmas.Bool.{le-ltb}
 use Rattle.tp_base.specs.declared.ids.ObjectId.{ObjectId}
 use Rattle.tp_base.specs.declared.answers.TakeResult.TheVariants.{WaitObject0}
@@ -7,13 +7,12 @@ use Rattle.tp_base.specs.declared.rows.Arming.{Arming}
 use Rattle.tp_base.specs.Armings.{is_armed, is_arming_on, without_arming}
 use Rattle.tp_base.specs.Kernels.{is_signalled, taken}
 use Rattle.tp_base.specs.Timers.{without_setting}
-use Rattle.kernel_events.specs.Kernels.{Kernels, next_released, release_first as release_here, release_to as release_to_here, is_one_that as is_one_here}
+use Rattle.kernel_events.specs.Kernels.{Kernels, next_released, release_first as release_here, release_to as release_to_here}
 use Rattle.timer_objects.specs.Settings.{Timers, is_there}
 use Rattle.tp_model.specs.Counts.{slots}
 use Rattle.tp_model.specs.Kernels.{is_one_that, kernel_changed}
 use Rattle.tp_model.specs.Sources.{Sources, sources_of, disarmed, with_state, release_first, release_to, release_times}
 use Rattle.tp_model.specs.Support.Sound.{may_be_armed}
-use Rattle.tp_model.specs.Support.Remembered.{lives}
 use Rattle.tp_model.proofs.Arming.{one_if}
 use Rattle.tp_model.proofs.Firing.{armable_made}
 use Rattle.tp_model.proofs.Forgetting.{live_again}
@@ -23,7 +22,7 @@ use Rattle.live_world.specs.declared.LiveWorld.TheInside.{Inside}
 use Rattle.live_world.specs.Live.{Live, fired_to, next_of_object, unfired, with_sources, Releases, ReleasesNone}
 use Rattle.live_world.specs.View.{shown, IsLiveWorld}
 use Rattle.live_world.proofs.Armed.{without_length}
-use Rattle.live_world.proofs.Firings.{IsReleasing, behind, fired_none, fired_twice, next_over, one, same_sources, times_behind, times_idle}
+use Rattle.live_world.proofs.Firings.{IsReleasing, fired_none, fired_twice, next_over, one, same_sources, times_behind, times_idle}
 use Rattle.live_world.proofs.Moving.{Becomes}
 use Rattle.live_world.proofs.Sourced.{disarmed_kept, fewer_armed, sources_set, with_parts}
 use Rattle.live_world.proofs.Takings.{changed_length, same_rows}

@@ -1,5 +1,5 @@
 -- What the parts show as a wait is set: it is disarmed, takes a kernel object, or is armed on one.
-use Rattle.std.proofs.Common.{◌≡◌, ℕ, ◌+◌, ◌-◌, ◌<◌, ◌≤◌, ◌==◌, Bool, true, false, cond, not, ◌||◌, ◌&&◌, nat_lt, List, [], ◌∷◌, ◌++◌, length, Option, Some, None, is_some, refl, sym, ap, ap₂, ◌∙◌, subst, arith, filter, length-append, ltb-false, eqb-true}
+use Rattle.std.proofs.Common.{◌≡◌, ℕ, ◌+◌, ◌-◌, ◌≤◌, ◌==◌, Bool, true, false, cond, not, ◌||◌, ◌&&◌, nat_lt, List, [], ◌∷◌, ◌++◌, length, Option, Some, None, is_some, refl, sym, ap, ap₂, ◌∙◌, subst, arith, filter, length-append, ltb-false, eqb-true}
 use Rattle.std.specs.Prelude.{ℤ}
 use Rattle.std.proofs.lemmas.Bool.{le-ltb}
 use Rattle.std.specs.Option.{option_map_or}
@@ -11,15 +11,15 @@ use Rattle.tp_base.specs.declared.plans.Trigger.TheVariants as trigger
 use Rattle.tp_base.specs.declared.rows.Arming.{Arming}
 use Rattle.tp_base.specs.declared.rows.ObjectRow.{ObjectRow}
 use Rattle.tp_base.specs.declared.rows.TimerSetting.{TimerSetting}
-use Rattle.tp_base.specs.Armings.{is_armed, is_arming_of, is_set, without_arming}
+use Rattle.tp_base.specs.Armings.{is_armed, is_set, without_arming}
 use Rattle.tp_base.specs.Kernels.{is_signalled, taken}
 use Rattle.tp_base.specs.Timers.{set_timer, without_setting, expires_at_once}
 use Rattle.kernel_events.specs.Kernels.{Kernels, rows_with}
 use Rattle.timer_objects.specs.Settings.{Timers}
 use Rattle.tp_model.specs.World.{World}
-use Rattle.tp_model.specs.Counts.{numbered, slots}
+use Rattle.tp_model.specs.Counts.{slots}
 use Rattle.tp_model.specs.Conditions.{is_same_kind, lacks_slots_for}
-use Rattle.tp_model.specs.Kernels.{is_kernel_that, is_one_that, kernel_changed}
+use Rattle.tp_model.specs.Kernels.{is_kernel_that, is_one_that}
 use Rattle.tp_model.specs.Calls.WaitObjects.{lacks_slots_after}
 use Rattle.tp_model.specs.Sources.{Sources, Firing, arm, disarmed, firing, job, jobless, sources_of, set_wait, slots_after, with_state}
 use Rattle.tp_model.specs.Support.Allowed.{IsObjectOf}
@@ -28,8 +28,7 @@ use Rattle.tp_model.specs.Support.Remembered.{lives}
 use Rattle.tp_model.proofs.Arming.{one_if}
 use Rattle.tp_model.proofs.Firing.{armable_made, of_set}
 use Rattle.tp_model.proofs.Forgetting.{live_again}
-use Rattle.tp_model.proofs.Lists.{all_append, any_filter_none}
-use Rattle.tp_model.proofs.Refusals.{false_true, neither}
+use Rattle.tp_model.proofs.Lists.{all_append}
 use Rattle.live_world.specs.declared.LiveWorld.TheInside.{Inside}
 use Rattle.live_world.specs.Firing.{IsUnarmed, armed_on, set_to, taken_at}
 use Rattle.live_world.specs.Live.{Live, fired_to, next_of_object, with_sources}

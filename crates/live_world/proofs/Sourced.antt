@@ -1,30 +1,28 @@
 -- The world after other sources: what is set, what is armed, the kernel objects and the clock.
-use Rattle.std.proofs.Common.{◌≡◌, ℕ, ◌+◌, ◌<◌, ◌≤◌, ◌==◌, Bool, true, false, cond, not, List, [], ◌∷◌, ◌++◌, length, map, Option, Some, None, refl, sym, ap, ap₂, ◌∙◌, subst, arith, filter, find, eqb-true}
+use Rattle.std.proofs.Common.{◌≡◌, ℕ, ◌+◌, ◌≤◌, ◌==◌, Bool, true, not, List, length, Option, refl, sym, ap, ◌∙◌, subst, arith}
 use Rattle.std.specs.Prelude.{ℤ}
 use Rattle.std.specs.List.{AllByRecursion}
 use Rattle.tp_base.specs.declared.ids.ObjectId.{ObjectId}
-use Rattle.tp_base.specs.declared.ids.KernelId.{KernelId}
 use Rattle.tp_base.specs.declared.plans.Trigger.TheVariants as trigger
 use Rattle.tp_base.specs.declared.rows.Arming.{Arming}
 use Rattle.tp_base.specs.declared.rows.TimerSetting.{TimerSetting}
-use Rattle.tp_base.specs.Armings.{is_armed, is_arming_of, is_arming_on, without_arming}
-use Rattle.tp_base.specs.Timers.{clock_end, is_due, set_again}
+use Rattle.tp_base.specs.Armings.{is_armed, is_arming_of, without_arming}
+use Rattle.tp_base.specs.Timers.{clock_end}
 use Rattle.kernel_events.specs.Kernels.{Kernels}
-use Rattle.timer_objects.specs.Settings.{Timers, after_first}
+use Rattle.timer_objects.specs.Settings.{Timers}
 use Rattle.tp_model.specs.World.{World}
-use Rattle.tp_model.specs.Kernels.{kernel_changed}
-use Rattle.tp_model.specs.Sources.{Sources, sources_of, disarmed, firing}
+use Rattle.tp_model.specs.Sources.{Sources, sources_of, disarmed}
 use Rattle.tp_model.specs.Support.Allowed.{IsTimer}
 use Rattle.tp_model.specs.Support.Sound.{IsMade, IsTimedOut, is_wait_at, may_be_armed}
 use Rattle.tp_model.specs.Support.Remembered.{forget}
 use Rattle.tp_model.proofs.Arming.{one_if, timed_disarmed}
-use Rattle.tp_model.proofs.Firing.{AreOf, AreSourcesIn, fired_in, of_again}
+use Rattle.tp_model.proofs.Firing.{AreSourcesIn, fired_in}
 use Rattle.tp_model.proofs.Lists.{all_filter}
 use Rattle.tp_model.proofs.Preserving.{fired_counted, sound_sources, sources_in}
 use Rattle.live_world.specs.declared.LiveWorld.TheInside.{Inside}
 use Rattle.live_world.specs.Firing.{set_to}
 use Rattle.live_world.specs.Invariant.{AreOnce}
-use Rattle.live_world.specs.Live.{Live, at_time, with_kernels, with_sources}
+use Rattle.live_world.specs.Live.{Live, with_kernels, with_sources}
 use Rattle.live_world.specs.View.{shown, IsLiveWorld}
 use Rattle.live_world.proofs.Armed.{once_filter, without_length}
 use Rattle.live_world.proofs.Moving.{Becomes, became_by}

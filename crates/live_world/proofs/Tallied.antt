@@ -11,7 +11,7 @@ use Rattle.tp_base.specs.declared.rows.WorkerRow.{WorkerRow}
 use Rattle.pool_rows.specs.Pools.{Pools, worker_of, with_worker as with_kept_worker}
 use Rattle.pool_rows.specs.Workers.{is_attached_to, runs_in, runs_long_in}
 use Rattle.pool_rows.specs.declared.WorkerRow as kept
-use Rattle.tp_model.specs.Counts.{numbered, has_number, is_pending, is_running, is_running_in, is_running_long_in}
+use Rattle.tp_model.specs.Counts.{numbered, has_number, is_running, is_running_in, is_running_long_in}
 use Rattle.tp_model.specs.Changes.{replaced}
 use Rattle.tp_model.specs.Support.Sound.{IsRising, IsWorkerSound, AreWorkersSound}
 use Rattle.tp_model.specs.Support.Remembered.{lives}

@@ -1,5 +1,5 @@
 -- What the steps of a trigger leave.
-use Rattle.std.specs.Prelude.{◌≡◌, ℕ, ℤ, min, Bool, false, ◌||◌, List, [], ◌∷◌, ◌++◌, if◌then◌else◌, Option, None, Some}
+use Rattle.std.specs.Prelude.{◌≡◌, ℕ, ℤ, min, Bool, false, ◌||◌, [], ◌∷◌, ◌++◌, if◌then◌else◌, Option, None, Some}
 use Rattle.tp_base.specs.declared.ids.KernelId.{KernelId}
 use Rattle.tp_base.specs.declared.ids.ObjectId.{ObjectId}
 use Rattle.tp_base.specs.Armings.{is_armed, is_set}

@@ -1,15 +1,8 @@
-use Rattle.std.proofs.Common.{◌≡◌, ◌+◌, ◌==◌, ◌<◌, ◌≤◌, length, refl, sym, ap, ◌∙◌, subst, arith, filter, find}
-use Rattle.std.proofs.lemmas.List.{length-map}
-use Rattle.tp_base.specs.declared.plans.Change.TheVariants as change
-use Rattle.tp_base.specs.declared.plans.IoStep.TheVariants.{Complete}
+use Rattle.std.proofs.Common.{◌+◌, ◌==◌, ap, ◌∙◌, find}
 use Rattle.tp_base.specs.declared.rows.CallbackRow.{CallbackRow}
 use Rattle.prio_queue.specs.Pending.{entry, queue_of, with_entry, with_queue}
 use Rattle.tp_model.specs.Counts.{is_pending}
-use Rattle.tp_model.specs.Changes.{operated, replaced}
-use Rattle.tp_model.specs.Support.Allowed.{IsAllowed, MayOperate}
-use Rattle.live_world.specs.Invariant.{waits}
 use Rattle.live_world.specs.Live.{Live}
-use Rattle.live_world.specs.View.{shown}
 use Rattle.live_world.proofs.Moving.{queue_there}
 use Rattle.live_world.proofs.Operations.{completed_by, room_to_wait}
 use Rattle.live_world.proofs.Queued.{number_unqueued}

@@ -1,4 +1,4 @@
-use Rattle.std.proofs.Common.{◌≡◌, ◌+◌, ◌<◌, ◌≤◌, Bool, length, sym, ap, ◌∙◌, subst, arith, filter, ltb-false}
+use Rattle.std.proofs.Common.{◌≡◌, ◌+◌, ◌<◌, length, ap, ◌∙◌, arith}
 use Rattle.std.proofs.lemmas.List.Elements.{All-from_recursion}
 use Rattle.tp_base.specs.declared.plans.Change.TheVariants as change
 use Rattle.tp_base.specs.declared.rows.CallbackRow.{CallbackRow}
@@ -8,16 +8,11 @@ use Rattle.tp_model.specs.Support.Remembered.{lives}
 use Rattle.tp_model.proofs.Lists.{length_filter_le}
 use Rattle.tp_model.proofs.Callbacks.{over_not_pending}
 use Rattle.live_world.specs.Live.{Live}
-use Rattle.live_world.specs.Invariant.{AreListed, waits}
-use Rattle.live_world.specs.Parts.{is_tied, shown_object}
-use Rattle.live_world.proofs.ObjectsMade.{object_made}
+use Rattle.live_world.specs.Invariant.{waits}
+use Rattle.live_world.specs.Parts.{is_tied}
 use Rattle.live_world.specs.View.{shown, IsLiveWorld}
 use Rattle.live_world.specs.declared.LiveWorld.TheInside.{Inside}
-use Rattle.live_world.proofs.Entries.{AreBelow, below_fresh}
 use Rattle.live_world.proofs.Queued.{number_free}
-use Rattle.std.specs.List.{All}
-use Rattle.std.proofs.lemmas.List.{length-map}
-use Rattle.keyed_lists.specs.Keyed.{Keyed, Entry}
 use Rattle.live_world.proofs.NewRow.{IsNew, is_new, may_list}
 use Rattle.live_world.proofs.Moving.{queued_by}
 use Rattle.live_world.proofs.LiveWorld.queue_callback.Goals as goal

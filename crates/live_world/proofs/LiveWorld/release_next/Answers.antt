@@ -1,7 +1,7 @@
 use Rattle.std.proofs.Common.{sym, ap, ◌∙◌, subst}
 use Rattle.kernel_events.specs.Kernels.{Kernels}
 use Rattle.live_world.specs.View.{shown, IsLiveWorld}
-use Rattle.live_world.proofs.Releasing.{none_released, releases_none, released_there, some_armed, released_by, releases_here}
+use Rattle.live_world.proofs.Releasing.{none_released, releases_none, released_there, released_by, releases_here}
 use Rattle.live_world.proofs.LiveWorld.release_next.Goals as goal
 
 pub unset-requires : goal.unset-requires

@@ -7,7 +7,7 @@ use Rattle.tp_base.specs.declared.rows.Slots.{Slots}
 use Rattle.tp_model.specs.Actions.{returning, slots_of, words_of}
 use Rattle.tp_model.specs.Changes.{without_run}
 use Rattle.live_world.specs.Bounds.{IsBounded}
-use Rattle.live_world.specs.Live.{Live, became, fired_to, unfired}
+use Rattle.live_world.specs.Live.{Live, became, fired_to}
 use Rattle.live_world.proofs.Performing.{all_performed, eventless, locks_only, locks_performed, may_in_turn, may_raise_in_turn, may_still, section_only, three_performed, young_after}
 use Rattle.live_world.proofs.LiveWorld.return_callback.Goals as goal
 
