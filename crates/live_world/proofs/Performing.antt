@@ -178,5 +178,5 @@ may_raise_in_turn l x who words slots told is = of_action slots.semaphore refl
     of_action : (action : Option Action) → slots.semaphore ≡ action → MayPerform x.world Semaphore words.semaphore action
     of_action None none = tt
     of_action (Some a) asked = λ does.
-      ap (λ (v : Live). is_kernel_that (suits_state (Raise a.count)) v.world a.kernel.0) is
-      ∙ weaker (may_raise a.count) (suits_state (Raise a.count)) (raise_suits a.count) f.sources.kernels a.kernel.0 (may_raise_still l.world who words slots told a asked does)
+        ap (λ (v : Live). is_kernel_that (suits_state (Raise a.count)) v.world a.kernel.0) is
+        ∙ weaker (may_raise a.count) (suits_state (Raise a.count)) (raise_suits a.count) f.sources.kernels a.kernel.0 (may_raise_still l.world who words slots told a asked does)

@@ -704,8 +704,8 @@ changed_sound fresh w (change.Return by words first count) s a =
     let v : World = without_run w by in
     let sound : IsSound fresh v
     = sound_returned fresh w by.worker (record { pool = Some by.pool; callback = None }) by.pool by.callback
-      (numbered_some w.workers by.worker (record { pool = Some by.pool; callback = Some by.callback.number }) runs.stands).1 refl
-      (record { callback = by.callback; associated = runs.associated; slots = runs.slots; found = runs.found; runs = runs.running; at_home = runs.home }) runs.found s in
+    (numbered_some w.workers by.worker (record { pool = Some by.pool; callback = Some by.callback.number }) runs.stands).1 refl
+    (record { callback = by.callback; associated = runs.associated; slots = runs.slots; found = runs.found; runs = runs.running; at_home = runs.home }) runs.found s in
     let made : IsFiringIn w.objects f = returning_of (IsMade (length w.objects)) (λ n. may_be_armed w.objects n ≡ true) (λ n may. armable_made w.objects n may) w words of (sources_in fresh w s) in
     renumbered v f fresh first count a.number a.counted
     (sound_rows fresh (record v { settings = f.sources.settings; armings = f.sources.armings; kernels = f.sources.kernels; now = f.sources.now }) f.jobs made.jobs
