@@ -8,7 +8,6 @@ use Rattle.tp_base.specs.declared.answers.Refusal.{Refusal}
 use Rattle.tp_base.specs.declared.answers.Refusal.TheVariants as refusal
 use Rattle.tp_base.specs.declared.answers.TakeResult.{TakeResult}
 use Rattle.tp_base.specs.declared.answers.TakeResult.TheVariants as taken
-use Rattle.tp_base.specs.declared.calls.Kind.TheVariants as kind
 use Rattle.tp_lines.specs.declared.parts.Part.{Part}
 use Rattle.tp_lines.specs.declared.parts.Part.TheVariants as part
 use Rattle.tp_lines.specs.declared.words.Field.{Field}
@@ -34,13 +33,11 @@ back _ = refl
 
 -- results, which stand from index 5 on
 regular_result : (w : Word) → table_of w ≡ field.Result → IsTrue (is_regular (fields_of w))
-regular_result (word.Kind kind.Work) e = cc
 regular_result (word.Kind _) e = cc
 regular_result _ e = cc
 
 result_rows : (w : Word) (behind front : List Part) → table_of w ≡ field.Result → AreFit (fields_of w) behind → length front ≡ 6
     → IsRowOf row_of_result (result_at w (front ++ behind)) (w, behind)
-result_rows (word.Kind kind.Work) behind front e h s = cc
 result_rows (word.Kind _) behind front e h s = cc
 result_rows w behind front e h s =
     let row = same_row w behind (rebuilt (fields_of w) 6 (front ++ behind)) (rebuilt_is (fields_of w) behind front (regular_result w e) h 6 (sym s)) in
@@ -48,13 +45,11 @@ result_rows w behind front e h s =
 
 -- refusals, which stand from index 1 on
 regular_refusal : (w : Word) → table_of w ≡ field.Refusal → IsTrue (is_regular (fields_of w))
-regular_refusal (word.Kind kind.Work) e = cc
 regular_refusal (word.Kind _) e = cc
 regular_refusal _ e = cc
 
 refusal_rows : (w : Word) (behind front : List Part) → table_of w ≡ field.Refusal → AreFit (fields_of w) behind → length front ≡ 2
     → IsRowOf row_of_refusal (refusal_at w (front ++ behind)) (w, behind)
-refusal_rows (word.Kind kind.Work) behind front e h s = cc
 refusal_rows (word.Kind _) behind front e h s = cc
 refusal_rows w behind front e h s =
     let row = same_row w behind (rebuilt (fields_of w) 2 (front ++ behind)) (rebuilt_is (fields_of w) behind front (regular_refusal w e) h 2 (sym s)) in
@@ -95,12 +90,10 @@ has_ending word.Refused = true
 has_ending _ = false
 
 regular : (w : Word) → table_of w ≡ field.Answer → has_ending w ≡ false → IsTrue (is_regular (fields_of w))
-regular (word.Kind kind.Work) e n = cc
 regular (word.Kind _) e n = cc
 regular _ e n = cc
 
 rows : (w : Word) (parts : List Part) → table_of w ≡ field.Answer → AreFit (fields_of w) parts → IsRowOf row_of_answer (answer_at w (part.Word w ∷ parts)) (w, parts)
-rows (word.Kind kind.Work) parts e h = cc
 rows (word.Kind _) parts e h = cc
 rows word.Taken parts e h =
     let end = ending before_result field.Result parts refl refl h in

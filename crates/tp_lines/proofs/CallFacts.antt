@@ -3,7 +3,6 @@ use Rattle.std.proofs.Common.{◌≡◌, List, [], ◌∷◌, refl, IsTrue, Some
 use Rattle.line_grammar.specs.Parts.{IsPart, IsTail}
 use Rattle.tp_base.specs.declared.calls.Call.{Call}
 use Rattle.tp_base.specs.declared.calls.Call.TheVariants as call
-use Rattle.tp_base.specs.declared.calls.Kind.TheVariants as kind
 use Rattle.tp_lines.specs.declared.parts.Part.{Part}
 use Rattle.tp_lines.specs.declared.parts.Part.TheVariants as part
 use Rattle.tp_lines.specs.declared.words.Field.TheVariants as field
@@ -20,12 +19,10 @@ back call.CreatePool = refl
 back _ = refl
 
 regular : (w : Word) → table_of w ≡ field.Call → IsTrue (is_regular (fields_of w))
-regular (word.Kind kind.Work) e = cc
 regular (word.Kind _) e = cc
 regular _ e = cc
 
 rows : (w : Word) (parts : List Part) → table_of w ≡ field.Call → AreFit (fields_of w) parts → IsRowOf row_of (call_at w (part.Word w ∷ parts)) (w, parts)
-rows (word.Kind kind.Work) parts e h = cc
 rows (word.Kind _) parts e h = cc
 rows w parts e h =
     let row = same_row w parts (rebuilt (fields_of w) 1 (part.Word w ∷ parts)) (rebuilt_is (fields_of w) parts (part.Word w ∷ []) (regular w e) h 1 refl) in

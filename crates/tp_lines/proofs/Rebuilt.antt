@@ -2,7 +2,6 @@
 use Rattle.std.proofs.Common.{◌≡◌, ℕ, suc, ◌+◌, ℤ, Option, List, [], ◌∷◌, ◌++◌, length, refl, sym, ap, ◌∙◌, subst, arith, Bool, true, false, nat_eq, IsTrue}
 use Rattle.std.specs.Prelude.{if◌then◌else◌}
 use Rattle.std.proofs.lemmas.List.{append-nil, append_assoc, length-append, get_or_at}
-use Rattle.tp_base.specs.declared.calls.Kind.TheVariants as kind
 use Rattle.tp_base.specs.declared.ids.KernelId.{KernelId}
 use Rattle.tp_lines.specs.declared.parts.Form.{Form}
 use Rattle.tp_lines.specs.declared.parts.Form.TheVariants as form
@@ -65,7 +64,6 @@ named_field field.Named kernel e = refl
 named_field _ kernel e = cc
 
 word_field : (w : Word) → part.Word w ≡ field_part (table_of w) (part.Word w)
-word_field (word.Kind kind.Work) = refl
 word_field (word.Kind _) = refl
 word_field _ = refl
 
@@ -110,7 +108,6 @@ plain_number field.Short n fields h = refl
 plain_number _ n fields h = cc
 
 plain_word : (w : Word) (fields : List Field) → IsTrue (is_plain (table_of w)) → after (part.Word w) fields ≡ fields
-plain_word (word.Kind kind.Work) fields h = refl
 plain_word (word.Kind _) fields h = refl
 plain_word _ fields h = cc
 
