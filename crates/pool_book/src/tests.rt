@@ -450,7 +450,7 @@ fn operations_are_called_back_as_they_complete(rt: HostRuntime) -> Result<(), Fa
                 cancelled: 0,
             }),
         ),
-        (client, completes(3, 5, 0), queued(3)),
+        (client, completes(3, 5, 0), queued(3, 1)),
         (client, completes(3, 5, 0), refused(Refusal::NoOperation)),
         (
             worker,
@@ -459,7 +459,7 @@ fn operations_are_called_back_as_they_complete(rt: HostRuntime) -> Result<(), Fa
         ),
         (worker, Call::Take, taken_with(3, 5, 0)),
         // It says itself that the other operation is over.
-        (worker, completes(2, 0, 512), queued(2)),
+        (worker, completes(2, 0, 512), queued(2, 1)),
         (client, close, Outcome::Done(Answer::Closed { later: true })),
         (worker, Call::Return, returned_unasked()),
         (
