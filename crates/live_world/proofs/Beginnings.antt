@@ -30,19 +30,20 @@ use Rattle.live_world.specs.declared.LiveWorld.TheInside.{Inside}
 use Rattle.live_world.specs.Live.{Live, moved, became, settled}
 use Rattle.live_world.specs.Parts.{place_of, is_held_among, held_among}
 use Rattle.live_world.specs.View.{shown, IsLiveWorld}
-use Rattle.live_world.specs.Invariant.{AreCovered, AreWanted, waits, runs}
+use Rattle.live_world.specs.Invariant.{AreCovered, AreWanted, AreClosing, waits, runs}
 use Rattle.live_world.specs.Waiting.{numbers_of, is_covered_among}
 use Rattle.live_world.proofs.Lists.{filter_all, filter_alike, filter_both, filter_map, all_pass, none_passes}
 use Rattle.live_world.proofs.Along.{number_of, numbers_shown, pending_among}
 use Rattle.live_world.proofs.Cancelled.{none_where}
 use Rattle.live_world.proofs.Covered.{covered_begun}
 use Rattle.live_world.proofs.Wanted.{wanted_covering, wanted_begun}
+use Rattle.live_world.proofs.Closes.{closing_beside}
 use Rattle.live_world.proofs.Moving.{Becomes, became_by, moved_by}
 
 -- ---- what a wait covers
 
 -- each row is found by its number
-each_found : (low fresh : ℕ) (cs : List CallbackRow) → IsRising low fresh cs → AllByRecursion (λ c. find (has_number c.number) cs ≡ Some c) cs
+pub each_found : (low fresh : ℕ) (cs : List CallbackRow) → IsRising low fresh cs → AllByRecursion (λ c. find (has_number c.number) cs ≡ Some c) cs
 each_found low fresh [] r = tt
 each_found low fresh (c ∷ cs) r = (
   ap (λ b. cond b (Some c) (find (has_number c.number) cs)) (eq-eqb c.number c.number refl),
@@ -151,11 +152,11 @@ all_held fresh object cs rising =
     held [] found passes = tt
     held (d ∷ ds) found passes = (ap (λ o. option_map_or (is_outstanding_for (Object object)) o false) found.0 ∙ passes.0, held ds found.1 passes.1)
 
-pub begun_by : (i : Inside) (l : Live) (who : Who) (object : ObjectId) (cancel : Bool) (place : ℕ) (barriers : Covers) (begun : BegunWaits) → shown i ≡ l → IsLiveWorld i
+pub begun_by : (i : Inside) (l : Live) (who : Who) (object : ObjectId) (cancel : Bool) (place : ℕ) (barriers notices : Covers) (begun : BegunWaits) → shown i ≡ l → IsLiveWorld i
     → MayBegin l.world who (Object object) → filter (is_cancelled_by (Object object) cancel) l.world.callbacks ≡ [] → place_of i.limits who ≡ Some place
-    → barriers ≡ with_wait i.barriers place (Some (filter (is_covered_among i.callbacks.rows cancel) (numbers_of i.outstanding.entries object.0))) → begun.waits ≡ i.waits.waits ++ new_wait who (Object object) cancel i.callbacks.rows ∷ []
-    → Becomes (record i { barriers = barriers; waits = begun }) (became l (begin_wait l.world who (Object object) cancel l.world.callbacks))
-begun_by i l who object cancel place barriers begun is k may settled at barriers_now waits_now =
+    → barriers ≡ with_wait i.barriers place (Some (filter (is_covered_among i.callbacks.rows cancel) (numbers_of i.outstanding.entries object.0))) → notices ≡ with_wait i.notices place (Some []) → begun.waits ≡ i.waits.waits ++ new_wait who (Object object) cancel i.callbacks.rows ∷ []
+    → Becomes (record i { barriers = barriers; waits = begun; notices = notices }) (became l (begin_wait l.world who (Object object) cancel l.world.callbacks))
+begun_by i l who object cancel place barriers notices begun is k may settled at barriers_now notices_now waits_now =
     let cs : List CallbackRow = i.callbacks.rows in
     let w : World = (shown i).world in
     let v : World = begin_wait w who (Object object) cancel cs in
@@ -169,7 +170,7 @@ begun_by i l who object cancel place barriers begun is k may settled at barriers
     let held : held_among cs b ≡ b.covered
     = ap (filter (is_held_among cs (Object object))) covers ∙ filter_all (is_held_among cs (Object object)) (filter q all) (all_filter (λ n. is_held_among cs (Object object) n ≡ true) q all (all_held (i.made + 1) object cs k.sound.numbers)) ∙ sym covers in
     let sound : IsSound (i.made + 1) v = subst (λ ds. IsSound (i.made + 1) (begin_wait w who (Object object) cancel ds)) (none_where cs (is_cancelled_by (Object object) cancel) left) (sound_begin_wait (i.made + 1) w who (Object object) cancel may_here.none may_here.made k.sound) in
-    let r = became_by (record i { barriers = barriers; waits = begun }) v sound
+    let r = became_by (record i { barriers = barriers; waits = begun; notices = notices }) v sound
     (record {
       shows = ap₂ (λ ds bs. record w { callbacks = ds; waits = bs }) (sym k.alive.live) waits_now;
       sized = k.sized;
@@ -182,9 +183,13 @@ begun_by i l who object cancel place barriers begun is k may settled at barriers
       kernels = k.kernels;
       slotted = k.slotted;
       wanted = subst (λ bs. AreWanted i.limits bs i.wanted.items) (sym waits_now) (wanted_covering b may_here.none refl k.wanted);
+      grouped = k.grouped;
+      membered = k.membered;
+      closing = subst (λ x. AreClosing i.limits begun.waits i.closing.items x) (sym notices_now)
+          (subst (λ bs. AreClosing i.limits bs i.closing.items (with_wait i.notices place (Some []))) (sym waits_now) (closing_beside place b at may_here.none refl refl k.closing));
       covered = subst (λ x. AreCovered i.limits cs begun.waits x) (sym (barriers_now ∙ ap (λ ns. with_wait i.barriers place (Some ns)) numbers))
           (subst (λ bs. AreCovered i.limits cs bs (with_wait i.barriers place (Some b.covered))) (sym waits_now)
-          (covered_begun place b at may_here.none held tt k.covered));
+          (covered_begun place b at may_here.none held k.covered));
     }) in
     record { keeps = r.keeps; becomes = r.becomes ∙ ap (λ (x : Live). became x (begin_wait x.world who (Object object) cancel x.world.callbacks)) is }
 
@@ -234,12 +239,12 @@ none_cancelled : (kernel : KernelId) (cancel : Bool) (cs : List CallbackRow) →
 none_cancelled kernel cancel [] = tt
 none_cancelled kernel cancel (c ∷ cs) = (ap (λ b. cancel && b) (and_false (is_pending c.status)) ∙ and_false cancel, none_cancelled kernel cancel cs)
 
-pub acquires : (i : Inside) (l : Live) (who : Who) (kernel : KernelId) (cancel : Bool) (place : ℕ) (barriers : Covers) (begun : BegunWaits) → shown i ≡ l → IsLiveWorld i
+pub acquires : (i : Inside) (l : Live) (who : Who) (kernel : KernelId) (cancel : Bool) (place : ℕ) (barriers notices : Covers) (begun : BegunWaits) → shown i ≡ l → IsLiveWorld i
     → IsAllowed (l.made + 1) l.world (change.BeginWait who (Kernel kernel) cancel) → place_of i.limits who ≡ Some place
-    → barriers ≡ with_wait i.barriers place (Some []) → begun.waits ≡ i.waits.waits ++ new_wait who (Kernel kernel) cancel i.callbacks.rows ∷ []
-    → Becomes (record i { barriers = barriers; waits = begun; wanted = with_item i.wanted place (Some kernel) }) (moved l (change.BeginWait who (Kernel kernel) cancel))
-acquires i l who kernel cancel place barriers begun is k allowed at barriers_now waits_now =
-    moved_by i (record i { barriers = barriers; waits = begun; wanted = with_item i.wanted place (Some kernel) }) l (change.BeginWait who (Kernel kernel) cancel) is k allowed (omega arith) (λ a.
+    → barriers ≡ with_wait i.barriers place (Some []) → notices ≡ with_wait i.notices place (Some []) → begun.waits ≡ i.waits.waits ++ new_wait who (Kernel kernel) cancel i.callbacks.rows ∷ []
+    → Becomes (record i { barriers = barriers; waits = begun; wanted = with_item i.wanted place (Some kernel); notices = notices }) (moved l (change.BeginWait who (Kernel kernel) cancel))
+acquires i l who kernel cancel place barriers notices begun is k allowed at barriers_now notices_now waits_now =
+    moved_by i (record i { barriers = barriers; waits = begun; wanted = with_item i.wanted place (Some kernel); notices = notices }) l (change.BeginWait who (Kernel kernel) cancel) is k allowed (omega arith) (λ a.
     let cs : List CallbackRow = i.callbacks.rows in
     let w : World = (shown i).world in
     let b : BegunWait = new_wait who (Kernel kernel) cancel cs in
@@ -258,7 +263,11 @@ acquires i l who kernel cancel place barriers begun is k allowed at barriers_now
       kernels = k.kernels;
       covered = subst (λ x. AreCovered i.limits cs begun.waits x) (sym (barriers_now ∙ ap (λ ns. with_wait i.barriers place (Some ns)) (sym covers)))
           (subst (λ bs. AreCovered i.limits cs bs (with_wait i.barriers place (Some b.covered))) (sym waits_now)
-          (covered_begun place b at a.none held tt k.covered));
+          (covered_begun place b at a.none held k.covered));
       slotted = k.slotted;
       wanted = subst (λ bs. AreWanted i.limits bs (slice_set i.wanted.items place (Some kernel))) (sym waits_now) (wanted_begun place b at a.none k.wanted);
+      grouped = k.grouped;
+      membered = k.membered;
+      closing = subst (λ x. AreClosing i.limits begun.waits i.closing.items x) (sym notices_now)
+          (subst (λ bs. AreClosing i.limits bs i.closing.items (with_wait i.notices place (Some []))) (sym waits_now) (closing_beside place b at a.none refl refl k.closing));
     })

@@ -6,7 +6,10 @@ use Rattle.std.proofs.lemmas.List.{length-map}
 use Rattle.std.proofs.lemmas.Bool.{leb-true, le-leb}
 use Rattle.tp_base.specs.declared.ids.Who.{Who}
 use Rattle.tp_base.specs.declared.ids.Who.TheVariants.{Client, Worker}
+use Rattle.tp_base.specs.declared.ids.GroupId.{GroupId}
 use Rattle.tp_base.specs.declared.ids.ObjectId.{ObjectId}
+use Rattle.tp_base.specs.declared.rows.Status.{Status}
+use Rattle.tp_base.specs.declared.rows.Status.TheVariants.{Expected, Issued, Pending, Running, Returned, Cancelled}
 use Rattle.tp_base.specs.declared.limits.Limits.{Limits}
 use Rattle.tp_base.specs.declared.rows.CallbackRow.{CallbackRow}
 use Rattle.tp_base.specs.declared.rows.WaitTarget.{WaitTarget}
@@ -14,23 +17,24 @@ use Rattle.tp_base.specs.declared.rows.WaitTarget.TheVariants.{Object, Group, Ke
 use Rattle.cancel_wait.specs.Rising.{all_but}
 use Rattle.cancel_wait.specs.Covers.{Covers, wait_of, with_wait}
 use Rattle.tp_model.specs.World.{BegunWait}
-use Rattle.tp_model.specs.Counts.{has_number, numbered}
+use Rattle.tp_model.specs.Counts.{has_number, is_live, numbered}
 use Rattle.tp_base.specs.Actors.{is_same_actor}
 use Rattle.tp_model.specs.Conditions.{is_actor}
 use Rattle.tp_model.specs.Changes.{replaced}
 use Rattle.tp_model.specs.Support.Sound.{IsRising, IsWaitSound}
-use Rattle.tp_model.specs.Support.Allowed.{IsTarget}
 use Rattle.tp_model.specs.Support.Remembered.{lives}
-use Rattle.tp_model.specs.Waits.{is_outstanding_for}
+use Rattle.tp_model.specs.Waits.{is_held_for, is_outstanding_for, is_group_target}
 use Rattle.tp_model.proofs.Lists.{all_append, all_filter, find_all, filter_agree}
 use Rattle.tp_model.proofs.Callbacks.{find_replaced, find_replaced_other}
 use Rattle.tp_model.proofs.Forgetting.{over_forget, over_not_outstanding}
 use Rattle.tp_model.proofs.Refusals.{made, false_true, both, neither, and_false, same_actor_is, is_own_actor}
-use Rattle.live_world.specs.Parts.{shown_worker, is_tied, is_held_among, held_among, wait_among, place_within, place_of}
+use Rattle.live_world.specs.Parts.{shown_worker, is_tied, is_held_among, held_among, wait_among, closing_of, closing_by, place_within, place_of}
 use Rattle.live_world.specs.Invariant.{AreCovered, IsWaitKept}
+use Rattle.live_world.specs.Closing.{IsLeft, left_at}
 use Rattle.live_world.specs.Live.{Live}
 use Rattle.live_world.specs.View.{shown, IsLiveWorld}
 use Rattle.live_world.specs.declared.LiveWorld.TheInside.{Inside}
+use Rattle.live_world.specs.declared.closing.Closing.{Closing}
 use Rattle.live_world.proofs.Listed.{held_alike}
 
 -- ---- what is held, by two tests
@@ -89,17 +93,27 @@ module _ {limits : Limits} {cs : List CallbackRow} {waits : List BegunWait} {bar
 
 -- ---- a row in place of another
 
+-- what lives is held for its group
+held_live : (group : GroupId) (s : Status) → is_held_for (Group group) s ≡ is_live s
+held_live group Expected = refl
+held_live group Issued = refl
+held_live group Pending = refl
+held_live group (Running worker associated slots) = refl
+held_live group Returned = refl
+held_live group Cancelled = refl
+
 -- it is outstanding where the one before was
-outstanding_same : (r c : CallbackRow) → r.object ≡ c.object → is_tied r ≡ is_tied c → (target : WaitTarget) → IsTarget target → is_outstanding_for target r ≡ is_outstanding_for target c
-outstanding_same r c object tied (Object o) h =
+pub outstanding_same : (r c : CallbackRow) → r.object ≡ c.object → r.group ≡ c.group → is_tied r ≡ is_tied c → lives r ≡ lives c → (target : WaitTarget) → is_outstanding_for target r ≡ is_outstanding_for target c
+outstanding_same r c object group tied live (Object o) =
     ap₂ (λ (x : ObjectId) (b : Bool). (x.0 == o.0) && b) object (held_alike o r.object r.status ∙ tied ∙ held_alike c.object o c.status)
-outstanding_same r c object tied (Group group) h = absurd h
-outstanding_same r c object tied (Kernel kernel) h = refl
+outstanding_same r c object group tied live (Group g) =
+    ap₂ (λ (x : GroupId) (b : Bool). (x.0 == g.0) && b) group (held_live g r.status ∙ live ∙ sym (held_live g c.status))
+outstanding_same r c object group tied live (Kernel kernel) = refl
 
 -- or for no object
-outstanding_not : (r : CallbackRow) → is_tied r ≡ false → (target : WaitTarget) → IsTarget target → is_outstanding_for target r ≡ false
+outstanding_not : (r : CallbackRow) → is_tied r ≡ false → (target : WaitTarget) → is_group_target target ≡ false → is_outstanding_for target r ≡ false
 outstanding_not r out (Object o) h = ap (λ b. (r.object.0 == o.0) && b) (held_alike o r.object r.status ∙ out) ∙ and_false (r.object.0 == o.0)
-outstanding_not r out (Group group) h = absurd h
+outstanding_not r out (Group group) h = absurd (false_true (sym h))
 outstanding_not r out (Kernel kernel) h = refl
 
 held_replaced : (r c : CallbackRow) (cs : List CallbackRow) (target : WaitTarget) → find (has_number r.number) cs ≡ Some c → is_outstanding_for target r ≡ is_outstanding_for target c → (n : ℕ) → is_held_among cs target n ≡ is_held_among (replaced r cs) target n
@@ -128,16 +142,45 @@ held_left r c cs target found out n =
     and_true false = refl
 
 module _ {limits : Limits} {cs : List CallbackRow} {waits : List BegunWait} {barriers : Covers} where
-  pub covered_replaced : (r c : CallbackRow) → r.object ≡ c.object → is_tied r ≡ is_tied c → find (has_number r.number) cs ≡ Some c → AreCovered limits cs waits barriers → AreCovered limits (replaced r cs) waits barriers
-  covered_replaced r c object tied found k =
+  pub covered_replaced : (r c : CallbackRow) → r.object ≡ c.object → r.group ≡ c.group → is_tied r ≡ is_tied c → lives r ≡ lives c → find (has_number r.number) cs ≡ Some c → AreCovered limits cs waits barriers → AreCovered limits (replaced r cs) waits barriers
+  covered_replaced r c object group tied live found k =
       covered_same (IsWaitKept limits) (replaced r cs) k.waits_kept
-      (λ b kept. filter_agree (is_held_among cs b.target) (is_held_among (replaced r cs) b.target) (held_replaced r c cs b.target found (outstanding_same r c object tied b.target kept.target)) b.covered) k
+      (λ b kept. filter_agree (is_held_among cs b.target) (is_held_among (replaced r cs) b.target) (held_replaced r c cs b.target found (outstanding_same r c object group tied live b.target)) b.covered) k
 
-  pub covered_less : (r c : CallbackRow) → is_tied r ≡ false → find (has_number r.number) cs ≡ Some c → AreCovered limits cs waits barriers
+  pub covered_less : (r c : CallbackRow) → lives r ≡ false → find (has_number r.number) cs ≡ Some c → AreCovered limits cs waits barriers
       → AreCovered limits (replaced r cs) waits (record barriers { waits = map (option_map (all_but r.number)) barriers.waits })
   covered_less r c out found k =
       covered_but r.number (replaced r cs)
-      (λ b kept. sym (held_but (is_held_among (replaced r cs) b.target) (is_held_among cs b.target) r.number b.covered (held_left r c cs b.target found (outstanding_not r out b.target kept.target)))) k
+      (λ b kept. sym (held_but (is_held_among (replaced r cs) b.target) (is_held_among cs b.target) r.number b.covered (held_left r c cs b.target found (over_not_outstanding b.target r out)))) k
+
+  -- a callback that is disassociated leaves the waits that close no group
+  pub covered_loose : {closing : List (Option Closing)} {new : Covers} (r c : CallbackRow) → r.object ≡ c.object → r.group ≡ c.group → is_tied r ≡ false → lives r ≡ lives c → find (has_number r.number) cs ≡ Some c
+      → ((who : Who) (place : ℕ) → place_of limits who ≡ Some place → get_or closing place None ≡ closing_by (wait_among waits who)) → IsLeft r.number closing barriers new → AreCovered limits cs waits barriers → AreCovered limits (replaced r cs) waits new
+  covered_loose {closing} {new} r c object group untied live found closes l k =
+      record {
+        waiters = l.waiters ∙ k.waiters;
+        barrier_slots = l.slots ∙ k.barrier_slots;
+        covered = λ who place at.
+            l.left place ∙ ap₂ (λ (x : Option Closing) (o : Option (List ℕ)). left_at r.number x o) (closes who place at) (k.covered who place at) ∙ of_wait (wait_among waits who);
+        waits_kept = k.waits_kept;
+      }
+    where
+      leaves : (b : BegunWait) → is_group_target b.target ≡ false → all_but r.number (held_among cs b) ≡ held_among (replaced r cs) b
+      leaves b other = sym (held_but (is_held_among (replaced r cs) b.target) (is_held_among cs b.target) r.number b.covered (held_left r c cs b.target found (outstanding_not r untied b.target other)))
+
+      stays : (b : BegunWait) (g : GroupId) → b.target ≡ Group g → held_among cs b ≡ held_among (replaced r cs) b
+      stays b g is =
+          filter_agree (is_held_among cs b.target) (is_held_among (replaced r cs) b.target)
+          (held_replaced r c cs b.target found (subst (λ t. is_outstanding_for t r ≡ is_outstanding_for t c) (sym is) (ap₂ (λ (x : GroupId) (h : Bool). (x.0 == g.0) && h) group (held_live g r.status ∙ live ∙ sym (held_live g c.status))))) b.covered
+
+      of_target : (b : BegunWait) (t : WaitTarget) → b.target ≡ t → left_at r.number (closing_of b t) (Some (held_among cs b)) ≡ Some (held_among (replaced r cs) b)
+      of_target b (Object o) e = ap (λ ns. Some ns) (leaves b (ap is_group_target e))
+      of_target b (Group g) e = ap (λ ns. Some ns) (stays b g e)
+      of_target b (Kernel kernel) e = ap (λ ns. Some ns) (leaves b (ap is_group_target e))
+
+      of_wait : (o : Option BegunWait) → left_at r.number (closing_by o) (option_map (held_among cs) o) ≡ option_map (held_among (replaced r cs)) o
+      of_wait None = refl
+      of_wait (Some b) = of_target b b.target refl
 
   -- what is over is held by no wait
   pub covered_lives : (fresh : ℕ) → IsRising 1 fresh cs → AreCovered limits cs waits barriers → AreCovered limits (filter lives cs) waits barriers
@@ -232,7 +275,7 @@ no_stranger limits waits who nowhere all = each waits all
     each [] h = refl
     each (b ∷ bs) h =
         elim (is_same_actor b.actor who) as (λ t. is_same_actor b.actor who ≡ t → (t || list_any (λ (x : BegunWait). is_same_actor x.actor who) bs) ≡ false) [
-          | true ↦ λ e. absurd (false_true (ap is_some (sym nowhere) ∙ ap (λ a. is_some (place_of limits a)) (sym (same_actor_is b.actor who e)) ∙ h.0.actor))
+          | true ↦ λ e. absurd (false_true (ap is_some (sym nowhere) ∙ ap (λ a. is_some (place_of limits a)) (sym (same_actor_is b.actor who e)) ∙ h.0))
           | false ↦ λ _. each bs h.1
         ] refl
 
@@ -310,13 +353,13 @@ module _ {limits : Limits} {cs : List CallbackRow} {waits : List BegunWait} {bar
         waits_kept = all;
       }
 
-  pub covered_begun : (place : ℕ) (b : BegunWait) → place_of limits b.actor ≡ Some place → list_any (λ (x : BegunWait). is_same_actor x.actor b.actor) waits ≡ false → held_among cs b ≡ b.covered → IsTarget b.target
+  pub covered_begun : (place : ℕ) (b : BegunWait) → place_of limits b.actor ≡ Some place → list_any (λ (x : BegunWait). is_same_actor x.actor b.actor) waits ≡ false → held_among cs b ≡ b.covered
       → AreCovered limits cs waits barriers → AreCovered limits cs (waits ++ b ∷ []) (with_wait barriers place (Some b.covered))
-  covered_begun place b at none all_held target k =
+  covered_begun place b at none all_held k =
       covered_set b.actor place (waits ++ b ∷ []) (Some b.covered) at
       (sym (ap (option_map (held_among cs)) (begun_found b waits none) ∙ ap (λ ns. Some ns) all_held))
       (λ other e. begun_elsewhere b other e waits)
-      (all_append (IsWaitKept limits) waits b k.waits_kept (record { actor = ap is_some at; target = target })) k
+      (all_append (IsWaitKept limits) waits b k.waits_kept (ap is_some at)) k
 
   pub covered_ended : (place : ℕ) (who : Who) → place_of limits who ≡ Some place → AreCovered limits cs waits barriers
       → AreCovered limits cs (filter (λ (b : BegunWait). not (is_same_actor b.actor who)) waits) (with_wait barriers place None)

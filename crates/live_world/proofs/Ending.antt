@@ -16,12 +16,13 @@ use Rattle.tp_model.specs.Support.Allowed.{IsAllowed, MayEnd}
 use Rattle.live_world.specs.declared.begun.BegunWaits.{BegunWaits}
 use Rattle.live_world.specs.declared.LiveWorld.TheInside.{Inside}
 use Rattle.live_world.specs.Live.{Live, moved}
-use Rattle.live_world.specs.Parts.{place_of, wait_among, wanted_by}
+use Rattle.live_world.specs.Parts.{place_of, notices_by, wait_among, wanted_by}
 use Rattle.live_world.specs.Taking.{rows_left}
 use Rattle.live_world.specs.View.{shown, IsLiveWorld}
-use Rattle.live_world.specs.Invariant.{AreCovered, AreKernels, AreSlotted, AreWanted}
+use Rattle.live_world.specs.Invariant.{AreCovered, AreKernels, AreSlotted, AreWanted, AreClosing}
 use Rattle.live_world.proofs.Covered.{covered_ended, no_stranger, begun_there, waiting_somewhere}
 use Rattle.live_world.proofs.Wanted.{wanted_ended}
+use Rattle.live_world.proofs.Closes.{closing_ended}
 use Rattle.live_world.proofs.Takings.{left_length, left_here}
 use Rattle.live_world.proofs.Progress.{noted_here}
 use Rattle.live_world.proofs.Moving.{Becomes, moved_by}
@@ -30,6 +31,7 @@ use Rattle.live_world.proofs.Moving.{Becomes, moved_by}
 pub record HasBegun (i : Inside) (who : Who) : Type 0 where
   pub acts : place_of i.limits who ≡ None → ⊥
   pub begun : (place : ℕ) → place_of i.limits who ≡ Some place → is_some (wait_of i.barriers place) ≡ true
+  pub noticing : (place : ℕ) → place_of i.limits who ≡ Some place → is_some (wait_of i.notices place) ≡ true
 
 pub has_begun : (i : Inside) (l : Live) (who : Who) (how : WaitEnd) → shown i ≡ l → IsLiveWorld i → IsAllowed (l.made + 1) l.world (change.EndWait who how) → HasBegun i who
 has_begun i l who how is k allowed =
@@ -38,14 +40,15 @@ has_begun i l who how is k allowed =
     record {
       acts = λ nowhere. let none : list_any (λ (b : BegunWait). is_same_actor b.actor who) i.waits.waits ≡ false = no_stranger i.limits i.waits.waits who nowhere k.covered.waits_kept in absurd cc;
       begun = λ place at. begun_there who place at k.covered ∙ waiting;
+      noticing = λ place at. ap is_some (k.closing.noticed who place at) ∙ ap (λ o. is_some (notices_by o)) a.begun;
     }
 
-ended : (i : Inside) (l : Live) (who : Who) (how : WaitEnd) (place : ℕ) (barriers : Covers) (waits : BegunWaits) (kernels : Kernels) → shown i ≡ l → IsLiveWorld i → IsAllowed (l.made + 1) l.world (change.EndWait who how)
-    → place_of i.limits who ≡ Some place → barriers ≡ with_wait i.barriers place None → waits.waits ≡ filter (λ (b : BegunWait). not (is_same_actor b.actor who)) i.waits.waits
+ended : (i : Inside) (l : Live) (who : Who) (how : WaitEnd) (place : ℕ) (barriers notices : Covers) (waits : BegunWaits) (kernels : Kernels) → shown i ≡ l → IsLiveWorld i → IsAllowed (l.made + 1) l.world (change.EndWait who how)
+    → place_of i.limits who ≡ Some place → barriers ≡ with_wait i.barriers place None → notices ≡ with_wait i.notices place None → waits.waits ≡ filter (λ (b : BegunWait). not (is_same_actor b.actor who)) i.waits.waits
     → kernels ≡ record i.kernels { rows = kernels_left (shown i).world who how (wait_among i.waits.waits who) }
-    → Becomes (record i { barriers = barriers; waits = waits; wanted = with_item i.wanted place None; kernels = kernels }) (moved l (change.EndWait who how))
-ended i l who how place barriers waits kernels is k allowed at barriers_now waits_now kernels_now =
-    moved_by i (record i { barriers = barriers; waits = waits; wanted = with_item i.wanted place None; kernels = kernels }) l (change.EndWait who how) is k allowed (omega arith) (λ a.
+    → Becomes (record i { barriers = barriers; waits = waits; wanted = with_item i.wanted place None; closing = with_item i.closing place None; notices = notices; kernels = kernels }) (moved l (change.EndWait who how))
+ended i l who how place barriers notices waits kernels is k allowed at barriers_now notices_now waits_now kernels_now =
+    moved_by i (record i { barriers = barriers; waits = waits; wanted = with_item i.wanted place None; closing = with_item i.closing place None; notices = notices; kernels = kernels }) l (change.EndWait who how) is k allowed (omega arith) (λ a.
     record {
       shows = ap₂ (λ cs bs. record (shown i).world { callbacks = cs; waits = bs; kernels = kernels.rows; armings = kernels.armed }) (sym k.alive.live) waits_now
           ∙ ap (λ (t : Kernels). record (forget (without_wait (shown i).world who)) { kernels = t.rows; armings = t.armed }) kernels_now;
@@ -65,16 +68,20 @@ ended i l who how place barriers waits kernels is k allowed at barriers_now wait
           });
       slotted = subst (λ (t : Kernels). AreSlotted i.limits i.callbacks.rows t i.armed) (sym kernels_now) (record { counted = k.slotted.counted; slots = k.slotted.slots });
       wanted = subst (λ bs. AreWanted i.limits bs (slice_set i.wanted.items place None)) (sym waits_now) (wanted_ended place who at k.wanted);
+      grouped = k.grouped;
+      membered = k.membered;
+      closing = subst (λ x. AreClosing i.limits waits.waits (slice_set i.closing.items place None) x) (sym notices_now)
+          (subst (λ bs. AreClosing i.limits bs (slice_set i.closing.items place None) (with_wait i.notices place None)) (sym waits_now) (closing_ended place who at k.closing));
       covered = subst (λ b. AreCovered i.limits i.callbacks.rows waits.waits b) (sym barriers_now)
           (subst (λ bs. AreCovered i.limits i.callbacks.rows bs (with_wait i.barriers place None)) (sym waits_now) (covered_ended place who at k.covered));
     })
 
 -- as the table tells it, of what is noted at the actor's place
-pub ended_here : (i : Inside) (l : Live) (who : Who) (how : WaitEnd) (place : ℕ) (barriers : Covers) (waits : BegunWaits) (kernels : Kernels) (read : Option KernelId) → shown i ≡ l → IsLiveWorld i → IsAllowed (l.made + 1) l.world (change.EndWait who how)
-    → place_of i.limits who ≡ Some place → barriers ≡ with_wait i.barriers place None → waits.waits ≡ filter (λ (b : BegunWait). not (is_same_actor b.actor who)) i.waits.waits
+pub ended_here : (i : Inside) (l : Live) (who : Who) (how : WaitEnd) (place : ℕ) (barriers notices : Covers) (waits : BegunWaits) (kernels : Kernels) (read : Option KernelId) → shown i ≡ l → IsLiveWorld i → IsAllowed (l.made + 1) l.world (change.EndWait who how)
+    → place_of i.limits who ≡ Some place → barriers ≡ with_wait i.barriers place None → notices ≡ with_wait i.notices place None → waits.waits ≡ filter (λ (b : BegunWait). not (is_same_actor b.actor who)) i.waits.waits
     → read ≡ get_or i.wanted.items place read → kernels ≡ record i.kernels { rows = rows_left who how read i.kernels.rows }
-    → Becomes (record i { barriers = barriers; waits = waits; wanted = with_item i.wanted place None; kernels = kernels }) (moved l (change.EndWait who how))
-ended_here i l who how place barriers waits kernels read is k allowed at barriers_now waits_now says kernels_now =
+    → Becomes (record i { barriers = barriers; waits = waits; wanted = with_item i.wanted place None; closing = with_item i.closing place None; notices = notices; kernels = kernels }) (moved l (change.EndWait who how))
+ended_here i l who how place barriers notices waits kernels read is k allowed at barriers_now notices_now waits_now says kernels_now =
     let wanted : read ≡ wanted_by (wait_among i.waits.waits who) = noted_here i who place read k at says in
-    ended i l who how place barriers waits kernels is k allowed at barriers_now waits_now
+    ended i l who how place barriers notices waits kernels is k allowed at barriers_now notices_now waits_now
     (kernels_now ∙ ap (λ o. record i.kernels { rows = rows_left who how o i.kernels.rows }) wanted ∙ ap (λ rows. record i.kernels { rows = rows }) (left_here (shown i).world who how))

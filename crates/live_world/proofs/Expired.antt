@@ -9,7 +9,7 @@ use Rattle.kernel_events.specs.Kernels.{Kernels}
 use Rattle.timer_objects.specs.Settings.{Timers, told, after_first, first_expired}
 use Rattle.tp_model.specs.Counts.{slots}
 use Rattle.tp_model.specs.Sources.{Sources, sources_of}
-use Rattle.tp_model.specs.Support.Sound.{IsMade, IsTimedOut, count_set, may_be_armed}
+use Rattle.tp_model.specs.Support.Sound.{IsTimedOut, count_set, is_standing, may_be_armed}
 use Rattle.tp_model.specs.Support.Remembered.{forget}
 use Rattle.tp_model.proofs.Arming.{armed_has, armed_most, one_if}
 use Rattle.tp_model.proofs.Firing.{AreOf, armable_wait, of_again}
@@ -54,14 +54,14 @@ expired_by i l timers kernels armed was due object is k now fired left told_was 
     let settings_now : timers.settings ≡ after_first i.clock i.timers.settings = ap (λ (t : Timers). t.settings) now in
     let f = first_of i.clock i.timers.settings due object (fired ∙ ap (λ ss. (due, object) ∷ map told (expired i.clock ss)) settings_now) in
     let left_is : timers.settings ≡ set_again i.clock f.first f.rest = settings_now ∙ f.after in
-    let n : ℕ = length here.world.objects in
-    let all_made : AreOf (IsMade n) (f.first ∷ f.rest) = subst (AreOf (IsMade n)) f.all k.sound.timers in
+    let P : ℕ → Type 0 = λ m. is_standing here.world.objects m ≡ true in
+    let all_stand : AreOf P (f.first ∷ f.rest) = subst (AreOf P) f.all k.sound.timers in
     let s : Sources = record (sources_of here.world) { settings = timers.settings; armings = without_arming object.0 i.kernels.armed } in
     let keeps : AreKept i s = record {
       long = refl;
       once = less_once i object.0 k;
       slots = less_slots i object.0 k;
-      made = record { settings = subst (AreOf (IsMade n)) (sym left_is) (of_again (IsMade n) i.clock f.first f.rest all_made.0 all_made.1); armings = less_armings i object.0 k };
+      made = record { settings = subst (AreOf P) (sym left_is) (of_again P i.clock f.first f.rest all_stand.0 all_stand.1); armings = less_armings i object.0 k };
       timed = λ o wait.
           subst (λ ss. IsTimedOut o ss (without_arming object.0 i.kernels.armed)) (sym left_is)
           (subst (λ (p : ObjectId). IsTimedOut o (set_again i.clock f.first f.rest) (without_arming p.0 i.kernels.armed)) f.is
@@ -77,7 +77,7 @@ expired_by i l timers kernels armed was due object is k now fired left told_was 
     let e : Expires here (with_sources here s) (object, result_of i.kernels.armed object) = record {
       onwards = expires_on here timers.settings due object fired left once;
       fewer = fewer_left here timers.settings due object fired left once;
-      made = subst (λ (p : ObjectId). IsMade n p.0) f.is all_made.0;
+      stands = subst (λ (p : ObjectId). is_standing here.world.objects p.0 ≡ true) f.is all_stand.0;
       room = room_left here timers.settings due object fired left once k.kernels.once fits;
       after = (s, refl, refl);
     } in

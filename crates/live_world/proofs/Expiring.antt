@@ -16,7 +16,7 @@ use Rattle.timer_objects.specs.Settings.{told}
 use Rattle.tp_model.specs.Counts.{slots}
 use Rattle.tp_model.specs.Conditions.{lacks_slots_for}
 use Rattle.tp_model.specs.Sources.{Sources, Job, job, sources_of, expiry_job, firing, slots_after}
-use Rattle.tp_model.specs.Support.Sound.{IsMade, count_set}
+use Rattle.tp_model.specs.Support.Sound.{count_set, is_standing}
 use Rattle.tp_model.specs.Support.Remembered.{lives, forget}
 use Rattle.tp_model.proofs.Arming.{behind_first, jobs_others, one_if}
 use Rattle.tp_model.proofs.Forgetting.{live_again}
@@ -181,8 +181,8 @@ expiring_first l now limits room young =
     }
 
 module _ (start l new : Live) (e : ObjectId × TakeResult) (going : IsExpiring start l) (x : Expires l new e) where
-  pub next_made : IsMade (length new.world.objects) e.0.0
-  next_made = subst (λ (y : Live). IsMade (length y.world.objects) e.0.0) (sym x.after.1) x.made
+  pub next_stands : is_standing new.world.objects e.0.0 ≡ true
+  next_stands = subst (λ (y : Live). is_standing y.world.objects e.0.0 ≡ true) (sym x.after.1) x.stands
 
   pub next_young : new.made < 2 ^ 63
   next_young = subst (λ (y : Live). y.made < 2 ^ 63) (sym x.after.1) (omega (arith, going.young, x.fewer))

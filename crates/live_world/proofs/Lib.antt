@@ -9,6 +9,15 @@ pub mod Operating
 pub mod Moving
 pub mod Counting
 pub mod Covered
+pub mod Closes
+pub mod ClosesBegun
+pub mod GroupsMade
+pub mod GroupWalks
+pub mod ClosesWhole
+pub mod WaitsLeft
+pub mod Members
+pub mod MemberWalks
+pub mod MembersReleased
 pub mod Using
 pub mod Opening
 pub mod Making

@@ -1,12 +1,21 @@
 -- Whether one of the callbacks passes a test, as they are gone along.
-use Rattle.std.proofs.Common.{◌≡◌, ℕ, ◌<◌, Bool, true, false, cond, ◌&&◌, ◌||◌, List, [], ◌∷◌, length, nat_lt, slice_get, Option, Some, refl, sym, ap, ap₂, ◌∙◌, subst, arith, filter, find, lt-ltb}
+use Rattle.std.proofs.Common.{◌≡◌, ℕ, ◌<◌, Bool, true, false, cond, ◌&&◌, ◌||◌, ◌==◌, List, [], ◌∷◌, length, nat_lt, slice_get, Option, Some, refl, sym, ap, ap₂, ◌∙◌, subst, arith, filter, find, lt-ltb}
 use Rattle.std.specs.List.{AllByRecursion, list_any}
+use Rattle.std.specs.List.Sorted.{IsStrictlyIncreasing}
+use Rattle.std.proofs.lemmas.List.Kept.{AllPairs-from_increasing}
+use Rattle.tp_base.specs.declared.ids.GroupId.{GroupId}
+use Rattle.tp_base.specs.declared.rows.Status.{Status}
+use Rattle.tp_base.specs.declared.rows.Status.TheVariants.{Expected, Issued, Pending, Running, Returned, Cancelled}
 use Rattle.tp_base.specs.declared.rows.CallbackRow.{CallbackRow}
+use Rattle.tp_base.specs.declared.rows.WaitTarget.TheVariants.{Group}
 use Rattle.tp_model.specs.Counts.{is_live}
+use Rattle.tp_model.specs.Groups.{is_simple_of}
+use Rattle.tp_model.specs.Waits.{is_held_for}
 use Rattle.tp_model.specs.Support.Sound.{IsRising}
 use Rattle.tp_model.specs.Support.Remembered.{lives}
 use Rattle.live_world.proofs.Lists.{all_pass}
-use Rattle.live_world.proofs.Walks.{Rises, rest, IsAmong, rest_first, first_among, rest_next, found_among}
+use Rattle.live_world.proofs.Numbers.{itself}
+use Rattle.live_world.proofs.Walks.{Rises, rest, IsAmong, all_least, rest_first, first_among, rest_next, found_among, rises_pairs}
 use Rattle.live_world.proofs.Along.{number_of, rows_rise}
 
 -- what is kept lives
@@ -16,6 +25,23 @@ all_live t cs living = each cs (subst (AllByRecursion (λ c. lives c ≡ true)) 
     each : (ds : List CallbackRow) → AllByRecursion (λ c. lives c ≡ true) ds → list_any t ds ≡ list_any (λ c. is_live c.status && t c) ds
     each [] all = refl
     each (d ∷ ds) all = ap₂ (λ a b. (a && t d) || b) (sym all.0) (each ds all.1)
+
+-- a simple callback that is kept is outstanding for its group, disassociated or not
+pub simple_live : (group : GroupId) (cs : List CallbackRow) → filter lives cs ≡ cs → list_any (λ c. (c.group.0 == group.0) && (c.object.0 == 0)) cs ≡ list_any (is_simple_of group) cs
+simple_live group cs living = each cs (subst (AllByRecursion (λ c. lives c ≡ true)) living (all_pass lives cs))
+  where
+    alike : (b o : Bool) (s : Status) → is_live s ≡ true → (b && o) ≡ ((b && is_held_for (Group group) s) && o)
+    alike false o s e = refl
+    alike true o Expected e = refl
+    alike true o Issued e = refl
+    alike true o Pending e = refl
+    alike true o (Running worker associated slots) e = refl
+    alike true o Returned e = absurd cc
+    alike true o Cancelled e = absurd cc
+
+    each : (ds : List CallbackRow) → AllByRecursion (λ c. lives c ≡ true) ds → list_any (λ c. (c.group.0 == group.0) && (c.object.0 == 0)) ds ≡ list_any (is_simple_of group) ds
+    each [] all = refl
+    each (d ∷ ds) all = ap₂ (λ a b. a || b) (alike (d.group.0 == group.0) (d.object.0 == 0) d.status all.0) (each ds all.1)
 
 -- none passes before the next
 pub record Looking (t : CallbackRow → Bool) (cs : List CallbackRow) (next : Option CallbackRow) : Type 0 where
@@ -57,3 +83,42 @@ looks t fresh cs c next rising is k =
     step after found =
         ap (rest number_of cs) is ∙ rest_next number_of 1 cs c (rows_rise 1 fresh cs rising) (subst (IsAmong number_of cs) is k.among)
         ∙ ap (λ o. c ∷ rest number_of cs o) (sym found)
+
+-- ---- of numbers
+
+-- none passes before the next
+pub record LookingAt (t : ℕ → Bool) (ns : List ℕ) (next : Option ℕ) : Type 0 where
+  pub left : list_any t (rest itself ns next) ≡ list_any t ns
+  pub among : IsAmong itself ns next
+
+pub looking_at : (t : ℕ → Bool) (ns : List ℕ) (next : Option ℕ) → Rises itself 0 ns → next ≡ slice_get ns 0 → LookingAt t ns next
+looking_at t ns next rises is =
+    record {
+      left = ap (λ o. list_any t (rest itself ns o)) is ∙ ap (list_any t) (rest_first itself 0 ns rises);
+      among = subst (IsAmong itself ns) (sym is) (first_among itself ns);
+    }
+
+-- the next passes, or it is passed over
+pub record LooksAt (t : ℕ → Bool) (ns : List ℕ) (n : ℕ) (next : Option ℕ) : Type 0 where
+  pub passes : t n ≡ true → list_any t ns ≡ true
+  pub others : t n ≡ false → (after : Option ℕ) → after ≡ find (λ m. nat_lt n m) ns → LookingAt t ns after
+  pub later : (after : Option ℕ) → after ≡ find (λ m. nat_lt n m) ns → length (rest itself ns after) < length (rest itself ns next)
+
+pub looks_at : (t : ℕ → Bool) (ns : List ℕ) (n : ℕ) (next : Option ℕ) → Rises itself 0 ns → next ≡ Some n → LookingAt t ns next → LooksAt t ns n next
+looks_at t ns n next rises is k =
+    record {
+      passes = λ e. sym k.left ∙ ap (list_any t) (step (find (λ m. nat_lt n m) ns) refl) ∙ ap (λ b. b || list_any t (rest itself ns (find (λ m. nat_lt n m) ns))) e;
+      others = λ e after found. record {
+        left = ap (λ b. b || list_any t (rest itself ns after)) (sym e) ∙ ap (list_any t) (sym (step after found)) ∙ k.left;
+        among = subst (IsAmong itself ns) (sym found) (found_among itself 0 (λ m. nat_lt n m) ns rises);
+      };
+      later = λ after found. omega (arith, ap length (step after found));
+    }
+  where
+    step : (after : Option ℕ) → after ≡ find (λ m. nat_lt n m) ns → rest itself ns next ≡ n ∷ rest itself ns after
+    step after found =
+        ap (rest itself ns) is ∙ rest_next itself 0 ns n rises (subst (IsAmong itself ns) is k.among)
+        ∙ ap (λ o. n ∷ rest itself ns o) (sym found)
+
+pub rises_strictly : (ns : List ℕ) → IsStrictlyIncreasing ns → Rises itself 0 ns
+rises_strictly ns rises = rises_pairs itself 0 ns (all_least itself ns) (AllPairs-from_increasing ns rises)

@@ -17,6 +17,7 @@ use Rattle.tp_base.specs.declared.rows.TimerSetting.{TimerSetting}
 use Rattle.tp_base.specs.Armings.{without_arming}
 use Rattle.tp_base.specs.Timers.{without_setting}
 use Rattle.kernel_events.specs.Kernels.{Kernels, rows_with}
+use Rattle.keyed_lists.specs.Keyed.{Keyed}
 use Rattle.tp_model.specs.Counts.{numbered}
 use Rattle.tp_model.specs.Changes.{changed, release_object}
 use Rattle.tp_model.specs.Kernels.{kernel_changed}
@@ -24,12 +25,13 @@ use Rattle.tp_model.specs.Support.Allowed.{IsAllowed, news}
 use Rattle.live_world.specs.declared.objects.Object.{Object}
 use Rattle.live_world.specs.declared.LiveWorld.TheInside.{Inside}
 use Rattle.live_world.specs.Live.{Live, moved}
-use Rattle.live_world.specs.Parts.{is_timed_kind, shown_object, world_of}
+use Rattle.live_world.specs.Parts.{is_timed_kind, shown_object, with_member, world_of}
 use Rattle.timer_objects.specs.Settings.{Timers}
 use Rattle.live_world.specs.View.{shown, IsLiveWorld}
-use Rattle.live_world.specs.Invariant.{AreSized}
+use Rattle.live_world.specs.Invariant.{AreMembered, AreSized}
 use Rattle.tp_model.proofs.Refusals.{numbered_some}
 use Rattle.live_world.proofs.Timed.{with_timer, without_timer, same_settings, timed_created, timed_released}
+use Rattle.live_world.proofs.Members.{membered_created, membered_released, without_member}
 use Rattle.live_world.proofs.Moving.{After, Becomes, moved_by}
 use Rattle.live_world.proofs.Sourced.{less_once, less_slots}
 use Rattle.live_world.proofs.Takings.{changed_length, same_rows}
@@ -49,20 +51,21 @@ sized_objects i objects same within k =
       client_count = k.sized.client_count;
     }
 
-pub created : (i : Inside) (l : Live) (row : ObjectRow) (objects : Table Object) (timers : Timers) → shown i ≡ l → IsLiveWorld i → IsAllowed (l.made + 1) l.world (change.CreateObject row)
+pub created : (i : Inside) (l : Live) (row : ObjectRow) (objects : Table Object) (members : Keyed) (timers : Timers) → shown i ≡ l → IsLiveWorld i → IsAllowed (l.made + 1) l.world (change.CreateObject row)
     → objects ≡ with_row i.objects (record { kind = row.kind; routine = row.routine; context = row.context; env = row.env })
-    → timers ≡ cond (is_timed_kind row.kind) (with_timer i.timers (length i.objects.rows + 1)) i.timers → Becomes (record i { objects = objects; timers = timers }) (moved l (change.CreateObject row))
-created i l row objects timers is k allowed now timers_now =
-    moved_by i (record i { objects = objects; timers = timers }) l (change.CreateObject row) is k allowed (omega arith) (λ a.
+    → members ≡ with_member i.members i.limits.groups row.env.group (length i.objects.rows + 1)
+    → timers ≡ cond (is_timed_kind row.kind) (with_timer i.timers (length i.objects.rows + 1)) i.timers → Becomes (record i { objects = objects; members = members; timers = timers }) (moved l (change.CreateObject row))
+created i l row objects members timers is k allowed now members_now timers_now =
+    moved_by i (record i { objects = objects; members = members; timers = timers }) l (change.CreateObject row) is k allowed (omega arith) (λ a.
     let object : Object = record { kind = row.kind; routine = row.routine; context = row.context; env = row.env } in
     let longer : length (with_row i.objects object).rows ≡ length i.objects.rows + 1 = length-append i.objects.rows _ in
     let fewer : length i.objects.rows < i.limits.objects = subst (λ n. n < i.limits.objects) (length-map i.objects.rows shown_object) a.room in
     let marked : shown_object (record { row = object; released = false }) ≡ row = ap (λ b. record row { released = b }) (sym a.unreleased) in
     let here : Timers = cond (is_timed_kind row.kind) (with_timer i.timers (length i.objects.rows + 1)) i.timers in
-    subst (λ (t : Table Object). After (record i { objects = t; timers = timers }) (changed (shown i).world (change.CreateObject row))) (sym now)
-    (subst (λ (t : Timers). After (record i { objects = with_row i.objects object; timers = t }) (changed (shown i).world (change.CreateObject row))) (sym timers_now)
+    subst (λ (t : Table Object). After (record i { objects = t; members = members; timers = timers }) (changed (shown i).world (change.CreateObject row))) (sym now)
+    (subst (λ (t : Timers). After (record i { objects = with_row i.objects object; members = members; timers = t }) (changed (shown i).world (change.CreateObject row))) (sym timers_now)
     (record {
-      shows = ap (λ (ss : List TimerSetting). record (world_of i.limits i.pools (with_row i.objects object) i.callbacks.rows i.kernels i.clients.items i.waits.waits ss i.clock) { settings = ss }) (same_settings i.timers (length i.objects.rows + 1) (is_timed_kind row.kind))
+      shows = ap (λ (ss : List TimerSetting). record (world_of i.limits i.pools i.groups (with_row i.objects object) i.callbacks.rows i.kernels i.clients.items i.waits.waits ss i.clock) { settings = ss }) (same_settings i.timers (length i.objects.rows + 1) (is_timed_kind row.kind))
           ∙ ap₂ (λ cs os. record (shown i).world { callbacks = cs; objects = os }) (sym k.alive.live) (map-append shown_object i.objects.rows _ ∙ ap (λ (o : ObjectRow). map shown_object i.objects.rows ++ o ∷ []) marked);
       sized = sized_objects i (with_row i.objects object) refl (omega (arith, longer, fewer)) k;
       alive = k.alive;
@@ -75,6 +78,9 @@ created i l row objects timers is k allowed now timers_now =
       kernels = k.kernels;
       slotted = k.slotted;
       wanted = k.wanted;
+      grouped = k.grouped;
+      membered = subst (λ (m : Keyed). AreMembered i.limits (with_row i.objects object) m) (sym members_now) (membered_created i object k);
+      closing = k.closing;
     })))
 
 -- the row here behind a row of the world
@@ -98,12 +104,12 @@ object_behind objects number row is = known (numbered_row objects number) refl (
 abbrev pub disarmed_of : Kernels → ObjectId → Kernels
 disarmed_of kernels object = record kernels { armed = without_arming object.0 kernels.armed }
 
-pub released : (i : Inside) (l : Live) (object : ObjectId) (live : Bool) (objects : Table Object) (timers : Timers) (kernels : Kernels) (armed : ℕ) → shown i ≡ l → IsLiveWorld i → IsAllowed (l.made + 1) l.world (change.ReleaseObject object)
+pub released : (i : Inside) (l : Live) (object : ObjectId) (live : Bool) (objects : Table Object) (members : Keyed) (timers : Timers) (kernels : Kernels) (armed : ℕ) → shown i ≡ l → IsLiveWorld i → IsAllowed (l.made + 1) l.world (change.ReleaseObject object)
     → live ≡ is_live_row i.objects object.0 → (live ≡ true → objects ≡ with_released i.objects object.0)
-    → timers ≡ without_timer i.timers object → kernels ≡ disarmed_of i.kernels object → armed ≡ length (without_arming object.0 i.kernels.armed)
-    → Becomes (record i { objects = objects; timers = timers; kernels = kernels; armed = armed }) (moved l (change.ReleaseObject object))
-released i l object live objects timers kernels armed is k allowed was now timers_now kernels_now armed_now =
-    moved_by i (record i { objects = objects; timers = timers; kernels = kernels; armed = armed }) l (change.ReleaseObject object) is k allowed (omega arith) (λ a.
+    → members ≡ without_member i.members object.0 → timers ≡ without_timer i.timers object → kernels ≡ disarmed_of i.kernels object → armed ≡ length (without_arming object.0 i.kernels.armed)
+    → Becomes (record i { objects = objects; members = members; timers = timers; kernels = kernels; armed = armed }) (moved l (change.ReleaseObject object))
+released i l object live objects members timers kernels armed is k allowed was now members_now timers_now kernels_now armed_now =
+    moved_by i (record i { objects = objects; members = members; timers = timers; kernels = kernels; armed = armed }) l (change.ReleaseObject object) is k allowed (omega arith) (λ a.
     let b = object_behind i.objects object.0 a.row a.stands in
     let unreleased : b.marked.released ≡ false = ap (λ (o : ObjectRow). o.released) b.shows ∙ a.unreleased in
     let lives : live ≡ true = was ∙ ap (λ o. option_map_or (λ (m : Marked Object). not m.released) o false) b.stands ∙ ap not unreleased in
@@ -114,10 +120,10 @@ released i l object live objects timers kernels armed is k allowed was now timer
     let as_long : length there.rows ≡ length i.objects.rows = length-set i.objects.rows (object.0 - 1) marked in
     let rows_now : map shown_object there.rows ≡ slice_set (shown i).world.objects (object.0 - 1) (record a.row { released = true })
     = map-set shown_object i.objects.rows (object.0 - 1) marked ∙ ap (λ (o : ObjectRow). slice_set (shown i).world.objects (object.0 - 1) (record o { released = true })) b.shows in
-    subst (λ (t : Table Object). After (record i { objects = t; timers = timers; kernels = kernels; armed = armed }) (changed (shown i).world (change.ReleaseObject object))) (sym becomes)
-    (subst (λ (t : Timers). After (record i { objects = there; timers = t; kernels = kernels; armed = armed }) (changed (shown i).world (change.ReleaseObject object))) (sym timers_now)
-    (subst (λ (t : Kernels). After (record i { objects = there; timers = without_timer i.timers object; kernels = t; armed = armed }) (changed (shown i).world (change.ReleaseObject object))) (sym kernels_now)
-    (subst (λ w. After (record i { objects = there; timers = without_timer i.timers object; kernels = disarmed_of i.kernels object; armed = armed }) w) (sym (ap (release_object (shown i).world object) a.stands))
+    subst (λ (t : Table Object). After (record i { objects = t; members = members; timers = timers; kernels = kernels; armed = armed }) (changed (shown i).world (change.ReleaseObject object))) (sym becomes)
+    (subst (λ (t : Timers). After (record i { objects = there; members = members; timers = t; kernels = kernels; armed = armed }) (changed (shown i).world (change.ReleaseObject object))) (sym timers_now)
+    (subst (λ (t : Kernels). After (record i { objects = there; members = members; timers = without_timer i.timers object; kernels = t; armed = armed }) (changed (shown i).world (change.ReleaseObject object))) (sym kernels_now)
+    (subst (λ w. After (record i { objects = there; members = members; timers = without_timer i.timers object; kernels = disarmed_of i.kernels object; armed = armed }) w) (sym (ap (release_object (shown i).world object) a.stands))
     (record {
       shows = ap₂ (λ cs os. record (shown i).world { callbacks = cs; objects = os; settings = without_setting object i.timers.settings; armings = without_arming object.0 i.kernels.armed }) (sym k.alive.live) rows_now;
       sized = sized_objects i there refl (omega (arith, as_long, k.sized.objects_within)) k;
@@ -131,6 +137,9 @@ released i l object live objects timers kernels armed is k allowed was now timer
       kernels = record { kernel_limit = k.kernels.kernel_limit; kernels_within = k.kernels.kernels_within; armed_limit = k.kernels.armed_limit; once = less_once i object.0 k };
       slotted = record { counted = armed_now; slots = less_slots i object.0 k };
       wanted = k.wanted;
+      grouped = k.grouped;
+      membered = subst (λ (m : Keyed). AreMembered i.limits there m) (sym members_now) (membered_released i object marked (numbered_some (shown i).world.objects object.0 a.row a.stands).1 refl k);
+      closing = k.closing;
     })))))
 
 -- ---- kernel objects are made and changed
@@ -154,6 +163,9 @@ kernels_moved i l ch kernels rows is k allowed none same now within =
       kernels = record { kernel_limit = k.kernels.kernel_limit; kernels_within = within; armed_limit = k.kernels.armed_limit; once = k.kernels.once };
       slotted = record { counted = k.slotted.counted; slots = k.slotted.slots };
       wanted = k.wanted;
+      grouped = k.grouped;
+      membered = k.membered;
+      closing = k.closing;
     })))
 
 pub kernel_made : (i : Inside) (l : Live) (state : KernelState) (kernels : Kernels) → shown i ≡ l → IsLiveWorld i → IsAllowed (l.made + 1) l.world (change.CreateKernel state) → kernels ≡ record i.kernels { rows = i.kernels.rows ++ record { state = state } ∷ [] }

@@ -42,17 +42,19 @@ use Rattle.tp_model.proofs.Callbacks.{found_bounds, find_replaced as find_here, 
 use Rattle.tp_model.proofs.Refusals.{numbered_at}
 use Rattle.tp_model.proofs.Preserving.{changed_sound, sound_cancelled, sound_returned}
 use Rattle.tp_model.proofs.Forgetting.{forget_sound}
+use Rattle.live_world.specs.declared.groups.Group.{Group}
 use Rattle.live_world.specs.declared.objects.Object.{Object}
 use Rattle.live_world.specs.declared.LiveWorld.TheInside.{Inside}
+use Rattle.live_world.specs.Closing.{IsLeft}
 use Rattle.live_world.specs.Live.{Live, moved, became}
 use Rattle.live_world.specs.Parts.{world_of, shown_worker, is_tied, tied_entry}
 use Rattle.live_world.specs.View.{shown, IsLiveWorld}
-use Rattle.live_world.specs.Invariant.{AreSized, AreLive, AreQueued, AreTallied, AreListed, AreOperating, AreCovered, AreTimed, AreKernels, AreSlotted, AreWanted, IsHome, IsMarked, AreMarked}
+use Rattle.live_world.specs.Invariant.{AreSized, AreLive, AreQueued, AreTallied, AreListed, AreOperating, AreCovered, AreTimed, AreKernels, AreSlotted, AreWanted, AreGrouped, AreMembered, AreClosing, IsHome, IsMarked, AreMarked}
 use Rattle.live_world.proofs.Lists.{set_twice, set_there}
 use Rattle.live_world.proofs.Alive.{alive_more, alive_replaced, alive_less, removed_rows}
 use Rattle.live_world.proofs.Listed.{pending_tied, over_untied, listed_more, listed_same, listed_less, listed_lives}
 use Rattle.live_world.proofs.Operating.{operating_beside, operating_lives, operating_same, pending_apart, running_apart}
-use Rattle.live_world.proofs.Covered.{covered_replaced, covered_less, covered_lives, covered_more}
+use Rattle.live_world.proofs.Covered.{covered_replaced, covered_loose, covered_less, covered_lives, covered_more}
 use Rattle.live_world.proofs.Queued.{queued_entry, queued_more, queued_less, queued_same, queued_lives}
 use Rattle.live_world.proofs.Tallied.{AreApart, is_behind, runs_nothing, runs_this, worker_changed, idle_alike, busy_alike, tallied_more, tallied_free, tallied_both, tallied_still, tallied_lives, still_apart, marked_set, marked_apart, marked_replaced, marked_others, others_apart, same_found}
 
@@ -72,6 +74,9 @@ pub record After (i : Inside) (v : World) : Type 0 where
   pub kernels : AreKernels i.limits i.kernels
   pub slotted : AreSlotted i.limits i.callbacks.rows i.kernels i.armed
   pub wanted : AreWanted i.limits i.waits.waits i.wanted.items
+  pub grouped : AreGrouped i.limits i.groups
+  pub membered : AreMembered i.limits i.objects i.members
+  pub closing : AreClosing i.limits i.waits.waits i.closing.items i.notices
 
 -- they keep their invariant, and show this
 pub record Becomes (i : Inside) (l : Live) : Type 0 where
@@ -93,6 +98,9 @@ became_by j v s a =
         kernels = a.kernels;
         slotted = a.slotted;
         wanted = a.wanted;
+        grouped = a.grouped;
+        membered = a.membered;
+        closing = a.closing;
         sound = subst (λ w. IsSound (j.made + 1) w) (sym a.shows) (forget_sound (j.made + 1) v s);
       };
       becomes = ap (λ (w : World). record { world = w; made = j.made }) a.shows;
@@ -126,11 +134,11 @@ pub slots_here : {callbacks : List CallbackRow} (n most : ℕ) → filter lives 
 slots_here n most living room = omega (arith, ap length living, room)
 
 -- callbacks and workers alone change
-shows_along : (limits : Limits) (pools : Pools) (objects : Table Object) (rows : List CallbackRow) (kernels : Kernels) (clients : List ClientRow) (waits : List BegunWait) (settings : List TimerSetting) (clock : ℕ) (workers : List kept.WorkerRow) (now after : List CallbackRow) (workers_after : List WorkerRow)
+shows_along : (limits : Limits) (pools : Pools) (groups : Table Group) (objects : Table Object) (rows : List CallbackRow) (kernels : Kernels) (clients : List ClientRow) (waits : List BegunWait) (settings : List TimerSetting) (clock : ℕ) (workers : List kept.WorkerRow) (now after : List CallbackRow) (workers_after : List WorkerRow)
     → now ≡ filter lives after → map shown_worker workers ≡ workers_after
-    → world_of limits (record pools { workers = workers }) objects now kernels clients waits settings clock ≡ forget (record (world_of limits pools objects rows kernels clients waits settings clock) { callbacks = after; workers = workers_after })
-shows_along limits pools objects rows kernels clients waits settings clock workers now after workers_after ec ew =
-    ap₂ (λ cs ws. record (world_of limits pools objects rows kernels clients waits settings clock) { callbacks = cs; workers = ws }) ec ew
+    → world_of limits (record pools { workers = workers }) groups objects now kernels clients waits settings clock ≡ forget (record (world_of limits pools groups objects rows kernels clients waits settings clock) { callbacks = after; workers = workers_after })
+shows_along limits pools groups objects rows kernels clients waits settings clock workers now after workers_after ec ew =
+    ap₂ (λ cs ws. record (world_of limits pools groups objects rows kernels clients waits settings clock) { callbacks = cs; workers = ws }) ec ew
 
 set_shown : (workers : List kept.WorkerRow) (number : ℕ) (new : kept.WorkerRow) (target : WorkerRow) → shown_worker new ≡ target → map shown_worker (slice_set workers (number - 1) new) ≡ slice_set (map shown_worker workers) (number - 1) target
 set_shown workers number new target shows = map-set shown_worker workers (number - 1) new ∙ ap (λ t. slice_set (map shown_worker workers) (number - 1) t) shows
@@ -160,7 +168,7 @@ free_after : (i : Inside) (number : ℕ) (row new : kept.WorkerRow) (target : Wo
     → After (record i { pools = record i.pools { workers = slice_set i.pools.workers (number - 1) new } }) (record (shown i).world { workers = slice_set (shown i).world.workers (number - 1) target })
 free_after i number row new target k is idle none home shows =
     record {
-      shows = shows_along i.limits i.pools i.objects i.callbacks.rows i.kernels i.clients.items i.waits.waits i.timers.settings i.clock (slice_set i.pools.workers (number - 1) new) i.callbacks.rows i.callbacks.rows (slice_set (shown i).world.workers (number - 1) target)
+      shows = shows_along i.limits i.pools i.groups i.objects i.callbacks.rows i.kernels i.clients.items i.waits.waits i.timers.settings i.clock (slice_set i.pools.workers (number - 1) new) i.callbacks.rows i.callbacks.rows (slice_set (shown i).world.workers (number - 1) target)
           (sym k.alive.live) (set_shown i.pools.workers number new target shows);
       sized = sized_worker i.pools (number - 1) new home k.sized;
       alive = k.alive;
@@ -171,6 +179,9 @@ free_after i number row new target k is idle none home shows =
       kernels = k.kernels;
       slotted = k.slotted;
       wanted = k.wanted;
+      grouped = k.grouped;
+      membered = k.membered;
+      closing = k.closing;
       covered = k.covered;
       tallied = tallied_free i.callbacks.rows i.pools.workers (number - 1) row new is idle none k.tallied;
     }
@@ -263,7 +274,7 @@ taken_by i l by c pools callbacks queues is k allowed pools_now rows_now queues_
     (queues_now ∙ ap (λ (p : PoolId). with_queue i.queues p.0 (without_number c.number (queue_of i.queues p.0))) (sym a.home))
     refl refl
     (record {
-      shows = shows_along i.limits i.pools i.objects i.callbacks.rows i.kernels i.clients.items i.waits.waits i.timers.settings i.clock (slice_set i.pools.workers (by.worker - 1) new) (replaced r i.callbacks.rows) (replaced r i.callbacks.rows) (slice_set (shown i).world.workers (by.worker - 1) target)
+      shows = shows_along i.limits i.pools i.groups i.objects i.callbacks.rows i.kernels i.clients.items i.waits.waits i.timers.settings i.clock (slice_set i.pools.workers (by.worker - 1) new) (replaced r i.callbacks.rows) (replaced r i.callbacks.rows) (slice_set (shown i).world.workers (by.worker - 1) target)
           (sym alive_now.live) (set_shown i.pools.workers by.worker new target shows);
       sized = sized_worker i.pools (by.worker - 1) new (same_home i.pools (by.worker - 1) b.row new b.at_place refl k.sized) k.sized;
       alive = alive_now;
@@ -273,7 +284,10 @@ taken_by i l by c pools callbacks queues is k allowed pools_now rows_now queues_
       kernels = k.kernels;
       slotted = slots_replaced (taken c by.worker) k.slotted;
       wanted = k.wanted;
-      covered = covered_replaced r c refl (sym (pending_tied c.object c.status a.pending)) a.found k.covered;
+      grouped = k.grouped;
+      membered = k.membered;
+      closing = k.closing;
+      covered = covered_replaced r c refl refl (sym (pending_tied c.object c.status a.pending)) (sym (pending_lives c.status a.pending)) a.found k.covered;
       queued = queued_less (i.made + 1) r c (omega (arith, home, k.sized.pools_within)) a.pending refl refl k.sound.numbers a.found k.queued;
       tallied = tallied_both (i.made + 1) r c i.callbacks.rows i.pools.workers (by.worker - 1) b.row new k.sound.numbers a.found b.at_place
           (idle_alike c b.row (pending_not_running c.status a.pending) idle)
@@ -339,7 +353,7 @@ marked_long i l by pools callbacks is k allowed pools_now rows_now =
     (pools_now ∙ worker_changed i.pools by.worker on.row (λ w. record w { long = true }) on.at_place on.from_one)
     rows_now refl refl refl
     (record {
-      shows = shows_along i.limits i.pools i.objects i.callbacks.rows i.kernels i.clients.items i.waits.waits i.timers.settings i.clock (slice_set i.pools.workers (by.worker - 1) new) (replaced r i.callbacks.rows) (replaced r i.callbacks.rows) (shown i).world.workers
+      shows = shows_along i.limits i.pools i.groups i.objects i.callbacks.rows i.kernels i.clients.items i.waits.waits i.timers.settings i.clock (slice_set i.pools.workers (by.worker - 1) new) (replaced r i.callbacks.rows) (replaced r i.callbacks.rows) (shown i).world.workers
           (sym alive_now.live) (shows_same i.pools.workers (by.worker - 1) on.row new on.at_place refl);
       sized = sized_worker i.pools (by.worker - 1) new (same_home i.pools (by.worker - 1) on.row new on.at_place refl k.sized) k.sized;
       alive = alive_now;
@@ -349,7 +363,10 @@ marked_long i l by pools callbacks is k allowed pools_now rows_now =
       kernels = k.kernels;
       slotted = slots_replaced r k.slotted;
       wanted = k.wanted;
-      covered = covered_replaced r c refl refl a.runs.found k.covered;
+      grouped = k.grouped;
+      membered = k.membered;
+      closing = k.closing;
+      covered = covered_replaced r c refl refl refl refl a.runs.found k.covered;
       queued = queued_same (i.made + 1) r c on.waits_not on.waits_not k.sound.numbers a.runs.found k.queued;
       tallied = tallied_both (i.made + 1) r c i.callbacks.rows i.pools.workers (by.worker - 1) on.row new k.sound.numbers a.runs.found on.at_place
           (busy_alike c on.row by.pool on.joined on.busy a.runs.home on.ran on.mark)
@@ -387,7 +404,7 @@ ended_by i l by pools callbacks outstanding barriers is k running pools_now rows
     (pools_now ∙ worker_changed i.pools by.worker on.row (λ w. record w { callback = 0; long = false }) on.at_place on.from_one)
     rows_now refl listed_now left_now
     (record {
-      shows = shows_along i.limits i.pools i.objects i.callbacks.rows i.kernels i.clients.items i.waits.waits i.timers.settings i.clock (slice_set i.pools.workers (by.worker - 1) new) others (replaced r i.callbacks.rows) (slice_set (shown i).world.workers (by.worker - 1) target)
+      shows = shows_along i.limits i.pools i.groups i.objects i.callbacks.rows i.kernels i.clients.items i.waits.waits i.timers.settings i.clock (slice_set i.pools.workers (by.worker - 1) new) others (replaced r i.callbacks.rows) (slice_set (shown i).world.workers (by.worker - 1) target)
           removed (set_shown i.pools.workers by.worker new target shows);
       sized = sized_worker i.pools (by.worker - 1) new (same_home i.pools (by.worker - 1) on.row new on.at_place refl k.sized) k.sized;
       alive = alive_less i.callbacks r refl k.alive;
@@ -397,6 +414,9 @@ ended_by i l by pools callbacks outstanding barriers is k running pools_now rows
       kernels = k.kernels;
       slotted = slots_fewer (λ (x : CallbackRow). not (x.number == c.number)) k.slotted;
       wanted = k.wanted;
+      grouped = k.grouped;
+      membered = k.membered;
+      closing = k.closing;
       covered = subst (λ cs. AreCovered i.limits cs i.waits.waits (left i.barriers c.number)) (sym removed)
           (covered_lives (i.made + 1) (rising_replaced r 1 (i.made + 1) i.callbacks.rows k.sound.numbers) (covered_less r c refl a.found k.covered));
       queued = subst (λ cs. AreQueued i.limits cs i.queues) (sym removed) (queued_lives (queued_same (i.made + 1) r c on.waits_not refl k.sound.numbers a.found k.queued));
@@ -433,6 +453,9 @@ queued_by i l c callbacks queues outstanding is k allowed rows_now queues_now li
       kernels = k.kernels;
       slotted = slots_more c (slots_here (length i.kernels.armed) i.limits.slots k.alive.live (ltb-false i.limits.slots (length (filter lives i.callbacks.rows) + length i.kernels.armed + 1) a.room)) k.slotted;
       wanted = k.wanted;
+      grouped = k.grouped;
+      membered = k.membered;
+      closing = k.closing;
       covered = covered_more (i.made + 1) c a.number k.sound.waits k.covered;
       alive = alive_now;
       queued = queued_more c (omega (arith, a.home, k.sized.pools_within)) a.pending (subst (λ n. IsRising 1 n i.callbacks.rows) (sym a.number) k.sound.numbers) k.queued;
@@ -443,7 +466,7 @@ queued_by i l c callbacks queues outstanding is k allowed rows_now queues_now li
 
 pub loosened_by : (i : Inside) (l : Live) (by : Busy) (callbacks : LiveCallbacks) (outstanding : Keyed) (barriers : Covers) → shown i ≡ l → IsLiveWorld i → IsAllowed (l.made + 1) l.world (change.Mark by Loose)
     → callbacks ≡ record i.callbacks { rows = replaced (marked Loose by.callback) i.callbacks.rows }
-    → outstanding ≡ unlisted i.outstanding by.callback.number → barriers ≡ left i.barriers by.callback.number
+    → outstanding ≡ unlisted i.outstanding by.callback.number → IsLeft by.callback.number i.closing.items i.barriers barriers
     → Becomes (record i { callbacks = callbacks; outstanding = outstanding; barriers = barriers }) (moved l (change.Mark by Loose))
 loosened_by i l by callbacks outstanding barriers is k allowed rows_now listed_now left_now =
     moved_by i (record i { callbacks = callbacks; outstanding = outstanding; barriers = barriers }) l (change.Mark by Loose) is k allowed (omega arith) (λ a.
@@ -454,8 +477,8 @@ loosened_by i l by callbacks outstanding barriers is k allowed rows_now listed_n
     let untied : is_tied r ≡ false = ap (is_held_for (target.Object c.object)) runs in
     let alive_now = alive_replaced i.callbacks r (ap is_live runs) k.alive in
     with_parts i (changed (shown i).world (change.Mark by Loose)) i.pools i.pools callbacks (record i.callbacks { rows = replaced r i.callbacks.rows })
-    i.queues i.queues outstanding (unlisted i.outstanding c.number) barriers (left i.barriers c.number)
-    refl rows_now refl listed_now left_now
+    i.queues i.queues outstanding (unlisted i.outstanding c.number) barriers barriers
+    refl rows_now refl listed_now refl
     (record {
       shows = ap (λ cs. record (shown i).world { callbacks = cs }) (sym alive_now.live);
       sized = k.sized;
@@ -469,7 +492,10 @@ loosened_by i l by callbacks outstanding barriers is k allowed rows_now listed_n
       kernels = k.kernels;
       slotted = slots_replaced r k.slotted;
       wanted = k.wanted;
-      covered = covered_less r c untied a.runs.found k.covered;
+      grouped = k.grouped;
+      membered = k.membered;
+      closing = k.closing;
+      covered = covered_loose r c refl refl untied (ap is_live runs ∙ sym (ap is_live a.runs.running)) a.runs.found k.closing.closes left_now k.covered;
     }))
 
 -- ---- it asks for an action on return
@@ -498,7 +524,10 @@ asked_by i l by kind action callbacks is k allowed rows_now =
       kernels = k.kernels;
       slotted = slots_replaced r k.slotted;
       wanted = k.wanted;
-      covered = covered_replaced r c refl tied a.runs.found k.covered;
+      grouped = k.grouped;
+      membered = k.membered;
+      closing = k.closing;
+      covered = covered_replaced r c refl refl tied (ap is_live runs ∙ sym (ap is_live a.runs.running)) a.runs.found k.covered;
     }))
 
 -- ---- a pending callback is cancelled
@@ -537,6 +566,9 @@ cancelled_by i l c callbacks queues outstanding barriers is k found pends rows_n
       kernels = k.kernels;
       slotted = slots_fewer (λ (x : CallbackRow). not (x.number == c.number)) k.slotted;
       wanted = k.wanted;
+      grouped = k.grouped;
+      membered = k.membered;
+      closing = k.closing;
       covered = subst (λ cs. AreCovered i.limits cs i.waits.waits (left i.barriers c.number)) (sym removed)
           (covered_lives (i.made + 1) (rising_replaced r 1 (i.made + 1) i.callbacks.rows k.sound.numbers) (covered_less r c refl found_here k.covered));
     })) in

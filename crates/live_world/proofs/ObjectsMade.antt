@@ -1,5 +1,5 @@
 -- Objects of callbacks.
-use Rattle.std.proofs.Common.{◌≡◌, ◌-◌, ◌<◌, ◌≤◌, false, List, length, is_some, Some, refl, sym, ap, subst, arith, ⊎_elim, ℕ}
+use Rattle.std.proofs.Common.{◌≡◌, ◌-◌, ◌<◌, ◌≤◌, true, false, List, length, is_some, Some, refl, sym, ap, subst, arith, ⊎_elim, ℕ}
 use Rattle.std.specs.List.{AllByRecursion}
 use Rattle.std.proofs.lemmas.Bool.{cases_eq}
 use Rattle.tp_base.specs.declared.ids.ObjectId.{ObjectId}
@@ -11,7 +11,7 @@ use Rattle.tp_model.specs.Counts.{numbered}
 use Rattle.tp_model.specs.Conditions.{lacks_slots_for}
 use Rattle.tp_model.specs.Sources.{new_callback}
 use Rattle.tp_model.specs.Support.Allowed.{IsNewCallback}
-use Rattle.tp_model.specs.Support.Sound.{IsCallbackSound, IsSound}
+use Rattle.tp_model.specs.Support.Sound.{IsCallbackSound, IsSound, is_standing}
 use Rattle.tp_model.proofs.Lists.{all_along, all_get}
 use Rattle.tp_model.proofs.Refusals.{made, numbered_some}
 
@@ -30,13 +30,14 @@ object_made objects c sound =
 pub objects_made : (objects : List ObjectRow) (cs : List CallbackRow) → AllByRecursion (IsCallbackSound objects) cs → AllByRecursion (λ (c : CallbackRow). c.object.0 ≤ length objects) cs
 objects_made objects cs all = all_along (IsCallbackSound objects) (λ (c : CallbackRow). c.object.0 ≤ length objects) (object_made objects) cs all
 
--- the next callback of an object that was made
-pub next_is_new : (w : World) (fresh : ℕ) (object : ObjectId) (told : TakeResult) (row : ObjectRow) (c : CallbackRow) → c ≡ new_callback fresh object row told → numbered w.objects object.0 ≡ Some row → IsSound fresh w → lacks_slots_for w 1 ≡ false → IsNewCallback fresh w c
-next_is_new w fresh object told row c is stands sound room =
+-- the next callback of an object that isn't released
+pub next_is_new : (w : World) (fresh : ℕ) (object : ObjectId) (told : TakeResult) (row : ObjectRow) (c : CallbackRow) → c ≡ new_callback fresh object row told → numbered w.objects object.0 ≡ Some row → is_standing w.objects object.0 ≡ true → IsSound fresh w → lacks_slots_for w 1 ≡ false → IsNewCallback fresh w c
+next_is_new w fresh object told row c is found stands sound room =
     subst (IsNewCallback fresh w) (sym is) (record {
       number = refl;
       pending = refl;
-      object = λ _. record { row = row; stands = stands; home = refl };
-      home = all_get (λ (o : ObjectRow). o.env.pool.0 < length w.pools) w.objects (object.0 - 1) row sound.object_pools (numbered_some w.objects object.0 row stands).0;
+      object = λ _. record { row = row; stands = found; home = refl; group = refl };
+      home = all_get (λ (o : ObjectRow). o.env.pool.0 < length w.pools) w.objects (object.0 - 1) row sound.object_pools (numbered_some w.objects object.0 row found).0;
       room = room;
+      stands = λ _. stands;
     })

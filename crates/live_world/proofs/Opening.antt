@@ -18,8 +18,9 @@ use Rattle.tp_model.specs.Support.Remembered.{forget}
 use Rattle.tp_model.proofs.Preserving.{opening_sound}
 use Rattle.live_world.specs.declared.objects.Object.{Object}
 use Rattle.live_world.specs.Parts.{world_of, shown_worker, is_tied, is_timed_kind}
-use Rattle.live_world.specs.Invariant.{AreSized, AreLive, AreQueued, AreTallied, AreListed, AreCovered, AreTimed, AreKernels, AreSlotted, AreWanted, IsHome, IsMarked}
+use Rattle.live_world.specs.Invariant.{AreSized, AreLive, AreQueued, AreTallied, AreListed, AreCovered, AreTimed, AreKernels, AreSlotted, AreWanted, AreGrouped, AreMembered, AreClosing, IsHome, IsMarked}
 use Rattle.live_world.specs.View.{shown}
+use Rattle.live_world.specs.declared.groups.Group.{Group}
 use Rattle.live_world.specs.declared.LiveWorld.TheInside.{Inside}
 use Rattle.live_world.proofs.Moving.{Becomes}
 use Rattle.keyed_lists.specs.Keyed.{Keyed}
@@ -40,6 +41,12 @@ none_held (suc n) = none_held n
 abbrev pub opened_pools : Limits → Pools
 opened_pools limits = record { limit = limits.pools; pools = made_pool limits.workers ∷ []; workers = replicate limits.workers unattached_row }
 
+abbrev pub opened_groups : Limits → Table Group
+opened_groups limits = record { limit = limits.groups; rows = [] }
+
+abbrev pub opened_notices : Limits → Covers
+opened_notices limits = record { slots = limits.objects; waits = replicate (limits.clients + limits.workers) None }
+
 abbrev pub opened_objects : Limits → Table Object
 opened_objects limits = record { limit = limits.objects; rows = [] }
 
@@ -51,6 +58,9 @@ opened_queues limits = record { slots = limits.slots; queues = replicate limits.
 
 abbrev pub opened_lists : Limits → Keyed
 opened_lists limits = record { keys = limits.objects + 1; slots = limits.slots; entries = [] }
+
+abbrev pub opened_members : Limits → Keyed
+opened_members limits = record { keys = limits.groups + 1; slots = limits.objects; entries = [] }
 
 abbrev pub opened_barriers : Limits → Covers
 opened_barriers limits = record { slots = limits.slots; waits = replicate (limits.clients + limits.workers) None }
@@ -65,7 +75,9 @@ opened_kernels limits = record { limit = limits.kernels; objects = limits.object
 pub record IsOpened (i : Inside) : Type 0 where
   pub in_range : AreLimitsInRange i.limits
   pub pools : i.pools ≡ opened_pools i.limits
+  pub groups : i.groups ≡ opened_groups i.limits
   pub objects : i.objects ≡ opened_objects i.limits
+  pub members : i.members ≡ opened_members i.limits
   pub callbacks : i.callbacks ≡ opened_callbacks i.limits
   pub queues : i.queues ≡ opened_queues i.limits
   pub outstanding : i.outstanding ≡ opened_lists i.limits
@@ -77,6 +89,8 @@ pub record IsOpened (i : Inside) : Type 0 where
   pub clients : i.clients.items ≡ replicate i.limits.clients unfinished
   pub waits : i.waits.waits ≡ []
   pub wanted : i.wanted.items ≡ replicate (i.limits.clients + i.limits.workers) None
+  pub closing : i.closing.items ≡ replicate (i.limits.clients + i.limits.workers) None
+  pub notices : i.notices ≡ opened_notices i.limits
   pub kernels : i.kernels ≡ opened_kernels i.limits
   pub armed : i.armed ≡ 0
   pub made : i.made ≡ 0
@@ -143,6 +157,16 @@ wanted_opened limits =
       wants = λ who place at. get_replicate None (limits.clients + limits.workers) place;
     }
 
+closing_opened : (limits : Limits) → AreClosing limits [] (replicate (limits.clients + limits.workers) None) (opened_notices limits)
+closing_opened limits =
+    record {
+      closers = length_replicate None (limits.clients + limits.workers);
+      notifiers = length_replicate None (limits.clients + limits.workers);
+      notice_slots = refl;
+      closes = λ who place at. get_replicate None (limits.clients + limits.workers) place;
+      noticed = λ who place at. get_replicate None (limits.clients + limits.workers) place;
+    }
+
 -- they keep their invariant, and show the opening world
 pub opened : (i : Inside) → IsOpened i → Becomes i (record { world = forget (opening i.limits); made = 0 })
 opened i o =
@@ -150,8 +174,9 @@ opened i o =
     let shown_workers : map shown_worker (replicate limits.workers unattached_row) ≡ replicate limits.workers unattached = map_replicate shown_worker unattached_row limits.workers in
     let rows : i.callbacks.rows ≡ [] = ap (λ (c : LiveCallbacks). c.rows) o.callbacks in
     let world_now : (shown i).world ≡ opening limits =
-    ap₂ (λ (p : Pools) (t : Table Object). world_of limits p t i.callbacks.rows i.kernels i.clients.items i.waits.waits i.timers.settings i.clock) o.pools o.objects
-    ∙ ap₂ (λ (cs : List CallbackRow) (cl : List ClientRow). world_of limits (opened_pools limits) (opened_objects limits) cs i.kernels cl i.waits.waits i.timers.settings i.clock) rows o.clients
+    ap₂ (λ (p : Pools) (t : Table Object). world_of limits p i.groups t i.callbacks.rows i.kernels i.clients.items i.waits.waits i.timers.settings i.clock) o.pools o.objects
+    ∙ ap (λ (g : Table Group). world_of limits (opened_pools limits) g (opened_objects limits) i.callbacks.rows i.kernels i.clients.items i.waits.waits i.timers.settings i.clock) o.groups
+    ∙ ap₂ (λ (cs : List CallbackRow) (cl : List ClientRow). world_of limits (opened_pools limits) (opened_groups limits) (opened_objects limits) cs i.kernels cl i.waits.waits i.timers.settings i.clock) rows o.clients
     ∙ ap₂ (λ (bs : List BegunWait) (ws : List WorkerRow). record (opening limits) { kernels = i.kernels.rows; armings = i.kernels.armed; waits = bs; workers = ws; settings = i.timers.settings; now = i.clock }) o.waits shown_workers
     ∙ ap₂ (λ (t : Timers) (n : ℕ). record (opening limits) { kernels = i.kernels.rows; armings = i.kernels.armed; settings = t.settings; now = n }) o.timers o.clock
     ∙ ap (λ (t : Kernels). record (opening limits) { kernels = t.rows; armings = t.armed }) o.kernels in
@@ -171,6 +196,9 @@ opened i o =
         kernels = subst (λ (t : Kernels). AreKernels limits t) (sym o.kernels) (record { kernel_limit = refl; kernels_within = omega arith; armed_limit = refl; once = tt });
         slotted = both (λ cs n. AreSlotted limits cs i.kernels n) rows o.armed (subst (λ (t : Kernels). AreSlotted limits [] t 0) (sym o.kernels) (record { counted = refl; slots = omega arith }));
         wanted = both (λ bs ks. AreWanted limits bs ks) o.waits o.wanted (wanted_opened limits);
+        grouped = subst (λ (t : Table Group). AreGrouped limits t) (sym o.groups) (record { group_limit = refl; groups_within = omega arith });
+        membered = both (λ t m. AreMembered limits t m) o.objects o.members (record { group_keys = refl; member_slots = refl; membered = refl });
+        closing = both (λ bs ks. AreClosing limits bs ks i.notices) o.waits o.closing (subst (λ (t : Covers). AreClosing limits [] (replicate (limits.clients + limits.workers) None) t) (sym o.notices) (closing_opened limits));
         sound = both (λ w n. IsSound (n + 1) w) world_now o.made (opening_sound limits);
       };
       becomes = ap₂ (λ (w : World) (n : ℕ). record { world = w; made = n }) world_now o.made;

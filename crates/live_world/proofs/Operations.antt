@@ -69,6 +69,9 @@ expected_by i l c callbacks outstanding started operations is k allowed rows_now
       kernels = k.kernels;
       slotted = slots_more c (slots_here (length i.kernels.armed) i.limits.slots k.alive.live (ltb-false i.limits.slots (length (filter lives i.callbacks.rows) + length i.kernels.armed + 1) a.room)) k.slotted;
       wanted = k.wanted;
+      grouped = k.grouped;
+      membered = k.membered;
+      closing = k.closing;
     }))
 
 -- ---- an operation is issued
@@ -93,11 +96,14 @@ issued_by i l c callbacks started is k allowed rows_now started_now =
           (marked_replaced r c i.callbacks.rows i.pools.workers a.found refl k.tallied.marked) k.tallied;
       listed = listed_same (i.made + 1) r c refl refl tied k.sound.numbers a.found k.listed;
       operating = record { expected = listed_less r refl k.operating.expected; operating = listed_same (i.made + 1) r c refl refl (sym (ap is_operating a.status)) k.sound.numbers a.found k.operating.operating };
-      covered = covered_replaced r c refl tied a.found k.covered;
+      covered = covered_replaced r c refl refl tied (sym (ap is_live a.status)) a.found k.covered;
       timed = k.timed;
       kernels = k.kernels;
       slotted = slots_replaced r k.slotted;
       wanted = k.wanted;
+      grouped = k.grouped;
+      membered = k.membered;
+      closing = k.closing;
     }))
 
 -- ---- it isn't issued
@@ -135,6 +141,9 @@ given_up_by i l c callbacks outstanding started operations barriers is k allowed
       kernels = k.kernels;
       slotted = slots_fewer (λ (x : CallbackRow). not (x.number == c.number)) k.slotted;
       wanted = k.wanted;
+      grouped = k.grouped;
+      membered = k.membered;
+      closing = k.closing;
     }))
 
 -- ---- it completes
@@ -160,11 +169,14 @@ completed_by i l c error bytes callbacks queues operations is k allowed rows_now
           (marked_replaced r c i.callbacks.rows i.pools.workers a.found refl k.tallied.marked) k.tallied;
       listed = listed_same (i.made + 1) r c refl refl tied k.sound.numbers a.found k.listed;
       operating = record { expected = listed_same (i.made + 1) r c refl refl (sym (ap is_expected a.status)) k.sound.numbers a.found k.operating.expected; operating = listed_less r refl k.operating.operating };
-      covered = covered_replaced r c refl tied a.found k.covered;
+      covered = covered_replaced r c refl refl tied (sym (ap is_live a.status)) a.found k.covered;
       timed = k.timed;
       kernels = k.kernels;
       slotted = slots_replaced r k.slotted;
       wanted = k.wanted;
+      grouped = k.grouped;
+      membered = k.membered;
+      closing = k.closing;
     }))
 
 -- it doesn't wait before, so that there is room for it among what waits

@@ -14,7 +14,7 @@ use Rattle.tp_model.specs.Kernels.{is_one_that, kernel_changed}
 use Rattle.tp_model.specs.Sources.{Sources, sources_of, disarmed, with_state, release_first, release_to, release_times}
 use Rattle.tp_model.specs.Support.Sound.{may_be_armed}
 use Rattle.tp_model.proofs.Arming.{one_if}
-use Rattle.tp_model.proofs.Firing.{armable_made}
+use Rattle.tp_model.proofs.Firing.{armable_stands}
 use Rattle.tp_model.proofs.Forgetting.{live_again}
 use Rattle.tp_model.proofs.Lists.{find_all}
 use Rattle.tp_model.proofs.Refusals.{or_true}
@@ -133,7 +133,7 @@ module _ (i : Inside) (l : Live) (kernel : ℕ) (object : ObjectId) (is : shown 
       let r : Releases kernel here (with_sources here (left here)) object = record {
         onwards = next_over here (left here) object WaitObject0 ∙ ap (fired_to here) (sym model_first);
         fewer = omega (arith, without_length object.0 i.kernels.armed k.kernels.once, ap one_if armed_now);
-        made = armable_made here.world.objects object.0 armable;
+        stands = armable_stands here.world.objects object.0 armable;
         room = le-ltb i.limits.slots (slots (with_sources here (left here)).world + 1) (omega (arith, ap length (live_again i.callbacks.rows), ap length k.alive.live, without_length object.0 i.kernels.armed k.kernels.once, ap one_if armed_now, k.slotted.slots));
         count = refl;
       } in

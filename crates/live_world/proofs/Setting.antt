@@ -22,11 +22,11 @@ use Rattle.tp_model.specs.Conditions.{is_same_kind, lacks_slots_for}
 use Rattle.tp_model.specs.Kernels.{is_kernel_that, is_one_that}
 use Rattle.tp_model.specs.Calls.WaitObjects.{lacks_slots_after}
 use Rattle.tp_model.specs.Sources.{Sources, Firing, arm, disarmed, firing, job, jobless, sources_of, set_wait, slots_after, with_state}
-use Rattle.tp_model.specs.Support.Allowed.{IsObjectOf}
-use Rattle.tp_model.specs.Support.Sound.{IsMade, count_set, may_be_armed}
+use Rattle.tp_model.specs.Support.Allowed.{IsObjectOf, IsTimer}
+use Rattle.tp_model.specs.Support.Sound.{count_set, is_standing, may_be_armed}
 use Rattle.tp_model.specs.Support.Remembered.{lives}
 use Rattle.tp_model.proofs.Arming.{one_if}
-use Rattle.tp_model.proofs.Firing.{armable_made, of_set}
+use Rattle.tp_model.proofs.Firing.{armable_stands, of_set, timer_stands}
 use Rattle.tp_model.proofs.Forgetting.{live_again}
 use Rattle.tp_model.proofs.Lists.{all_append}
 use Rattle.live_world.specs.declared.LiveWorld.TheInside.{Inside}
@@ -74,8 +74,8 @@ signal_taken i l kernel kernels is k now =
 wait_armable : (w : World) (object : ObjectId) → IsObjectOf Wait w object → may_be_armed w.objects object.0 ≡ true
 wait_armable w object o = ap (λ (row : Option ObjectRow). option_map_or (λ (x : ObjectRow). is_same_kind x.kind Wait && not x.released) row false) o.stands ∙ ap₂ (λ k b. is_same_kind k Wait && not b) o.kind o.unreleased
 
-pub wait_made : (w : World) (object : ObjectId) → IsObjectOf Wait w object → IsMade (length w.objects) object.0
-wait_made w object o = armable_made w.objects object.0 (wait_armable w object o)
+pub wait_stands : (w : World) (object : ObjectId) → IsObjectOf Wait w object → is_standing w.objects object.0 ≡ true
+wait_stands w object o = armable_stands w.objects object.0 (wait_armable w object o)
 
 armed_kept : (i : Inside) (object : ObjectId) (kernel : KernelId) (timeout : Option ℤ) → IsLiveWorld i → IsObjectOf Wait (shown i).world object → IsUnarmed (shown i).world object.0 → lacks_slots_for (shown i).world 1 ≡ false → AreKept i (armed_on object kernel timeout (sources_of (shown i).world))
 armed_kept i object kernel timeout k wait unarmed room =
@@ -87,7 +87,7 @@ armed_kept i object kernel timeout k wait unarmed room =
       once = once_more i.kernels.armed arming unarmed.unarmed k.kernels.once;
       slots = omega (arith, fits, ap length k.alive.live, length-append i.kernels.armed (arming ∷ []));
       made = record {
-        settings = of_set (IsMade (length w.objects)) i.clock object timeout 0 0 i.timers.settings (wait_made w object wait) k.sound.timers;
+        settings = of_set (λ n. is_standing w.objects n ≡ true) i.clock object timeout 0 0 i.timers.settings (wait_stands w object wait) k.sound.timers;
         armings = all_append (λ (a : Arming). may_be_armed w.objects a.object.0 ≡ true) i.kernels.armed arming k.sound.armings (wait_armable w object wait);
       };
       timed = λ o is_wait. timed_armed o i.clock object kernel timeout i.timers.settings i.kernels.armed (own o) (k.sound.timeouts o is_wait);
@@ -185,8 +185,8 @@ module _ (l self : Live) (object : ObjectId) (kernel : KernelId) (timeout : Opti
       subst (λ (x : Live). lacks_slots_for x.world 1 ≡ false) (sym step)
       (le-ltb l.world.limits.slots (slots (with_sources l (taken_or kernel l)).world + 1) (omega (arith, ltb-false l.world.limits.slots (slots l.world + 1) room, ap length (live_again l.world.callbacks), ap length (same_armings kernel l))))
 
-  pub made_taken : IsObjectOf Wait l.world object → IsMade (length self.world.objects) object.0
-  made_taken wait = subst (λ (x : Live). IsMade (length x.world.objects) object.0) (sym step) (wait_made l.world object wait)
+  pub stands_taken : IsObjectOf Wait l.world object → is_standing self.world.objects object.0 ≡ true
+  stands_taken wait = subst (λ (x : Live). is_standing x.world.objects object.0 ≡ true) (sym step) (wait_stands l.world object wait)
 
   pub now_taken : self.world.now ≡ l.world.now
   now_taken = ap (λ (x : Live). x.world.now) step ∙ same_now kernel l
@@ -220,6 +220,9 @@ module _ (l self : Live) (object : ObjectId) (due : Option ℤ) (period window :
       let one_job : length (firing (trigger.SetTimer object due period window) (sources_of l.world)).jobs ≡ 1 = ap (λ b. length (cond b (job object Plain ∷ []) [])) expires in
       subst (λ (x : Live). lacks_slots_for x.world 1 ≡ false) (sym step)
       (le-ltb l.world.limits.slots (slots (with_sources l (set_to object due period window (sources_of l.world))).world + 1) (omega (arith, room, one_job, ap length (live_again l.world.callbacks))))
+
+  pub stands_set : IsTimer l.world object → is_standing self.world.objects object.0 ≡ true
+  stands_set timer = subst (λ (x : Live). is_standing x.world.objects object.0 ≡ true) (sym step) (timer_stands l.world object timer)
 
   pub set_fires : (new : Live) → new ≡ next_of_object self object Plain → new ≡ fired_to l (firing (trigger.SetTimer object due period window) (sources_of l.world))
   set_fires new is =

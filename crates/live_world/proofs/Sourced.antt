@@ -13,7 +13,7 @@ use Rattle.timer_objects.specs.Settings.{Timers}
 use Rattle.tp_model.specs.World.{World}
 use Rattle.tp_model.specs.Sources.{Sources, sources_of, disarmed}
 use Rattle.tp_model.specs.Support.Allowed.{IsTimer}
-use Rattle.tp_model.specs.Support.Sound.{IsMade, IsTimedOut, is_wait_at, may_be_armed}
+use Rattle.tp_model.specs.Support.Sound.{IsTimedOut, is_standing, is_wait_at, may_be_armed}
 use Rattle.tp_model.specs.Support.Remembered.{forget}
 use Rattle.tp_model.proofs.Arming.{one_if, timed_disarmed}
 use Rattle.tp_model.proofs.Firing.{AreSourcesIn, fired_in}
@@ -64,6 +64,9 @@ sources_set i l s kernels timers armed is k a kernels_now timers_now armed_now =
       kernels = record { kernel_limit = k.kernels.kernel_limit; kernels_within = omega (arith, a.long, k.kernels.kernels_within); armed_limit = k.kernels.armed_limit; once = a.once };
       slotted = record { counted = refl; slots = a.slots };
       wanted = k.wanted;
+      grouped = k.grouped;
+      membered = k.membered;
+      closing = k.closing;
     })))) in
     record { keeps = b.keeps; becomes = b.becomes ∙ ap (λ (x : Live). with_sources x s) is }
 
@@ -138,7 +141,7 @@ disarmed_kept i object rows k long =
       once = less_once i object.0 k;
       slots = less_slots i object.0 k;
       made = record {
-        settings = all_filter (λ (t : TimerSetting). IsMade (length (shown i).world.objects) t.object.0) (λ (t : TimerSetting). not (t.object.0 == object.0)) i.timers.settings k.sound.timers;
+        settings = all_filter (λ (t : TimerSetting). is_standing (shown i).world.objects t.object.0 ≡ true) (λ (t : TimerSetting). not (t.object.0 == object.0)) i.timers.settings k.sound.timers;
         armings = less_armings i object.0 k;
       };
       timed = λ o wait. let t = timed_disarmed o object (sources_of (shown i).world) (k.sound.timeouts o wait) in record { few = t.few; once = t.once };

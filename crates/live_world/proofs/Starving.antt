@@ -20,7 +20,6 @@ use Rattle.tp_base.specs.Actors.{is_same_actor}
 use Rattle.tp_model.specs.Calls.Waits.{is_starved, holds_starved}
 use Rattle.tp_model.specs.Laws.Entries.{is_among}
 use Rattle.tp_model.specs.Laws.Once.{is_left}
-use Rattle.tp_model.specs.Support.Allowed.{IsTarget}
 use Rattle.tp_model.specs.Support.Sound.{IsSound, IsRising, IsNamed, IsCallbackSound, IsWaitSound, is_left_of, is_left_among}
 use Rattle.tp_model.proofs.Lists.{find_all, find_kept}
 use Rattle.tp_model.proofs.Callbacks.{found_bounds, rising_filter}
@@ -28,7 +27,7 @@ use Rattle.tp_model.proofs.Refusals.{both, and_false, false_true}
 use Rattle.live_world.specs.declared.LiveWorld.TheInside.{Inside}
 use Rattle.live_world.specs.Live.{Live}
 use Rattle.live_world.specs.View.{shown, IsLiveWorld}
-use Rattle.live_world.specs.Invariant.{IsWaitKept}
+use Rattle.live_world.specs.Parts.{closing_by, closing_of}
 use Rattle.live_world.specs.Waiting.{held_by, is_pending_for, pending_of}
 use Rattle.live_world.proofs.Along.{first_passes, first_by_number}
 use Rattle.live_world.proofs.Listed.{pending_tied}
@@ -211,11 +210,11 @@ first_held w who fresh first sound is = of_wait (wait_of w who) refl is
         }
 
 -- its row is of the object that the wait is for
-pub starved_by_first : (w : World) (who : Who) (fresh room first : ℕ) (row : CallbackRow) (pending : Option CallbackRow) → IsSound fresh w → IsFirstHeld w who fresh first → ((b : BegunWait) → wait_of w who ≡ Some b → IsTarget b.target) → callback_of w first ≡ Some row → pending ≡ slice_get (pending_of w row.object) 0
+pub starved_by_first : (w : World) (who : Who) (fresh room first : ℕ) (row : CallbackRow) (pending : Option CallbackRow) → IsSound fresh w → IsFirstHeld w who fresh first → closing_by (wait_of w who) ≡ None → callback_of w first ≡ Some row → pending ≡ slice_get (pending_of w row.object) 0
     → option_map_or (λ c. is_starved w room c && is_among c.number (held_by w who)) pending false ≡ holds_starved w room (held_by w who)
-starved_by_first w who fresh room first row pending sound h objects found is = of_target h.wait.target refl (objects h.wait h.begun)
+starved_by_first w who fresh room first row pending sound h closes found is = of_target h.wait.target refl (ap closing_by (sym h.begun) ∙ closes)
   where
-    of_target : (t : WaitTarget) → h.wait.target ≡ t → IsTarget t → option_map_or (λ c. is_starved w room c && is_among c.number (held_by w who)) pending false ≡ holds_starved w room (held_by w who)
+    of_target : (t : WaitTarget) → h.wait.target ≡ t → closing_of h.wait t ≡ None → option_map_or (λ c. is_starved w room c && is_among c.number (held_by w who)) pending false ≡ holds_starved w room (held_by w who)
     of_target (Object object) target kind =
         let passes : is_outstanding_for (Object object) row ≡ true = sym (ap (λ t. is_held w t first) target ∙ ap (λ o. option_map_or (is_outstanding_for (Object object)) o false) found) ∙ h.held_first in
         let same : row.object ≡ object = ap (λ n. record { 0 = n }) (eqb-true row.object.0 object.0 (both (row.object.0 == object.0) (is_held_for (Object object) row.status) passes).0) in
@@ -223,7 +222,7 @@ starved_by_first w who fresh room first row pending sound h objects found is = o
         ap (λ ns. option_map_or (λ c. is_starved w room c && is_among c.number ns) pending false) holds
         ∙ first_tells w fresh room sound h.wait h.kept object target pending (is ∙ ap (λ o. slice_get (pending_of w o) 0) same)
         ∙ sym (ap (holds_starved w room) holds)
-    of_target (Group group) target kind = absurd kind
+    of_target (Group group) target kind = absurd cc
     of_target (Kernel kernel) target kind = absurd (false_true (sym (ap (λ t. is_held w t first) target ∙ ap (λ o. option_map_or (is_outstanding_for (Kernel kernel)) o false) found) ∙ h.held_first))
 
 -- ---- in terms of the parts
@@ -236,9 +235,9 @@ module _ (i : Inside) (l : Live) (who : Who) (first : ℕ) (is : shown i ≡ l) 
   pub first_is_kept : find (has_number first) i.callbacks.rows ≡ None → ⊥
   first_is_kept none = false_true (sym (ap (λ o. option_map_or (is_outstanding_for there.wait.target) o false) none) ∙ there.held_first)
 
-  pub starved_where : (room : ℕ) (row : CallbackRow) (pending : Option CallbackRow) → find (has_number first) i.callbacks.rows ≡ Some row → pending ≡ slice_get (pending_of l.world row.object) 0
+  pub starved_where : (room : ℕ) (row : CallbackRow) (pending : Option CallbackRow) → closing_by (wait_of l.world who) ≡ None → find (has_number first) i.callbacks.rows ≡ Some row → pending ≡ slice_get (pending_of l.world row.object) 0
       → option_map_or (λ c. is_starved l.world room c && is_among c.number (held_by l.world who)) pending false ≡ holds_starved l.world room (held_by l.world who)
-  starved_where room row pending found =
+  starved_where room row pending closes found =
       subst (λ (x : Live). pending ≡ slice_get (pending_of x.world row.object) 0 → option_map_or (λ c. is_starved x.world room c && is_among c.number (held_by x.world who)) pending false ≡ holds_starved x.world room (held_by x.world who)) is
       (starved_by_first (shown i).world who (i.made + 1) room first row pending k.sound there
-      (λ b begun. (find_all (IsWaitKept i.limits) (λ (x : BegunWait). is_same_actor x.actor who) b i.waits.waits k.covered.waits_kept begun).target) found)
+      (ap (λ (x : Live). closing_by (wait_of x.world who)) is ∙ closes) found)

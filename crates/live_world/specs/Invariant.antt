@@ -23,9 +23,10 @@ use Rattle.timer_objects.specs.Settings.{Timers, is_there}
 use Rattle.kernel_events.specs.Kernels.{Kernels}
 use Rattle.tp_model.specs.Counts.{has_number, is_expected, is_operating, is_pending, is_running, is_running_in, is_running_long_in}
 use Rattle.tp_model.specs.World.{BegunWait}
-use Rattle.tp_model.specs.Support.Allowed.{IsTarget}
 use Rattle.tp_model.specs.Support.Remembered.{lives}
-use Rattle.live_world.specs.Parts.{entry_of, queue_among, tied_entry, held_among, wait_among, wanted_by, place_of, is_timed}
+use Rattle.live_world.specs.Parts.{entry_of, queue_among, tied_entry, held_among, wait_among, wanted_by, closing_by, notices_by, place_of, is_timed, members_from}
+use Rattle.live_world.specs.declared.groups.Group.{Group}
+use Rattle.live_world.specs.declared.closing.Closing.{Closing}
 use Rattle.live_world.specs.declared.objects.Object.{Object}
 
 abbrev pub waits : CallbackRow → Bool
@@ -81,10 +82,9 @@ pub record AreListed (limits : Limits) (test : CallbackRow → Bool) (callbacks 
   pub listed_slots : lists.slots ≡ limits.slots
   pub listed : lists.entries ≡ map tied_entry (filter test callbacks)
 
--- an actor of the machine waits for an object's callbacks, or for a kernel object
-pub record IsWaitKept (limits : Limits) (b : BegunWait) : Type 0 where
-  pub actor : is_some (place_of limits b.actor) ≡ true
-  pub target : IsTarget b.target
+-- an actor of the machine waits
+abbrev pub IsWaitKept : Limits → BegunWait → Type 0
+IsWaitKept limits b = is_some (place_of limits b.actor) ≡ true
 
 -- what expects its operation is listed, and what expects it or has it under way
 pub record AreOperating (limits : Limits) (callbacks : List CallbackRow) (started operations : Keyed) : Type 0 where
@@ -125,3 +125,22 @@ pub record AreSlotted (limits : Limits) (callbacks : List CallbackRow) (kernels 
 pub record AreWanted (limits : Limits) (waits : List BegunWait) (wanted : List (Option KernelId)) : Type 0 where
   pub wanting : length wanted ≡ limits.clients + limits.workers
   pub wants : (who : Who) (place : ℕ) → place_of limits who ≡ Some place → get_or wanted place None ≡ wanted_by (wait_among waits who)
+
+-- the lists of groups hold exactly the members, by rising number
+pub record AreMembered (limits : Limits) (objects : Table Object) (members : Keyed) : Type 0 where
+  pub group_keys : members.keys ≡ limits.groups + 1
+  pub member_slots : members.slots ≡ limits.objects
+  pub membered : members.entries ≡ members_from limits.groups 1 objects.rows
+
+-- there are as many groups as the limits say, or fewer
+pub record AreGrouped (limits : Limits) (groups : Table Group) : Type 0 where
+  pub group_limit : groups.limit ≡ limits.groups
+  pub groups_within : length groups.rows ≤ limits.groups
+
+-- it is noted of each actor which group its wait closes, if it closes one, and of which objects it still has notices
+pub record AreClosing (limits : Limits) (waits : List BegunWait) (closing : List (Option Closing)) (notices : Covers) : Type 0 where
+  pub closers : length closing ≡ limits.clients + limits.workers
+  pub notifiers : length notices.waits ≡ limits.clients + limits.workers
+  pub notice_slots : notices.slots ≡ limits.objects
+  pub closes : (who : Who) (place : ℕ) → place_of limits who ≡ Some place → get_or closing place None ≡ closing_by (wait_among waits who)
+  pub noticed : (who : Who) (place : ℕ) → place_of limits who ≡ Some place → wait_of notices place ≡ notices_by (wait_among waits who)

@@ -1,5 +1,6 @@
 pub mod Actors
 pub mod Bounds
+pub mod Closing
 pub mod Firing
 pub mod Invariant
 pub mod Live

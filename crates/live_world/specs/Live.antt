@@ -11,7 +11,7 @@ use Rattle.tp_base.specs.declared.rows.KernelRow.{KernelRow}
 use Rattle.tp_model.specs.Sources.{Sources, Firing, new_callback, object_row, sources_of, jobless, firing, fired, release_first, count_fired, slots_after}
 use Rattle.tp_model.specs.Conditions.{lacks_slots_for}
 use Rattle.tp_model.specs.World.{World}
-use Rattle.tp_model.specs.Support.Sound.{IsMade}
+use Rattle.tp_model.specs.Support.Sound.{is_standing}
 use Rattle.tp_model.specs.Changes.{changed}
 use Rattle.tp_model.specs.Waits.{is_cancelled_by, cancel_where}
 use Rattle.tp_model.specs.Support.Allowed.{news}
@@ -81,7 +81,7 @@ pub record IsOver (old new : Live) : Type 0 where
 pub record Expires (old new : Live) (due : ObjectId × TakeResult) : Type 0 where
   pub onwards : expired_all (next_of_object new due.0 due.1) ≡ expired_all old
   pub fewer : count_left (next_of_object new due.0 due.1) + 1 ≡ count_left old
-  pub made : IsMade (length old.world.objects) due.0.0
+  pub stands : is_standing old.world.objects due.0.0 ≡ true
   -- there is a slot for the callback, if there is one for all that is due
   pub room : slots_after old.world (Advance old.world.now) ≤ old.world.limits.slots → lacks_slots_for new.world 1 ≡ false
   pub after : (s : Sources) × (new ≡ with_sources old s) × (s.now ≡ old.world.now)
@@ -98,6 +98,6 @@ pub record ReleasesNone (kernel : ℕ) (old new : Live) : Type 0 where
 pub record Releases (kernel : ℕ) (old new : Live) (object : ObjectId) : Type 0 where
   pub onwards : next_of_object new object WaitObject0 ≡ fired_to old (release_first kernel (unfired old))
   pub fewer : length new.world.armings < length old.world.armings
-  pub made : IsMade (length new.world.objects) object.0
+  pub stands : is_standing new.world.objects object.0 ≡ true
   pub room : lacks_slots_for new.world 1 ≡ false
   pub count : new.made ≡ old.made

@@ -2,13 +2,13 @@
 use Rattle.std.specs.Prelude.{◌+◌}
 use Rattle.tp_model.specs.Support.Sound.{IsSound}
 use Rattle.live_world.specs.Live.{Live}
-use Rattle.live_world.specs.Invariant.{AreSized, AreLive, AreQueued, AreTallied, AreListed, AreOperating, AreCovered, AreTimed, AreKernels, AreSlotted, AreWanted}
+use Rattle.live_world.specs.Invariant.{AreSized, AreLive, AreQueued, AreTallied, AreListed, AreOperating, AreCovered, AreTimed, AreKernels, AreSlotted, AreWanted, AreGrouped, AreMembered, AreClosing}
 use Rattle.live_world.specs.Parts.{world_of, is_tied}
 use Rattle.live_world.specs.declared.LiveWorld.TheInside.{Inside}
 
 abbrev pub shown : Inside → Live
 shown a = record {
-  world = world_of a.limits a.pools a.objects a.callbacks.rows a.kernels a.clients.items a.waits.waits a.timers.settings a.clock;
+  world = world_of a.limits a.pools a.groups a.objects a.callbacks.rows a.kernels a.clients.items a.waits.waits a.timers.settings a.clock;
   made = a.made;
 }
 
@@ -24,4 +24,7 @@ pub record IsLiveWorld (a : Inside) : Type 0 where
   pub kernels : AreKernels a.limits a.kernels
   pub slotted : AreSlotted a.limits a.callbacks.rows a.kernels a.armed
   pub wanted : AreWanted a.limits a.waits.waits a.wanted.items
+  pub grouped : AreGrouped a.limits a.groups
+  pub membered : AreMembered a.limits a.objects a.members
+  pub closing : AreClosing a.limits a.waits.waits a.closing.items a.notices
   pub sound : IsSound (a.made + 1) (shown a).world

@@ -11,10 +11,11 @@ use Rattle.keyed_lists.specs.Keyed.{Entry}
 use Rattle.tp_model.specs.World.{World, BegunWait}
 use Rattle.tp_model.specs.Counts.{has_number, is_pending}
 use Rattle.tp_model.specs.Waits.{is_outstanding_for, wait_of, held}
+use Rattle.tp_model.specs.Sources.{object_row}
 use Rattle.tp_model.specs.Calls.Waits.{holds_starved}
 use Rattle.live_world.specs.Invariant.{runs}
 use Rattle.live_world.specs.declared.waits.Progress.{Progress}
-use Rattle.live_world.specs.declared.waits.Progress.TheVariants.{NotBegun, Free, Starved, Holds, Acquires}
+use Rattle.live_world.specs.declared.waits.Progress.TheVariants.{NotBegun, Free, Notifies, Starved, Holds, Acquires}
 
 -- by rising number
 abbrev pub outstanding_of : World → ObjectId → List CallbackRow
@@ -39,13 +40,23 @@ is_covered_among callbacks cancel number = not cancel || option_map_or runs (fin
 abbrev pub held_by : World → Who → List ℕ
 held_by w who = option_map_or (held w) (wait_of w who) []
 
-abbrev pub progress_with : World → ℕ → List ℕ → Progress
-progress_with w room [] = Free
-progress_with w room (number ∷ numbers) = if holds_starved w room (number ∷ numbers) then Starved else Holds number
+-- the first notice that is left, of an object that was made
+abbrev pub progress_left : World → ℕ → List ObjectId → Progress
+progress_left w cleanup [] = Free
+progress_left w cleanup (object ∷ objects) = Notifies object (object_row w.objects object).env.cancel (object_row w.objects object).context cleanup
+
+-- what is left of a wait that holds nothing
+abbrev pub progress_free : World → Option BegunWait → Progress
+progress_free w None = NotBegun
+progress_free w (Some b) = progress_left w b.cleanup b.notices
+
+abbrev pub progress_with : World → ℕ → BegunWait → List ℕ → Progress
+progress_with w room b [] = progress_left w b.cleanup b.notices
+progress_with w room b (number ∷ numbers) = if holds_starved w room (number ∷ numbers) then Starved else Holds number
 
 abbrev pub progress_for : World → ℕ → BegunWait → WaitTarget → Progress
-progress_for w room b (Object object) = progress_with w room (held w b)
-progress_for w room b (Group group) = progress_with w room (held w b)
+progress_for w room b (Object object) = progress_with w room b (held w b)
+progress_for w room b (Group group) = progress_with w room b (held w b)
 progress_for w room b (Kernel kernel) = Acquires kernel
 
 abbrev pub progress_in : World → ℕ → Option BegunWait → Progress

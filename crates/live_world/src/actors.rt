@@ -4,10 +4,11 @@ ghost use Rattle.std.specs.Prelude.{◌≡◌, IfOk, replicate};
 ghost use Rattle.tp_model.specs.World.{unfinished};
 ghost use Rattle.tp_model.specs.Counts.{numbered, callback_of};
 ghost use Rattle.tp_model.specs.Conditions.{idle_of, busy_of, is_associated as is_associated_by, runs_own};
+ghost use Rattle.tp_model.specs.Calls.Groups.{runs_in_group};
 
 use crate::LiveWorld;
 use std::alloc::{AllocError, Global};
-use tp_base::ids::{ObjectId, Who};
+use tp_base::ids::{GroupId, ObjectId, Who};
 use tp_base::plans::{Busy, Idle};
 use tp_base::rows::{CallbackRow, ClientRow, Status, WorkerRow};
 
@@ -145,6 +146,16 @@ impl LiveWorld {
         match self.busy(who) {
             None => false,
             Some(by) => { is_associated(by.callback.status) && by.callback.object.0 == object.0 }
+        }
+    }
+
+    /// Whether the actor runs a callback of the group, disassociated or not.
+    pub fn runs_in_group(&self, who: Who, group: GroupId) -> bool
+        ensures { result ≡ runs_in_group self.now.world who group.0 }
+    {
+        match self.busy(who) {
+            None => false,
+            Some(by) => by.callback.group.0 == group.0,
         }
     }
 

@@ -1,15 +1,18 @@
 // The waits that are begun, each with all that it covered when it began. They exist only in proofs.
 
-ghost use Rattle.std.specs.Prelude.{◌≡◌, List, [], ◌∷◌, ◌++◌, not};
+ghost use Rattle.std.specs.Prelude.{◌≡◌, List, [], ◌∷◌, ◌++◌, map, not};
 ghost use Rattle.std.specs.List.{filter};
 ghost use Rattle.std.specs.Borrow.{ftrue};
 ghost use Rattle.tp_model.specs.World.{BegunWait};
 ghost use Rattle.tp_base.specs.Actors.{is_same_actor};
-ghost use Rattle.tp_model.specs.Changes.{new_wait};
+ghost use Rattle.tp_model.specs.Changes.{give_notice, new_close, new_wait};
+ghost use Rattle.tp_model.specs.Groups.{object_id};
+ghost use Rattle.cancel_wait.specs.Covers.{covered_of};
 
 use callback_rows::CallbackRows;
+use cancel_wait::Barriers;
 use std::marker::Model;
-use tp_base::ids::Who;
+use tp_base::ids::{GroupId, Who};
 use tp_base::rows::WaitTarget;
 
 // It takes no bytes, and its methods do nothing at run time.
@@ -24,6 +27,16 @@ pub struct Begins {
     pub who: Who,
     pub target: WaitTarget,
     pub cancel: bool,
+}
+
+// A close of a group as an actor begins it, whose notices stand at this place.
+#[derive(Clone, Copy)]
+pub struct Closes {
+    pub who: Who,
+    pub group: GroupId,
+    pub cancel: bool,
+    pub context: u64,
+    pub waiter: u32,
 }
 
 impl Model for BegunWaits {
@@ -41,6 +54,25 @@ impl BegunWaits {
     #[inline(always)]
     pub fn and(&self, _begins: &Begins, _callbacks: &CallbackRows) -> BegunWaits
         ensures { result.waits ≡ self.now.waits ++ new_wait _begins.now.who _begins.now.target _begins.now.cancel _callbacks.now.rows ∷ [] }
+    {
+        BegunWaits {}
+    }
+
+    #[inline(always)]
+    pub fn and_close(
+        &self,
+        _closes: &Closes,
+        _callbacks: &CallbackRows,
+        _notices: &Barriers,
+    ) -> BegunWaits
+        ensures { result.waits ≡ self.now.waits ++ new_close _closes.now.who _closes.now.group _closes.now.cancel _closes.now.context (map object_id (covered_of _notices.now _closes.now.waiter)) _callbacks.now.rows ∷ [] }
+    {
+        BegunWaits {}
+    }
+
+    #[inline(always)]
+    pub fn notified(&self, _who: &Who) -> BegunWaits
+        ensures { result.waits ≡ give_notice _who.now self.now.waits }
     {
         BegunWaits {}
     }

@@ -17,7 +17,9 @@ ghost use Rattle.live_world.specs.Performing.{MayPerform, suits_state};
 
 use crate::LiveWorld;
 use crate::begun::Begins;
+use crate::groups::list_member;
 use crate::kernels::{end_acquire, slots_of};
+use crate::leaving::leave_unclosed;
 use crate::objects::{Object, is_timed_kind};
 use crate::waiting::begin_covering;
 use crate::waits::is_pending;
@@ -127,6 +129,8 @@ impl LiveWorld {
             Change::Keep => self.is_reachable(),
             Change::CreatePool => self.create_pool(),
             Change::ChangePool { pool, how } => self.change_pool(pool, how),
+            Change::CreateGroup => self.create_group(),
+            Change::CloseGroup { group } => self.close_group(group),
             Change::CreateObject(row) => self.create_object(row),
             Change::ReleaseObject { object } => self.release_object(object),
             Change::QueueCallback(callback) => self.queue_callback(callback),
@@ -145,6 +149,14 @@ impl LiveWorld {
                 target,
                 cancel,
             } => self.begin_wait(who, target, cancel),
+            Change::BeginClose {
+                who,
+                group,
+                cancel,
+                context,
+                notices,
+            } => self.begin_close(who, group, cancel, context, notices),
+            Change::GiveNotice { who } => self.give_notice(who),
             Change::EndWait { who, how } => self.end_wait(who, how),
             Change::Finish { client } => self.finish(client),
         }
@@ -187,6 +199,7 @@ impl LiveWorld {
         let Ok(number) = self.objects.add(object) else {
             unreachable!()
         };
+        list_member(&mut self.members, self.limits.groups, row.env.group, number);
         if is_timed_kind(row.kind) {
             self.timers.create(ObjectId(number));
         }
@@ -194,11 +207,12 @@ impl LiveWorld {
 
     // Releases an object. What is outstanding for it is left as it is; a timer is unset, and a wait
     // disarmed.
-    fn release_object(&mut self, object: ObjectId)
+    pub(crate) fn release_object(&mut self, object: ObjectId)
         requires { IsAllowed (self.old.made + 1) self.old.world (Change.ReleaseObject object) }
         ensures { self.new ≡ moved self.old (Change.ReleaseObject object) }
     {
         let _was_live = self.objects.release(object.0);
+        let _was_listed = self.members.remove(u64::from(object.0));
         let _was_timed = self.timers.close(object);
         if self.kernels.disarm(object) {
             self.armed -= 1;
@@ -308,7 +322,7 @@ impl LiveWorld {
         let number = by.callback.number;
         let _was_there = self.callbacks.replace(loose);
         let _was_outstanding = self.outstanding.remove(number);
-        self.barriers.left(number);
+        leave_unclosed(&mut self.barriers, &self.closing, number);
     }
 
     // Notes that a running callback asks for an action on its return.
@@ -379,7 +393,7 @@ impl LiveWorld {
     }
 
     // Cancels a callback that waits for a worker.
-    fn cancel_callback(&mut self, callback: CallbackRow)
+    pub(crate) fn cancel_callback(&mut self, callback: CallbackRow)
         requires found { callback_of self.old.world callback.number ≡ Some callback }
         requires pending { is_pending_by callback.status ≡ true }
         ensures { self.new ≡ became self.old (with_callback self.old.world (cancelled callback)) }
@@ -441,6 +455,7 @@ impl LiveWorld {
             target: WaitTarget::Object(object),
             cancel,
         };
+        self.notices.begin(waiter);
         self.waits = self.waits.and(&begins, &self.callbacks);
     }
 
@@ -459,6 +474,7 @@ impl LiveWorld {
             target: WaitTarget::Kernel(kernel),
             cancel,
         };
+        self.notices.begin(waiter);
         self.waits = self.waits.and(&begins, &self.callbacks);
     }
 
@@ -487,8 +503,10 @@ impl LiveWorld {
             unreachable!()
         };
         self.barriers.finish(waiter);
+        self.notices.finish(waiter);
         end_acquire(&mut self.kernels, who, how, self.wanted[waiter as usize]);
         self.wanted[waiter as usize] = None;
+        self.closing[waiter as usize] = None;
         self.waits = self.waits.without(&who);
     }
 

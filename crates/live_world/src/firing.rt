@@ -10,7 +10,7 @@ ghost use Rattle.tp_model.specs.Counts.{slots};
 ghost use Rattle.tp_model.specs.Kernels.{is_kernel_that, kernel_changed};
 ghost use Rattle.tp_model.specs.Sources.{arm, disarmed, firing, release, set_wait, signal, slots_after, sources_of};
 ghost use Rattle.tp_model.specs.Support.Allowed.{IsObjectOf, IsTimer, IsReady, IsWaitable, MayAdvance};
-ghost use Rattle.tp_model.specs.Support.Sound.{IsMade};
+ghost use Rattle.tp_model.specs.Support.Sound.{is_standing};
 ghost use Rattle.live_world.specs.Firing.{IsUnarmed, armed_on, set_to, taken_at};
 ghost use Rattle.live_world.specs.Live.{at_time, fired_to, next_of_object, unfired, with_kernels, with_sources, Expires, IsOver, Releases, ReleasesNone};
 ghost use Rattle.live_world.specs.Performing.{suits_state};
@@ -22,9 +22,9 @@ use tp_base::ids::{KernelId, ObjectId};
 use tp_base::plans::{KernelChange, Trigger};
 
 impl LiveWorld {
-    // Makes the next callback of an object, which waits for a worker.
+    // Makes the next callback of an object that isn't released. It waits for a worker.
     fn queue_next(&mut self, object: ObjectId, told: TakeResult)
-        requires made { IsMade (length self.old.world.objects) object.0 }
+        requires stands { is_standing self.old.world.objects object.0 ≡ true }
         requires room { lacks_slots_for self.old.world 1 ≡ false }
         requires young { self.old.made < 2 ^ 63 }
         ensures { self.new ≡ next_of_object self.old object told }

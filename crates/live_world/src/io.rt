@@ -2,7 +2,7 @@
 
 ghost use Rattle.std.specs.Prelude.{◌≡◌, ◌+◌, ◌^◌, ◌<◌};
 ghost use Rattle.tp_model.specs.Calls.Io.{first_expected, issued_of};
-ghost use Rattle.tp_model.specs.Calls.Objects.{has_operations};
+ghost use Rattle.tp_model.specs.Conditions.{has_operations};
 ghost use Rattle.tp_model.specs.Support.Allowed.{IsAllowed};
 ghost use Rattle.live_world.specs.Live.{moved};
 

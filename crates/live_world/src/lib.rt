@@ -21,6 +21,8 @@ ghost use Rattle.live_world.specs.Bounds.{IsBounded};
 use begun::BegunWaits;
 use callback_rows::CallbackRows;
 use cancel_wait::Barriers;
+use closing::Closing;
+use groups::Group;
 use handle_table::Rows;
 use kernel_events::KernelTable;
 use keyed_lists::KeyedLists;
@@ -38,9 +40,12 @@ pub mod actors;
 mod begun;
 pub mod callbacks;
 mod changes;
+mod closing;
 mod firing;
+pub mod groups;
 mod io;
 mod kernels;
+mod leaving;
 mod objects;
 pub mod outstanding;
 mod pools;
@@ -53,7 +58,11 @@ pub mod waits;
 pub struct LiveWorld {
     limits: Limits,
     pools: PoolRows,
+    // A group that is closed is released.
+    groups: Rows<Group>,
     objects: Rows<Object>,
+    // The members of each group.
+    members: KeyedLists,
     callbacks: CallbackRows,
     queues: Queues,
     // What is outstanding for each object.
@@ -67,6 +76,10 @@ pub struct LiveWorld {
     waits: BegunWaits,
     // Of each actor, where its barrier stands, the kernel object that its wait is for.
     wanted: Vec<Option<KernelId>>,
+    // Of each actor, there too, the group that its wait closes.
+    closing: Vec<Option<Closing>>,
+    // And the objects of which that wait still has a notice to give.
+    notices: Barriers,
     clients: Vec<ClientRow>,
     // The timers and the wait objects, with what is set: for a wait the timeout of its arming.
     timers: TimerObjects,
@@ -100,7 +113,9 @@ impl LiveWorld {
         ensures { IfOk result (λ live. live ≡ record { world = forget (opening limits); made = 0 }) }
     {
         let pools = PoolRows::open(alloc, limits.pools, limits.workers)?;
+        let groups = Rows::open(alloc, limits.groups)?;
         let objects = Rows::open(alloc, limits.objects)?;
+        let members = KeyedLists::open(alloc, limits.groups + 1, limits.objects)?;
         let callbacks = CallbackRows::open(alloc, limits.slots)?;
         let queues = Queues::open(alloc, limits.pools, limits.slots)?;
         let outstanding = KeyedLists::open(alloc, limits.objects + 1, limits.slots)?;
@@ -108,13 +123,17 @@ impl LiveWorld {
         let operations = KeyedLists::open(alloc, limits.objects + 1, limits.slots)?;
         let barriers = Barriers::open(alloc, limits.clients + limits.workers, limits.slots)?;
         let wanted = waits::open_wanted(alloc, limits.clients + limits.workers)?;
+        let closing = closing::open_closing(alloc, limits.clients + limits.workers)?;
+        let notices = Barriers::open(alloc, limits.clients + limits.workers, limits.objects)?;
         let clients = actors::open_clients(alloc, limits.clients)?;
         let timers = TimerObjects::open(alloc, limits.objects)?;
         let kernels = KernelTable::open(alloc, limits.kernels, limits.objects)?;
         Ok(LiveWorld {
             limits,
             pools,
+            groups,
             objects,
+            members,
             callbacks,
             queues,
             outstanding,
@@ -123,6 +142,8 @@ impl LiveWorld {
             barriers,
             waits: BegunWaits::none(),
             wanted,
+            closing,
+            notices,
             clients,
             timers,
             kernels,

@@ -4,12 +4,12 @@ ghost use Rattle.std.specs.Prelude.{◌≡◌, ◌+◌, ◌==◌, nat_le, length
 ghost use Rattle.handle_table.specs.Found.{found_row as found_row_of};
 ghost use Rattle.live_world.specs.Parts.{is_timed_kind as is_timed_kind_of, shown_object};
 ghost use Rattle.tp_model.specs.Counts.{numbered};
-ghost use Rattle.tp_model.specs.Conditions.{is_object, is_released, is_same_kind as is_same_kind_of, is_object_of, is_no_group_or_group, is_closed_group};
+ghost use Rattle.tp_model.specs.Conditions.{is_object, is_released, is_same_kind as is_same_kind_of, is_object_of};
 
 use crate::LiveWorld;
 use handle_table::Found;
 use tp_base::calls::{Environ, Kind};
-use tp_base::ids::{GroupId, ObjectId, RoutineId};
+use tp_base::ids::{ObjectId, RoutineId};
 use tp_base::rows::ObjectRow;
 
 /// An object as it was made.
@@ -109,21 +109,5 @@ impl LiveWorld {
         ensures { result ≡ nat_le self.now.world.limits.objects (length self.now.world.objects) }
     {
         self.limits.objects <= self.objects.len()
-    }
-
-    /// Whether this names no group, or a group that was made. No call makes one yet.
-    pub fn is_no_group_or_group(&self, group: GroupId) -> bool
-        ensures { result ≡ is_no_group_or_group self.now.world group.0 }
-    {
-        let _ = &self.limits;
-        group.0 == 0
-    }
-
-    /// Whether the group was made and closed. No call makes one yet.
-    pub fn is_closed_group(&self, _group: GroupId) -> bool
-        ensures { result ≡ is_closed_group self.now.world _group.0 }
-    {
-        let _ = &self.limits;
-        false
     }
 }

@@ -1,15 +1,16 @@
 //! The waits that actors have begun: what each still holds, or which kernel object it is for.
 
-ghost use Rattle.std.specs.Prelude.{◌≡◌, ◌+◌, ◌^◌, ◌<◌, IfOk, None, Some, is_none, replicate, slice_get};
-ghost use Rattle.tp_model.specs.Counts.{is_pending as is_pending_by, is_running as is_running_by};
+ghost use Rattle.std.specs.Prelude.{◌≡◌, ◌+◌, ◌^◌, ◌<◌, IfOk, None, Some, false, is_none, replicate, slice_get};
+ghost use Rattle.std.specs.Option.{option_map_or};
+ghost use Rattle.tp_model.specs.Counts.{callback_of, is_pending as is_pending_by, is_running as is_running_by};
 ghost use Rattle.tp_model.specs.Conditions.{is_in_wait};
 ghost use Rattle.tp_model.specs.Waits.{wait_of};
 ghost use Rattle.tp_model.specs.Calls.Waits.{is_starved, holds_starved};
-ghost use Rattle.live_world.specs.Parts.{place_of, place_within as place_within_of};
+ghost use Rattle.live_world.specs.Parts.{closing_by, place_of, place_within as place_within_of};
 
 use crate::LiveWorld;
 use std::alloc::{AllocError, Global};
-use tp_base::ids::{KernelId, Who};
+use tp_base::ids::{KernelId, ObjectId, RoutineId, Who};
 use tp_base::rows::{CallbackRow, Status};
 
 /// How far a wait has come.
@@ -17,14 +18,25 @@ use tp_base::rows::{CallbackRow, Status};
 pub enum Progress {
     /// The actor has begun none.
     NotBegun,
-    /// Nothing that it covers is outstanding any more.
+    /// Nothing that it covers is outstanding any more, and it has no notice to give.
     Free,
+    /// Nothing that it covers is outstanding any more, and it still has this notice to give.
+    Notifies {
+        object: ObjectId,
+        routine: RoutineId,
+        context: u64,
+        cleanup: u64,
+    },
     /// It holds a callback that waits for a worker, and the history has no room for it to be run.
     Starved,
     /// It holds callbacks, the first of which has this number.
-    Holds { callback: u64 },
+    Holds {
+        callback: u64,
+    },
     /// It is for this kernel object, and ends when the actor takes that.
-    Acquires { kernel: KernelId },
+    Acquires {
+        kernel: KernelId,
+    },
 }
 
 // Of so many actors none waits for a kernel object.
@@ -61,7 +73,7 @@ pub(crate) fn is_running(callback: &CallbackRow) -> bool
 }
 
 impl LiveWorld {
-    ghost use Rattle.live_world.specs.Waiting.{held_by, progress_of};
+    ghost use Rattle.live_world.specs.Waiting.{held_by, progress_free, progress_of};
 
     // Where an actor's wait stands among the barriers, if it is an actor of the machine.
     pub(crate) fn waiter(&self, who: Who) -> Option<u32>
@@ -103,6 +115,7 @@ impl LiveWorld {
     fn holds_starved(&self, who: Who, waiter: u32, first: u64, room: u64) -> bool
         requires at { place_of self.now.world.limits who ≡ Some waiter }
         requires first { slice_get (held_by self.now.world who) 0 ≡ Some first }
+        requires closes { closing_by (wait_of self.now.world who) ≡ None }
         ensures { result ≡ holds_starved self.now.world room (held_by self.now.world who) }
     {
         if 4 <= room {
@@ -119,8 +132,75 @@ impl LiveWorld {
         }
     }
 
+    // Whether the callback of this number is starved, if one is kept.
+    fn starves(&self, number: u64, room: u64) -> bool
+        ensures { result ≡ option_map_or (is_starved self.now.world room) (callback_of self.now.world number) false }
+    {
+        match self.callbacks.find(number) {
+            None => false,
+            Some(callback) => self.is_starved(&callback, room),
+        }
+    }
+
+    // Whether the actor's wait holds one that is starved. Walks what it holds, unless the history has
+    // room for it to be run.
+    fn holds_any_starved(&self, who: Who, waiter: u32, room: u64) -> bool
+        requires { place_of self.now.world.limits who ≡ Some waiter }
+        ensures { result ≡ holds_starved self.now.world room (held_by self.now.world who) }
+    {
+        if 4 <= room {
+            return false;
+        }
+        let mut next = self.barriers.least(waiter);
+        while let Some(number) = next {
+            if self.starves(number, room) {
+                return true;
+            }
+            next = self.barriers.after(waiter, number);
+        }
+        false
+    }
+
+    // What is left of an actor's wait that holds nothing: the first of its notices, if it has one.
+    fn progress_free(&self, who: Who, waiter: u32) -> Progress
+        requires at { place_of self.now.world.limits who ≡ Some waiter }
+        requires begun { is_none (wait_of self.now.world who) ≡ false }
+        ensures { result ≡ progress_free self.now.world (wait_of self.now.world who) }
+    {
+        self.is_reachable();
+        let Some(number) = self.notices.least(waiter) else {
+            return Progress::Free;
+        };
+        let Some(closing) = self.closing[waiter as usize] else {
+            unreachable!()
+        };
+        let object = ObjectId(number as u32);
+        let Some(row) = self.object(object) else {
+            unreachable!()
+        };
+        Progress::Notifies {
+            object,
+            routine: row.env.cancel,
+            context: row.context,
+            cleanup: closing.context,
+        }
+    }
+
+    // Whether the actor's wait, of which this is the first held callback, holds one that is starved.
+    fn is_wait_starved(&self, who: Who, waiter: u32, first: u64, room: u64) -> bool
+        requires at { place_of self.now.world.limits who ≡ Some waiter }
+        requires first { slice_get (held_by self.now.world who) 0 ≡ Some first }
+        ensures { result ≡ holds_starved self.now.world room (held_by self.now.world who) }
+    {
+        match self.closing[waiter as usize] {
+            None => self.holds_starved(who, waiter, first, room),
+            Some(_) => self.holds_any_starved(who, waiter, room),
+        }
+    }
+
     /// How far the actor's wait has come, where the history has this room left. Where that is less
-    /// than 4, it walks what is outstanding for an object up to what is pending, and else nothing.
+    /// than 4, it walks what is outstanding for an object up to what is pending, or what a wait for a
+    /// group holds, and else nothing.
     pub fn progress(&self, who: Who, room: u64) -> Progress
         ensures { result ≡ progress_of self.now.world room who }
     {
@@ -135,9 +215,9 @@ impl LiveWorld {
             return Progress::Acquires { kernel };
         }
         match self.barriers.least(waiter) {
-            None => Progress::Free,
+            None => self.progress_free(who, waiter),
             Some(callback) => {
-                if self.holds_starved(who, waiter, callback, room) {
+                if self.is_wait_starved(who, waiter, callback, room) {
                     Progress::Starved
                 } else {
                     Progress::Holds { callback }

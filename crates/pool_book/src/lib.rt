@@ -34,8 +34,6 @@ use tp_base::ids::Who;
 use tp_base::limits::Limits;
 
 mod past;
-#[cfg(test)]
-mod tests;
 
 /// A history that is being made, and the machine that it is made on.
 #[derive(Drop)]

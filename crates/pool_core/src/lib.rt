@@ -14,6 +14,8 @@
 //! |---|---|
 //! | `CreatePool`, `ClosePool` | `CreateThreadpool`, `CloseThreadpool` |
 //! | `SetMaximum`, `SetMinimum` | `SetThreadpoolThreadMaximum`, `SetThreadpoolThreadMinimum` |
+//! | `CreateGroup`, `CloseGroup` | `CreateThreadpoolCleanupGroup`, `CloseThreadpoolCleanupGroup` |
+//! | `BeginClose`, then `End` | `CloseThreadpoolCleanupGroupMembers` |
 //! | `Create`, `CloseObject` | `CreateThreadpoolWork`, `CloseThreadpoolWork`, and those for timers, waits and I/O |
 //! | `SubmitWork`, `SubmitSimple` | `SubmitThreadpoolWork`, `TrySubmitThreadpoolCallback` |
 //! | `SetTimer`, `SetTimerEx` | `SetThreadpoolTimer`, `SetThreadpoolTimerEx` |
@@ -67,6 +69,7 @@ use tp_base::plans::Change;
 
 mod clients;
 mod decisions;
+mod groups;
 mod in_callback;
 mod io;
 mod kernels;
@@ -174,7 +177,8 @@ impl Engine {
     }
 
     /// The number of entries for which the history must keep room: each running callback returns,
-    /// each attached worker detaches, each client finishes.
+    /// each begun wait gives its notices and ends, each attached worker detaches, each client
+    /// finishes.
     pub fn owed(&self) -> u64
         ensures { (w : World) → StandsFor self.now w → result ≡ owed w }
     {

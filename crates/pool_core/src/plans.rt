@@ -7,7 +7,8 @@ ghost use Rattle.tp_model.specs.Table.{plan_at};
 
 use crate::decisions::Decision;
 use crate::{
-    clients, in_callback, io, kernels, objects, pools, timers, wait_objects, waits, work, workers,
+    clients, groups, in_callback, io, kernels, objects, pools, timers, wait_objects, waits, work,
+    workers,
 };
 use live_world::LiveWorld;
 use tp_base::calls::Call;
@@ -30,6 +31,13 @@ pub(crate) fn plan(
         Call::ClosePool { pool } => pools::close_pool(world, who, pool, change),
         Call::SetMaximum { pool, value } => pools::set_maximum(world, who, pool, value, change),
         Call::SetMinimum { pool, value } => pools::set_minimum(world, who, pool, value, change),
+        Call::CreateGroup => groups::create_group(world, who, change),
+        Call::CloseGroup { group } => groups::close_group(world, who, group, change),
+        Call::BeginClose {
+            group,
+            cancel,
+            context,
+        } => groups::begin_close(world, who, group, cancel, context, change),
         Call::Create {
             kind,
             routine,
@@ -115,13 +123,17 @@ pub(crate) fn price(change: &Change) -> u64
 {
     match change {
         Change::Attach { .. } | Change::Take { .. } | Change::BeginWait { .. } => 2,
+        Change::BeginClose { notices, .. } => 2 + u64::from(*notices),
         Change::Detach(_)
         | Change::Return { .. }
+        | Change::GiveNotice { .. }
         | Change::EndWait { .. }
         | Change::Finish { .. } => 0,
         Change::Keep
         | Change::CreatePool
         | Change::ChangePool { .. }
+        | Change::CreateGroup
+        | Change::CloseGroup { .. }
         | Change::CreateObject(_)
         | Change::ReleaseObject { .. }
         | Change::QueueCallback(_)

@@ -45,8 +45,24 @@ macro_rules! environ_refusal {
     }};
 }
 
+// And of a call on a group.
+macro_rules! group_refusal {
+    ($world:ident, $who:ident, $group:ident, [$($own:tt),* $(,)?]) => {{
+        let actor = $world.actor($who);
+        first_of!([
+            (either(!actor.exists, !$world.is_group($group)), Refusal::NoSuch),
+            (actor.finished, Refusal::Released),
+            ($world.is_closed_group($group), Refusal::GroupClosed),
+            (actor.is_idle, Refusal::NotRunning),
+            (actor.in_wait, Refusal::InWait),
+            $($own),*
+        ])
+    }};
+}
+
 pub(crate) use environ_refusal;
 pub(crate) use first_of;
+pub(crate) use group_refusal;
 pub(crate) use object_refusal;
 
 /// Whether one of two conditions holds.

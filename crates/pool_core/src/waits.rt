@@ -1,6 +1,6 @@
 //! Waits for callbacks: `WaitForThreadpoolWorkCallbacks` and its like for the other kinds; and for kernel
 //! objects: `WaitForSingleObject` and `EnterCriticalSection`. BeginWait and BeginAcquire are the entry of
-//! the function, and End its return.
+//! the function, and End its return; a wait that closes a group's members gives its notices before it ends.
 
 ghost use Rattle.pool_core.specs.Decided.{decided};
 ghost use Rattle.std.specs.Prelude.{◌≡◌};
@@ -110,6 +110,21 @@ fn end_at(world: &LiveWorld, who: Who, progress: Progress, change: &mut Change) 
     match progress {
         Progress::NotBegun => Decision::Refused(Refusal::NoWaitBegun),
         Progress::Free => end_freely(who, change),
+        Progress::Notifies {
+            object,
+            routine,
+            context,
+            cleanup,
+        } => accept(
+            change,
+            Answer::Notice {
+                object,
+                routine,
+                context,
+                cleanup,
+            },
+            Change::GiveNotice { who },
+        ),
         Progress::Starved => accept(
             change,
             Answer::Exhausted,
@@ -125,7 +140,8 @@ fn end_at(world: &LiveWorld, who: Who, progress: Progress, change: &mut Change) 
 }
 
 /// Ends the wait that the actor has begun, if nothing is left to wait for, or if what is left can't
-/// be run in the room of the history. One for a kernel object ends as soon as the actor may take it.
+/// be run in the room of the history. One for a kernel object ends as soon as the actor may take it,
+/// and one that has notices to give gives the first of them in place of ending.
 #[tactic(auto, using(crate::proofs::Ending::ends_at), unfolding(tp_model::specs::Calls::Waits::end_plan))]
 pub(crate) fn end(world: &LiveWorld, who: Who, room: u64, change: &mut Change) -> Decision
     ensures { decided result change.new ≡ end_plan world.now.world room who }

@@ -4,7 +4,7 @@ use Rattle.std.specs.Int.{w64}
 use Rattle.tp_base.specs.declared.limits.Limits.{Limits}
 use Rattle.tp_base.specs.declared.ids.KernelId.{KernelId}
 use Rattle.tp_base.specs.declared.calls.Call.{Call}
-use Rattle.tp_base.specs.declared.calls.Call.TheVariants.{ClosePool, SetMaximum, SetMinimum, Create, CloseObject, SubmitSimple, SubmitWork, SetTimer, SetTimerEx, IsTimerSet, Advance, BeginWait, BeginAcquire, CreateSemaphore, SetEvent, ResetEvent, ReleaseSemaphore, ReleaseLock, OnReturn, SetWait, StartIo, IssueIo, CancelIo, CompleteIo}
+use Rattle.tp_base.specs.declared.calls.Call.TheVariants.{ClosePool, SetMaximum, SetMinimum, CloseGroup, BeginClose, Create, CloseObject, SubmitSimple, SubmitWork, SetTimer, SetTimerEx, IsTimerSet, Advance, BeginWait, BeginAcquire, CreateSemaphore, SetEvent, ResetEvent, ReleaseSemaphore, ReleaseLock, OnReturn, SetWait, StartIo, IssueIo, CancelIo, CompleteIo}
 use Rattle.tp_base.specs.declared.calls.Environ.{Environ}
 use Rattle.tp_base.specs.declared.answers.Answer.{Answer}
 use Rattle.tp_base.specs.declared.answers.Answer.TheVariants as answer
@@ -83,6 +83,8 @@ IsCallInRange (ResetEvent kernel) = kernel.0 ≤ 65535
 IsCallInRange (ReleaseSemaphore kernel count) = (kernel.0 ≤ 65535) × (1 ≤ count) × (count ≤ count_most)
 IsCallInRange (OnReturn kind kernel count) = (kernel.0 ≤ 65535) × (1 ≤ count) × (count ≤ count_most)
 IsCallInRange (ReleaseLock lock kernel) = kernel.0 ≤ 65535
+IsCallInRange (CloseGroup group) = group.0 ≤ 65535
+IsCallInRange (BeginClose group cancel context) = (group.0 ≤ 65535) × (context < 2 ^ 64)
 IsCallInRange (ClosePool pool) = pool.0 ≤ 65535
 IsCallInRange (SetMaximum pool value) = (pool.0 ≤ 65535) × (value < 2 ^ 32)
 IsCallInRange (SetMinimum pool value) = (pool.0 ≤ 65535) × (value < 2 ^ 32)

@@ -70,6 +70,21 @@ pub enum Call {
         pool: PoolId,
         value: u32,
     },
+    /// Makes a cleanup group: `CreateThreadpoolCleanupGroup`.
+    CreateGroup,
+    /// Closes a group that has no member: `CloseThreadpoolCleanupGroup`.
+    CloseGroup {
+        group: GroupId,
+    },
+    /// Releases the members of a group, and begins a wait for its callbacks, those that are pending
+    /// cancelled or not: `CloseThreadpoolCleanupGroupMembers`. With `cancel` each member that has a
+    /// cancel routine gets a notice.
+    BeginClose {
+        group: GroupId,
+        cancel: bool,
+        /// What the notices tell besides, as the function's `pvCleanupContext`.
+        context: u64,
+    },
     /// Makes an object: `CreateThreadpoolWork` and its like for the other kinds.
     Create {
         kind: Kind,
@@ -293,7 +308,9 @@ fn is_in_range(call: Call) -> bool
         }
         Call::ClosePool { pool } | Call::SetMaximum { pool, .. } | Call::SetMinimum { pool, .. } =>
             pool.0 <= 65_535,
+        Call::CloseGroup { group } | Call::BeginClose { group, .. } => group.0 <= 65_535,
         Call::CreatePool
+        | Call::CreateGroup
         | Call::Attach
         | Call::Detach
         | Call::Take

@@ -1,7 +1,7 @@
 //! What a call comes to, as data: a refusal, a look, or an answer with the change that goes with it.
 
 use crate::answers::{ActionKind, Answer, Look, Refusal, SlotWord};
-use crate::ids::{KernelId, ObjectId, PoolId, Who};
+use crate::ids::{GroupId, KernelId, ObjectId, PoolId, Who};
 use crate::rows::{Action, CallbackRow, KernelState, ObjectRow, WaitTarget};
 
 /// A worker that is attached to a pool and runs nothing.
@@ -126,6 +126,11 @@ pub enum Change {
         pool: PoolId,
         how: PoolChange,
     },
+    /// A further group.
+    CreateGroup,
+    CloseGroup {
+        group: GroupId,
+    },
     /// A further object.
     CreateObject(ObjectRow),
     ReleaseObject {
@@ -183,6 +188,20 @@ pub enum Change {
         who: Who,
         target: WaitTarget,
         cancel: bool,
+    },
+    /// The members of a group are released, and an actor begins a wait for the group, which covers
+    /// what is then outstanding; with `cancel` what is pending is cancelled first. It gives so many
+    /// notices, with this context, before it ends.
+    BeginClose {
+        who: Who,
+        group: GroupId,
+        cancel: bool,
+        context: u64,
+        notices: u32,
+    },
+    /// The first notice that an actor's wait still has to give is given.
+    GiveNotice {
+        who: Who,
     },
     EndWait {
         who: Who,

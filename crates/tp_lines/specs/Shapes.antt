@@ -16,6 +16,9 @@ shape_of word.CreatePool = record { table = field.Call; text = codes "create-poo
 shape_of word.ClosePool = record { table = field.Call; text = codes "close-pool"; fields = field.Short ∷ [] }
 shape_of word.SetMaximum = record { table = field.Call; text = codes "set-maximum"; fields = field.Short ∷ field.Small ∷ [] }
 shape_of word.SetMinimum = record { table = field.Call; text = codes "set-minimum"; fields = field.Short ∷ field.Small ∷ [] }
+shape_of word.CreateGroup = record { table = field.Call; text = codes "create-group"; fields = [] }
+shape_of word.CloseGroup = record { table = field.Call; text = codes "close-group"; fields = field.Short ∷ [] }
+shape_of word.CloseMembers = record { table = field.Call; text = codes "close-members"; fields = field.Short ∷ field.How ∷ field.Cleanup ∷ [] }
 shape_of word.Create = record { table = field.Call; text = codes "create"; fields = field.Kind ∷ field.Routine ∷ field.Context ∷ field.Pool ∷ field.Priority ∷ field.Length ∷ field.Group ∷ field.Cancel ∷ [] }
 shape_of word.CloseObject = record { table = field.Call; text = codes "close"; fields = field.Kind ∷ field.Short ∷ [] }
 shape_of word.SubmitSimple = record { table = field.Call; text = codes "submit-simple"; fields = field.Routine ∷ field.Context ∷ field.Pool ∷ field.Priority ∷ field.Length ∷ field.Group ∷ field.Cancel ∷ [] }

@@ -34,6 +34,15 @@ fn call_at(word: Word, parts: &Parts) -> Option<Call>
             pool: PoolId(parts.at(1).small()),
             value: parts.at(2).small(),
         },
+        Word::CreateGroup => Call::CreateGroup,
+        Word::CloseGroup => Call::CloseGroup {
+            group: GroupId(parts.at(1).small()),
+        },
+        Word::CloseMembers => Call::BeginClose {
+            group: GroupId(parts.at(1).small()),
+            cancel: parts.at(2).cancels(),
+            context: parts.at(3).large(),
+        },
         Word::Create => Call::Create {
             kind: parts.at(1).kind(),
             routine: RoutineId(parts.at(2).small()),
@@ -246,6 +255,17 @@ pub fn put_call(call: &Call, out: &mut [u8], at: usize) -> usize
         }
         Call::SetMinimum { pool, value } => {
             parts!(out, at; first(Word::SetMinimum) number(u64::from(pool.0)) number(u64::from(*value)))
+        }
+        Call::CreateGroup => line::first(Word::CreateGroup, out, at),
+        Call::CloseGroup { group } => {
+            parts!(out, at; first(Word::CloseGroup) number(u64::from(group.0)))
+        }
+        Call::BeginClose {
+            group,
+            cancel,
+            context,
+        } => {
+            parts!(out, at; first(Word::CloseMembers) number(u64::from(group.0)) word(Word::How(*cancel)) lettered(b'y', *context))
         }
         Call::Create {
             kind,

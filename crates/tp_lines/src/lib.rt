@@ -22,8 +22,6 @@
 
 mod answers;
 pub mod calls;
-#[cfg(test)]
-mod columns;
 pub mod entries;
 mod fronts;
 pub mod good;
@@ -32,6 +30,4 @@ pub mod parse;
 mod parts;
 pub mod print;
 mod rows;
-#[cfg(test)]
-mod tests;
 mod words;

@@ -85,6 +85,9 @@ pub enum Word {
     ClosePool,
     SetMaximum,
     SetMinimum,
+    CreateGroup,
+    CloseGroup,
+    CloseMembers,
     Create,
     CloseObject,
     SubmitSimple,
@@ -199,6 +202,9 @@ macro_rules! words {
                 (Word::ClosePool) b"close-pool" [Short];
                 (Word::SetMaximum) b"set-maximum" [Short Small];
                 (Word::SetMinimum) b"set-minimum" [Short Small];
+                (Word::CreateGroup) b"create-group" [];
+                (Word::CloseGroup) b"close-group" [Short];
+                (Word::CloseMembers) b"close-members" [Short How Cleanup];
                 (Word::Create) b"create" [Kind Routine Context Pool Priority Length Group Cancel];
                 (Word::CloseObject) b"close" [Kind Short];
                 (Word::SubmitSimple) b"submit-simple" [Routine Context Pool Priority Length Group Cancel];
@@ -415,7 +421,7 @@ macro_rules! all_words {
 /// All words.
 #[derive(Clone, Copy)]
 pub struct WordList {
-    pub words: [Word; 124],
+    pub words: [Word; 127],
 }
 
 pub const WORDS: WordList = WordList {

@@ -27,7 +27,7 @@ use Rattle.tp_model.proofs.Firing.{armable_wait}
 use Rattle.tp_model.proofs.Lists.{find_all}
 use Rattle.tp_model.proofs.Once.{AgreesAfter}
 use Rattle.tp_model.proofs.Places.{LastPlace, Here, Earlier, last_place, no_place, new_above, find_front}
-use Rattle.tp_model.proofs.Promising.{among_front, made_past}
+use Rattle.tp_model.proofs.Readying.{among_front, made_past}
 use Rattle.tp_model.proofs.Refusals.{false_true, or_true, or_false}
 
 -- the callback is there, and is of the object

@@ -2,7 +2,7 @@
 use Rattle.std.proofs.Common.{◌≡◌, ℕ, ◌+◌, ◌≤◌, ◌^◌, arith}
 use Rattle.tp_base.specs.declared.ids.Who.{Who}
 use Rattle.tp_base.specs.declared.calls.Call.{Call}
-use Rattle.tp_base.specs.declared.calls.Call.TheVariants.{CreatePool, ClosePool, SetMaximum, SetMinimum, Create, CloseObject, SubmitSimple, SubmitWork, SetTimer, SetTimerEx, IsTimerSet, Advance, BeginWait, BeginAcquire, End, CreateEvent, CreateSemaphore, CreateLock, SetEvent, ResetEvent, ReleaseSemaphore, ReleaseLock, Attach, Detach, Take, Return, MayRunLong, Disassociate, OnReturn, Finish, SetWait, StartIo, IssueIo, CancelIo, CompleteIo}
+use Rattle.tp_base.specs.declared.calls.Call.TheVariants.{CreatePool, ClosePool, SetMaximum, SetMinimum, CreateGroup, CloseGroup, BeginClose, Create, CloseObject, SubmitSimple, SubmitWork, SetTimer, SetTimerEx, IsTimerSet, Advance, BeginWait, BeginAcquire, End, CreateEvent, CreateSemaphore, CreateLock, SetEvent, ResetEvent, ReleaseSemaphore, ReleaseLock, Attach, Detach, Take, Return, MayRunLong, Disassociate, OnReturn, Finish, SetWait, StartIo, IssueIo, CancelIo, CompleteIo}
 use Rattle.tp_base.specs.Ranges.{IsCallInRange}
 use Rattle.tp_model.specs.World.{World}
 use Rattle.tp_model.specs.Table.{plan_at}
@@ -12,6 +12,7 @@ use Rattle.tp_model.specs.Support.Remembered.{forget}
 use Rattle.tp_model.specs.Support.Ranged.{IsRanged, IsPlanInRange}
 pub mod Pools
 pub mod Objects
+pub mod Groups
 pub mod Work
 pub mod Timers
 pub mod Workers
@@ -22,6 +23,7 @@ pub mod Io
 pub mod Waits
 pub mod Clients
 use Pools.{create_pool_safe, create_pool_forget, create_pool_ranged, close_pool_safe, close_pool_forget, close_pool_ranged, set_maximum_safe, set_maximum_forget, set_maximum_ranged, set_minimum_safe, set_minimum_forget, set_minimum_ranged}
+use Groups.{create_group_safe, create_group_forget, create_group_ranged, close_group_safe, close_group_forget, close_group_ranged, begin_close_safe, begin_close_forget, begin_close_ranged}
 use Objects.{create_safe, create_forget, create_ranged, close_object_safe, close_object_forget, close_object_ranged}
 use Work.{submit_work_safe, submit_work_forget, submit_work_ranged, submit_simple_safe, submit_simple_forget, submit_simple_ranged}
 use Workers.{attach_safe, attach_forget, attach_ranged, detach_safe, detach_forget, detach_ranged, take_safe, take_forget, take_ranged, return_safe, return_forget, return_ranged}
@@ -39,6 +41,9 @@ plan_safe fresh room w who CreatePool s = create_pool_safe fresh w who
 plan_safe fresh room w who (ClosePool pool) s = close_pool_safe fresh w who pool
 plan_safe fresh room w who (SetMaximum pool value) s = set_maximum_safe fresh w who pool value
 plan_safe fresh room w who (SetMinimum pool value) s = set_minimum_safe fresh w who pool value
+plan_safe fresh room w who CreateGroup s = create_group_safe fresh w who
+plan_safe fresh room w who (CloseGroup group) s = close_group_safe fresh w who group
+plan_safe fresh room w who (BeginClose group cancel context) s = begin_close_safe fresh w who group cancel context
 plan_safe fresh room w who (Create kind routine context env) s = create_safe fresh w who kind routine context env
 plan_safe fresh room w who (CloseObject kind object) s = close_object_safe fresh w who kind object
 plan_safe fresh room w who (SubmitSimple routine context env) s = submit_simple_safe fresh w who routine context env
@@ -77,6 +82,9 @@ plan_forget fresh room w who CreatePool s = create_pool_forget w who
 plan_forget fresh room w who (ClosePool pool) s = close_pool_forget w who pool
 plan_forget fresh room w who (SetMaximum pool value) s = set_maximum_forget w who pool value
 plan_forget fresh room w who (SetMinimum pool value) s = set_minimum_forget w who pool value
+plan_forget fresh room w who CreateGroup s = create_group_forget w who
+plan_forget fresh room w who (CloseGroup group) s = close_group_forget w who group
+plan_forget fresh room w who (BeginClose group cancel context) s = begin_close_forget fresh w who group cancel context s
 plan_forget fresh room w who (Create kind routine context env) s = create_forget w who kind routine context env
 plan_forget fresh room w who (CloseObject kind object) s = close_object_forget w who kind object
 plan_forget fresh room w who (SubmitSimple routine context env) s = submit_simple_forget fresh w who routine context env
@@ -116,6 +124,9 @@ module _ (fresh : ℕ) (w : World) (few : fresh + 65536 ≤ 2 ^ 64) (s : IsSound
   plan_ranged room who (ClosePool pool) c = close_pool_ranged w who pool
   plan_ranged room who (SetMaximum pool value) c = set_maximum_ranged w who pool value
   plan_ranged room who (SetMinimum pool value) c = set_minimum_ranged w who pool value
+  plan_ranged room who CreateGroup c = create_group_ranged w who g
+  plan_ranged room who (CloseGroup group) c = close_group_ranged w who group g
+  plan_ranged room who (BeginClose group cancel context) c = begin_close_ranged w who group cancel context g c
   plan_ranged room who (Create kind routine context env) c = create_ranged w who kind routine context env g c
   plan_ranged room who (CloseObject kind object) c = close_object_ranged w who kind object c
   plan_ranged room who (SubmitSimple routine context env) c = submit_simple_ranged fresh w who routine context env (omega (arith, few)) c
@@ -130,7 +141,7 @@ module _ (fresh : ℕ) (w : World) (few : fresh + 65536 ≤ 2 ^ 64) (s : IsSound
   plan_ranged room who (CancelIo object) c = cancel_io_ranged w who object g
   plan_ranged room who (CompleteIo callback error bytes) c = complete_io_ranged w who callback error bytes g c
   plan_ranged room who (BeginWait kind object cancel) c = begin_wait_ranged w who kind object cancel g
-  plan_ranged room who End c = end_ranged room w who g
+  plan_ranged room who End c = end_ranged fresh room w who s g
   plan_ranged room who (BeginAcquire kernel) c = begin_acquire_ranged w who kernel c
   plan_ranged room who (CreateEvent manual signalled) c = create_event_ranged w who manual signalled g
   plan_ranged room who (CreateSemaphore initial most) c = create_semaphore_ranged w who initial most g c

@@ -1,5 +1,5 @@
 -- What changes cost.
-use Rattle.std.proofs.Common.{◌≡◌, ℕ, ◌+◌, ◌-◌, Bool, true, false, cond, not, List, [], ◌∷◌, ◌++◌, length, Option, Some, None, is_some, refl, sym, ap, ◌∙◌, subst, arith, slice_get, filter, find, sum_by, length-append}
+use Rattle.std.proofs.Common.{◌≡◌, ℕ, ◌+◌, ◌-◌, Bool, true, false, cond, not, List, [], ◌∷◌, ◌++◌, length, Option, Some, None, is_some, refl, sym, ap, ◌∙◌, subst, arith, slice_get, filter, find, sum_by, length-append, drop}
 use Rattle.std.proofs.lemmas.List.Elements.{filter-append}
 use Rattle.tp_base.specs.declared.ids.PoolId.{PoolId}
 use Rattle.tp_base.specs.declared.plans.Change.{Change}
@@ -19,24 +19,26 @@ use Rattle.tp_base.specs.declared.rows.Status.TheVariants.{Running}
 use Rattle.tp_base.specs.declared.rows.CallbackRow.{CallbackRow}
 use Rattle.tp_base.specs.declared.rows.WorkerRow.{WorkerRow}
 use Rattle.tp_base.specs.declared.rows.ClientRow.{ClientRow}
-use Rattle.std.specs.List.{AllByRecursion, list_any}
+use Rattle.std.specs.List.{list_any}
 use Rattle.std.proofs.lemmas.List.Sums.{sum_by-cons}
 use Rattle.tp_base.specs.Actors.{is_same_actor}
-use Rattle.tp_model.specs.Conditions.{is_in_wait}
 use Rattle.tp_model.specs.Waits.{is_cancelled_by, cancel_where, wait_of}
 use Rattle.tp_base.specs.declared.ids.ObjectId.{ObjectId}
 use Rattle.tp_model.specs.Sources.{firing, sources_of}
 use Rattle.tp_model.specs.World.{World, BegunWait, unattached, unfinished}
 use Rattle.tp_model.specs.Counts.{numbered, has_number, is_pending, is_running, owed}
-use Rattle.tp_model.specs.Changes.{replaced, with_new_callback, with_callback, with_worker, with_client, change_pool, taken, marked, operated, returned, changed, loosened, release_object, new_wait, without_wait}
-use Rattle.tp_model.specs.Support.Sound.{IsSound, IsWaitSound, AreApart}
-use Rattle.tp_model.specs.Support.Allowed.{IsAllowed, IsTargetMade, price}
+use Rattle.tp_model.specs.Changes.{replaced, with_new_callback, with_callback, with_worker, with_client, change_pool, taken, marked, operated, returned, changed, loosened, release_object, new_wait, without_wait, give_notice, notified, new_close}
+use Rattle.tp_model.specs.Support.Sound.{IsSound, AreApart}
+use Rattle.tp_model.specs.Support.Allowed.{IsAllowed, price}
 use Rattle.tp_model.proofs.Firing.{running_appended}
 use Rattle.tp_model.proofs.Lists.{length_filter_set}
 use Rattle.tp_model.proofs.Callbacks.{length_filter_replaced, pending_not_running, before_idle, after_idle}
-use Rattle.tp_model.proofs.Cancelling.{cancelled_pending, count_uncancelled}
-use Rattle.tp_model.proofs.Preserving.{sound_begin_wait, sound_end_wait}
+use Rattle.tp_model.proofs.Cancelling.{cancelled_pending, count_uncancelled, IsPendingTest}
 use Rattle.tp_model.proofs.Refusals.{neither, numbered_some, same_actor_is}
+use Rattle.tp_base.specs.declared.ids.GroupId.{GroupId}
+use Rattle.tp_model.specs.Groups.{notices_of, without_members}
+use Rattle.std.proofs.lemmas.List.{length-map}
+use Rattle.tp_base.specs.declared.rows.WaitTarget.TheVariants.{Group}
 
 abbrev one_if : Bool → ℕ
 one_if b = cond b 1 0
@@ -136,20 +138,46 @@ owed_release : (w : World) (object : ObjectId) (row : Option ObjectRow) → owed
 owed_release w object None = refl
 owed_release w object (Some row) = refl
 
--- the notices of waits that have none
-no_notices : (fresh : ℕ) (cs : List CallbackRow) (bs : List BegunWait) → AllByRecursion (IsWaitSound fresh cs) bs → sum_by (λ (b : BegunWait). length b.notices) bs ≡ 0
-no_notices fresh cs [] all = refl
-no_notices fresh cs (b ∷ bs) all = sum_by-cons (λ (x : BegunWait). length x.notices) b bs ∙ omega (arith, ap length all.0.unnoticed, no_notices fresh cs bs all.1)
+abbrev notices_left : List BegunWait → ℕ
+notices_left bs = sum_by (λ (b : BegunWait). length b.notices) bs
 
--- a wait that begins will end
-owed_begin_wait : (fresh : ℕ) (w : World) (who : Who) (target : WaitTarget) (cancel : Bool) → IsSound fresh w → is_in_wait w who ≡ false → IsTargetMade w target → owed (changed w (change.BeginWait who target cancel)) ≡ owed w + 1
-owed_begin_wait fresh w who target cancel s none made =
-    let test : CallbackRow → Bool = is_cancelled_by target cancel in
-    let after : IsSound fresh (changed w (change.BeginWait who target cancel)) = sound_begin_wait fresh w who target cancel none made s in
+notices_more : (bs : List BegunWait) (b : BegunWait) → notices_left (bs ++ b ∷ []) ≡ notices_left bs + length b.notices
+notices_more [] b = sum_by-cons (λ (x : BegunWait). length x.notices) b [] ∙ omega arith
+notices_more (c ∷ bs) b =
+    omega (arith, sum_by-cons (λ (x : BegunWait). length x.notices) c (bs ++ b ∷ []), sum_by-cons (λ (x : BegunWait). length x.notices) c bs, notices_more bs b)
+
+-- a wait that begins will end, and give its notices
+owed_begun : (w v : World) (test : CallbackRow → Bool) (b : BegunWait) → IsPendingTest test → v.callbacks ≡ w.callbacks → v.workers ≡ w.workers → v.clients ≡ w.clients → v.given_up ≡ w.given_up
+    → owed (record v { callbacks = cancel_where test w.callbacks; waits = w.waits ++ b ∷ [] }) ≡ owed w + 1 + length b.notices
+owed_begun w v test b only callbacks workers clients given =
     let run : length (filter runs (cancel_where test w.callbacks)) ≡ length (filter runs w.callbacks)
-    = count_uncancelled runs test (λ c e. sym (pending_not_running c.status (cancelled_pending target cancel c e))) w.callbacks in
-    let longer : length (w.waits ++ new_wait who target cancel (cancel_where test w.callbacks) ∷ []) ≡ length w.waits + 1 = length-append w.waits (new_wait who target cancel (cancel_where test w.callbacks) ∷ []) in
-    omega (arith, run, longer, no_notices fresh w.callbacks w.waits s.waits, no_notices fresh (cancel_where test w.callbacks) (w.waits ++ new_wait who target cancel (cancel_where test w.callbacks) ∷ []) after.waits)
+    = count_uncancelled runs test (λ c e. sym (pending_not_running c.status (only c e))) w.callbacks in
+    omega (
+      arith,
+      run,
+      length-append w.waits (b ∷ []),
+      notices_more w.waits b,
+      ap (λ ws. length (filter has_pool ws)) workers,
+      ap (λ cs. length (filter goes_on cs)) clients,
+      given,
+    )
+
+owed_begin_wait : (w : World) (who : Who) (target : WaitTarget) (cancel : Bool) → owed (changed w (change.BeginWait who target cancel)) ≡ owed w + 1
+owed_begin_wait w who target cancel =
+    let test : CallbackRow → Bool = is_cancelled_by target cancel in
+    omega (arith, owed_begun w w test (new_wait who target cancel (cancel_where test w.callbacks)) (cancelled_pending target cancel) refl refl refl refl)
+
+owed_begin_close : (w : World) (who : Who) (group : GroupId) (cancel : Bool) (context notices : ℕ) → owed (changed w (change.BeginClose who group cancel context notices)) ≡ owed w + 1 + length (notices_of w group.0 cancel)
+owed_begin_close w who group cancel context notices =
+    let test : CallbackRow → Bool = is_cancelled_by (Group group) cancel in
+    owed_begun w (without_members w group.0) test (new_close who group cancel context (notices_of w group.0 cancel) (cancel_where test w.callbacks)) (cancelled_pending (Group group) cancel) refl refl refl refl
+
+all_others : (who : Who) (xs : List BegunWait) → list_any (λ (x : BegunWait). is_same_actor x.actor who) xs ≡ false → filter (λ (x : BegunWait). not (is_same_actor x.actor who)) xs ≡ xs
+all_others who [] none = refl
+all_others who (x ∷ xs) none =
+    let both_none = neither (is_same_actor x.actor who) (list_any (λ (y : BegunWait). is_same_actor y.actor who) xs) none in
+    ap (λ t. cond (not t) (x ∷ filter (λ (y : BegunWait). not (is_same_actor y.actor who)) xs) (filter (λ (y : BegunWait). not (is_same_actor y.actor who)) xs)) both_none.0
+    ∙ ap (λ l. x ∷ l) (all_others who xs both_none.1)
 
 -- of waits of different actors an actor has one at most
 one_wait : (who : Who) (bs : List BegunWait) (b : BegunWait) → AreApart bs → find (λ (x : BegunWait). is_same_actor x.actor who) bs ≡ Some b → length (filter (λ (x : BegunWait). not (is_same_actor x.actor who)) bs) + 1 ≡ length bs
@@ -159,22 +187,77 @@ one_wait who (c ∷ bs) b a e =
     → length (cond (not t) (c ∷ filter (λ (x : BegunWait). not (is_same_actor x.actor who)) bs) (filter (λ (x : BegunWait). not (is_same_actor x.actor who)) bs)) + 1 ≡ length (c ∷ bs)) [
       | true ↦ λ is _.
           let own : c.actor ≡ who = same_actor_is c.actor who is in
-          let others : filter (λ (x : BegunWait). not (is_same_actor x.actor who)) bs ≡ bs = all_others bs (subst (λ z. list_any (λ (x : BegunWait). is_same_actor x.actor z) bs ≡ false) own a.0) in
+          let others : filter (λ (x : BegunWait). not (is_same_actor x.actor who)) bs ≡ bs = all_others who bs (subst (λ z. list_any (λ (x : BegunWait). is_same_actor x.actor z) bs ≡ false) own a.0) in
           omega (arith, ap length others)
       | false ↦ λ _ h. omega (arith, one_wait who bs b a.1 h)
     ] refl e
-  where
-    all_others : (xs : List BegunWait) → list_any (λ (x : BegunWait). is_same_actor x.actor who) xs ≡ false → filter (λ (x : BegunWait). not (is_same_actor x.actor who)) xs ≡ xs
-    all_others [] none = refl
-    all_others (x ∷ xs) none =
-        let both_none = neither (is_same_actor x.actor who) (list_any (λ (y : BegunWait). is_same_actor y.actor who) xs) none in
-        ap (λ t. cond (not t) (x ∷ filter (λ (y : BegunWait). not (is_same_actor y.actor who)) xs) (filter (λ (y : BegunWait). not (is_same_actor y.actor who)) xs)) both_none.0
-        ∙ ap (λ l. x ∷ l) (all_others xs both_none.1)
 
-owed_end_wait : (fresh : ℕ) (w : World) (who : Who) (b : BegunWait) → IsSound fresh w → wait_of w who ≡ Some b → owed (without_wait w who) + 1 ≡ owed w
-owed_end_wait fresh w who b s begun =
-    let after : IsSound fresh (without_wait w who) = sound_end_wait fresh w who s in
-    omega (arith, one_wait who w.waits b s.apart begun, no_notices fresh w.callbacks w.waits s.waits, no_notices fresh w.callbacks (filter (λ (x : BegunWait). not (is_same_actor x.actor who)) w.waits) after.waits)
+-- and its notices are those that go with it
+notices_without : (who : Who) (bs : List BegunWait) (b : BegunWait) → AreApart bs → find (λ (x : BegunWait). is_same_actor x.actor who) bs ≡ Some b
+    → notices_left (filter (λ (x : BegunWait). not (is_same_actor x.actor who)) bs) + length b.notices ≡ notices_left bs
+notices_without who [] b a e = absurd cc
+notices_without who (c ∷ bs) b a e =
+    elim (is_same_actor c.actor who) as (λ t. is_same_actor c.actor who ≡ t → cond t (Some c) (find (λ (x : BegunWait). is_same_actor x.actor who) bs) ≡ Some b
+    → notices_left (cond (not t) (c ∷ filter (λ (x : BegunWait). not (is_same_actor x.actor who)) bs) (filter (λ (x : BegunWait). not (is_same_actor x.actor who)) bs)) + length b.notices ≡ notices_left (c ∷ bs)) [
+      | true ↦ λ is h.
+          let own : c.actor ≡ who = same_actor_is c.actor who is in
+          let others : filter (λ (x : BegunWait). not (is_same_actor x.actor who)) bs ≡ bs = all_others who bs (subst (λ z. list_any (λ (x : BegunWait). is_same_actor x.actor z) bs ≡ false) own a.0) in
+          let same : c ≡ b = cc in
+          omega (arith, ap notices_left others, sum_by-cons (λ (x : BegunWait). length x.notices) c bs, ap (λ (x : BegunWait). length x.notices) same)
+      | false ↦ λ _ h.
+          omega (
+            arith,
+            notices_without who bs b a.1 h,
+            sum_by-cons (λ (x : BegunWait). length x.notices) c bs,
+            sum_by-cons (λ (x : BegunWait). length x.notices) c (filter (λ (x : BegunWait). not (is_same_actor x.actor who)) bs),
+          )
+    ] refl e
+
+owed_end_wait : (w : World) (who : Who) (b : BegunWait) → AreApart w.waits → wait_of w who ≡ Some b → b.notices ≡ [] → owed (without_wait w who) + 1 ≡ owed w
+owed_end_wait w who b apart begun none = omega (arith, one_wait who w.waits b apart begun, notices_without who w.waits b apart begun, ap length none)
+
+-- a notice that is given is one fewer
+none_given : (who : Who) (bs : List BegunWait) → list_any (λ (x : BegunWait). is_same_actor x.actor who) bs ≡ false → notices_left (give_notice who bs) ≡ notices_left bs
+none_given who [] none = refl
+none_given who (c ∷ bs) none =
+    let apart = neither (is_same_actor c.actor who) (list_any (λ (x : BegunWait). is_same_actor x.actor who) bs) none in
+    let stays : cond (is_same_actor c.actor who) (notified c) c ≡ c = ap (λ t. cond t (notified c) c) apart.0 in
+    omega (
+      arith,
+      sum_by-cons (λ (x : BegunWait). length x.notices) (cond (is_same_actor c.actor who) (notified c) c) (give_notice who bs),
+      sum_by-cons (λ (x : BegunWait). length x.notices) c bs,
+      ap (λ (x : BegunWait). length x.notices) stays,
+      none_given who bs apart.1,
+    )
+
+one_given : (who : Who) (bs : List BegunWait) (b : BegunWait) (object : ObjectId) (rest : List ObjectId) → AreApart bs → find (λ (x : BegunWait). is_same_actor x.actor who) bs ≡ Some b → b.notices ≡ object ∷ rest → notices_left (give_notice who bs) + 1 ≡ notices_left bs
+one_given who [] b object rest a e left = absurd cc
+one_given who (c ∷ bs) b object rest a e left =
+    elim (is_same_actor c.actor who) as (λ t. is_same_actor c.actor who ≡ t → cond t (Some c) (find (λ (x : BegunWait). is_same_actor x.actor who) bs) ≡ Some b
+    → notices_left (cond t (notified c) c ∷ give_notice who bs) + 1 ≡ notices_left (c ∷ bs)) [
+      | true ↦ λ is h.
+          let own : c.actor ≡ who = same_actor_is c.actor who is in
+          let same : c ≡ b = cc in
+          let has : c.notices ≡ object ∷ rest = ap (λ (x : BegunWait). x.notices) same ∙ left in
+          omega (
+            arith,
+            sum_by-cons (λ (x : BegunWait). length x.notices) (notified c) (give_notice who bs),
+            sum_by-cons (λ (x : BegunWait). length x.notices) c bs,
+            ap length has,
+            ap (λ (os : List ObjectId). length (drop 1 os)) has,
+            none_given who bs (subst (λ z. list_any (λ (x : BegunWait). is_same_actor x.actor z) bs ≡ false) own a.0),
+          )
+      | false ↦ λ _ h.
+          omega (
+            arith,
+            sum_by-cons (λ (x : BegunWait). length x.notices) c (give_notice who bs),
+            sum_by-cons (λ (x : BegunWait). length x.notices) c bs,
+            one_given who bs b object rest a.1 h left,
+          )
+    ] refl e
+
+owed_notified : (w : World) (who : Who) (b : BegunWait) (object : ObjectId) (rest : List ObjectId) → AreApart w.waits → wait_of w who ≡ Some b → b.notices ≡ object ∷ rest → owed (record w { waits = give_notice who w.waits }) + 1 ≡ owed w
+owed_notified w who b object rest apart begun left = omega (arith, one_given who w.waits b object rest apart begun left, length-map w.waits (λ (x : BegunWait). cond (is_same_actor x.actor who) (notified x) x))
 
 owed_change_pool : (w : World) (pool : ℕ) (how : PoolChange) (row : Option PoolRow) → owed (change_pool w pool how row) ≡ owed w
 owed_change_pool w pool how None = refl
@@ -203,6 +286,10 @@ paid fresh w (change.Take by c) s a = omega (arith, owed_taken fresh w by.worker
 paid fresh w (change.Mark by mark) s a = omega (arith, owed_marked fresh w mark by.callback s a.runs.found)
 paid fresh w (change.Return by words first count) s a =
     omega (arith, ap length (running_appended (replaced (returned by.callback) w.callbacks) w.objects first (returning w words (slots_of by.callback.status)).jobs), owed_returned fresh w by.worker (record { pool = Some by.pool; callback = Some by.callback.number }) by.callback s a.runs.stands a.runs.found (ap is_running a.runs.running))
-paid fresh w (change.BeginWait who target cancel) s a = omega (arith, owed_begin_wait fresh w who target cancel s a.none a.made)
-paid fresh w (change.EndWait who how) s a = omega (arith, owed_end_wait fresh w who a.wait s a.begun)
+paid fresh w (change.BeginWait who target cancel) s a = omega (arith, owed_begin_wait w who target cancel)
+paid fresh w change.CreateGroup s a = omega arith
+paid fresh w (change.CloseGroup group) s a = omega arith
+paid fresh w (change.BeginClose who group cancel context notices) s a = omega (arith, owed_begin_close w who group cancel context notices, a.counted)
+paid fresh w (change.GiveNotice who) s a = omega (arith, owed_notified w who a.wait a.object a.rest s.apart a.begun a.left)
+paid fresh w (change.EndWait who how) s a = omega (arith, owed_end_wait w who a.wait s.apart a.begun a.unnoticed)
 paid fresh w (change.Finish client) s a = omega (arith, owed_finished w client unfinished a refl)

@@ -1,5 +1,5 @@
 -- What an entry of a legal history leads to, and what is kept along a history.
-use Rattle.std.proofs.Common.{◌≡◌, ℕ, ◌+◌, Bool, true, false, cond, List, [], ◌∷◌, ◌++◌, length, nat_lt, Some, refl, sym, ap, ◌∙◌, append_assoc, subst, arith, ap₂, Option, None}
+use Rattle.std.proofs.Common.{◌≡◌, ℕ, ◌+◌, Bool, true, false, cond, List, [], ◌∷◌, ◌++◌, length, nat_lt, Some, refl, sym, ap, ◌∙◌, append_assoc, subst, arith, ap₂, Option, None, inl}
 use Rattle.std.proofs.lemmas.List.{append-nil}
 use Rattle.tp_base.specs.declared.rows.WaitTarget.{WaitTarget}
 use Rattle.tp_base.specs.declared.rows.WaitTarget.TheVariants.{Object, Group, Kernel}
@@ -26,7 +26,7 @@ use Rattle.tp_model.specs.Support.Safe.{IsSafeChange}
 use Rattle.tp_model.specs.Laws.Entries.{is_return_call, is_disassociate_call, is_end_call, is_complete_call}
 use Rattle.tp_model.specs.Refusing.{first_refusal, unless_refused}
 use Rattle.tp_model.specs.Waits.{wait_of, held}
-use Rattle.tp_model.specs.Calls.Waits.{end_refusals, end_for, end_held, end_wait, end_plan, holds_starved}
+use Rattle.tp_model.specs.Calls.Waits.{end_refusals, end_for, end_held, end_wait, end_plan, holds_starved, end_notices, notice_of}
 use Rattle.tp_base.specs.declared.answers.Look.TheVariants as look
 use Rattle.tp_base.specs.declared.plans.WaitEnd.TheVariants as how
 use Rattle.tp_base.specs.declared.plans.Change.TheVariants as changes
@@ -37,6 +37,7 @@ use Rattle.tp_model.proofs.Preserving.{changed_sound}
 use Rattle.tp_model.proofs.Steps.{plan_allowed}
 use Rattle.tp_model.proofs.Moving.{change_leads}
 use Rattle.tp_model.proofs.Refusals.{and_false, or_false, false_true}
+use Rattle.tp_base.specs.declared.ids.ObjectId.{ObjectId}
 
 -- the number that the next callback gets
 abbrev pub fresh_in : World → ℕ
@@ -60,10 +61,20 @@ refused_leads w who call refusal =
         started = refl;
         callbacks = sym (append-nil w.callbacks);
         arms = λ object wait. omega arith;
+        homes = tt;
+        simples = λ group e. tt;
       };
-      waits = Keep (record { begins = refl; ends = and_false (is_end_call call); stay = λ other wait found. found });
+      waits = Keep (record { begins = refl; ends = and_false (is_end_call call); quiet = refl; stay = λ other wait found. found; was = λ other wait found. inl found });
       limits = refl;
       objects = record { waits = λ object. sym (or_false (is_wait_at w.objects object)); new = λ object makes. absurd (false_true makes) };
+      groups = record {
+        keeps = λ n row is. record { new = row; stands = is; env = refl; context = refl; released = λ e. e };
+        creates = λ c e. absurd cc;
+        closes = λ object e. absurd cc;
+        counts = refl;
+        clears = λ b group e. absurd cc;
+        dues = λ group. refl;
+      };
       maxima = λ pool. refl;
     }
   where
@@ -87,9 +98,13 @@ told_end w left who a ch is = of_refusal (first_refusal (end_refusals w who)) is
         let changes : c ≡ ch = cc in
         ap (wait_end who) (sym answers) ∙ here ∙ ap (λ x. Some x) changes
 
-    of_held : (numbers : List ℕ) → end_held w left who numbers ≡ plans.Does a ch → wait_end who a ≡ Some ch
-    of_held [] e = told_as answer.Ended (changes.EndWait who how.Free) refl e
-    of_held (n ∷ ns) e =
+    of_notices : (cleanup : ℕ) (os : List ObjectId) → end_notices w who cleanup os ≡ plans.Does a ch → wait_end who a ≡ Some ch
+    of_notices cleanup [] e = told_as answer.Ended (changes.EndWait who how.Free) refl e
+    of_notices cleanup (o ∷ os) e = told_as (notice_of w.objects cleanup o) (changes.GiveNotice who) refl e
+
+    of_held : (b : BegunWait) (numbers : List ℕ) → end_held w left who b numbers ≡ plans.Does a ch → wait_end who a ≡ Some ch
+    of_held b [] e = of_notices b.cleanup b.notices e
+    of_held b (n ∷ ns) e =
         elim (holds_starved w left (n ∷ ns)) as (λ b. cond b (plans.Does answer.Exhausted (changes.EndWait who how.Exhausted)) (plans.Looked (look.NotYet n)) ≡ plans.Does a ch → wait_end who a ≡ Some ch) [
           | true ↦ λ h. told_as answer.Exhausted (changes.EndWait who how.Exhausted) refl h
           | false ↦ λ h. absurd cc
@@ -100,8 +115,8 @@ told_end w left who a ch is = of_refusal (first_refusal (end_refusals w who)) is
     of_wait (Some b) e = of_target b.target e
       where
         of_target : (t : WaitTarget) → end_for w left who b t ≡ plans.Does a ch → wait_end who a ≡ Some ch
-        of_target (Object object) h = of_held (held w b) h
-        of_target (Group group) h = of_held (held w b) h
+        of_target (Object object) h = of_held b (held w b) h
+        of_target (Group group) h = of_held b (held w b) h
         of_target (Kernel kernel) h =
             elim (is_kernel_that (may_take who) w kernel.0) as (λ t. cond t (plans.Does answer.Ended (changes.EndWait who how.Free)) (plans.Looked (look.NotYetKernel kernel)) ≡ plans.Does a ch → wait_end who a ≡ Some ch) [
               | true ↦ λ g. told_as answer.Ended (changes.EndWait who how.Free) refl g

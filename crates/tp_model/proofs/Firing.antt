@@ -28,7 +28,7 @@ use Rattle.tp_model.specs.Kernels.{is_one_that}
 use Rattle.tp_model.specs.Sources.{Sources, Job, Firing, job, jobless, with_state, disarmed, release_to, release_first, release_times, signal, arm, expiry_job, firing, sources_of, rows_of, object_row, no_object}
 use Rattle.tp_model.specs.Laws.Entries.{is_completion}
 use Rattle.tp_model.specs.Support.Allowed.{IsReady, IsTimer}
-use Rattle.tp_model.specs.Support.Sound.{IsMade, is_wait_at, may_be_armed}
+use Rattle.tp_model.specs.Support.Sound.{IsMade, is_wait_at, may_be_armed, is_standing}
 use Rattle.tp_model.specs.Support.Moves.{AreNew, numbers_of, waiting_of, expecting_of}
 use Rattle.tp_model.proofs.Lists.{all_filter, all_get, all_append, find_all}
 use Rattle.tp_model.proofs.Refusals.{numbered_some, made, both, false_true}
@@ -225,6 +225,27 @@ numbered_made objects n row is =
     let at = numbered_some objects n row is in
     (at.1, omega (arith, at.1, made objects (n - 1) (ap is_some at.0)))
 
+pub timer_stands : (w : World) (object : ObjectId) → IsTimer w object → is_standing w.objects object.0 ≡ true
+timer_stands w object ready = ap (λ (o : Option ObjectRow). option_map_or (λ (x : ObjectRow). not x.released) o false) ready.stands ∙ ap not ready.unreleased
+
+pub armable_stands : (objects : List ObjectRow) (n : ℕ) → may_be_armed objects n ≡ true → is_standing objects n ≡ true
+armable_stands objects n may = of_row (numbered objects n) may
+  where
+    of_row : (row : Option ObjectRow) → option_map_or (λ (o : ObjectRow). is_same_kind o.kind Wait && not o.released) row false ≡ true → option_map_or (λ (o : ObjectRow). not o.released) row false ≡ true
+    of_row None h = h
+    of_row (Some row) h = (both (is_same_kind row.kind Wait) (not row.released) h).1
+
+pub standing_made : (objects : List ObjectRow) (n : ℕ) → is_standing objects n ≡ true → IsMade (length objects) n
+standing_made objects n stands = of_row (numbered objects n) refl stands
+  where
+    of_row : (row : Option ObjectRow) → numbered objects n ≡ row → option_map_or (λ (o : ObjectRow). not o.released) row false ≡ true → IsMade (length objects) n
+    of_row None is h = absurd (false_true h)
+    of_row (Some row) is h = numbered_made objects n row is
+
+pub jobs_made : (objects : List ObjectRow) (jobs : List Job) → AreJobsOf (λ n. is_standing objects n ≡ true) jobs → AreJobsOf (IsMade (length objects)) jobs
+jobs_made objects [] all = tt
+jobs_made objects (j ∷ js) all = ((standing_made objects j.object.0 all.0.0, all.0.1), jobs_made objects js all.1)
+
 pub timer_made : (w : World) (object : ObjectId) → IsTimer w object → IsMade (length w.objects) object.0
 timer_made w object ready = numbered_made w.objects object.0 ready.row ready.stands
 
@@ -244,13 +265,13 @@ armable_wait objects n may = of_row (numbered objects n) refl may
 
 -- the sources of a world
 abbrev pub AreSourcesIn : List ObjectRow → Sources → Type 0
-AreSourcesIn objects s = AreSourcesOf (IsMade (length objects)) (λ n. may_be_armed objects n ≡ true) s
+AreSourcesIn objects s = AreSourcesOf (λ n. is_standing objects n ≡ true) (λ n. may_be_armed objects n ≡ true) s
 
 abbrev pub IsFiringIn : List ObjectRow → Firing → Type 0
-IsFiringIn objects f = IsFiringOf (IsMade (length objects)) (λ n. may_be_armed objects n ≡ true) f
+IsFiringIn objects f = IsFiringOf (λ n. is_standing objects n ≡ true) (λ n. may_be_armed objects n ≡ true) f
 
-pub ready_of : (w : World) (trigger : Trigger) → IsReady w trigger → IsTriggerOf (IsMade (length w.objects)) (λ n. may_be_armed w.objects n ≡ true) trigger
-ready_of w (SetTimer object due period window) ready = timer_made w object ready
+pub ready_of : (w : World) (trigger : Trigger) → IsReady w trigger → IsTriggerOf (λ n. is_standing w.objects n ≡ true) (λ n. may_be_armed w.objects n ≡ true) trigger
+ready_of w (SetTimer object due period window) ready = timer_stands w object ready
 ready_of w (Advance now) ready = tt
 ready_of w (SetWait object kernel timeout) ready =
     let o = ready.wait in
@@ -259,7 +280,7 @@ ready_of w (SetEvent kernel) ready = tt
 ready_of w (ReleaseSemaphore kernel count) ready = tt
 
 pub fired_in : (w : World) (trigger : Trigger) → IsReady w trigger → AreSourcesIn w.objects (sources_of w) → IsFiringIn w.objects (firing trigger (sources_of w))
-fired_in w trigger ready all = firing_of (IsMade (length w.objects)) (λ n. may_be_armed w.objects n ≡ true) (λ n may. armable_made w.objects n may) trigger (sources_of w) (ready_of w trigger ready) all
+fired_in w trigger ready all = firing_of (λ n. is_standing w.objects n ≡ true) (λ n. may_be_armed w.objects n ≡ true) (λ n may. armable_stands w.objects n may) trigger (sources_of w) (ready_of w trigger ready) all
 
 release_now : (n kernel : ℕ) (f : Firing) → (release_times n kernel f).sources.now ≡ f.sources.now
 release_now zero kernel f = refl

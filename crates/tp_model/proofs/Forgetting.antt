@@ -25,7 +25,7 @@ use Rattle.tp_base.specs.declared.rows.WorkerRow.{WorkerRow}
 use Rattle.tp_base.specs.declared.ids.ObjectId.{ObjectId}
 use Rattle.tp_model.specs.Sources.{Firing, firing, sources_of, rows_of}
 use Rattle.tp_model.specs.World.{World, BegunWait}
-use Rattle.tp_model.specs.Counts.{numbered, has_number, is_live, is_running, is_pending_in, is_running_in, is_running_long_in, is_high, is_normal, is_low, waiting, queue, next, pending, running, running_long, slots, owed, is_in_need, is_below_minimum}
+use Rattle.tp_model.specs.Counts.{numbered, has_number, is_live, is_running, is_pending_in, is_running_in, is_running_long_in, is_high, is_normal, is_low, waiting, queue, next, pending, running, running_long, slots, owed, is_in_need, is_below_minimum, is_operating}
 use Rattle.tp_model.specs.Conditions.{busy_row, busy_in, busy_of}
 use Rattle.tp_model.specs.Refusing.{first_refusal, unless_refused}
 use Rattle.tp_model.specs.Changes.{with_new_pool, with_object, with_worker, with_client, change_pool, pool_after, with_pool, replaced, taken, marked, operated, returned, finished, changed, release_object, without_wait, end_wait, kernels_taken, kernels_left}
@@ -33,7 +33,7 @@ use Rattle.tp_base.specs.declared.plans.WaitEnd.{WaitEnd}
 use Rattle.tp_base.specs.declared.plans.WaitEnd.TheVariants.{Free, Exhausted}
 use Rattle.tp_model.specs.Actions.{slots_of, returning}
 use Rattle.tp_model.specs.Waits.{is_of, is_held_for, is_outstanding_for, count_outstanding, is_cancelled_by, cancelled, cancel_where, is_object_target, is_covered_by, covered_of, wait_of}
-use Rattle.tp_model.specs.Support.Sound.{IsSound, IsWorkerSound, AreWorkersSound, RunsOn, IsRising, IsCallbackSound, is_left_of}
+use Rattle.tp_model.specs.Support.Sound.{IsSound, IsWorkerSound, AreWorkersSound, RunsOn, IsRising, IsCallbackSound, is_left_of, is_standing}
 use Rattle.tp_model.specs.Support.Allowed.{IsAllowed}
 use Rattle.tp_model.specs.Support.Remembered.{lives, forget}
 use Rattle.tp_model.proofs.Lists.{filter_filter, find_kept, all_filter}
@@ -42,6 +42,7 @@ use Rattle.tp_model.proofs.Cancelling.{IsPendingTest, cancelled_pending, cancell
 use Rattle.tp_model.proofs.Preserving.{worker_at}
 use Rattle.tp_model.proofs.Waiting.{AreLeftOver, waits_still}
 use Rattle.tp_model.proofs.Refusals.{numbered_some, false_true, and_false}
+use Rattle.tp_model.specs.Groups.{without_members, notices_of}
 
 -- ---- counts
 
@@ -136,6 +137,8 @@ forget_sound fresh w s =
       clock = s.clock;
       callback_pools = all_filter (λ (c : CallbackRow). c.pool.0 < length w.pools) lives w.callbacks s.callback_pools;
       callback_objects = all_filter (IsCallbackSound w.objects) lives w.callbacks s.callback_objects;
+      operations = all_filter (λ (c : CallbackRow). is_operating c.status ≡ true → is_standing w.objects c.object.0 ≡ true) lives w.callbacks s.operations;
+      notices = s.notices;
     }
 
 -- ---- running callbacks
@@ -286,5 +289,12 @@ changed_forget fresh w (change.Return by words first count) s a =
 changed_forget fresh w (change.BeginWait who target cancel) s a =
     ap₂ (λ cs covered. record w { callbacks = cs; waits = w.waits ++ (record { actor = who; target = target; covered = covered; notices = []; cleanup = 0 }) ∷ [] })
     (cancel_forget lives (is_cancelled_by target cancel) (cancelled_pending target cancel) (λ c e. e) w.callbacks) (covered_forget w target cancel)
+changed_forget fresh w (change.BeginClose who group cancel context notices) s a =
+    let v : World = without_members w group.0 in
+    ap₂ (λ cs covered. record v { callbacks = cs; waits = w.waits ++ (record { actor = who; target = Group group; covered = covered; notices = notices_of w group.0 cancel; cleanup = context }) ∷ [] })
+    (cancel_forget lives (is_cancelled_by (Group group) cancel) (cancelled_pending (Group group) cancel) (λ c e. e) w.callbacks) (covered_forget w (Group group) cancel)
+changed_forget fresh w change.CreateGroup s a = live_forgotten (changed w change.CreateGroup)
+changed_forget fresh w (change.CloseGroup group) s a = live_forgotten (changed w (change.CloseGroup group))
+changed_forget fresh w (change.GiveNotice who) s a = live_forgotten (changed w (change.GiveNotice who))
 changed_forget fresh w (change.EndWait who how) s a = wait_forget w who how
 changed_forget fresh w (change.Finish client) s a = live_forgotten (with_client w client finished)

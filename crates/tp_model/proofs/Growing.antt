@@ -6,6 +6,7 @@ use Rattle.tp_base.specs.declared.plans.PoolChange.{PoolChange}
 use Rattle.tp_base.specs.declared.rows.PoolRow.{PoolRow}
 use Rattle.tp_base.specs.declared.rows.ObjectRow.{ObjectRow}
 use Rattle.tp_base.specs.declared.ids.ObjectId.{ObjectId}
+use Rattle.tp_base.specs.declared.rows.WaitTarget.TheVariants.{Group}
 use Rattle.tp_model.specs.World.{World}
 use Rattle.tp_model.specs.Sources.{Job, firing, sources_of, rows_of}
 use Rattle.tp_model.specs.Changes.{change_pool, replaced, taken, marked, operated, returned, changed, release_object}
@@ -47,5 +48,9 @@ grows fresh w (change.Return by words first count) a =
     let jobs : List Job = (returning w words (slots_of by.callback.status)).jobs in
     omega (arith, length-append (replaced (returned by.callback) w.callbacks) (rows_of w.objects first jobs), length_rows w.objects first jobs, length_replaced (returned by.callback) w.callbacks, a.counted)
 grows fresh w (change.BeginWait who target cancel) a = omega (arith, length_cancelled (is_cancelled_by target cancel) w.callbacks)
+grows fresh w change.CreateGroup a = omega arith
+grows fresh w (change.CloseGroup group) a = omega arith
+grows fresh w (change.BeginClose who group cancel context notices) a = omega (arith, length_cancelled (is_cancelled_by (Group group) cancel) w.callbacks)
+grows fresh w (change.GiveNotice who) a = omega arith
 grows fresh w (change.EndWait who how) a = omega arith
 grows fresh w (change.Finish client) a = omega arith

@@ -1,5 +1,5 @@
 -- From what it follows that a plan asks for a change that is allowed, made by the actor.
-use Rattle.std.proofs.Common.{◌≡◌, ℕ, Bool, List, Option, Some, None, refl}
+use Rattle.std.proofs.Common.{◌≡◌, ℕ, Bool, List, Option, Some, None, refl, false, true, not, ap, ◌∙◌, sym}
 use Rattle.tp_base.specs.declared.ids.Who.{Who}
 use Rattle.tp_base.specs.declared.calls.Call.{Call}
 use Rattle.tp_base.specs.declared.answers.Refusal.{Refusal}
@@ -8,10 +8,18 @@ use Rattle.tp_base.specs.declared.plans.Plan.{Plan}
 use Rattle.tp_model.specs.World.{World}
 use Rattle.tp_model.specs.Conditions.{busy_of}
 use Rattle.tp_model.specs.Refusing.{first_refusal, unless_refused}
-use Rattle.tp_model.specs.Support.Sound.{IsSound}
+use Rattle.tp_model.specs.Support.Sound.{IsSound, is_standing}
 use Rattle.tp_model.specs.Support.Safe.{IsSafe}
 use Rattle.tp_model.proofs.Refusals.{NoneHolds, none_holds}
 use Rattle.tp_model.proofs.Actors.{IsBusy, busy_stands}
+use Rattle.tp_base.specs.declared.rows.ObjectRow.{ObjectRow}
+use Rattle.std.specs.Option.{option_map_or}
+use Rattle.tp_model.specs.Counts.{numbered}
+
+-- an object that isn't released
+pub row_stands : (objects : List ObjectRow) (n : ℕ) (row : ObjectRow) → numbered objects n ≡ Some row → option_map_or (λ (o : ObjectRow). o.released) (numbered objects n) false ≡ false → is_standing objects n ≡ true
+row_stands objects n row is live =
+    ap (λ (o : Option ObjectRow). option_map_or (λ (r : ObjectRow). not r.released) o false) is ∙ ap not (sym (ap (λ (o : Option ObjectRow). option_map_or (λ (r : ObjectRow). r.released) o false) is) ∙ live)
 
 -- what follows where no refusal applies
 pub safe_unless : (fresh : ℕ) (w : World) (who : Who) (call : Call) (rs : List (Bool × Refusal)) (p : Plan) → (NoneHolds rs → IsSafe fresh w who call p) → IsSafe fresh w who call (unless_refused (first_refusal rs) p)

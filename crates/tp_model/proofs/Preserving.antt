@@ -1,5 +1,5 @@
 -- Each change keeps what is true of all worlds that can be reached.
-use Rattle.std.proofs.Common.{◌≡◌, ◌≢◌, ℕ, suc, zero, ◌+◌, ◌-◌, ◌<◌, ◌≤◌, Bool, true, false, cond, not, ◌&&◌, ◌||◌, ◌==◌, List, [], ◌∷◌, ◌++◌, length, slice_get, slice_set, replicate, Option, Some, None, refl, sym, ap, ap₂, ◌∙◌, subst, arith, filter, find, eqb-true, eq-eqb, ne_eqb, length-append, length-set}
+use Rattle.std.proofs.Common.{◌≡◌, ◌≢◌, ℕ, suc, zero, ◌+◌, ◌-◌, ◌<◌, ◌≤◌, Bool, true, false, cond, not, ◌&&◌, ◌||◌, ◌==◌, List, [], ◌∷◌, ◌++◌, length, slice_get, slice_set, replicate, Option, Some, None, refl, sym, ap, ap₂, ◌∙◌, subst, arith, filter, find, eqb-true, eq-eqb, ne_eqb, length-append, length-set, map, option_map, drop}
 use Rattle.std.specs.List.{AllByRecursion, list_any}
 use Rattle.std.proofs.lemmas.List.Folds.{list_any-append}
 use Rattle.tp_base.specs.declared.ids.PoolId.{PoolId}
@@ -25,15 +25,14 @@ use Rattle.tp_base.specs.declared.rows.WaitTarget.{WaitTarget}
 use Rattle.tp_base.specs.declared.rows.WaitTarget.TheVariants.{Object, Group, Kernel}
 use Rattle.tp_model.specs.Waits.{is_of, is_cancelled_by, cancelled, cancel_where, wait_of}
 use Rattle.tp_base.specs.Actors.{is_same_actor}
-use Rattle.tp_model.specs.Conditions.{is_in_wait, is_same_kind}
+use Rattle.tp_model.specs.Conditions.{is_in_wait, is_same_kind, has_operations, is_operation_of}
 use Rattle.tp_base.specs.declared.ids.ObjectId.{ObjectId}
 use Rattle.tp_base.specs.declared.plans.Trigger.{Trigger}
 use Rattle.tp_base.specs.declared.rows.TimerSetting.{TimerSetting}
 use Rattle.tp_base.specs.declared.plans.Trigger.TheVariants.{SetTimer}
 use Rattle.tp_base.specs.declared.rows.Arming.{Arming}
 use Rattle.tp_base.specs.declared.calls.Kind.TheVariants.{Wait}
-use Rattle.tp_base.specs.Armings.{is_arming_of, without_arming}
-use Rattle.tp_base.specs.Timers.{without_setting, clock_end}
+use Rattle.tp_base.specs.Timers.{clock_end}
 use Rattle.tp_model.specs.Laws.Entries.{set_on}
 use Rattle.tp_model.specs.Support.Told.{sets_of}
 use Rattle.tp_model.specs.Support.Moves.{count_allowed}
@@ -41,24 +40,28 @@ use Rattle.std.specs.Option.{option_map_or}
 use Rattle.std.proofs.lemmas.List.{append_assoc, append-nil}
 use Rattle.tp_model.specs.Sources.{Sources, Job, Firing, firing, sources_of, rows_of, new_callback, object_row, fired}
 use Rattle.tp_model.specs.Support.Allowed.{IsReady}
-use Rattle.tp_model.proofs.Firing.{armable_made, AreOf, AreJobsOf, AreSourcesIn, IsFiringIn, row_of_made, made_stands, fired_in, fired_clock}
-use Rattle.tp_model.proofs.Arming.{IsApart, IsCounted, firing_counted, timed_disarmed}
+use Rattle.tp_model.proofs.Firing.{AreOf, AreJobsOf, AreSourcesIn, IsFiringIn, row_of_made, made_stands, fired_in, fired_clock, jobs_made, standing_made, armable_stands}
+use Rattle.tp_model.proofs.Arming.{IsApart, IsCounted, firing_counted}
 use Rattle.tp_model.specs.World.{World, BegunWait, opening, unattached, new_pool}
-use Rattle.tp_model.specs.Counts.{numbered, has_number, is_pending, is_running}
-use Rattle.tp_model.specs.Changes.{with_new_pool, with_pool, with_object, with_new_callback, with_callback, with_worker, with_client, replaced, change_pool, pool_after, taken, loosened, marked, operated, status_before, returned, finished, release_object, new_wait, begin_wait, without_run, without_wait, end_wait, kernels_left, changed}
+use Rattle.tp_model.specs.Counts.{numbered, has_number, is_pending, is_running, is_operating}
+use Rattle.tp_model.specs.Changes.{with_new_pool, with_pool, with_object, with_new_callback, with_callback, with_worker, with_client, replaced, change_pool, pool_after, taken, loosened, marked, operated, status_before, returned, finished, release_object, new_wait, begin_wait, without_run, without_wait, end_wait, kernels_left, changed, give_notice, notified, begin_close, new_close}
 use Rattle.tp_base.specs.declared.rows.KernelRow.{KernelRow}
 use Rattle.tp_base.specs.Kernels.{state_after}
 use Rattle.tp_model.specs.Actions.{no_actions, asking, slots_of, returning}
 use Rattle.tp_model.proofs.Performing.{returning_of, returning_counted, returning_now}
 use Rattle.tp_model.specs.Kernels.{new_kernel, kernel_changed}
 use Rattle.tp_model.specs.Laws.Once.{is_left}
-use Rattle.tp_model.specs.Support.Sound.{IsSound, IsMade, is_wait_at, may_be_armed, count_armed, count_set, IsTimedOut, IsRising, RunsOn, IsWorkerSound, AreWorkersSound, AreApart, HasObject, IsCallbackSound, IsWaitSound, is_left_of}
+use Rattle.tp_model.specs.Support.Sound.{IsSound, IsMade, is_wait_at, may_be_armed, count_armed, count_set, IsTimedOut, IsRising, RunsOn, IsWorkerSound, AreWorkersSound, AreApart, HasObject, IsCallbackSound, IsWaitSound, is_left_of, is_standing}
 use Rattle.tp_model.specs.Support.Allowed.{IsAllowed, IsTargetMade, news}
-use Rattle.tp_model.proofs.Lists.{all_along, all_below, find_all, set_kept, slice_get_append, all_append, all_map, all_get, all_set, all_filter, any_filter_none, get_set, get_set_other}
-use Rattle.tp_model.proofs.Cancelling.{IsPendingTest, cancelled_pending, cancelled_if, cancelled_number, running_passed, find_uncancelled}
+use Rattle.tp_model.proofs.Lists.{all_along, all_below, find_all, slice_get_append, all_append, all_map, all_get, all_set, all_filter, any_filter_none}
+use Rattle.tp_model.proofs.Cancelling.{IsPendingTest, cancelled_pending, cancelled_if, cancelled_number, running_passed, find_uncancelled, cancelled_found, find_cancelled}
 use Rattle.tp_model.proofs.Callbacks.{rising_append, rising_map, rising_replaced, find_replaced, find_replaced_other, find_appended}
 use Rattle.tp_model.proofs.Refusals.{neither, both, numbered_some, numbered_at, false_true, and_false, same_actor_sym}
-use Rattle.tp_model.proofs.Waiting.{waits_still, waits_longer, left_replaced, left_cancelled, target_named, new_wait_sound}
+use Rattle.tp_model.proofs.Waiting.{waits_still, waits_longer, left_replaced, left_cancelled, target_named, new_wait_sound, new_close_sound}
+use Rattle.tp_model.proofs.Releasing.{Releases, released_if, one_released, members_released, that_row, that_made, that_released, that_kept, all_passing, not_true_false, settings_left, armings_left, timed_left, operations_left, none_in_range, any_found, that_stands}
+use Rattle.tp_model.specs.Groups.{is_object_that, has_cancel, gets_notice, is_member, is_member_at, released_from, without_members, first_operating, is_operating_member, notices_of, objects_that, numbers_in, new_group, close_row, object_id}
+use Rattle.tp_base.specs.declared.ids.GroupId.{GroupId}
+use Rattle.tp_base.specs.declared.rows.GroupRow.{GroupRow}
 
 -- ---- workers
 
@@ -131,13 +134,16 @@ numbered_append objects o n row is =
 
 object_appended : (objects : List ObjectRow) (o : ObjectRow) (c : CallbackRow) → HasObject objects c → HasObject (objects ++ o ∷ []) c
 object_appended objects o c of =
-    record { row = of.row; stands = numbered_append objects o c.object.0 of.row of.stands; home = of.home }
+    record { row = of.row; stands = numbered_append objects o c.object.0 of.row of.stands; home = of.home; group = of.group }
 
-object_released : (objects : List ObjectRow) (place : ℕ) (row : ObjectRow) (c : CallbackRow) → slice_get objects place ≡ Some row → HasObject objects c → HasObject (slice_set objects place (record row { released = true })) c
-object_released objects place row c stands of =
-    let at = numbered_some objects c.object.0 of.row of.stands in
-    let now = set_kept (λ (o : ObjectRow). o.env.pool) objects place (c.object.0 - 1) row (record row { released = true }) of.row stands refl at.0 in
-    record { row = now.0; stands = numbered_at (slice_set objects place (record row { released = true })) c.object.0 now.0 at.1 now.1; home = of.home ∙ sym now.2 }
+object_releasing : (gone : ℕ → Bool) (objects after : List ObjectRow) (c : CallbackRow) → Releases gone objects after → HasObject objects c → HasObject after c
+object_releasing gone objects after c rel of =
+    record {
+      row = released_if (gone c.object.0) of.row;
+      stands = rel c.object.0 ∙ ap (option_map (released_if (gone c.object.0))) of.stands;
+      home = of.home ∙ elim (gone c.object.0) as (λ b. of.row.env.pool ≡ (released_if b of.row).env.pool) [ true ↦ refl | false ↦ refl ];
+      group = of.group ∙ elim (gone c.object.0) as (λ b. of.row.env.group ≡ (released_if b of.row).env.group) [ true ↦ refl | false ↦ refl ];
+    }
 
 -- ---- wait objects
 
@@ -166,6 +172,29 @@ none_set objects n settings armings unmade all = record { few = omega (arith, no
     once [] made = tt
     once (t ∷ ts) made = ((λ is. absurd (other t made.0 is)), once ts made.1)
 
+-- ---- objects by a test, where one is made
+
+pub that_appended : (test : ObjectRow → Bool) (objects : List ObjectRow) (o : ObjectRow) (n : ℕ) → is_object_that test objects n ≡ true → is_object_that test (objects ++ o ∷ []) n ≡ true
+that_appended test objects o n e = let row = that_row test objects n e in that_stands test (objects ++ o ∷ []) n row.0 (numbered_append objects o n row.0 row.1) ∙ row.2
+
+abbrev IsSetStanding : List ObjectRow → List TimerSetting → Type 0
+IsSetStanding objects settings = AllByRecursion (λ (x : TimerSetting). is_standing objects x.object.0 ≡ true) settings
+
+made_timers : (objects : List ObjectRow) (settings : List TimerSetting) → IsSetStanding objects settings → AreOf (IsMade (length objects)) settings
+made_timers objects settings all = all_along (λ (x : TimerSetting). is_standing objects x.object.0 ≡ true) (λ (x : TimerSetting). IsMade (length objects) x.object.0) (λ x h. standing_made objects x.object.0 h) settings all
+
+abbrev OperationStands : List ObjectRow → CallbackRow → Type 0
+OperationStands objects c = is_operating c.status ≡ true → is_standing objects c.object.0 ≡ true
+
+abbrev AreNamed : List ObjectRow → List ObjectId → Type 0
+AreNamed objects os = AllByRecursion (λ (o : ObjectId). is_object_that has_cancel objects o.0 ≡ true) os
+
+notices_along : (objects after : List ObjectRow) → ((n : ℕ) → is_object_that has_cancel objects n ≡ true → is_object_that has_cancel after n ≡ true) → (bs : List BegunWait)
+    → AllByRecursion (λ (b : BegunWait). AreNamed objects b.notices) bs → AllByRecursion (λ (b : BegunWait). AreNamed after b.notices) bs
+notices_along objects after h bs all =
+    all_along (λ (b : BegunWait). AreNamed objects b.notices) (λ (b : BegunWait). AreNamed after b.notices)
+    (λ b named. all_along (λ (o : ObjectId). is_object_that has_cancel objects o.0 ≡ true) (λ (o : ObjectId). is_object_that has_cancel after o.0 ≡ true) (λ o. h o.0) b.notices named) bs all
+
 -- ---- changes of a world
 
 pub sound_object : (fresh : ℕ) (w : World) (o : ObjectRow) → o.env.pool.0 < length w.pools → IsSound fresh w → IsSound fresh (with_object w o)
@@ -177,11 +206,13 @@ sound_object fresh w o home s =
       callback_pools = s.callback_pools;
       callback_objects = all_along (IsCallbackSound w.objects) (IsCallbackSound (w.objects ++ o ∷ [])) (λ c sound named. object_appended w.objects o c (sound named)) w.callbacks s.callback_objects;
       apart = s.apart;
-      timers = more_objects w.settings s.timers;
+      timers = all_along (λ (x : TimerSetting). is_standing w.objects x.object.0 ≡ true) (λ (x : TimerSetting). is_standing (w.objects ++ o ∷ []) x.object.0 ≡ true) (λ x h. that_appended (λ (r : ObjectRow). not r.released) w.objects o x.object.0 h) w.settings s.timers;
       armings = more_armable w.armings s.armings;
       timeouts = λ object wait. of_row object (numbered w.objects object) refl wait;
       clock = s.clock;
       waits = s.waits;
+      operations = all_along (OperationStands w.objects) (OperationStands (w.objects ++ o ∷ [])) (λ c h operates. that_appended (λ (r : ObjectRow). not r.released) w.objects o c.object.0 (h operates)) w.callbacks s.operations;
+      notices = notices_along w.objects (w.objects ++ o ∷ []) (λ n h. that_appended has_cancel w.objects o n h) w.waits s.notices;
     }
   where
     still_armable : (n : ℕ) → may_be_armed w.objects n ≡ true → may_be_armed (w.objects ++ o ∷ []) n ≡ true
@@ -197,17 +228,13 @@ sound_object fresh w o home s =
     -- the new object has no setting yet
     of_row : (n : ℕ) (row : Option ObjectRow) → numbered w.objects n ≡ row → is_wait_at (w.objects ++ o ∷ []) n ≡ true → IsTimedOut n w.settings w.armings
     of_row n (Some row) is wait = s.timeouts n (ap wait_row (is ∙ sym (numbered_append w.objects o n row is)) ∙ wait)
-    of_row n None is wait = none_set (length w.objects) n w.settings w.armings (λ made. none_there (sym is ∙ made_stands w.objects (record { 0 = n }) made)) s.timers
+    of_row n None is wait = none_set (length w.objects) n w.settings w.armings (λ made. none_there (sym is ∙ made_stands w.objects (record { 0 = n }) made)) (made_timers w.objects w.settings s.timers)
       where
         none_there : {row : ObjectRow} → None ≡ Some row → ⊥
         none_there e = cc
 
-    more_objects : (settings : List TimerSetting) → AreOf (IsMade (length w.objects)) settings → AreOf (IsMade (length (w.objects ++ o ∷ []))) settings
-    more_objects [] all = tt
-    more_objects (t ∷ ts) all = ((all.0.0, omega (arith, all.0.1, length-append w.objects (o ∷ []))), more_objects ts all.1)
-
-pub sound_new_callback : (fresh : ℕ) (w : World) (c : CallbackRow) → c.number ≡ fresh → c.pool.0 < length w.pools → IsCallbackSound w.objects c → IsSound fresh w → IsSound (fresh + 1) (with_new_callback w c)
-sound_new_callback fresh w c number home object s =
+pub sound_new_callback : (fresh : ℕ) (w : World) (c : CallbackRow) → c.number ≡ fresh → c.pool.0 < length w.pools → IsCallbackSound w.objects c → OperationStands w.objects c → IsSound fresh w → IsSound (fresh + 1) (with_new_callback w c)
+sound_new_callback fresh w c number home object operation s =
     record {
       numbers = rising_append 1 fresh w.callbacks c number s.numbers;
       workers = workers_appended c w.callbacks 1 w.workers s.workers;
@@ -220,14 +247,16 @@ sound_new_callback fresh w c number home object s =
       waits = waits_longer fresh c w.callbacks number w.waits s.waits;
       callback_pools = all_append (λ (x : CallbackRow). x.pool.0 < length w.pools) w.callbacks c s.callback_pools home;
       callback_objects = all_append (IsCallbackSound w.objects) w.callbacks c s.callback_objects object;
+      operations = all_append (OperationStands w.objects) w.callbacks c s.operations operation;
+      notices = s.notices;
     }
 
 pub sound_free_worker : (fresh : ℕ) (w : World) (worker : ℕ) (row : WorkerRow) → row.callback ≡ None → IsSound fresh w → IsSound fresh (with_worker w worker row)
 sound_free_worker fresh w worker row free s =
-    record { numbers = s.numbers; workers = workers_freed w.callbacks row 1 (worker - 1) w.workers free s.workers; object_pools = s.object_pools; callback_pools = s.callback_pools; apart = s.apart; waits = s.waits; callback_objects = s.callback_objects; timers = s.timers; armings = s.armings; timeouts = s.timeouts; clock = s.clock }
+    record { numbers = s.numbers; workers = workers_freed w.callbacks row 1 (worker - 1) w.workers free s.workers; object_pools = s.object_pools; callback_pools = s.callback_pools; apart = s.apart; waits = s.waits; callback_objects = s.callback_objects; timers = s.timers; armings = s.armings; timeouts = s.timeouts; clock = s.clock; operations = s.operations; notices = s.notices }
 
 pub sound_client : (fresh : ℕ) (w : World) (client : ℕ) (row : _) → IsSound fresh w → IsSound fresh (with_client w client row)
-sound_client fresh w client row s = record { numbers = s.numbers; workers = s.workers; object_pools = s.object_pools; callback_pools = s.callback_pools; apart = s.apart; waits = s.waits; callback_objects = s.callback_objects; timers = s.timers; armings = s.armings; timeouts = s.timeouts; clock = s.clock }
+sound_client fresh w client row s = record { numbers = s.numbers; workers = s.workers; object_pools = s.object_pools; callback_pools = s.callback_pools; apart = s.apart; waits = s.waits; callback_objects = s.callback_objects; timers = s.timers; armings = s.armings; timeouts = s.timeouts; clock = s.clock; operations = s.operations; notices = s.notices }
 
 -- a further pool, and another row of a pool
 pub sound_new_pool : (fresh : ℕ) (w : World) → IsSound fresh w → IsSound fresh (with_new_pool w)
@@ -245,6 +274,8 @@ sound_new_pool fresh w s =
       waits = s.waits;
       callback_objects = s.callback_objects;
       callback_pools = all_below (λ (c : CallbackRow). c.pool.0) (length w.pools) (length (w.pools ++ new_pool w.limits ∷ [])) more w.callbacks s.callback_pools;
+      operations = s.operations;
+      notices = s.notices;
     }
 
 pub sound_pool : (fresh : ℕ) (w : World) (number : ℕ) (row : PoolRow) → IsSound fresh w → IsSound fresh (with_pool w number row)
@@ -262,6 +293,8 @@ sound_pool fresh w number row s =
       waits = s.waits;
       callback_objects = s.callback_objects;
       callback_pools = subst (λ n. AllByRecursion (λ (c : CallbackRow). c.pool.0 < n) w.callbacks) as_many s.callback_pools;
+      operations = s.operations;
+      notices = s.notices;
     }
 
 -- what all callbacks have, they have where a row that has it is put in the place of another
@@ -273,11 +306,14 @@ pools_replaced : (pools : ℕ) (r c : CallbackRow) (cs : List CallbackRow) → r
 pools_replaced pools r c cs pool found all =
     all_replaced (λ x. x.pool.0 < pools) r cs (subst (λ (p : PoolId). p.0 < pools) (sym pool) (find_all (λ (x : CallbackRow). x.pool.0 < pools) (has_number c.number) c cs all found)) all
 
-objects_replaced : (objects : List ObjectRow) (r c : CallbackRow) (cs : List CallbackRow) → r.pool ≡ c.pool → r.object ≡ c.object → find (has_number c.number) cs ≡ Some c → AllByRecursion (IsCallbackSound objects) cs → AllByRecursion (IsCallbackSound objects) (replaced r cs)
-objects_replaced objects r c cs pool object found all =
+objects_replaced : (objects : List ObjectRow) (r c : CallbackRow) (cs : List CallbackRow) → r.pool ≡ c.pool → r.group ≡ c.group → r.object ≡ c.object → find (has_number c.number) cs ≡ Some c → AllByRecursion (IsCallbackSound objects) cs → AllByRecursion (IsCallbackSound objects) (replaced r cs)
+objects_replaced objects r c cs pool group object found all =
     all_replaced (IsCallbackSound objects) r cs (λ named.
     let of : HasObject objects c = find_all (IsCallbackSound objects) (has_number c.number) c cs all found (λ none. named (ap (λ (o : ObjectId). o.0) object ∙ none)) in
-    record { row = of.row; stands = ap (λ (o : ObjectId). numbered objects o.0) object ∙ of.stands; home = pool ∙ of.home }) all
+    record { row = of.row; stands = ap (λ (o : ObjectId). numbered objects o.0) object ∙ of.stands; home = pool ∙ of.home; group = group ∙ of.group }) all
+
+operations_replaced : (objects : List ObjectRow) (r : CallbackRow) (cs : List CallbackRow) → OperationStands objects r → AllByRecursion (OperationStands objects) cs → AllByRecursion (OperationStands objects) (replaced r cs)
+operations_replaced objects r cs here all = all_replaced (OperationStands objects) r cs here all
 
 -- a worker begins a pending callback of its pool
 pub sound_taken : (fresh : ℕ) (w : World) (worker : ℕ) (pool : PoolId) (c : CallbackRow) → 1 ≤ worker → find (has_number c.number) w.callbacks ≡ Some c → is_pending c.status ≡ true → c.pool ≡ pool → IsSound fresh w
@@ -299,7 +335,9 @@ sound_taken fresh w worker pool c from_one found waits home s =
       clock = s.clock;
       waits = waits_still fresh w.callbacks (replaced r w.callbacks) (left_replaced r c w.callbacks found (λ target left. absurd (false_true (sym (and_false (is_of target r)) ∙ left)))) w.waits s.waits;
       callback_pools = pools_replaced (length w.pools) r c w.callbacks refl found s.callback_pools;
-      callback_objects = objects_replaced w.objects r c w.callbacks refl refl found s.callback_objects;
+      callback_objects = objects_replaced w.objects r c w.callbacks refl refl refl found s.callback_objects;
+      operations = operations_replaced w.objects r w.callbacks (λ operates. absurd (false_true operates)) s.operations;
+      notices = s.notices;
     }
   where
     not_pending : (status : Status) (other : ℕ) (associated : Bool) (slots : Slots) → status ≡ Running other associated slots → is_pending status ≡ true → ⊥
@@ -329,7 +367,9 @@ sound_returned fresh w worker row pool c from_one free runs found s =
       clock = s.clock;
       waits = waits_still fresh w.callbacks (replaced r w.callbacks) (left_replaced r c w.callbacks found (λ target left. absurd (false_true (sym (and_false (is_of target r)) ∙ left)))) w.waits s.waits;
       callback_pools = pools_replaced (length w.pools) r c w.callbacks refl found s.callback_pools;
-      callback_objects = objects_replaced w.objects r c w.callbacks refl refl found s.callback_objects;
+      callback_objects = objects_replaced w.objects r c w.callbacks refl refl refl found s.callback_objects;
+      operations = operations_replaced w.objects r w.callbacks (λ operates. absurd (false_true operates)) s.operations;
+      notices = s.notices;
     }
   where
     same_worker : (m n : ℕ) (a b : Bool) (s t : Slots) (x y : Status) → x ≡ Running m a s → y ≡ Running n b t → x ≡ y → m ≡ n
@@ -372,9 +412,10 @@ workers_same r c cs worker [] found status at s = tt
 workers_same r c cs worker (w ∷ ws) found status at s = (worker_same r c cs worker w.pool w.callback found status at s.0, workers_same r c cs (worker + 1) ws found status at s.1)
 
 -- a row of the same number, pool and object, which runs where the one before it ran, and may be run only where that might
-sound_same : (fresh : ℕ) (w : World) (r c : CallbackRow) → r.number ≡ c.number → r.pool ≡ c.pool → r.object ≡ c.object → RunsWhere c.status r.status → ((target : WaitTarget) → is_left_of target r ≡ true → is_left_of target c ≡ true) → find (has_number c.number) w.callbacks ≡ Some c → IsSound fresh w
+sound_same : (fresh : ℕ) (w : World) (r c : CallbackRow) → r.number ≡ c.number → r.pool ≡ c.pool → r.group ≡ c.group → r.object ≡ c.object → (is_operating r.status ≡ true → is_operating c.status ≡ true)
+    → RunsWhere c.status r.status → ((target : WaitTarget) → is_left_of target r ≡ true → is_left_of target c ≡ true) → find (has_number c.number) w.callbacks ≡ Some c → IsSound fresh w
     → IsSound fresh (with_callback w r)
-sound_same fresh w r c number pool object status left found s =
+sound_same fresh w r c number pool group object operating status left found s =
     let there : find (has_number r.number) w.callbacks ≡ Some c = ap (λ n. find (has_number n) w.callbacks) number ∙ found in
     record {
       numbers = rising_replaced r 1 fresh w.callbacks s.numbers;
@@ -387,13 +428,15 @@ sound_same fresh w r c number pool object status left found s =
       clock = s.clock;
       waits = waits_still fresh w.callbacks (replaced r w.callbacks) (left_replaced r c w.callbacks there left) w.waits s.waits;
       callback_pools = pools_replaced (length w.pools) r c w.callbacks pool found s.callback_pools;
-      callback_objects = objects_replaced w.objects r c w.callbacks pool object found s.callback_objects;
+      callback_objects = objects_replaced w.objects r c w.callbacks pool group object found s.callback_objects;
+      operations = operations_replaced w.objects r w.callbacks (λ operates. ap (λ (x : ObjectId). is_standing w.objects x.0) object ∙ find_all (OperationStands w.objects) (has_number c.number) c w.callbacks s.operations found (operating operates)) s.operations;
+      notices = s.notices;
     }
 
 -- a pending callback is cancelled
 pub sound_cancelled : (fresh : ℕ) (w : World) (c : CallbackRow) → find (has_number c.number) w.callbacks ≡ Some c → is_pending c.status ≡ true → IsSound fresh w → IsSound fresh (with_callback w (cancelled c))
 sound_cancelled fresh w c found pends s =
-    sound_same fresh w (cancelled c) c refl refl refl (λ worker associated slots e. absurd (false_true (sym (ap is_pending e) ∙ pends))) (λ target left. absurd (false_true (sym (and_false (is_of target (cancelled c))) ∙ left))) found s
+    sound_same fresh w (cancelled c) c refl refl refl refl (λ e. absurd (false_true e)) (λ worker associated slots e. absurd (false_true (sym (ap is_pending e) ∙ pends))) (λ target left. absurd (false_true (sym (and_false (is_of target (cancelled c))) ∙ left))) found s
 
 -- a row with another status that may be run where that of before may
 left_same : (c : CallbackRow) (status : Status) → is_left status ≡ is_left c.status → (target : WaitTarget) → is_left_of target (record c { status = status }) ≡ true → is_left_of target c ≡ true
@@ -403,14 +446,18 @@ left_same c status same (Kernel kernel) left = left
 
 -- what a callback says of itself leaves it running where it ran
 pub sound_marked : (fresh : ℕ) (w : World) (mark : Mark) (c : CallbackRow) → find (has_number c.number) w.callbacks ≡ Some c → IsSound fresh w → IsSound fresh (with_callback w (marked mark c))
-sound_marked fresh w Long c found s = sound_same fresh w (marked Long c) c refl refl refl (λ worker associated slots e. (associated, slots, e)) (λ target left. same_left target left) found s
+sound_marked fresh w Long c found s = sound_same fresh w (marked Long c) c refl refl refl refl (λ e. e) (λ worker associated slots e. (associated, slots, e)) (λ target left. same_left target left) found s
   where
     same_left : (target : WaitTarget) → is_left_of target (marked Long c) ≡ true → is_left_of target c ≡ true
     same_left (Object object) left = left
     same_left (Group group) left = left
     same_left (Kernel kernel) left = left
-sound_marked fresh w Loose c found s = sound_same fresh w (marked Loose c) c refl refl refl (λ worker associated slots e. (false, slots, ap loosened e)) (λ target left. same_left target left) found s
+sound_marked fresh w Loose c found s = sound_same fresh w (marked Loose c) c refl refl refl refl (λ e. sym (idle c.status) ∙ e) (λ worker associated slots e. (false, slots, ap loosened e)) (λ target left. same_left target left) found s
   where
+    idle : (status : Status) → is_operating (loosened status) ≡ is_operating status
+    idle (Running worker associated slots) = refl
+    idle _ = refl
+
     still : (status : Status) → is_left (loosened status) ≡ is_left status
     still Expected = refl
     still Issued = refl
@@ -422,8 +469,12 @@ sound_marked fresh w Loose c found s = sound_same fresh w (marked Loose c) c ref
     same_left : (target : WaitTarget) → is_left_of target (marked Loose c) ≡ true → is_left_of target c ≡ true
     same_left = left_same c (loosened c.status) (still c.status)
 sound_marked fresh w (Asks kind action) c found s =
-    sound_same fresh w (marked (Asks kind action) c) c refl refl refl (λ worker associated slots e. (associated, filled kind action slots, ap (asking kind action) e)) (λ target left. left_same c (asking kind action c.status) (still c.status) target left) found s
+    sound_same fresh w (marked (Asks kind action) c) c refl refl refl refl (λ e. sym (idle c.status) ∙ e) (λ worker associated slots e. (associated, filled kind action slots, ap (asking kind action) e)) (λ target left. left_same c (asking kind action c.status) (still c.status) target left) found s
   where
+    idle : (status : Status) → is_operating (asking kind action status) ≡ is_operating status
+    idle (Running worker associated slots) = refl
+    idle _ = refl
+
     still : (status : Status) → is_left (asking kind action status) ≡ is_left status
     still Expected = refl
     still Issued = refl
@@ -435,13 +486,18 @@ sound_marked fresh w (Asks kind action) c found s =
 -- an operation that goes a step runs nowhere, and its callback might be run before
 sound_operated : (fresh : ℕ) (w : World) (how : IoStep) (c : CallbackRow) → find (has_number c.number) w.callbacks ≡ Some c → c.status ≡ status_before how → IsSound fresh w → IsSound fresh (with_callback w (operated how c))
 sound_operated fresh w how c found comes s =
-    sound_same fresh w (operated how c) c refl refl refl (λ worker associated slots e. absurd (idle how (sym comes ∙ e)))
+    sound_same fresh w (operated how c) c refl refl refl refl (λ _. ap is_operating comes ∙ operates how) (λ worker associated slots e. absurd (idle how (sym comes ∙ e)))
     (λ target left. might target (ap is_left comes ∙ left_before how) left) found s
   where
     idle : {worker : ℕ} {associated : Bool} {slots : Slots} → (step : IoStep) → status_before step ≡ Running worker associated slots → ⊥
     idle Issue e = cc
     idle GiveUp e = cc
     idle (Complete error bytes) e = cc
+
+    operates : (step : IoStep) → is_operating (status_before step) ≡ true
+    operates Issue = refl
+    operates GiveUp = refl
+    operates (Complete error bytes) = refl
 
     left_before : (step : IoStep) → is_left (status_before step) ≡ true
     left_before Issue = refl
@@ -453,68 +509,58 @@ sound_operated fresh w how c found comes s =
     might (Group group) l left = ap₂ (λ a b. a && b) (both (c.group.0 == group.0) (is_left (operated how c).status) left).0 l
     might (Kernel kernel) l left = absurd (false_true left)
 
--- the rows of other objects stay where one is put in another's place, and so do the kinds where one is released
-numbered_set_other : (objects : List ObjectRow) (m n : ℕ) (row : ObjectRow) → 1 ≤ m → (n == m) ≡ false → numbered (slice_set objects (m - 1) row) n ≡ numbered objects n
-numbered_set_other objects m n row from_one apart =
-    elim (n == 0) as (λ b. (n == 0) ≡ b → cond b None (slice_get (slice_set objects (m - 1) row) (n - 1)) ≡ cond b None (slice_get objects (n - 1))) [
-      | true ↦ λ _. refl
-      | false ↦ λ named. get_set_other objects (m - 1) (n - 1) row (λ same. false_true (sym apart ∙ eq-eqb n m (is_one n named same)))
-    ] refl
-  where
-    is_one : (k : ℕ) → (k == 0) ≡ false → m - 1 ≡ k - 1 → k ≡ m
-    is_one zero named same = absurd (false_true (sym named))
-    is_one (suc k) named same = omega (arith, from_one, same)
-
 pub kind_released : (objects : List ObjectRow) (object : ObjectId) (row : ObjectRow) (n : ℕ) → numbered objects object.0 ≡ Some row → is_wait_at (slice_set objects (object.0 - 1) (record row { released = true })) n ≡ is_wait_at objects n
 kind_released objects object row n is =
-    elim (n == object.0) as (λ b. (n == object.0) ≡ b → is_wait_at (slice_set objects (object.0 - 1) (record row { released = true })) n ≡ is_wait_at objects n) [
-      | true ↦ λ same.
-          let own : n ≡ object.0 = eqb-true n object.0 same in
-          subst (λ k. is_wait_at (slice_set objects (object.0 - 1) (record row { released = true })) k ≡ is_wait_at objects k) (sym own)
-          (ap wait_row (numbered_at (slice_set objects (object.0 - 1) (record row { released = true })) object.0 (record row { released = true }) at.1 (get_set objects (object.0 - 1) row (record row { released = true }) at.0)) ∙ sym (ap wait_row is))
-      | false ↦ λ apart. ap wait_row (numbered_set_other objects object.0 n (record row { released = true }) at.1 apart)
-    ] refl
-  where
-    at : (slice_get objects (object.0 - 1) ≡ Some row) × (1 ≤ object.0)
-    at = numbered_some objects object.0 row is
+    that_released (λ (o : ObjectRow). is_same_kind o.kind Wait) (λ k. k == object.0) objects (slice_set objects (object.0 - 1) (record row { released = true })) (one_released objects object.0 row is) (λ o. refl) n
 
--- an object is released
-sound_release : (fresh : ℕ) (w : World) (object : ObjectId) (row : Option ObjectRow) → numbered w.objects object.0 ≡ row → IsSound fresh w → IsSound fresh (release_object w object row)
-sound_release fresh w object None is s = s
-sound_release fresh w object (Some row) is s =
+-- objects are released that have no operation under way; they are unset and disarmed
+sound_releasing : (fresh : ℕ) (w : World) (gone : ℕ → Bool) (after : List ObjectRow) → Releases gone w.objects after → AllByRecursion (λ (o : ObjectRow). o.env.pool.0 < length w.pools) after
+    → ((n : ℕ) → gone n ≡ true → list_any (is_operation_of n) w.callbacks ≡ false) → IsSound fresh w
+    → IsSound fresh (record w { objects = after; settings = settings_left gone w.settings; armings = armings_left gone w.armings })
+sound_releasing fresh w gone after rel pools idle s =
     record {
       numbers = s.numbers;
       workers = s.workers;
-      object_pools = all_set (λ (o : ObjectRow). o.env.pool.0 < length w.pools) w.objects (object.0 - 1) (record row { released = true })
-          (all_get (λ (o : ObjectRow). o.env.pool.0 < length w.pools) w.objects (object.0 - 1) row s.object_pools (numbered_some w.objects object.0 row is).0) s.object_pools;
+      object_pools = pools;
       apart = s.apart;
-      timers = subst (λ n. AreOf (IsMade n) (without_setting object w.settings)) (sym (length-set w.objects (object.0 - 1) (record row { released = true })))
-          (all_filter (λ (x : TimerSetting). IsMade (length w.objects) x.object.0) (λ (x : TimerSetting). not (x.object.0 == object.0)) w.settings s.timers);
-      armings = others w.armings s.armings;
-      timeouts = λ n wait. timed_disarmed n object (sources_of w) (s.timeouts n (was_wait n wait));
+      timers = all_passing (λ (x : TimerSetting). is_standing w.objects x.object.0 ≡ true) (λ (x : TimerSetting). is_standing after x.object.0 ≡ true) (λ (x : TimerSetting). not (gone x.object.0))
+          (λ x stays h. that_kept (λ (o : ObjectRow). not o.released) gone w.objects after rel x.object.0 (not_true_false (gone x.object.0) stays) ∙ h) w.settings s.timers;
+      armings = all_passing (λ (a : Arming). may_be_armed w.objects a.object.0 ≡ true) (λ (a : Arming). may_be_armed after a.object.0 ≡ true) (λ (a : Arming). not (gone a.object.0))
+          (λ a stays h. that_kept (λ (o : ObjectRow). is_same_kind o.kind Wait && not o.released) gone w.objects after rel a.object.0 (not_true_false (gone a.object.0) stays) ∙ h) w.armings s.armings;
+      timeouts = λ n wait. timed_left gone n w.settings w.armings (s.timeouts n (sym (that_released (λ (o : ObjectRow). is_same_kind o.kind Wait) gone w.objects after rel (λ o. refl) n) ∙ wait));
       clock = s.clock;
       waits = s.waits;
       callback_pools = s.callback_pools;
-      callback_objects = all_along (IsCallbackSound w.objects) (IsCallbackSound (slice_set w.objects (object.0 - 1) (record row { released = true })))
-          (λ c sound named. object_released w.objects (object.0 - 1) row c (numbered_some w.objects object.0 row is).0 (sound named)) w.callbacks s.callback_objects;
+      callback_objects = all_along (IsCallbackSound w.objects) (IsCallbackSound after) (λ c sound named. object_releasing gone w.objects after c rel (sound named)) w.callbacks s.callback_objects;
+      operations = operations_left gone w.objects after rel w.callbacks idle s.operations;
+      notices = notices_along w.objects after (λ n h. that_released has_cancel gone w.objects after rel (λ o. refl) n ∙ h) w.waits s.notices;
     }
+
+-- an object is released
+sound_release : (fresh : ℕ) (w : World) (object : ObjectId) (row : Option ObjectRow) → numbered w.objects object.0 ≡ row → has_operations w object.0 ≡ false → IsSound fresh w → IsSound fresh (release_object w object row)
+sound_release fresh w object None is idle s = s
+sound_release fresh w object (Some row) is idle s =
+    sound_releasing fresh w (λ n. n == object.0) (slice_set w.objects (object.0 - 1) (record row { released = true })) (one_released w.objects object.0 row is)
+    (all_set (λ (o : ObjectRow). o.env.pool.0 < length w.pools) w.objects (object.0 - 1) (record row { released = true })
+    (all_get (λ (o : ObjectRow). o.env.pool.0 < length w.pools) w.objects (object.0 - 1) row s.object_pools (numbered_some w.objects object.0 row is).0) s.object_pools)
+    (λ n same. ap (λ k. has_operations w k) (eqb-true n object.0 same) ∙ idle) s
+
+-- no member of the group has an operation under way
+pub member_idle : (w : World) (group : ℕ) → first_operating w group ≡ None → (n : ℕ) → is_member_at w group n ≡ true → list_any (is_operation_of n) w.callbacks ≡ false
+member_idle w group none n member = known (has_operations w n) refl
   where
-    after : List ObjectRow
-    after = slice_set w.objects (object.0 - 1) (record row { released = true })
+    made : IsMade (length w.objects) n
+    made = that_made (is_member group) w.objects n member
 
-    was_wait : (n : ℕ) → is_wait_at after n ≡ true → is_wait_at w.objects n ≡ true
-    was_wait n wait = sym (kind_released w.objects object row n is) ∙ wait
+    known : (b : Bool) → has_operations w n ≡ b → list_any (is_operation_of n) w.callbacks ≡ false
+    known false e = e
+    known true e = absurd (false_true (sym (none_in_range (is_operating_member w group) 1 (length w.objects) n none made.0 (omega (arith, made.1))) ∙ ap₂ (λ a b. a && b) member e))
 
-    still_armable : (n : ℕ) → (n == object.0) ≡ false → may_be_armed w.objects n ≡ true → may_be_armed after n ≡ true
-    still_armable n apart may = ap armable_row (numbered_set_other w.objects object.0 n (record row { released = true }) (numbered_some w.objects object.0 row is).1 apart) ∙ may
-
-    others : (armings : List Arming) → AllByRecursion (λ (a : Arming). may_be_armed w.objects a.object.0 ≡ true) armings → AllByRecursion (λ (a : Arming). may_be_armed after a.object.0 ≡ true) (without_arming object.0 armings)
-    others [] all = tt
-    others (a ∷ armings) all =
-        elim (is_arming_of object.0 a) as (λ b. is_arming_of object.0 a ≡ b → AllByRecursion (λ (x : Arming). may_be_armed after x.object.0 ≡ true) (cond (not b) (a ∷ without_arming object.0 armings) (without_arming object.0 armings))) [
-          | true ↦ λ _. others armings all.1
-          | false ↦ λ apart. (still_armable a.object.0 apart all.0, others armings all.1)
-        ] refl
+sound_members : (fresh : ℕ) (w : World) (group : ℕ) → first_operating w group ≡ None → IsSound fresh w → IsSound fresh (without_members w group)
+sound_members fresh w group none s =
+    sound_releasing fresh w (is_member_at w group) (map (released_from group) w.objects) (members_released w group)
+    (all_map (λ (o : ObjectRow). o.env.pool.0 < length w.pools) (released_from group) (λ o h. elim (is_member group o) as (λ b. (released_if b o).env.pool.0 < length w.pools) [ true ↦ h | false ↦ h ]) w.objects s.object_pools)
+    (member_idle w group none) s
 
 -- a worker that runs nothing that is cancelled
 worker_cancelled : (test : CallbackRow → Bool) (cs : List CallbackRow) → IsPendingTest test → (worker : ℕ) (pool : Option PoolId) (callback : Option ℕ) → IsWorkerSound cs worker pool callback → IsWorkerSound (cancel_where test cs) worker pool callback
@@ -546,27 +592,150 @@ apart_more (c ∷ bs) b none a =
 all_cancelled : (P : CallbackRow → Type 0) (test : CallbackRow → Bool) → ((c : CallbackRow) → P c → P (cancelled c)) → (cs : List CallbackRow) → AllByRecursion P cs → AllByRecursion P (cancel_where test cs)
 all_cancelled P test h cs all = all_map P (cancelled_if test) (λ c here. elim (test c) as (λ b. P (cond b (cancelled c) c)) [ true ↦ h c here | false ↦ here ]) cs all
 
--- a wait begins
-pub sound_begin_wait : (fresh : ℕ) (w : World) (who : Who) (target : WaitTarget) (cancel : Bool) → is_in_wait w who ≡ false → IsTargetMade w target → IsSound fresh w → IsSound fresh (begin_wait w who target cancel (cancel_where (is_cancelled_by target cancel) w.callbacks))
-sound_begin_wait fresh w who target cancel none made s =
-    let test : CallbackRow → Bool = is_cancelled_by target cancel in
-    let only : IsPendingTest test = cancelled_pending target cancel in
-    let rising : IsRising 1 fresh (cancel_where test w.callbacks) = rising_map (cancelled_if test) (cancelled_number test) 1 fresh w.callbacks s.numbers in
+-- a wait begins, and pending callbacks that pass a test are cancelled
+sound_begun : (fresh : ℕ) (w : World) (test : CallbackRow → Bool) (b : BegunWait) → IsPendingTest test → is_in_wait w b.actor ≡ false → IsWaitSound fresh (cancel_where test w.callbacks) b → AreNamed w.objects b.notices → IsSound fresh w
+    → IsSound fresh (record w { callbacks = cancel_where test w.callbacks; waits = w.waits ++ b ∷ [] })
+sound_begun fresh w test b only none sound named s =
     record {
-      numbers = rising;
+      numbers = rising_map (cancelled_if test) (cancelled_number test) 1 fresh w.callbacks s.numbers;
       workers = workers_cancelled test w.callbacks only 1 w.workers s.workers;
       object_pools = s.object_pools;
-      apart = apart_more w.waits (new_wait who target cancel (cancel_where test w.callbacks)) none s.apart;
+      apart = apart_more w.waits b none s.apart;
       timers = s.timers;
       armings = s.armings;
       timeouts = s.timeouts;
       clock = s.clock;
-      waits = all_append (IsWaitSound fresh (cancel_where test w.callbacks)) w.waits (new_wait who target cancel (cancel_where test w.callbacks))
-          (waits_still fresh w.callbacks (cancel_where test w.callbacks) (left_cancelled test w.callbacks) w.waits s.waits)
-          (new_wait_sound fresh who target cancel (cancel_where test w.callbacks) (target_named w target made) rising);
+      waits = all_append (IsWaitSound fresh (cancel_where test w.callbacks)) w.waits b (waits_still fresh w.callbacks (cancel_where test w.callbacks) (left_cancelled test w.callbacks) w.waits s.waits) sound;
       callback_pools = all_cancelled (λ (c : CallbackRow). c.pool.0 < length w.pools) test (λ c h. h) w.callbacks s.callback_pools;
-      callback_objects = all_cancelled (IsCallbackSound w.objects) test (λ c sound named. let of = sound named in record { row = of.row; stands = of.stands; home = of.home }) w.callbacks s.callback_objects;
+      callback_objects = all_cancelled (IsCallbackSound w.objects) test (λ c home named. let of = home named in record { row = of.row; stands = of.stands; home = of.home; group = of.group }) w.callbacks s.callback_objects;
+      operations = all_cancelled (OperationStands w.objects) test (λ c h operates. absurd (false_true operates)) w.callbacks s.operations;
+      notices = all_append (λ (x : BegunWait). AreNamed w.objects x.notices) w.waits b s.notices named;
     }
+
+pub sound_begin_wait : (fresh : ℕ) (w : World) (who : Who) (target : WaitTarget) (cancel : Bool) → is_in_wait w who ≡ false → IsTargetMade w target → IsSound fresh w → IsSound fresh (begin_wait w who target cancel (cancel_where (is_cancelled_by target cancel) w.callbacks))
+sound_begin_wait fresh w who target cancel none made s =
+    let test : CallbackRow → Bool = is_cancelled_by target cancel in
+    let rising : IsRising 1 fresh (cancel_where test w.callbacks) = rising_map (cancelled_if test) (cancelled_number test) 1 fresh w.callbacks s.numbers in
+    sound_begun fresh w test (new_wait who target cancel (cancel_where test w.callbacks)) (cancelled_pending target cancel) none
+    (new_wait_sound fresh who target cancel (cancel_where test w.callbacks) (target_named w target made) rising) tt s
+
+-- no callback of the group has an operation under way
+pub group_idle : (fresh : ℕ) (w : World) (group : ℕ) → first_operating w group ≡ None → IsSound fresh w → (n : ℕ) (c : CallbackRow) → find (has_number n) w.callbacks ≡ Some c → (c.group.0 == group) ≡ true → is_operating c.status ≡ false
+group_idle fresh w group none s n c found of = known (is_operating c.status) refl
+  where
+    known : (b : Bool) → is_operating c.status ≡ b → is_operating c.status ≡ false
+    known false e = e
+    known true e =
+        let stands : is_standing w.objects c.object.0 ≡ true = find_all (OperationStands w.objects) (has_number n) c w.callbacks s.operations found e in
+        let row = that_row (λ (o : ObjectRow). not o.released) w.objects c.object.0 stands in
+        let home : HasObject w.objects c = find_all (IsCallbackSound w.objects) (has_number n) c w.callbacks s.callback_objects found (λ no_object. none_at no_object stands) in
+        let same : Some home.row ≡ Some row.0 = sym home.stands ∙ row.1 in
+        let is_row : home.row ≡ row.0 = cc in
+        let its : (row.0.env.group.0 == group) ≡ true = ap (λ (r : ObjectRow). r.env.group.0 == group) (sym is_row) ∙ ap (λ (g : GroupId). g.0 == group) (sym home.group) ∙ of in
+        let member : is_member_at w group c.object.0 ≡ true = that_stands (is_member group) w.objects c.object.0 row.0 row.1 ∙ ap₂ (λ a b. a && b) row.2 its in
+        absurd (false_true (sym (member_idle w group none c.object.0 member) ∙ any_found (is_operation_of c.object.0) n c w.callbacks found (ap₂ (λ a b. a && b) e (eq-eqb c.object.0 c.object.0 refl))))
+      where
+        none_at : c.object.0 ≡ 0 → is_standing w.objects c.object.0 ≡ true → ⊥
+        none_at no_object stands = false_true (ap (is_standing w.objects) (sym no_object) ∙ stands)
+
+-- after a close with cancel none of them may still be run
+pub closed_cut : (fresh : ℕ) (w : World) (group : GroupId) (cancel : Bool) → first_operating w group.0 ≡ None → IsSound fresh w → cancel ≡ true → (n : ℕ) (c : CallbackRow) → find (has_number n) (cancel_where (is_cancelled_by (Group group) cancel) w.callbacks) ≡ Some c
+    → is_of (Group group) c ≡ true → is_left c.status ≡ false
+closed_cut fresh w group cancel none s cancels n c found of = of_row (find (has_number n) w.callbacks) refl (sym (find_cancelled test w.callbacks n) ∙ found)
+  where
+    test : CallbackRow → Bool
+    test = is_cancelled_by (Group group) cancel
+
+    left_not : (status : Status) → is_pending status ≡ false → is_operating status ≡ false → is_left status ≡ false
+    left_not Pending p o = absurd (false_true (sym p))
+    left_not Expected p o = absurd (false_true (sym o))
+    left_not Issued p o = absurd (false_true (sym o))
+    left_not (Running worker associated slots) p o = refl
+    left_not Returned p o = refl
+    left_not Cancelled p o = refl
+
+    of_test : (d : CallbackRow) (b : Bool) → find (has_number n) w.callbacks ≡ Some d → test d ≡ b → cond b (cancelled d) d ≡ c → is_left c.status ≡ false
+    of_test d true there passes is = ap (λ (x : CallbackRow). is_left x.status) (sym is)
+    of_test d false there out is =
+        let here : find (has_number n) w.callbacks ≡ Some c = there ∙ ap (λ x. Some x) is in
+        left_not c.status (pending_not (is_pending c.status) refl) (group_idle fresh w group.0 none s n c here of)
+      where
+        pending_not : (b : Bool) → is_pending c.status ≡ b → is_pending c.status ≡ false
+        pending_not false e = e
+        pending_not true e = absurd (false_true (sym (ap test (sym is) ∙ out) ∙ ap₂ (λ x y. x && (y && is_of (Group group) c)) cancels e ∙ of))
+
+    of_row : (o : Option CallbackRow) → find (has_number n) w.callbacks ≡ o → cancelled_found test o ≡ Some c → is_left c.status ≡ false
+    of_row None there e = absurd cc
+    of_row (Some d) there e = of_test d (test d) there refl cc
+
+-- the objects that it gives a notice of have a cancel routine
+notices_named : (objects : List ObjectRow) (group : ℕ) (ns : List ℕ) → AreNamed objects (map object_id (filter (is_object_that (gets_notice group) objects) ns))
+notices_named objects group [] = tt
+notices_named objects group (n ∷ ns) =
+    elim (is_object_that (gets_notice group) objects n) as (λ b. is_object_that (gets_notice group) objects n ≡ b
+    → AreNamed objects (map object_id (cond b (n ∷ filter (is_object_that (gets_notice group) objects) ns) (filter (is_object_that (gets_notice group) objects) ns)))) [
+      | true ↦ λ is.
+          let row = that_row (gets_notice group) objects n is in
+          (that_stands has_cancel objects n row.0 row.1 ∙ (both (is_member group row.0) (has_cancel row.0) row.2).1, notices_named objects group ns)
+      | false ↦ λ _. notices_named objects group ns
+    ] refl
+
+pub sound_begin_close : (fresh : ℕ) (w : World) (who : Who) (group : GroupId) (cancel : Bool) (context : ℕ) → is_in_wait w who ≡ false → first_operating w group.0 ≡ None → IsSound fresh w
+    → IsSound fresh (begin_close w who group cancel context (notices_of w group.0 cancel) (cancel_where (is_cancelled_by (Group group) cancel) w.callbacks))
+sound_begin_close fresh w who group cancel context none idle s =
+    let test : CallbackRow → Bool = is_cancelled_by (Group group) cancel in
+    let kept : List CallbackRow = cancel_where test w.callbacks in
+    let rising : IsRising 1 fresh kept = rising_map (cancelled_if test) (cancelled_number test) 1 fresh w.callbacks s.numbers in
+    sound_begun fresh (without_members w group.0) test (new_close who group cancel context (notices_of w group.0 cancel) kept) (cancelled_pending (Group group) cancel) none
+    (new_close_sound fresh who group cancel context (notices_of w group.0 cancel) kept rising (λ is. ap (λ b. cond b (map object_id (objects_that (gets_notice group.0) w.objects)) []) is) (closed_cut fresh w group cancel idle s))
+    (of_cancel cancel) (sound_members fresh w group.0 idle s)
+  where
+    of_cancel : (b : Bool) → AreNamed (map (released_from group.0) w.objects) (cond b (map object_id (objects_that (gets_notice group.0) w.objects)) [])
+    of_cancel false = tt
+    of_cancel true =
+        all_along (λ (o : ObjectId). is_object_that has_cancel w.objects o.0 ≡ true) (λ (o : ObjectId). is_object_that has_cancel (map (released_from group.0) w.objects) o.0 ≡ true)
+        (λ o h. that_released has_cancel (is_member_at w group.0) w.objects (map (released_from group.0) w.objects) (members_released w group.0) (λ x. refl) o.0 ∙ h)
+        (map object_id (objects_that (gets_notice group.0) w.objects)) (notices_named w.objects group.0 (numbers_in w.objects))
+
+-- a notice is given
+pub sound_notified : (fresh : ℕ) (w : World) (who : Who) → IsSound fresh w → IsSound fresh (record w { waits = give_notice who w.waits })
+sound_notified fresh w who s =
+    record {
+      numbers = s.numbers;
+      workers = s.workers;
+      object_pools = s.object_pools;
+      apart = apart_given w.waits s.apart;
+      timers = s.timers;
+      armings = s.armings;
+      timeouts = s.timeouts;
+      clock = s.clock;
+      waits = all_map (IsWaitSound fresh w.callbacks) (noted who) (λ b h. elim (is_same_actor b.actor who) as (λ t. IsWaitSound fresh w.callbacks (cond t (notified b) b)) [
+        | true ↦ record { named = h.named; made = h.made; closed = h.closed; settled = λ n left covered. ap (drop 1) (h.settled n left covered); quiet = λ e. ap (drop 1) (h.quiet e) }
+        | false ↦ h
+      ]) w.waits s.waits;
+      callback_pools = s.callback_pools;
+      callback_objects = s.callback_objects;
+      operations = s.operations;
+      notices = all_map (λ (b : BegunWait). AreNamed w.objects b.notices) (noted who) (λ b h. elim (is_same_actor b.actor who) as (λ t. AreNamed w.objects (cond t (notified b) b).notices) [ true ↦ fewer b.notices h | false ↦ h ]) w.waits s.notices;
+    }
+  where
+    noted : Who → BegunWait → BegunWait
+    noted actor b = cond (is_same_actor b.actor actor) (notified b) b
+
+    fewer : (os : List ObjectId) → AreNamed w.objects os → AreNamed w.objects (drop 1 os)
+    fewer [] all = tt
+    fewer (o ∷ os) all = all.1
+
+    same_actor : (b : BegunWait) → (noted who b).actor ≡ b.actor
+    same_actor b = elim (is_same_actor b.actor who) as (λ t. (cond t (notified b) b).actor ≡ b.actor) [ true ↦ refl | false ↦ refl ]
+
+    none_given : (actor : Who) (bs : List BegunWait) → list_any (λ (c : BegunWait). is_same_actor c.actor actor) (map (noted who) bs) ≡ list_any (λ (c : BegunWait). is_same_actor c.actor actor) bs
+    none_given actor [] = refl
+    none_given actor (b ∷ bs) = ap₂ (λ x y. is_same_actor x actor || y) (same_actor b) (none_given actor bs)
+
+    apart_given : (bs : List BegunWait) → AreApart bs → AreApart (map (noted who) bs)
+    apart_given [] a = tt
+    apart_given (b ∷ bs) a = (ap (λ x. list_any (λ (c : BegunWait). is_same_actor c.actor x) (map (noted who) bs)) (same_actor b) ∙ none_given b.actor bs ∙ a.0, apart_given bs a.1)
 
 -- and ends
 apart_filter : (p : BegunWait → Bool) (bs : List BegunWait) → AreApart bs → AreApart (filter p bs)
@@ -592,6 +761,8 @@ sound_end_wait fresh w who s =
       waits = all_filter (IsWaitSound fresh w.callbacks) keeps w.waits s.waits;
       callback_pools = s.callback_pools;
       callback_objects = s.callback_objects;
+      operations = s.operations;
+      notices = all_filter (λ (b : BegunWait). AreNamed w.objects b.notices) keeps w.waits s.notices;
     }
 
 -- what a trigger comes to
@@ -604,7 +775,7 @@ sound_rows fresh w (j ∷ js) made s =
     let c : CallbackRow = new_callback fresh j.object (object_row w.objects j.object) j.result in
     let home : c.pool.0 < length w.pools = row_of_made (λ (o : ObjectRow). o.env.pool.0 < length w.pools) w.objects j.object s.object_pools made.0.0 in
     let more : IsSound (fresh + 1 + length js) (record w { callbacks = (w.callbacks ++ c ∷ []) ++ rows_of w.objects (fresh + 1) js })
-    = sound_rows (fresh + 1) (with_new_callback w c) js made.1 (sound_new_callback fresh w c refl home (λ _. record { row = object_row w.objects j.object; stands = made_stands w.objects j.object made.0.0; home = refl }) s) in
+    = sound_rows (fresh + 1) (with_new_callback w c) js made.1 (sound_new_callback fresh w c refl home (λ _. record { row = object_row w.objects j.object; stands = made_stands w.objects j.object made.0.0; home = refl; group = refl }) (λ operates. absurd (false_true operates)) s) in
     subst (λ (cs : List CallbackRow). IsSound (fresh + length (j ∷ js)) (record w { callbacks = cs })) (append_assoc w.callbacks (c ∷ []) (rows_of w.objects (fresh + 1) js))
     (subst (λ n. IsSound n (record w { callbacks = (w.callbacks ++ c ∷ []) ++ rows_of w.objects (fresh + 1) js })) (omega arith) more)
 
@@ -628,6 +799,8 @@ sound_sources fresh w s made timed within sound =
       armings = made.armings;
       timeouts = timed;
       clock = within;
+      operations = sound.operations;
+      notices = sound.notices;
     }
 
 -- a timer is no wait object
@@ -647,7 +820,7 @@ sound_fired : (fresh : ℕ) (w : World) (trigger : Trigger) → IsReady w trigge
 sound_fired fresh w trigger ready s =
     let f : Firing = firing trigger (sources_of w) in
     let made : IsFiringIn w.objects f = fired_in w trigger ready (sources_in fresh w s) in
-    sound_rows fresh (record w { settings = f.sources.settings; armings = f.sources.armings; kernels = f.sources.kernels; now = f.sources.now }) f.jobs made.jobs
+    sound_rows fresh (record w { settings = f.sources.settings; armings = f.sources.armings; kernels = f.sources.kernels; now = f.sources.now }) f.jobs (jobs_made w.objects f.jobs made.jobs)
     (sound_sources fresh w f.sources made.sources (λ object wait. (fired_counted fresh w trigger ready s object wait).timed) (fired_clock w trigger ready s.clock) s)
 
 -- ---- each change
@@ -674,20 +847,45 @@ sound_kernels fresh w kernels s =
       waits = s.waits;
       callback_pools = s.callback_pools;
       callback_objects = s.callback_objects;
+      operations = s.operations;
+      notices = s.notices;
     }
 
 -- with the number that the next callback gets, and as many as there are
 renumbered : (v : World) (f : Firing) (fresh first count : ℕ) → first ≡ fresh → count ≡ length f.jobs → IsSound (fresh + length f.jobs) (fired v fresh f) → IsSound (fresh + count) (fired v first f)
 renumbered v f fresh first count number counted h = subst (λ n. IsSound (fresh + n) (fired v first f)) (sym counted) (subst (λ n. IsSound (fresh + length f.jobs) (fired v n f)) (sym number) h)
 
+pending_idle : (status : Status) → is_pending status ≡ true → is_operating status ≡ false
+pending_idle Pending e = refl
+pending_idle _ e = absurd (false_true e)
+
+-- groups change
+pub sound_groups : (fresh : ℕ) (w : World) (groups : List GroupRow) → IsSound fresh w → IsSound fresh (record w { groups = groups })
+sound_groups fresh w groups s =
+    record {
+      numbers = s.numbers;
+      workers = s.workers;
+      object_pools = s.object_pools;
+      apart = s.apart;
+      timers = s.timers;
+      armings = s.armings;
+      timeouts = s.timeouts;
+      clock = s.clock;
+      waits = s.waits;
+      callback_pools = s.callback_pools;
+      callback_objects = s.callback_objects;
+      operations = s.operations;
+      notices = s.notices;
+    }
+
 pub changed_sound : (fresh : ℕ) (w : World) (ch : Change) → IsSound fresh w → IsAllowed fresh w ch → IsSound (fresh + news ch) (changed w ch)
 changed_sound fresh w change.Keep s a = none_made fresh w s
 changed_sound fresh w change.CreatePool s a = none_made fresh (with_new_pool w) (sound_new_pool fresh w s)
 changed_sound fresh w (change.ChangePool pool how) s a = none_made fresh (changed w (change.ChangePool pool how)) (sound_change_pool fresh w pool.0 how (slice_get w.pools pool.0) s)
 changed_sound fresh w (change.CreateObject row) s a = none_made fresh (with_object w row) (sound_object fresh w row a.home s)
-changed_sound fresh w (change.ReleaseObject object) s a = none_made fresh (changed w (change.ReleaseObject object)) (sound_release fresh w object (numbered w.objects object.0) refl s)
-changed_sound fresh w (change.QueueCallback c) s a = sound_new_callback fresh w c a.number a.home a.object s
-changed_sound fresh w (change.ExpectCallback c) s a = sound_new_callback fresh w c a.number a.home a.object s
+changed_sound fresh w (change.ReleaseObject object) s a = none_made fresh (changed w (change.ReleaseObject object)) (sound_release fresh w object (numbered w.objects object.0) refl a.idle s)
+changed_sound fresh w (change.QueueCallback c) s a = sound_new_callback fresh w c a.number a.home a.object (λ operates. absurd (false_true (sym (pending_idle c.status a.pending) ∙ operates))) s
+changed_sound fresh w (change.ExpectCallback c) s a = sound_new_callback fresh w c a.number a.home a.object (λ _. a.stands) s
 changed_sound fresh w (change.Operate c how) s a = none_made fresh (changed w (change.Operate c how)) (sound_operated fresh w how c a.found a.status s)
 changed_sound fresh w (change.Fire trigger first count) s a = renumbered w (firing trigger (sources_of w)) fresh first count a.number a.counted (sound_fired fresh w trigger a.ready s)
 changed_sound fresh w (change.CreateKernel state) s a = none_made fresh (changed w (change.CreateKernel state)) (sound_kernels fresh w (w.kernels ++ new_kernel state ∷ []) s)
@@ -706,11 +904,15 @@ changed_sound fresh w (change.Return by words first count) s a =
     = sound_returned fresh w by.worker (record { pool = Some by.pool; callback = None }) by.pool by.callback
     (numbered_some w.workers by.worker (record { pool = Some by.pool; callback = Some by.callback.number }) runs.stands).1 refl
     (record { callback = by.callback; associated = runs.associated; slots = runs.slots; found = runs.found; runs = runs.running; at_home = runs.home }) runs.found s in
-    let made : IsFiringIn w.objects f = returning_of (IsMade (length w.objects)) (λ n. may_be_armed w.objects n ≡ true) (λ n may. armable_made w.objects n may) w words of (sources_in fresh w s) in
+    let made : IsFiringIn w.objects f = returning_of (λ n. is_standing w.objects n ≡ true) (λ n. may_be_armed w.objects n ≡ true) (λ n may. armable_stands w.objects n may) w words of (sources_in fresh w s) in
     renumbered v f fresh first count a.number a.counted
-    (sound_rows fresh (record v { settings = f.sources.settings; armings = f.sources.armings; kernels = f.sources.kernels; now = f.sources.now }) f.jobs made.jobs
+    (sound_rows fresh (record v { settings = f.sources.settings; armings = f.sources.armings; kernels = f.sources.kernels; now = f.sources.now }) f.jobs (jobs_made w.objects f.jobs made.jobs)
     (sound_sources fresh v f.sources made.sources (λ object wait. (returning_counted object w words of (s.timeouts object wait)).timed) (omega (arith, s.clock, returning_now w words of)) sound))
 changed_sound fresh w (change.BeginWait who target cancel) s a = none_made fresh (changed w (change.BeginWait who target cancel)) (sound_begin_wait fresh w who target cancel a.none a.made s)
+changed_sound fresh w change.CreateGroup s a = none_made fresh (changed w change.CreateGroup) (sound_groups fresh w (w.groups ++ new_group ∷ []) s)
+changed_sound fresh w (change.CloseGroup group) s a = none_made fresh (changed w (change.CloseGroup group)) (sound_groups fresh w (close_row w.groups group.0 (numbered w.groups group.0)) s)
+changed_sound fresh w (change.BeginClose who group cancel context notices) s a = none_made fresh (changed w (change.BeginClose who group cancel context notices)) (sound_begin_close fresh w who group cancel context a.none a.idle s)
+changed_sound fresh w (change.GiveNotice who) s a = none_made fresh (changed w (change.GiveNotice who)) (sound_notified fresh w who s)
 changed_sound fresh w (change.EndWait who how) s a = none_made fresh (end_wait w who how) (sound_kernels fresh (without_wait w who) (kernels_left w who how (wait_of w who)) (sound_end_wait fresh w who s))
 changed_sound fresh w (change.Finish client) s a = none_made fresh (changed w (change.Finish client)) (sound_client fresh w client finished s)
 
@@ -720,4 +922,4 @@ idle_workers cs first zero = tt
 idle_workers cs first (suc count) = (tt, idle_workers cs (first + 1) count)
 
 pub opening_sound : (limits : Limits) → IsSound 1 (opening limits)
-opening_sound limits = record { numbers = omega arith; workers = idle_workers [] 1 limits.workers; object_pools = tt; callback_pools = tt; callback_objects = tt; apart = tt; waits = tt; timers = tt; armings = tt; timeouts = λ object wait. record { few = omega arith; once = tt }; clock = omega arith }
+opening_sound limits = record { numbers = omega arith; workers = idle_workers [] 1 limits.workers; object_pools = tt; callback_pools = tt; callback_objects = tt; apart = tt; waits = tt; operations = tt; notices = tt; timers = tt; armings = tt; timeouts = λ object wait. record { few = omega arith; once = tt }; clock = omega arith }

@@ -1,44 +1,37 @@
 -- What a wait promises from where it begins: of the callbacks that it speaks of, which may still be run.
-use Rattle.std.proofs.Common.{◌≡◌, ℕ, suc, zero, ◌+◌, ◌<◌, ◌≤◌, Bool, true, false, cond, not, ◌&&◌, ◌||◌, ◌==◌, List, [], ◌∷◌, ◌++◌, length, Some, None, refl, sym, ap, ap₂, ◌∙◌, subst, find, filter, ◌⊎◌, inl, inr, arith, eqb-true, length-append, append-nil}
+use Rattle.std.proofs.Common.{◌≡◌, ℕ, ◌+◌, ◌≤◌, Bool, true, false, cond, not, ◌&&◌, ◌||◌, ◌==◌, List, [], ◌∷◌, ◌++◌, length, drop, Option, Some, None, option_map, refl, sym, ap, ap₂, ◌∙◌, subst, find, filter, ◌⊎◌, inl, inr, arith, eqb-true, eq-eqb}
 use Rattle.std.specs.Option.{option_map_or}
-use Rattle.std.proofs.lemmas.Grind.{flat_map-append}
-use Rattle.tp_model.specs.Support.Sound.{IsRising}
-use Rattle.std.proofs.lemmas.List.Folds.{list_any-append}
-use Rattle.std.specs.List.{list_any, range_with_len}
+use Rattle.std.specs.List.{list_any}
 use Rattle.tp_base.specs.declared.ids.Who.{Who}
 use Rattle.tp_base.specs.declared.ids.ObjectId.{ObjectId}
+use Rattle.tp_base.specs.declared.ids.GroupId.{GroupId}
 use Rattle.tp_base.specs.declared.answers.Answer.TheVariants.{Ended}
 use Rattle.tp_base.specs.declared.answers.Entry.{Entry}
 use Rattle.tp_base.specs.declared.rows.Status.{Status}
 use Rattle.tp_base.specs.declared.rows.Status.TheVariants.{Expected, Issued, Pending, Running, Returned, Cancelled}
-use Rattle.tp_base.specs.declared.plans.IoStep.{IoStep}
-use Rattle.tp_base.specs.declared.plans.IoStep.TheVariants.{Issue, GiveUp, Complete}
-use Rattle.tp_model.specs.Changes.{replaced, operated}
-use Rattle.tp_base.specs.declared.rows.WorkerRow.{WorkerRow}
+use Rattle.tp_base.specs.declared.rows.ObjectRow.{ObjectRow}
 use Rattle.tp_base.specs.declared.rows.CallbackRow.{CallbackRow}
-use Rattle.tp_base.specs.declared.rows.WaitTarget.TheVariants.{Object}
-use Rattle.tp_model.specs.World.{World, BegunWait}
-use Rattle.tp_model.specs.Counts.{has_number, is_operating, is_pending, is_running}
+use Rattle.tp_base.specs.declared.rows.WaitTarget.{WaitTarget}
+use Rattle.tp_base.specs.declared.rows.WaitTarget.TheVariants.{Object, Group, Kernel}
 use Rattle.tp_base.specs.Actors.{is_same_actor}
-use Rattle.tp_model.specs.Waits.{is_of, is_held_for, is_outstanding_for, is_covered_by, is_held, held, wait_of}
+use Rattle.tp_model.specs.World.{World, BegunWait}
+use Rattle.tp_model.specs.Counts.{numbered, has_number, is_operating, is_pending, is_running}
+use Rattle.tp_model.specs.Changes.{give_notice, notified}
+use Rattle.tp_model.specs.Waits.{is_of, is_held_for, is_object_target, is_outstanding_for, is_covered_by, is_held, held, wait_of, is_group_target}
 use Rattle.tp_model.specs.Laws.Once.{is_left}
-use Rattle.tp_model.specs.Laws.Entries.{Run, Begins, begins_by, is_among, is_ending, is_end_call, is_last_answer, is_ended_answer, numbers_made, numbers_queued, queued_by, queued_new, completed_by, made_by, started_by}
-use Rattle.tp_model.specs.Laws.Covered.{ends, end_in, is_spoken_of}
-use Rattle.tp_model.specs.Support.Told.{Deed, completed_of}
-use Rattle.tp_model.specs.Support.Moves.{Move, Stay, Mark, Attach, Detach, Take, Return, Amend, Operate, Cancel, Leads, WaitsMove, Keep, Begin, End}
-use Rattle.tp_model.proofs.Lists.{find_more}
-use Rattle.tp_model.proofs.Callbacks.{found_bounds, find_replaced}
+use Rattle.tp_model.specs.Laws.Entries.{Run, Begins, begins_by, is_among, is_ending, is_end_call, is_last_answer, is_ended_answer, notice_by, numbers_made, numbers_queued, objects_of, simples_of}
+use Rattle.tp_model.specs.Laws.Covered.{ends, end_in, is_spoken_for, is_spoken_of}
+use Rattle.tp_model.specs.Laws.Notices.{given_by}
+use Rattle.tp_model.specs.Support.Sound.{IsRising, IsCallbackSound, HasObject, is_standing}
+use Rattle.tp_model.specs.Support.Told.{notice_at}
+use Rattle.tp_model.specs.Support.Moves.{Leads, WaitsMove, Keep, Begin, Notify, End, BeginsWait}
+use Rattle.tp_model.proofs.Lists.{find_all, find_more, find_passes}
 use Rattle.tp_model.proofs.Fates.{WasRow, row_was}
-use Rattle.tp_model.proofs.Places.{LastPlace, Here, Earlier, last_place, FoundLast, Before, Now, found_last, none_last, new_above, waiting_above, waiting_pends, find_front}
-use Rattle.tp_model.proofs.Once.{AgreesAfter, agrees_on, queued_split, move_as_many}
-use Rattle.tp_model.proofs.Refusals.{or_true, or_false, both, false_true, same_actor_is, is_own_actor, neither}
-
--- ---- callbacks that were told to be pending have no operation under way
-
-pub record AreReady (history : List Entry) (w : World) : Type 0 where
-  -- and were made
-  pub past : (n : ℕ) → is_among n (numbers_queued history) ≡ true → n ≤ length w.callbacks
-  pub ready : (n : ℕ) (c : CallbackRow) → is_among n (numbers_queued history) ≡ true → find (has_number n) w.callbacks ≡ Some c → is_operating c.status ≡ false
+use Rattle.tp_model.proofs.Places.{LastPlace, Here, Earlier, last_place, FoundLast, Before, Now, found_last, none_last}
+use Rattle.tp_model.proofs.Once.{AgreesAfter}
+use Rattle.tp_model.proofs.Readying.{AreReady, made_past, not_true, past_row, longer}
+use Rattle.tp_model.proofs.Tied.{IsTied, IsInGroup, simples_queued, tied_still}
+use Rattle.tp_model.proofs.Refusals.{both, or_true, false_true, same_actor_is, is_own_actor, neither, same_actor_sym}
 
 -- ---- what is told of waits
 
@@ -46,251 +39,148 @@ pub record AreReady (history : List Entry) (w : World) : Type 0 where
 abbrev pub run_at : ℕ → CallbackRow → Run
 run_at n c = record { number = n; object = c.object }
 
--- none of those is held by a wait for the object
-abbrev pub NoneHeld : (Run → Bool) → ObjectId → World → Type 0
-NoneHeld those object w = (n : ℕ) (c : CallbackRow) → find (has_number n) w.callbacks ≡ Some c → those (run_at n c) ≡ true → is_held_for (Object object) c.status ≡ false
+-- none of those is held by a wait for the target
+abbrev pub NoneHeld : (Run → Bool) → WaitTarget → World → Type 0
+NoneHeld those target w = (n : ℕ) (c : CallbackRow) → find (has_number n) w.callbacks ≡ Some c → those (run_at n c) ≡ true → is_held_for target c.status ≡ false
 
 -- none of those is left to be run
 abbrev pub NoneLeft : (Run → Bool) → World → Type 0
 NoneLeft those w = (n : ℕ) (c : CallbackRow) → find (has_number n) w.callbacks ≡ Some c → those (run_at n c) ≡ true → is_left c.status ≡ false
 
+-- the object is released
+pub record IsReleased (w : World) (object : ℕ) : Type 0 where
+  pub row : ObjectRow
+  pub stands : numbered w.objects object ≡ Some row
+  pub released : row.released ≡ true
+
+-- the callback was made, or no further one of its object is
+abbrev pub IsPast : World → Run → Type 0
+IsPast w run = (run.number ≤ length w.callbacks) ⊎ IsReleased w run.object.0
+
 -- the actor's wait goes on, and covers those that are held
-pub record GoesOn (those : Run → Bool) (object : ObjectId) (who : Who) (w : World) : Type 0 where
+pub record GoesOn (those : Run → Bool) (target : WaitTarget) (who : Who) (w : World) : Type 0 where
   pub wait : BegunWait
   pub found : wait_of w who ≡ Some wait
-  pub target : wait.target ≡ Object object
-  pub covers : (n : ℕ) (c : CallbackRow) → find (has_number n) w.callbacks ≡ Some c → those (run_at n c) ≡ true → is_held_for (Object object) c.status ≡ true → is_among n wait.covered ≡ true
+  pub target_is : wait.target ≡ target
+  pub covers : (n : ℕ) (c : CallbackRow) → find (has_number n) w.callbacks ≡ Some c → those (run_at n c) ≡ true → is_held_for target c.status ≡ true → (is_among n wait.covered ≡ true) × (is_of target c ≡ true)
 
 pub record Promised (b : Begins) (before between : List Entry) (who : Who) (w : World) : Type 0 where
-  -- they were made by then
-  pub past : (run : Run) → is_spoken_of b before run ≡ true → run.number ≤ length w.callbacks
-  pub going : end_in who between ≡ None → GoesOn (is_spoken_of b before) b.object who w
-  pub done : (end : Entry) → end_in who between ≡ Some end → end.answer ≡ Ended → NoneHeld (is_spoken_of b before) b.object w
+  pub past : (run : Run) → is_spoken_of b before run ≡ true → IsPast w run
+  pub going : end_in who between ≡ None → GoesOn (is_spoken_of b before) b.target who w
+  pub done : (end : Entry) → end_in who between ≡ Some end → end.answer ≡ Ended → NoneHeld (is_spoken_of b before) b.target w
   pub cut : b.cancel ≡ true → NoneLeft (is_spoken_of b before) w
 
 abbrev pub Promises : List Entry → World → Type 0
 Promises history w = (before between : List Entry) (begin : Entry) (b : Begins) → before ++ begin ∷ between ≡ history → begins_by begin ≡ Some b → Promised b before between begin.who w
 
--- ---- lemmas on lists
+-- ---- waits that go on
 
-pub among_front : (n : ℕ) (xs ys : List ℕ) → is_among n xs ≡ true → is_among n (xs ++ ys) ≡ true
-among_front n xs ys e = list_any-append (λ m. m == n) xs ys ∙ ap (λ b. b || is_among n ys) e
+-- what an entry gives of the notices that a wait has left
+pub data NoticesAfter (w : World) (x : Entry) (who : Who) (wait new : BegunWait) : Type 0 where
+  AsBefore : given_by who x ≡ None → new.notices ≡ wait.notices → NoticesAfter w x who wait new
+  OneGiven : (object : ObjectId) (rest : List ObjectId) → wait.notices ≡ object ∷ rest → given_by who x ≡ Some (notice_at w.objects wait.cleanup object) → new.notices ≡ rest → NoticesAfter w x who wait new
 
-among_split : (n : ℕ) (xs ys : List ℕ) → is_among n (xs ++ ys) ≡ true → (is_among n xs ≡ true) ⊎ (is_among n ys ≡ true)
-among_split n xs ys e = of_front (is_among n xs) refl (sym (list_any-append (λ m. m == n) xs ys) ∙ e)
+pub record WaitAfter (w : World) (x : Entry) (after : World) (who : Who) (wait : BegunWait) : Type 0 where
+  pub new : BegunWait
+  pub found : wait_of after who ≡ Some new
+  pub target : new.target ≡ wait.target
+  pub covered : new.covered ≡ wait.covered
+  pub cleanup : new.cleanup ≡ wait.cleanup
+  pub notices : NoticesAfter w x who wait new
+
+abbrev own : Who → BegunWait → Bool
+own who b = is_same_actor b.actor who
+
+abbrev noted : Who → BegunWait → BegunWait
+noted who b = cond (own who b) (notified b) b
+
+-- a wait stays its actor's where a notice is given
+pub find_given : (actor who : Who) (bs : List BegunWait) → find (own who) (give_notice actor bs) ≡ option_map (noted actor) (find (own who) bs)
+find_given actor who [] = refl
+find_given actor who (b ∷ bs) =
+    ap (λ a. cond (is_same_actor a who) (Some (noted actor b)) (find (own who) (give_notice actor bs))) same
+    ∙ elim (own who b) as (λ t. cond t (Some (noted actor b)) (find (own who) (give_notice actor bs)) ≡ option_map (noted actor) (cond t (Some b) (find (own who) bs))) [ true ↦ refl | false ↦ find_given actor who bs ]
   where
-    of_front : (b : Bool) → is_among n xs ≡ b → (is_among n xs || is_among n ys) ≡ true → (is_among n xs ≡ true) ⊎ (is_among n ys ≡ true)
-    of_front true is h = inl is
-    of_front false is h = inr (sym (ap (λ b. b || is_among n ys) is) ∙ h)
+    same : (noted actor b).actor ≡ b.actor
+    same = elim (own actor b) as (λ t. (cond t (notified b) b).actor ≡ b.actor) [ true ↦ refl | false ↦ refl ]
 
-in_range : (n first count : ℕ) → is_among n (range_with_len first count) ≡ true → n < first + count
-in_range n first zero e = absurd (false_true e)
-in_range n first (suc count) e =
-    elim (first == n) as (λ b. (first == n) ≡ b → (b || is_among n (range_with_len (first + 1) count)) ≡ true → n < first + suc count) [
-      | true ↦ λ is _. let same : first ≡ n = eqb-true first n is in omega (arith, same)
-      | false ↦ λ _ h. omega (arith, in_range n (first + 1) count h)
-    ] refl e
+-- and where another actor's wait ends
+pub find_others : (ended who : Who) (bs : List BegunWait) → is_same_actor ended who ≡ false → find (own who) (filter (λ (b : BegunWait). not (is_same_actor b.actor ended)) bs) ≡ find (own who) bs
+find_others ended who [] apart = refl
+find_others ended who (d ∷ bs) apart =
+    elim (is_same_actor d.actor ended) as (λ t. is_same_actor d.actor ended ≡ t → find (own who) (cond (not t) (d ∷ filter (λ (b : BegunWait). not (is_same_actor b.actor ended)) bs) (filter (λ (b : BegunWait). not (is_same_actor b.actor ended)) bs)) ≡ find (own who) (d ∷ bs)) [
+      | true ↦ λ is.
+          let other : own who d ≡ false = ap (λ a. is_same_actor a who) (same_actor_is d.actor ended is) ∙ apart in
+          find_others ended who bs apart ∙ sym (ap (λ b. cond b (Some d) (find (own who) bs)) other)
+      | false ↦ λ _. ap (λ t. cond (own who d) (Some d) t) (find_others ended who bs apart)
+    ] refl
 
--- the numbers made are those of the callbacks that there are
-pub made_past : (history : List Entry) (w : World) (n : ℕ) → AgreesAfter history w → is_among n (numbers_made history) ≡ true → n ≤ length w.callbacks
-made_past history w n a e = omega (arith, in_range n 1 (length w.callbacks) (ap (is_among n) (sym a.in_order) ∙ e))
+none_cond : {X : Type 0} (b : Bool) → ◌≡◌ {A = Option X} (cond b None None) None
+none_cond true = refl
+none_cond false = refl
 
-spoken_past : (history : List Entry) (w : World) (b : Begins) (run : Run) → AgreesAfter history w → AreReady history w → is_spoken_of b history run ≡ true → run.number ≤ length w.callbacks
-spoken_past history w b run a ready e = of_cancel b.cancel (both (run.object.0 == b.object.0) (is_among run.number (cond b.cancel (numbers_queued history) (numbers_made history))) e).1
-  where
-    of_cancel : (cancel : Bool) → is_among run.number (cond cancel (numbers_queued history) (numbers_made history)) ≡ true → run.number ≤ length w.callbacks
-    of_cancel true h = ready.past run.number h
-    of_cancel false h = made_past history w run.number a h
+module _ (before : List Entry) (w : World) (x : Entry) (after : World) (leads : Leads (length w.callbacks + 1) w x after) where
+  -- an entry that gives no notice
+  unnoticed : (who : Who) → notice_by x.answer ≡ None → given_by who x ≡ None
+  unnoticed who none = ap (λ n. cond (is_same_actor x.who who) n None) none ∙ none_cond (is_same_actor x.who who)
 
-not_true : (a b : Bool) → (a ≡ true → b ≡ true) → b ≡ false → a ≡ false
-not_true true b h e = absurd (false_true (sym e ∙ h refl))
-not_true false b h e = refl
-
--- ---- operations that complete
-
--- the callback of an operation that completes was made before, and has no operation under way any more
-record IsCompleted (w : World) (kept : List CallbackRow) (n : ℕ) : Type 0 where
-  past : n ≤ length w.callbacks
-  row : CallbackRow
-  found : find (has_number n) kept ≡ Some row
-  idle : is_operating row.status ≡ false
-
-completed_is : (w : World) (entry : Entry) (kept : List CallbackRow) (staff : List WorkerRow) (n : ℕ) → IsRising 1 (length w.callbacks + 1) w.callbacks → Move w entry kept staff → is_among n (completed_by entry) ≡ true → IsCompleted w kept n
-completed_is w entry kept staff n rising (Operate m) among = of_step m.how m.callback m.found m.callbacks (ap (is_among n) (sym (ap (λ (d : Deed). d.completed) m.tells)) ∙ among)
-  where
-    of_step : (how : IoStep) (c : CallbackRow) → find (has_number c.number) w.callbacks ≡ Some c → kept ≡ replaced (operated how c) w.callbacks → is_among n (completed_of c.number how) ≡ true → IsCompleted w kept n
-    of_step Issue c found same among = absurd (false_true among)
-    of_step GiveUp c found same among = absurd (false_true among)
-    of_step (Complete error bytes) c found same among =
-        let is : c.number ≡ n = eqb-true c.number n (sym (or_false (c.number == n)) ∙ among) in
-        let bounds = found_bounds c.number 1 (length w.callbacks + 1) c w.callbacks rising found in
-        record {
-          past = omega (arith, is, bounds.1);
-          row = operated (Complete error bytes) c;
-          found = ap (find (has_number n)) same ∙ ap (λ k. find (has_number k) (replaced (operated (Complete error bytes) c) w.callbacks)) (sym is) ∙ find_replaced (operated (Complete error bytes) c) c w.callbacks found;
-          idle = refl;
-        }
-completed_is w entry kept staff n rising (Stay m) among = absurd (false_true (ap (is_among n) (sym (ap (λ (d : Deed). d.completed) m.tells)) ∙ among))
-completed_is w entry kept staff n rising (Mark m) among = absurd (false_true (ap (is_among n) (sym (ap (λ (d : Deed). d.completed) m.tells)) ∙ among))
-completed_is w entry kept staff n rising (Attach m) among = absurd (false_true (ap (is_among n) (sym (ap (λ (d : Deed). d.completed) m.tells)) ∙ among))
-completed_is w entry kept staff n rising (Detach m) among = absurd (false_true (ap (is_among n) (sym (ap (λ (d : Deed). d.completed) m.tells)) ∙ among))
-completed_is w entry kept staff n rising (Take m) among = absurd (false_true (ap (is_among n) (sym (ap (λ (d : Deed). d.completed) m.tells)) ∙ among))
-completed_is w entry kept staff n rising (Return m) among = absurd (false_true (ap (is_among n) (sym (ap (λ (d : Deed). d.completed) m.tells)) ∙ among))
-completed_is w entry kept staff n rising (Amend m) among = absurd (false_true (ap (is_among n) (sym (ap (λ (d : Deed). d.completed) m.tells)) ∙ among))
-completed_is w entry kept staff n rising (Cancel m) among = absurd (false_true (ap (is_among n) (sym (ap (λ (d : Deed). d.completed) m.tells)) ∙ among))
-
--- what is told to be pending was told so before, or its operation completes, or it is made
-data IsTold (before : List Entry) (x : Entry) (n : ℕ) : Type 0 where
-  Old : is_among n (numbers_queued before) ≡ true → IsTold before x n
-  Completed : is_among n (completed_by x) ≡ true → IsTold before x n
-  New : is_among n (queued_new x) ≡ true → IsTold before x n
-
-is_told : (before : List Entry) (x : Entry) (n : ℕ) → is_among n (numbers_queued (before ++ x ∷ [])) ≡ true → IsTold before x n
-is_told before x n e = of_entry (among_split n (numbers_queued before) (queued_by x.answer) (ap (is_among n) (sym longer) ∙ e))
-  where
-    longer : numbers_queued (before ++ x ∷ []) ≡ numbers_queued before ++ queued_by x.answer
-    longer = flat_map-append (λ (e : Entry). queued_by e.answer) before (x ∷ []) ∙ ap (λ t. numbers_queued before ++ t) (append-nil (queued_by x.answer))
-
-    of_call : (is_among n (completed_by x) ≡ true) ⊎ (is_among n (queued_new x) ≡ true) → IsTold before x n
-    of_call (inl completed) = Completed completed
-    of_call (inr new) = New new
-
-    of_entry : (is_among n (numbers_queued before) ≡ true) ⊎ (is_among n (queued_by x.answer) ≡ true) → IsTold before x n
-    of_entry (inl old) = Old old
-    of_entry (inr told) = of_call (among_split n (completed_by x) (queued_new x) (ap (is_among n) (queued_split x) ∙ told))
-
--- ---- one entry more
-
-module _ (before : List Entry) (w : World) (x : Entry) (after : World) (rising : IsRising 1 (length w.callbacks + 1) w.callbacks) (agrees : AgreesAfter before w) (ready : AreReady before w) (leads : Leads (length w.callbacks + 1) w x after) where
-  -- the row of a number that was made before was there before
-  past_row : (n : ℕ) (c : CallbackRow) → n ≤ length w.callbacks → find (has_number n) after.callbacks ≡ Some c → WasRow w n c
-  past_row n c past found = of_either (row_was (length w.callbacks + 1) w x after n c leads.moves found)
-    where
-      of_either : WasRow w n c ⊎ (find (has_number n) leads.moves.new ≡ Some c) → WasRow w n c
-      of_either (inl was) = was
-      of_either (inr new) = absurd (let above : length w.callbacks + 1 ≤ n = new_above (length w.callbacks + 1) n leads.moves.new c leads.moves.rows new in omega (arith, past, above))
-
-  longer : length w.callbacks ≤ length after.callbacks
-  longer =
-      let kept : length leads.moves.kept ≡ length w.callbacks = move_as_many w x leads.moves.kept after.workers leads.moves.move in
-      omega (arith, kept, ap length leads.moves.callbacks, length-append leads.moves.kept leads.moves.new)
-
-  pub are_ready_more : AreReady (before ++ x ∷ []) after
-  are_ready_more = record { past = λ n among. past n (is_told before x n among); ready = λ n c among found. idle n c found (is_told before x n among) }
-    where
-      completes : (n : ℕ) → is_among n (completed_by x) ≡ true → IsCompleted w leads.moves.kept n
-      completes n among = completed_is w x leads.moves.kept after.workers n rising leads.moves.move among
-
-      past : (n : ℕ) → IsTold before x n → n ≤ length after.callbacks
-      past n (Old among) = omega (arith, ready.past n among, longer)
-      past n (Completed among) = omega (arith, (completes n among).past, longer)
-      past n (New among) = made_past (before ++ x ∷ []) after n (agrees_on before w x after rising agrees leads.moves) made
-        where
-          behind : (xs ys : List ℕ) → is_among n ys ≡ true → is_among n (xs ++ ys) ≡ true
-          behind xs ys h = list_any-append (λ m. m == n) xs ys ∙ ap (λ b. is_among n xs || b) h ∙ or_true (is_among n xs)
-
-          made : is_among n (numbers_made (before ++ x ∷ [])) ≡ true
-          made =
-              ap (is_among n) (flat_map-append made_by before (x ∷ []) ∙ ap (λ t. numbers_made before ++ t) (append-nil (made_by x)))
-              ∙ behind (numbers_made before) (made_by x) (behind (started_by x.answer) (queued_new x) among)
-
-      pending_idle : (s : Status) → is_pending s ≡ true → is_operating s ≡ false
-      pending_idle Pending e = refl
-      pending_idle Expected e = absurd (false_true e)
-      pending_idle Issued e = absurd (false_true e)
-      pending_idle (Running worker associated slots) e = refl
-      pending_idle Returned e = refl
-      pending_idle Cancelled e = refl
-
-      old_idle : (n : ℕ) (c : CallbackRow) → is_among n (numbers_queued before) ≡ true → WasRow w n c ⊎ (find (has_number n) leads.moves.new ≡ Some c) → is_operating c.status ≡ false
-      old_idle n c among (inl was) = not_true (is_operating c.status) (is_operating was.old.status) was.follows.operating (ready.ready n was.old among was.found)
-      old_idle n c among (inr new) =
-          let above : length w.callbacks + 1 ≤ n = new_above (length w.callbacks + 1) n leads.moves.new c leads.moves.rows new in
-          absurd (omega (arith, above, ready.past n among))
-
-      new_idle : (n : ℕ) (c : CallbackRow) → is_among n (queued_new x) ≡ true → WasRow w n c ⊎ (find (has_number n) leads.moves.new ≡ Some c) → is_operating c.status ≡ false
-      new_idle n c among (inl was) =
-          let above : length w.callbacks + 1 ≤ n = waiting_above (length w.callbacks + 1) n leads.moves.new leads.moves.rows (ap (is_among n) (sym leads.moves.queued) ∙ among) in
-          let below = found_bounds n 1 (length w.callbacks + 1) was.old w.callbacks rising was.found in
-          absurd (omega (arith, above, below.1))
-      new_idle n c among (inr new) = pending_idle c.status (waiting_pends (length w.callbacks + 1) n leads.moves.new c leads.moves.rows new (ap (is_among n) (sym leads.moves.queued) ∙ among))
-
-      idle : (n : ℕ) (c : CallbackRow) → find (has_number n) after.callbacks ≡ Some c → IsTold before x n → is_operating c.status ≡ false
-      idle n c found (Old among) = old_idle n c among (row_was (length w.callbacks + 1) w x after n c leads.moves found)
-      idle n c found (New among) = new_idle n c among (row_was (length w.callbacks + 1) w x after n c leads.moves found)
-      idle n c found (Completed among) =
-          let done : IsCompleted w leads.moves.kept n = completes n among in
-          let both_found : Some done.row ≡ Some c = sym (ap (find (has_number n)) leads.moves.callbacks ∙ find_front n leads.moves.kept leads.moves.new done.row done.found) ∙ found in
-          let same : done.row ≡ c = cc in
-          ap (λ (r : CallbackRow). is_operating r.status) (sym same) ∙ done.idle
-
-  none_held_more : (those : Run → Bool) (object : ObjectId) → ((run : Run) → those run ≡ true → run.number ≤ length w.callbacks) → NoneHeld those object w → NoneHeld those object after
-  none_held_more those object past none n c found spoken =
-      let was : WasRow w n c = past_row n c (past (run_at n c) spoken) found in
-      not_true (is_held_for (Object object) c.status) (is_held_for (Object object) was.old.status) (was.follows.held (Object object)) (none n was.old was.found (ap (λ o. those (record { number = n; object = o })) (sym was.object) ∙ spoken))
-
-  none_left_more : (those : Run → Bool) → ((run : Run) → those run ≡ true → run.number ≤ length w.callbacks) → NoneLeft those w → NoneLeft those after
-  none_left_more those past none n c found spoken =
-      let was : WasRow w n c = past_row n c (past (run_at n c) spoken) found in
-      not_true (is_left c.status) (is_left was.old.status) was.follows.left (none n was.old was.found (ap (λ o. those (record { number = n; object = o })) (sym was.object) ∙ spoken))
-
-  covers_more : (those : Run → Bool) (object : ObjectId) (covered : List ℕ) → ((run : Run) → those run ≡ true → run.number ≤ length w.callbacks)
-      → ((n : ℕ) (c : CallbackRow) → find (has_number n) w.callbacks ≡ Some c → those (run_at n c) ≡ true → is_held_for (Object object) c.status ≡ true → is_among n covered ≡ true)
-      → (n : ℕ) (c : CallbackRow) → find (has_number n) after.callbacks ≡ Some c → those (run_at n c) ≡ true → is_held_for (Object object) c.status ≡ true → is_among n covered ≡ true
-  covers_more those object covered past covers n c found spoken held =
-      let was : WasRow w n c = past_row n c (past (run_at n c) spoken) found in
-      covers n was.old was.found (ap (λ o. those (record { number = n; object = o })) (sym was.object) ∙ spoken) (was.follows.held (Object object) held)
-
-  -- a wait that another entry doesn't end goes on
-  wait_goes_on : (who : Who) (wait : BegunWait) → ends who x ≡ false → wait_of w who ≡ Some wait → wait_of after who ≡ Some wait
+  -- a wait that the entry doesn't end goes on
+  pub wait_goes_on : (who : Who) (wait : BegunWait) → ends who x ≡ false → wait_of w who ≡ Some wait → WaitAfter w x after who wait
   wait_goes_on who wait quiet found = of_move leads.waits
     where
-      own : BegunWait → Bool
-      own = λ (b : BegunWait). is_same_actor b.actor who
+      same : wait_of after who ≡ Some wait → notice_by x.answer ≡ None → WaitAfter w x after who wait
+      same there none = record { new = wait; found = there; target = refl; covered = refl; cleanup = refl; notices = AsBefore (unnoticed who none) refl }
 
-      find_others : (bs : List BegunWait) → is_same_actor x.who who ≡ false → find own bs ≡ Some wait → find own (filter (λ (b : BegunWait). not (is_same_actor b.actor x.who)) bs) ≡ Some wait
-      find_others [] apart e = absurd cc
-      find_others (d ∷ bs) apart e =
-          elim (is_same_actor d.actor x.who) as (λ t. is_same_actor d.actor x.who ≡ t → find own (cond (not t) (d ∷ filter (λ (b : BegunWait). not (is_same_actor b.actor x.who)) bs) (filter (λ (b : BegunWait). not (is_same_actor b.actor x.who)) bs)) ≡ Some wait) [
-            | true ↦ λ is.
-                let other : own d ≡ false = ap (λ a. is_same_actor a who) (same_actor_is d.actor x.who is) ∙ apart in
-                find_others bs apart (sym (ap (λ b. cond b (Some d) (find own bs)) other) ∙ e)
-            | false ↦ λ _. elim (own d) as (λ b. cond b (Some d) (find own bs) ≡ Some wait → cond b (Some d) (find own (filter (λ (c : BegunWait). not (is_same_actor c.actor x.who)) bs)) ≡ Some wait) [
-              | true ↦ λ h. h
-              | false ↦ λ h. find_others bs apart h
-            ] e
-          ] refl
-
-      of_move : WaitsMove w x after → wait_of after who ≡ Some wait
-      of_move (Keep m) = m.stay who wait found
-      of_move (Begin m) = ap (find own) m.waits ∙ find_more own wait w.waits (m.wait ∷ []) found
-      of_move (End m) = ap (find own) m.waits ∙ find_others w.waits (other (is_same_actor x.who who) refl) found
+      of_move : WaitsMove w x after → WaitAfter w x after who wait
+      of_move (Keep m) = same (m.stay who wait found) m.quiet
+      of_move (Begin m) = same (ap (find (own who)) m.waits ∙ find_more (own who) wait w.waits (m.wait ∷ []) found) m.quiet
+      of_move (End m) = same (ap (find (own who)) m.waits ∙ find_others x.who who w.waits (other (is_same_actor x.who who) refl) ∙ found) m.quiet
         where
           other : (b : Bool) → is_same_actor x.who who ≡ b → is_same_actor x.who who ≡ false
           other false is = is
           other true is = absurd (false_true (sym quiet ∙ ap₂ (λ p q. p && q) is m.ends))
-
-  -- a wait that ends freely holds none of those that it speaks of
-  pub freed : (those : Run → Bool) (object : ObjectId) (who : Who) → ((run : Run) → those run ≡ true → (run.object.0 == object.0) ≡ true) → GoesOn those object who w → ends who x ≡ true → x.answer ≡ Ended → NoneHeld those object w
-  freed those object who about going is_end answer n c found spoken = known (is_held_for (Object object) c.status) refl
-    where
-      ending : (is_same_actor x.who who ≡ true) × (is_ending x ≡ true)
-      ending = both (is_same_actor x.who who) (is_ending x) is_end
-
-      own : x.who ≡ who
-      own = same_actor_is x.who who ending.0
-
-      nothing_held : held w going.wait ≡ []
-      nothing_held = of_move leads.waits
+      of_move (Notify m) = of_actor (is_same_actor x.who who) refl
         where
-          of_move : WaitsMove w x after → held w going.wait ≡ []
-          of_move (Keep m) = absurd (false_true (sym m.ends ∙ ending.1))
-          of_move (Begin m) = absurd (false_true (sym m.ends ∙ ending.1))
-          of_move (End m) =
-              let both_found : Some m.wait ≡ Some going.wait = sym m.found ∙ ap (wait_of w) own ∙ going.found in
-              let same : m.wait ≡ going.wait = cc in
-              subst (λ (b : BegunWait). held w b ≡ []) same (m.free (ap₂ (λ p q. p && q) (both (is_end_call x.call) (is_last_answer x.answer) ending.1).0 (ap is_ended_answer answer)))
+          there : wait_of after who ≡ Some (noted x.who wait)
+          there = ap (find (own who)) m.waits ∙ find_given x.who who w.waits ∙ ap (option_map (noted x.who)) found
 
+          its_actor : wait.actor ≡ who
+          its_actor = same_actor_is wait.actor who (find_passes (own who) wait w.waits found)
+
+          of_actor : (b : Bool) → is_same_actor x.who who ≡ b → WaitAfter w x after who wait
+          of_actor false apart =
+              let stays : own x.who wait ≡ false = ap (λ a. is_same_actor a x.who) its_actor ∙ same_sym who x.who ∙ apart in
+              record {
+                new = wait;
+                found = there ∙ ap (λ b. Some (cond b (notified wait) wait)) stays;
+                target = refl;
+                covered = refl;
+                cleanup = refl;
+                notices = AsBefore (ap (λ b. cond b (notice_by x.answer) None) apart) refl;
+              }
+            where
+              same_sym : (a b : Who) → is_same_actor a b ≡ is_same_actor b a
+              same_sym a b = same_actor_sym a b
+          of_actor true is =
+              let by : x.who ≡ who = same_actor_is x.who who is in
+              let both_found : Some m.wait ≡ Some wait = sym m.found ∙ ap (wait_of w) by ∙ found in
+              let its : m.wait ≡ wait = cc in
+              let notes : own x.who wait ≡ true = ap₂ is_same_actor its_actor by ∙ is_own_actor who in
+              let left : wait.notices ≡ m.object ∷ m.rest = ap (λ (b : BegunWait). b.notices) (sym its) ∙ m.left in
+              record {
+                new = notified wait;
+                found = there ∙ ap (λ b. Some (cond b (notified wait) wait)) notes;
+                target = refl;
+                covered = refl;
+                cleanup = refl;
+                notices = OneGiven m.object m.rest left
+                    (ap (λ b. cond b (notice_by x.answer) None) is ∙ m.tells ∙ ap (λ (b : BegunWait). Some (notice_at w.objects b.cleanup m.object)) its) (ap (drop 1) left);
+              }
+
+  -- where nothing that the wait covers is held, none of those is
+  pub unheld : (those : Run → Bool) (target : WaitTarget) (who : Who) → (going : GoesOn those target who w) → held w going.wait ≡ [] → NoneHeld those target w
+  unheld those target who going nothing_held n c found spoken = known (is_held_for target c.status) refl
+    where
       in_filter : (p : ℕ → Bool) (xs : List ℕ) → filter p xs ≡ [] → is_among n xs ≡ true → p n ≡ false
       in_filter p [] e h = absurd (false_true h)
       in_filter p (m ∷ xs) e h =
@@ -302,27 +192,142 @@ module _ (before : List Entry) (w : World) (x : Entry) (after : World) (rising :
             ] refl h
           ] refl e
 
-      known : (b : Bool) → is_held_for (Object object) c.status ≡ b → is_held_for (Object object) c.status ≡ false
+      known : (b : Bool) → is_held_for target c.status ≡ b → is_held_for target c.status ≡ false
       known false is = is
       known true is =
-          let covered : is_among n going.wait.covered ≡ true = going.covers n c found spoken is in
-          let out : is_held w going.wait.target n ≡ false = in_filter (is_held w going.wait.target) going.wait.covered nothing_held covered in
+          let covered = going.covers n c found spoken is in
+          let out : is_held w going.wait.target n ≡ false = in_filter (is_held w going.wait.target) going.wait.covered nothing_held covered.0 in
           let in_it : is_held w going.wait.target n ≡ true =
-          ap (λ t. is_held w t n) going.target ∙ ap (λ o. option_map_or (is_outstanding_for (Object object)) o false) found ∙ ap₂ (λ p q. p && q) (about (run_at n c) spoken) is in
+          ap (λ t. is_held w t n) going.target_is ∙ ap (λ o. option_map_or (is_outstanding_for target) o false) found ∙ ap₂ (λ p q. p && q) covered.1 is in
           absurd (false_true (sym out ∙ in_it))
+
+  -- a wait that ends freely holds none of those that it speaks of
+  pub freed : (those : Run → Bool) (target : WaitTarget) (who : Who) → GoesOn those target who w → ends who x ≡ true → x.answer ≡ Ended → NoneHeld those target w
+  freed those target who going is_end answer = unheld those target who going (of_move leads.waits)
+    where
+      ending : (is_same_actor x.who who ≡ true) × (is_ending x ≡ true)
+      ending = both (is_same_actor x.who who) (is_ending x) is_end
+
+      of_move : WaitsMove w x after → held w going.wait ≡ []
+      of_move (Keep m) = absurd (false_true (sym m.ends ∙ ending.1))
+      of_move (Begin m) = absurd (false_true (sym m.ends ∙ ending.1))
+      of_move (Notify m) = absurd (false_true (sym m.ends ∙ ending.1))
+      of_move (End m) =
+          let both_found : Some m.wait ≡ Some going.wait = sym m.found ∙ ap (wait_of w) (same_actor_is x.who who ending.0) ∙ going.found in
+          let same : m.wait ≡ going.wait = cc in
+          subst (λ (b : BegunWait). held w b ≡ []) same (m.free (ap₂ (λ p q. p && q) (both (is_end_call x.call) (is_last_answer x.answer) ending.1).0 (ap is_ended_answer answer)))
+
+  -- ---- callbacks that are spoken of
+
+  -- the row of one that is past was there before
+  spoken_row : (n : ℕ) (c : CallbackRow) → IsPast w (run_at n c) → find (has_number n) after.callbacks ≡ Some c → WasRow w n c
+  spoken_row n c (inl past) found = past_row w x after leads n c past found
+  spoken_row n c (inr gone) found = of_either (row_was (length w.callbacks + 1) w x after n c leads.moves found)
+    where
+      named : c.object.0 ≡ 0 → ⊥
+      named zero_one = none (ap (numbered w.objects) (sym zero_one) ∙ gone.stands)
+        where
+          none : None ≡ Some gone.row → ⊥
+          none e = cc
+
+      of_either : WasRow w n c ⊎ (find (has_number n) leads.moves.new ≡ Some c) → WasRow w n c
+      of_either (inl was) = was
+      of_either (inr new) =
+          let stands : is_standing w.objects c.object.0 ≡ true = find_all (λ (r : CallbackRow). (r.object.0 ≡ 0 → ⊥) → is_standing w.objects r.object.0 ≡ true) (has_number n) c leads.moves.new leads.moves.homes new named in
+          absurd (false_true (ap not (sym gone.released) ∙ sym (ap (λ (o : Option ObjectRow). option_map_or (λ (r : ObjectRow). not r.released) o false) gone.stands) ∙ stands))
+
+  past_more : (run : Run) → IsPast w run → IsPast after run
+  past_more run (inl past) = inl (omega (arith, past, longer w x after leads))
+  past_more run (inr gone) = let o = leads.groups.keeps run.object.0 gone.row gone.stands in inr (record { row = o.new; stands = o.stands; released = o.released gone.released })
+
+  none_held_more : (those : Run → Bool) (target : WaitTarget) → ((run : Run) → those run ≡ true → IsPast w run) → NoneHeld those target w → NoneHeld those target after
+  none_held_more those target past none n c found spoken =
+      let was : WasRow w n c = spoken_row n c (past (run_at n c) spoken) found in
+      not_true (is_held_for target c.status) (is_held_for target was.old.status) (was.follows.held target) (none n was.old was.found (ap (λ o. those (record { number = n; object = o })) (sym was.object) ∙ spoken))
+
+  none_left_more : (those : Run → Bool) → ((run : Run) → those run ≡ true → IsPast w run) → NoneLeft those w → NoneLeft those after
+  none_left_more those past none n c found spoken =
+      let was : WasRow w n c = spoken_row n c (past (run_at n c) spoken) found in
+      not_true (is_left c.status) (is_left was.old.status) was.follows.left (none n was.old was.found (ap (λ o. those (record { number = n; object = o })) (sym was.object) ∙ spoken))
+
+  same_target : (n : ℕ) (c : CallbackRow) (was : WasRow w n c) (target : WaitTarget) → is_of target c ≡ is_of target was.old
+  same_target n c was (Object object) = ap (λ (o : ObjectId). o.0 == object.0) was.object
+  same_target n c was (Group group) = ap (λ (g : GroupId). g.0 == group.0) was.group
+  same_target n c was (Kernel kernel) = refl
+
+  going_more : (those : Run → Bool) (target : WaitTarget) (who : Who) → ((run : Run) → those run ≡ true → IsPast w run) → ends who x ≡ false → GoesOn those target who w → GoesOn those target who after
+  going_more those target who past apart on =
+      let wait : WaitAfter w x after who on.wait = wait_goes_on who on.wait apart on.found in
+      record {
+        wait = wait.new;
+        found = wait.found;
+        target_is = wait.target ∙ on.target_is;
+        covers = λ n c found spoken held.
+            let was : WasRow w n c = spoken_row n c (past (run_at n c) spoken) found in
+            let covered = on.covers n was.old was.found (ap (λ o. those (record { number = n; object = o })) (sym was.object) ∙ spoken) (was.follows.held target held) in
+            (ap (is_among n) wait.covered ∙ covered.0, same_target n c was target ∙ covered.1);
+      }
+
+-- a run that the wait speaks of, by what it is
+pub data IsSpoken (target : WaitTarget) (cancel : Bool) (before : List Entry) (run : Run) : Type 0 where
+  OfObject : (object : ObjectId) → target ≡ Object object → (run.object.0 == object.0) ≡ true → is_among run.number (cond cancel (numbers_queued before) (numbers_made before)) ≡ true → IsSpoken target cancel before run
+  OfMember : (group : GroupId) → target ≡ Group group → is_among run.object.0 (objects_of group.0 before) ≡ true → IsSpoken target cancel before run
+  OfSimple : (group : GroupId) → target ≡ Group group → (run.object.0 == 0) ≡ true → is_among run.number (simples_of group.0 before) ≡ true → IsSpoken target cancel before run
+
+pub spoken_is : (target : WaitTarget) (cancel : Bool) (before : List Entry) (run : Run) → is_spoken_for target cancel before run ≡ true → IsSpoken target cancel before run
+spoken_is (Object object) cancel before run e =
+    let parts = both (run.object.0 == object.0) (is_among run.number (cond cancel (numbers_queued before) (numbers_made before))) e in OfObject object refl parts.0 parts.1
+spoken_is (Kernel kernel) cancel before run e = absurd (false_true e)
+spoken_is (Group group) cancel before run e = of_member (is_among run.object.0 (objects_of group.0 before)) refl e
+  where
+    of_member : (b : Bool) → is_among run.object.0 (objects_of group.0 before) ≡ b → (b || ((run.object.0 == 0) && is_among run.number (simples_of group.0 before))) ≡ true → IsSpoken (Group group) cancel before run
+    of_member true is h = OfMember group refl is
+    of_member false is h = let parts = both (run.object.0 == 0) (is_among run.number (simples_of group.0 before)) h in OfSimple group refl parts.0 parts.1
+
+-- each callback of an object is of the object's group
+abbrev pub AllSound : World → Type 0
+AllSound w = (n : ℕ) (c : CallbackRow) → find (has_number n) w.callbacks ≡ Some c → IsCallbackSound w.objects c
+
+-- a callback that is spoken of is of what the wait is for
+spoken_of : (target : WaitTarget) (cancel : Bool) (before : List Entry) (w : World) (n : ℕ) (c : CallbackRow) → IsTied before w → AllSound w → find (has_number n) w.callbacks ≡ Some c → IsSpoken target cancel before (run_at n c) → is_of target c ≡ true
+spoken_of target cancel before w n c tied sound found (OfObject object is same among) = ap (λ t. is_of t c) is ∙ same
+spoken_of target cancel before w n c tied sound found (OfSimple group is none among) =
+    ap (λ t. is_of t c) is ∙ eq-eqb c.group.0 group.0 (tied.simples group.0 n c among found).1
+spoken_of target cancel before w n c tied sound found (OfMember group is among) =
+    let of : IsInGroup w.objects group.0 c.object.0 = tied.objects group.0 c.object.0 among in
+    let home : HasObject w.objects c = sound n c found (λ no_object. none (ap (numbered w.objects) (sym no_object) ∙ of.stands)) in
+    let both_rows : Some home.row ≡ Some of.row = sym home.stands ∙ of.stands in
+    let same : home.row ≡ of.row = cc in
+    ap (λ t. is_of t c) is ∙ eq-eqb c.group.0 group.0 (ap (λ g. g.0) home.group ∙ ap (λ (r : ObjectRow). r.env.group.0) same ∙ of.group_is)
+  where
+    none : {row : ObjectRow} → None ≡ Some row → ⊥
+    none e = cc
+
+-- ---- one entry more
+
+module _ (before : List Entry) (w : World) (x : Entry) (after : World) (rising : IsRising 1 (length w.callbacks + 1) w.callbacks) (agrees : AgreesAfter before w) (ready : AreReady before w) (tied : IsTied before w) (leads : Leads (length w.callbacks + 1) w x after) (sound : AllSound after) where
+  -- what a wait that begins speaks of is past
+  past_here : (b : Begins) → begins_by x ≡ Some b → (run : Run) → IsSpoken b.target b.cancel before run → IsPast after run
+  past_here b begins run (OfObject object is same among) = inl (omega (arith, of_cancel b.cancel among, longer w x after leads))
+    where
+      of_cancel : (cancel : Bool) → is_among run.number (cond cancel (numbers_queued before) (numbers_made before)) ≡ true → run.number ≤ length w.callbacks
+      of_cancel true h = ready.past run.number h
+      of_cancel false h = made_past before w run.number agrees h
+  past_here b begins run (OfSimple group is none among) = inl (omega (arith, ready.past run.number (simples_queued group.0 run.number before among), longer w x after leads))
+  past_here b begins run (OfMember group is among) =
+      let of : IsInGroup w.objects group.0 run.object.0 = tied.objects group.0 run.object.0 among in
+      let o = leads.groups.keeps run.object.0 of.row of.stands in
+      inr (record { row = o.new; stands = o.stands; released = leads.groups.clears b group begins is run.object.0 o.new o.stands (ap (λ e. e.group.0) o.env ∙ of.group_is) })
 
   -- a wait that begins
   begins_here : (b : Begins) → begins_by x ≡ Some b → Promised b before [] x.who after
   begins_here b begins = of_move leads.waits
     where
-      about : (run : Run) → is_spoken_of b before run ≡ true → (run.object.0 == b.object.0) ≡ true
-      about run e = (both (run.object.0 == b.object.0) (is_among run.number (cond b.cancel (numbers_queued before) (numbers_made before))) e).0
+      spoken : (n : ℕ) (c : CallbackRow) → is_spoken_of b before (run_at n c) ≡ true → IsSpoken b.target b.cancel before (run_at n c)
+      spoken n c e = spoken_is b.target b.cancel before (run_at n c) e
 
-      ready_of : b.cancel ≡ true → (n : ℕ) (c : CallbackRow) → is_spoken_of b before (run_at n c) ≡ true → find (has_number n) after.callbacks ≡ Some c → is_operating c.status ≡ false
-      ready_of cancels n c spoken found =
-          let queued : is_among n (numbers_queued before) ≡ true = ap (λ t. is_among n (cond t (numbers_queued before) (numbers_made before))) (sym cancels) ∙ (both (c.object.0 == b.object.0) (is_among n (cond b.cancel (numbers_queued before) (numbers_made before))) spoken).1 in
-          let was : WasRow w n c = past_row n c (ready.past n queued) found in
-          not_true (is_operating c.status) (is_operating was.old.status) was.follows.operating (ready.ready n was.old queued was.found)
+      its : (n : ℕ) (c : CallbackRow) → find (has_number n) after.callbacks ≡ Some c → is_spoken_of b before (run_at n c) ≡ true → is_of b.target c ≡ true
+      its n c found e = spoken_of b.target b.cancel before after n c (tied_still before w x after rising ready leads tied) sound found (spoken n c e)
 
       left_not : (s : Status) → is_pending s ≡ false → is_operating s ≡ false → is_left s ≡ false
       left_not Pending p o = absurd (false_true (sym p))
@@ -332,69 +337,72 @@ module _ (before : List Entry) (w : World) (x : Entry) (after : World) (rising :
       left_not Returned p o = refl
       left_not Cancelled p o = refl
 
-      held_runs : (s : Status) → is_held_for (Object b.object) s ≡ true → is_left s ≡ false → is_running s ≡ true
-      held_runs (Running worker associated slots) h l = refl
-      held_runs Pending h l = absurd (false_true (sym l))
-      held_runs Expected h l = absurd (false_true (sym l))
-      held_runs Issued h l = absurd (false_true (sym l))
-      held_runs Returned h l = absurd (false_true h)
-      held_runs Cancelled h l = absurd (false_true h)
+      held_runs : (t : WaitTarget) (s : Status) → is_held_for t s ≡ true → is_left s ≡ false → is_running s ≡ true
+      held_runs t (Running worker associated slots) h l = refl
+      held_runs t Pending h l = absurd (false_true (sym l))
+      held_runs t Expected h l = absurd (false_true (sym l))
+      held_runs t Issued h l = absurd (false_true (sym l))
+      held_runs t Returned h l = absurd (false_true h)
+      held_runs t Cancelled h l = absurd (false_true h)
+
+      of_wait : (m : BeginsWait w x after) → m.begun ≡ b → Promised b before [] x.who after
+      of_wait m same =
+          record {
+            past = λ run e. past_here b begins run (spoken_is b.target b.cancel before run e);
+            going = λ _. record {
+              wait = m.wait;
+              found = ap (find (own x.who)) m.waits ∙ behind w.waits m.none;
+              target_is = m.target ∙ ap (λ (d : Begins). d.target) same;
+              covers = λ n c found e h. (
+                m.covers n c found (subst (λ (d : Begins). is_covered_by d.target d.cancel c ≡ true) (sym same) (covered n c found e h)),
+                its n c found e,
+              );
+            };
+            done = λ end e. absurd cc;
+            cut = cut_here;
+          }
+        where
+          cut_here : b.cancel ≡ true → NoneLeft (is_spoken_of b before) after
+          cut_here cancels n c found e =
+              left_not c.status (subst (λ (d : Begins). d.cancel ≡ true → is_of d.target c ≡ true → is_pending c.status ≡ false) same (λ on of. m.cuts on n c found of) cancels (its n c found e))
+              (idle (spoken n c e))
+            where
+              of_group : (group : GroupId) → b.target ≡ Group group → is_operating c.status ≡ false
+              of_group group is = m.idle (ap (λ (d : Begins). is_group_target d.target) same ∙ ap is_group_target is) n c found (ap (λ (d : Begins). is_of d.target c) same ∙ its n c found e)
+
+              idle : IsSpoken b.target b.cancel before (run_at n c) → is_operating c.status ≡ false
+              idle (OfObject object is its_own among) =
+                  let queued : is_among n (numbers_queued before) ≡ true = ap (λ t. is_among n (cond t (numbers_queued before) (numbers_made before))) (sym cancels) ∙ among in
+                  let was : WasRow w n c = past_row w x after leads n c (ready.past n queued) found in
+                  not_true (is_operating c.status) (is_operating was.old.status) was.follows.operating (ready.ready n was.old queued was.found)
+              idle (OfMember group is among) = of_group group is
+              idle (OfSimple group is none among) = of_group group is
+
+          covered : (n : ℕ) (c : CallbackRow) → find (has_number n) after.callbacks ≡ Some c → is_spoken_of b before (run_at n c) ≡ true → is_held_for b.target c.status ≡ true → is_covered_by b.target b.cancel c ≡ true
+          covered n c found e h = of_cancel b.cancel refl
+            where
+              outstanding : is_outstanding_for b.target c ≡ true
+              outstanding = ap₂ (λ p q. p && q) (its n c found e) h
+
+              of_cancel : (t : Bool) → b.cancel ≡ t → is_covered_by b.target b.cancel c ≡ true
+              of_cancel false off = ap₂ (λ p q. p && (is_running c.status || not (q && is_object_target b.target))) outstanding off ∙ or_true (is_running c.status)
+              of_cancel true on = ap₂ (λ p q. p && (q || not (b.cancel && is_object_target b.target))) outstanding (held_runs b.target c.status h (cut_here on n c found e))
+
+          behind : (bs : List BegunWait) → list_any (own x.who) bs ≡ false → find (own x.who) (bs ++ m.wait ∷ []) ≡ Some m.wait
+          behind [] e = ap (λ a. cond (is_same_actor a x.who) (Some m.wait) None) m.actor ∙ ap (λ t. cond t (Some m.wait) None) (is_own_actor x.who)
+          behind (d ∷ bs) e =
+              let none = neither (own x.who d) (list_any (own x.who) bs) e in
+              ap (λ t. cond t (Some d) (find (own x.who) (bs ++ m.wait ∷ []))) none.0 ∙ behind bs none.1
 
       of_move : WaitsMove w x after → Promised b before [] x.who after
       of_move (Keep m) = absurd (let none : None ≡ Some b = sym m.begins ∙ begins in cc)
+      of_move (Notify m) = absurd (let none : None ≡ Some b = sym m.begins ∙ begins in cc)
       of_move (End m) = absurd (let none : None ≡ Some b = sym m.begins ∙ begins in cc)
-      of_move (Begin m) = subst (λ (d : Begins). Promised d before [] x.who after) same promised
-        where
-          same : m.begun ≡ b
-          same = let both_told : Some m.begun ≡ Some b = sym m.begins ∙ begins in cc
-
-          cut_here : m.begun.cancel ≡ true → NoneLeft (is_spoken_of m.begun before) after
-          cut_here cancels n c found spoken =
-              let spoken_b : is_spoken_of b before (run_at n c) ≡ true = ap (λ (d : Begins). is_spoken_of d before (run_at n c)) (sym same) ∙ spoken in
-              let of_object : is_of (Object m.begun.object) c ≡ true = (both (c.object.0 == m.begun.object.0) (is_among n (cond m.begun.cancel (numbers_queued before) (numbers_made before))) spoken).0 in
-              left_not c.status (m.cuts cancels n c found of_object) (ready_of (ap (λ (d : Begins). d.cancel) (sym same) ∙ cancels) n c spoken_b found)
-
-          is_covered : (n : ℕ) (c : CallbackRow) → find (has_number n) after.callbacks ≡ Some c → is_spoken_of m.begun before (run_at n c) ≡ true → is_held_for (Object m.begun.object) c.status ≡ true → is_covered_by (Object m.begun.object) m.begun.cancel c ≡ true
-          is_covered n c found spoken h = of_cancel m.begun.cancel refl
-            where
-              outstanding : is_outstanding_for (Object m.begun.object) c ≡ true
-              outstanding = ap₂ (λ p q. p && q) (both (c.object.0 == m.begun.object.0) (is_among n (cond m.begun.cancel (numbers_queued before) (numbers_made before))) spoken).0 h
-
-              of_cancel : (t : Bool) → m.begun.cancel ≡ t → is_covered_by (Object m.begun.object) m.begun.cancel c ≡ true
-              of_cancel false e = ap₂ (λ p q. p && (is_running c.status || not (q && true))) outstanding e ∙ or_true (is_running c.status)
-              of_cancel true e =
-                  let runs : is_running c.status ≡ true = held_runs c.status (ap (λ (d : Begins). is_held_for (Object d.object) c.status) (sym same) ∙ h) (cut_here e n c found spoken) in
-                  ap₂ (λ p q. p && (q || not (m.begun.cancel && true))) outstanding runs
-
-          new_found : find (λ (d : BegunWait). is_same_actor d.actor x.who) (w.waits ++ m.wait ∷ []) ≡ Some m.wait
-          new_found = behind w.waits m.none
-            where
-              behind : (bs : List BegunWait) → list_any (λ (d : BegunWait). is_same_actor d.actor x.who) bs ≡ false → find (λ (d : BegunWait). is_same_actor d.actor x.who) (bs ++ m.wait ∷ []) ≡ Some m.wait
-              behind [] e = ap (λ a. cond (is_same_actor a x.who) (Some m.wait) None) m.actor ∙ ap (λ t. cond t (Some m.wait) None) (is_own_actor x.who)
-              behind (d ∷ bs) e =
-                  let none = neither (is_same_actor d.actor x.who) (list_any (λ (y : BegunWait). is_same_actor y.actor x.who) bs) e in
-                  ap (λ t. cond t (Some d) (find (λ (y : BegunWait). is_same_actor y.actor x.who) (bs ++ m.wait ∷ []))) none.0 ∙ behind bs none.1
-
-          promised : Promised m.begun before [] x.who after
-          promised =
-              record {
-                past = λ run e. omega (arith, spoken_past before w m.begun run agrees ready e, longer);
-                going = λ _. record {
-                  wait = m.wait;
-                  found = ap (find (λ (d : BegunWait). is_same_actor d.actor x.who)) m.waits ∙ new_found;
-                  target = m.target;
-                  covers = λ n c found spoken h. m.covers n c found (is_covered n c found spoken h);
-                };
-                done = λ end e. absurd cc;
-                cut = cut_here;
-              }
+      of_move (Begin m) = of_wait m (let both_told : Some m.begun ≡ Some b = sym m.begins ∙ begins in cc)
 
   pub promises_more : Promises before w → Promises (before ++ x ∷ []) after
   promises_more promises front between begin b split begins = of_place (last_place before x front begin between split)
     where
-      about : (run : Run) → is_spoken_of b front run ≡ true → (run.object.0 == b.object.0) ≡ true
-      about run e = (both (run.object.0 == b.object.0) (is_among run.number (cond b.cancel (numbers_queued front) (numbers_made front))) e).0
-
       of_place : LastPlace before x front begin between → Promised b front between begin.who after
       of_place (Here same_front same none) =
           subst (λ l. Promised b front l begin.who after) (sym none)
@@ -404,17 +412,14 @@ module _ (before : List Entry) (w : World) (x : Entry) (after : World) (rising :
           let old : Promised b front rest begin.who w = promises front rest begin b same_front begins in
           subst (λ l. Promised b front l begin.who after) (sym back)
           (record {
-            past = λ run e. omega (arith, old.past run e, longer);
-            going = λ none.
-                let apart = none_last (ends begin.who) rest x none in
-                let on : GoesOn (is_spoken_of b front) b.object begin.who w = old.going apart.0 in
-                record { wait = on.wait; found = wait_goes_on begin.who on.wait apart.1 on.found; target = on.target; covers = covers_more (is_spoken_of b front) b.object on.wait.covered old.past on.covers };
+            past = λ run e. past_more before w x after leads run (old.past run e);
+            going = λ none. let apart = none_last (ends begin.who) rest x none in going_more before w x after leads (is_spoken_of b front) b.target begin.who old.past apart.1 (old.going apart.0);
             done = λ end found answer. of_found end answer old (found_last (ends begin.who) rest x end found);
-            cut = λ cancels. none_left_more (is_spoken_of b front) old.past (old.cut cancels);
+            cut = λ cancels. none_left_more before w x after leads (is_spoken_of b front) old.past (old.cut cancels);
           })
         where
-          of_found : (end : Entry) → end.answer ≡ Ended → Promised b front rest begin.who w → FoundLast (ends begin.who) rest x end → NoneHeld (is_spoken_of b front) b.object after
-          of_found end answer old (Before found) = none_held_more (is_spoken_of b front) b.object old.past (old.done end found answer)
+          of_found : (end : Entry) → end.answer ≡ Ended → Promised b front rest begin.who w → FoundLast (ends begin.who) rest x end → NoneHeld (is_spoken_of b front) b.target after
+          of_found end answer old (Before found) = none_held_more before w x after leads (is_spoken_of b front) b.target old.past (old.done end found answer)
           of_found end answer old (Now none is_end same) =
-              none_held_more (is_spoken_of b front) b.object old.past
-              (freed (is_spoken_of b front) b.object begin.who about (old.going none) is_end (ap (λ (e : Entry). e.answer) same ∙ answer))
+              none_held_more before w x after leads (is_spoken_of b front) b.target old.past
+              (freed before w x after leads (is_spoken_of b front) b.target begin.who (old.going none) is_end (ap (λ (e : Entry). e.answer) same ∙ answer))

@@ -1,5 +1,5 @@
 -- From what it follows that the numbers of a plan are in range; and each change keeps those of the rows.
-use Rattle.std.proofs.Common.{◌≡◌, ℕ, ◌+◌, ◌-◌, ◌<◌, ◌≤◌, ◌^◌, Bool, true, false, cond, not, ◌==◌, List, [], ◌∷◌, length, arith, slice_get, Option, Some, None, refl, sym, subst, ap, find, ◌++◌, ◌∙◌, zero, suc}
+use Rattle.std.proofs.Common.{◌≡◌, ℕ, ◌+◌, ◌-◌, ◌<◌, ◌≤◌, ◌^◌, Bool, true, false, cond, not, ◌==◌, List, [], ◌∷◌, length, arith, slice_get, Option, Some, None, refl, sym, subst, ap, find, ◌++◌, ◌∙◌, zero, suc, length-append, length-set}
 use Rattle.std.specs.List.{AllByRecursion}
 use Rattle.tp_base.specs.Ranges.{IsRoutineInRange, IsRefusalInRange, IsResultInRange}
 use Rattle.tp_base.specs.declared.ids.Who.{Who}
@@ -40,17 +40,17 @@ use Rattle.std.specs.Prelude.{ℤ}
 use Rattle.tp_base.specs.declared.rows.TimerSetting.{TimerSetting}
 use Rattle.tp_base.specs.Timers.{set_timer, expires_at_once}
 use Rattle.tp_model.specs.Sources.{Sources, Job, Firing, job, jobless, with_state, disarmed, release_to, release_first, release_times, arm, firing, sources_of, rows_of, object_row}
-use Rattle.tp_model.specs.Support.Sound.{IsSound, IsMade}
-use Rattle.tp_model.proofs.Firing.{AreJobsOf, IsFiringOf, IsFiringIn, IsTriggerOf, row_of_made, firing_of, fired_in}
+use Rattle.tp_model.specs.Support.Sound.{IsSound, IsMade, is_standing}
+use Rattle.tp_model.proofs.Firing.{AreJobsOf, IsFiringOf, IsFiringIn, IsTriggerOf, row_of_made, firing_of, fired_in, jobs_made, armable_stands}
 use Rattle.tp_model.proofs.Preserving.{sources_in}
 use Rattle.tp_model.specs.World.{World, BegunWait}
 use Rattle.tp_model.specs.Counts.{numbered, has_number}
 use Rattle.tp_model.specs.Conditions.{busy_of}
-use Rattle.tp_model.specs.Changes.{kernels_taken, kernels_left, new_wait, change_pool, replaced, taken, marked, operated, returned, changed, release_object}
+use Rattle.tp_model.specs.Changes.{kernels_taken, kernels_left, new_wait, change_pool, replaced, taken, marked, operated, returned, changed, release_object, new_close, notified}
 use Rattle.tp_model.specs.Refusing.{first_refusal, unless_refused}
 use Rattle.tp_model.specs.Laws.Entries.{is_completion}
 use Rattle.tp_model.specs.Support.Allowed.{IsAllowed, IsReady, MayChange, Suits}
-use Rattle.tp_model.specs.Support.Ranged.{IsStateInRange, IsTargetInRange, IsObjectInRange, IsCallbackInRange, AreRowsInRange, IsTriggerInRange, IsStepInRange, IsChangeInRange, IsPlanInRange}
+use Rattle.tp_model.specs.Support.Ranged.{IsStateInRange, IsObjectInRange, IsCallbackInRange, AreRowsInRange, IsTriggerInRange, IsStepInRange, IsChangeInRange, IsPlanInRange, IsWaitInRange}
 use Rattle.tp_model.specs.Support.Remembered.{lives, forget}
 use Rattle.tp_base.specs.declared.ids.Who.TheVariants.{Worker}
 use Rattle.std.proofs.lemmas.Bool.{leb-true}
@@ -70,10 +70,11 @@ use Rattle.tp_model.specs.Actions.{slots_of, words_of, act, perform, returning}
 use Rattle.tp_model.specs.Support.Sound.{IsMade, may_be_armed}
 use Rattle.tp_model.proofs.Actions.{is_that, may_raise_still}
 use Rattle.tp_model.proofs.Performing.{returning_of}
-use Rattle.tp_model.proofs.Firing.{armable_made}
 use Rattle.tp_model.proofs.Kernels.{all_changed, state_ranged, taken_ranged, taken_state_ranged}
 use Rattle.tp_model.proofs.Lists.{all_append, all_appended, all_filter, all_get, all_map, find_all, all_set}
 use Rattle.tp_model.proofs.Refusals.{NoneHolds, none_holds, numbered_some, false_true}
+use Rattle.tp_model.specs.Groups.{released_from, is_member, is_member_at, notices_of}
+use Rattle.std.proofs.lemmas.List.{length-map}
 
 -- ---- rows
 
@@ -96,7 +97,7 @@ same_numbers r c n o t x s h =
 
 pool_rows : (w : World) (pool : ℕ) (how : PoolChange) (row : Option PoolRow) → AreRowsInRange w → AreRowsInRange (change_pool w pool how row)
 pool_rows w pool how None rows = rows
-pool_rows w pool how (Some row) rows = record { objects = rows.objects; callbacks = rows.callbacks; timers = rows.timers; armings = rows.armings; kernels = rows.kernels; waits = rows.waits }
+pool_rows w pool how (Some row) rows = record { objects = rows.objects; callbacks = rows.callbacks; timers = rows.timers; armings = rows.armings; kernels = rows.kernels; waits = rows.waits; few = rows.few }
 
 mark_rows : (w : World) (mark : Mark) (c : CallbackRow) → find (has_number c.number) w.callbacks ≡ Some c → AreRowsInRange w → AllByRecursion IsCallbackInRange (replaced (marked mark c) w.callbacks)
 mark_rows w Long c found rows = put_row (marked Long c) w.callbacks (same_numbers (marked Long c) c refl refl refl refl refl (found_row c w.callbacks found rows.callbacks)) rows.callbacks
@@ -113,7 +114,15 @@ release_rows : (w : World) (object : ObjectId) (row : Option ObjectRow) → numb
 release_rows w object None is rows = rows
 release_rows w object (Some row) is rows =
     let o = all_get IsObjectInRange w.objects (object.0 - 1) row rows.objects (numbered_some w.objects object.0 row is).0 in
-    record { objects = all_set IsObjectInRange w.objects (object.0 - 1) (record row { released = true }) (record { routine = o.routine; context = o.context }) rows.objects; callbacks = rows.callbacks; timers = all_filter (λ (x : TimerSetting). x.object.0 ≤ 65535) (λ (x : TimerSetting). not (x.object.0 == object.0)) w.settings rows.timers; armings = all_filter (λ (a : Arming). a.object.0 ≤ 65535) (λ (a : Arming). not (is_arming_of object.0 a)) w.armings rows.armings; kernels = rows.kernels; waits = rows.waits }
+    record {
+      objects = all_set IsObjectInRange w.objects (object.0 - 1) (record row { released = true }) (record { routine = o.routine; context = o.context; cancel = o.cancel }) rows.objects;
+      callbacks = rows.callbacks;
+      timers = all_filter (λ (x : TimerSetting). x.object.0 ≤ 65535) (λ (x : TimerSetting). not (x.object.0 == object.0)) w.settings rows.timers;
+      armings = all_filter (λ (a : Arming). a.object.0 ≤ 65535) (λ (a : Arming). not (is_arming_of object.0 a)) w.armings rows.armings;
+      kernels = rows.kernels;
+      waits = rows.waits;
+      few = omega (arith, length-set w.objects (object.0 - 1) (record row { released = true }), rows.few);
+    }
 
 cancel_rows : (test : CallbackRow → Bool) (cs : List CallbackRow) → AllByRecursion IsCallbackInRange cs → AllByRecursion IsCallbackInRange (cancel_where test cs)
 cancel_rows test cs all =
@@ -245,49 +254,51 @@ taken_rows w who Free (Some b) rows = of_target b.target
 
 pub changed_rows : (fresh : ℕ) (w : World) (ch : Change) → IsSound fresh w → IsAllowed fresh w ch → IsChangeInRange ch → AreRowsInRange w → AreRowsInRange (changed w ch)
 changed_rows fresh w change.Keep s a r rows = rows
-changed_rows fresh w change.CreatePool s a r rows = record { objects = rows.objects; callbacks = rows.callbacks; timers = rows.timers; armings = rows.armings; kernels = rows.kernels; waits = rows.waits }
+changed_rows fresh w change.CreatePool s a r rows = record { objects = rows.objects; callbacks = rows.callbacks; timers = rows.timers; armings = rows.armings; kernels = rows.kernels; waits = rows.waits; few = rows.few }
 changed_rows fresh w (change.ChangePool pool how) s a r rows = pool_rows w pool.0 how (slice_get w.pools pool.0) rows
-changed_rows fresh w (change.CreateObject row) s a r rows = record { objects = all_append IsObjectInRange w.objects row rows.objects r; callbacks = rows.callbacks; timers = rows.timers; armings = rows.armings; kernels = rows.kernels; waits = rows.waits }
+changed_rows fresh w (change.CreateObject row) s a r rows = record { objects = all_append IsObjectInRange w.objects row rows.objects r; callbacks = rows.callbacks; timers = rows.timers; armings = rows.armings; kernels = rows.kernels; waits = rows.waits; few = omega (arith, length-append w.objects (row ∷ []), a.room) }
 changed_rows fresh w (change.ReleaseObject object) s a r rows = release_rows w object (numbered w.objects object.0) refl rows
-changed_rows fresh w (change.QueueCallback c) s a r rows = record { objects = rows.objects; callbacks = all_append IsCallbackInRange w.callbacks c rows.callbacks r; timers = rows.timers; armings = rows.armings; kernels = rows.kernels; waits = rows.waits }
-changed_rows fresh w (change.ExpectCallback c) s a r rows = record { objects = rows.objects; callbacks = all_append IsCallbackInRange w.callbacks c rows.callbacks r; timers = rows.timers; armings = rows.armings; kernels = rows.kernels; waits = rows.waits }
+changed_rows fresh w (change.QueueCallback c) s a r rows = record { objects = rows.objects; callbacks = all_append IsCallbackInRange w.callbacks c rows.callbacks r; timers = rows.timers; armings = rows.armings; kernels = rows.kernels; waits = rows.waits; few = rows.few }
+changed_rows fresh w (change.ExpectCallback c) s a r rows = record { objects = rows.objects; callbacks = all_append IsCallbackInRange w.callbacks c rows.callbacks r; timers = rows.timers; armings = rows.armings; kernels = rows.kernels; waits = rows.waits; few = rows.few }
 changed_rows fresh w (change.Operate c how) s a r rows =
-    record { objects = rows.objects; callbacks = put_row (operated how c) w.callbacks (operated_row how c r (found_row c w.callbacks a.found rows.callbacks)) rows.callbacks; timers = rows.timers; armings = rows.armings; kernels = rows.kernels; waits = rows.waits }
+    record { objects = rows.objects; callbacks = put_row (operated how c) w.callbacks (operated_row how c r (found_row c w.callbacks a.found rows.callbacks)) rows.callbacks; timers = rows.timers; armings = rows.armings; kernels = rows.kernels; waits = rows.waits; few = rows.few }
 changed_rows fresh w (change.Fire trigger first count) s a r rows =
     let f : Firing = firing trigger (sources_of w) in
     let made : IsFiringIn w.objects f = fired_in w trigger a.ready (sources_in fresh w s) in
     let few : IsFiringOf (λ n. n ≤ 65535) (λ n. n ≤ 65535) f = firing_of (λ n. n ≤ 65535) (λ n. n ≤ 65535) (λ n h. h) trigger (sources_of w) (trigger_few trigger r.0) (record { settings = rows.timers; armings = rows.armings }) in
     record {
       objects = rows.objects;
-      callbacks = all_appended IsCallbackInRange w.callbacks (rows_of w.objects first f.jobs) rows.callbacks (job_rows w.objects first f.jobs rows.objects made.jobs few.jobs (omega (arith, r.1, a.counted)));
+      callbacks = all_appended IsCallbackInRange w.callbacks (rows_of w.objects first f.jobs) rows.callbacks (job_rows w.objects first f.jobs rows.objects (jobs_made w.objects f.jobs made.jobs) few.jobs (omega (arith, r.1, a.counted)));
       timers = few.sources.settings;
       armings = few.sources.armings;
       kernels = fired_states w trigger a.ready rows.kernels;
       waits = rows.waits;
+      few = rows.few;
     }
 changed_rows fresh w (change.CreateKernel state) s a r rows =
-    record { objects = rows.objects; callbacks = rows.callbacks; timers = rows.timers; armings = rows.armings; kernels = all_append (λ (k : KernelRow). IsStateInRange k.state) w.kernels (new_kernel state) rows.kernels r; waits = rows.waits }
+    record { objects = rows.objects; callbacks = rows.callbacks; timers = rows.timers; armings = rows.armings; kernels = all_append (λ (k : KernelRow). IsStateInRange k.state) w.kernels (new_kernel state) rows.kernels r; waits = rows.waits; few = rows.few }
 changed_rows fresh w (change.ChangeKernel kernel how) s a r rows =
-    record { objects = rows.objects; callbacks = rows.callbacks; timers = rows.timers; armings = rows.armings; kernels = suited_rows w kernel how a rows.kernels; waits = rows.waits }
-changed_rows fresh w (change.Attach worker pool) s a r rows = record { objects = rows.objects; callbacks = rows.callbacks; timers = rows.timers; armings = rows.armings; kernels = rows.kernels; waits = rows.waits }
-changed_rows fresh w (change.Detach by) s a r rows = record { objects = rows.objects; callbacks = rows.callbacks; timers = rows.timers; armings = rows.armings; kernels = rows.kernels; waits = rows.waits }
+    record { objects = rows.objects; callbacks = rows.callbacks; timers = rows.timers; armings = rows.armings; kernels = suited_rows w kernel how a rows.kernels; waits = rows.waits; few = rows.few }
+changed_rows fresh w (change.Attach worker pool) s a r rows = record { objects = rows.objects; callbacks = rows.callbacks; timers = rows.timers; armings = rows.armings; kernels = rows.kernels; waits = rows.waits; few = rows.few }
+changed_rows fresh w (change.Detach by) s a r rows = record { objects = rows.objects; callbacks = rows.callbacks; timers = rows.timers; armings = rows.armings; kernels = rows.kernels; waits = rows.waits; few = rows.few }
 changed_rows fresh w (change.Take by c) s a r rows =
-    record { objects = rows.objects; callbacks = put_row (taken c by.worker) w.callbacks (same_numbers (taken c by.worker) c refl refl refl refl refl (found_row c w.callbacks a.found rows.callbacks)) rows.callbacks; timers = rows.timers; armings = rows.armings; kernels = rows.kernels; waits = rows.waits }
-changed_rows fresh w (change.Mark by mark) s a r rows = record { objects = rows.objects; callbacks = mark_rows w mark by.callback a.runs.found rows; timers = rows.timers; armings = rows.armings; kernels = rows.kernels; waits = rows.waits }
+    record { objects = rows.objects; callbacks = put_row (taken c by.worker) w.callbacks (same_numbers (taken c by.worker) c refl refl refl refl refl (found_row c w.callbacks a.found rows.callbacks)) rows.callbacks; timers = rows.timers; armings = rows.armings; kernels = rows.kernels; waits = rows.waits; few = rows.few }
+changed_rows fresh w (change.Mark by mark) s a r rows = record { objects = rows.objects; callbacks = mark_rows w mark by.callback a.runs.found rows; timers = rows.timers; armings = rows.armings; kernels = rows.kernels; waits = rows.waits; few = rows.few }
 changed_rows fresh w (change.Return by words first count) s a r rows =
     let of : Slots = slots_of by.callback.status in
     let f : Firing = returning w words of in
-    let made : IsFiringIn w.objects f = returning_of (IsMade (length w.objects)) (λ n. may_be_armed w.objects n ≡ true) (λ n may. armable_made w.objects n may) w words of (sources_in fresh w s) in
+    let made : IsFiringIn w.objects f = returning_of (λ n. is_standing w.objects n ≡ true) (λ n. may_be_armed w.objects n ≡ true) (λ n may. armable_stands w.objects n may) w words of (sources_in fresh w s) in
     let few : IsFiringOf (λ n. n ≤ 65535) (λ n. n ≤ 65535) f = returning_of (λ n. n ≤ 65535) (λ n. n ≤ 65535) (λ n h. h) w words of (record { settings = rows.timers; armings = rows.armings }) in
     record {
       objects = rows.objects;
       callbacks = all_appended IsCallbackInRange (replaced (returned by.callback) w.callbacks) (rows_of w.objects first f.jobs)
           (put_row (returned by.callback) w.callbacks (same_numbers (returned by.callback) by.callback refl refl refl refl refl (found_row by.callback w.callbacks a.runs.found rows.callbacks)) rows.callbacks)
-          (job_rows w.objects first f.jobs rows.objects made.jobs few.jobs (omega (arith, r, a.counted)));
+          (job_rows w.objects first f.jobs rows.objects (jobs_made w.objects f.jobs made.jobs) few.jobs (omega (arith, r, a.counted)));
       timers = few.sources.settings;
       armings = few.sources.armings;
       kernels = returning_states w (Worker by.worker) words of (a.told ∙ ap (λ s. words_of w (Worker by.worker) (slots_of s)) (sym a.runs.running)) rows.kernels;
       waits = rows.waits;
+      few = rows.few;
     }
 changed_rows fresh w (change.BeginWait who target cancel) s a r rows =
     record {
@@ -296,7 +307,32 @@ changed_rows fresh w (change.BeginWait who target cancel) s a r rows =
       timers = rows.timers;
       armings = rows.armings;
       kernels = rows.kernels;
-      waits = all_append (λ (b : BegunWait). IsTargetInRange b.target) w.waits (new_wait who target cancel (cancel_where (is_cancelled_by target cancel) w.callbacks)) rows.waits r;
+      waits = all_append IsWaitInRange w.waits (new_wait who target cancel (cancel_where (is_cancelled_by target cancel) w.callbacks)) rows.waits (record { target = r; cleanup = omega arith });
+      few = rows.few;
+    }
+changed_rows fresh w change.CreateGroup s a r rows = record { objects = rows.objects; callbacks = rows.callbacks; timers = rows.timers; armings = rows.armings; kernels = rows.kernels; waits = rows.waits; few = rows.few }
+changed_rows fresh w (change.CloseGroup group) s a r rows = record { objects = rows.objects; callbacks = rows.callbacks; timers = rows.timers; armings = rows.armings; kernels = rows.kernels; waits = rows.waits; few = rows.few }
+changed_rows fresh w (change.BeginClose who group cancel context notices) s a r rows =
+    let kept : List CallbackRow = cancel_where (is_cancelled_by (Group group) cancel) w.callbacks in
+    record {
+      objects = all_map IsObjectInRange (released_from group.0) (λ o h. elim (is_member group.0 o) as (λ b. IsObjectInRange (cond b (record o { released = true }) o)) [ true ↦ record { routine = h.routine; context = h.context; cancel = h.cancel } | false ↦ h ]) w.objects rows.objects;
+      callbacks = cancel_rows (is_cancelled_by (Group group) cancel) w.callbacks rows.callbacks;
+      timers = all_filter (λ (x : TimerSetting). x.object.0 ≤ 65535) (λ (x : TimerSetting). not (is_member_at w group.0 x.object.0)) w.settings rows.timers;
+      armings = all_filter (λ (a : Arming). a.object.0 ≤ 65535) (λ (a : Arming). not (is_member_at w group.0 a.object.0)) w.armings rows.armings;
+      kernels = rows.kernels;
+      waits = all_append IsWaitInRange w.waits (new_close who group cancel context (notices_of w group.0 cancel) kept) rows.waits (record { target = tt; cleanup = r });
+      few = omega (arith, length-map w.objects (released_from group.0), rows.few);
+    }
+changed_rows fresh w (change.GiveNotice who) s a r rows =
+    record {
+      objects = rows.objects;
+      callbacks = rows.callbacks;
+      timers = rows.timers;
+      armings = rows.armings;
+      kernels = rows.kernels;
+      waits = all_map IsWaitInRange (λ (b : BegunWait). cond (is_same_actor b.actor who) (notified b) b)
+          (λ b h. elim (is_same_actor b.actor who) as (λ t. IsWaitInRange (cond t (notified b) b)) [ true ↦ record { target = h.target; cleanup = h.cleanup } | false ↦ h ]) w.waits rows.waits;
+      few = rows.few;
     }
 changed_rows fresh w (change.EndWait who how) s a r rows =
     record {
@@ -305,12 +341,13 @@ changed_rows fresh w (change.EndWait who how) s a r rows =
       timers = rows.timers;
       armings = rows.armings;
       kernels = taken_rows w who how (wait_of w who) rows;
-      waits = all_filter (λ (b : BegunWait). IsTargetInRange b.target) (λ (b : BegunWait). not (is_same_actor b.actor who)) w.waits rows.waits;
+      waits = all_filter IsWaitInRange (λ (b : BegunWait). not (is_same_actor b.actor who)) w.waits rows.waits;
+      few = rows.few;
     }
-changed_rows fresh w (change.Finish client) s a r rows = record { objects = rows.objects; callbacks = rows.callbacks; timers = rows.timers; armings = rows.armings; kernels = rows.kernels; waits = rows.waits }
+changed_rows fresh w (change.Finish client) s a r rows = record { objects = rows.objects; callbacks = rows.callbacks; timers = rows.timers; armings = rows.armings; kernels = rows.kernels; waits = rows.waits; few = rows.few }
 
 pub forget_rows : (w : World) → AreRowsInRange w → AreRowsInRange (forget w)
-forget_rows w rows = record { objects = rows.objects; callbacks = all_filter IsCallbackInRange lives w.callbacks rows.callbacks; timers = rows.timers; armings = rows.armings; kernels = rows.kernels; waits = rows.waits }
+forget_rows w rows = record { objects = rows.objects; callbacks = all_filter IsCallbackInRange lives w.callbacks rows.callbacks; timers = rows.timers; armings = rows.armings; kernels = rows.kernels; waits = rows.waits; few = rows.few }
 
 -- ---- plans
 

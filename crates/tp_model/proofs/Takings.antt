@@ -145,6 +145,7 @@ taken_more fresh most w (change.ReleaseObject object) a all = with_object (numbe
     with_object (Some row) = taken_up_to most (most + 1) w (omega arith) all
 taken_more fresh most w (change.Fire trigger first count) a all = most_raised most (most + 1) (omega arith) _ (firing_keeps most trigger (sources_of w) all)
 taken_more fresh most w (change.Return by words first count) a all = most_raised most (most + 1) (omega arith) _ (returning_keeps most w words (slots_of by.callback.status) all)
+taken_more fresh most w (change.BeginClose who group cancel context notices) a all = most_raised most (most + 1) (omega arith) w.kernels all
 taken_more fresh most w ch a all = taken_up_to most (most + 1) w (omega arith) all
 
 -- at first there is none

@@ -21,6 +21,7 @@ use Rattle.tp_model.specs.Calls.InCallback.{may_run_long_plan, disassociate_plan
 use Rattle.tp_model.specs.Calls.Waits.{begin_wait_plan, end_plan}
 use Rattle.tp_model.specs.Calls.Clients.{finish_plan}
 use Rattle.tp_model.specs.History.{play}
+use Rattle.tp_base.specs.declared.rows.WaitTarget.TheVariants.{Object}
 
 limits : Limits
 limits = record { clients = 2; workers = 4; pools = 64; groups = 255; objects = 4095; kernels = 1024; slots = 8192 }
@@ -199,19 +200,19 @@ ended = record { who = Client 1; call = call.End; answer = answer.Ended }
 taken_later : AreCovered (made ∷ submitted 1 ∷ waits false ∷ ended ∷ attached ∷ takes 1 ∷ []) → true ≡ false
 unfolding made submitted waits ended attached takes environ
 taken_later law =
-    (law.at_each (made ∷ submitted 1 ∷ []) [] (attached ∷ takes 1 ∷ []) (waits false) ended (record { object = record { 0 = 1 }; cancel = false }) refl refl refl refl refl).none_later
+    (law.at_each (made ∷ submitted 1 ∷ []) [] (attached ∷ takes 1 ∷ []) (waits false) ended (record { target = Object (record { 0 = 1 }); cancel = false; cleanup = 0 }) refl refl refl refl refl refl).none_later
     (attached ∷ []) [] (takes 1) (record { number = 1; object = record { 0 = 1 } }) refl refl
 
 -- one that ended while it runs
 still_running : AreCovered (made ∷ submitted 1 ∷ attached ∷ takes 1 ∷ waits false ∷ ended ∷ []) → false ≡ true
 unfolding made submitted waits ended attached takes environ
 still_running law =
-    (law.at_each (made ∷ submitted 1 ∷ attached ∷ takes 1 ∷ []) [] [] (waits false) ended (record { object = record { 0 = 1 }; cancel = false }) refl refl refl refl refl).let_go
+    (law.at_each (made ∷ submitted 1 ∷ attached ∷ takes 1 ∷ []) [] [] (waits false) ended (record { target = Object (record { 0 = 1 }); cancel = false; cleanup = 0 }) refl refl refl refl refl refl).let_go
     (made ∷ submitted 1 ∷ attached ∷ []) (waits false ∷ []) (takes 1) (record { number = 1; object = record { 0 = 1 } }) refl refl refl
 
 -- and with cancel one that is taken while the wait goes on
 taken_between : AreCovered (made ∷ submitted 1 ∷ attached ∷ waits true ∷ takes 1 ∷ ended ∷ []) → true ≡ false
 unfolding made submitted waits ended attached takes environ
 taken_between law =
-    (law.at_each (made ∷ submitted 1 ∷ attached ∷ []) (takes 1 ∷ []) [] (waits true) ended (record { object = record { 0 = 1 }; cancel = true }) refl refl refl refl refl).none_between refl
+    (law.at_each (made ∷ submitted 1 ∷ attached ∷ []) (takes 1 ∷ []) [] (waits true) ended (record { target = Object (record { 0 = 1 }); cancel = true; cleanup = 0 }) refl refl refl refl refl refl).none_between refl
     [] [] (takes 1) (record { number = 1; object = record { 0 = 1 } }) refl refl

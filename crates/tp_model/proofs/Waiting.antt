@@ -8,9 +8,11 @@ use Rattle.tp_base.specs.declared.rows.CallbackRow.{CallbackRow}
 use Rattle.tp_base.specs.declared.rows.WaitTarget.{WaitTarget}
 use Rattle.tp_base.specs.declared.rows.WaitTarget.TheVariants.{Object, Group, Kernel}
 use Rattle.tp_base.specs.declared.ids.Who.{Who}
+use Rattle.tp_base.specs.declared.ids.GroupId.{GroupId}
+use Rattle.tp_base.specs.declared.ids.ObjectId.{ObjectId}
 use Rattle.tp_model.specs.World.{World, BegunWait}
 use Rattle.tp_model.specs.Counts.{numbered, has_number, is_running}
-use Rattle.tp_model.specs.Changes.{replaced, new_wait}
+use Rattle.tp_model.specs.Changes.{replaced, new_wait, new_close}
 use Rattle.tp_model.specs.Waits.{is_of, is_held_for, is_outstanding_for, is_object_target, is_covered_by, cancelled, cancel_where, covered_of}
 use Rattle.tp_model.specs.Laws.Entries.{is_among}
 use Rattle.tp_model.specs.Laws.Once.{is_left}
@@ -30,7 +32,7 @@ AreLeftOver before now = (target : WaitTarget) (n : ℕ) → is_left_among now t
 pub waits_still : (fresh : ℕ) (before now : List CallbackRow) → AreLeftOver before now → (bs : List BegunWait) → AllByRecursion (IsWaitSound fresh before) bs → AllByRecursion (IsWaitSound fresh now) bs
 waits_still fresh before now over [] all = tt
 waits_still fresh before now over (b ∷ bs) all = (
-  record { named = all.0.named; made = all.0.made; closed = λ m n lt left_m left_n. all.0.closed m n lt (over b.target m left_m) (over b.target n left_n); unnoticed = all.0.unnoticed },
+  record { named = all.0.named; made = all.0.made; closed = λ m n lt left_m left_n. all.0.closed m n lt (over b.target m left_m) (over b.target n left_n); settled = λ n left. all.0.settled n (over b.target n left); quiet = all.0.quiet },
   waits_still fresh before now over bs all.1,
 )
 
@@ -79,7 +81,8 @@ waits_longer fresh c cs number (b ∷ bs) all = (
     closed = λ m n lt left_m left_n covered.
         let below : n < c.number = omega (arith, number, among_below fresh n b.covered all.0.made covered) in
         all.0.closed m n lt (was m (omega (arith, lt, below)) left_m) (was n below left_n) covered;
-    unnoticed = all.0.unnoticed;
+    settled = λ n left covered. all.0.settled n (was n (omega (arith, number, among_below fresh n b.covered all.0.made covered)) left) covered;
+    quiet = all.0.quiet;
   },
   waits_longer fresh c cs number bs all.1,
 )
@@ -162,7 +165,8 @@ new_wait_sound fresh who target cancel kept named rising =
       named = named;
       made = numbers_below covers 1 fresh kept rising;
       closed = λ m n lt left_m left_n covered. closed m n left_m left_n covered;
-      unnoticed = refl;
+      settled = λ n left covered. refl;
+      quiet = λ _. refl;
     }
   where
     covers : CallbackRow → Bool
@@ -181,3 +185,18 @@ new_wait_sound fresh who target cancel kept named rising =
             = sym (ap (λ b. b || not (cancel && is_object_target target)) (left_outstanding target d h).1) ∙ (both (is_outstanding_for target d) (is_running d.status || not (cancel && is_object_target target)) passes).1 in
             let here = left_outstanding target c e in
             among_numbers covers m c kept at (ap₂ (λ a b. a && (b || not (cancel && is_object_target target))) here.0 here.1 ∙ all)
+
+-- and one of a close of a group, where with cancel none of its callbacks may still be run
+pub new_close_sound : (fresh : ℕ) (who : Who) (group : GroupId) (cancel : Bool) (context : ℕ) (notices : List ObjectId) (kept : List CallbackRow) → IsRising 1 fresh kept → (cancel ≡ false → notices ≡ [])
+    → (cancel ≡ true → (n : ℕ) (c : CallbackRow) → find (has_number n) kept ≡ Some c → is_of (Group group) c ≡ true → is_left c.status ≡ false) → IsWaitSound fresh kept (new_close who group cancel context notices kept)
+new_close_sound fresh who group cancel context notices kept rising quiet cut =
+    let plain : IsWaitSound fresh kept (new_wait who (Group group) cancel kept) = new_wait_sound fresh who (Group group) cancel kept tt rising in
+    record { named = tt; made = plain.made; closed = plain.closed; settled = λ n left _. of_cancel n left cancel refl; quiet = λ e. absurd (false_true (sym e)) }
+  where
+    of_row : (n : ℕ) → cancel ≡ true → (o : Option CallbackRow) → find (has_number n) kept ≡ o → option_map_or (is_left_of (Group group)) o false ≡ true → ⊥
+    of_row n is None found e = false_true e
+    of_row n is (Some c) found e = let parts = both (is_of (Group group) c) (is_left c.status) e in false_true (sym (cut is n c found parts.0) ∙ parts.1)
+
+    of_cancel : (n : ℕ) → is_left_among kept (Group group) n ≡ true → (b : Bool) → cancel ≡ b → notices ≡ []
+    of_cancel n left false is = quiet is
+    of_cancel n left true is = absurd (of_row n is (find (has_number n) kept) refl left)

@@ -1,6 +1,7 @@
 -- The calls of the machine, as plans: the refusals that a call can meet, of which the first one that applies is
 -- answered, and else what it does.
 pub mod Pools
+pub mod Groups
 pub mod Objects
 pub mod Work
 pub mod Workers

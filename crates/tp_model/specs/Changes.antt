@@ -1,5 +1,5 @@
 -- The world after a change.
-use Rattle.std.specs.Prelude.{ℕ, ◌-◌, Bool, true, false, not, min, max, List, [], ◌∷◌, ◌++◌, map, slice_get, slice_set, if◌then◌else◌, Option, None, Some}
+use Rattle.std.specs.Prelude.{ℕ, ◌-◌, Bool, true, false, not, min, max, List, [], ◌∷◌, ◌++◌, map, drop, slice_get, slice_set, if◌then◌else◌, Option, None, Some}
 use Rattle.std.specs.List.{filter}
 use Rattle.tp_base.specs.declared.plans.Change.{Change}
 use Rattle.tp_base.specs.declared.plans.Change.TheVariants as change
@@ -26,6 +26,7 @@ use Rattle.tp_base.specs.declared.rows.ClientRow.{ClientRow}
 use Rattle.tp_base.specs.declared.rows.WaitTarget.{WaitTarget}
 use Rattle.tp_base.specs.declared.rows.WaitTarget.TheVariants.{Object, Group, Kernel}
 use Rattle.tp_base.specs.declared.ids.Who.{Who}
+use Rattle.tp_base.specs.declared.ids.GroupId.{GroupId}
 use Rattle.tp_base.specs.declared.ids.ObjectId.{ObjectId}
 use Rattle.tp_base.specs.Armings.{without_arming}
 use Rattle.tp_base.specs.Timers.{without_setting}
@@ -34,6 +35,7 @@ use Rattle.tp_model.specs.Counts.{numbered, has_number}
 use Rattle.tp_base.specs.Actors.{is_same_actor}
 use Rattle.tp_base.specs.Kernels.{taken_by, state_after}
 use Rattle.tp_model.specs.Actions.{no_actions, slots_of, asking, returning}
+use Rattle.tp_model.specs.Groups.{new_group, close_row, notices_of, without_members}
 use Rattle.tp_model.specs.Kernels.{new_kernel, kernel_changed}
 use Rattle.tp_model.specs.Sources.{sources_of, firing, fired}
 use Rattle.tp_model.specs.Waits.{is_cancelled_by, cancel_where, covered_of, wait_of}
@@ -143,6 +145,20 @@ new_wait who target cancel kept = record { actor = who; target = target; covered
 abbrev pub begin_wait : World → Who → WaitTarget → Bool → List CallbackRow → World
 begin_wait w who target cancel kept = record w { callbacks = kept; waits = w.waits ++ new_wait who target cancel kept ∷ [] }
 
+-- a close of a group has notices to give besides
+abbrev pub new_close : Who → GroupId → Bool → ℕ → List ObjectId → List CallbackRow → BegunWait
+new_close who group cancel context notices kept = record (new_wait who (Group group) cancel kept) { notices = notices; cleanup = context }
+
+abbrev pub begin_close : World → Who → GroupId → Bool → ℕ → List ObjectId → List CallbackRow → World
+begin_close w who group cancel context notices kept =
+    record (without_members w group.0) { callbacks = kept; waits = w.waits ++ new_close who group cancel context notices kept ∷ [] }
+
+abbrev pub notified : BegunWait → BegunWait
+notified b = record b { notices = drop 1 b.notices }
+
+abbrev pub give_notice : Who → List BegunWait → List BegunWait
+give_notice who waits = map (λ (b : BegunWait). if is_same_actor b.actor who then notified b else b) waits
+
 abbrev pub without_wait : World → Who → World
 without_wait w who = record w { waits = filter (λ (b : BegunWait). not (is_same_actor b.actor who)) w.waits }
 
@@ -166,6 +182,8 @@ abbrev pub changed : World → Change → World
 changed w change.Keep = w
 changed w change.CreatePool = with_new_pool w
 changed w (change.ChangePool pool how) = change_pool w pool.0 how (slice_get w.pools pool.0)
+changed w change.CreateGroup = record w { groups = w.groups ++ new_group ∷ [] }
+changed w (change.CloseGroup group) = record w { groups = close_row w.groups group.0 (numbered w.groups group.0) }
 changed w (change.CreateObject row) = with_object w row
 changed w (change.ReleaseObject object) = release_object w object (numbered w.objects object.0)
 changed w (change.QueueCallback callback) = with_new_callback w callback
@@ -181,5 +199,8 @@ changed w (change.Take by callback) =
 changed w (change.Mark by mark) = with_callback w (marked mark by.callback)
 changed w (change.Return by words first count) = return_callback w by words first
 changed w (change.BeginWait who target cancel) = begin_wait w who target cancel (cancel_where (is_cancelled_by target cancel) w.callbacks)
+changed w (change.BeginClose who group cancel context notices) =
+    begin_close w who group cancel context (notices_of w group.0 cancel) (cancel_where (is_cancelled_by (Group group) cancel) w.callbacks)
+changed w (change.GiveNotice who) = record w { waits = give_notice who w.waits }
 changed w (change.EndWait who how) = end_wait w who how
 changed w (change.Finish client) = with_client w client finished

@@ -19,7 +19,7 @@ use Rattle.tp_base.specs.declared.ids.PoolId.{PoolId}
 use Rattle.tp_base.specs.declared.plans.Idle.{Idle}
 use Rattle.tp_base.specs.declared.plans.Busy.{Busy}
 use Rattle.tp_model.specs.World.{World, BegunWait}
-use Rattle.tp_model.specs.Counts.{numbered, callback_of, slots}
+use Rattle.tp_model.specs.Counts.{numbered, callback_of, is_operating, slots}
 
 -- the row of a worker, and none for a client
 abbrev pub worker_of : World → Who → Option WorkerRow
@@ -120,3 +120,10 @@ runs_own w who object = option_map_or (λ (by : Busy). is_associated by.callback
 -- so many more callbacks would not fit
 abbrev pub lacks_slots_for : World → ℕ → Bool
 lacks_slots_for w count = nat_lt w.limits.slots (slots w + count)
+
+-- a callback of the object still waits for its operation, or for the end of it. Only an I/O object has such callbacks
+abbrev pub is_operation_of : ℕ → CallbackRow → Bool
+is_operation_of object c = is_operating c.status && (c.object.0 == object)
+
+abbrev pub has_operations : World → ℕ → Bool
+has_operations w object = list_any (is_operation_of object) w.callbacks

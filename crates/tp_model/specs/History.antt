@@ -3,7 +3,7 @@ use Rattle.std.specs.Prelude.{◌≡◌, ℕ, ◌+◌, ◌-◌, Bool, true, fals
 use Rattle.tp_base.specs.declared.ids.Who.{Who}
 use Rattle.tp_base.specs.declared.calls.Call.{Call}
 use Rattle.tp_base.specs.declared.answers.Answer.{Answer}
-use Rattle.tp_base.specs.declared.answers.Answer.TheVariants.{Refused, Ended, Exhausted}
+use Rattle.tp_base.specs.declared.answers.Answer.TheVariants.{Refused, Ended, Exhausted, Notice}
 use Rattle.tp_base.specs.declared.answers.Entry.{Entry}
 use Rattle.tp_base.specs.declared.answers.Outcome.{Outcome}
 use Rattle.tp_base.specs.declared.answers.Outcome.TheVariants.{Done}
@@ -11,7 +11,7 @@ use Rattle.tp_base.specs.declared.limits.Limits.{Limits}
 use Rattle.tp_base.specs.declared.calls.Call.TheVariants.{End}
 use Rattle.tp_base.specs.declared.plans.WaitEnd.TheVariants as how
 use Rattle.tp_base.specs.declared.plans.Change.{Change}
-use Rattle.tp_base.specs.declared.plans.Change.TheVariants.{EndWait}
+use Rattle.tp_base.specs.declared.plans.Change.TheVariants.{EndWait, GiveNotice}
 use Rattle.tp_base.specs.declared.plans.Plan.{Plan}
 use Rattle.tp_base.specs.declared.plans.Plan.TheVariants.{Does}
 use Rattle.tp_model.specs.World.{World, opening}
@@ -32,10 +32,11 @@ abbrev pub change_of : Plan → Option Change
 change_of (Does answer change) = Some change
 change_of _ = None
 
--- how an answer of End says that the wait ended
+-- what an answer of End says: that the wait ended and how, or that it gave a notice
 abbrev pub wait_end : Who → Answer → Option Change
 wait_end who Ended = Some (EndWait who how.Free)
 wait_end who Exhausted = Some (EndWait who how.Exhausted)
+wait_end who (Notice object routine context cleanup) = Some (GiveNotice who)
 wait_end who _ = None
 
 -- the change that an accepted entry tells. It needs no room: End alone asks for it, and its answer says what it did

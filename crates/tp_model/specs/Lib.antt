@@ -3,6 +3,7 @@ pub mod Calls
 pub mod Changes
 pub mod Conditions
 pub mod Counts
+pub mod Groups
 pub mod History
 pub mod Kernels
 pub mod Laws

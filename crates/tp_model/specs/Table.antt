@@ -2,11 +2,12 @@
 use Rattle.std.specs.Prelude.{ℕ, ◌+◌, length}
 use Rattle.tp_base.specs.declared.ids.Who.{Who}
 use Rattle.tp_base.specs.declared.calls.Call.{Call}
-use Rattle.tp_base.specs.declared.calls.Call.TheVariants.{CreatePool, ClosePool, SetMaximum, SetMinimum, Create, CloseObject, SubmitSimple, SubmitWork, SetTimer, SetTimerEx, IsTimerSet, Advance, BeginWait, BeginAcquire, End, CreateEvent, CreateSemaphore, CreateLock, SetEvent, ResetEvent, ReleaseSemaphore, ReleaseLock, Attach, Detach, Take, Return, MayRunLong, Disassociate, OnReturn, Finish, SetWait, StartIo, IssueIo, CancelIo, CompleteIo}
+use Rattle.tp_base.specs.declared.calls.Call.TheVariants.{CreatePool, ClosePool, SetMaximum, SetMinimum, CreateGroup, CloseGroup, BeginClose, Create, CloseObject, SubmitSimple, SubmitWork, SetTimer, SetTimerEx, IsTimerSet, Advance, BeginWait, BeginAcquire, End, CreateEvent, CreateSemaphore, CreateLock, SetEvent, ResetEvent, ReleaseSemaphore, ReleaseLock, Attach, Detach, Take, Return, MayRunLong, Disassociate, OnReturn, Finish, SetWait, StartIo, IssueIo, CancelIo, CompleteIo}
 use Rattle.tp_base.specs.declared.plans.Plan.{Plan}
 use Rattle.tp_model.specs.World.{World}
 use Rattle.tp_model.specs.Step.{Step, stepped, within}
 use Rattle.tp_model.specs.Calls.Pools.{create_pool_plan, close_pool_plan, set_maximum_plan, set_minimum_plan}
+use Rattle.tp_model.specs.Calls.Groups.{create_group_plan, close_group_plan, begin_close_plan}
 use Rattle.tp_model.specs.Calls.Objects.{create_plan, close_object_plan}
 use Rattle.tp_model.specs.Calls.Work.{submit_work_plan, submit_simple_plan}
 use Rattle.tp_model.specs.Calls.Workers.{attach_plan, detach_plan, take_plan, return_plan}
@@ -24,6 +25,9 @@ plan_at w fresh room who CreatePool = create_pool_plan w who
 plan_at w fresh room who (ClosePool pool) = close_pool_plan w who pool
 plan_at w fresh room who (SetMaximum pool value) = set_maximum_plan w who pool value
 plan_at w fresh room who (SetMinimum pool value) = set_minimum_plan w who pool value
+plan_at w fresh room who CreateGroup = create_group_plan w who
+plan_at w fresh room who (CloseGroup group) = close_group_plan w who group
+plan_at w fresh room who (BeginClose group cancel context) = begin_close_plan w who group cancel context
 plan_at w fresh room who (Create kind routine context env) = create_plan w who kind routine context env
 plan_at w fresh room who (CloseObject kind object) = close_object_plan w who kind object
 plan_at w fresh room who (SubmitSimple routine context env) = submit_simple_plan w fresh who routine context env

@@ -50,6 +50,10 @@ abbrev pub is_object_target : WaitTarget → Bool
 is_object_target (Object object) = true
 is_object_target _ = false
 
+abbrev pub is_group_target : WaitTarget → Bool
+is_group_target (Group group) = true
+is_group_target _ = false
+
 -- what is outstanding after the cancellation; with cancel a wait for an object covers only what runs
 abbrev pub is_covered_by : WaitTarget → Bool → CallbackRow → Bool
 is_covered_by target cancel c = is_outstanding_for target c && (is_running c.status || not (cancel && is_object_target target))

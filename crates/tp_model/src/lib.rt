@@ -3,10 +3,11 @@
 //!
 //! Nothing here is run, but a caller can know something by it. In the body of a function that has a
 //! legal history, the line `legal_keeps_laws();` gives the proof that the history keeps the laws:
-//! no callback of it was taken twice, none above its pool's maximum, none that a wait was for after
-//! the wait has ended, and none of an operation but with the error and the bytes with which it had
-//! completed; each return tells of exactly the actions that its callback asked for; and no wait object
-//! got two callbacks for one time that it was set.
+//! no callback of it was taken twice, none above its pool's maximum, none that a wait or a close of a
+//! group was for after that has ended, and none of an operation but with the error and the bytes with
+//! which it had completed; each return tells of exactly the actions that its callback asked for; no
+//! wait object got two callbacks for one time that it was set; and a close of a group gave a notice of
+//! exactly the members that were to get one, each once and in order.
 
 #![tactic(auto)]
 

@@ -26,6 +26,3 @@ pub use checking::check;
 pub use faults::{CheckFault, TextFault};
 pub use playing::trace;
 pub use verdict::{Verdict, print_verdict};
-
-#[cfg(test)]
-mod tests;

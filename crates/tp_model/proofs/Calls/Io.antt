@@ -28,7 +28,7 @@ use Rattle.tp_model.proofs.Lists.{all_get, find_all, find_filter, find_passes}
 use Rattle.tp_model.proofs.Callbacks.{find_numbered, find_above}
 use Rattle.tp_model.proofs.Refusals.{both, neither, not_false, false_true, numbered_some}
 use Rattle.tp_model.proofs.Forgetting.{live_again}
-use Rattle.tp_model.proofs.Planning.{safe_unless}
+use Rattle.tp_model.proofs.Planning.{safe_unless, row_stands}
 use Rattle.tp_model.proofs.Ranging.{ranged_unless}
 use Rattle.tp_model.proofs.Calls.Timers.{object_stands}
 
@@ -44,7 +44,7 @@ module _ (fresh : ℕ) (w : World) (who : Who) (object : ObjectId) where
       let home = all_get (λ (o : ObjectRow). o.env.pool.0 < length w.pools) w.objects _ of.row s.object_pools (numbered_some w.objects object.0 of.row of.stands).0 in
       subst (λ row. IsSafe fresh w who (StartIo object) (start_io fresh object row)) (sym of.stands)
       (record {
-        allowed = record { number = refl; expected = refl; object = λ _. record { row = of.row; stands = of.stands; home = refl }; home = home; room = none.1.1.1.1.1.0 };
+        allowed = record { number = refl; expected = refl; object = λ _. record { row = of.row; stands = of.stands; home = refl; group = refl }; home = home; room = none.1.1.1.1.1.0; stands = row_stands w.objects object.0 of.row of.stands (neither (is_finished w who) (is_released w object.0) none.1.1.0).1 };
         made_by = ap (λ (r : Option ObjectRow). option_map_or (λ (o : ObjectRow). is_same_kind o.kind Wait) r false) of.stands ∙ ap (λ k. is_same_kind k Wait) of.kind;
         accepted = refl;
         tells = refl;

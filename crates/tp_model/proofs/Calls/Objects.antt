@@ -20,10 +20,10 @@ use Rattle.tp_base.specs.declared.rows.WaitTarget.TheVariants.{Object}
 use Rattle.tp_base.specs.Ranges.{IsCallInRange}
 use Rattle.tp_model.specs.World.{World}
 use Rattle.tp_model.specs.Counts.{numbered, is_live, is_operating}
-use Rattle.tp_model.specs.Conditions.{is_actor, is_pool, is_finished, is_no_group_or_group, is_object, is_released}
+use Rattle.tp_model.specs.Conditions.{is_actor, is_pool, is_finished, is_no_group_or_group, is_object, is_released, is_operation_of, has_operations}
 use Rattle.tp_model.specs.Refusing.{first_refusal, unless_refused, object_refusals}
 use Rattle.tp_model.specs.Sources.{new_object}
-use Rattle.tp_model.specs.Calls.Objects.{create_refusals, create_plan, is_operation_of, close_object_refusals, close_object_plan}
+use Rattle.tp_model.specs.Calls.Objects.{create_refusals, create_plan, close_object_refusals, close_object_plan}
 use Rattle.tp_model.specs.Support.Allowed.{IsUnreleased}
 use Rattle.tp_model.specs.Support.Safe.{IsSafe}
 use Rattle.tp_model.specs.Support.Remembered.{lives, forget}
@@ -53,17 +53,17 @@ pub create_ranged : (w : World) (who : Who) (kind : Kind) (routine : RoutineId) 
 unfolding create_plan
 create_ranged w who kind routine context env g c =
     made_ranged (create_refusals w who env) (plan.Does (answer.Made (length w.objects + 1)) (change.CreateObject (new_object kind routine context env))) _
-    (λ none. ((omega arith, omega (arith, leb-false w.limits.objects (length w.objects) none.1.1.1.1.1.1.0, g.limits.objects_most)), record { routine = c.0; context = c.2 }))
+    (λ none. ((omega arith, omega (arith, leb-false w.limits.objects (length w.objects) none.1.1.1.1.1.1.0, g.limits.objects_most)), record { routine = c.0; context = c.2; cancel = c.1.cancel_most }))
 
 -- ---- CloseObject
 
 -- the object of the number stands and isn't released
-unreleased : (w : World) (object : ObjectId) → is_object w object.0 ≡ true → is_released w object.0 ≡ false → IsUnreleased w object
-unreleased w object there live = of_row (numbered w.objects object.0) refl there live
+unreleased : (w : World) (object : ObjectId) → is_object w object.0 ≡ true → is_released w object.0 ≡ false → has_operations w object.0 ≡ false → IsUnreleased w object
+unreleased w object there live idle = of_row (numbered w.objects object.0) refl there live
   where
     of_row : (row : Option ObjectRow) → numbered w.objects object.0 ≡ row → is_some row ≡ true → option_map_or (λ (o : ObjectRow). o.released) row false ≡ false → IsUnreleased w object
     of_row None is h l = absurd (false_true h)
-    of_row (Some row) is h l = record { row = row; stands = is; unreleased = l }
+    of_row (Some row) is h l = record { row = row; stands = is; unreleased = l; idle = idle }
 
 pub close_object_safe : (fresh : ℕ) (w : World) (who : Who) (kind : Kind) (object : ObjectId) → IsSafe fresh w who (CloseObject kind object) (close_object_plan w who kind object)
 unfolding close_object_plan
@@ -72,21 +72,22 @@ close_object_safe fresh w who kind object =
     (λ none.
     let there = not_false (is_object w object.0) (neither (not (is_actor w who)) (not (is_object w object.0)) none.0).1 in
     let live = (neither (is_finished w who) (is_released w object.0) none.1.1.0).1 in
-    record { allowed = unreleased w object there live; made_by = tt; accepted = refl; tells = refl })
+    record { allowed = unreleased w object there live none.1.1.1.1.1.0; made_by = tt; accepted = refl; tells = refl })
 
-pub close_object_forget : (w : World) (who : Who) (kind : Kind) (object : ObjectId) → close_object_plan (forget w) who kind object ≡ close_object_plan w who kind object
-unfolding close_object_plan
-close_object_forget w who kind object =
-    ap₂ (λ b n. unless_refused (first_refusal (object_refusals w who kind object.0 ++ (b, OperationsOutstanding object) ∷ [])) (plan.Does (answer.Closed (nat_lt 0 n)) (change.ReleaseObject object)))
-    (any_filter (is_operation_of object.0) lives over w.callbacks) (outstanding_forget w (Object object))
+-- what is over has no operation under way
+pub over_not_operation : (object : ℕ) (c : CallbackRow) → lives c ≡ false → is_operation_of object c ≡ false
+over_not_operation object c dead = ap (λ b. b && (c.object.0 == object)) (idle c.status dead)
   where
     idle : (s : Status) → is_live s ≡ false → is_operating s ≡ false
     idle Expected e = absurd (false_true (sym e))
     idle Issued e = absurd (false_true (sym e))
     idle _ e = refl
 
-    over : (c : CallbackRow) → lives c ≡ false → is_operation_of object.0 c ≡ false
-    over c dead = ap (λ b. b && (c.object.0 == object.0)) (idle c.status dead)
+pub close_object_forget : (w : World) (who : Who) (kind : Kind) (object : ObjectId) → close_object_plan (forget w) who kind object ≡ close_object_plan w who kind object
+unfolding close_object_plan
+close_object_forget w who kind object =
+    ap₂ (λ b n. unless_refused (first_refusal (object_refusals w who kind object.0 ++ (b, OperationsOutstanding object) ∷ [])) (plan.Does (answer.Closed (nat_lt 0 n)) (change.ReleaseObject object)))
+    (any_filter (is_operation_of object.0) lives (over_not_operation object.0) w.callbacks) (outstanding_forget w (Object object))
 
 pub close_object_ranged : (w : World) (who : Who) (kind : Kind) (object : ObjectId) → IsCallInRange (CloseObject kind object) → IsPlanInRange (close_object_plan w who kind object)
 unfolding close_object_plan

@@ -1,6 +1,6 @@
 -- The facts of waits for callbacks.
-use Rattle.std.proofs.Common.{◌≡◌, ℕ, ◌<◌, Bool, true, false, cond, not, ◌||◌, ◌==◌, List, [], ◌∷◌, length, Option, Some, None, refl, ap, ◌∙◌, arith, eqb-true, ◌&&◌, nat_lt, ap₂, filter, ◌≤◌, ◌^◌, subst, sym}
-use Rattle.std.specs.Option.{option_map_or}
+use Rattle.std.proofs.Common.{◌≡◌, ℕ, ◌<◌, Bool, true, false, cond, not, ◌||◌, ◌==◌, List, [], ◌∷◌, length, Option, Some, None, refl, ap, ◌∙◌, arith, eqb-true, ◌&&◌, nat_lt, ap₂, filter, ◌≤◌, ◌^◌, subst, sym, eq-eqb, ltb-true, ◌-◌}
+use Rattle.std.specs.Option.{option_map_or, unwrap_or}
 use Rattle.std.proofs.lemmas.List.{length-map}
 use Rattle.tp_base.specs.declared.ids.Who.{Who}
 use Rattle.tp_base.specs.declared.ids.KernelId.{KernelId}
@@ -23,25 +23,33 @@ use Rattle.tp_base.specs.Actors.{is_same_actor}
 use Rattle.tp_base.specs.Kernels.{may_take}
 use Rattle.tp_model.specs.Kernels.{is_kernel, is_kernel_that}
 use Rattle.tp_model.specs.World.{World, BegunWait}
-use Rattle.tp_model.specs.Counts.{has_number, attached, callback_of}
+use Rattle.tp_model.specs.Counts.{has_number, attached, callback_of, is_pending}
 use Rattle.tp_base.specs.Actors.{is_same_actor}
 use Rattle.tp_model.specs.Conditions.{is_actor, is_finished, is_object, is_released, is_associated, is_in_wait, is_object_of, is_without_callback}
 use Rattle.tp_model.specs.Refusing.{first_refusal, unless_refused}
-use Rattle.tp_model.specs.Calls.Waits.{begin_wait_refusals, begin_wait_plan, begin_acquire_refusals, begin_acquire_plan, end_for, end_refusals, end_held, end_wait, end_plan, holds_starved, count_covered, count_cancelled_by, is_starved}
-use Rattle.tp_model.specs.Waits.{wait_of, held, is_outstanding_for, is_cancelled_by, cancelled, cancel_where, is_covered_by, covered_of, is_held}
-use Rattle.tp_model.specs.Support.Sound.{IsSound, IsWaitSound}
+use Rattle.tp_model.specs.Calls.Waits.{begin_wait_refusals, begin_wait_plan, begin_acquire_refusals, begin_acquire_plan, end_for, end_refusals, end_held, end_wait, end_plan, holds_starved, count_covered, count_cancelled_by, is_starved, end_notices}
+use Rattle.tp_model.specs.Waits.{wait_of, held, is_outstanding_for, is_cancelled_by, cancelled, cancel_where, is_covered_by, covered_of, is_held, is_group_target, is_of, is_held_for}
+use Rattle.tp_model.specs.Support.Sound.{IsSound, IsWaitSound, is_left_of}
 use Rattle.tp_model.specs.Support.Allowed.{IsTakeable}
-use Rattle.tp_model.specs.Support.Told.{silent, nothing}
+use Rattle.tp_model.specs.Support.Told.{silent, nothing, next_notice, first_left}
 use Rattle.tp_model.specs.Support.Safe.{IsSafe}
 use Rattle.tp_model.specs.Support.Remembered.{lives, forget}
-use Rattle.tp_model.specs.Support.Ranged.{IsTargetInRange, IsCallbackInRange, IsRanged, IsPlanInRange}
-use Rattle.tp_model.proofs.Lists.{find_all, filter_filter, filter_agree, length_filter_le, find_passes}
-use Rattle.tp_model.proofs.Refusals.{neither, not_false, false_true}
+use Rattle.tp_model.specs.Support.Ranged.{IsTargetInRange, IsCallbackInRange, IsRanged, IsPlanInRange, IsObjectInRange, IsWaitInRange}
+use Rattle.tp_model.proofs.Lists.{find_all, filter_filter, filter_agree, length_filter_le, find_passes, all_get}
+use Rattle.tp_model.proofs.Refusals.{neither, not_false, false_true, numbered_some, both}
 use Rattle.tp_model.proofs.Callbacks.{over_not_pending}
 use Rattle.tp_model.proofs.Cancelling.{cancelled_if}
 use Rattle.tp_model.proofs.Forgetting.{over_not_cancelled, over_not_covered, covered_forget, busy_forget, over_forget, over_not_outstanding}
 use Rattle.tp_model.proofs.Planning.{safe_unless}
 use Rattle.tp_model.proofs.Ranging.{ranged_unless}
+use Rattle.std.specs.List.{AllByRecursion}
+use Rattle.tp_base.specs.declared.rows.ObjectRow.{ObjectRow}
+use Rattle.tp_model.specs.Laws.Entries.{Notice, is_among}
+use Rattle.tp_model.proofs.Fates.{pending_left}
+use Rattle.tp_model.specs.Groups.{is_object_that, has_cancel}
+use Rattle.tp_model.proofs.Releasing.{that_row}
+use Rattle.tp_model.proofs.Firing.{numbered_made}
+use Rattle.tp_model.specs.Sources.{object_row, no_object}
 
 -- ---- BeginWait
 
@@ -91,7 +99,7 @@ over_covered target cancel c dead = ap (λ b. is_covered_by target cancel (cond 
 few_live : (w : World) (q : CallbackRow → Bool) → IsRanged w → ((c : CallbackRow) → lives c ≡ false → q c ≡ false) → length (filter q w.callbacks) ≤ 65535
 few_live w q g over = omega (arith, length_filter_le q lives over w.callbacks, g.slots_most, g.limits.slots_most)
 
-begun_ranged : (w : World) (target : WaitTarget) (cancel : Bool) → IsRanged w → IsAnswerInRange (answer.Begun (count_covered w target cancel) (count_cancelled_by w target cancel))
+pub begun_ranged : (w : World) (target : WaitTarget) (cancel : Bool) → IsRanged w → IsAnswerInRange (answer.Begun (count_covered w target cancel) (count_cancelled_by w target cancel))
 begun_ranged w target cancel g =
     let test : CallbackRow → Bool = is_cancelled_by target cancel in
     let covered : length (covered_of target cancel (cancel_where test w.callbacks)) ≡ length (filter (is_covered_by target cancel) (cancel_where test w.callbacks)) = length-map (filter (is_covered_by target cancel) (cancel_where test w.callbacks)) (λ (c : CallbackRow). c.number) in
@@ -142,20 +150,62 @@ none_held w b kernel at = ap (λ t. filter (is_held w t) b.covered) at ∙ none 
     none [] = refl
     none (n ∷ ns) = ap (λ t. cond t (n ∷ filter (is_held w (Kernel kernel)) ns) (filter (is_held w (Kernel kernel)) ns)) (of_row (callback_of w n)) ∙ none ns
 
+-- a wait that holds a callback which is pending has no notices to give
+starved_unnoticed : (fresh room : ℕ) (w : World) (b : BegunWait) → IsWaitSound fresh w.callbacks b → holds_starved w room (held w b) ≡ true → b.notices ≡ []
+starved_unnoticed fresh room w b sound starved = of_list b.covered (λ n among. among) starved
+  where
+    of_row : (n : ℕ) (o : Option CallbackRow) → callback_of w n ≡ o → option_map_or (is_outstanding_for b.target) o false ≡ true → option_map_or (is_starved w room) o false ≡ true → is_among n b.covered ≡ true → b.notices ≡ []
+    of_row n None at out short among = absurd (false_true out)
+    of_row n (Some c) at out short among =
+        let of : is_of b.target c ≡ true = (both (is_of b.target c) (is_held_for b.target c.status) out).0 in
+        let waits : is_pending c.status ≡ true = (both (is_pending c.status) (nat_lt room 2 || (nat_lt room 4 && (attached w c.pool.0 == 0))) short).0 in
+        sound.settled n (ap (λ o. option_map_or (is_left_of b.target) o false) at ∙ ap₂ (λ x y. x && y) of (pending_left c.status waits)) among
+
+    of_list : (ns : List ℕ) → ((n : ℕ) → is_among n ns ≡ true → is_among n b.covered ≡ true) → holds_starved w room (filter (is_held w b.target) ns) ≡ true → b.notices ≡ []
+    of_list [] within short = absurd (false_true short)
+    of_list (n ∷ ns) within short =
+        elim (is_held w b.target n) as (λ t. is_held w b.target n ≡ t → holds_starved w room (cond t (n ∷ filter (is_held w b.target) ns) (filter (is_held w b.target) ns)) ≡ true → b.notices ≡ []) [
+          | true ↦ λ out e. elim (option_map_or (is_starved w room) (callback_of w n) false) as (λ t. option_map_or (is_starved w room) (callback_of w n) false ≡ t → (t || holds_starved w room (filter (is_held w b.target) ns)) ≡ true → b.notices ≡ []) [
+            | true ↦ λ here _. of_row n (callback_of w n) refl out here (within n (ap (λ t. t || is_among n ns) (eq-eqb n n refl)))
+            | false ↦ λ _ rest. of_list ns (λ m among. within m (behind m (n == m) among)) rest
+          ] refl e
+          | false ↦ λ _ e. of_list ns (λ m among. within m (behind m (n == m) among)) e
+        ] refl short
+      where
+        behind : (m : ℕ) (t : Bool) → is_among m ns ≡ true → (t || is_among m ns) ≡ true
+        behind m true h = refl
+        behind m false h = h
+
 pub end_safe : (fresh room : ℕ) (w : World) (who : Who) → IsSound fresh w → IsSafe fresh w who End (end_plan w room who)
 unfolding end_plan
 end_safe fresh room w who s = safe_unless fresh w who End (end_refusals w who) _ (λ _. ends (wait_of w who) refl)
   where
-    unnoticed : (b : BegunWait) → wait_of w who ≡ Some b → b.notices ≡ []
-    unnoticed b is = (find_all (IsWaitSound fresh w.callbacks) (λ (x : BegunWait). is_same_actor x.actor who) b w.waits s.waits is).unnoticed
+    sound_wait : (b : BegunWait) → wait_of w who ≡ Some b → IsWaitSound fresh w.callbacks b
+    sound_wait b is = find_all (IsWaitSound fresh w.callbacks) (λ (x : BegunWait). is_same_actor x.actor who) b w.waits s.waits is
 
-    ends_with : (b : BegunWait) (numbers : List ℕ) → wait_of w who ≡ Some b → IsTakeable w who b.target → held w b ≡ numbers → IsSafe fresh w who End (end_held w room who numbers)
-    ends_with b [] is takes free = record { allowed = record { wait = b; begun = is; unnoticed = unnoticed b is; free = λ _. free; takes = λ _. takes }; made_by = refl; accepted = refl; tells = refl }
+    gives : (b : BegunWait) (os : List ObjectId) → wait_of w who ≡ Some b → IsTakeable w who b.target → held w b ≡ [] → b.notices ≡ os → IsSafe fresh w who End (end_notices w who b.cleanup os)
+    gives b [] is takes free left = record { allowed = record { wait = b; begun = is; unnoticed = left; free = λ _. free; takes = λ _. takes }; made_by = refl; accepted = refl; tells = refl }
+    gives b (o ∷ os) is takes free left =
+        record {
+          allowed = record { wait = b; begun = is; object = o; rest = os; left = left; free = free };
+          made_by = refl;
+          accepted = refl;
+          tells = ap (λ (n : Option Notice). record silent { notice = n }) (sym (ap (next_notice w.objects) is ∙ ap (first_left w.objects b.cleanup) left));
+        }
+
+    ends_with : (b : BegunWait) (numbers : List ℕ) → wait_of w who ≡ Some b → IsTakeable w who b.target → held w b ≡ numbers → IsSafe fresh w who End (end_held w room who b numbers)
+    ends_with b [] is takes free = gives b b.notices is takes free refl
     ends_with b (n ∷ ns) is takes left =
-        elim (holds_starved w room (n ∷ ns)) as (λ t. IsSafe fresh w who End (cond t (plan.Does answer.Exhausted (change.EndWait who how.Exhausted)) (plan.Looked (look.NotYet n)))) [
-          | true ↦ record { allowed = record { wait = b; begun = is; unnoticed = unnoticed b is; free = λ e. absurd cc; takes = λ e. absurd cc }; made_by = refl; accepted = refl; tells = refl }
-          | false ↦ tt
-        ]
+        elim (holds_starved w room (n ∷ ns)) as (λ t. holds_starved w room (n ∷ ns) ≡ t → IsSafe fresh w who End (cond t (plan.Does answer.Exhausted (change.EndWait who how.Exhausted)) (plan.Looked (look.NotYet n)))) [
+          | true ↦ λ starved.
+              record {
+                allowed = record { wait = b; begun = is; unnoticed = starved_unnoticed fresh room w b (sound_wait b is) (ap (holds_starved w room) left ∙ starved); free = λ e. absurd cc; takes = λ e. absurd cc };
+                made_by = refl;
+                accepted = refl;
+                tells = refl;
+              }
+          | false ↦ λ _. tt
+        ] refl
 
     ends : (b : Option BegunWait) → wait_of w who ≡ b → IsSafe fresh w who End (end_wait w room who b)
     ends None is = tt
@@ -169,7 +219,7 @@ end_safe fresh room w who s = safe_unless fresh w who End (end_refusals w who) _
             acquires : (t : Bool) → is_kernel_that (may_take who) w kernel.0 ≡ t → IsSafe fresh w who End (cond t (plan.Does answer.Ended (change.EndWait who how.Free)) (plan.Looked (look.NotYetKernel kernel)))
             acquires true may =
                 record {
-                  allowed = record { wait = b; begun = is; unnoticed = unnoticed b is; free = λ _. none_held w b kernel at; takes = λ _. subst (IsTakeable w who) (sym at) may };
+                  allowed = record { wait = b; begun = is; unnoticed = (sound_wait b is).quiet (ap is_group_target at); free = λ _. none_held w b kernel at; takes = λ _. subst (IsTakeable w who) (sym at) may };
                   made_by = refl;
                   accepted = refl;
                   tells = refl;
@@ -193,9 +243,13 @@ pub end_forget : (fresh room : ℕ) (w : World) (who : Who) → IsSound fresh w 
 unfolding end_plan
 end_forget fresh room w who s = ap (unless_refused (first_refusal (end_refusals w who))) (ends (wait_of w who))
   where
-    ends_with : (numbers : List ℕ) → end_held (forget w) room who numbers ≡ end_held w room who numbers
-    ends_with [] = refl
-    ends_with (n ∷ ns) =
+    gives : (b : BegunWait) (os : List ObjectId) → end_notices (forget w) who b.cleanup os ≡ end_notices w who b.cleanup os
+    gives b [] = refl
+    gives b (o ∷ os) = refl
+
+    ends_with : (b : BegunWait) (numbers : List ℕ) → end_held (forget w) room who b numbers ≡ end_held w room who b numbers
+    ends_with b [] = gives b b.notices
+    ends_with b (n ∷ ns) =
         ap (λ b. cond b (plan.Does answer.Exhausted (change.EndWait who how.Exhausted)) (plan.Looked (look.NotYet n))) (starved_forget fresh room w (n ∷ ns) s)
 
     ends : (b : Option BegunWait) → end_wait (forget w) room who b ≡ end_wait w room who b
@@ -203,8 +257,8 @@ end_forget fresh room w who s = ap (unless_refused (first_refusal (end_refusals 
     ends (Some b) = of_target b.target
       where
         of_target : (t : WaitTarget) → end_for (forget w) room who b t ≡ end_for w room who b t
-        of_target (Object object) = ap (end_held (forget w) room who) (all_held_forget fresh w b s) ∙ ends_with (held w b)
-        of_target (Group group) = ap (end_held (forget w) room who) (all_held_forget fresh w b s) ∙ ends_with (held w b)
+        of_target (Object object) = ap (end_held (forget w) room who b) (all_held_forget fresh w b s) ∙ ends_with b (held w b)
+        of_target (Group group) = ap (end_held (forget w) room who b) (all_held_forget fresh w b s) ∙ ends_with b (held w b)
         of_target (Kernel kernel) = refl
 
 -- the first of those that a wait still waits for is the number of a callback
@@ -225,21 +279,36 @@ held_ranged w b number numbers g e = first (is_held w b.target) (λ k found. of_
           | false ↦ λ _ q. first p within xs j js q
         ] refl h
 
-pub end_ranged : (room : ℕ) (w : World) (who : Who) → IsRanged w → IsPlanInRange (end_plan w room who)
+pub end_ranged : (fresh room : ℕ) (w : World) (who : Who) → IsSound fresh w → IsRanged w → IsPlanInRange (end_plan w room who)
 unfolding end_plan
-end_ranged room w who g = ranged_unless (end_refusals w who) _ _ (ends (wait_of w who) refl)
+end_ranged fresh room w who s g = ranged_unless (end_refusals w who) _ _ (ends (wait_of w who) refl)
   where
-    ends_with : (b : BegunWait) (numbers : List ℕ) → held w b ≡ numbers → IsPlanInRange (end_held w room who numbers)
-    ends_with b [] is = (tt, tt)
-    ends_with b (n ∷ ns) is =
+    gives : (b : BegunWait) (os : List ObjectId) → IsWaitInRange b → AllByRecursion (λ (o : ObjectId). is_object_that has_cancel w.objects o.0 ≡ true) os → IsPlanInRange (end_notices w who b.cleanup os)
+    gives b [] within named = (tt, tt)
+    gives b (o ∷ os) within named =
+        let row = that_row has_cancel w.objects o.0 named.0 in
+        let made = numbered_made w.objects o.0 row.0 row.1 in
+        let its : row.0 ≡ object_row w.objects o = ap (λ (r : Option ObjectRow). unwrap_or r no_object) (sym row.1) in
+        let of : IsObjectInRange row.0 = all_get IsObjectInRange w.objects (o.0 - 1) row.0 g.rows.objects (numbered_some w.objects o.0 row.0 row.1).0 in (
+          subst (λ (r : ObjectRow). IsAnswerInRange (answer.Notice o r.env.cancel r.context b.cleanup)) its
+              (omega (arith, made.1, g.rows.few, g.limits.objects_most), record { least = ltb-true 0 row.0.env.cancel.0 row.2; most = of.cancel }, of.context, within.cleanup),
+          tt,
+        )
+
+    ends_with : (b : BegunWait) (numbers : List ℕ) → wait_of w who ≡ Some b → IsWaitInRange b → held w b ≡ numbers → IsPlanInRange (end_held w room who b numbers)
+    ends_with b [] found within is = gives b b.notices within (find_all (λ (x : BegunWait). AllByRecursion (λ (o : ObjectId). is_object_that has_cancel w.objects o.0 ≡ true) x.notices) (λ (x : BegunWait). is_same_actor x.actor who) b w.waits s.notices found)
+    ends_with b (n ∷ ns) found within is =
         elim (holds_starved w room (n ∷ ns)) as (λ t. IsPlanInRange (cond t (plan.Does answer.Exhausted (change.EndWait who how.Exhausted)) (plan.Looked (look.NotYet n)))) [ true ↦ (tt, tt) | false ↦ held_ranged w b n ns g is ]
 
     ends : (b : Option BegunWait) → wait_of w who ≡ b → IsPlanInRange (end_wait w room who b)
     ends None is = tt
-    ends (Some b) is = of_target b.target (find_all (λ (x : BegunWait). IsTargetInRange x.target) (λ (x : BegunWait). is_same_actor x.actor who) b w.waits g.rows.waits is)
+    ends (Some b) is = of_target b.target ranged.target
       where
+        ranged : IsWaitInRange b
+        ranged = find_all IsWaitInRange (λ (x : BegunWait). is_same_actor x.actor who) b w.waits g.rows.waits is
+
         of_target : (t : WaitTarget) → IsTargetInRange t → IsPlanInRange (end_for w room who b t)
-        of_target (Object object) within = ends_with b (held w b) refl
-        of_target (Group group) within = ends_with b (held w b) refl
+        of_target (Object object) within = ends_with b (held w b) is ranged refl
+        of_target (Group group) within = ends_with b (held w b) is ranged refl
         of_target (Kernel kernel) within =
             elim (is_kernel_that (may_take who) w kernel.0) as (λ t. IsPlanInRange (cond t (plan.Does answer.Ended (change.EndWait who how.Free)) (plan.Looked (look.NotYetKernel kernel)))) [ true ↦ (tt, tt) | false ↦ within ]

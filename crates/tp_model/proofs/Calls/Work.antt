@@ -1,5 +1,5 @@
 -- The facts of calls that make callbacks at once.
-use Rattle.std.proofs.Common.{◌≡◌, ℕ, ◌<◌, ◌∙◌, true, false, not, ◌||◌, length, List, Option, Some, None, refl, ap, arith, ◌^◌}
+use Rattle.std.proofs.Common.{◌≡◌, ℕ, ◌<◌, ◌∙◌, true, false, not, ◌||◌, length, List, Option, Some, None, refl, ap, arith, ◌^◌, ne_eqb, sym, cond, ◌∷◌, []}
 use Rattle.std.specs.Option.{option_map_or}
 use Rattle.tp_base.specs.declared.ids.Who.{Who}
 use Rattle.tp_base.specs.declared.calls.Kind.{Kind}
@@ -15,7 +15,7 @@ use Rattle.tp_base.specs.declared.rows.ObjectRow.{ObjectRow}
 use Rattle.tp_base.specs.Ranges.{IsCallInRange}
 use Rattle.tp_model.specs.World.{World}
 use Rattle.tp_model.specs.Counts.{numbered}
-use Rattle.tp_model.specs.Conditions.{is_actor, is_pool, is_no_group_or_group, is_object_of, is_same_kind, lacks_slots_for}
+use Rattle.tp_model.specs.Conditions.{is_actor, is_pool, is_no_group_or_group, is_object_of, is_same_kind, lacks_slots_for, is_released, is_finished}
 use Rattle.tp_model.specs.Refusing.{first_refusal, unless_refused}
 use Rattle.tp_model.specs.Calls.Work.{submit_work_refusals, submit, submit_work_plan, submit_simple_refusals, submit_simple_plan, simple_callback}
 use Rattle.tp_model.specs.Support.Sound.{IsSound, is_wait_at}
@@ -25,8 +25,9 @@ use Rattle.tp_model.specs.Support.Ranged.{IsObjectInRange, IsRanged, IsPlanInRan
 use Rattle.tp_model.proofs.Lists.{all_get}
 use Rattle.tp_model.proofs.Refusals.{neither, not_false, false_true, made, numbered_some}
 use Rattle.tp_model.proofs.Forgetting.{live_again}
-use Rattle.tp_model.proofs.Planning.{safe_unless}
+use Rattle.tp_model.proofs.Planning.{safe_unless, row_stands}
 use Rattle.tp_model.proofs.Ranging.{ranged_unless}
+use Rattle.tp_model.specs.Support.Told.{silent}
 
 -- ---- SubmitWork
 
@@ -47,14 +48,19 @@ work_apart objects object work = of_row (numbered objects object) refl work
 pub submit_work_safe : (fresh : ℕ) (w : World) (who : Who) (object : ObjectId) → IsSound fresh w → IsSafe fresh w who (SubmitWork object) (submit_work_plan w fresh who object)
 unfolding submit_work_plan
 submit_work_safe fresh w who object s =
-    safe_unless fresh w who (SubmitWork object) (submit_work_refusals w who object.0) _ (λ none. submits (numbered w.objects object.0) refl (work_apart w.objects object.0 (not_false (is_object_of w Work object.0) none.1.0)) none.1.1.1.1.1.0)
+    safe_unless fresh w who (SubmitWork object) (submit_work_refusals w who object.0) _ (λ none. submits (numbered w.objects object.0) refl (work_apart w.objects object.0 (not_false (is_object_of w Work object.0) none.1.0)) none.1.1.1.1.1.0 (neither (is_finished w who) (is_released w object.0) none.1.1.0).1)
   where
-    submits : (row : Option ObjectRow) → numbered w.objects object.0 ≡ row → is_wait_at w.objects object.0 ≡ false → lacks_slots_for w 1 ≡ false → IsSafe fresh w who (SubmitWork object) (submit fresh object row)
-    submits None is apart fits = tt
-    submits (Some row) is apart fits =
+    submits : (row : Option ObjectRow) → numbered w.objects object.0 ≡ row → is_wait_at w.objects object.0 ≡ false → lacks_slots_for w 1 ≡ false → is_released w object.0 ≡ false → IsSafe fresh w who (SubmitWork object) (submit fresh object row)
+    submits None is apart fits live = tt
+    submits (Some row) is apart fits live =
         let at = numbered_some w.objects object.0 row is in
         let home = all_get (λ (o : ObjectRow). o.env.pool.0 < length w.pools) w.objects _ row s.object_pools at.0 in
-        record { allowed = record { number = refl; pending = refl; object = λ _. record { row = row; stands = is; home = refl }; home = home; room = fits }; made_by = (apart, refl); accepted = refl; tells = refl }
+        record {
+          allowed = record { number = refl; pending = refl; object = λ _. record { row = row; stands = is; home = refl; group = refl }; home = home; room = fits; stands = λ _. row_stands w.objects object.0 row is live };
+          made_by = (apart, refl);
+          accepted = refl;
+          tells = ap (λ b. record silent { made = fresh ∷ []; queued = fresh ∷ []; simple = cond b (Some row.env.group) None }) (sym (ne_eqb object.0 0 (λ e. omega (arith, e, at.1))));
+        }
 
 pub submit_work_forget : (fresh : ℕ) (w : World) (who : Who) (object : ObjectId) → submit_work_plan (forget w) fresh who object ≡ submit_work_plan w fresh who object
 unfolding submit_work_plan
@@ -83,7 +89,7 @@ submit_simple_safe fresh w who routine context env =
     (λ none.
     let there = neither (not (is_actor w who) || not (is_pool w env.pool.0)) (not (is_no_group_or_group w env.group.0)) none.0 in
     let home = made w.pools env.pool.0 (not_false (is_pool w env.pool.0) (neither (not (is_actor w who)) (not (is_pool w env.pool.0)) there.0).1) in
-    record { allowed = record { number = refl; pending = refl; object = λ named. absurd (named refl); home = home; room = none.1.1.1.1.1.1.0 }; made_by = (refl, refl); accepted = refl; tells = refl })
+    record { allowed = record { number = refl; pending = refl; object = λ named. absurd (named refl); home = home; room = none.1.1.1.1.1.1.0; stands = λ named. absurd (named refl) }; made_by = (refl, refl); accepted = refl; tells = refl })
 
 pub submit_simple_forget : (fresh : ℕ) (w : World) (who : Who) (routine : RoutineId) (context : ℕ) (env : Environ) → submit_simple_plan (forget w) fresh who routine context env ≡ submit_simple_plan w fresh who routine context env
 unfolding submit_simple_plan

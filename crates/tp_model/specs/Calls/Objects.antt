@@ -1,6 +1,5 @@
 -- Calls on objects of all kinds: CreateThreadpoolWork and CloseThreadpoolWork, and their like for the other kinds.
-use Rattle.std.specs.Prelude.{ℕ, ◌+◌, Bool, ◌&&◌, ◌==◌, nat_le, nat_lt, List, [], ◌∷◌, ◌++◌, length}
-use Rattle.std.specs.List.{list_any}
+use Rattle.std.specs.Prelude.{ℕ, ◌+◌, Bool, nat_le, nat_lt, List, [], ◌∷◌, ◌++◌, length}
 use Rattle.tp_base.specs.declared.ids.Who.{Who}
 use Rattle.tp_base.specs.declared.ids.ObjectId.{ObjectId}
 use Rattle.tp_base.specs.declared.ids.RoutineId.{RoutineId}
@@ -12,10 +11,9 @@ use Rattle.tp_base.specs.declared.answers.Answer.TheVariants as answer
 use Rattle.tp_base.specs.declared.plans.Plan.{Plan}
 use Rattle.tp_base.specs.declared.plans.Plan.TheVariants.{Does}
 use Rattle.tp_base.specs.declared.plans.Change.TheVariants as change
-use Rattle.tp_base.specs.declared.rows.CallbackRow.{CallbackRow}
 use Rattle.tp_base.specs.declared.rows.WaitTarget.TheVariants.{Object}
 use Rattle.tp_model.specs.World.{World}
-use Rattle.tp_model.specs.Counts.{is_operating}
+use Rattle.tp_model.specs.Conditions.{has_operations}
 use Rattle.tp_model.specs.Waits.{count_outstanding}
 use Rattle.tp_model.specs.Sources.{new_object}
 use Rattle.tp_model.specs.Refusing.{first_refusal, unless_refused, object_refusals, environ_refusals}
@@ -31,13 +29,6 @@ create_plan w who kind routine context env =
     (Does (answer.Made (length w.objects + 1)) (change.CreateObject (new_object kind routine context env)))
 
 -- ---- CloseObject: CloseThreadpoolWork and its like
-
--- a callback of the object still waits for its operation, or for the end of it. Only an I/O object has such callbacks
-abbrev pub is_operation_of : ℕ → CallbackRow → Bool
-is_operation_of object c = is_operating c.status && (c.object.0 == object)
-
-abbrev pub has_operations : World → ℕ → Bool
-has_operations w object = list_any (is_operation_of object) w.callbacks
 
 abbrev pub close_object_refusals : World → Who → Kind → ObjectId → List (Bool × Refusal)
 close_object_refusals w who kind object = object_refusals w who kind object.0 ++ (has_operations w object.0, OperationsOutstanding object) ∷ []

@@ -10,6 +10,7 @@ use Rattle.tp_base.specs.declared.ids.ObjectId.{ObjectId}
 use Rattle.tp_base.specs.declared.calls.Kind.{Kind}
 use Rattle.tp_base.specs.declared.answers.Refusal.{Refusal}
 use Rattle.tp_base.specs.declared.answers.Refusal.TheVariants.{NoSuch, Released, NotRunning, InWait, NoWaitBegun, OwnCallback}
+use Rattle.tp_base.specs.declared.answers.Answer.{Answer}
 use Rattle.tp_base.specs.declared.answers.Answer.TheVariants as answer
 use Rattle.tp_base.specs.declared.answers.Look.TheVariants as look
 use Rattle.tp_base.specs.declared.plans.WaitEnd.TheVariants.{Free, Exhausted}
@@ -18,6 +19,7 @@ use Rattle.tp_base.specs.declared.plans.Plan.TheVariants.{Refused, Looked, Does}
 use Rattle.tp_base.specs.declared.plans.Change.TheVariants as change
 use Rattle.tp_base.specs.declared.rows.WaitTarget.{WaitTarget}
 use Rattle.tp_base.specs.declared.rows.WaitTarget.TheVariants.{Object, Group, Kernel}
+use Rattle.tp_base.specs.declared.rows.ObjectRow.{ObjectRow}
 use Rattle.tp_base.specs.declared.rows.CallbackRow.{CallbackRow}
 use Rattle.tp_model.specs.World.{World, BegunWait}
 use Rattle.tp_model.specs.Counts.{attached, callback_of, is_pending}
@@ -25,6 +27,7 @@ use Rattle.tp_model.specs.Conditions.{is_actor, is_finished, is_without_callback
 use Rattle.tp_base.specs.Kernels.{may_take}
 use Rattle.tp_model.specs.Kernels.{is_kernel, is_kernel_that}
 use Rattle.tp_model.specs.Waits.{is_cancelled_by, cancel_where, covered_of, wait_of, held}
+use Rattle.tp_model.specs.Sources.{object_row}
 use Rattle.tp_model.specs.Refusing.{first_refusal, unless_refused, object_refusals}
 
 -- ---- BeginWait
@@ -76,9 +79,18 @@ is_starved w room c = is_pending c.status && (nat_lt room 2 || (nat_lt room 4 &&
 abbrev pub holds_starved : World → ℕ → List ℕ → Bool
 holds_starved w room numbers = list_any (λ n. option_map_or (is_starved w room) (callback_of w n) false) numbers
 
-abbrev pub end_held : World → ℕ → Who → List ℕ → Plan
-end_held w room who [] = Does answer.Ended (change.EndWait who Free)
-end_held w room who (number ∷ numbers) =
+-- a notice tells the cancel routine and the context that the object was made with
+abbrev pub notice_of : List ObjectRow → ℕ → ObjectId → Answer
+notice_of objects cleanup object = answer.Notice object (object_row objects object).env.cancel (object_row objects object).context cleanup
+
+-- the first notice that is left is given, and with none the wait ends
+abbrev pub end_notices : World → Who → ℕ → List ObjectId → Plan
+end_notices w who cleanup [] = Does answer.Ended (change.EndWait who Free)
+end_notices w who cleanup (object ∷ objects) = Does (notice_of w.objects cleanup object) (change.GiveNotice who)
+
+abbrev pub end_held : World → ℕ → Who → BegunWait → List ℕ → Plan
+end_held w room who b [] = end_notices w who b.cleanup b.notices
+end_held w room who b (number ∷ numbers) =
     if holds_starved w room (number ∷ numbers)
     then Does answer.Exhausted (change.EndWait who Exhausted)
     else Looked (look.NotYet number)
@@ -89,8 +101,8 @@ end_acquire w who kernel =
     if is_kernel_that (may_take who) w kernel.0 then Does answer.Ended (change.EndWait who Free) else Looked (look.NotYetKernel kernel)
 
 abbrev pub end_for : World → ℕ → Who → BegunWait → WaitTarget → Plan
-end_for w room who b (Object object) = end_held w room who (held w b)
-end_for w room who b (Group group) = end_held w room who (held w b)
+end_for w room who b (Object object) = end_held w room who b (held w b)
+end_for w room who b (Group group) = end_held w room who b (held w b)
 end_for w room who b (Kernel kernel) = end_acquire w who kernel
 
 abbrev pub end_wait : World → ℕ → Who → Option BegunWait → Plan

@@ -3,14 +3,19 @@ use Rattle.std.specs.Prelude.{◌≡◌, ℕ, Bool, true, false, not, ◌&&◌, 
 use Rattle.std.specs.Option.{option_or, option_map_or, unwrap_or}
 use Rattle.std.specs.List.{filter, list_any, position, range_with_len, flat_map, filter_map, sum_by, fold}
 use Rattle.tp_base.specs.declared.ids.Who.TheVariants.{Worker}
+use Rattle.tp_base.specs.declared.ids.GroupId.{GroupId}
 use Rattle.tp_base.specs.declared.ids.ObjectId.{ObjectId}
+use Rattle.tp_base.specs.declared.ids.RoutineId.{RoutineId}
+use Rattle.tp_base.specs.declared.rows.WaitTarget.{WaitTarget}
+use Rattle.tp_base.specs.declared.rows.WaitTarget.TheVariants.{Object, Group}
 use Rattle.tp_base.specs.declared.calls.Call.{Call}
-use Rattle.tp_base.specs.declared.calls.Call.TheVariants.{OnReturn, Return, SetMaximum, SetMinimum, BeginWait, End, Disassociate, Create, SetWait, CompleteIo}
+use Rattle.tp_base.specs.declared.calls.Call.TheVariants.{OnReturn, Return, SetMaximum, SetMinimum, BeginWait, BeginClose, End, Disassociate, Create, CloseObject, SubmitSimple, SetWait, CompleteIo}
 use Rattle.tp_base.specs.declared.answers.ActionKind.{ActionKind}
 use Rattle.tp_base.specs.declared.plans.ActionWords.{ActionWords}
 use Rattle.tp_base.specs.declared.calls.Kind.{Kind}
 use Rattle.tp_base.specs.declared.calls.Kind.TheVariants.{Wait}
 use Rattle.tp_base.specs.declared.answers.Answer.{Answer}
+use Rattle.tp_base.specs.declared.answers.Answer.TheVariants as answer
 use Rattle.tp_base.specs.declared.answers.Answer.TheVariants.{Made, Queued, WasSet, Count, Advanced, Returned, Started, Operation, Cancelled, Closing, Begun, Attached, Taken, Ended, Exhausted, Stalled, Refused}
 use Rattle.tp_base.specs.declared.answers.TakeResult.{TakeResult}
 use Rattle.tp_base.specs.declared.answers.TakeResult.TheVariants.{Io}
@@ -174,16 +179,18 @@ told_maximum limits history pool = fold (maximum_after pool) limits.workers hist
 
 -- ---- waits
 
--- a wait for the callbacks of an object, with or without cancel
+-- a wait for the callbacks of an object or a group, with or without cancel; and of a close of a group what its notices tell
 pub record Begins : Type 0 where
-  pub object : ObjectId
+  pub target : WaitTarget
   pub cancel : Bool
+  pub cleanup : ℕ
 
 abbrev pub begins_call : Call → Option Begins
-begins_call (BeginWait kind object cancel) = Some (record { object = object; cancel = cancel })
+begins_call (BeginWait kind object cancel) = Some (record { target = Object object; cancel = cancel; cleanup = 0 })
+begins_call (BeginClose group cancel context) = Some (record { target = Group group; cancel = cancel; cleanup = context })
 begins_call _ = None
 
--- the wait that an accepted BeginWait begins
+-- the wait that an accepted BeginWait or BeginClose begins
 abbrev pub begins_by : Entry → Option Begins
 begins_by entry = if is_refusal entry.answer then None else begins_call entry.call
 
@@ -216,6 +223,72 @@ is_disassociate_call _ = false
 -- an accepted Disassociate
 abbrev pub is_loosened : Entry → Bool
 is_loosened entry = is_disassociate_call entry.call && not (is_refusal entry.answer)
+
+-- ---- groups
+
+-- an object that is made, and with what
+pub record Creation : Type 0 where
+  pub object : ℕ
+  pub group : GroupId
+  pub routine : RoutineId
+  pub context : ℕ
+
+abbrev pub created_call : Call → ℕ → Option Creation
+created_call (Create kind routine context env) number = Some (record { object = number; group = env.group; routine = env.cancel; context = context })
+created_call _ number = None
+
+abbrev pub created_answer : Answer → Call → Option Creation
+created_answer (Made number) call = created_call call number
+created_answer _ call = None
+
+-- the object that an accepted Create makes
+abbrev pub created_by : Entry → Option Creation
+created_by entry = created_answer entry.answer entry.call
+
+abbrev pub closed_call : Call → Option ObjectId
+closed_call (CloseObject kind object) = Some object
+closed_call _ = None
+
+-- the object that an accepted CloseObject closes
+abbrev pub closed_by : Entry → Option ObjectId
+closed_by entry = if is_refusal entry.answer then None else closed_call entry.call
+
+abbrev pub simple_call : Call → Option GroupId
+simple_call (SubmitSimple routine context env) = Some env.group
+simple_call _ = None
+
+-- the group of the callback that an accepted SubmitSimple makes
+abbrev pub simple_by : Entry → Option GroupId
+simple_by entry = if is_refusal entry.answer then None else simple_call entry.call
+
+abbrev pub is_for_group : ℕ → Option GroupId → Bool
+is_for_group group named = option_map_or (λ (g : GroupId). g.0 == group) named false
+
+-- the objects that were made with a group
+abbrev pub object_in : ℕ → Option Creation → List ℕ
+object_in group None = []
+object_in group (Some c) = if c.group.0 == group then c.object ∷ [] else []
+
+abbrev pub objects_of : ℕ → List Entry → List ℕ
+objects_of group history = flat_map (λ entry. object_in group (created_by entry)) history
+
+-- and the simple callbacks
+abbrev pub simples_in : ℕ → Entry → List ℕ
+simples_in group entry = if is_for_group group (simple_by entry) then queued_by entry.answer else []
+
+abbrev pub simples_of : ℕ → List Entry → List ℕ
+simples_of group history = flat_map (simples_in group) history
+
+-- what a notice tells
+pub record Notice : Type 0 where
+  pub object : ObjectId
+  pub routine : RoutineId
+  pub context : ℕ
+  pub cleanup : ℕ
+
+abbrev pub notice_by : Answer → Option Notice
+notice_by (answer.Notice object routine context cleanup) = Some (record { object = object; routine = routine; context = context; cleanup = cleanup })
+notice_by _ = None
 
 -- ---- operations of I/O objects
 

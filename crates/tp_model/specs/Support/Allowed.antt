@@ -1,7 +1,8 @@
 -- Which changes a world allows, what each costs, and how many callbacks it makes.
-use Rattle.std.specs.Prelude.{◌≡◌, ℕ, ◌<◌, ◌≤◌, Bool, true, false, [], length, Option, None, Some}
+use Rattle.std.specs.Prelude.{◌≡◌, ◌≢◌, ℕ, ◌+◌, ◌<◌, ◌≤◌, Bool, true, false, List, [], ◌∷◌, length, Option, None, Some}
 use Rattle.tp_base.specs.declared.ids.Who.{Who}
 use Rattle.tp_base.specs.declared.ids.Who.TheVariants.{Client, Worker}
+use Rattle.tp_base.specs.declared.ids.GroupId.{GroupId}
 use Rattle.tp_base.specs.declared.ids.ObjectId.{ObjectId}
 use Rattle.tp_base.specs.declared.ids.PoolId.{PoolId}
 use Rattle.tp_base.specs.declared.plans.WaitEnd.{WaitEnd}
@@ -39,10 +40,11 @@ use Rattle.tp_model.specs.Kernels.{is_kernel, is_kernel_that}
 use Rattle.tp_model.specs.Sources.{count_fired, slots_after}
 use Rattle.tp_model.specs.World.{World, BegunWait, unattached, unfinished}
 use Rattle.tp_model.specs.Counts.{numbered, callback_of, is_pending, maximum, running, slots}
-use Rattle.tp_model.specs.Conditions.{is_actor, is_in_wait, is_object, lacks_slots_for}
+use Rattle.tp_model.specs.Conditions.{is_actor, is_in_wait, is_object, lacks_slots_for, has_operations}
+use Rattle.tp_model.specs.Groups.{is_group, first_operating, notices_of}
 use Rattle.tp_model.specs.Waits.{wait_of, held}
 use Rattle.tp_model.specs.Laws.Entries.{is_completion}
-use Rattle.tp_model.specs.Support.Sound.{IsCallbackSound, is_wait_at}
+use Rattle.tp_model.specs.Support.Sound.{IsCallbackSound, is_wait_at, is_standing}
 
 -- an object that has its place, in a pool that was made
 pub record IsNewObject (w : World) (row : ObjectRow) : Type 0 where
@@ -50,14 +52,15 @@ pub record IsNewObject (w : World) (row : ObjectRow) : Type 0 where
   pub home : row.env.pool.0 < length w.pools
   pub room : length w.objects < w.limits.objects
 
--- a pending callback of the next number that has its place, in a pool that was made, and of an object of that pool if it
--- isn't simple
+-- a pending callback of the next number that has its place, in a pool that was made, and of an object of that pool that
+-- isn't released, if it isn't simple
 pub record IsNewCallback (fresh : ℕ) (w : World) (callback : CallbackRow) : Type 0 where
   pub number : callback.number ≡ fresh
   pub pending : is_pending callback.status ≡ true
   pub object : IsCallbackSound w.objects callback
   pub home : callback.pool.0 < length w.pools
   pub room : lacks_slots_for w 1 ≡ false
+  pub stands : callback.object.0 ≢ 0 → is_standing w.objects callback.object.0 ≡ true
 
 -- and one that expects an operation, of an object
 pub record IsNewOperation (fresh : ℕ) (w : World) (callback : CallbackRow) : Type 0 where
@@ -66,6 +69,7 @@ pub record IsNewOperation (fresh : ℕ) (w : World) (callback : CallbackRow) : T
   pub object : IsCallbackSound w.objects callback
   pub home : callback.pool.0 < length w.pools
   pub room : lacks_slots_for w 1 ≡ false
+  pub stands : is_standing w.objects callback.object.0 ≡ true
 
 -- an operation that comes from where the step begins
 pub record MayOperate (w : World) (callback : CallbackRow) (how : IoStep) : Type 0 where
@@ -165,18 +169,19 @@ pub record MayReturn (fresh : ℕ) (w : World) (by : Busy) (words : ActionWords)
   pub number : first ≡ fresh
   pub counted : count ≡ length (returning w words (slots_of by.callback.status)).jobs
 
--- an object that is not released
+-- an object that is not released and has no operation under way
 pub record IsUnreleased (w : World) (object : ObjectId) : Type 0 where
   pub row : ObjectRow
   pub stands : numbered w.objects object.0 ≡ Some row
   pub unreleased : row.released ≡ false
+  pub idle : has_operations w object.0 ≡ false
 
 -- a kernel object that has its place; a lock is taken by who makes it, or by nobody
 pub record IsNewKernel (w : World) (state : KernelState) : Type 0 where
   pub room : length w.kernels < w.limits.kernels
   pub takings : takings_of state ≤ 1
 
--- no wait is for a group yet
+-- a BeginWait is for no group
 abbrev pub IsTarget : WaitTarget → Type 0
 IsTarget (Group group) = ⊥
 IsTarget _ = Unit {0}
@@ -198,6 +203,23 @@ pub record MayBegin (w : World) (who : Who) (target : WaitTarget) : Type 0 where
   pub object : IsTarget target
   pub made : IsTargetMade w target
 
+-- an actor that has no wait begun, and a group no member of which has an operation under way; so many notices
+pub record MayClose (w : World) (who : Who) (group : GroupId) (cancel : Bool) (notices : ℕ) : Type 0 where
+  pub actor : is_actor w who ≡ true
+  pub none : is_in_wait w who ≡ false
+  pub made : is_group w group.0 ≡ true
+  pub idle : first_operating w group.0 ≡ None
+  pub counted : notices ≡ length (notices_of w group.0 cancel)
+
+-- the wait that the actor has begun has a notice left, and nothing that it covers is outstanding any more
+pub record MayNotify (w : World) (who : Who) : Type 0 where
+  pub wait : BegunWait
+  pub begun : wait_of w who ≡ Some wait
+  pub object : ObjectId
+  pub rest : List ObjectId
+  pub left : wait.notices ≡ object ∷ rest
+  pub free : held w wait ≡ []
+
 -- the wait that the actor has begun; it ends freely where nothing that it covers is outstanding any more, and the actor
 -- may take the kernel object that it is for
 pub record MayEnd (w : World) (who : Who) (how : WaitEnd) : Type 0 where
@@ -212,6 +234,8 @@ abbrev pub IsAllowed : ℕ → World → Change → Type 0
 IsAllowed fresh w change.Keep = Unit {0}
 IsAllowed fresh w change.CreatePool = length w.pools < w.limits.pools
 IsAllowed fresh w (change.ChangePool pool how) = pool.0 < length w.pools
+IsAllowed fresh w change.CreateGroup = length w.groups < w.limits.groups
+IsAllowed fresh w (change.CloseGroup group) = is_group w group.0 ≡ true
 IsAllowed fresh w (change.CreateObject row) = IsNewObject w row
 IsAllowed fresh w (change.ReleaseObject object) = IsUnreleased w object
 IsAllowed fresh w (change.QueueCallback callback) = IsNewCallback fresh w callback
@@ -226,6 +250,8 @@ IsAllowed fresh w (change.Take by callback) = MayTake w by callback
 IsAllowed fresh w (change.Mark by mark) = MayMark w by mark
 IsAllowed fresh w (change.Return by words first count) = MayReturn fresh w by words first count
 IsAllowed fresh w (change.BeginWait who target cancel) = MayBegin w who target
+IsAllowed fresh w (change.BeginClose who group cancel context notices) = MayClose w who group cancel notices
+IsAllowed fresh w (change.GiveNotice who) = MayNotify w who
 IsAllowed fresh w (change.EndWait who how) = MayEnd w who how
 IsAllowed fresh w (change.Finish client) = numbered w.clients client ≡ Some unfinished
 
@@ -234,6 +260,8 @@ abbrev pub price : Change → ℕ
 price (change.Attach worker pool) = 2
 price (change.Take by callback) = 2
 price (change.BeginWait who target cancel) = 2
+price (change.BeginClose who group cancel context notices) = 2 + notices
+price (change.GiveNotice who) = 0
 price (change.EndWait who how) = 0
 price (change.Detach by) = 0
 price (change.Return by words first count) = 0
@@ -258,6 +286,8 @@ IsMadeBy w who (change.Take by callback) = who ≡ Worker by.worker
 IsMadeBy w who (change.Mark by mark) = who ≡ Worker by.worker
 IsMadeBy w who (change.Return by words first count) = who ≡ Worker by.worker
 IsMadeBy w who (change.BeginWait actor target cancel) = who ≡ actor
+IsMadeBy w who (change.BeginClose actor group cancel context notices) = who ≡ actor
+IsMadeBy w who (change.GiveNotice actor) = who ≡ actor
 IsMadeBy w who (change.EndWait actor how) = who ≡ actor
 IsMadeBy w who (change.Finish client) = who ≡ Client client
 IsMadeBy w who _ = Unit {0}

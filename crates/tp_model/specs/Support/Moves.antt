@@ -1,6 +1,6 @@
 -- How an accepted call moves callbacks and workers: one thing becomes of those that there are, and some are made.
-use Rattle.std.specs.Prelude.{◌≡◌, ℕ, ◌+◌, ◌-◌, ◌<◌, Bool, true, false, List, [], ◌∷◌, ◌++◌, map, slice_get, slice_set, ◌&&◌, is_none, option_map, Option, None, Some, not, length, ◌≤◌, ◌==◌, ◌||◌, if◌then◌else◌}
-use Rattle.std.specs.List.{filter, find}
+use Rattle.std.specs.Prelude.{◌≡◌, ◌≢◌, ◌⊎◌, ℕ, ◌+◌, ◌-◌, ◌<◌, Bool, true, false, List, [], ◌∷◌, ◌++◌, map, slice_get, slice_set, ◌&&◌, is_none, option_map, Option, None, Some, not, length, ◌≤◌, ◌==◌, ◌||◌, if◌then◌else◌}
+use Rattle.std.specs.List.{AllByRecursion, filter, find}
 use Rattle.std.specs.Option.{option_map_or}
 use Rattle.tp_base.specs.declared.ids.Who.{Who}
 use Rattle.tp_base.specs.declared.ids.Who.TheVariants.{Worker}
@@ -14,19 +14,25 @@ use Rattle.tp_base.specs.declared.rows.Status.{Status}
 use Rattle.tp_base.specs.declared.rows.Slots.{Slots}
 use Rattle.tp_base.specs.declared.rows.Status.TheVariants.{Expected, Pending, Running}
 use Rattle.tp_base.specs.declared.plans.IoStep.{IoStep}
-use Rattle.tp_base.specs.declared.rows.WaitTarget.TheVariants.{Object}
+use Rattle.tp_base.specs.declared.rows.WaitTarget.TheVariants.{Group}
+use Rattle.tp_base.specs.declared.rows.WaitTarget.{WaitTarget}
+use Rattle.tp_base.specs.declared.ids.GroupId.{GroupId}
+use Rattle.tp_base.specs.declared.ids.ObjectId.{ObjectId}
+use Rattle.tp_base.specs.declared.rows.ObjectRow.{ObjectRow}
 use Rattle.tp_base.specs.declared.rows.PoolRow.{PoolRow}
 use Rattle.tp_base.specs.declared.rows.CallbackRow.{CallbackRow}
 use Rattle.tp_base.specs.declared.rows.WorkerRow.{WorkerRow}
 use Rattle.tp_model.specs.World.{World, BegunWait}
-use Rattle.tp_model.specs.Counts.{numbered, has_number, is_expected, is_pending, running, maximum}
+use Rattle.tp_model.specs.Counts.{numbered, has_number, is_operating, is_expected, is_pending, running, maximum}
 use Rattle.tp_base.specs.Actors.{is_same_actor}
 use Rattle.tp_model.specs.Conditions.{is_in_wait}
-use Rattle.tp_model.specs.Waits.{cancel_where, is_covered_by, is_of, held, wait_of}
-use Rattle.tp_model.specs.Changes.{replaced, taken, returned, status_before, operated}
-use Rattle.tp_model.specs.Laws.Entries.{Run, Begins, begins_by, is_among, is_ending, is_freeing, made_by, queued_new, started_by, event, Runs as Taking, is_completion, maximum_after, set_by, makes_wait}
-use Rattle.tp_model.specs.Support.Sound.{is_wait_at, count_armed}
-use Rattle.tp_model.specs.Support.Told.{deed_by, deed_of, nothing}
+use Rattle.tp_model.specs.Waits.{is_group_target, cancel_where, is_covered_by, is_of, held, wait_of}
+use Rattle.tp_model.specs.Groups.{gets_notice}
+use Rattle.tp_model.specs.Laws.Notices.{is_due, is_close_of, notice_for}
+use Rattle.tp_model.specs.Changes.{give_notice, replaced, taken, returned, status_before, operated}
+use Rattle.tp_model.specs.Laws.Entries.{Run, Begins, Creation, Notice, created_by, closed_by, simple_by, notice_by, is_for_group, begins_by, is_among, is_ending, is_freeing, made_by, queued_new, started_by, event, Runs as Taking, is_completion, maximum_after, set_by, makes_wait}
+use Rattle.tp_model.specs.Support.Sound.{is_wait_at, is_standing, count_armed}
+use Rattle.tp_model.specs.Support.Told.{deed_by, deed_of, nothing, creation_of, notice_at}
 
 -- ---- callbacks and workers that there are; `kept` and `staff` are what becomes of them
 
@@ -36,7 +42,7 @@ pub record Stays (w : World) (entry : Entry) (kept : List CallbackRow) (staff : 
   pub callbacks : kept ≡ w.callbacks
   pub workers : staff ≡ w.workers
 
--- a callback changes, and its status, its object, its pool and its result stay the same
+-- a callback changes, and its status, its object, its group, its pool and its result stay the same
 pub record Marks (w : World) (entry : Entry) (kept : List CallbackRow) (staff : List WorkerRow) : Type 0 where
   pub old : CallbackRow
   pub new : CallbackRow
@@ -44,6 +50,7 @@ pub record Marks (w : World) (entry : Entry) (kept : List CallbackRow) (staff : 
   pub found : find (has_number new.number) w.callbacks ≡ Some old
   pub status : new.status ≡ old.status
   pub object : new.object ≡ old.object
+  pub group : new.group ≡ old.group
   pub pool : new.pool ≡ old.pool
   pub result : new.result ≡ old.result
   pub callbacks : kept ≡ replaced new w.callbacks
@@ -217,6 +224,56 @@ abbrev pub ArmsMove : World → Entry → World → List CallbackRow → Type 0
 ArmsMove w entry after new =
     (object : ℕ) → is_wait_at after.objects object ≡ true → count_rows object new + count_armed object after.armings ≤ count_allowed (set_by object entry) (count_armed object w.armings)
 
+-- an object stays with what it was made with, and released where it was
+pub record IsObjectStill (objects : List ObjectRow) (n : ℕ) (row : ObjectRow) : Type 0 where
+  pub new : ObjectRow
+  pub stands : numbered objects n ≡ Some new
+  pub env : new.env ≡ row.env
+  pub context : new.context ≡ row.context
+  pub released : row.released ≡ true → new.released ≡ true
+
+-- the object of a creation stands, with its group
+pub record IsCreated (objects : List ObjectRow) (c : Creation) : Type 0 where
+  pub row : ObjectRow
+  pub stands : numbered objects c.object ≡ Some row
+  pub group : row.env.group ≡ c.group
+
+-- the objects of a group that have a cancel routine and aren't released, as they were made, from a number on
+abbrev pub due_from : ℕ → ℕ → List ObjectRow → List Creation
+due_from group n [] = []
+due_from group n (o ∷ os) = if gets_notice group o then creation_of n o ∷ due_from group (n + 1) os else due_from group (n + 1) os
+
+-- an object that is made is numbered on
+abbrev pub HasCreated : Option Creation → ℕ → ℕ → Type 0
+HasCreated None before now = now ≡ before
+HasCreated (Some c) before now = (c.object ≡ before + 1) × (now ≡ before + 1)
+
+-- what becomes by an entry of the objects of a group that are due a notice
+abbrev pub with_created : ℕ → Option Creation → List Creation → List Creation
+with_created group None due = due
+with_created group (Some c) due = if is_due group c then due ++ c ∷ [] else due
+
+abbrev pub without_closed : Option ObjectId → List Creation → List Creation
+without_closed None due = due
+without_closed (Some object) due = filter (λ (c : Creation). not (c.object == object.0)) due
+
+abbrev pub without_released : ℕ → Option Begins → List Creation → List Creation
+without_released group None due = due
+without_released group (Some b) due = if is_close_of group b.target then [] else due
+
+abbrev pub due_after : ℕ → List Creation → Entry → List Creation
+due_after group due entry = with_created group (created_by entry) (without_closed (closed_by entry) (without_released group (begins_by entry) due))
+
+-- of objects: those that were stay; what is created stands, and what is closed was made; a close of a group releases all of its objects; and those that a
+-- close gives a notice of become what the entry tells
+pub record GroupsMove (w : World) (entry : Entry) (after : World) : Type 0 where
+  pub keeps : (n : ℕ) (row : ObjectRow) → numbered w.objects n ≡ Some row → IsObjectStill after.objects n row
+  pub creates : (c : Creation) → created_by entry ≡ Some c → IsCreated after.objects c
+  pub closes : (object : ObjectId) → closed_by entry ≡ Some object → object.0 ≤ length w.objects
+  pub counts : HasCreated (created_by entry) (length w.objects) (length after.objects)
+  pub clears : (b : Begins) (group : GroupId) → begins_by entry ≡ Some b → b.target ≡ Group group → (n : ℕ) (row : ObjectRow) → numbered after.objects n ≡ Some row → row.env.group.0 ≡ group.0 → row.released ≡ true
+  pub dues : (group : ℕ) → due_from group 1 after.objects ≡ due_after group (due_from group 1 w.objects) entry
+
 -- the wait objects are those that were, and the one that is made
 pub record ObjectsMove (w : World) (entry : Entry) (after : World) : Type 0 where
   pub waits : (object : ℕ) → is_wait_at after.objects object ≡ (is_wait_at w.objects object || makes_wait object entry)
@@ -232,27 +289,50 @@ pub record Moves (fresh : ℕ) (w : World) (entry : Entry) (after : World) : Typ
   pub started : started_by entry.answer ≡ expecting_of new
   pub callbacks : after.callbacks ≡ kept ++ new
   pub arms : ArmsMove w entry after new
+  -- what is made is of no object that is released
+  pub homes : AllByRecursion (λ (c : CallbackRow). c.object.0 ≢ 0 → is_standing w.objects c.object.0 ≡ true) new
+  -- and what a SubmitSimple makes, of no object and of its group
+  pub simples : (group : ℕ) → is_for_group group (simple_by entry) ≡ true → AllByRecursion (λ (c : CallbackRow). (c.object.0 ≡ 0) × (c.group.0 ≡ group)) new
 
 -- ---- waits
 
--- no wait for an object begins or ends
+-- no wait for callbacks begins, gives a notice or ends
 pub record KeepsWaits (w : World) (entry : Entry) (after : World) : Type 0 where
   pub begins : begins_by entry ≡ None
   pub ends : is_ending entry ≡ false
+  pub quiet : notice_by entry.answer ≡ None
   pub stay : (who : Who) (wait : BegunWait) → wait_of w who ≡ Some wait → wait_of after who ≡ Some wait
+  -- and only one for a kernel object, which has no notices, is new
+  pub was : (who : Who) (wait : BegunWait) → wait_of after who ≡ Some wait → (wait_of w who ≡ Some wait) ⊎ (wait.notices ≡ [])
 
--- the actor begins a wait for what is then outstanding for an object, of which with cancel nothing is pending
+-- the notices that a wait has left, as they are given
+abbrev pub left_notices : List ObjectRow → BegunWait → List Notice
+left_notices objects b = map (notice_at objects b.cleanup) b.notices
+
+-- those of a new one
+abbrev pub new_for : WaitTarget → ℕ → List ObjectRow → List Notice
+new_for (Group group) cleanup objects = map (notice_for cleanup) (due_from group.0 1 objects)
+new_for _ cleanup objects = []
+
+abbrev pub new_notices : List ObjectRow → Begins → List Notice
+new_notices objects b = if b.cancel then new_for b.target b.cleanup objects else []
+
+-- the actor begins a wait for what is then outstanding for an object or a group, of which with cancel nothing is pending, and
+-- for a group nothing has an operation under way
 pub record BeginsWait (w : World) (entry : Entry) (after : World) : Type 0 where
   pub wait : BegunWait
   pub begun : Begins
   pub begins : begins_by entry ≡ Some begun
   pub ends : is_ending entry ≡ false
   pub actor : wait.actor ≡ entry.who
-  pub target : wait.target ≡ Object begun.object
+  pub quiet : notice_by entry.answer ≡ None
+  pub target : wait.target ≡ begun.target
+  pub notices : left_notices after.objects wait ≡ new_notices w.objects begun
   pub none : is_in_wait w entry.who ≡ false
   pub waits : after.waits ≡ w.waits ++ wait ∷ []
-  pub covers : (n : ℕ) (c : CallbackRow) → find (has_number n) after.callbacks ≡ Some c → is_covered_by (Object begun.object) begun.cancel c ≡ true → is_among n wait.covered ≡ true
-  pub cuts : begun.cancel ≡ true → (n : ℕ) (c : CallbackRow) → find (has_number n) after.callbacks ≡ Some c → is_of (Object begun.object) c ≡ true → is_pending c.status ≡ false
+  pub covers : (n : ℕ) (c : CallbackRow) → find (has_number n) after.callbacks ≡ Some c → is_covered_by begun.target begun.cancel c ≡ true → is_among n wait.covered ≡ true
+  pub cuts : begun.cancel ≡ true → (n : ℕ) (c : CallbackRow) → find (has_number n) after.callbacks ≡ Some c → is_of begun.target c ≡ true → is_pending c.status ≡ false
+  pub idle : is_group_target begun.target ≡ true → (n : ℕ) (c : CallbackRow) → find (has_number n) after.callbacks ≡ Some c → is_of begun.target c ≡ true → is_operating c.status ≡ false
 
 -- the actor's wait ends, and if it does so freely, nothing that it covers is outstanding
 pub record EndsWait (w : World) (entry : Entry) (after : World) : Type 0 where
@@ -260,12 +340,28 @@ pub record EndsWait (w : World) (entry : Entry) (after : World) : Type 0 where
   pub begins : begins_by entry ≡ None
   pub ends : is_ending entry ≡ true
   pub found : wait_of w entry.who ≡ Some wait
+  pub quiet : notice_by entry.answer ≡ None
+  pub unnoticed : wait.notices ≡ []
   pub free : is_freeing entry ≡ true → held w wait ≡ []
   pub waits : after.waits ≡ filter (λ (b : BegunWait). not (is_same_actor b.actor entry.who)) w.waits
+
+-- the actor's wait gives its first notice, where nothing that it covers is outstanding
+pub record GivesNotice (w : World) (entry : Entry) (after : World) : Type 0 where
+  pub wait : BegunWait
+  pub begins : begins_by entry ≡ None
+  pub ends : is_ending entry ≡ false
+  pub found : wait_of w entry.who ≡ Some wait
+  pub object : ObjectId
+  pub rest : List ObjectId
+  pub left : wait.notices ≡ object ∷ rest
+  pub tells : notice_by entry.answer ≡ Some (notice_at w.objects wait.cleanup object)
+  pub free : held w wait ≡ []
+  pub waits : after.waits ≡ give_notice entry.who w.waits
 
 pub data WaitsMove (w : World) (entry : Entry) (after : World) : Type 0 where
   Keep : KeepsWaits w entry after → WaitsMove w entry after
   Begin : BeginsWait w entry after → WaitsMove w entry after
+  Notify : GivesNotice w entry after → WaitsMove w entry after
   End : EndsWait w entry after → WaitsMove w entry after
 
 -- the maximum of a pool, and of one that is not made yet the one that it will begin with
@@ -278,4 +374,5 @@ pub record Leads (fresh : ℕ) (w : World) (entry : Entry) (after : World) : Typ
   pub waits : WaitsMove w entry after
   pub limits : after.limits ≡ w.limits
   pub objects : ObjectsMove w entry after
+  pub groups : GroupsMove w entry after
   pub maxima : (pool : ℕ) → maximum_at after pool ≡ maximum_after pool (maximum_at w pool) entry

@@ -27,6 +27,7 @@ use Rattle.tp_model.specs.Counts.{running, slots}
 pub record IsObjectInRange (o : ObjectRow) : Type 0 where
   pub routine : IsRoutineInRange o.routine.0
   pub context : o.context < 2 ^ 64
+  pub cancel : o.env.cancel.0 ≤ 65535
 
 pub record IsCallbackInRange (c : CallbackRow) : Type 0 where
   pub number : c.number < 2 ^ 64
@@ -45,6 +46,10 @@ abbrev pub IsTargetInRange : WaitTarget → Type 0
 IsTargetInRange (Kernel kernel) = kernel.0 ≤ 65535
 IsTargetInRange _ = Unit {0}
 
+pub record IsWaitInRange (b : BegunWait) : Type 0 where
+  pub target : IsTargetInRange b.target
+  pub cleanup : b.cleanup < 2 ^ 64
+
 -- no lock is taken more often than this
 abbrev pub AreTakenAtMost : ℕ → World → Type 0
 AreTakenAtMost most w = AllByRecursion (λ (k : KernelRow). takings_of k.state ≤ most) w.kernels
@@ -56,7 +61,8 @@ pub record AreRowsInRange (w : World) : Type 0 where
   pub kernels : AllByRecursion (λ (k : KernelRow). IsStateInRange k.state) w.kernels
   pub timers : AllByRecursion (λ (s : TimerSetting). s.object.0 ≤ 65535) w.settings
   pub armings : AllByRecursion (λ (a : Arming). a.object.0 ≤ 65535) w.armings
-  pub waits : AllByRecursion (λ (b : BegunWait). IsTargetInRange b.target) w.waits
+  pub waits : AllByRecursion IsWaitInRange w.waits
+  pub few : length w.objects ≤ w.limits.objects
 
 abbrev pub IsTriggerInRange : Trigger → Type 0
 IsTriggerInRange (SetTimer object due period window) = object.0 ≤ 65535
@@ -76,6 +82,7 @@ IsChangeInRange (change.Fire trigger first count) = IsTriggerInRange trigger × 
 IsChangeInRange (change.Return by words first count) = first + count ≤ 2 ^ 64
 IsChangeInRange (change.CreateKernel state) = IsStateInRange state
 IsChangeInRange (change.BeginWait who target cancel) = IsTargetInRange target
+IsChangeInRange (change.BeginClose who group cancel context notices) = context < 2 ^ 64
 IsChangeInRange _ = Unit {0}
 
 -- all of a world that the numbers of answers and looks come from

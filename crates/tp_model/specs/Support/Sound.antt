@@ -3,6 +3,7 @@ use Rattle.std.specs.Prelude.{◌≡◌, ◌≢◌, ℕ, ◌+◌, ◌<◌, ◌�
 use Rattle.std.specs.List.{find, filter, list_any, AllByRecursion}
 use Rattle.std.specs.Option.{option_map_or}
 use Rattle.tp_base.specs.declared.ids.PoolId.{PoolId}
+use Rattle.tp_base.specs.declared.ids.ObjectId.{ObjectId}
 use Rattle.tp_base.specs.declared.rows.Slots.{Slots}
 use Rattle.tp_base.specs.declared.rows.Status.TheVariants.{Running}
 use Rattle.tp_base.specs.declared.rows.ObjectRow.{ObjectRow}
@@ -16,10 +17,11 @@ use Rattle.tp_base.specs.Timers.{clock_end}
 use Rattle.tp_base.specs.declared.rows.WaitTarget.{WaitTarget}
 use Rattle.tp_base.specs.declared.rows.WaitTarget.TheVariants.{Object}
 use Rattle.tp_model.specs.World.{World, BegunWait}
-use Rattle.tp_model.specs.Counts.{numbered, has_number}
+use Rattle.tp_model.specs.Counts.{numbered, has_number, is_operating}
+use Rattle.tp_model.specs.Groups.{is_object_that, has_cancel}
 use Rattle.tp_base.specs.Actors.{is_same_actor}
 use Rattle.tp_model.specs.Conditions.{is_same_kind}
-use Rattle.tp_model.specs.Waits.{is_of}
+use Rattle.tp_model.specs.Waits.{is_of, is_group_target}
 use Rattle.tp_model.specs.Laws.Entries.{is_among}
 use Rattle.tp_model.specs.Laws.Once.{is_left}
 
@@ -48,11 +50,12 @@ abbrev pub AreWorkersSound : List CallbackRow → ℕ → List WorkerRow → Typ
 AreWorkersSound callbacks worker [] = Unit {0}
 AreWorkersSound callbacks worker (r ∷ rs) = IsWorkerSound callbacks worker r.pool r.callback × AreWorkersSound callbacks (worker + 1) rs
 
--- the callback's object was made, and is of the callback's pool
+-- the callback's object was made, and is of the callback's pool and group
 pub record HasObject (objects : List ObjectRow) (c : CallbackRow) : Type 0 where
   pub row : ObjectRow
   pub stands : numbered objects c.object.0 ≡ Some row
   pub home : c.pool ≡ row.env.pool
+  pub group : c.group ≡ row.env.group
 
 -- simple callbacks have none
 abbrev pub IsCallbackSound : List ObjectRow → CallbackRow → Type 0
@@ -76,8 +79,9 @@ pub record IsWaitSound (fresh : ℕ) (callbacks : List CallbackRow) (b : BegunWa
   pub named : IsNamed b.target
   pub made : AllByRecursion (λ n. n < fresh) b.covered
   pub closed : (m n : ℕ) → m < n → is_left_among callbacks b.target m ≡ true → is_left_among callbacks b.target n ≡ true → is_among n b.covered ≡ true → is_among m b.covered ≡ true
-  -- no call begins a wait with notices yet
-  pub unnoticed : b.notices ≡ []
+  -- where it covers one of those, or is for no group, it has no notices to give
+  pub settled : (n : ℕ) → is_left_among callbacks b.target n ≡ true → is_among n b.covered ≡ true → b.notices ≡ []
+  pub quiet : is_group_target b.target ≡ false → b.notices ≡ []
 
 -- no actor has two waits begun
 abbrev pub AreApart : List BegunWait → Type 0
@@ -109,14 +113,19 @@ pub record IsTimedOut (object : ℕ) (settings : List TimerSetting) (armings : L
   pub few : count_set object settings ≤ count_armed object armings
   pub once : AllByRecursion (λ (s : TimerSetting). s.object.0 ≡ object → s.period ≡ 0) settings
 
+-- ---- objects that aren't released
+
+abbrev pub is_standing : List ObjectRow → ℕ → Bool
+is_standing objects object = is_object_that (λ (o : ObjectRow). not o.released) objects object
+
 -- with the number that the next callback gets
 pub record IsSound (fresh : ℕ) (w : World) : Type 0 where
   pub numbers : IsRising 1 fresh w.callbacks
   pub workers : AreWorkersSound w.callbacks 1 w.workers
   pub object_pools : AllByRecursion (λ (o : ObjectRow). o.env.pool.0 < length w.pools) w.objects
   pub apart : AreApart w.waits
-  -- an object that is set was made
-  pub timers : AllByRecursion (λ (s : TimerSetting). IsMade (length w.objects) s.object.0) w.settings
+  -- an object that is set isn't released
+  pub timers : AllByRecursion (λ (s : TimerSetting). is_standing w.objects s.object.0 ≡ true) w.settings
   -- an object that is armed is a wait object and isn't released
   pub armings : AllByRecursion (λ (a : Arming). may_be_armed w.objects a.object.0 ≡ true) w.armings
   pub timeouts : (object : ℕ) → is_wait_at w.objects object ≡ true → IsTimedOut object w.settings w.armings
@@ -124,3 +133,7 @@ pub record IsSound (fresh : ℕ) (w : World) : Type 0 where
   pub waits : AllByRecursion (IsWaitSound fresh w.callbacks) w.waits
   pub callback_pools : AllByRecursion (λ (c : CallbackRow). c.pool.0 < length w.pools) w.callbacks
   pub callback_objects : AllByRecursion (IsCallbackSound w.objects) w.callbacks
+  -- nor one that has an operation
+  pub operations : AllByRecursion (λ (c : CallbackRow). is_operating c.status ≡ true → is_standing w.objects c.object.0 ≡ true) w.callbacks
+  -- and an object that a wait has a notice of has a cancel routine
+  pub notices : AllByRecursion (λ (b : BegunWait). AllByRecursion (λ (o : ObjectId). is_object_that has_cancel w.objects o.0 ≡ true) b.notices) w.waits

@@ -8,7 +8,7 @@ use Rattle.tp_base.specs.declared.plans.ActionWords.{ActionWords}
 use Rattle.tp_base.specs.declared.plans.WaitEnd.{WaitEnd}
 use Rattle.tp_base.specs.declared.plans.WaitEnd.TheVariants.{Free, Exhausted}
 use Rattle.tp_base.specs.declared.rows.WaitTarget.{WaitTarget}
-use Rattle.tp_base.specs.declared.rows.WaitTarget.TheVariants.{Object}
+use Rattle.tp_base.specs.declared.rows.WaitTarget.TheVariants.{Object, Group}
 use Rattle.tp_base.specs.declared.plans.IoStep.{IoStep}
 use Rattle.tp_base.specs.declared.plans.IoStep.TheVariants.{Issue, GiveUp, Complete}
 use Rattle.tp_base.specs.declared.plans.PoolChange.{PoolChange}
@@ -17,9 +17,14 @@ use Rattle.tp_base.specs.declared.plans.Trigger.{Trigger}
 use Rattle.tp_base.specs.declared.plans.Trigger.TheVariants.{SetWait}
 use Rattle.tp_base.specs.declared.plans.Change.{Change}
 use Rattle.tp_base.specs.declared.plans.Change.TheVariants as change
-use Rattle.tp_model.specs.World.{World}
-use Rattle.tp_model.specs.Waits.{is_cancelled_by}
-use Rattle.tp_model.specs.Laws.Entries.{Run, Begins, begins_by, is_ending, is_freeing, is_loosened, asked_by, words_by, made_by, queued_new, completed_by, started_by, Happening, Event, event, event_by, Issues, GivesUp, Completes, Runs as Taking, taken_by, run_by, cancelled_by, cancelled_count, attached_by, is_returned, maximum_after, Sets, sets_by, wait_made, wait_numbered}
+use Rattle.tp_base.specs.declared.ids.GroupId.{GroupId}
+use Rattle.tp_base.specs.declared.ids.ObjectId.{ObjectId}
+use Rattle.tp_base.specs.declared.rows.ObjectRow.{ObjectRow}
+use Rattle.tp_base.specs.declared.rows.CallbackRow.{CallbackRow}
+use Rattle.tp_model.specs.World.{World, BegunWait}
+use Rattle.tp_model.specs.Sources.{object_row}
+use Rattle.tp_model.specs.Waits.{is_cancelled_by, wait_of}
+use Rattle.tp_model.specs.Laws.Entries.{Run, Begins, begins_by, is_ending, is_freeing, is_loosened, asked_by, words_by, made_by, queued_new, completed_by, started_by, Happening, Event, event, event_by, Issues, GivesUp, Completes, Runs as Taking, taken_by, run_by, cancelled_by, cancelled_count, attached_by, is_returned, maximum_after, Sets, sets_by, Creation, created_by, closed_by, simple_by, Notice, notice_by, wait_made, wait_numbered}
 
 -- of callbacks that were there before, and of the worker
 pub record Deed : Type 0 where
@@ -65,6 +70,11 @@ pub record Told : Type 0 where
   -- a wait object that is made, and one that is set
   pub wait : Option ℕ
   pub sets : Option Sets
+  -- an object that is made, and one that is closed; the group of a simple callback that is made; a notice that is given
+  pub created : Option Creation
+  pub closed : Option ObjectId
+  pub simple : Option GroupId
+  pub notice : Option Notice
   -- the maximum of each pool after the entry, by what it was before
   pub maxima : ℕ → ℕ → ℕ
 
@@ -79,11 +89,15 @@ told_by entry = record {
   freeing = is_freeing entry;
   wait = wait_made entry;
   sets = sets_by entry;
+  created = created_by entry;
+  closed = closed_by entry;
+  simple = simple_by entry;
+  notice = notice_by entry.answer;
   maxima = λ pool maximum. maximum_after pool maximum entry;
 }
 
 abbrev pub silent : Told
-silent = record { made = []; queued = []; started = []; deed = nothing; begun = None; ending = false; freeing = false; wait = None; sets = None; maxima = λ pool maximum. maximum }
+silent = record { made = []; queued = []; started = []; deed = nothing; begun = None; ending = false; freeing = false; wait = None; sets = None; created = None; closed = None; simple = None; notice = None; maxima = λ pool maximum. maximum }
 
 abbrev pub maxima_by : ℕ → PoolChange → ℕ → ℕ → ℕ
 maxima_by pool Close other maximum = maximum
@@ -91,8 +105,28 @@ maxima_by pool (Maximum value) other maximum = if pool == other then max value 1
 maxima_by pool (Minimum value) other maximum = if pool == other then max maximum value else maximum
 
 abbrev pub begins_of : WaitTarget → Bool → Option Begins
-begins_of (Object object) cancel = Some (record { object = object; cancel = cancel })
+begins_of (Object object) cancel = Some (record { target = Object object; cancel = cancel; cleanup = 0 })
 begins_of _ cancel = None
+
+-- an object of a number with this row
+abbrev pub creation_of : ℕ → ObjectRow → Creation
+creation_of number row = record { object = number; group = row.env.group; routine = row.env.cancel; context = row.context }
+
+-- the group of a callback that has no object
+abbrev pub simple_group : CallbackRow → Option GroupId
+simple_group c = if c.object.0 == 0 then Some c.group else None
+
+-- the notice of an object, and the first one that a wait has left
+abbrev pub notice_at : List ObjectRow → ℕ → ObjectId → Notice
+notice_at objects cleanup object = record { object = object; routine = (object_row objects object).env.cancel; context = (object_row objects object).context; cleanup = cleanup }
+
+abbrev pub first_left : List ObjectRow → ℕ → List ObjectId → Option Notice
+first_left objects cleanup [] = None
+first_left objects cleanup (object ∷ rest) = Some (notice_at objects cleanup object)
+
+abbrev pub next_notice : List ObjectRow → Option BegunWait → Option Notice
+next_notice objects None = None
+next_notice objects (Some b) = first_left objects b.cleanup b.notices
 
 abbrev pub is_free : WaitEnd → Bool
 is_free Free = true
@@ -122,8 +156,9 @@ deed_of number how = record nothing { cancelled = cancelled_of number how; compl
 -- what the entry of a change tells, with the number that the next callback gets
 abbrev pub told : ℕ → World → Change → Told
 told fresh w (change.ChangePool pool how) = record silent { maxima = maxima_by pool.0 how }
-told fresh w (change.CreateObject row) = record silent { wait = wait_numbered row.kind (length w.objects + 1) }
-told fresh w (change.QueueCallback callback) = record silent { made = fresh ∷ []; queued = fresh ∷ [] }
+told fresh w (change.CreateObject row) = record silent { wait = wait_numbered row.kind (length w.objects + 1); created = Some (creation_of (length w.objects + 1) row) }
+told fresh w (change.ReleaseObject object) = record silent { closed = Some object }
+told fresh w (change.QueueCallback callback) = record silent { made = fresh ∷ []; queued = fresh ∷ []; simple = simple_group callback }
 told fresh w (change.ExpectCallback callback) = record silent { made = fresh ∷ []; started = fresh ∷ [] }
 told fresh w (change.Operate callback how) = record silent { deed = deed_of callback.number how }
 told fresh w (change.Fire trigger first count) = record silent { made = range_with_len first count; queued = range_with_len first count; sets = sets_of trigger }
@@ -134,6 +169,9 @@ told fresh w (change.Mark by Loose) = record silent { deed = record nothing { lo
 told fresh w (change.Mark by (Asks kind action)) = record silent { deed = record nothing { asked = Some kind } }
 told fresh w (change.BeginWait who target cancel) =
     record silent { deed = record nothing { count = length (filter (is_cancelled_by target cancel) w.callbacks) }; begun = begins_of target cancel }
+told fresh w (change.BeginClose who group cancel context notices) =
+    record silent { deed = record nothing { count = length (filter (is_cancelled_by (Group group) cancel) w.callbacks) }; begun = Some (record { target = Group group; cancel = cancel; cleanup = context }) }
+told fresh w (change.GiveNotice who) = record silent { notice = next_notice w.objects (wait_of w who) }
 told fresh w (change.EndWait who how) = record silent { ending = true; freeing = is_free how }
 told fresh w (change.Return by words first count) =
     record silent { deed = record nothing { returned = true; words = Some words }; made = range_with_len first count; queued = range_with_len first count }

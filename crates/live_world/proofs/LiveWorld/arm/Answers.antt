@@ -1,12 +1,12 @@
 use Rattle.std.proofs.Common.{sym, ◌∙◌}
-use Rattle.live_world.proofs.Setting.{arm_arms, arm_expires, arm_takes, made_taken, room_taken}
+use Rattle.live_world.proofs.Setting.{arm_arms, arm_expires, arm_takes, stands_taken, room_taken}
 use Rattle.live_world.proofs.LiveWorld.arm.Goals as goal
 
 pub queue_next-requires-clause-room : goal.queue_next-requires-clause-room
 queue_next-requires-clause-room c = room_taken c.args.self.now c.take_signal.new.self c.args.object c.args.kernel c.args.timeout c.take_signal.ensures.after c.requires.room
 
-pub queue_next-requires-then-expires_at_once-clause-made : goal.queue_next-requires-then-expires_at_once-clause-made
-queue_next-requires-then-expires_at_once-clause-made c = made_taken c.args.self.now c.take_signal.new.self c.args.object c.args.kernel c.args.timeout c.take_signal.ensures.after c.requires.wait
+pub queue_next-requires-then-expires_at_once-clause-stands : goal.queue_next-requires-then-expires_at_once-clause-stands
+queue_next-requires-then-expires_at_once-clause-stands c = stands_taken c.args.self.now c.take_signal.new.self c.args.object c.args.kernel c.args.timeout c.take_signal.ensures.after c.requires.wait
 
 pub queue_next-requires-then-expires_at_once-clause-room : goal.queue_next-requires-then-expires_at_once-clause-room
 queue_next-requires-then-expires_at_once-clause-room c = room_taken c.args.self.now c.take_signal.new.self c.args.object c.args.kernel c.args.timeout c.take_signal.ensures.after c.requires.room

@@ -9,6 +9,7 @@ use Rattle.live_world.specs.Parts.{shown_object}
 use Rattle.live_world.specs.View.{shown}
 use Rattle.live_world.specs.declared.LiveWorld.TheInside.{Inside}
 use Rattle.live_world.proofs.Covered.{at_place, nowhere, place_there, idle_there, number_most, actor_somewhere}
+use Rattle.live_world.proofs.Closes.{unnoticed_there}
 use Rattle.live_world.proofs.Beginnings.{begun_by}
 use Rattle.live_world.proofs.LiveWorld.cover_outstanding.Goals as goal
 
@@ -35,12 +36,20 @@ begin_covering-requires c =
       rising = c.len.ensures.rising;
     }
 
+pub begin-requires : goal.begin-requires
+begin-requires c =
+    let i = c.self.inside in
+    let k = c.self.invariant in
+    let a = may i c.args.self.now c.args.who c.args.object c.self.view_is c.requires.allowed in
+    let at = (at_place c.self.inside c.args.self.now c.args.who c.waiter.result (Some c.in-Some.waiter) c.self.view_is c.waiter.ensures c.in-Some.is) in
+    record { there = omega (arith, place_there i.limits c.args.who c.in-Some.waiter at, k.closing.notifiers); idle = unnoticed_there c.args.who c.in-Some.waiter at a.none k.closing }
+
 pub invariant_of-self : goal.invariant_of-self
 invariant_of-self c =
-    (begun_by c.self.inside c.args.self.now c.args.who c.args.object c.args.cancel c.in-Some.waiter c.begin_covering.new.barriers c.and-self-inside.result c.self.view_is c.self.invariant c.requires.allowed c.requires.settled
-    (at_place c.self.inside c.args.self.now c.args.who c.waiter.result (Some c.in-Some.waiter) c.self.view_is c.waiter.ensures c.in-Some.is) c.begin_covering.ensures c.and-self-inside.ensures).keeps
+    (begun_by c.self.inside c.args.self.now c.args.who c.args.object c.args.cancel c.in-Some.waiter c.begin_covering.new.barriers c.begin.new.self c.and-self-inside.result c.self.view_is c.self.invariant c.requires.allowed c.requires.settled
+    (at_place c.self.inside c.args.self.now c.args.who c.waiter.result (Some c.in-Some.waiter) c.self.view_is c.waiter.ensures c.in-Some.is) c.begin_covering.ensures c.begin.ensures c.and-self-inside.ensures).keeps
 
 pub returns : goal.returns
 returns c =
-    (begun_by c.self.inside c.args.self.now c.args.who c.args.object c.args.cancel c.in-Some.waiter c.begin_covering.new.barriers c.and-self-inside.result c.self.view_is c.self.invariant c.requires.allowed c.requires.settled
-    (at_place c.self.inside c.args.self.now c.args.who c.waiter.result (Some c.in-Some.waiter) c.self.view_is c.waiter.ensures c.in-Some.is) c.begin_covering.ensures c.and-self-inside.ensures).becomes
+    (begun_by c.self.inside c.args.self.now c.args.who c.args.object c.args.cancel c.in-Some.waiter c.begin_covering.new.barriers c.begin.new.self c.and-self-inside.result c.self.view_is c.self.invariant c.requires.allowed c.requires.settled
+    (at_place c.self.inside c.args.self.now c.args.who c.waiter.result (Some c.in-Some.waiter) c.self.view_is c.waiter.ensures c.in-Some.is) c.begin_covering.ensures c.begin.ensures c.and-self-inside.ensures).becomes

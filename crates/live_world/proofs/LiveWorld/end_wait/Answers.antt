@@ -21,6 +21,11 @@ finish-requires c =
     (has_begun c.self.inside c.args.self.now c.args.who c.args.how c.self.view_is c.self.invariant c.requires.allowed).begun c.in-Some.waiter
     (at_place c.self.inside c.args.self.now c.args.who c.waiter.result (Some c.in-Some.waiter) c.self.view_is c.waiter.ensures c.in-Some.is)
 
+pub finish-requires-2 : goal.finish-requires-2
+finish-requires-2 c =
+    (has_begun c.self.inside c.args.self.now c.args.who c.args.how c.self.view_is c.self.invariant c.requires.allowed).noticing c.in-Some.waiter
+    (at_place c.self.inside c.args.self.now c.args.who c.waiter.result (Some c.in-Some.waiter) c.self.view_is c.waiter.ensures c.in-Some.is)
+
 pub end_acquire-requires : goal.end_acquire-requires
 end_acquire-requires c is =
     let i = c.self.inside in
@@ -30,9 +35,9 @@ end_acquire-requires c is =
     (wanted_free w c.args.who c.args.how (subst (λ (l : Live). MayEnd l.world c.args.who c.args.how) (sym c.self.view_is) c.requires.allowed) (subst (λ (l : Live). AreTakenAtMost (2 ^ 47) l.world) (sym c.self.view_is) c.requires.taken) is)
 
 pub invariant_of-self : goal.invariant_of-self
-invariant_of-self c = (ended_here c.self.inside c.args.self.now c.args.who c.args.how c.in-Some.waiter c.finish.new.self c.without-self-inside.result c.end_acquire.new.kernels c.index.result.now c.self.view_is c.self.invariant c.requires.allowed
-    (at_place c.self.inside c.args.self.now c.args.who c.waiter.result (Some c.in-Some.waiter) c.self.view_is c.waiter.ensures c.in-Some.is) c.finish.ensures c.without-self-inside.ensures c.index.ensures c.end_acquire.ensures).keeps
+invariant_of-self c = (ended_here c.self.inside c.args.self.now c.args.who c.args.how c.in-Some.waiter c.finish.new.self c.finish-2.new.self c.without-self-inside.result c.end_acquire.new.kernels c.index.result.now c.self.view_is c.self.invariant c.requires.allowed
+    (at_place c.self.inside c.args.self.now c.args.who c.waiter.result (Some c.in-Some.waiter) c.self.view_is c.waiter.ensures c.in-Some.is) c.finish.ensures c.finish-2.ensures c.without-self-inside.ensures c.index.ensures c.end_acquire.ensures).keeps
 
 pub returns : goal.returns
-returns c = (ended_here c.self.inside c.args.self.now c.args.who c.args.how c.in-Some.waiter c.finish.new.self c.without-self-inside.result c.end_acquire.new.kernels c.index.result.now c.self.view_is c.self.invariant c.requires.allowed
-    (at_place c.self.inside c.args.self.now c.args.who c.waiter.result (Some c.in-Some.waiter) c.self.view_is c.waiter.ensures c.in-Some.is) c.finish.ensures c.without-self-inside.ensures c.index.ensures c.end_acquire.ensures).becomes
+returns c = (ended_here c.self.inside c.args.self.now c.args.who c.args.how c.in-Some.waiter c.finish.new.self c.finish-2.new.self c.without-self-inside.result c.end_acquire.new.kernels c.index.result.now c.self.view_is c.self.invariant c.requires.allowed
+    (at_place c.self.inside c.args.self.now c.args.who c.waiter.result (Some c.in-Some.waiter) c.self.view_is c.waiter.ensures c.in-Some.is) c.finish.ensures c.finish-2.ensures c.without-self-inside.ensures c.index.ensures c.end_acquire.ensures).becomes

@@ -2,7 +2,7 @@ use Rattle.std.proofs.Common.{◌+◌, length, map, is_some, refl, sym, ap, ◌�
 use Rattle.std.proofs.lemmas.List.{length-map}
 use Rattle.tp_base.specs.declared.rows.CallbackRow.{CallbackRow}
 use Rattle.tp_model.specs.Counts.{is_operating}
-use Rattle.tp_model.specs.Calls.Objects.{has_operations, is_operation_of}
+use Rattle.tp_model.specs.Conditions.{has_operations, is_operation_of}
 use Rattle.live_world.specs.Live.{Live}
 use Rattle.live_world.specs.Parts.{shown_object}
 use Rattle.live_world.proofs.Along.{any_filtered, any_row, none_beyond}

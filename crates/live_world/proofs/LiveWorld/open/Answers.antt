@@ -10,7 +10,9 @@ abbrev parts : goal.After-none → Inside
 parts c = record {
   limits = c.args.limits;
   pools = c.in_ok-pools.pools;
+  groups = c.in_ok-groups.groups;
   objects = c.in_ok-objects.objects;
+  members = c.in_ok-members.members;
   callbacks = c.in_ok-callbacks.callbacks;
   queues = c.in_ok-queues.queues;
   outstanding = c.in_ok-outstanding.outstanding;
@@ -19,6 +21,8 @@ parts c = record {
   barriers = c.in_ok-barriers.barriers;
   waits = c.none.result;
   wanted = c.in_ok-wanted.wanted;
+  closing = c.in_ok-closing.closing;
+  notices = c.in_ok-notices.notices;
   clients = c.in_ok-clients.clients;
   timers = c.in_ok-timers.timers;
   kernels = c.in_ok-kernels.kernels;
@@ -33,7 +37,9 @@ opened_here c =
     (record {
       in_range = c.requires;
       pools = c.in_ok-pools.ensures;
+      groups = ap₂ (λ n rows. record { limit = n; rows = rows }) c.in_ok-groups.ensures.limit c.in_ok-groups.ensures.empty;
       objects = ap₂ (λ n rows. record { limit = n; rows = rows }) c.in_ok-objects.ensures.limit c.in_ok-objects.ensures.empty;
+      members = c.in_ok-members.ensures;
       callbacks = c.in_ok-callbacks.ensures;
       queues = ap₂ (λ n qs. record { slots = n; queues = qs }) c.in_ok-queues.ensures.slots c.in_ok-queues.ensures.empty;
       outstanding = c.in_ok-outstanding.ensures;
@@ -45,6 +51,8 @@ opened_here c =
       clock = refl;
       waits = c.none.ensures;
       wanted = c.in_ok-wanted.ensures;
+      closing = c.in_ok-closing.ensures;
+      notices = ap₂ (λ n ws. record { slots = n; waits = ws }) c.in_ok-notices.ensures.slots c.in_ok-notices.ensures.waits;
       kernels = c.in_ok-kernels.ensures;
       armed = refl;
       made = refl;

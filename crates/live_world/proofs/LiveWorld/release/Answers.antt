@@ -5,8 +5,8 @@ use Rattle.live_world.proofs.LiveWorld.release.Goals as goal
 pub loop-object-init : goal.loop-object-init
 loop-object-init c = releasing_first c.args.kernel.0 c.args.self.now c.requires
 
-pub queue_next-requires-clause-made : goal.queue_next-requires-clause-made
-queue_next-requires-clause-made c = c.in-Some.ensures.made
+pub queue_next-requires-clause-stands : goal.queue_next-requires-clause-stands
+queue_next-requires-clause-stands c = c.in-Some.ensures.stands
 
 pub queue_next-requires-clause-room : goal.queue_next-requires-clause-room
 queue_next-requires-clause-room c = c.in-Some.ensures.room

@@ -1,6 +1,10 @@
 use Rattle.std.proofs.Common.{sym, ◌∙◌}
-use Rattle.live_world.proofs.Setting.{room_set, set_fires}
+use Rattle.live_world.proofs.Setting.{room_set, set_fires, stands_set}
 use Rattle.live_world.proofs.LiveWorld.set_timer.Goals as goal
+
+pub queue_next-requires-clause-stands : goal.queue_next-requires-clause-stands
+queue_next-requires-clause-stands c =
+    stands_set c.args.self.now c.put_setting.new.self c.args.object c.args.due c.args.period c.args.window c.put_setting.ensures.after (sym c.put_setting.ensures.fires ∙ c.if-put_setting.true) c.requires.ready
 
 pub queue_next-requires-clause-room : goal.queue_next-requires-clause-room
 queue_next-requires-clause-room c =

@@ -1,4 +1,4 @@
-use Rattle.std.proofs.Common.{◌≡◌, ◌+◌, ◌-◌, length, sym, ap, ◌∙◌, subst, arith}
+use Rattle.std.proofs.Common.{◌≡◌, ◌+◌, ◌-◌, ◌≤◌, length, sym, ap, ◌∙◌, subst, arith}
 use Rattle.tp_base.specs.declared.plans.Change.{Change}
 use Rattle.tp_model.specs.Counts.{owed}
 use Rattle.tp_model.specs.Changes.{changed}
@@ -11,10 +11,11 @@ use Rattle.tp_model.proofs.Growing.{grows}
 use Rattle.tp_model.proofs.Forgetting.{owed_forget}
 use Rattle.tp_model.proofs.Ranging.{changed_rows, forget_rows}
 use Rattle.tp_model.proofs.Takings.{taken_more}
+use Rattle.live_world.specs.Bounds.{IsBounded}
 use Rattle.live_world.specs.Live.{Live}
 use Rattle.pool_core.specs.View.{remembered, IsEngine}
 use Rattle.pool_core.specs.declared.Engine.TheInside.{Inside}
-use Rattle.pool_core.proofs.Counting.{few, taken_within}
+use Rattle.pool_core.proofs.Counting.{AreFew, few, taken_within}
 use Rattle.pool_core.proofs.Engine.apply.Goals as goal
 
 allowed_here : (i : Inside) (e : Remembered) (ch : Change) → remembered i ≡ e → IsAllowed (e.made + 1) e.world ch → IsAllowed (i.live.made + 1) i.live.world ch
@@ -24,6 +25,20 @@ allowed_here i e ch same allowed = subst (λ (r : Remembered). IsAllowed (r.made
 pays : (i : Inside) (e : Remembered) (ch : Change) → remembered i ≡ e → IsSound (i.live.made + 1) i.live.world → IsAllowed (e.made + 1) e.world ch → IsEngine i → 1 + owed (changed i.live.world ch) ≡ i.owed + price ch
 pays i e ch same sound allowed k =
     paid (i.live.made + 1) i.live.world ch sound (allowed_here i e ch same allowed) ∙ ap (λ n. n + price ch) (sym k.owes)
+
+-- few callbacks are made, at little cost
+few_here : (i : Inside) (e : Remembered) (ch : Change) → remembered i ≡ e → IsBounded i.live.world → IsAllowed (e.made + 1) e.world ch → IsEngine i → AreFew ch
+few_here i e ch same b allowed k =
+    let objects : length i.live.world.objects ≤ 65535 = omega (arith, k.rows.few, b.limits.objects_most) in
+    few (i.live.made + 1) i.live.world ch b.limits.slots_most (taken_within i.live.world b) objects (allowed_here i e ch same allowed)
+
+age_here : (i : Inside) (e : Remembered) → remembered i ≡ e → i.age ≡ e.age
+age_here i e same = ap (λ (r : Remembered). r.age) same
+
+pub overflow_add-self : goal.overflow_add-self
+overflow_add-self c =
+    let cost = (few_here c.self.inside c.args.self.now c.args.change.now c.self.view_is c.is_reachable.ensures.bounded c.requires.allowed c.self.invariant).cost in
+    omega (arith, cost, c.price.ensures, c.self.invariant.few_owed, age_here c.self.inside c.args.self.now c.self.view_is, c.requires.young)
 
 pub overflow_sub-self : goal.overflow_sub-self
 overflow_sub-self c =
@@ -36,11 +51,11 @@ invariant_of-self c =
     let paid_for = pays i c.args.self.now ch c.self.view_is c.is_reachable.ensures.sound c.requires.allowed c.self.invariant in
     let world_now : c.apply.new.self.world ≡ forget (changed i.live.world ch) = ap (λ (l : Live). l.world) c.apply.ensures in
     let owed_now : owed c.apply.new.self.world ≡ owed (changed i.live.world ch) = ap owed world_now ∙ owed_forget (changed i.live.world ch) in
-    let few_here = few (i.live.made + 1) i.live.world ch c.is_reachable.ensures.bounded.limits.slots_most (taken_within i.live.world c.is_reachable.ensures.bounded) (allowed_here i c.args.self.now ch c.self.view_is c.requires.allowed) in
+    let few_now = few_here i c.args.self.now ch c.self.view_is c.is_reachable.ensures.bounded c.requires.allowed c.self.invariant in
     record {
       owes = omega (arith, paid_for, c.price.ensures, owed_now);
-      few_made = omega (arith, ap (λ (l : Live). l.made) c.apply.ensures, few_here.made, c.self.invariant.few_made);
-      few_owed = omega (arith, c.price.ensures, few_here.cost, c.self.invariant.few_owed);
+      few_made = omega (arith, ap (λ (l : Live). l.made) c.apply.ensures, few_now.made, c.self.invariant.few_made);
+      few_owed = omega (arith, c.price.ensures, few_now.cost, c.self.invariant.few_owed);
       rows = subst AreRowsInRange (sym world_now) (forget_rows (changed i.live.world ch)
           (changed_rows (i.live.made + 1) i.live.world ch c.is_reachable.ensures.sound (allowed_here i c.args.self.now ch c.self.view_is c.requires.allowed) c.requires.in_range c.self.invariant.rows));
       takings = subst (AreTakenAtMost (i.age + 1)) (sym world_now) (taken_more (i.live.made + 1) i.age i.live.world ch (allowed_here i c.args.self.now ch c.self.view_is c.requires.allowed) c.self.invariant.takings);

@@ -11,6 +11,6 @@ invariant_of-result c =
       owes = c.from.ensures ∙ sym (ap (λ (l : Live). owed l.world) c.in_ok-open.ensures ∙ owed_opening c.args.limits);
       few_made = omega (arith, ap (λ (l : Live). l.made) c.in_ok-open.ensures);
       few_owed = omega (arith, c.from.ensures, c.requires.clients_most);
-      rows = subst (λ (l : Live). AreRowsInRange l.world) (sym c.in_ok-open.ensures) (record { objects = tt; callbacks = tt; kernels = tt; timers = tt; armings = tt; waits = tt });
+      rows = subst (λ (l : Live). AreRowsInRange l.world) (sym c.in_ok-open.ensures) (record { objects = tt; callbacks = tt; kernels = tt; timers = tt; armings = tt; waits = tt; few = omega arith });
       takings = subst (λ (l : Live). AreTakenAtMost 0 l.world) (sym c.in_ok-open.ensures) tt;
     }

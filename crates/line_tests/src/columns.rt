@@ -4,17 +4,20 @@
 //! between each two, or a name for these (`alternatives`). In one of them a sign stands for the numbers of
 //! a range (`range_of`), and any other byte for itself.
 
-use crate::parse::{LineFault, LineKind, parse_call, parse_entry};
 use std::alloc::{AllocError, Global};
 use std::process::Abort;
 use std::test::Fail;
+use tp_lines::parse::{LineFault, LineKind, parse_call, parse_entry};
 
-fn call_patterns() -> [&'static str; 37] {
+fn call_patterns() -> [&'static str; 40] {
     [
         "c&|w~ create-pool",
         "c&|w~ close-pool #",
         "c&|w~ set-maximum # $",
         "c&|w~ set-minimum # $",
+        "c&|w~ create-group",
+        "c&|w~ close-group #",
+        "c&|w~ close-members # HOW y@",
         "c&|w~ create KIND r+ x@ p# PRIORITY LENGTH g+ q#",
         "c&|w~ create KIND r+ x@ p# PRIORITY LENGTH g0 q0",
         "c&|w~ close KIND #",

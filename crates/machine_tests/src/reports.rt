@@ -1,6 +1,8 @@
-use super::*;
+//! Traces and histories as texts, by `tp_report`.
+
 use std::alloc::Global;
 use std::test::Fail;
+use tp_report::{CheckFault, TextFault, check, print_verdict, trace};
 
 // The text of the verdict on a history, or the place of its fault.
 fn verdict_on(alloc: Global, text: &str) -> Result<Vec<u8>, CheckFault> {

@@ -1,0 +1,370 @@
+-- All callbacks that are kept, gone along one after another, and what of them is of a group.
+use Rattle.std.proofs.Common.{◌≡◌, ℕ, ◌+◌, ◌<◌, ◌≤◌, Bool, true, false, cond, not, ◌&&◌, ◌||◌, ◌==◌, List, [], ◌∷◌, ◌++◌, length, map, nat_lt, slice_get, Option, Some, None, unwrap_or, refl, sym, ap, ap₂, ◌∙◌, subst, arith, filter, find, eq-eqb, ne_eqb, lt-ltb, length-append, append_assoc}
+use Rattle.std.specs.List.{All, AllByRecursion}
+use Rattle.std.proofs.lemmas.Bool.{ltb-true}
+use Rattle.std.proofs.lemmas.List.{length-map}
+use Rattle.std.proofs.lemmas.List.Elements.{All-from_recursion}
+use Rattle.std.proofs.lemmas.List.Sums.{length-filter, count_by-le-length}
+use Rattle.tp_base.specs.declared.ids.GroupId.{GroupId}
+use Rattle.tp_base.specs.declared.rows.Status.{Status}
+use Rattle.tp_base.specs.declared.rows.Status.TheVariants.{Expected, Issued, Pending, Running, Returned, Cancelled}
+use Rattle.tp_base.specs.declared.rows.CallbackRow.{CallbackRow}
+use Rattle.tp_base.specs.declared.rows.WaitTarget.TheVariants.{Group}
+use Rattle.cancel_wait.specs.Rising.{with_number}
+use Rattle.cancel_wait.proofs.Contained.{with_greatest}
+use Rattle.cancel_wait.specs.Covers.{Covers, covered_of, with_wait}
+use Rattle.tp_model.specs.World.{World}
+use Rattle.tp_model.specs.Counts.{has_number, is_live, is_pending, is_running}
+use Rattle.tp_model.specs.Changes.{replaced, with_callback}
+use Rattle.tp_model.specs.Support.Sound.{IsRising}
+use Rattle.tp_model.specs.Support.Remembered.{lives, forget}
+use Rattle.tp_model.specs.Waits.{is_cancelled_by, is_covered_by, is_held_for, cancelled, cancel_where, covered_of as covered_among}
+use Rattle.tp_model.proofs.Lists.{all_along, filter_filter, find_kept, find_passes}
+use Rattle.tp_model.proofs.Callbacks.{found_all, filter_replaced_out}
+use Rattle.tp_model.proofs.Cancelling.{cancelled_pending, cancelled_if}
+use Rattle.tp_model.proofs.Forgetting.{cancel_forget, over_not_cancelled}
+use Rattle.tp_model.proofs.Refusals.{both, false_true}
+use Rattle.live_world.specs.Closing.{is_of_group, settled_group}
+use Rattle.live_world.specs.Live.{Live, became}
+use Rattle.live_world.proofs.Along.{number_of, rows_rise}
+use Rattle.live_world.proofs.Cancelled.{none_where}
+use Rattle.live_world.proofs.Lists.{all_pass, filter_alike, none_passes, set_twice}
+use Rattle.live_world.proofs.Numbers.{itself, all_before, has_covered}
+use Rattle.live_world.proofs.Walks.{Rises, rest, IsAmong, rest_first, first_among, rest_next, rest_without, passing_without, found_among, rises_filter, rises_map}
+
+abbrev pub after_of : List CallbackRow → CallbackRow → Option CallbackRow
+after_of cs c = find (λ (x : CallbackRow). nat_lt c.number x.number) cs
+
+-- ---- from the first on
+
+pub first_row_is : (fresh : ℕ) (cs : List CallbackRow) (next : Option CallbackRow) → IsRising 1 fresh cs → next ≡ find (λ (c : CallbackRow). nat_lt 0 c.number) cs → next ≡ slice_get cs 0
+first_row_is fresh cs next rising found = found ∙ first cs (rows_rise 1 fresh cs rising)
+  where
+    first : (ds : List CallbackRow) → Rises number_of 1 ds → find (λ (c : CallbackRow). nat_lt 0 c.number) ds ≡ slice_get ds 0
+    first [] r = refl
+    first (d ∷ ds) r = ap (λ b. cond b (Some d) (find (λ (c : CallbackRow). nat_lt 0 c.number) ds)) (lt-ltb 0 d.number r.0)
+
+pub record AtFirst (cs : List CallbackRow) (next : Option CallbackRow) : Type 0 where
+  pub whole : rest number_of cs next ≡ cs
+  pub among : IsAmong number_of cs next
+
+pub at_first : (fresh : ℕ) (cs : List CallbackRow) (next : Option CallbackRow) → IsRising 1 fresh cs → next ≡ find (λ (c : CallbackRow). nat_lt 0 c.number) cs → AtFirst cs next
+at_first fresh cs next rising found =
+    let is = first_row_is fresh cs next rising found in
+    record {
+      whole = ap (rest number_of cs) is ∙ rest_first number_of 1 cs (rows_rise 1 fresh cs rising);
+      among = subst (IsAmong number_of cs) (sym is) (first_among number_of cs);
+    }
+
+-- ---- from one to the next
+
+pub record RowAt (cs : List CallbackRow) (c : CallbackRow) (next : Option CallbackRow) : Type 0 where
+  pub step : (after : Option CallbackRow) → after ≡ after_of cs c → rest number_of cs next ≡ c ∷ rest number_of cs after
+  pub among : (after : Option CallbackRow) → after ≡ after_of cs c → IsAmong number_of cs after
+  pub later : (after : Option CallbackRow) → after ≡ after_of cs c → length (rest number_of cs after) < length (rest number_of cs next)
+  pub found : find (has_number c.number) cs ≡ Some c
+
+pub row_at : (fresh : ℕ) (cs : List CallbackRow) (c : CallbackRow) (next : Option CallbackRow) → IsRising 1 fresh cs → next ≡ Some c → IsAmong number_of cs next → RowAt cs c next
+row_at fresh cs c next rising is among =
+    record {
+      step = step;
+      among = λ after found. subst (IsAmong number_of cs) (sym found) (found_among number_of 1 (λ (x : CallbackRow). nat_lt c.number x.number) cs (rows_rise 1 fresh cs rising));
+      later = λ after found. omega (arith, ap length (step after found));
+      found = subst (IsAmong number_of cs) is among;
+    }
+  where
+    step : (after : Option CallbackRow) → after ≡ after_of cs c → rest number_of cs next ≡ c ∷ rest number_of cs after
+    step after found =
+        ap (rest number_of cs) is ∙ rest_next number_of 1 cs c (rows_rise 1 fresh cs rising) (subst (IsAmong number_of cs) is among)
+        ∙ ap (λ o. c ∷ rest number_of cs o) (sym found)
+
+-- ---- what passes two tests is counted
+
+pub record CountingRows (p q : CallbackRow → Bool) (cs : List CallbackRow) (next : Option CallbackRow) (all some : ℕ) : Type 0 where
+  pub all_counted : all + length (filter p (rest number_of cs next)) ≡ length (filter p cs)
+  pub some_counted : some + length (filter q (rest number_of cs next)) ≡ length (filter q cs)
+  pub within : some ≤ all
+  pub few : all + length (rest number_of cs next) ≤ length cs
+  pub among : IsAmong number_of cs next
+
+pub counting_rows : (p q : CallbackRow → Bool) (fresh : ℕ) (cs : List CallbackRow) (next : Option CallbackRow) → IsRising 1 fresh cs → next ≡ find (λ (c : CallbackRow). nat_lt 0 c.number) cs → CountingRows p q cs next 0 0
+counting_rows p q fresh cs next rising found =
+    let a = at_first fresh cs next rising found in
+    record {
+      all_counted = omega (arith, ap (λ ds. length (filter p ds)) a.whole);
+      some_counted = omega (arith, ap (λ ds. length (filter q ds)) a.whole);
+      within = omega arith;
+      few = omega (arith, ap length a.whole);
+      among = a.among;
+    }
+
+more_of : (p : CallbackRow → Bool) (c : CallbackRow) (ds : List CallbackRow) → length (filter p (c ∷ ds)) ≡ cond (p c) 1 0 + length (filter p ds)
+more_of p c ds = elim (p c) as (λ b. length (cond b (c ∷ filter p ds) (filter p ds)) ≡ cond b 1 0 + length (filter p ds)) [ true ↦ omega arith | false ↦ omega arith ]
+
+pub record CountsRow (p q : CallbackRow → Bool) (cs : List CallbackRow) (c : CallbackRow) (next : Option CallbackRow) (all some : ℕ) : Type 0 where
+  pub at : RowAt cs c next
+  pub fewer : all < length cs
+  pub goes_on : (after : Option CallbackRow) (more further : ℕ) → after ≡ after_of cs c → more ≡ all + cond (p c) 1 0 → further ≡ some + cond (q c) 1 0 → (q c ≡ true → p c ≡ true) → CountingRows p q cs after more further
+
+pub counts_row : (p q : CallbackRow → Bool) (fresh : ℕ) (cs : List CallbackRow) (c : CallbackRow) (next : Option CallbackRow) (all some : ℕ) → IsRising 1 fresh cs → next ≡ Some c → CountingRows p q cs next all some → CountsRow p q cs c next all some
+counts_row p q fresh cs c next all some rising is k =
+    let at = row_at fresh cs c next rising is k.among in
+    record {
+      at = at;
+      fewer = omega (arith, k.few, ap length (at.step (after_of cs c) refl));
+      goes_on = λ after more further found is_more is_further part. record {
+        all_counted = omega (arith, k.all_counted, ap (λ ds. length (filter p ds)) (at.step after found), more_of p c (rest number_of cs after), is_more);
+        some_counted = omega (arith, k.some_counted, ap (λ ds. length (filter q ds)) (at.step after found), more_of q c (rest number_of cs after), is_further);
+        within = omega (arith, k.within, is_more, is_further, part_of (p c) (q c) part);
+        few = omega (arith, k.few, ap length (at.step after found), is_more, one (p c));
+        among = at.among after found;
+      };
+    }
+  where
+    part_of : (a b : Bool) → (b ≡ true → a ≡ true) → cond b 1 0 ≤ cond a 1 0
+    part_of true true h = omega arith
+    part_of true false h = omega arith
+    part_of false false h = omega arith
+    part_of false true h = absurd (false_true (h refl))
+
+    one : (a : Bool) → cond a 1 0 ≤ 1
+    one true = omega arith
+    one false = omega arith
+
+-- ---- what passes is covered
+
+pub record CoveringRows (t : CallbackRow → Bool) (cs : List CallbackRow) (before now : Covers) (waiter : ℕ) (next : Option CallbackRow) : Type 0 where
+  pub so_far : List ℕ
+  pub covers : now ≡ with_wait before waiter (Some so_far)
+  pub all : so_far ++ map number_of (filter t (rest number_of cs next)) ≡ map number_of (filter t cs)
+  pub among : IsAmong number_of cs next
+
+pub covering_rows : (t : CallbackRow → Bool) (fresh : ℕ) (cs : List CallbackRow) (before now : Covers) (waiter : ℕ) (next : Option CallbackRow) → IsRising 1 fresh cs → now ≡ with_wait before waiter (Some []) → next ≡ find (λ (c : CallbackRow). nat_lt 0 c.number) cs → CoveringRows t cs before now waiter next
+covering_rows t fresh cs before now waiter next rising begun found =
+    let a = at_first fresh cs next rising found in
+    record { so_far = []; covers = begun; all = ap (λ ds. map number_of (filter t ds)) a.whole; among = a.among }
+
+pub record CoversRow (t : CallbackRow → Bool) (cs : List CallbackRow) (before now : Covers) (waiter : ℕ) (c : CallbackRow) (next : Option CallbackRow) : Type 0 where
+  pub at : RowAt cs c next
+  pub so_far : List ℕ
+  pub covers : now ≡ with_wait before waiter (Some so_far)
+  pub below : t c ≡ true → All (λ n. n < c.number) so_far
+  pub fewer : t c ≡ true → length so_far < length cs
+  pub passed : t c ≡ false → (after : Option CallbackRow) → after ≡ after_of cs c → CoveringRows t cs before now waiter after
+  pub covered : t c ≡ true → waiter < length before.waits → (new : Covers) → new ≡ with_wait now waiter (Some (with_number c.number (covered_of now waiter))) → (after : Option CallbackRow) → after ≡ after_of cs c → CoveringRows t cs before new waiter after
+
+pub covers_row : (t : CallbackRow → Bool) (fresh : ℕ) (cs : List CallbackRow) (before now : Covers) (waiter : ℕ) (c : CallbackRow) (next : Option CallbackRow) → IsRising 1 fresh cs → next ≡ Some c → CoveringRows t cs before now waiter next → CoversRow t cs before now waiter c next
+covers_row t fresh cs before now waiter c next rising is k =
+    record {
+      at = at;
+      so_far = k.so_far;
+      covers = k.covers;
+      below = below;
+      fewer = λ passes. omega (arith, ap length (whole true passes (after_of cs c) refl), length-append k.so_far (c.number ∷ left (after_of cs c)), length-map (filter t cs) number_of, length-filter t cs, count_by-le-length t cs);
+      passed = λ out after found. record { so_far = k.so_far; covers = k.covers; all = whole false out after found; among = at.among after found };
+      covered = λ passes within new becomes after found.
+          let had : covered_of now waiter ≡ k.so_far = ap (λ o. unwrap_or o []) (has_covered before now waiter k.so_far within k.covers) in
+          let behind : with_number c.number (covered_of now waiter) ≡ k.so_far ++ c.number ∷ [] = ap (with_number c.number) had ∙ with_greatest c.number k.so_far (below passes) in
+          record {
+            so_far = k.so_far ++ c.number ∷ [];
+            covers = becomes ∙ ap₂ (λ (b : Covers) (ns : List ℕ). with_wait b waiter (Some ns)) k.covers behind
+                ∙ ap (λ ws. record before { waits = ws }) (set_twice before.waits waiter (Some k.so_far) (Some (k.so_far ++ c.number ∷ [])));
+            all = append_assoc k.so_far (c.number ∷ []) (left after) ∙ whole true passes after found;
+            among = at.among after found;
+          };
+    }
+  where
+    at : RowAt cs c next
+    at = row_at fresh cs c next rising is k.among
+
+    left : Option CallbackRow → List ℕ
+    left o = map number_of (filter t (rest number_of cs o))
+
+    whole : (b : Bool) → t c ≡ b → (after : Option CallbackRow) → after ≡ after_of cs c → k.so_far ++ cond b (c.number ∷ left after) (left after) ≡ map number_of (filter t cs)
+    whole b e after found =
+        ap (λ x. k.so_far ++ cond x (c.number ∷ left after) (left after)) (sym e)
+        ∙ ap (λ ns. k.so_far ++ ns) (one (t c))
+        ∙ ap (λ ds. k.so_far ++ map number_of (filter t ds)) (sym (at.step after found)) ∙ k.all
+      where
+        one : (x : Bool) → cond x (c.number ∷ left after) (left after) ≡ map number_of (cond x (c ∷ filter t (rest number_of cs after)) (filter t (rest number_of cs after)))
+        one true = refl
+        one false = refl
+
+    below : t c ≡ true → All (λ n. n < c.number) k.so_far
+    below passes =
+        All-from_recursion (λ n. n < c.number) k.so_far
+        (all_before 1 c.number k.so_far (left (after_of cs c))
+        (subst (Rises itself 1) (sym (whole true passes (after_of cs c) refl)) (rises_map itself number_of 1 (filter t cs) (rises_filter number_of t 1 cs (rows_rise 1 fresh cs rising)))))
+
+-- ---- what is pending of a group is cancelled
+
+-- what is left to cancel leads to where all of it leads, and none of it stands before the next
+pub record CancellingGroup (group : GroupId) (before now : Live) (next : Option CallbackRow) : Type 0 where
+  pub leads : settled_group now group true ≡ settled_group before group true
+  pub left : filter (is_cancelled_by (Group group) true) (rest number_of now.world.callbacks next) ≡ filter (is_cancelled_by (Group group) true) now.world.callbacks
+  pub among : IsAmong number_of now.world.callbacks next
+
+pub cancelling_group : (group : GroupId) (fresh : ℕ) (now : Live) (next : Option CallbackRow) → IsRising 1 fresh now.world.callbacks → next ≡ find (λ (c : CallbackRow). nat_lt 0 c.number) now.world.callbacks → CancellingGroup group now now next
+cancelling_group group fresh now next rising found =
+    let a = at_first fresh now.world.callbacks next rising found in
+    record { leads = refl; left = ap (filter (is_cancelled_by (Group group) true)) a.whole; among = a.among }
+
+-- where nothing is left, all of it is cancelled
+pub group_cancelled : (group : GroupId) (before now : Live) (next : Option CallbackRow) → next ≡ None → forget now.world ≡ now.world → CancellingGroup group before now next → now ≡ settled_group before group true
+group_cancelled group before now next ends living k =
+    let t : CallbackRow → Bool = is_cancelled_by (Group group) true in
+    let none : filter t now.world.callbacks ≡ [] = sym k.left ∙ ap (λ o. filter t (rest number_of now.world.callbacks o)) ends in
+    ap (λ w. record { world = w; made = now.made }) (sym living)
+    ∙ ap (λ cs. became now (record now.world { callbacks = cs })) (sym (none_where now.world.callbacks t (none_passes t now.world.callbacks none)))
+    ∙ k.leads
+
+pub record CancelsRow (group : GroupId) (before now : Live) (c : CallbackRow) (next : Option CallbackRow) : Type 0 where
+  pub at : RowAt now.world.callbacks c next
+  pub passed : is_cancelled_by (Group group) true c ≡ false → (after : Option CallbackRow) → after ≡ after_of now.world.callbacks c → CancellingGroup group before now after
+  pub cancels : is_cancelled_by (Group group) true c ≡ true → (after : Option CallbackRow) → after ≡ after_of now.world.callbacks c → (new : Live) → new ≡ became now (with_callback now.world (cancelled c)) → CancellingGroup group before new after
+  -- as much is left without it
+  pub same : (after : Option CallbackRow) → after ≡ after_of now.world.callbacks c → (new : Live) → new ≡ became now (with_callback now.world (cancelled c)) → rest number_of new.world.callbacks after ≡ rest number_of now.world.callbacks after
+
+module _ (group : GroupId) (fresh : ℕ) (now : Live) (c : CallbackRow) (rising : IsRising 1 fresh now.world.callbacks) (living : forget now.world ≡ now.world) where
+  abbrev cs : List CallbackRow
+  cs = now.world.callbacks
+
+  abbrev r : CallbackRow
+  r = cancelled c
+
+  abbrev t : CallbackRow → Bool
+  t = is_cancelled_by (Group group) true
+
+  abbrev others : CallbackRow → Bool
+  others x = not (has_number c.number x)
+
+  -- what is kept without it
+  kept : (new : Live) → new ≡ became now (with_callback now.world r) → new.world.callbacks ≡ filter others cs
+  kept new is = ap (λ (l : Live). l.world.callbacks) is ∙ filter_replaced_out lives r cs refl ∙ ap (λ (w : World). filter others w.callbacks) living
+
+  passing : (new : Live) → new ≡ became now (with_callback now.world r) → filter t new.world.callbacks ≡ filter others (filter t cs)
+  passing new is = ap (λ (l : Live). filter t l.world.callbacks) is ∙ filter_filter t lives (over_not_cancelled (Group group) true) (replaced r cs) ∙ filter_replaced_out t r cs refl
+
+  -- without it there is as much left to cancel, but for it
+  leads : t c ≡ true → find (has_number c.number) cs ≡ Some c → (new : Live) → new ≡ became now (with_callback now.world r) → settled_group new group true ≡ settled_group now group true
+  leads passes there new is =
+      ap (λ l. settled_group l group true) is
+      ∙ ap (λ ds. record { world = record now.world { callbacks = ds }; made = now.made }) (cancel_forget lives t (cancelled_pending (Group group) true) (λ x e. e) (replaced r cs) ∙ ap (filter lives) (each cs (found_all (λ x. x ≡ c) c.number c 1 fresh cs rising there refl)))
+    where
+      each : (ds : List CallbackRow) → AllByRecursion (λ x. has_number c.number x ≡ true → x ≡ c) ds → cancel_where t (replaced r ds) ≡ cancel_where t ds
+      each [] same = refl
+      each (d ∷ ds) same =
+          ap₂ (λ (x : CallbackRow) (xs : List CallbackRow). x ∷ xs)
+          (elim (has_number c.number d) as (λ b. has_number c.number d ≡ b → cancelled_if t (cond b r d) ≡ cancelled_if t d) [
+            | true ↦ λ e. sym (ap (λ (x : CallbackRow). cancelled_if t x) (same.0 e) ∙ ap (λ b. cond b (cancelled c) c) passes)
+            | false ↦ λ e. refl
+          ] refl)
+          (each ds same.1)
+
+  -- the next is behind it
+  behind : (after : Option CallbackRow) → after ≡ after_of cs c → (d : CallbackRow) → after ≡ Some d → c.number < d.number
+  behind after is d some = ltb-true c.number d.number (find_passes (λ (x : CallbackRow). nat_lt c.number x.number) d cs (sym is ∙ some))
+
+  same_rest : (after : Option CallbackRow) → after ≡ after_of cs c → (new : Live) → new ≡ became now (with_callback now.world r) → rest number_of new.world.callbacks after ≡ rest number_of cs after
+  same_rest after found new is = ap (λ xs. rest number_of xs after) (kept new is) ∙ rest_without number_of c.number cs after (behind after found)
+
+  still_among : (after : Option CallbackRow) → ((d : CallbackRow) → after ≡ Some d → c.number < d.number) → IsAmong number_of cs after → IsAmong number_of (filter others cs) after
+  still_among None past there = tt
+  still_among (Some d) past there = find_kept (λ (x : CallbackRow). x.number == d.number) others d (ap not (ne_eqb d.number c.number (λ same. omega (arith, same, past d refl)))) cs there
+
+  pub cancels_row : (before : Live) (next : Option CallbackRow) → next ≡ Some c → CancellingGroup group before now next → CancelsRow group before now c next
+  cancels_row before next is k =
+      record {
+        at = at;
+        passed = λ out after found. record {
+          leads = k.leads;
+          left = ap (λ b. cond b (c ∷ filter t (rest number_of cs after)) (filter t (rest number_of cs after))) (sym out) ∙ ap (filter t) (sym (at.step after found)) ∙ k.left;
+          among = at.among after found;
+        };
+        cancels = λ passes after found new becomes. record {
+          leads = leads passes at.found new becomes ∙ k.leads;
+          left = left passes after found new becomes;
+          among = subst (λ xs. IsAmong number_of xs after) (sym (kept new becomes)) (still_among after (behind after found) (at.among after found));
+        };
+        same = same_rest;
+      }
+    where
+      at : RowAt cs c next
+      at = row_at fresh cs c next rising is k.among
+
+      left : t c ≡ true → (after : Option CallbackRow) → after ≡ after_of cs c → (new : Live) → new ≡ became now (with_callback now.world r) → filter t (rest number_of new.world.callbacks after) ≡ filter t new.world.callbacks
+      left passes after found new becomes =
+          let tail : List CallbackRow = filter t (rest number_of cs after) in
+          let whole : c ∷ tail ≡ filter t cs = ap (λ b. cond b (c ∷ tail) tail) (sym passes) ∙ ap (filter t) (sym (at.step after found)) ∙ k.left in
+          ap (filter t) (same_rest after found new becomes)
+          ∙ sym (passing_without number_of c.number t cs after (behind after found))
+          ∙ ap (λ b. cond b (c ∷ filter others tail) (filter others tail)) (sym (ap not (eq-eqb c.number c.number refl)))
+          ∙ ap (filter others) whole
+          ∙ sym (passing new becomes)
+
+-- ---- how many a close covers, and how many it cancels
+
+-- what is cancelled is of the group
+pub cancelled_of_group : (group : GroupId) (c : CallbackRow) → is_cancelled_by (Group group) true c ≡ true → is_of_group group c ≡ true
+cancelled_of_group group c e = (both (is_pending c.status) (c.group.0 == group.0) e).1
+
+-- what it covers and what it cancels are all of the group
+pub covers_left : (group : GroupId) (cs : List CallbackRow) → filter lives cs ≡ cs
+    → length (covered_among (Group group) true (cancel_where (is_cancelled_by (Group group) true) cs)) + length (filter (is_cancelled_by (Group group) true) cs) ≡ length (filter (is_of_group group) cs)
+covers_left group cs living = ap (λ n. n + length (filter t cs)) (length-map (filter (is_covered_by (Group group) true) (cancel_where t cs)) number_of) ∙ each cs (subst (AllByRecursion (λ c. lives c ≡ true)) living (all_pass lives cs))
+  where
+    t : CallbackRow → Bool
+    t = is_cancelled_by (Group group) true
+
+    one : (b : Bool) (s : Status) → is_live s ≡ true → (x y z : CallbackRow) (xs ys zs : List CallbackRow) → length xs + length ys ≡ length zs
+        → length (cond (cond (is_pending s && b) (b && false) ((b && is_held_for (Group group) s) && (is_running s || true))) (x ∷ xs) xs) + length (cond (is_pending s && b) (y ∷ ys) ys) ≡ length (cond b (z ∷ zs) zs)
+    one true Expected live x y z xs ys zs e = omega (arith, e)
+    one false Expected live x y z xs ys zs e = e
+    one true Issued live x y z xs ys zs e = omega (arith, e)
+    one false Issued live x y z xs ys zs e = e
+    one true Pending live x y z xs ys zs e = omega (arith, e)
+    one false Pending live x y z xs ys zs e = e
+    one true (Running worker associated slots) live x y z xs ys zs e = omega (arith, e)
+    one false (Running worker associated slots) live x y z xs ys zs e = e
+    one b Returned live x y z xs ys zs e = absurd cc
+    one b Cancelled live x y z xs ys zs e = absurd cc
+
+    row : (d : CallbackRow) → is_covered_by (Group group) true (cond (t d) (cancelled d) d) ≡ cond (t d) ((d.group.0 == group.0) && false) (((d.group.0 == group.0) && is_held_for (Group group) d.status) && (is_running d.status || true))
+    row d = elim (t d) as (λ x. is_covered_by (Group group) true (cond x (cancelled d) d) ≡ cond x ((d.group.0 == group.0) && false) (((d.group.0 == group.0) && is_held_for (Group group) d.status) && (is_running d.status || true))) [ true ↦ none (d.group.0 == group.0) | false ↦ refl ]
+      where
+        none : (b : Bool) → ((b && false) && true) ≡ (b && false)
+        none true = refl
+        none false = refl
+
+    each : (ds : List CallbackRow) → AllByRecursion (λ c. lives c ≡ true) ds → length (filter (is_covered_by (Group group) true) (cancel_where t ds)) + length (filter t ds) ≡ length (filter (is_of_group group) ds)
+    each [] all = omega arith
+    each (d ∷ ds) all =
+        ap (λ b. length (cond b (cond (t d) (cancelled d) d ∷ filter (is_covered_by (Group group) true) (cancel_where t ds)) (filter (is_covered_by (Group group) true) (cancel_where t ds))) + length (filter t (d ∷ ds))) (row d)
+        ∙ one (d.group.0 == group.0) d.status all.0 (cond (t d) (cancelled d) d) d d _ _ _ (each ds all.1)
+
+-- without cancel all of them are covered, and none is cancelled
+pub covers_whole : (group : GroupId) (cs : List CallbackRow) → filter lives cs ≡ cs → length (covered_among (Group group) false (cancel_where (is_cancelled_by (Group group) false) cs)) ≡ length (filter (is_of_group group) cs)
+covers_whole group cs living =
+    ap (λ ds. length (covered_among (Group group) false ds)) (none_where cs (is_cancelled_by (Group group) false) (none cs))
+    ∙ length-map (filter (is_covered_by (Group group) false) cs) number_of
+    ∙ ap length (filter_alike (is_covered_by (Group group) false) (is_of_group group) cs (all_along (λ c. lives c ≡ true) (λ c. is_covered_by (Group group) false c ≡ is_of_group group c) one cs (subst (AllByRecursion (λ c. lives c ≡ true)) living (all_pass lives cs))))
+  where
+    none : (ds : List CallbackRow) → AllByRecursion (λ c. is_cancelled_by (Group group) false c ≡ false) ds
+    none [] = tt
+    none (d ∷ ds) = (refl, none ds)
+
+    held : (b : Bool) (s : Status) → is_live s ≡ true → ((b && is_held_for (Group group) s) && (is_running s || true)) ≡ b
+    held true Expected e = refl
+    held true Issued e = refl
+    held true Pending e = refl
+    held true (Running worker associated slots) e = refl
+    held true Returned e = absurd cc
+    held true Cancelled e = absurd cc
+    held false s e = refl
+
+    one : (c : CallbackRow) → lives c ≡ true → is_covered_by (Group group) false c ≡ is_of_group group c
+    one c live = held (c.group.0 == group.0) c.status live
+
+pub cancels_none_of : (group : GroupId) (cs : List CallbackRow) → filter (is_cancelled_by (Group group) false) cs ≡ []
+cancels_none_of group [] = refl
+cancels_none_of group (c ∷ cs) = cancels_none_of group cs

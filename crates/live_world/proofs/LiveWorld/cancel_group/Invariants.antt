@@ -1,0 +1,11 @@
+use Rattle.std.proofs.Common.{length}
+use Rattle.live_world.proofs.Walks.{rest}
+use Rattle.live_world.proofs.Along.{number_of}
+use Rattle.live_world.proofs.GroupWalks.{CancellingGroup}
+use Rattle.live_world.proofs.LiveWorld.cancel_group.Given as goal
+
+abbrev pub invariant-loop-next : goal.invariant-loop-next
+invariant-loop-next l = CancellingGroup l.fn.group l.fn.self l.self l.next
+
+abbrev pub decreases-loop-next : goal.decreases-loop-next
+decreases-loop-next l = length (rest number_of l.self.world.callbacks l.next)

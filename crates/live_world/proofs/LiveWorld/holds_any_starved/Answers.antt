@@ -1,0 +1,40 @@
+use Rattle.std.proofs.Common.{false, find, nat_lt, slice_get, sym, ap, subst, ◌∙◌}
+use Rattle.std.specs.List.Sorted.{IsStrictlyIncreasing}
+use Rattle.std.specs.Option.{option_map_or}
+use Rattle.tp_model.specs.Counts.{callback_of}
+use Rattle.tp_model.specs.Calls.Waits.{is_starved}
+use Rattle.live_world.specs.Waiting.{held_by}
+use Rattle.live_world.proofs.Looking.{LooksAt, looking_at, looks_at, rises_strictly}
+use Rattle.live_world.proofs.Progress.{covered_is}
+use Rattle.live_world.proofs.Starving.{not_starved}
+use Rattle.live_world.proofs.LiveWorld.holds_any_starved.Goals as goal
+use Rattle.live_world.proofs.LiveWorld.holds_any_starved.Goals.{In-Some}
+
+one : (c : In-Some) → LooksAt (λ n. option_map_or (is_starved c.args.self.now.world c.args.room) (callback_of c.args.self.now.world n) false) (held_by c.args.self.now.world c.args.who) c.in-Some.number c.loop-next.next
+one c =
+    looks_at (λ n. option_map_or (is_starved c.args.self.now.world c.args.room) (callback_of c.args.self.now.world n) false) (held_by c.args.self.now.world c.args.who) c.in-Some.number c.loop-next.next
+    (rises_strictly (held_by c.args.self.now.world c.args.who) (subst IsStrictlyIncreasing (covered_is c.self.inside c.args.self.now c.args.who c.args.waiter c.self.view_is c.self.invariant c.requires) c.least-next.ensures.rises))
+    c.in-Some.is c.loop-next.invariant
+
+pub returns-then-room-ge4 : goal.returns-then-room-ge4
+returns-then-room-ge4 c = sym (not_starved c.args.self.now.world c.args.room (held_by c.args.self.now.world c.args.who) c.if-room-ge4.true)
+
+pub loop-next-init : goal.loop-next-init
+loop-next-init c =
+    let held_is = covered_is c.self.inside c.args.self.now c.args.who c.args.waiter c.self.view_is c.self.invariant c.requires in
+    looking_at (λ n. option_map_or (is_starved c.args.self.now.world c.args.room) (callback_of c.args.self.now.world n) false) (held_by c.args.self.now.world c.args.who) c.least-next.result
+    (rises_strictly (held_by c.args.self.now.world c.args.who) (subst IsStrictlyIncreasing held_is c.least-next.ensures.rises))
+    (c.least-next.ensures.value ∙ ap (λ ns. slice_get ns 0) held_is)
+
+pub returns-then-starves : goal.returns-then-starves
+returns-then-starves c = sym ((one (goal.at.returns-then-starves c).In-Some).passes (sym c.starves.ensures ∙ c.if-starves.true))
+
+pub loop-next-smaller : goal.loop-next-smaller
+loop-next-smaller c =
+    (one (goal.at.loop-next-smaller c).In-Some).later c.after-next.result
+    (c.after-next.ensures ∙ ap (find (λ m. nat_lt c.in-Some.number m)) (covered_is c.self.inside c.args.self.now c.args.who c.args.waiter c.self.view_is c.self.invariant c.requires))
+
+pub loop-next-preserved : goal.loop-next-preserved
+loop-next-preserved c =
+    (one (goal.at.loop-next-preserved c).In-Some).others (sym c.starves.ensures ∙ c.if-starves.false) c.after-next.result
+    (c.after-next.ensures ∙ ap (find (λ m. nat_lt c.in-Some.number m)) (covered_is c.self.inside c.args.self.now c.args.who c.args.waiter c.self.view_is c.self.invariant c.requires))

@@ -1,0 +1,9 @@
+//! Tests of `pool_book` and `tp_report`, in a crate of their own: a crate that has tests is proved again for
+//! them.
+
+#![tactic(auto)]
+
+#[cfg(test)]
+mod books;
+#[cfg(test)]
+mod reports;

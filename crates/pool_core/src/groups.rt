@@ -1,0 +1,123 @@
+//! Cleanup groups: `CreateThreadpoolCleanupGroup`, `CloseThreadpoolCleanupGroup` and
+//! `CloseThreadpoolCleanupGroupMembers`. BeginClose is the entry of the last, and End its return.
+
+ghost use Rattle.pool_core.specs.Decided.{decided};
+ghost use Rattle.std.specs.Option.{unwrap_or};
+ghost use Rattle.std.specs.Prelude.{◌≡◌};
+ghost use Rattle.tp_model.specs.Groups.{object_id};
+ghost use Rattle.tp_model.specs.Calls.Groups.{create_group_plan, close_group_plan, begin_close_plan};
+
+use crate::decisions::{Decision, accept};
+use crate::refusals::{either, first_of, group_refusal};
+use live_world::LiveWorld;
+use tp_base::answers::{Answer, Refusal};
+use tp_base::ids::{GroupId, ObjectId, Who};
+use tp_base::plans::Change;
+
+// The object of this number, or with none object 0.
+fn object_or_none(object: Option<u32>) -> ObjectId
+    ensures { result ≡ object_id (unwrap_or object 0) }
+{
+    ObjectId(object.unwrap_or(0))
+}
+
+/// Makes a group.
+#[tactic(auto, unfolding(tp_model::specs::Calls::Groups::create_group_plan))]
+pub(crate) fn create_group(world: &LiveWorld, who: Who, change: &mut Change) -> Decision
+    ensures { decided result change.new ≡ create_group_plan world.now.world who }
+{
+    let actor = world.actor(who);
+    let refusal = first_of!([
+        (!actor.exists, Refusal::NoSuch),
+        (actor.finished, Refusal::Released),
+        (actor.is_idle, Refusal::NotRunning),
+        (actor.in_wait, Refusal::InWait),
+        (world.lacks_group(), Refusal::ObjectLimit),
+    ]);
+    if let Some(refusal) = refusal {
+        return Decision::Refused(refusal);
+    }
+    accept(
+        change,
+        Answer::Made {
+            number: world.next_group(),
+        },
+        Change::CreateGroup,
+    )
+}
+
+/// Closes a group that has no member, and for which no simple callback is outstanding.
+#[tactic(auto, unfolding(tp_model::specs::Calls::Groups::close_group_plan))]
+pub(crate) fn close_group(
+    world: &LiveWorld,
+    who: Who,
+    group: GroupId,
+    change: &mut Change,
+) -> Decision
+    ensures { decided result change.new ≡ close_group_plan world.now.world who group }
+{
+    let refusal = group_refusal!(
+        world,
+        who,
+        group,
+        [(
+            either(world.first_member(group).is_some(), world.has_simple(group)),
+            Refusal::HasMembers {
+                object: object_or_none(world.first_member(group))
+            }
+        )]
+    );
+    if let Some(refusal) = refusal {
+        return Decision::Refused(refusal);
+    }
+    accept(change, Answer::Done, Change::CloseGroup { group })
+}
+
+/// Releases the members of a group, and begins a wait for its callbacks, those that are pending
+/// cancelled or not. With cancel the wait gives a notice of each member that has a cancel routine.
+#[tactic(auto, unfolding(tp_model::specs::Calls::Groups::begin_close_plan))]
+pub(crate) fn begin_close(
+    world: &LiveWorld,
+    who: Who,
+    group: GroupId,
+    cancel: bool,
+    context: u64,
+    change: &mut Change,
+) -> Decision
+    ensures { decided result change.new ≡ begin_close_plan world.now.world who group cancel context }
+{
+    let refusal = group_refusal!(
+        world,
+        who,
+        group,
+        [
+            (world.runs_in_group(who, group), Refusal::OwnCallback),
+            (
+                world.first_operating(group).is_some(),
+                Refusal::OperationsOutstanding {
+                    io: object_or_none(world.first_operating(group))
+                }
+            ),
+        ]
+    );
+    if let Some(refusal) = refusal {
+        return Decision::Refused(refusal);
+    }
+    let counts = world.close_counts(group, cancel);
+    let notices = world.count_notices(group, cancel);
+    accept(
+        change,
+        Answer::Closing {
+            covered: counts.covered,
+            cancelled: counts.cancelled,
+            notices,
+        },
+        Change::BeginClose {
+            who,
+            group,
+            cancel,
+            context,
+            notices,
+        },
+    )
+}

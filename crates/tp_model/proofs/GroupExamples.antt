@@ -1,0 +1,494 @@
+-- Cleanup groups in small plays, by computation alone; and histories that the laws Closed and Notices refuse.
+use Rattle.std.proofs.Common.{◌≡◌, ℕ, List, [], ◌∷◌, refl, true, false, Some, Bool, ap}
+use Rattle.std.specs.Prelude.{negsuc}
+use Rattle.tp_base.specs.declared.ids.Who.TheVariants.{Client, Worker}
+use Rattle.tp_base.specs.declared.calls.Priority.TheVariants.{Normal}
+use Rattle.tp_base.specs.declared.calls.Kind.TheVariants.{Work, Timer, Wait, Io}
+use Rattle.tp_base.specs.declared.calls.Lock.TheVariants as lock
+use Rattle.tp_base.specs.declared.answers.ActionKind.TheVariants as kind
+use Rattle.tp_base.specs.declared.answers.SlotWord.TheVariants as slot
+use Rattle.tp_base.specs.declared.answers.SlotWord.TheVariants.{Unasked}
+use Rattle.tp_base.specs.declared.calls.Call.TheVariants as call
+use Rattle.tp_base.specs.declared.calls.Environ.{Environ}
+use Rattle.tp_base.specs.declared.answers.Outcome.TheVariants as outcome
+use Rattle.tp_base.specs.declared.answers.Look.TheVariants as look
+use Rattle.tp_base.specs.declared.answers.Answer.TheVariants as answer
+use Rattle.tp_base.specs.declared.answers.TakeResult.TheVariants as result
+use Rattle.tp_base.specs.declared.answers.TakeResult.TheVariants.{Plain}
+use Rattle.tp_base.specs.declared.answers.Refusal.TheVariants as refusal
+use Rattle.tp_base.specs.declared.limits.Limits.{Limits}
+use Rattle.tp_model.specs.Calls.Groups.{create_group_plan, close_group_plan, begin_close_plan}
+use Rattle.tp_model.specs.Calls.Objects.{create_plan, close_object_plan}
+use Rattle.tp_model.specs.Calls.Work.{submit_work_plan, submit_simple_plan}
+use Rattle.tp_model.specs.Calls.Io.{start_io_plan, issue_io_plan, cancel_io_plan, complete_io_plan}
+use Rattle.tp_model.specs.Calls.Workers.{attach_plan, take_plan, return_plan}
+use Rattle.tp_model.specs.Calls.Waits.{begin_wait_plan, end_plan}
+use Rattle.tp_model.specs.Calls.InCallback.{disassociate_plan}
+use Rattle.tp_model.specs.Calls.Kernels.{create_event_plan, set_event_plan}
+use Rattle.tp_model.specs.Calls.Timers.{set_timer_plan, advance_plan}
+use Rattle.tp_model.specs.Calls.WaitObjects.{set_wait_plan}
+use Rattle.tp_model.specs.Calls.Clients.{finish_plan}
+use Rattle.tp_model.specs.History.{play}
+use Rattle.tp_base.specs.declared.answers.Entry.{Entry}
+use Rattle.tp_base.specs.declared.calls.Call.{Call}
+use Rattle.tp_base.specs.declared.answers.Answer.{Answer}
+use Rattle.tp_model.specs.Laws.Entries.{Notice, Begins, Run}
+use Rattle.tp_model.specs.Laws.Covered.{AreClosed}
+use Rattle.tp_model.specs.Laws.Notices.{AreNoticed, IsFront, notices_due}
+use Rattle.tp_model.proofs.Places.{no_place}
+use Rattle.tp_base.specs.declared.rows.WaitTarget.TheVariants.{Group}
+
+limits : Limits
+limits = record { clients = 3; workers = 4; pools = 64; groups = 255; objects = 4095; kernels = 1024; slots = 8192 }
+
+plain : Environ
+plain = record { pool = record { 0 = 0 }; group = record { 0 = 0 }; cancel = record { 0 = 0 }; priority = Normal; long = false }
+
+-- a callback that was disassociated is waited for by a close of its group, and by no wait for its object
+disassociated : play limits 65536
+    (((Client 1), call.CreateGroup)
+    ∷ ((Client 1), (call.Create Work (record { 0 = 1 }) 0 (record { pool = record { 0 = 0 }; group = record { 0 = 1 }; cancel = record { 0 = 2 }; priority = Normal; long = false })))
+    ∷ ((Client 1), (call.SubmitWork (record { 0 = 1 })))
+    ∷ ((Worker 1), call.Attach)
+    ∷ ((Worker 1), call.Take)
+    ∷ ((Client 1), (call.BeginWait Work (record { 0 = 1 }) false))
+    ∷ ((Worker 1), call.Disassociate)
+    ∷ ((Client 1), call.End)
+    ∷ ((Client 1), (call.BeginClose (record { 0 = 1 }) false 0))
+    ∷ ((Client 1), call.End)
+    ∷ ((Worker 1), call.Return)
+    ∷ ((Client 1), call.End) ∷ [])
+    ≡ outcome.Done (answer.Made 1)
+    ∷ outcome.Done (answer.Made 1)
+    ∷ outcome.Done (answer.Queued 1 1)
+    ∷ outcome.Done (answer.Attached (record { 0 = 0 }))
+    ∷ outcome.Done (answer.Taken 1 (record { 0 = 1 }) (record { 0 = 1 }) 0 Plain)
+    ∷ outcome.Done (answer.Begun 1 0)
+    ∷ outcome.Done answer.Done
+    ∷ outcome.Done answer.Ended
+    ∷ outcome.Done (answer.Closing 1 0 0)
+    ∷ outcome.Look (look.NotYet 1)
+    ∷ outcome.Done (answer.Returned Unasked Unasked Unasked Unasked 0 0)
+    ∷ outcome.Done answer.Ended ∷ []
+unfolding limits plain create_group_plan create_plan submit_work_plan attach_plan take_plan begin_wait_plan disassociate_plan end_plan begin_close_plan return_plan
+disassociated = refl
+
+-- a close with cancel cancels what is pending, and gives a notice of each member, also of one that runs nothing, once nothing that it covers is outstanding
+with_cancel : play limits 65536
+    (((Client 1), call.CreateGroup)
+    ∷ ((Client 1), (call.Create Work (record { 0 = 1 }) 11 (record { pool = record { 0 = 0 }; group = record { 0 = 1 }; cancel = record { 0 = 9 }; priority = Normal; long = false })))
+    ∷ ((Client 1), (call.Create Work (record { 0 = 1 }) 12 (record { pool = record { 0 = 0 }; group = record { 0 = 1 }; cancel = record { 0 = 9 }; priority = Normal; long = false })))
+    ∷ ((Client 1), (call.Create Work (record { 0 = 1 }) 13 (record { pool = record { 0 = 0 }; group = record { 0 = 1 }; cancel = record { 0 = 9 }; priority = Normal; long = false })))
+    ∷ ((Client 1), (call.SubmitWork (record { 0 = 1 })))
+    ∷ ((Worker 1), call.Attach)
+    ∷ ((Worker 1), call.Take)
+    ∷ ((Client 1), (call.SubmitWork (record { 0 = 2 })))
+    ∷ ((Client 1), (call.CloseObject Work (record { 0 = 3 })))
+    ∷ ((Client 1), (call.BeginClose (record { 0 = 1 }) true 5))
+    ∷ ((Client 1), call.End)
+    ∷ ((Worker 1), call.Return)
+    ∷ ((Client 1), call.End)
+    ∷ ((Client 1), call.End)
+    ∷ ((Client 1), call.End)
+    ∷ ((Client 1), (call.SubmitWork (record { 0 = 1 })))
+    ∷ ((Client 1), (call.CloseGroup (record { 0 = 1 }))) ∷ [])
+    ≡ outcome.Done (answer.Made 1)
+    ∷ outcome.Done (answer.Made 1)
+    ∷ outcome.Done (answer.Made 2)
+    ∷ outcome.Done (answer.Made 3)
+    ∷ outcome.Done (answer.Queued 1 1)
+    ∷ outcome.Done (answer.Attached (record { 0 = 0 }))
+    ∷ outcome.Done (answer.Taken 1 (record { 0 = 1 }) (record { 0 = 1 }) 11 Plain)
+    ∷ outcome.Done (answer.Queued 2 1)
+    ∷ outcome.Done (answer.Closed false)
+    ∷ outcome.Done (answer.Closing 1 1 2)
+    ∷ outcome.Look (look.NotYet 1)
+    ∷ outcome.Done (answer.Returned Unasked Unasked Unasked Unasked 0 0)
+    ∷ outcome.Done (answer.Notice (record { 0 = 1 }) (record { 0 = 9 }) 11 5)
+    ∷ outcome.Done (answer.Notice (record { 0 = 2 }) (record { 0 = 9 }) 12 5)
+    ∷ outcome.Done answer.Ended
+    ∷ outcome.Done (answer.Refused refusal.Released)
+    ∷ outcome.Done answer.Done ∷ []
+unfolding limits plain create_group_plan create_plan submit_work_plan attach_plan take_plan close_object_plan begin_close_plan end_plan return_plan close_group_plan
+with_cancel = refl
+
+-- of two closes at once the second finds no member, and waits for the same callbacks; neither is for what is made later
+two_closers : play limits 65536
+    (((Client 1), call.CreateGroup)
+    ∷ ((Client 1), (call.Create Work (record { 0 = 1 }) 1 (record { pool = record { 0 = 0 }; group = record { 0 = 1 }; cancel = record { 0 = 9 }; priority = Normal; long = false })))
+    ∷ ((Client 1), (call.Create Work (record { 0 = 1 }) 2 (record { pool = record { 0 = 0 }; group = record { 0 = 1 }; cancel = record { 0 = 9 }; priority = Normal; long = false })))
+    ∷ ((Client 1), (call.SubmitWork (record { 0 = 1 })))
+    ∷ ((Worker 1), call.Attach)
+    ∷ ((Worker 1), call.Take)
+    ∷ ((Client 1), (call.CloseObject Work (record { 0 = 1 })))
+    ∷ ((Client 1), (call.BeginClose (record { 0 = 1 }) true 1))
+    ∷ ((Client 2), (call.BeginClose (record { 0 = 1 }) true 2))
+    ∷ ((Client 3), (call.Create Work (record { 0 = 1 }) 3 (record { pool = record { 0 = 0 }; group = record { 0 = 1 }; cancel = record { 0 = 9 }; priority = Normal; long = false })))
+    ∷ ((Client 2), call.End)
+    ∷ ((Worker 1), call.Return)
+    ∷ ((Client 2), call.End)
+    ∷ ((Client 1), call.End)
+    ∷ ((Client 1), call.End)
+    ∷ ((Client 3), (call.CloseGroup (record { 0 = 1 }))) ∷ [])
+    ≡ outcome.Done (answer.Made 1)
+    ∷ outcome.Done (answer.Made 1)
+    ∷ outcome.Done (answer.Made 2)
+    ∷ outcome.Done (answer.Queued 1 1)
+    ∷ outcome.Done (answer.Attached (record { 0 = 0 }))
+    ∷ outcome.Done (answer.Taken 1 (record { 0 = 1 }) (record { 0 = 1 }) 1 Plain)
+    ∷ outcome.Done (answer.Closed true)
+    ∷ outcome.Done (answer.Closing 1 0 1)
+    ∷ outcome.Done (answer.Closing 1 0 0)
+    ∷ outcome.Done (answer.Made 3)
+    ∷ outcome.Look (look.NotYet 1)
+    ∷ outcome.Done (answer.Returned Unasked Unasked Unasked Unasked 0 0)
+    ∷ outcome.Done answer.Ended
+    ∷ outcome.Done (answer.Notice (record { 0 = 2 }) (record { 0 = 9 }) 2 1)
+    ∷ outcome.Done answer.Ended
+    ∷ outcome.Done (answer.Refused (refusal.HasMembers (record { 0 = 3 }))) ∷ []
+unfolding limits plain create_group_plan create_plan submit_work_plan attach_plan take_plan close_object_plan begin_close_plan end_plan return_plan close_group_plan
+two_closers = refl
+
+-- a group that has a member is not closed, and a closed one gets none
+a_member : play limits 65536
+    (((Client 1), call.CreateGroup)
+    ∷ ((Client 1), (call.Create Timer (record { 0 = 1 }) 0 (record { pool = record { 0 = 0 }; group = record { 0 = 1 }; cancel = record { 0 = 0 }; priority = Normal; long = false })))
+    ∷ ((Client 1), (call.CloseGroup (record { 0 = 1 })))
+    ∷ ((Client 1), (call.CloseObject Timer (record { 0 = 1 })))
+    ∷ ((Client 1), (call.CloseGroup (record { 0 = 1 })))
+    ∷ ((Client 1), (call.Create Work (record { 0 = 1 }) 0 (record { pool = record { 0 = 0 }; group = record { 0 = 1 }; cancel = record { 0 = 0 }; priority = Normal; long = false }))) ∷ [])
+    ≡ outcome.Done (answer.Made 1)
+    ∷ outcome.Done (answer.Made 1)
+    ∷ outcome.Done (answer.Refused (refusal.HasMembers (record { 0 = 1 })))
+    ∷ outcome.Done (answer.Closed false)
+    ∷ outcome.Done answer.Done
+    ∷ outcome.Done (answer.Refused refusal.GroupClosed) ∷ []
+unfolding limits plain create_group_plan create_plan close_group_plan close_object_plan
+a_member = refl
+
+-- a simple callback of a group is a member as long as it is outstanding, and gets no notice
+simple : play limits 65536
+    (((Client 1), call.CreateGroup)
+    ∷ ((Client 1), (call.SubmitSimple (record { 0 = 4 }) 8 (record { pool = record { 0 = 0 }; group = record { 0 = 1 }; cancel = record { 0 = 2 }; priority = Normal; long = false })))
+    ∷ ((Client 1), (call.CloseGroup (record { 0 = 1 })))
+    ∷ ((Client 1), (call.BeginClose (record { 0 = 1 }) true 0))
+    ∷ ((Client 1), call.End)
+    ∷ ((Client 1), (call.CloseGroup (record { 0 = 1 }))) ∷ [])
+    ≡ outcome.Done (answer.Made 1)
+    ∷ outcome.Done (answer.Queued 1 1)
+    ∷ outcome.Done (answer.Refused (refusal.HasMembers (record { 0 = 0 })))
+    ∷ outcome.Done (answer.Closing 0 1 0)
+    ∷ outcome.Done answer.Ended
+    ∷ outcome.Done answer.Done ∷ []
+unfolding limits plain create_group_plan submit_simple_plan close_group_plan begin_close_plan end_plan
+simple = refl
+
+-- a callback does not close its own group, disassociated or not
+own_group : play limits 65536
+    (((Client 1), call.CreateGroup)
+    ∷ ((Client 1), (call.Create Work (record { 0 = 1 }) 0 (record { pool = record { 0 = 0 }; group = record { 0 = 1 }; cancel = record { 0 = 0 }; priority = Normal; long = false })))
+    ∷ ((Client 1), (call.SubmitWork (record { 0 = 1 })))
+    ∷ ((Worker 1), call.Attach)
+    ∷ ((Worker 1), call.Take)
+    ∷ ((Worker 1), (call.BeginClose (record { 0 = 1 }) false 0))
+    ∷ ((Worker 1), call.Disassociate)
+    ∷ ((Worker 1), (call.BeginClose (record { 0 = 1 }) false 0))
+    ∷ ((Worker 1), (call.CloseGroup (record { 0 = 1 })))
+    ∷ ((Client 1), (call.BeginClose (record { 0 = 2 }) false 0))
+    ∷ ((Client 1), (call.BeginClose (record { 0 = 0 }) false 0)) ∷ [])
+    ≡ outcome.Done (answer.Made 1)
+    ∷ outcome.Done (answer.Made 1)
+    ∷ outcome.Done (answer.Queued 1 1)
+    ∷ outcome.Done (answer.Attached (record { 0 = 0 }))
+    ∷ outcome.Done (answer.Taken 1 (record { 0 = 1 }) (record { 0 = 1 }) 0 Plain)
+    ∷ outcome.Done (answer.Refused refusal.OwnCallback)
+    ∷ outcome.Done answer.Done
+    ∷ outcome.Done (answer.Refused refusal.OwnCallback)
+    ∷ outcome.Done (answer.Refused (refusal.HasMembers (record { 0 = 1 })))
+    ∷ outcome.Done (answer.Refused refusal.NoSuch)
+    ∷ outcome.Done (answer.Refused refusal.NoSuch) ∷ []
+unfolding limits plain create_group_plan create_plan submit_work_plan attach_plan take_plan begin_close_plan disassociate_plan close_group_plan
+own_group = refl
+
+-- a close without cancel leaves what is pending, covers it, and gives no notice; a member that was closed before is covered too
+kept : play limits 65536
+    (((Client 1), call.CreateGroup)
+    ∷ ((Client 1), (call.Create Work (record { 0 = 1 }) 1 (record { pool = record { 0 = 0 }; group = record { 0 = 1 }; cancel = record { 0 = 9 }; priority = Normal; long = false })))
+    ∷ ((Client 1), (call.Create Work (record { 0 = 2 }) 2 (record { pool = record { 0 = 0 }; group = record { 0 = 1 }; cancel = record { 0 = 9 }; priority = Normal; long = false })))
+    ∷ ((Client 1), (call.SubmitWork (record { 0 = 1 })))
+    ∷ ((Client 1), (call.SubmitWork (record { 0 = 2 })))
+    ∷ ((Client 1), (call.CloseObject Work (record { 0 = 2 })))
+    ∷ ((Client 1), (call.BeginClose (record { 0 = 1 }) false 0))
+    ∷ ((Client 1), call.End)
+    ∷ ((Worker 1), call.Attach)
+    ∷ ((Worker 1), call.Take)
+    ∷ ((Worker 1), call.Return)
+    ∷ ((Worker 1), call.Take)
+    ∷ ((Worker 1), call.Return)
+    ∷ ((Client 1), call.End) ∷ [])
+    ≡ outcome.Done (answer.Made 1)
+    ∷ outcome.Done (answer.Made 1)
+    ∷ outcome.Done (answer.Made 2)
+    ∷ outcome.Done (answer.Queued 1 1)
+    ∷ outcome.Done (answer.Queued 2 1)
+    ∷ outcome.Done (answer.Closed true)
+    ∷ outcome.Done (answer.Closing 2 0 0)
+    ∷ outcome.Look (look.NotYet 1)
+    ∷ outcome.Done (answer.Attached (record { 0 = 0 }))
+    ∷ outcome.Done (answer.Taken 1 (record { 0 = 1 }) (record { 0 = 1 }) 1 Plain)
+    ∷ outcome.Done (answer.Returned Unasked Unasked Unasked Unasked 0 0)
+    ∷ outcome.Done (answer.Taken 2 (record { 0 = 2 }) (record { 0 = 2 }) 2 Plain)
+    ∷ outcome.Done (answer.Returned Unasked Unasked Unasked Unasked 0 0)
+    ∷ outcome.Done answer.Ended ∷ []
+unfolding limits plain create_group_plan create_plan submit_work_plan close_object_plan begin_close_plan end_plan attach_plan take_plan return_plan
+kept = refl
+
+-- a close unsets timers and disarms waits
+sources : play limits 65536
+    (((Client 1), call.CreateGroup)
+    ∷ ((Client 1), (call.Create Timer (record { 0 = 1 }) 1 (record { pool = record { 0 = 0 }; group = record { 0 = 1 }; cancel = record { 0 = 0 }; priority = Normal; long = false })))
+    ∷ ((Client 1), (call.Create Wait (record { 0 = 2 }) 2 (record { pool = record { 0 = 0 }; group = record { 0 = 1 }; cancel = record { 0 = 3 }; priority = Normal; long = false })))
+    ∷ ((Client 1), (call.CreateEvent false false))
+    ∷ ((Client 1), (call.SetTimer (record { 0 = 1 }) (Some (negsuc 99)) 0 0))
+    ∷ ((Client 1), (call.SetWait (record { 0 = 2 }) (Some (record { 0 = 1 })) (Some (negsuc 99))))
+    ∷ ((Client 1), (call.BeginClose (record { 0 = 1 }) true 7))
+    ∷ ((Client 1), call.End)
+    ∷ ((Client 1), call.End)
+    ∷ ((Client 1), (call.SetEvent (record { 0 = 1 })))
+    ∷ ((Client 1), (call.Advance 200)) ∷ [])
+    ≡ outcome.Done (answer.Made 1)
+    ∷ outcome.Done (answer.Made 1)
+    ∷ outcome.Done (answer.Made 2)
+    ∷ outcome.Done (answer.Made 1)
+    ∷ outcome.Done (answer.Queued 0 0)
+    ∷ outcome.Done (answer.Queued 0 0)
+    ∷ outcome.Done (answer.Closing 0 0 1)
+    ∷ outcome.Done (answer.Notice (record { 0 = 2 }) (record { 0 = 3 }) 2 7)
+    ∷ outcome.Done answer.Ended
+    ∷ outcome.Done (answer.Queued 0 0)
+    ∷ outcome.Done (answer.Advanced 200 0 0) ∷ []
+unfolding limits plain create_group_plan create_plan create_event_plan set_timer_plan set_wait_plan begin_close_plan end_plan set_event_plan advance_plan
+sources = refl
+
+-- a member with an operation under way is not closed with its group; the least such is named
+operations : play limits 65536
+    (((Client 1), call.CreateGroup)
+    ∷ ((Client 1), (call.Create Work (record { 0 = 1 }) 0 (record { pool = record { 0 = 0 }; group = record { 0 = 1 }; cancel = record { 0 = 0 }; priority = Normal; long = false })))
+    ∷ ((Client 1), (call.Create Io (record { 0 = 1 }) 0 (record { pool = record { 0 = 0 }; group = record { 0 = 1 }; cancel = record { 0 = 4 }; priority = Normal; long = false })))
+    ∷ ((Client 1), (call.Create Io (record { 0 = 1 }) 5 (record { pool = record { 0 = 0 }; group = record { 0 = 1 }; cancel = record { 0 = 4 }; priority = Normal; long = false })))
+    ∷ ((Client 1), (call.StartIo (record { 0 = 3 })))
+    ∷ ((Client 1), (call.StartIo (record { 0 = 2 })))
+    ∷ ((Client 1), (call.BeginClose (record { 0 = 1 }) true 0))
+    ∷ ((Client 1), (call.CancelIo (record { 0 = 2 })))
+    ∷ ((Client 1), (call.BeginClose (record { 0 = 1 }) true 0))
+    ∷ ((Client 1), (call.IssueIo (record { 0 = 3 })))
+    ∷ ((Client 1), (call.CompleteIo 1 0 4))
+    ∷ ((Client 1), (call.BeginClose (record { 0 = 1 }) true 0))
+    ∷ ((Client 1), call.End)
+    ∷ ((Client 1), call.End)
+    ∷ ((Client 1), call.End) ∷ [])
+    ≡ outcome.Done (answer.Made 1)
+    ∷ outcome.Done (answer.Made 1)
+    ∷ outcome.Done (answer.Made 2)
+    ∷ outcome.Done (answer.Made 3)
+    ∷ outcome.Done (answer.Started 1)
+    ∷ outcome.Done (answer.Started 2)
+    ∷ outcome.Done (answer.Refused (refusal.OperationsOutstanding (record { 0 = 2 })))
+    ∷ outcome.Done (answer.Cancelled 2)
+    ∷ outcome.Done (answer.Refused (refusal.OperationsOutstanding (record { 0 = 3 })))
+    ∷ outcome.Done (answer.Operation 1)
+    ∷ outcome.Done (answer.Queued 1 1)
+    ∷ outcome.Done (answer.Closing 0 1 2)
+    ∷ outcome.Done (answer.Notice (record { 0 = 2 }) (record { 0 = 4 }) 0 0)
+    ∷ outcome.Done (answer.Notice (record { 0 = 3 }) (record { 0 = 4 }) 5 0)
+    ∷ outcome.Done answer.Ended ∷ []
+unfolding limits plain create_group_plan create_plan start_io_plan begin_close_plan cancel_io_plan issue_io_plan complete_io_plan end_plan
+operations = refl
+
+-- a close asks for room for its notices
+priced : play limits 9
+    (((Client 1), call.CreateGroup)
+    ∷ ((Client 1), (call.Create Work (record { 0 = 1 }) 0 (record { pool = record { 0 = 0 }; group = record { 0 = 1 }; cancel = record { 0 = 4 }; priority = Normal; long = false })))
+    ∷ ((Client 1), (call.Create Work (record { 0 = 1 }) 0 (record { pool = record { 0 = 0 }; group = record { 0 = 1 }; cancel = record { 0 = 4 }; priority = Normal; long = false })))
+    ∷ ((Client 1), (call.BeginClose (record { 0 = 1 }) true 0))
+    ∷ ((Client 1), (call.CloseObject Work (record { 0 = 1 })))
+    ∷ ((Client 1), (call.BeginClose (record { 0 = 1 }) true 0))
+    ∷ ((Client 1), (call.CloseObject Work (record { 0 = 2 })))
+    ∷ ((Client 1), (call.BeginClose (record { 0 = 1 }) true 0))
+    ∷ ((Client 1), call.Finish) ∷ [])
+    ≡ outcome.Done (answer.Made 1)
+    ∷ outcome.Done (answer.Made 1)
+    ∷ outcome.Done (answer.Made 2)
+    ∷ outcome.Full 3 4
+    ∷ outcome.Done (answer.Closed false)
+    ∷ outcome.Full 2 3
+    ∷ outcome.Done (answer.Closed false)
+    ∷ outcome.Full 1 2
+    ∷ outcome.Done answer.Done ∷ []
+unfolding limits plain create_group_plan create_plan begin_close_plan close_object_plan finish_plan
+priced = refl
+
+-- ---- the law Closed refuses
+
+in_group : Environ
+in_group = record { pool = record { 0 = 0 }; group = record { 0 = 1 }; cancel = record { 0 = 9 }; priority = Normal; long = false }
+
+client : ℕ → Call → Answer → Entry
+client n made told = record { who = Client n; call = made; answer = told }
+
+worker : ℕ → Call → Answer → Entry
+worker n made told = record { who = Worker n; call = made; answer = told }
+
+group_made : Entry
+unfolding client
+group_made = client 1 call.CreateGroup (answer.Made 1)
+
+made : ℕ → Entry
+unfolding client in_group
+made n = client 1 (call.Create Work (record { 0 = 1 }) 7 in_group) (answer.Made n)
+
+submitted : ℕ → Entry
+unfolding client
+submitted n = client 1 (call.SubmitWork (record { 0 = 1 })) (answer.Queued n 1)
+
+submitted_simple : ℕ → Entry
+unfolding client in_group
+submitted_simple n = client 1 (call.SubmitSimple (record { 0 = 1 }) 7 in_group) (answer.Queued n 1)
+
+closed : ℕ → Entry
+unfolding client
+closed n = client 1 (call.CloseObject Work (record { 0 = n })) (answer.Closed false)
+
+attached : Entry
+unfolding worker
+attached = worker 1 call.Attach (answer.Attached (record { 0 = 0 }))
+
+takes : ℕ → ℕ → Entry
+unfolding worker
+takes n object = worker 1 call.Take (answer.Taken n (record { 0 = object }) (record { 0 = 1 }) 7 Plain)
+
+loosened : Entry
+unfolding worker
+loosened = worker 1 call.Disassociate answer.Done
+
+closing : ℕ → Bool → Entry
+unfolding client
+closing n cancel = client n (call.BeginClose (record { 0 = 1 }) cancel 5) (answer.Closing 0 0 0)
+
+notice : ℕ → ℕ → ℕ → Entry
+unfolding client
+notice n object context = client n call.End (answer.Notice (record { 0 = object }) (record { 0 = 9 }) context 5)
+
+ended : ℕ → Entry
+unfolding client
+ended n = client n call.End answer.Ended
+
+begun : Bool → Begins
+begun cancel = record { target = Group (record { 0 = 1 }); cancel = cancel; cleanup = 5 }
+
+run : ℕ → ℕ → Run
+run n object = record { number = n; object = record { 0 = object } }
+
+-- a close that ended while a callback of a member was pending, which is taken later
+taken_later : AreClosed (group_made ∷ made 1 ∷ submitted 1 ∷ closing 1 false ∷ ended 1 ∷ attached ∷ takes 1 1 ∷ []) → true ≡ false
+unfolding group_made made submitted closing ended attached takes begun run client worker in_group
+taken_later law =
+    (law.at_each (group_made ∷ made 1 ∷ submitted 1 ∷ []) [] (attached ∷ takes 1 1 ∷ []) (closing 1 false) (ended 1) (begun false) refl refl refl refl refl refl).none_later
+    (attached ∷ []) [] (takes 1 1) (run 1 1) refl refl
+
+-- one that was made after the close, of a member that it released
+made_later : AreClosed (group_made ∷ made 1 ∷ closing 1 false ∷ ended 1 ∷ submitted 1 ∷ attached ∷ takes 1 1 ∷ []) → true ≡ false
+unfolding group_made made submitted closing ended attached takes begun run client worker in_group
+made_later law =
+    (law.at_each (group_made ∷ made 1 ∷ []) [] (submitted 1 ∷ attached ∷ takes 1 1 ∷ []) (closing 1 false) (ended 1) (begun false) refl refl refl refl refl refl).none_later
+    (submitted 1 ∷ attached ∷ []) [] (takes 1 1) (run 1 1) refl refl
+
+-- one of a member that was closed by itself, and that still runs, though it was disassociated
+still_running : AreClosed (group_made ∷ made 1 ∷ submitted 1 ∷ attached ∷ takes 1 1 ∷ loosened ∷ closed 1 ∷ closing 1 true ∷ ended 1 ∷ []) → false ≡ true
+unfolding group_made made submitted closed closing ended attached takes loosened begun run client worker in_group
+still_running law =
+    (law.at_each (group_made ∷ made 1 ∷ submitted 1 ∷ attached ∷ takes 1 1 ∷ loosened ∷ closed 1 ∷ []) [] [] (closing 1 true) (ended 1) (begun true) refl refl refl refl refl refl).let_go
+    (group_made ∷ made 1 ∷ submitted 1 ∷ attached ∷ []) (loosened ∷ closed 1 ∷ closing 1 true ∷ []) (takes 1 1) (run 1 1) refl refl refl
+
+-- a simple one that still runs
+simple_running : AreClosed (group_made ∷ submitted_simple 1 ∷ attached ∷ takes 1 0 ∷ closing 1 false ∷ ended 1 ∷ []) → false ≡ true
+unfolding group_made submitted_simple closing ended attached takes begun run client worker in_group
+simple_running law =
+    (law.at_each (group_made ∷ submitted_simple 1 ∷ attached ∷ takes 1 0 ∷ []) [] [] (closing 1 false) (ended 1) (begun false) refl refl refl refl refl refl).let_go
+    (group_made ∷ submitted_simple 1 ∷ attached ∷ []) (closing 1 false ∷ []) (takes 1 0) (run 1 0) refl refl refl
+
+-- and with cancel one that is taken while the close goes on
+taken_between : AreClosed (group_made ∷ made 1 ∷ submitted 1 ∷ attached ∷ closing 1 true ∷ takes 1 1 ∷ ended 1 ∷ []) → true ≡ false
+unfolding group_made made submitted closing ended attached takes begun run client worker in_group
+taken_between law =
+    (law.at_each (group_made ∷ made 1 ∷ submitted 1 ∷ attached ∷ []) (takes 1 1 ∷ []) [] (closing 1 true) (ended 1) (begun true) refl refl refl refl refl refl).none_between refl
+    [] [] (takes 1 1) (run 1 1) refl refl
+
+-- ---- the law Notices refuses
+
+told : ℕ → ℕ → Notice
+told object context = record { object = record { 0 = object }; routine = record { 0 = 9 }; context = context; cleanup = 5 }
+
+-- what is due: of three objects of the group one was closed
+three_made : notices_due (begun true) (group_made ∷ made 1 ∷ made 2 ∷ made 3 ∷ closed 2 ∷ []) ≡ told 1 7 ∷ told 3 7 ∷ []
+unfolding group_made made closed begun told client in_group
+three_made = refl
+
+-- a close that ends without the notice of a member
+not_given : AreNoticed (group_made ∷ made 1 ∷ closing 1 true ∷ ended 1 ∷ []) → ⊥
+unfolding group_made made closing ended begun client in_group
+not_given law = absurd (let none = law.all (group_made ∷ made 1 ∷ []) [] [] (closing 1 true) (ended 1) (begun true) refl refl refl refl refl in cc)
+
+abbrev nothing_front : (n : Notice) → IsFront (n ∷ []) [] → ⊥
+nothing_front n front = let e = front.split in cc
+
+-- one of an object that was closed
+of_closed : AreNoticed (group_made ∷ made 1 ∷ closed 1 ∷ closing 1 true ∷ notice 1 1 7 ∷ []) → ⊥
+unfolding group_made made closed closing notice begun told client in_group
+of_closed law = nothing_front (told 1 7) (law.first (group_made ∷ made 1 ∷ closed 1 ∷ []) (notice 1 1 7 ∷ []) [] (closing 1 true) (begun true) refl refl refl)
+
+-- one of a member that another close has released
+of_released : AreNoticed (group_made ∷ made 1 ∷ closing 1 true ∷ closing 2 true ∷ notice 2 1 7 ∷ []) → ⊥
+unfolding group_made made closing notice begun told client in_group
+of_released law = nothing_front (told 1 7) (law.first (group_made ∷ made 1 ∷ closing 1 true ∷ []) (notice 2 1 7 ∷ []) [] (closing 2 true) (begun true) refl refl refl)
+
+-- one of a member that was made after the close began
+of_later : AreNoticed (group_made ∷ closing 1 true ∷ made 1 ∷ notice 1 1 7 ∷ []) → ⊥
+unfolding group_made made closing notice begun told client in_group
+of_later law = nothing_front (told 1 7) (law.first (group_made ∷ []) (made 1 ∷ notice 1 1 7 ∷ []) [] (closing 1 true) (begun true) refl refl refl)
+
+-- one of a close without cancel
+without_cancel : AreNoticed (group_made ∷ made 1 ∷ closing 1 false ∷ notice 1 1 7 ∷ []) → ⊥
+unfolding group_made made closing notice begun told client in_group
+without_cancel law = nothing_front (told 1 7) (law.first (group_made ∷ made 1 ∷ []) (notice 1 1 7 ∷ []) [] (closing 1 false) (begun false) refl refl refl)
+
+-- one that is given twice
+given_twice : AreNoticed (group_made ∷ made 1 ∷ closing 1 true ∷ notice 1 1 7 ∷ notice 1 1 7 ∷ []) → ⊥
+unfolding group_made made closing notice begun told client in_group
+given_twice law = absurd (let e = (law.first (group_made ∷ made 1 ∷ []) (notice 1 1 7 ∷ notice 1 1 7 ∷ []) [] (closing 1 true) (begun true) refl refl refl).split in cc)
+
+abbrev first_of : List Notice → ℕ × ℕ
+first_of [] = (0, 0)
+first_of (n ∷ ns) = (n.object.0, n.context)
+
+-- with a context that the object was not made with
+other_context : AreNoticed (group_made ∷ made 1 ∷ closing 1 true ∷ notice 1 1 8 ∷ []) → ◌≡◌ {A = ℕ} 8 7
+unfolding group_made made closing notice begun told client in_group
+other_context law = ap (λ ns. (first_of ns).1) (law.first (group_made ∷ made 1 ∷ []) (notice 1 1 8 ∷ []) [] (closing 1 true) (begun true) refl refl refl).split
+
+-- not in order of creation
+out_of_order : AreNoticed (group_made ∷ made 1 ∷ made 2 ∷ closing 1 true ∷ notice 1 2 7 ∷ []) → ◌≡◌ {A = ℕ} 2 1
+unfolding group_made made closing notice begun told client in_group
+out_of_order law = ap (λ ns. (first_of ns).0) (law.first (group_made ∷ made 1 ∷ made 2 ∷ []) (notice 1 2 7 ∷ []) [] (closing 1 true) (begun true) refl refl refl).split
+
+-- while a callback of a member runs
+too_early : AreNoticed (group_made ∷ made 1 ∷ submitted 1 ∷ attached ∷ takes 1 1 ∷ closing 1 true ∷ notice 1 1 7 ∷ []) → false ≡ true
+unfolding group_made made submitted attached takes closing notice begun told run client worker in_group
+too_early law =
+    (law.settled (group_made ∷ made 1 ∷ submitted 1 ∷ attached ∷ takes 1 1 ∷ []) [] [] (closing 1 true) (notice 1 1 7) (begun true) (told 1 7) refl refl refl refl).let_go
+    (group_made ∷ made 1 ∷ submitted 1 ∷ attached ∷ []) (closing 1 true ∷ []) (takes 1 1) (run 1 1) refl refl refl
+
+-- and by who has begun no close
+by_no_closer : AreNoticed (notice 1 1 7 ∷ []) → ⊥
+unfolding notice told client
+by_no_closer law = let c = law.no_other [] [] (notice 1 1 7) (told 1 7) refl refl in no_place c.before c.begin c.between c.place
