@@ -1,7 +1,6 @@
 -- What is armed on a kernel object is counted along its list.
-use Rattle.std.proofs.Common.{◌≡◌, ℕ, ◌+◌, ◌<◌, ◌≤◌, nat_lt, Bool, true, false, List, [], ◌∷◌, All, length, slice_get, get_or, Option, Some, None, refl, sym, ap, ◌∙◌, subst, arith, ltb-true, ltb-false}
+use Rattle.std.proofs.Common.{◌≡◌, ℕ, ◌+◌, ◌≤◌, nat_lt, Bool, true, false, List, [], ◌∷◌, length, slice_get, Option, Some, None, refl, sym, ap, ◌∙◌, subst, arith, ltb-true, ltb-false}
 use Rattle.tp_base.specs.declared.ids.ObjectId.{ObjectId}
-use Rattle.tp_base.specs.declared.ids.KernelId.{KernelId}
 use Rattle.tp_base.specs.declared.rows.Arming.{Arming}
 use Rattle.kernel_events.specs.declared.links.Link.{Link}
 use Rattle.kernel_events.specs.declared.links.Ends.{Ends}

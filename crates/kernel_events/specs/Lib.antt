@@ -1,4 +1,5 @@
 pub mod Armed
+pub mod Calls
 pub mod Kept
 pub mod Kernels
 pub mod Linked

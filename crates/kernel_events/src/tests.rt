@@ -1,8 +1,9 @@
 //! Kernel objects that are made, changed and taken, and the waits that they release.
 
-use crate::KernelTable;
 use crate::states::{is_event, is_lock, is_semaphore, lock_made, may_take, owns, passes};
+use crate::{KernelKind, KernelTable};
 use std::test::Fail;
+use tp_base::answers::Refusal;
 use tp_base::calls::Lock;
 use tp_base::ids::{KernelId, ObjectId, Who};
 use tp_base::plans::KernelChange;
@@ -17,6 +18,11 @@ const EVENT: KernelId = KernelId(1);
 const SEMAPHORE: KernelId = KernelId(2);
 
 const LOCK: KernelId = KernelId(3);
+
+const SECTION: KernelId = KernelId(4);
+
+// One that is never made.
+const NONE: KernelId = KernelId(5);
 
 // Whether the worker may take a kernel object that was made.
 fn signalled(kernels: &KernelTable, kernel: KernelId) -> bool {
@@ -156,6 +162,171 @@ fn states_are_told_apart(rt: HostRuntime) -> Result<(), Fail> {
             may_take(CLIENT, section)
         ),
         (true, false, false)
+    );
+    Ok(())
+}
+
+#[test]
+fn a_semaphore_releases_as_many_as_its_count(rt: HostRuntime) -> Result<(), Fail> {
+    let mut kernels = KernelTable::open(rt.alloc(), 4, 8)?;
+    let semaphore = KernelId(1);
+    assert_eq!(rt; kernels.create_semaphore(0, 2), Ok(semaphore));
+    kernels.arm(ObjectId(5), semaphore);
+    kernels.arm(ObjectId(2), semaphore);
+    assert_eq!(rt; kernels.release_semaphore(semaphore, 1), Ok(0));
+    assert_eq!(rt; kernels.next_released(semaphore), Some(ObjectId(5)));
+    assert_eq!(rt; kernels.next_released(semaphore), None);
+    assert_eq!(rt;
+        kernels.release_semaphore(semaphore, 3),
+        Err(Refusal::OverMaximum { count: 0 })
+    );
+    assert_eq!(rt; kernels.set(semaphore), Err(Refusal::WrongKind));
+    Ok(())
+}
+
+#[test]
+fn no_more_are_made_than_the_limit_says(rt: HostRuntime) -> Result<(), Fail> {
+    let mut kernels = KernelTable::open(rt.alloc(), 2, 1)?;
+    assert_eq!(rt;
+        (
+            kernels.create_semaphore(3, 2),
+            kernels.create_semaphore(0, 0)
+        ),
+        (
+            Err(Refusal::OverMaximum { count: 3 }),
+            Err(Refusal::OverMaximum { count: 0 })
+        )
+    );
+    assert_eq!(rt; kernels.create_event(true, false), Ok(EVENT));
+    assert_eq!(rt; kernels.create_semaphore(2, 2), Ok(SEMAPHORE));
+    assert_eq!(rt;
+        (
+            kernels.create_event(true, false),
+            kernels.create_lock(CLIENT, Lock::Mutex, true),
+            kernels.create_semaphore(2, 2),
+            kernels.create_semaphore(3, 2)
+        ),
+        (
+            Err(Refusal::ObjectLimit),
+            Err(Refusal::ObjectLimit),
+            Err(Refusal::ObjectLimit),
+            Err(Refusal::OverMaximum { count: 3 })
+        )
+    );
+    assert_eq!(rt; kernels.len(), 2);
+    Ok(())
+}
+
+#[test]
+fn calls_take_their_own_kind(rt: HostRuntime) -> Result<(), Fail> {
+    let mut kernels = KernelTable::open(rt.alloc(), 4, 1)?;
+    assert_eq!(rt; kernels.create_event(false, false), Ok(EVENT));
+    assert_eq!(rt; kernels.create_semaphore(1, 2), Ok(SEMAPHORE));
+    assert_eq!(rt; kernels.create_lock(CLIENT, Lock::Mutex, true), Ok(LOCK));
+    assert_eq!(rt;
+        kernels.create_lock(CLIENT, Lock::Section, false),
+        Ok(SECTION)
+    );
+    assert_eq!(rt;
+        (kernels.set(NONE), kernels.set(LOCK), kernels.set(EVENT)),
+        (Err(Refusal::NoSuch), Err(Refusal::WrongKind), Ok(()))
+    );
+    assert_eq!(rt;
+        (
+            kernels.reset(NONE),
+            kernels.reset(SEMAPHORE),
+            kernels.reset(EVENT)
+        ),
+        (Err(Refusal::NoSuch), Err(Refusal::WrongKind), Ok(()))
+    );
+    assert_eq!(rt;
+        (
+            kernels.release_semaphore(NONE, 1),
+            kernels.release_semaphore(EVENT, 1),
+            kernels.release_semaphore(SEMAPHORE, 2),
+            kernels.release_semaphore(SEMAPHORE, 1)
+        ),
+        (
+            Err(Refusal::NoSuch),
+            Err(Refusal::WrongKind),
+            Err(Refusal::OverMaximum { count: 1 }),
+            Ok(1)
+        )
+    );
+    assert_eq!(rt;
+        (
+            kernels.release_lock(CLIENT, Lock::Mutex, NONE),
+            kernels.release_lock(CLIENT, Lock::Section, LOCK),
+            kernels.release_lock(WORKER, Lock::Mutex, LOCK),
+            kernels.release_lock(CLIENT, Lock::Section, SECTION),
+            kernels.release_lock(CLIENT, Lock::Mutex, LOCK)
+        ),
+        (
+            Err(Refusal::NoSuch),
+            Err(Refusal::WrongKind),
+            Err(Refusal::NotOwner),
+            Err(Refusal::NotOwner),
+            Ok(())
+        )
+    );
+    Ok(())
+}
+
+#[test]
+fn kernel_objects_are_taken_where_they_may_be(rt: HostRuntime) -> Result<(), Fail> {
+    let mut kernels = KernelTable::open(rt.alloc(), 4, 1)?;
+    assert_eq!(rt; kernels.create_event(false, true), Ok(EVENT));
+    assert_eq!(rt; kernels.create_semaphore(1, 2), Ok(SEMAPHORE));
+    assert_eq!(rt; kernels.create_lock(CLIENT, Lock::Mutex, true), Ok(LOCK));
+    assert_eq!(rt;
+        (
+            kernels.try_take(WORKER, NONE),
+            kernels.can_take(WORKER, NONE),
+            kernels.is_waitable(NONE)
+        ),
+        (
+            Err(Refusal::NoSuch),
+            Err(Refusal::NoSuch),
+            Err(Refusal::NoSuch)
+        )
+    );
+    assert_eq!(rt;
+        (
+            kernels.can_take(WORKER, EVENT),
+            kernels.try_take(WORKER, EVENT),
+            kernels.try_take(WORKER, EVENT),
+            kernels.can_take(WORKER, EVENT)
+        ),
+        (Ok(true), Ok(true), Ok(false), Ok(false))
+    );
+    assert_eq!(rt;
+        (
+            kernels.try_take(WORKER, LOCK),
+            kernels.try_take(CLIENT, LOCK)
+        ),
+        (Ok(false), Ok(true))
+    );
+    assert_eq!(rt;
+        (
+            kernels.is_waitable(EVENT),
+            kernels.is_waitable(SEMAPHORE),
+            kernels.is_waitable(LOCK)
+        ),
+        (Ok(true), Ok(true), Ok(false))
+    );
+    assert_eq!(rt;
+        (
+            kernels.kind(EVENT),
+            kernels.kind(SEMAPHORE),
+            kernels.kind(LOCK),
+            kernels.kind(SECTION)
+        ),
+        (
+            Some(KernelKind::Event),
+            Some(KernelKind::Semaphore),
+            Some(KernelKind::Mutex),
+            None
+        )
     );
     Ok(())
 }

@@ -30,7 +30,7 @@ all_kept p P (x ∷ xs) holds =
     (true_or_false (p x))
 
 -- a place is one lower in the rest
-place_in_rest : (m : ℕ) (x : Node) (xs : List Node) (i : ℕ) → IsPlaceOf (x ∷ xs) m (suc i) → IsPlaceOf xs m i
+pub place_in_rest : (m : ℕ) (x : Node) (xs : List Node) (i : ℕ) → IsPlaceOf (x ∷ xs) m (suc i) → IsPlaceOf xs m i
 place_in_rest m x xs i place = record {
   within = omega (arith, place.within);
   here = λ d. place.here d;

@@ -30,3 +30,7 @@ first_of entries key = option_map (λ (e : Entry). e.number) (find (λ e. e.key 
 -- the least number of a key above this one
 abbrev pub next_of : List Entry → ℕ → ℕ → Option ℕ
 next_of entries key number = option_map (λ (e : Entry). e.number) (find (λ e. (e.key == key) && nat_lt number e.number) entries)
+
+-- the key of a number, if it is there
+abbrev pub key_of : List Entry → ℕ → Option ℕ
+key_of entries number = option_map (λ (e : Entry). e.key) (find (λ e. e.number == number) entries)

@@ -3,7 +3,7 @@
 //! `open` takes the memory, and no other call takes any. `add` appends a number, which is above all
 //! others, and `remove` takes one out. `first` gives the least number of a key, and `after` the one
 //! that follows a number of it, so that a caller goes along the numbers of one key and meets no
-//! others.
+//! others. `key_of` tells the key of a number.
 //!
 //! ```text
 //! let mut lists = KeyedLists::open(alloc, 3, 8)?;
@@ -12,20 +12,21 @@
 //! lists.add(2, 9);
 //! lists.first(2)          // Some(4)
 //! lists.after(2, 4)       // Some(9)
+//! lists.key_of(5)         // Some(0)
 //! lists.remove(4)         // true
 //! lists.first(2)          // Some(9)
 //! ```
 //!
-//! What a call costs: `first` and `after` read one link, `add` and `remove` write at most two besides
-//! the number's own. `remove` only marks a number as one that left, so that none moves. Those that left
+//! What a call costs: `first` and `after` read one link, `key_of` reads one number, `add` and `remove`
+//! write at most two links besides the number's own. `remove` only marks a number as one that left, so that none moves. Those that left
 //! are dropped together by an `add` that finds many of them, so that a number moves less than once for
 //! one that left. Numbers mostly follow one another, and then the place of a number is told by its
 //! distance from the last; any other is found by halving.
 
 #![tactic(auto)]
 
-ghost use Rattle.std.specs.Prelude.{◌≡◌, ◌<◌, ◌≤◌, ◌==◌, [], ◌∷◌, ◌++◌, All, IfOk, filter, find, is_some, length, not, true};
-ghost use Rattle.keyed_lists.specs.Keyed.{IsRising, entry, first_of, has, next_of};
+ghost use Rattle.std.specs.Prelude.{◌≡◌, ◌<◌, ◌≤◌, ◌==◌, [], ◌∷◌, ◌++◌, All, IfOk, IfSome, filter, find, is_some, length, not, true};
+ghost use Rattle.keyed_lists.specs.Keyed.{IsRising, entry, first_of, has, key_of, next_of};
 
 use std::alloc::{AllocError, Global};
 use std::marker::Model;
@@ -119,6 +120,17 @@ impl KeyedLists {
         ensures { result ≡ next_of self.now.entries key number }
     {
         self.nodes[place_of(&self.nodes, number)].behind
+    }
+
+    /// The key of a number, or None where the number isn't there.
+    pub fn key_of(&self, number: u64) -> Option<u32>
+        ensures value { result ≡ key_of self.now.entries number }
+        ensures within { IfSome result (λ key. key < self.now.keys) }
+    {
+        match find_place(&self.nodes, number) {
+            Some(place) => Some(self.nodes[place].key),
+            None => None,
+        }
     }
 
     /// Appends a number, above all others, under this key.

@@ -18,8 +18,13 @@ fn numbers_follow_in_their_key(rt: HostRuntime) -> Result<(), Fail> {
         (lists.after(2, 4), lists.after(2, 7), lists.after(2, 9)),
         (Some(7), Some(9), None)
     );
+    assert_eq!(rt;
+        (lists.key_of(5), lists.key_of(7), lists.key_of(8)),
+        (Some(0), Some(2), None)
+    );
     assert!(rt; lists.remove(7));
     assert!(rt; !lists.remove(7));
+    assert_eq!(rt; (lists.key_of(7), lists.key_of(9)), (None, Some(2)));
     assert_eq!(rt; (lists.first(2), lists.len()), (Some(4), 3));
     assert!(rt; lists.remove(4));
     assert_eq!(rt; lists.first(2), Some(9));

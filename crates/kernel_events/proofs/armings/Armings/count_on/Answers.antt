@@ -1,9 +1,8 @@
-use Rattle.std.proofs.Common.{None, length, ◌+◌, arith, sym, ap, ◌∙◌, subst}
+use Rattle.std.proofs.Common.{None, ◌+◌, arith, sym, ◌∙◌, subst}
 use Rattle.std.proofs.lemmas.Option.{get_or_from_slice_get, slice_get_within}
-use Rattle.tp_base.specs.declared.ids.ObjectId.{ObjectId}
 use Rattle.kernel_events.specs.Armed.{waits_on}
 use Rattle.kernel_events.specs.declared.links.Link.{Link}
-use Rattle.kernel_events.proofs.Counted.{IsCounting, counting_first, counted_one, counted_all}
+use Rattle.kernel_events.proofs.Counted.{IsCounting, counting_first, counted_one}
 use Rattle.kernel_events.proofs.armings.Armings.count_on.Goals as goal
 
 pub loop-count-init : goal.loop-count-init

@@ -1,0 +1,4 @@
+pub mod Groups
+pub mod Kept
+pub mod Members
+pub mod Notices

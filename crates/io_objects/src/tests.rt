@@ -1,0 +1,67 @@
+//! Operations that start, are issued out of their order, are cancelled and complete.
+
+use crate::IoObjects;
+use std::test::Fail;
+use tp_base::answers::Refusal;
+use tp_base::ids::ObjectId;
+
+const A: ObjectId = ObjectId(1);
+
+const B: ObjectId = ObjectId(2);
+
+#[test]
+fn an_operation_completes_once(rt: HostRuntime) -> Result<(), Fail> {
+    let mut ios = IoObjects::open(rt.alloc(), 2, 8)?;
+    ios.create(B);
+    ios.start(B, 4);
+    ios.start(B, 7);
+    assert_eq!(rt; ios.len(), 2);
+    assert_eq!(rt; ios.complete(4), Err(Refusal::NoOperation));
+    assert_eq!(rt; ios.issue(B), Ok(4));
+    assert_eq!(rt; ios.cancel(B), Ok(7));
+    assert_eq!(rt; ios.issue(B), Err(Refusal::NotStarted));
+    assert_eq!(rt; ios.cancel(B), Err(Refusal::NotStarted));
+    assert_eq!(rt;
+        ios.can_close(B),
+        Err(Refusal::OperationsOutstanding { io: B })
+    );
+    assert_eq!(rt; ios.complete(4), Ok(B));
+    assert_eq!(rt; ios.complete(4), Err(Refusal::NoOperation));
+    assert_eq!(rt; ios.complete(7), Err(Refusal::NoOperation));
+    assert_eq!(rt; (ios.can_close(B), ios.len()), (Ok(()), 0));
+    Ok(())
+}
+
+#[test]
+fn each_object_has_its_operations(rt: HostRuntime) -> Result<(), Fail> {
+    let mut ios = IoObjects::open(rt.alloc(), 2, 3)?;
+    ios.create(A);
+    ios.create(B);
+    ios.start(A, 1);
+    ios.start(B, 2);
+    ios.start(A, 5);
+    assert_eq!(rt; ios.issue(B), Ok(2));
+    assert_eq!(rt;
+        ios.can_close(A),
+        Err(Refusal::OperationsOutstanding { io: A })
+    );
+    assert_eq!(rt; ios.issue(A), Ok(1));
+    assert_eq!(rt; ios.issue(A), Ok(5));
+    assert_eq!(rt; (ios.complete(5), ios.complete(2)), (Ok(A), Ok(B)));
+    assert_eq!(rt;
+        (ios.can_close(A), ios.can_close(B)),
+        (Err(Refusal::OperationsOutstanding { io: A }), Ok(()))
+    );
+    ios.start(B, 6);
+    assert_eq!(rt; (ios.cancel(B), ios.complete(1)), (Ok(6), Ok(A)));
+    assert_eq!(rt; ios.can_close(A), Ok(()));
+    ios.close(A);
+    assert_eq!(rt; (ios.is_there(A), ios.is_there(B)), (false, true));
+    assert_eq!(rt;
+        (ios.is_there(ObjectId(0)), ios.is_there(ObjectId(3))),
+        (false, false)
+    );
+    ios.create(A);
+    assert_eq!(rt; ios.issue(A), Err(Refusal::NotStarted));
+    Ok(())
+}

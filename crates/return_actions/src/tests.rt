@@ -1,0 +1,132 @@
+//! Actions that are asked for, performed and left out.
+
+use crate::{Actions, Performed};
+use kernel_events::KernelTable;
+use std::test::Fail;
+use tp_base::answers::{ActionKind, Refusal, SlotWord};
+use tp_base::calls::Lock;
+use tp_base::ids::{KernelId, Who};
+
+const CLIENT: Who = Who::Client(1);
+
+const WORKER: Who = Who::Worker(1);
+
+const SEMAPHORE: KernelId = KernelId(1);
+
+const MUTEX: KernelId = KernelId(2);
+
+const SECTION: KernelId = KernelId(3);
+
+const EVENT: KernelId = KernelId(4);
+
+#[test]
+fn a_slot_is_filled_once(rt: HostRuntime) -> Result<(), Fail> {
+    let mut actions = Actions::empty();
+    assert_eq!(rt; actions.ask(ActionKind::Event, EVENT, 1), Ok(()));
+    assert_eq!(rt; actions.ask(ActionKind::Section, SECTION, 1), Ok(()));
+    assert_eq!(rt;
+        actions.ask(ActionKind::Event, KernelId(9), 1),
+        Err(Refusal::SlotTaken {
+            kind: ActionKind::Event
+        })
+    );
+    assert_eq!(rt;
+        actions.ask(ActionKind::Section, SECTION, 1),
+        Err(Refusal::SlotTaken {
+            kind: ActionKind::Section
+        })
+    );
+    assert_eq!(rt; actions.ask(ActionKind::Semaphore, SEMAPHORE, 2), Ok(()));
+    assert_eq!(rt; actions.ask(ActionKind::Mutex, MUTEX, 1), Ok(()));
+    assert_eq!(rt;
+        actions.ask(ActionKind::Semaphore, SEMAPHORE, 2),
+        Err(Refusal::SlotTaken {
+            kind: ActionKind::Semaphore
+        })
+    );
+    assert_eq!(rt;
+        actions.ask(ActionKind::Mutex, MUTEX, 1),
+        Err(Refusal::SlotTaken {
+            kind: ActionKind::Mutex
+        })
+    );
+    Ok(())
+}
+
+#[test]
+fn a_lock_of_another_is_left_out(rt: HostRuntime) -> Result<(), Fail> {
+    let mut kernels = KernelTable::open(rt.alloc(), 2, 8)?;
+    assert_eq!(rt; kernels.create_semaphore(0, 2), Ok(SEMAPHORE));
+    assert_eq!(rt; kernels.create_lock(CLIENT, Lock::Mutex, true), Ok(MUTEX));
+    let mut actions = Actions::empty();
+    assert_eq!(rt; actions.ask(ActionKind::Semaphore, SEMAPHORE, 2), Ok(()));
+    assert_eq!(rt; actions.ask(ActionKind::Mutex, MUTEX, 1), Ok(()));
+    assert_eq!(rt;
+        actions.perform(WORKER, &mut kernels),
+        Performed {
+            section: SlotWord::Unasked,
+            mutex: SlotWord::NotOwner,
+            semaphore: SlotWord::Performed,
+            event: SlotWord::Unasked,
+            semaphore_at: Some(SEMAPHORE),
+            event_at: None,
+        }
+    );
+    assert_eq!(rt;
+        (
+            kernels.release_semaphore(SEMAPHORE, 1),
+            kernels.can_take(WORKER, MUTEX)
+        ),
+        (Err(Refusal::OverMaximum { count: 2 }), Ok(false))
+    );
+    Ok(())
+}
+
+#[test]
+fn all_are_performed(rt: HostRuntime) -> Result<(), Fail> {
+    let mut kernels = KernelTable::open(rt.alloc(), 4, 8)?;
+    assert_eq!(rt; kernels.create_semaphore(1, 2), Ok(SEMAPHORE));
+    assert_eq!(rt; kernels.create_lock(WORKER, Lock::Mutex, true), Ok(MUTEX));
+    assert_eq!(rt;
+        kernels.create_lock(WORKER, Lock::Section, true),
+        Ok(SECTION)
+    );
+    assert_eq!(rt; kernels.create_event(false, false), Ok(EVENT));
+    let mut actions = Actions::empty();
+    assert_eq!(rt; actions.ask(ActionKind::Event, EVENT, 1), Ok(()));
+    assert_eq!(rt; actions.ask(ActionKind::Semaphore, SEMAPHORE, 2), Ok(()));
+    assert_eq!(rt; actions.ask(ActionKind::Mutex, MUTEX, 1), Ok(()));
+    assert_eq!(rt; actions.ask(ActionKind::Section, SECTION, 1), Ok(()));
+    assert_eq!(rt;
+        actions.perform(WORKER, &mut kernels),
+        Performed {
+            section: SlotWord::Performed,
+            mutex: SlotWord::Performed,
+            semaphore: SlotWord::OverMaximum,
+            event: SlotWord::Performed,
+            semaphore_at: None,
+            event_at: Some(EVENT),
+        }
+    );
+    assert_eq!(rt;
+        (
+            kernels.can_take(CLIENT, MUTEX),
+            kernels.can_take(CLIENT, SECTION),
+            kernels.can_take(CLIENT, EVENT)
+        ),
+        (Ok(true), Ok(true), Ok(true))
+    );
+    // The locks are free now, so that they are left out the next time.
+    assert_eq!(rt;
+        actions.perform(WORKER, &mut kernels),
+        Performed {
+            section: SlotWord::NotOwner,
+            mutex: SlotWord::NotOwner,
+            semaphore: SlotWord::OverMaximum,
+            event: SlotWord::Performed,
+            semaphore_at: None,
+            event_at: Some(EVENT),
+        }
+    );
+    Ok(())
+}
