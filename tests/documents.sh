@@ -6,7 +6,7 @@
 #   its top to its end, are one trace;
 # - a block marked `console`: commands behind `$ `, each with what it prints;
 # - a block marked `history`: a legal history;
-# - a block marked `text` is no example. No block stands without a mark.
+# - a block marked `text` or `c` is no example. No block stands without a mark.
 # shellcheck shell=bash
 
 # Compares the program's answers to calls with those that stand beside them, from lines CALL TAB ANSWER.
@@ -112,6 +112,7 @@ tables_are() {
 }
 try 'the tables of the README are its examples' 0 '' '' tables_are README.md shutdown.trace pools.trace
 try 'the tables of docs/MACHINE.md are its examples' 0 '' '' tables_are docs/MACHINE.md timer-shutdown.trace handover.trace on-return.trace event-timeout.trace io-shutdown.trace
+try 'the tables of docs/GUIDE.md are its examples' 0 '' '' tables_are docs/GUIDE.md guide-quiet.trace guide-disassociated.trace guide-late-submit.trace guide-half-mended.trace guide-mended.trace
 
 names_kit() { awk -v kit="$(sed -n "s/^kit='\(.*\)'/\1/p" "$tpool")" 'index($0, kit) { found = 1 } END { exit !found }' "$here/README.md"; }
 try 'the README names the kit of the script' 0 '' '' names_kit
@@ -131,7 +132,7 @@ for file in "$here"/README.md "$here/docs"/*.md; do
     # shellcheck disable=SC2016
     examples=$(sed -n 's/^\*\*Example\.\*\* `\([^`]*\)` → `\([^`]*\)`.*/\1\t\2/p' "$file")
     [[ -z $examples ]] || plays "$page, examples" "$examples"
-    unmarked=$(awk '/^```/ { inside = !inside; if (inside && $0 !~ /^```(console|history|text|sh)$/) print NR }' "$file")
+    unmarked=$(awk '/^```/ { inside = !inside; if (inside && $0 !~ /^```(console|history|text|sh|c)$/) print NR }' "$file")
     try "$page: each block is marked" 0 '' '' test -z "$unmarked"
     while IFS= read -r link; do
         try "$page: the link $link" 0 '' '' leads_somewhere "$(dirname "$file")" "$link" "$file"

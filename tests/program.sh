@@ -50,3 +50,9 @@ short_of_memory() { takes 16000000 | (ulimit -v 20000 && "$program" trace); }
 try 'an input that is too long' 6 '' $'tpool: input too long\n' too_long
 try 'the longest input' 0 $'2097152\n' '' longest
 try 'memory is refused' 5 '' $'tpool: want of memory\n' short_of_memory
+
+# Each file is a trace, with what each call comes to behind ` -> `.
+for trace in "$here/tests/traces"/*; do
+    input=$(sed 's/ -> .*//' "$trace")$'\n'
+    try "the trace ${trace##*/}" 0 "$(sed 's/.* -> //' "$trace")"$'\n' '' "$program" trace
+done
