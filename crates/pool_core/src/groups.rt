@@ -8,7 +8,7 @@ ghost use Rattle.tp_model.specs.Groups.{object_id};
 ghost use Rattle.tp_model.specs.Calls.Groups.{create_group_plan, close_group_plan, begin_close_plan};
 
 use crate::decisions::{Decision, accept};
-use crate::refusals::{either, first_of, group_refusal};
+use crate::refusals::{actor_refusal, either, first_of, group_refusal};
 use live_world::LiveWorld;
 use tp_base::answers::{Answer, Refusal};
 use tp_base::ids::{GroupId, ObjectId, Who};
@@ -26,14 +26,7 @@ fn object_or_none(object: Option<u32>) -> ObjectId
 pub(crate) fn create_group(world: &LiveWorld, who: Who, change: &mut Change) -> Decision
     ensures { decided result change.new ≡ create_group_plan world.now.world who }
 {
-    let actor = world.actor(who);
-    let refusal = first_of!([
-        (!actor.exists, Refusal::NoSuch),
-        (actor.finished, Refusal::Released),
-        (actor.is_idle, Refusal::NotRunning),
-        (actor.in_wait, Refusal::InWait),
-        (world.lacks_group(), Refusal::ObjectLimit),
-    ]);
+    let refusal = actor_refusal!(world, who, [(world.lacks_group(), Refusal::ObjectLimit)]);
     if let Some(refusal) = refusal {
         return Decision::Refused(refusal);
     }

@@ -6,7 +6,7 @@ ghost use Rattle.std.specs.Prelude.{◌≡◌, ◌+◌, ◌^◌, ◌<◌};
 ghost use Rattle.tp_model.specs.Calls.Io.{expecting as expecting_of, start_io_plan, issue_io_plan, cancel_io_plan, complete_io_plan};
 
 use crate::decisions::{Decision, accept};
-use crate::refusals::{either, first_of, object_refusal};
+use crate::refusals::{actor_refusal, either, first_of, object_refusal};
 use live_world::LiveWorld;
 use live_world::callbacks::new_callback;
 use tp_base::answers::{Answer, Refusal, TakeResult};
@@ -57,6 +57,36 @@ pub(crate) fn start_io(
     )
 }
 
+// A step with the object's first expecting callback, and the answer that tells its number.
+macro_rules! operate_first {
+    ($world:ident, $who:ident, $object:ident, $change:ident, $told:ident, $how:expr) => {{
+        let expected = $world.first_expected($object);
+        let refusal = object_refusal!(
+            $world,
+            $who,
+            Kind::Io,
+            $object,
+            [(expected.is_none(), Refusal::NotStarted)]
+        );
+        if let Some(refusal) = refusal {
+            return Decision::Refused(refusal);
+        }
+        let Some(callback) = expected else {
+            return Decision::Refused(Refusal::NotStarted);
+        };
+        accept(
+            $change,
+            Answer::$told {
+                callback: callback.number,
+            },
+            Change::Operate {
+                callback,
+                how: $how,
+            },
+        )
+    }};
+}
+
 /// Issues the operation that the object's first expecting callback expects.
 #[tactic(auto, unfolding(tp_model::specs::Calls::Io::issue_io_plan))]
 pub(crate) fn issue_io(
@@ -67,30 +97,7 @@ pub(crate) fn issue_io(
 ) -> Decision
     ensures { decided result change.new ≡ issue_io_plan world.now.world who object }
 {
-    let expected = world.first_expected(object);
-    let refusal = object_refusal!(
-        world,
-        who,
-        Kind::Io,
-        object,
-        [(expected.is_none(), Refusal::NotStarted)]
-    );
-    if let Some(refusal) = refusal {
-        return Decision::Refused(refusal);
-    }
-    let Some(callback) = expected else {
-        return Decision::Refused(Refusal::NotStarted);
-    };
-    accept(
-        change,
-        Answer::Operation {
-            callback: callback.number,
-        },
-        Change::Operate {
-            callback,
-            how: IoStep::Issue,
-        },
-    )
+    operate_first!(world, who, object, change, Operation, IoStep::Issue)
 }
 
 /// The object's first expecting callback expects its operation no more, and never runs.
@@ -103,30 +110,7 @@ pub(crate) fn cancel_io(
 ) -> Decision
     ensures { decided result change.new ≡ cancel_io_plan world.now.world who object }
 {
-    let expected = world.first_expected(object);
-    let refusal = object_refusal!(
-        world,
-        who,
-        Kind::Io,
-        object,
-        [(expected.is_none(), Refusal::NotStarted)]
-    );
-    if let Some(refusal) = refusal {
-        return Decision::Refused(refusal);
-    }
-    let Some(callback) = expected else {
-        return Decision::Refused(Refusal::NotStarted);
-    };
-    accept(
-        change,
-        Answer::Cancelled {
-            callback: callback.number,
-        },
-        Change::Operate {
-            callback,
-            how: IoStep::GiveUp,
-        },
-    )
+    operate_first!(world, who, object, change, Cancelled, IoStep::GiveUp)
 }
 
 /// Completes an operation that is under way. Its callback is then pending.
@@ -142,14 +126,7 @@ pub(crate) fn complete_io(
     ensures { decided result change.new ≡ complete_io_plan world.now.world who callback error bytes }
 {
     let issued = world.issued(callback);
-    let actor = world.actor(who);
-    let refusal = first_of!([
-        (!actor.exists, Refusal::NoSuch),
-        (actor.finished, Refusal::Released),
-        (actor.is_idle, Refusal::NotRunning),
-        (actor.in_wait, Refusal::InWait),
-        (issued.is_none(), Refusal::NoOperation),
-    ]);
+    let refusal = actor_refusal!(world, who, [(issued.is_none(), Refusal::NoOperation)]);
     if let Some(refusal) = refusal {
         return Decision::Refused(refusal);
     }

@@ -8,7 +8,7 @@ ghost use Rattle.tp_base.specs.Kernels.{lock_made as lock_made_of};
 ghost use Rattle.tp_model.specs.Calls.Kernels.{create_event_plan, create_semaphore_plan, create_lock_plan, set_event_plan, reset_event_plan, release_semaphore_plan, release_lock_plan};
 
 use crate::decisions::{Decision, accept};
-use crate::refusals::{either, first_of};
+use crate::refusals::{actor_refusal, either, first_of};
 use crate::triggers::fire;
 use live_world::LiveWorld;
 use tp_base::answers::{Answer, Refusal};
@@ -16,21 +16,6 @@ use tp_base::calls::Lock;
 use tp_base::ids::{KernelId, Who};
 use tp_base::plans::{Change, KernelChange, Trigger};
 use tp_base::rows::KernelState;
-
-// Of a call that makes a kernel object, whose own conditions stand before the limit.
-macro_rules! new_kernel_refusal {
-    ($world:ident, $who:ident, [$($own:tt),* $(,)?]) => {{
-        let actor = $world.actor($who);
-        first_of!([
-            (!actor.exists, Refusal::NoSuch),
-            (actor.finished, Refusal::Released),
-            (actor.is_idle, Refusal::NotRunning),
-            (actor.in_wait, Refusal::InWait),
-            $($own,)*
-            ($world.lacks_kernel(), Refusal::ObjectLimit),
-        ])
-    }};
-}
 
 // Of a call on a kernel object, which is of the call's kind or not; its own conditions follow.
 macro_rules! kernel_refusal {
@@ -72,7 +57,7 @@ pub(crate) fn create_event(
 ) -> Decision
     ensures { decided result change.new ≡ create_event_plan world.now.world who manual signalled }
 {
-    match new_kernel_refusal!(world, who, []) {
+    match actor_refusal!(world, who, [(world.lacks_kernel(), Refusal::ObjectLimit)]) {
         Some(refusal) => Decision::Refused(refusal),
         None => accept_new(world, KernelState::Event { manual, signalled }, change),
     }
@@ -89,13 +74,16 @@ pub(crate) fn create_semaphore(
 ) -> Decision
     ensures { decided result change.new ≡ create_semaphore_plan world.now.world who initial maximum }
 {
-    let refusal = new_kernel_refusal!(
+    let refusal = actor_refusal!(
         world,
         who,
-        [(
-            either(maximum < initial, maximum == 0),
-            Refusal::OverMaximum { count: initial },
-        )]
+        [
+            (
+                either(maximum < initial, maximum == 0),
+                Refusal::OverMaximum { count: initial },
+            ),
+            (world.lacks_kernel(), Refusal::ObjectLimit)
+        ]
     );
     if let Some(refusal) = refusal {
         return Decision::Refused(refusal);
@@ -132,7 +120,7 @@ pub(crate) fn create_lock(
 ) -> Decision
     ensures { decided result change.new ≡ create_lock_plan world.now.world who lock owned }
 {
-    match new_kernel_refusal!(world, who, []) {
+    match actor_refusal!(world, who, [(world.lacks_kernel(), Refusal::ObjectLimit)]) {
         Some(refusal) => Decision::Refused(refusal),
         None => accept_new(world, lock_made(lock, who, owned), change),
     }

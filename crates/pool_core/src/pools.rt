@@ -4,10 +4,10 @@
 ghost use Rattle.pool_core.specs.Decided.{decided};
 ghost use Rattle.std.specs.Prelude.{◌≡◌};
 ghost use Rattle.tp_model.specs.Refusing.{first_refusal};
-ghost use Rattle.tp_model.specs.Calls.Pools.{pool_refusals, create_pool_plan, close_pool_plan, set_maximum_plan, set_minimum_plan};
+ghost use Rattle.tp_model.specs.Calls.Pools.{pool_refusals, create_pool_plan, change_pool_plan, close_pool_plan, set_maximum_plan, set_minimum_plan};
 
 use crate::decisions::{Decision, accept};
-use crate::refusals::{either, first_of};
+use crate::refusals::{actor_refusal, either, first_of};
 use live_world::LiveWorld;
 use tp_base::answers::{Answer, Refusal};
 use tp_base::ids::{PoolId, Who};
@@ -18,14 +18,7 @@ use tp_base::plans::{Change, PoolChange};
 pub(crate) fn create_pool(world: &LiveWorld, who: Who, change: &mut Change) -> Decision
     ensures { decided result change.new ≡ create_pool_plan world.now.world who }
 {
-    let actor = world.actor(who);
-    let refusal = first_of!([
-        (!actor.exists, Refusal::NoSuch),
-        (actor.finished, Refusal::Released),
-        (actor.is_idle, Refusal::NotRunning),
-        (actor.in_wait, Refusal::InWait),
-        (world.lacks_pool(), Refusal::ObjectLimit),
-    ]);
+    let refusal = actor_refusal!(world, who, [(world.lacks_pool(), Refusal::ObjectLimit)]);
     if let Some(refusal) = refusal {
         return Decision::Refused(refusal);
     }
@@ -73,6 +66,16 @@ pub(crate) fn close_pool(world: &LiveWorld, who: Who, pool: PoolId, change: &mut
     }
 }
 
+// Sets one bound of a pool.
+fn set(world: &LiveWorld, who: Who, pool: PoolId, how: PoolChange, change: &mut Change) -> Decision
+    ensures { decided result change.new ≡ change_pool_plan world.now.world who pool how Answer.Done }
+{
+    match pool_refusal(world, who, pool) {
+        Some(refusal) => Decision::Refused(refusal),
+        None => accept(change, Answer::Done, Change::ChangePool { pool, how }),
+    }
+}
+
 /// Sets how many callbacks of a pool may run at once.
 #[tactic(auto, unfolding(tp_model::specs::Calls::Pools::set_maximum_plan))]
 pub(crate) fn set_maximum(
@@ -84,17 +87,7 @@ pub(crate) fn set_maximum(
 ) -> Decision
     ensures { decided result change.new ≡ set_maximum_plan world.now.world who pool value }
 {
-    match pool_refusal(world, who, pool) {
-        Some(refusal) => Decision::Refused(refusal),
-        None => accept(
-            change,
-            Answer::Done,
-            Change::ChangePool {
-                pool,
-                how: PoolChange::Maximum(value),
-            },
-        ),
-    }
+    set(world, who, pool, PoolChange::Maximum(value), change)
 }
 
 /// Sets how many workers a pool keeps.
@@ -108,15 +101,5 @@ pub(crate) fn set_minimum(
 ) -> Decision
     ensures { decided result change.new ≡ set_minimum_plan world.now.world who pool value }
 {
-    match pool_refusal(world, who, pool) {
-        Some(refusal) => Decision::Refused(refusal),
-        None => accept(
-            change,
-            Answer::Done,
-            Change::ChangePool {
-                pool,
-                how: PoolChange::Minimum(value),
-            },
-        ),
-    }
+    set(world, who, pool, PoolChange::Minimum(value), change)
 }

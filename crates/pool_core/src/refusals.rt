@@ -12,7 +12,21 @@ macro_rules! first_of {
     };
 }
 
-// The same of a call on an object of a kind, whose own conditions follow those that all such calls share.
+// The same of a call on nothing that was made before, whose own conditions follow those of its actor.
+macro_rules! actor_refusal {
+    ($world:ident, $who:ident, [$($own:tt),* $(,)?]) => {{
+        let actor = $world.actor($who);
+        first_of!([
+            (!actor.exists, Refusal::NoSuch),
+            (actor.finished, Refusal::Released),
+            (actor.is_idle, Refusal::NotRunning),
+            (actor.in_wait, Refusal::InWait),
+            $($own),*
+        ])
+    }};
+}
+
+// And of a call on an object of a kind, behind the conditions that all such calls share.
 macro_rules! object_refusal {
     ($world:ident, $who:ident, $kind:expr, $object:ident, [$($own:tt),* $(,)?]) => {{
         let actor = $world.actor($who);
@@ -60,6 +74,7 @@ macro_rules! group_refusal {
     }};
 }
 
+pub(crate) use actor_refusal;
 pub(crate) use environ_refusal;
 pub(crate) use first_of;
 pub(crate) use group_refusal;

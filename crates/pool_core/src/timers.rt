@@ -7,7 +7,7 @@ ghost use Rattle.tp_base.specs.Timers.{clock_end};
 ghost use Rattle.tp_model.specs.Calls.Timers.{set_timer_plan, set_timer_ex_plan, is_timer_set_plan, advance_plan};
 
 use crate::decisions::{Decision, accept};
-use crate::refusals::{either, first_of, object_refusal};
+use crate::refusals::{actor_refusal, either, first_of, object_refusal};
 use crate::triggers::fire;
 use live_world::LiveWorld;
 use tp_base::answers::{Answer, Refusal};
@@ -127,14 +127,11 @@ pub(crate) fn advance(world: &LiveWorld, who: Who, ticks: u64, change: &mut Chan
     requires { world.now.made < 2 ^ 63 }
     ensures { decided result change.new ≡ advance_plan world.now.world (world.now.made + 1) who ticks }
 {
-    let actor = world.actor(who);
-    let refusal = first_of!([
-        (!actor.exists, Refusal::NoSuch),
-        (actor.finished, Refusal::Released),
-        (actor.is_idle, Refusal::NotRunning),
-        (actor.in_wait, Refusal::InWait),
-        (passes_end(world.now(), ticks), Refusal::ClockEnd),
-    ]);
+    let refusal = actor_refusal!(
+        world,
+        who,
+        [(passes_end(world.now(), ticks), Refusal::ClockEnd)]
+    );
     if let Some(refusal) = refusal {
         return Decision::Refused(refusal);
     }

@@ -1,11 +1,11 @@
 -- What actions on return keep.
-use Rattle.std.proofs.Common.{◌≡◌, ℕ, ◌==◌, slice_get, slice_set, eqb-true, eq-eqb, ◌+◌, ◌-◌, Bool, true, false, cond, List, Option, Some, None, is_none, refl, sym, ap, ◌∙◌, subst}
+use Rattle.std.proofs.Common.{◌≡◌, ℕ, ◌==◌, slice_get, slice_set, eqb-true, eq-eqb, ◌-◌, Bool, true, false, cond, List, Option, Some, None, is_none, refl, sym, ap, ◌∙◌, subst}
 use Rattle.std.specs.Option.{option_map_or}
 use Rattle.tp_base.specs.declared.ids.Who.{Who}
 use Rattle.tp_base.specs.declared.answers.ActionKind.{ActionKind}
 use Rattle.tp_base.specs.declared.answers.ActionKind.TheVariants.{Section, Mutex, Semaphore, Event}
 use Rattle.tp_base.specs.declared.answers.SlotWord.{SlotWord}
-use Rattle.tp_base.specs.declared.answers.SlotWord.TheVariants.{Performed, OverMaximum, NotOwner}
+use Rattle.tp_base.specs.declared.answers.SlotWord.TheVariants.{Performed, OverMaximum}
 use Rattle.tp_base.specs.declared.plans.ActionWords.{ActionWords}
 use Rattle.tp_base.specs.declared.plans.KernelChange.TheVariants.{Leave}
 use Rattle.tp_base.specs.declared.rows.Action.{Action}
@@ -13,7 +13,7 @@ use Rattle.tp_base.specs.declared.rows.Slots.{Slots}
 use Rattle.tp_base.specs.declared.rows.KernelState.{KernelState}
 use Rattle.tp_base.specs.declared.rows.KernelState.TheVariants as state
 use Rattle.tp_base.specs.declared.rows.KernelRow.{KernelRow}
-use Rattle.tp_base.specs.Kernels.{is_event, state_after}
+use Rattle.tp_base.specs.Kernels.{state_after}
 use Rattle.tp_base.specs.Actions.{slot, may_perform, may_raise, left_out, word, is_unasked, is_performed}
 use Rattle.tp_model.specs.Sources.{Firing, jobless, sources_of}
 use Rattle.tp_model.specs.World.{World}

@@ -4,16 +4,12 @@ use Rattle.std.specs.Prelude.{negsuc}
 use Rattle.tp_base.specs.declared.ids.Who.TheVariants.{Client, Worker}
 use Rattle.tp_base.specs.declared.calls.Priority.TheVariants.{Normal}
 use Rattle.tp_base.specs.declared.calls.Kind.TheVariants.{Work, Timer, Wait, Io}
-use Rattle.tp_base.specs.declared.calls.Lock.TheVariants as lock
-use Rattle.tp_base.specs.declared.answers.ActionKind.TheVariants as kind
-use Rattle.tp_base.specs.declared.answers.SlotWord.TheVariants as slot
 use Rattle.tp_base.specs.declared.answers.SlotWord.TheVariants.{Unasked}
 use Rattle.tp_base.specs.declared.calls.Call.TheVariants as call
 use Rattle.tp_base.specs.declared.calls.Environ.{Environ}
 use Rattle.tp_base.specs.declared.answers.Outcome.TheVariants as outcome
 use Rattle.tp_base.specs.declared.answers.Look.TheVariants as look
 use Rattle.tp_base.specs.declared.answers.Answer.TheVariants as answer
-use Rattle.tp_base.specs.declared.answers.TakeResult.TheVariants as result
 use Rattle.tp_base.specs.declared.answers.TakeResult.TheVariants.{Plain}
 use Rattle.tp_base.specs.declared.answers.Refusal.TheVariants as refusal
 use Rattle.tp_base.specs.declared.limits.Limits.{Limits}

@@ -1,5 +1,5 @@
 -- I/O objects in small plays, by computation alone; and histories that the law Io refuses.
-use Rattle.std.proofs.Common.{◌≡◌, ℕ, [], ◌∷◌, refl, true, false}
+use Rattle.std.proofs.Common.{◌≡◌, ℕ, Bool, not, ◌&&◌, ◌==◌, List, [], ◌∷◌, refl, sym, ap, ap₂, ◌∙◌, true, false, eq-eqb}
 use Rattle.tp_base.specs.declared.ids.Who.TheVariants.{Client, Worker}
 use Rattle.tp_base.specs.declared.calls.Priority.TheVariants.{Normal}
 use Rattle.tp_base.specs.declared.calls.Kind.TheVariants.{Work, Io}
@@ -19,7 +19,8 @@ use Rattle.tp_model.specs.Calls.Io.{start_io_plan, issue_io_plan, cancel_io_plan
 use Rattle.tp_model.specs.Calls.Workers.{attach_plan, take_plan, return_plan}
 use Rattle.tp_model.specs.Calls.Waits.{begin_wait_plan, end_plan}
 use Rattle.tp_model.specs.History.{play}
-use Rattle.tp_model.specs.Laws.Entries.{Starts, Issues, GivesUp, Completes, Runs, numbers_made, numbers_queued}
+use Rattle.tp_model.specs.Laws.Entries.{Happening, is_completion, Starts, Issues, GivesUp, Completes, Runs, numbers_made, numbers_queued}
+use Rattle.tp_model.proofs.Refusals.{false_true}
 use Rattle.tp_model.specs.Laws.Io.{AreOperated, IsWay, Untaken, Plain, Started, GivenUp, Issued, Completed, Taken}
 
 limits : Limits
@@ -269,114 +270,65 @@ completes_and_queues : numbers_queued (started 1 ∷ issued 1 ∷ completed 1 8 
 unfolding started issued completed
 completes_and_queues = refl
 
+-- what happens to a callback is one of its ways
+abbrev is_way : List Happening → Bool
+is_way [] = true
+is_way (Runs r ∷ []) = not (is_completion r)
+is_way (Starts ∷ []) = true
+is_way (Starts ∷ GivesUp ∷ []) = true
+is_way (Starts ∷ Issues ∷ []) = true
+is_way (Starts ∷ Issues ∷ Completes error bytes ∷ []) = true
+is_way (Starts ∷ Issues ∷ Completes error bytes ∷ Runs (result.Io e b) ∷ []) = (error == e) && (bytes == b)
+is_way _ = false
+
+ways_are : (h : List Happening) → IsWay h → is_way h ≡ true
+ways_are h (Untaken e) = ap is_way e
+ways_are h (Plain r p e) = ap is_way e ∙ ap not p
+ways_are h (Started e) = ap is_way e
+ways_are h (GivenUp e) = ap is_way e
+ways_are h (Issued e) = ap is_way e
+ways_are h (Completed error bytes e) = ap is_way e
+ways_are h (Taken error bytes e) = ap is_way e ∙ ap₂ (λ x y. x && y) (eq-eqb error error refl) (eq-eqb bytes bytes refl)
+
+no_way : {h : List Happening} → is_way h ≡ false → IsWay h → ⊥
+no_way {h} out way = false_true (sym out ∙ ways_are h way)
+
 -- a callback without an operation that is taken with the result of one
 completed_simply : AreOperated (takes 1 8 ∷ []) → ⊥
 unfolding takes
-completed_simply law = none (law.ways 1)
-  where
-    none : IsWay (Runs (result.Io 0 8) ∷ []) → ⊥
-    none (Untaken e) = cc
-    none (Plain r p e) = cc
-    none (Started e) = cc
-    none (GivenUp e) = cc
-    none (Issued e) = cc
-    none (Completed error bytes e) = cc
-    none (Taken error bytes e) = cc
+completed_simply law = no_way refl (law.ways 1)
 
 -- an operation that completes twice
 completed_twice : AreOperated (started 1 ∷ issued 1 ∷ completed 1 8 ∷ completed 1 8 ∷ []) → ⊥
 unfolding started issued completed
-completed_twice law = none (law.ways 1)
-  where
-    none : IsWay (Starts ∷ Issues ∷ Completes 0 8 ∷ Completes 0 8 ∷ []) → ⊥
-    none (Untaken e) = cc
-    none (Plain r p e) = cc
-    none (Started e) = cc
-    none (GivenUp e) = cc
-    none (Issued e) = cc
-    none (Completed error bytes e) = cc
-    none (Taken error bytes e) = cc
+completed_twice law = no_way refl (law.ways 1)
 
 -- a callback that is taken while its operation is under way
 taken_under_way : AreOperated (started 1 ∷ issued 1 ∷ takes 1 8 ∷ []) → ⊥
 unfolding started issued takes
-taken_under_way law = none (law.ways 1)
-  where
-    none : IsWay (Starts ∷ Issues ∷ Runs (result.Io 0 8) ∷ []) → ⊥
-    none (Untaken e) = cc
-    none (Plain r p e) = cc
-    none (Started e) = cc
-    none (GivenUp e) = cc
-    none (Issued e) = cc
-    none (Completed error bytes e) = cc
-    none (Taken error bytes e) = cc
+taken_under_way law = no_way refl (law.ways 1)
 
 -- an operation that completes without being issued
 completed_unissued : AreOperated (started 1 ∷ completed 1 8 ∷ []) → ⊥
 unfolding started completed
-completed_unissued law = none (law.ways 1)
-  where
-    none : IsWay (Starts ∷ Completes 0 8 ∷ []) → ⊥
-    none (Untaken e) = cc
-    none (Plain r p e) = cc
-    none (Started e) = cc
-    none (GivenUp e) = cc
-    none (Issued e) = cc
-    none (Completed error bytes e) = cc
-    none (Taken error bytes e) = cc
+completed_unissued law = no_way refl (law.ways 1)
 
 -- one that is given up while it is under way
 cancelled_late : AreOperated (started 1 ∷ issued 1 ∷ cancelled 1 ∷ []) → ⊥
 unfolding started issued cancelled
-cancelled_late law = none (law.ways 1)
-  where
-    none : IsWay (Starts ∷ Issues ∷ GivesUp ∷ []) → ⊥
-    none (Untaken e) = cc
-    none (Plain r p e) = cc
-    none (Started e) = cc
-    none (GivenUp e) = cc
-    none (Issued e) = cc
-    none (Completed error bytes e) = cc
-    none (Taken error bytes e) = cc
+cancelled_late law = no_way refl (law.ways 1)
 
 -- one that is issued after it was given up
 issued_after_all : AreOperated (started 1 ∷ cancelled 1 ∷ issued 1 ∷ []) → ⊥
 unfolding started cancelled issued
-issued_after_all law = none (law.ways 1)
-  where
-    none : IsWay (Starts ∷ GivesUp ∷ Issues ∷ []) → ⊥
-    none (Untaken e) = cc
-    none (Plain r p e) = cc
-    none (Started e) = cc
-    none (GivenUp e) = cc
-    none (Issued e) = cc
-    none (Completed error bytes e) = cc
-    none (Taken error bytes e) = cc
+issued_after_all law = no_way refl (law.ways 1)
 
 -- one that was never announced
 unstarted : AreOperated (issued 1 ∷ []) → ⊥
 unfolding issued
-unstarted law = none (law.ways 1)
-  where
-    none : IsWay (Issues ∷ []) → ⊥
-    none (Untaken e) = cc
-    none (Plain r p e) = cc
-    none (Started e) = cc
-    none (GivenUp e) = cc
-    none (Issued e) = cc
-    none (Completed error bytes e) = cc
-    none (Taken error bytes e) = cc
+unstarted law = no_way refl (law.ways 1)
 
 -- a callback that is taken with other bytes than those of its completion
 other_bytes : AreOperated (started 1 ∷ issued 1 ∷ completed 1 8 ∷ takes 1 9 ∷ []) → ⊥
 unfolding started issued completed takes
-other_bytes law = none (law.ways 1)
-  where
-    none : IsWay (Starts ∷ Issues ∷ Completes 0 8 ∷ Runs (result.Io 0 9) ∷ []) → ⊥
-    none (Untaken e) = cc
-    none (Plain r p e) = cc
-    none (Started e) = cc
-    none (GivenUp e) = cc
-    none (Issued e) = cc
-    none (Completed error bytes e) = cc
-    none (Taken error bytes e) = cc
+other_bytes law = no_way refl (law.ways 1)

@@ -1,5 +1,5 @@
 -- To release one member of a group, and then the members that are left, is to release all of them.
-use Rattle.std.proofs.Common.{◌≡◌, ℕ, zero, suc, ◌+◌, ◌-◌, Bool, true, false, cond, not, ◌&&◌, ◌==◌, List, [], ◌∷◌, length, map, slice_get, slice_set, Option, Some, None, refl, sym, ap, ap₂, ◌∙◌, arith, filter, find, eqb-true, eq-eqb}
+use Rattle.std.proofs.Common.{◌≡◌, ℕ, zero, suc, ◌+◌, ◌-◌, Bool, true, false, cond, not, ◌==◌, List, [], ◌∷◌, length, map, slice_get, slice_set, Some, None, refl, sym, ap, ap₂, ◌∙◌, arith, filter, eqb-true}
 use Rattle.tp_base.specs.declared.rows.ObjectRow.{ObjectRow}
 use Rattle.tp_base.specs.declared.rows.TimerSetting.{TimerSetting}
 use Rattle.tp_base.specs.declared.rows.Arming.{Arming}
@@ -8,7 +8,7 @@ use Rattle.tp_base.specs.Armings.{without_arming}
 use Rattle.tp_model.specs.World.{World}
 use Rattle.tp_model.specs.Counts.{numbered}
 use Rattle.tp_model.specs.Changes.{release_object}
-use Rattle.tp_model.specs.Groups.{object_id, numbers_in, is_object_that, is_member, is_member_at, first_member, released_from, without_members}
+use Rattle.tp_model.specs.Groups.{object_id, is_object_that, is_member, is_member_at, first_member, released_from, without_members}
 use Rattle.tp_model.proofs.Releasing.{Releases, one_released, that_stands, that_kept, that_made, not_true_false, none_in_range}
 use Rattle.tp_model.proofs.Refusals.{not_false, false_true, numbered_some, numbered_at}
 

@@ -1,16 +1,19 @@
 -- From what it follows that a plan asks for a change that is allowed, made by the actor.
-use Rattle.std.proofs.Common.{◌≡◌, ℕ, Bool, List, Option, Some, None, refl, false, true, not, ap, ◌∙◌, sym}
+use Rattle.std.proofs.Common.{◌≡◌, ℕ, ◌<◌, Bool, List, Option, Some, None, refl, false, true, not, ap, ◌∙◌, sym}
 use Rattle.tp_base.specs.declared.ids.Who.{Who}
 use Rattle.tp_base.specs.declared.calls.Call.{Call}
 use Rattle.tp_base.specs.declared.answers.Refusal.{Refusal}
 use Rattle.tp_base.specs.declared.plans.Busy.{Busy}
+use Rattle.tp_base.specs.declared.answers.Answer.TheVariants as answer
+use Rattle.tp_base.specs.declared.plans.Change.{Change}
 use Rattle.tp_base.specs.declared.plans.Plan.{Plan}
+use Rattle.tp_base.specs.declared.plans.Plan.TheVariants.{Does}
 use Rattle.tp_model.specs.World.{World}
 use Rattle.tp_model.specs.Conditions.{busy_of}
-use Rattle.tp_model.specs.Refusing.{first_refusal, unless_refused}
+use Rattle.tp_model.specs.Refusing.{first_refusal, unless_refused, make_refusals, make}
 use Rattle.tp_model.specs.Support.Sound.{IsSound, is_standing}
 use Rattle.tp_model.specs.Support.Safe.{IsSafe}
-use Rattle.tp_model.proofs.Refusals.{NoneHolds, none_holds}
+use Rattle.tp_model.proofs.Refusals.{NoneHolds, none_holds, room_to_make}
 use Rattle.tp_model.proofs.Actors.{IsBusy, busy_stands}
 use Rattle.tp_base.specs.declared.rows.ObjectRow.{ObjectRow}
 use Rattle.std.specs.Option.{option_map_or}
@@ -28,6 +31,10 @@ safe_unless fresh w who call rs p h = known (first_refusal rs) refl
     known : (r : Option Refusal) → first_refusal rs ≡ r → IsSafe fresh w who call (unless_refused r p)
     known None is = h (none_holds rs is)
     known (Some refusal) is = tt
+
+-- of a call that makes one more, where there may be one more
+pub make_safe : (fresh : ℕ) (w : World) (who : Who) (call : Call) (own : List (Bool × Refusal)) (limit count number : ℕ) (c : Change) → (count < limit → IsSafe fresh w who call (Does (answer.Made number) c)) → IsSafe fresh w who call (make w who own limit count number c)
+make_safe fresh w who call own limit count number c safe = safe_unless fresh w who call (make_refusals w who own limit count) _ (λ none. safe (room_to_make w who own limit count none))
 
 -- of a call that only a running callback makes
 pub in_callback_safe : (fresh : ℕ) (w : World) (who : Who) (call : Call) (rs : List (Bool × Refusal)) (by : Option Busy → Plan) → IsSound fresh w → IsSafe fresh w who call (by None)

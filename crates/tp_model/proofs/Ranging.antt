@@ -15,6 +15,8 @@ use Rattle.tp_base.specs.declared.plans.PoolChange.{PoolChange}
 use Rattle.tp_base.specs.declared.plans.Change.{Change}
 use Rattle.tp_base.specs.declared.plans.Change.TheVariants as change
 use Rattle.tp_base.specs.declared.plans.Plan.{Plan}
+use Rattle.tp_base.specs.declared.plans.Plan.TheVariants as plan
+use Rattle.tp_base.specs.declared.answers.Answer.TheVariants as answer
 use Rattle.tp_base.specs.declared.plans.WaitEnd.{WaitEnd}
 use Rattle.tp_base.specs.declared.plans.WaitEnd.TheVariants.{Free, Exhausted}
 use Rattle.tp_base.specs.declared.rows.KernelRow.{KernelRow}
@@ -47,7 +49,7 @@ use Rattle.tp_model.specs.World.{World, BegunWait}
 use Rattle.tp_model.specs.Counts.{numbered, has_number}
 use Rattle.tp_model.specs.Conditions.{busy_of}
 use Rattle.tp_model.specs.Changes.{kernels_taken, kernels_left, new_wait, change_pool, replaced, taken, marked, operated, returned, changed, release_object, new_close, notified}
-use Rattle.tp_model.specs.Refusing.{first_refusal, unless_refused}
+use Rattle.tp_model.specs.Refusing.{first_refusal, unless_refused, make_refusals, make}
 use Rattle.tp_model.specs.Laws.Entries.{is_completion}
 use Rattle.tp_model.specs.Support.Allowed.{IsAllowed, IsReady, MayChange, Suits}
 use Rattle.tp_model.specs.Support.Ranged.{IsStateInRange, IsObjectInRange, IsCallbackInRange, AreRowsInRange, IsTriggerInRange, IsStepInRange, IsChangeInRange, IsPlanInRange, IsWaitInRange}
@@ -72,7 +74,7 @@ use Rattle.tp_model.proofs.Actions.{is_that, may_raise_still}
 use Rattle.tp_model.proofs.Performing.{returning_of}
 use Rattle.tp_model.proofs.Kernels.{all_changed, state_ranged, taken_ranged, taken_state_ranged}
 use Rattle.tp_model.proofs.Lists.{all_append, all_appended, all_filter, all_get, all_map, find_all, all_set}
-use Rattle.tp_model.proofs.Refusals.{NoneHolds, none_holds, numbered_some, false_true}
+use Rattle.tp_model.proofs.Refusals.{NoneHolds, none_holds, room_to_make, numbered_some, false_true}
 use Rattle.tp_model.specs.Groups.{released_from, is_member, is_member_at, notices_of}
 use Rattle.std.proofs.lemmas.List.{length-map}
 
@@ -366,6 +368,10 @@ made_ranged rs p bare h = known (first_refusal rs) refl
     known : (r : Option Refusal) → first_refusal rs ≡ r → IsPlanInRange (unless_refused r p)
     known None is = h (none_holds rs is)
     known (Some refusal) is = refused rs bare is
+
+pub make_ranged : (w : World) (who : Who) (own : List (Bool × Refusal)) (limit count number : ℕ) (c : Change) → AreBare (make_refusals w who own limit count) → (NoneHolds (make_refusals w who own limit count) → count < limit → IsPlanInRange (plan.Does (answer.Made number) c))
+    → IsPlanInRange (make w who own limit count number c)
+make_ranged w who own limit count number c bare within = made_ranged (make_refusals w who own limit count) _ bare (λ none. within none (room_to_make w who own limit count none))
 
 pub ranged_unless : (rs : List (Bool × Refusal)) (p : Plan) → AreBare rs → IsPlanInRange p → IsPlanInRange (unless_refused (first_refusal rs) p)
 ranged_unless rs p bare h = made_ranged rs p bare (λ _. h)

@@ -1,12 +1,16 @@
 -- What is known of a call that meets no refusal.
-use Rattle.std.proofs.Common.{◌≡◌, ℕ, suc, zero, ◌-◌, ◌<◌, ◌≤◌, Bool, true, false, cond, not, ◌&&◌, ◌||◌, ◌==◌, List, [], ◌∷◌, length, slice_get, Option, Some, None, is_some, refl, sym, ap, ◌∙◌, arith, ne_eqb, eqb-true, eq-eqb}
+use Rattle.std.specs.Prelude.{nat_le}
+use Rattle.std.proofs.Common.{◌≡◌, ℕ, suc, zero, ◌-◌, ◌<◌, ◌≤◌, Bool, true, false, cond, not, ◌&&◌, ◌||◌, ◌==◌, List, [], ◌∷◌, ◌++◌, length, slice_get, Option, Some, None, is_some, refl, sym, ap, ◌∙◌, arith, ne_eqb, eqb-true, eq-eqb}
+use Rattle.std.proofs.lemmas.Bool.{leb-false}
 use Rattle.std.proofs.lemmas.Option.{slice_get_within}
 use Rattle.tp_base.specs.declared.answers.Refusal.{Refusal}
+use Rattle.tp_base.specs.declared.answers.Refusal.TheVariants.{ObjectLimit}
 use Rattle.tp_base.specs.declared.ids.Who.{Who}
 use Rattle.tp_base.specs.declared.ids.Who.TheVariants.{Client, Worker}
 use Rattle.tp_model.specs.Counts.{numbered}
 use Rattle.tp_base.specs.Actors.{is_same_actor}
-use Rattle.tp_model.specs.Refusing.{first_refusal}
+use Rattle.tp_model.specs.World.{World}
+use Rattle.tp_model.specs.Refusing.{first_refusal, make_refusals}
 
 pub false_true : false ≡ true → ⊥
 false_true e = cc
@@ -23,6 +27,14 @@ none_holds (r ∷ rs) e =
       | true ↦ λ h. absurd cc
       | false ↦ λ h. (refl, none_holds rs h)
     ] e
+
+-- what a call makes one more of may be one more
+pub room_to_make : (w : World) (who : Who) (own : List (Bool × Refusal)) (limit count : ℕ) → NoneHolds (make_refusals w who own limit count) → count < limit
+room_to_make w who own limit count none = behind own none.1.1.1.1
+  where
+    behind : (rs : List (Bool × Refusal)) → NoneHolds (rs ++ (nat_le limit count, ObjectLimit) ∷ []) → count < limit
+    behind [] h = leb-false limit count h.0
+    behind (r ∷ rs) h = behind rs h.1
 
 pub neither : (a b : Bool) → (a || b) ≡ false → (a ≡ false) × (b ≡ false)
 neither true b e = absurd cc

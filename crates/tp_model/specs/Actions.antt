@@ -1,5 +1,5 @@
 -- Actions on return, as a callback's worker returns from it.
-use Rattle.std.specs.Prelude.{List, if◌then◌else◌, Option, None, Some}
+use Rattle.std.specs.Prelude.{if◌then◌else◌, Option, None, Some}
 use Rattle.tp_base.specs.declared.ids.Who.{Who}
 use Rattle.tp_base.specs.declared.answers.ActionKind.{ActionKind}
 use Rattle.tp_base.specs.declared.answers.ActionKind.TheVariants.{Section, Mutex, Semaphore, Event}
@@ -12,7 +12,7 @@ use Rattle.tp_base.specs.declared.rows.Status.{Status}
 use Rattle.tp_base.specs.declared.rows.Status.TheVariants.{Running}
 use Rattle.tp_base.specs.declared.plans.KernelChange.TheVariants.{Set, Raise, Leave}
 use Rattle.tp_base.specs.Kernels.{state_after}
-use Rattle.tp_base.specs.Actions.{filled, may_perform, left_out, change_asked, word, is_performed}
+use Rattle.tp_base.specs.Actions.{filled, may_perform, left_out, word, is_performed}
 use Rattle.tp_model.specs.World.{World}
 use Rattle.tp_model.specs.Kernels.{is_kernel_that}
 use Rattle.tp_model.specs.Sources.{Firing, jobless, sources_of, with_state, signal}

@@ -2,7 +2,6 @@
 use Rattle.std.proofs.Common.{◌≡◌, ℕ, zero, suc, ◌+◌, ◌<◌, ◌≤◌, Bool, true, false, cond, not, ◌&&◌, ◌||◌, ◌==◌, List, [], ◌∷◌, length, Option, Some, None, is_some, refl, sym, ap, ap₂, arith, filter, find}
 use Rattle.std.specs.List.{range_with_len}
 use Rattle.std.specs.Option.{option_map_or, unwrap_or}
-use Rattle.std.proofs.lemmas.Bool.{leb-false}
 use Rattle.std.proofs.lemmas.List.{length-map}
 use Rattle.std.proofs.lemmas.List.FromFn.{length-range_with_len}
 use Rattle.tp_base.specs.declared.ids.Who.{Who}
@@ -22,7 +21,7 @@ use Rattle.tp_model.specs.Conditions.{is_actor, is_finished, is_closed_group, is
 use Rattle.tp_model.specs.Groups.{is_group, object_id, objects_that, numbers_in, is_object_that, is_member, gets_notice, first_member, is_simple_of, is_operating_member, first_operating, notices_of}
 use Rattle.tp_model.specs.Refusing.{first_refusal, unless_refused}
 use Rattle.tp_model.specs.Calls.Waits.{count_cancelled_by}
-use Rattle.tp_model.specs.Calls.Groups.{create_group_refusals, create_group_plan, close_group_refusals, close_group_plan, begin_close_refusals, begin_close_plan}
+use Rattle.tp_model.specs.Calls.Groups.{create_group_plan, close_group_refusals, close_group_plan, begin_close_refusals, begin_close_plan}
 use Rattle.tp_model.specs.Support.Sound.{IsSound}
 use Rattle.tp_model.specs.Support.Safe.{IsSafe}
 use Rattle.tp_model.specs.Support.Remembered.{lives, forget}
@@ -30,8 +29,8 @@ use Rattle.tp_model.specs.Support.Ranged.{IsRanged, IsPlanInRange}
 use Rattle.tp_model.proofs.Lists.{any_filter, find_agree, filter_filter}
 use Rattle.tp_model.proofs.Refusals.{neither, not_false, false_true}
 use Rattle.tp_model.proofs.Forgetting.{busy_forget, covered_forget, over_not_cancelled, over_not_outstanding}
-use Rattle.tp_model.proofs.Planning.{safe_unless}
-use Rattle.tp_model.proofs.Ranging.{ranged_unless, made_ranged}
+use Rattle.tp_model.proofs.Planning.{safe_unless, make_safe}
+use Rattle.tp_model.proofs.Ranging.{ranged_unless, make_ranged}
 use Rattle.tp_model.proofs.Calls.Objects.{over_not_operation}
 use Rattle.tp_model.proofs.Calls.Waits.{begun_ranged}
 
@@ -40,8 +39,7 @@ use Rattle.tp_model.proofs.Calls.Waits.{begun_ranged}
 pub create_group_safe : (fresh : ℕ) (w : World) (who : Who) → IsSafe fresh w who CreateGroup (create_group_plan w who)
 unfolding create_group_plan
 create_group_safe fresh w who =
-    safe_unless fresh w who CreateGroup (create_group_refusals w who) _
-    (λ none. record { allowed = leb-false w.limits.groups (length w.groups) none.1.1.1.1.0; made_by = tt; accepted = refl; tells = refl })
+    make_safe fresh w who CreateGroup [] w.limits.groups (length w.groups) (length w.groups + 1) change.CreateGroup (λ room. record { allowed = room; made_by = tt; accepted = refl; tells = refl })
 
 pub create_group_forget : (w : World) (who : Who) → create_group_plan (forget w) who ≡ create_group_plan w who
 unfolding create_group_plan
@@ -50,8 +48,7 @@ create_group_forget w who = refl
 pub create_group_ranged : (w : World) (who : Who) → IsRanged w → IsPlanInRange (create_group_plan w who)
 unfolding create_group_plan
 create_group_ranged w who g =
-    made_ranged (create_group_refusals w who) (plan.Does (answer.Made (length w.groups + 1)) change.CreateGroup) _
-    (λ none. ((omega arith, omega (arith, leb-false w.limits.groups (length w.groups) none.1.1.1.1.0, g.limits.groups_most)), tt))
+    make_ranged w who [] w.limits.groups (length w.groups) (length w.groups + 1) change.CreateGroup _ (λ _ room. ((omega arith, omega (arith, room, g.limits.groups_most)), tt))
 
 -- ---- CloseGroup
 

@@ -1,12 +1,19 @@
 -- The facts of calls on I/O objects.
-use Rattle.std.proofs.Common.{◌≡◌, ℕ, ◌+◌, ◌<◌, ◌^◌, ◌&&◌, ◌==◌, ◌∙◌, true, false, cond, not, length, List, [], ◌∷◌, ◌++◌, Option, Some, None, is_none, refl, sym, ap, subst, find, filter, eqb-true, arith}
+use Rattle.std.proofs.Common.{◌≡◌, ℕ, ◌+◌, ◌<◌, ◌^◌, ◌&&◌, ◌==◌, ◌∙◌, true, false, cond, length, List, [], ◌∷◌, ◌++◌, Option, Some, None, is_none, refl, sym, ap, subst, find, filter, eqb-true, arith}
 use Rattle.std.specs.Option.{option_map_or}
 use Rattle.tp_base.specs.declared.ids.Who.{Who}
 use Rattle.tp_base.specs.declared.ids.ObjectId.{ObjectId}
 use Rattle.tp_base.specs.declared.calls.Kind.TheVariants.{Wait, Io}
+use Rattle.tp_base.specs.declared.calls.Call.{Call}
 use Rattle.tp_base.specs.declared.calls.Call.TheVariants.{StartIo, IssueIo, CancelIo, CompleteIo}
-use Rattle.tp_base.specs.declared.answers.Refusal.TheVariants.{NoSuch, Released, NotRunning, InWait, NotStarted, NoOperation}
+use Rattle.tp_base.specs.declared.answers.Answer.{Answer}
+use Rattle.tp_base.specs.declared.answers.Answer.TheVariants as answer
+use Rattle.tp_base.specs.declared.answers.Refusal.TheVariants.{NotStarted, NoOperation}
+use Rattle.tp_base.specs.declared.plans.IoStep.{IoStep}
+use Rattle.tp_base.specs.declared.plans.IoStep.TheVariants.{Issue, GiveUp}
+use Rattle.tp_base.specs.declared.plans.Change.TheVariants as change
 use Rattle.tp_base.specs.declared.plans.Plan.{Plan}
+use Rattle.tp_base.specs.declared.plans.Plan.TheVariants.{Does}
 use Rattle.tp_base.specs.declared.rows.Status.{Status}
 use Rattle.tp_base.specs.declared.rows.Status.TheVariants.{Expected, Issued}
 use Rattle.tp_base.specs.declared.rows.ObjectRow.{ObjectRow}
@@ -14,9 +21,9 @@ use Rattle.tp_base.specs.declared.rows.CallbackRow.{CallbackRow}
 use Rattle.tp_base.specs.Ranges.{IsCallInRange}
 use Rattle.tp_model.specs.World.{World}
 use Rattle.tp_model.specs.Counts.{numbered, has_number, is_expected, is_issued, callback_of}
-use Rattle.tp_model.specs.Conditions.{is_actor, is_finished, is_without_callback, is_in_wait, is_released, is_object_of, is_same_kind}
-use Rattle.tp_model.specs.Refusing.{first_refusal, unless_refused, object_refusals}
-use Rattle.tp_model.specs.Calls.Io.{start_io_refusals, start_io, start_io_plan, is_expected_of, first_expected, expected_refusals, issue_io, issue_io_plan, cancel_io, cancel_io_plan, issued_row, issued_of, complete_io_refusals, complete_io, complete_io_plan}
+use Rattle.tp_model.specs.Conditions.{is_finished, is_released, is_object_of, is_same_kind}
+use Rattle.tp_model.specs.Refusing.{first_refusal, unless_refused, actor_refusals, object_refusals}
+use Rattle.tp_model.specs.Calls.Io.{start_io_refusals, start_io, start_io_plan, is_expected_of, first_expected, expected_refusals, operate, operate_first, issue_io_plan, cancel_io_plan, issued_row, issued_of, complete_io_refusals, complete_io, complete_io_plan}
 use Rattle.tp_model.specs.Laws.Entries.{event, Completes}
 use Rattle.tp_model.specs.Support.Told.{silent, nothing}
 use Rattle.tp_model.specs.Support.Sound.{IsSound, IsRising}
@@ -108,49 +115,44 @@ module _ (w : World) (who : Who) (object : ObjectId) where
   first_ranged : (c : CallbackRow) → IsRanged w → first_expected w object.0 ≡ Some c → c.number < 2 ^ 64
   first_ranged c g is = (find_all IsCallbackInRange (is_expected_of object.0) c w.callbacks g.rows.callbacks is).number
 
+  -- what a step with it comes to
+  operate_safe : (fresh : ℕ) (call : Call) (told : ℕ → Answer) (how : IoStep) → IsSound fresh w → ((c : CallbackRow) → IsExpected w c → IsSafe fresh w who call (Does (told c.number) (change.Operate c how))) → IsSafe fresh w who call (operate_first w who object told how)
+  operate_safe fresh call told how s safe = safe_unless fresh w who call (expected_refusals w who object.0) _ (λ _. operates (first_expected w object.0) refl)
+    where
+      operates : (first : Option CallbackRow) → first_expected w object.0 ≡ first → IsSafe fresh w who call (operate told how first)
+      operates None is = tt
+      operates (Some c) is = safe c (first_stands fresh w object.0 c s is)
+
+  operate_ranged : (told : ℕ → Answer) (how : IoStep) → IsRanged w → ((c : CallbackRow) → c.number < 2 ^ 64 → IsPlanInRange (Does (told c.number) (change.Operate c how))) → IsPlanInRange (operate_first w who object told how)
+  operate_ranged told how g within = ranged_unless (expected_refusals w who object.0) _ _ (operates (first_expected w object.0) refl)
+    where
+      operates : (first : Option CallbackRow) → first_expected w object.0 ≡ first → IsPlanInRange (operate told how first)
+      operates None is = tt
+      operates (Some c) is = within c (first_ranged c g is)
+
   pub issue_io_safe : (fresh : ℕ) → IsSound fresh w → IsSafe fresh w who (IssueIo object) (issue_io_plan w who object)
   unfolding issue_io_plan
-  issue_io_safe fresh s = safe_unless fresh w who (IssueIo object) (expected_refusals w who object.0) _ (λ _. issues (first_expected w object.0) refl)
-    where
-      issues : (first : Option CallbackRow) → first_expected w object.0 ≡ first → IsSafe fresh w who (IssueIo object) (issue_io first)
-      issues None is = tt
-      issues (Some c) is =
-          let of = first_stands fresh w object.0 c s is in
-          record { allowed = record { found = of.found; status = of.status }; made_by = tt; accepted = refl; tells = refl }
+  issue_io_safe fresh s = operate_safe fresh (IssueIo object) answer.Operation Issue s (λ c of. record { allowed = record { found = of.found; status = of.status }; made_by = tt; accepted = refl; tells = refl })
 
   pub issue_io_forget : issue_io_plan (forget w) who object ≡ issue_io_plan w who object
   unfolding issue_io_plan
-  issue_io_forget = expected_forget issue_io
+  issue_io_forget = expected_forget (operate answer.Operation Issue)
 
   pub issue_io_ranged : IsRanged w → IsPlanInRange (issue_io_plan w who object)
   unfolding issue_io_plan
-  issue_io_ranged g = ranged_unless (expected_refusals w who object.0) _ _ (issues (first_expected w object.0) refl)
-    where
-      issues : (first : Option CallbackRow) → first_expected w object.0 ≡ first → IsPlanInRange (issue_io first)
-      issues None is = tt
-      issues (Some c) is = (first_ranged c g is, tt)
+  issue_io_ranged g = operate_ranged answer.Operation Issue g (λ c number. (number, tt))
 
   pub cancel_io_safe : (fresh : ℕ) → IsSound fresh w → IsSafe fresh w who (CancelIo object) (cancel_io_plan w who object)
   unfolding cancel_io_plan
-  cancel_io_safe fresh s = safe_unless fresh w who (CancelIo object) (expected_refusals w who object.0) _ (λ _. cancels (first_expected w object.0) refl)
-    where
-      cancels : (first : Option CallbackRow) → first_expected w object.0 ≡ first → IsSafe fresh w who (CancelIo object) (cancel_io first)
-      cancels None is = tt
-      cancels (Some c) is =
-          let of = first_stands fresh w object.0 c s is in
-          record { allowed = record { found = of.found; status = of.status }; made_by = tt; accepted = refl; tells = refl }
+  cancel_io_safe fresh s = operate_safe fresh (CancelIo object) answer.Cancelled GiveUp s (λ c of. record { allowed = record { found = of.found; status = of.status }; made_by = tt; accepted = refl; tells = refl })
 
   pub cancel_io_forget : cancel_io_plan (forget w) who object ≡ cancel_io_plan w who object
   unfolding cancel_io_plan
-  cancel_io_forget = expected_forget cancel_io
+  cancel_io_forget = expected_forget (operate answer.Cancelled GiveUp)
 
   pub cancel_io_ranged : IsRanged w → IsPlanInRange (cancel_io_plan w who object)
   unfolding cancel_io_plan
-  cancel_io_ranged g = ranged_unless (expected_refusals w who object.0) _ _ (cancels (first_expected w object.0) refl)
-    where
-      cancels : (first : Option CallbackRow) → first_expected w object.0 ≡ first → IsPlanInRange (cancel_io first)
-      cancels None is = tt
-      cancels (Some c) is = (first_ranged c g is, tt)
+  cancel_io_ranged g = operate_ranged answer.Cancelled GiveUp g (λ c number. (number, tt))
 
 -- ---- CompleteIo
 
@@ -211,7 +213,7 @@ module _ (w : World) (who : Who) (callback error bytes : ℕ) where
   pub complete_io_forget : (fresh : ℕ) → IsSound fresh w → complete_io_plan (forget w) who callback error bytes ≡ complete_io_plan w who callback error bytes
   unfolding complete_io_plan
   complete_io_forget fresh s =
-      ap (λ c. unless_refused (first_refusal ((not (is_actor w who), NoSuch) ∷ (is_finished w who, Released) ∷ (is_without_callback w who, NotRunning) ∷ (is_in_wait w who, InWait) ∷ (is_none c, NoOperation) ∷ [])) (complete_io error bytes c))
+      ap (λ c. unless_refused (first_refusal (actor_refusals w who ++ (is_none c, NoOperation) ∷ [])) (complete_io error bytes c))
       (issued_forget 1 fresh callback w.callbacks s.numbers)
 
   pub complete_io_ranged : IsRanged w → IsCallInRange (CompleteIo callback error bytes) → IsPlanInRange (complete_io_plan w who callback error bytes)

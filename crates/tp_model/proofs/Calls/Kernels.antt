@@ -1,6 +1,6 @@
 -- The facts of calls on kernel objects.
-use Rattle.std.proofs.Common.{◌≡◌, ℕ, ◌+◌, ◌-◌, ◌≤◌, ◌<◌, ◌^◌, filter, Bool, true, false, not, ◌||◌, ◌==◌, List, [], ◌∷◌, length, arith, Option, Some, None, refl, sym, ap, ◌∙◌, nat_lt}
-use Rattle.std.proofs.lemmas.Bool.{leb-false, ltb-false}
+use Rattle.std.proofs.Common.{◌≡◌, ℕ, ◌+◌, ◌-◌, ◌≤◌, ◌^◌, filter, Bool, true, false, not, ◌||◌, ◌==◌, List, [], ◌∷◌, length, arith, Option, Some, None, refl, sym, ap, ◌∙◌, nat_lt}
+use Rattle.std.proofs.lemmas.Bool.{ltb-false}
 use Rattle.std.specs.Option.{option_map_or}
 use Rattle.tp_base.specs.Ranges.{IsCallInRange, IsAnswerInRange, count_most}
 use Rattle.tp_base.specs.declared.ids.Who.{Who}
@@ -16,7 +16,6 @@ use Rattle.tp_base.specs.declared.answers.Answer.TheVariants as answer
 use Rattle.tp_base.specs.declared.plans.KernelChange.{KernelChange}
 use Rattle.tp_base.specs.declared.plans.KernelChange.TheVariants.{Set, Reset, Raise, Leave}
 use Rattle.tp_base.specs.declared.plans.Change.TheVariants as change
-use Rattle.tp_base.specs.declared.plans.Plan.TheVariants as plan
 use Rattle.tp_base.specs.declared.rows.KernelState.{KernelState}
 use Rattle.tp_base.specs.declared.rows.KernelState.TheVariants.{Event, Semaphore, Mutex, Section}
 use Rattle.tp_base.specs.declared.rows.KernelRow.{KernelRow}
@@ -28,7 +27,8 @@ use Rattle.tp_model.specs.Counts.{numbered, is_live, slots}
 use Rattle.tp_model.specs.Sources.{jobless, signal, sources_of}
 use Rattle.tp_model.specs.Kernels.{is_kernel_that, count_at}
 use Rattle.tp_model.specs.History.{is_refusal}
-use Rattle.tp_model.specs.Calls.Kernels.{create_kernel_refusals, create_kernel, create_event_plan, create_semaphore_plan, create_lock_plan, kernel_refusals, change_kernel, set_event_plan, reset_event_plan, release_semaphore_refusals, release_semaphore_plan, release_lock_plan}
+use Rattle.tp_model.specs.Refusing.{make_refusals}
+use Rattle.tp_model.specs.Calls.Kernels.{create_kernel, create_event_plan, create_semaphore_plan, create_lock_plan, kernel_refusals, change_kernel, set_event_plan, reset_event_plan, release_semaphore_refusals, release_semaphore_plan, release_lock_plan}
 use Rattle.tp_model.specs.Support.Allowed.{Suits}
 use Rattle.tp_model.specs.Support.Told.{told_by, silent}
 use Rattle.tp_model.specs.Support.Safe.{IsSafe}
@@ -38,33 +38,31 @@ use Rattle.tp_model.proofs.Refusals.{NoneHolds, neither, not_false, false_true}
 use Rattle.tp_model.proofs.Kernels.{Stands, that_stands}
 use Rattle.tp_model.proofs.Lists.{all_get}
 use Rattle.tp_model.proofs.Refusals.{numbered_some}
-use Rattle.tp_model.proofs.Planning.{safe_unless}
+use Rattle.tp_model.proofs.Planning.{safe_unless, make_safe}
 use Rattle.tp_model.proofs.Arming.{signal_within}
 use Rattle.tp_model.proofs.Calls.Timers.{fire_safe, fire_ranged}
-use Rattle.tp_model.proofs.Ranging.{AreBare, made_ranged, ranged_unless}
+use Rattle.tp_model.proofs.Ranging.{AreBare, make_ranged, ranged_unless}
 
 -- ---- what makes one
 
 -- the entry's answer is its number
 create_safe : (fresh : ℕ) (w : World) (who : Who) (call : Call) (own : List (Bool × Refusal)) (state : KernelState)
-    → told_by (record { who = who; call = call; answer = answer.Made (length w.kernels + 1) }) ≡ silent → takings_of state ≤ 1 → (NoneHolds (create_kernel_refusals w who own) → length w.kernels < w.limits.kernels)
-    → IsSafe fresh w who call (create_kernel w who own state)
-create_safe fresh w who call own state tells takings room =
-    safe_unless fresh w who call (create_kernel_refusals w who own) _
-    (λ none. record { allowed = record { room = room none; takings = takings }; made_by = tt; accepted = refl; tells = tells })
+    → told_by (record { who = who; call = call; answer = answer.Made (length w.kernels + 1) }) ≡ silent → takings_of state ≤ 1 → IsSafe fresh w who call (create_kernel w who own state)
+create_safe fresh w who call own state tells takings =
+    make_safe fresh w who call own w.limits.kernels (length w.kernels) (length w.kernels + 1) (change.CreateKernel state)
+    (λ room. record { allowed = record { room = room; takings = takings }; made_by = tt; accepted = refl; tells = tells })
 
-create_ranged : (w : World) (who : Who) (own : List (Bool × Refusal)) (state : KernelState) → AreBare (create_kernel_refusals w who own) → IsRanged w
-    → (NoneHolds (create_kernel_refusals w who own) → (length w.kernels < w.limits.kernels) × IsStateInRange state) → IsPlanInRange (create_kernel w who own state)
+create_ranged : (w : World) (who : Who) (own : List (Bool × Refusal)) (state : KernelState) → AreBare (make_refusals w who own w.limits.kernels (length w.kernels)) → IsRanged w
+    → (NoneHolds (make_refusals w who own w.limits.kernels (length w.kernels)) → IsStateInRange state) → IsPlanInRange (create_kernel w who own state)
 create_ranged w who own state bare g known =
-    made_ranged (create_kernel_refusals w who own) (plan.Does (answer.Made (length w.kernels + 1)) (change.CreateKernel state)) bare
-    (λ none. ((omega arith, omega (arith, (known none).0, g.limits.kernels_most)), (known none).1))
+    make_ranged w who own w.limits.kernels (length w.kernels) (length w.kernels + 1) (change.CreateKernel state) bare (λ none room. ((omega arith, omega (arith, room, g.limits.kernels_most)), known none))
 
 -- ---- CreateEvent
 
 pub create_event_safe : (fresh : ℕ) (w : World) (who : Who) (manual signalled : Bool) → IsSafe fresh w who (CreateEvent manual signalled) (create_event_plan w who manual signalled)
 unfolding create_event_plan
 create_event_safe fresh w who manual signalled =
-    create_safe fresh w who (CreateEvent manual signalled) [] (Event manual signalled) refl (omega arith) (λ none. leb-false w.limits.kernels (length w.kernels) none.1.1.1.1.0)
+    create_safe fresh w who (CreateEvent manual signalled) [] (Event manual signalled) refl (omega arith)
 
 pub create_event_forget : (w : World) (who : Who) (manual signalled : Bool) → create_event_plan (forget w) who manual signalled ≡ create_event_plan w who manual signalled
 unfolding create_event_plan
@@ -72,7 +70,7 @@ create_event_forget w who manual signalled = refl
 
 pub create_event_ranged : (w : World) (who : Who) (manual signalled : Bool) → IsRanged w → IsPlanInRange (create_event_plan w who manual signalled)
 unfolding create_event_plan
-create_event_ranged w who manual signalled g = create_ranged w who [] (Event manual signalled) _ g (λ none. (leb-false w.limits.kernels (length w.kernels) none.1.1.1.1.0, tt))
+create_event_ranged w who manual signalled g = create_ranged w who [] (Event manual signalled) _ g (λ _. tt)
 
 -- ---- CreateSemaphore
 
@@ -80,7 +78,6 @@ pub create_semaphore_safe : (fresh : ℕ) (w : World) (who : Who) (initial most 
 unfolding create_semaphore_plan
 create_semaphore_safe fresh w who initial most =
     create_safe fresh w who (CreateSemaphore initial most) ((nat_lt most initial || (most == 0), OverMaximum initial) ∷ []) (Semaphore initial most) refl (omega arith)
-    (λ none. leb-false w.limits.kernels (length w.kernels) none.1.1.1.1.1.0)
 
 pub create_semaphore_forget : (w : World) (who : Who) (initial most : ℕ) → create_semaphore_plan (forget w) who initial most ≡ create_semaphore_plan w who initial most
 unfolding create_semaphore_plan
@@ -90,7 +87,7 @@ pub create_semaphore_ranged : (w : World) (who : Who) (initial most : ℕ) → I
 unfolding create_semaphore_plan
 create_semaphore_ranged w who initial most g c =
     create_ranged w who ((nat_lt most initial || (most == 0), OverMaximum initial) ∷ []) (Semaphore initial most) (tt, (tt, (tt, (tt, (c.0, (tt, tt)))))) g
-    (λ none. (leb-false w.limits.kernels (length w.kernels) none.1.1.1.1.1.0, (ltb-false most initial (neither (nat_lt most initial) (most == 0) none.1.1.1.1.0).0, c.1)))
+    (λ none. (ltb-false most initial (neither (nat_lt most initial) (most == 0) none.1.1.1.1.0).0, c.1))
 
 -- ---- CreateLock
 
@@ -109,7 +106,7 @@ made_state lock.Section who false = tt
 pub create_lock_safe : (fresh : ℕ) (w : World) (who : Who) (lock : Lock) (owned : Bool) → IsSafe fresh w who (CreateLock lock owned) (create_lock_plan w who lock owned)
 unfolding create_lock_plan
 create_lock_safe fresh w who lock owned =
-    create_safe fresh w who (CreateLock lock owned) [] (lock_made lock who owned) refl (made_takings lock who owned) (λ none. leb-false w.limits.kernels (length w.kernels) none.1.1.1.1.0)
+    create_safe fresh w who (CreateLock lock owned) [] (lock_made lock who owned) refl (made_takings lock who owned)
 
 pub create_lock_forget : (w : World) (who : Who) (lock : Lock) (owned : Bool) → create_lock_plan (forget w) who lock owned ≡ create_lock_plan w who lock owned
 unfolding create_lock_plan
@@ -117,7 +114,7 @@ create_lock_forget w who lock owned = refl
 
 pub create_lock_ranged : (w : World) (who : Who) (lock : Lock) (owned : Bool) → IsRanged w → IsPlanInRange (create_lock_plan w who lock owned)
 unfolding create_lock_plan
-create_lock_ranged w who lock owned g = create_ranged w who [] (lock_made lock who owned) _ g (λ none. (leb-false w.limits.kernels (length w.kernels) none.1.1.1.1.0, made_state lock who owned))
+create_lock_ranged w who lock owned g = create_ranged w who [] (lock_made lock who owned) _ g (λ _. made_state lock who owned)
 
 -- ---- what changes one
 

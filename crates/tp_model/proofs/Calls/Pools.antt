@@ -1,6 +1,5 @@
 -- The facts of calls on pools.
-use Rattle.std.proofs.Common.{◌≡◌, ℕ, false, not, ◌||◌, ◌==◌, length, refl, ap, arith, ◌&&◌}
-use Rattle.std.proofs.lemmas.Bool.{leb-false}
+use Rattle.std.proofs.Common.{◌≡◌, ℕ, false, not, ◌||◌, ◌==◌, [], length, refl, ap, arith, ◌&&◌}
 use Rattle.std.specs.List.{list_any}
 use Rattle.tp_base.specs.declared.ids.Who.{Who}
 use Rattle.tp_base.specs.declared.ids.PoolId.{PoolId}
@@ -11,7 +10,6 @@ use Rattle.tp_base.specs.declared.answers.Answer.TheVariants as answer
 use Rattle.tp_base.specs.declared.plans.PoolChange.{PoolChange}
 use Rattle.tp_base.specs.declared.plans.PoolChange.TheVariants.{Close, Maximum, Minimum}
 use Rattle.tp_base.specs.declared.plans.Change.TheVariants as change
-use Rattle.tp_base.specs.declared.plans.Plan.TheVariants as plan
 use Rattle.tp_base.specs.declared.rows.ObjectRow.{ObjectRow}
 use Rattle.tp_base.specs.declared.rows.CallbackRow.{CallbackRow}
 use Rattle.tp_base.specs.Ranges.{IsAnswerInRange}
@@ -19,23 +17,22 @@ use Rattle.tp_model.specs.World.{World}
 use Rattle.tp_model.specs.Counts.{is_live}
 use Rattle.tp_model.specs.Conditions.{is_actor, is_pool}
 use Rattle.tp_model.specs.History.{is_refusal}
-use Rattle.tp_model.specs.Calls.Pools.{create_pool_refusals, create_pool_plan, pool_refusals, change_pool_plan, is_used, close_pool_plan, set_maximum_plan, set_minimum_plan}
+use Rattle.tp_model.specs.Calls.Pools.{create_pool_plan, pool_refusals, change_pool_plan, is_used, close_pool_plan, set_maximum_plan, set_minimum_plan}
 use Rattle.tp_model.specs.Support.Told.{told, told_by}
 use Rattle.tp_model.specs.Support.Safe.{IsSafe}
 use Rattle.tp_model.specs.Support.Remembered.{lives, forget}
 use Rattle.tp_model.specs.Support.Ranged.{IsRanged, IsPlanInRange}
 use Rattle.tp_model.proofs.Lists.{any_filter}
 use Rattle.tp_model.proofs.Refusals.{neither, not_false, made}
-use Rattle.tp_model.proofs.Planning.{safe_unless}
-use Rattle.tp_model.proofs.Ranging.{ranged_unless, made_ranged}
+use Rattle.tp_model.proofs.Planning.{safe_unless, make_safe}
+use Rattle.tp_model.proofs.Ranging.{ranged_unless, make_ranged}
 
 -- ---- CreatePool
 
 pub create_pool_safe : (fresh : ℕ) (w : World) (who : Who) → IsSafe fresh w who CreatePool (create_pool_plan w who)
 unfolding create_pool_plan
 create_pool_safe fresh w who =
-    safe_unless fresh w who CreatePool (create_pool_refusals w who) _
-    (λ none. record { allowed = leb-false w.limits.pools (length w.pools) none.1.1.1.1.0; made_by = tt; accepted = refl; tells = refl })
+    make_safe fresh w who CreatePool [] w.limits.pools (length w.pools) (length w.pools) change.CreatePool (λ room. record { allowed = room; made_by = tt; accepted = refl; tells = refl })
 
 pub create_pool_forget : (w : World) (who : Who) → create_pool_plan (forget w) who ≡ create_pool_plan w who
 unfolding create_pool_plan
@@ -44,8 +41,7 @@ create_pool_forget w who = refl
 pub create_pool_ranged : (w : World) (who : Who) → IsRanged w → IsPlanInRange (create_pool_plan w who)
 unfolding create_pool_plan
 create_pool_ranged w who g =
-    made_ranged (create_pool_refusals w who) (plan.Does (answer.Made (length w.pools)) change.CreatePool) _
-    (λ none. ((g.pools_least, omega (arith, leb-false w.limits.pools (length w.pools) none.1.1.1.1.0, g.limits.pools_most)), tt))
+    make_ranged w who [] w.limits.pools (length w.pools) (length w.pools) change.CreatePool _ (λ _ room. ((g.pools_least, omega (arith, room, g.limits.pools_most)), tt))
 
 -- ---- what changes a pool
 

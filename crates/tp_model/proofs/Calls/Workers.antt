@@ -1,5 +1,5 @@
 -- The facts of calls of workers.
-use Rattle.std.proofs.Common.{◌≤◌, ◌<◌, ◌^◌, ◌+◌, ◌≡◌, ℕ, ◌-◌, Bool, true, false, cond, not, ◌||◌, ◌==◌, length, nat_le, Option, Some, None, is_some, refl, sym, ap, ◌∙◌, arith, eqb-true, ◌&&◌, nat_lt, ap₂}
+use Rattle.std.proofs.Common.{◌≤◌, ◌^◌, ◌+◌, ◌≡◌, ℕ, ◌-◌, Bool, true, false, cond, not, ◌||◌, ◌==◌, length, nat_le, Option, Some, None, is_some, refl, sym, ap, ◌∙◌, arith, eqb-true, ◌&&◌, nat_lt, ap₂}
 use Rattle.std.specs.Option.{option_map_or, option_or}
 use Rattle.std.proofs.lemmas.Bool.{leb-false}
 use Rattle.std.specs.List.{range_with_len}

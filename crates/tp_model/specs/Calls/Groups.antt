@@ -1,11 +1,11 @@
 -- Cleanup groups: CreateThreadpoolCleanupGroup, CloseThreadpoolCleanupGroup, CloseThreadpoolCleanupGroupMembers. BeginClose is
 -- the entry of the last, and End its return.
-use Rattle.std.specs.Prelude.{ℕ, ◌+◌, Bool, false, not, ◌||◌, ◌==◌, nat_le, List, [], ◌∷◌, length, is_some}
+use Rattle.std.specs.Prelude.{ℕ, ◌+◌, Bool, false, not, ◌||◌, ◌==◌, List, [], ◌∷◌, length, is_some}
 use Rattle.std.specs.Option.{option_map_or, unwrap_or}
 use Rattle.tp_base.specs.declared.ids.Who.{Who}
 use Rattle.tp_base.specs.declared.ids.GroupId.{GroupId}
 use Rattle.tp_base.specs.declared.answers.Refusal.{Refusal}
-use Rattle.tp_base.specs.declared.answers.Refusal.TheVariants.{NoSuch, Released, GroupClosed, NotRunning, InWait, OwnCallback, HasMembers, OperationsOutstanding, ObjectLimit}
+use Rattle.tp_base.specs.declared.answers.Refusal.TheVariants.{NoSuch, Released, GroupClosed, NotRunning, InWait, OwnCallback, HasMembers, OperationsOutstanding}
 use Rattle.tp_base.specs.declared.answers.Answer.TheVariants as answer
 use Rattle.tp_base.specs.declared.plans.Busy.{Busy}
 use Rattle.tp_base.specs.declared.plans.Plan.{Plan}
@@ -16,21 +16,12 @@ use Rattle.tp_model.specs.World.{World}
 use Rattle.tp_model.specs.Groups.{is_group, object_id, first_member, has_simple, first_operating, notices_of}
 use Rattle.tp_model.specs.Conditions.{is_actor, is_finished, is_closed_group, is_without_callback, is_in_wait, busy_of}
 use Rattle.tp_model.specs.Calls.Waits.{count_covered, count_cancelled_by}
-use Rattle.tp_model.specs.Refusing.{first_refusal, unless_refused}
+use Rattle.tp_model.specs.Refusing.{first_refusal, unless_refused, make}
 
 -- ---- CreateGroup: CreateThreadpoolCleanupGroup
 
-abbrev pub create_group_refusals : World → Who → List (Bool × Refusal)
-create_group_refusals w who =
-    (not (is_actor w who), NoSuch)
-    ∷ (is_finished w who, Released)
-    ∷ (is_without_callback w who, NotRunning)
-    ∷ (is_in_wait w who, InWait)
-    ∷ (nat_le w.limits.groups (length w.groups), ObjectLimit)
-    ∷ []
-
 unfoldable pub create_group_plan : World → Who → Plan
-create_group_plan w who = unless_refused (first_refusal (create_group_refusals w who)) (Does (answer.Made (length w.groups + 1)) change.CreateGroup)
+create_group_plan w who = make w who [] w.limits.groups (length w.groups) (length w.groups + 1) change.CreateGroup
 
 -- ---- CloseGroup: CloseThreadpoolCleanupGroup
 

@@ -1,13 +1,15 @@
 -- Calls on I/O objects: StartThreadpoolIo and CancelThreadpoolIo; an operation is issued, and the system completes it.
-use Rattle.std.specs.Prelude.{ℕ, Bool, not, ◌&&◌, ◌==◌, List, [], ◌∷◌, ◌++◌, is_none, if◌then◌else◌, Option, None, Some}
+use Rattle.std.specs.Prelude.{ℕ, Bool, ◌&&◌, ◌==◌, List, [], ◌∷◌, ◌++◌, is_none, if◌then◌else◌, Option, None, Some}
 use Rattle.std.specs.List.{find}
 use Rattle.tp_base.specs.declared.ids.Who.{Who}
 use Rattle.tp_base.specs.declared.ids.ObjectId.{ObjectId}
 use Rattle.tp_base.specs.declared.calls.Kind.TheVariants.{Io}
 use Rattle.tp_base.specs.declared.answers.Refusal.{Refusal}
-use Rattle.tp_base.specs.declared.answers.Refusal.TheVariants.{NoSuch, Released, NotRunning, InWait, NotStarted, NoOperation, CallbackLimit}
+use Rattle.tp_base.specs.declared.answers.Refusal.TheVariants.{NoSuch, NotStarted, NoOperation, CallbackLimit}
 use Rattle.tp_base.specs.declared.answers.TakeResult.TheVariants.{Plain}
+use Rattle.tp_base.specs.declared.answers.Answer.{Answer}
 use Rattle.tp_base.specs.declared.answers.Answer.TheVariants as answer
+use Rattle.tp_base.specs.declared.plans.IoStep.{IoStep}
 use Rattle.tp_base.specs.declared.plans.IoStep.TheVariants.{Issue, GiveUp, Complete}
 use Rattle.tp_base.specs.declared.plans.Plan.{Plan}
 use Rattle.tp_base.specs.declared.plans.Plan.TheVariants.{Refused, Does}
@@ -17,9 +19,9 @@ use Rattle.tp_base.specs.declared.rows.ObjectRow.{ObjectRow}
 use Rattle.tp_base.specs.declared.rows.CallbackRow.{CallbackRow}
 use Rattle.tp_model.specs.World.{World}
 use Rattle.tp_model.specs.Counts.{numbered, callback_of, is_expected, is_issued}
-use Rattle.tp_model.specs.Conditions.{is_actor, is_finished, is_without_callback, is_in_wait, lacks_slots_for}
+use Rattle.tp_model.specs.Conditions.{lacks_slots_for}
 use Rattle.tp_model.specs.Sources.{new_callback}
-use Rattle.tp_model.specs.Refusing.{first_refusal, unless_refused, object_refusals}
+use Rattle.tp_model.specs.Refusing.{first_refusal, unless_refused, actor_refusals, object_refusals}
 
 -- ---- StartIo: StartThreadpoolIo
 
@@ -51,19 +53,18 @@ first_expected w object = find (is_expected_of object) w.callbacks
 abbrev pub expected_refusals : World → Who → ℕ → List (Bool × Refusal)
 expected_refusals w who object = object_refusals w who Io object ++ (is_none (first_expected w object), NotStarted) ∷ []
 
-abbrev pub issue_io : Option CallbackRow → Plan
-issue_io None = Refused NotStarted
-issue_io (Some c) = Does (answer.Operation c.number) (change.Operate c Issue)
+abbrev pub operate : (ℕ → Answer) → IoStep → Option CallbackRow → Plan
+operate told how None = Refused NotStarted
+operate told how (Some c) = Does (told c.number) (change.Operate c how)
+
+abbrev pub operate_first : World → Who → ObjectId → (ℕ → Answer) → IoStep → Plan
+operate_first w who object told how = unless_refused (first_refusal (expected_refusals w who object.0)) (operate told how (first_expected w object.0))
 
 unfoldable pub issue_io_plan : World → Who → ObjectId → Plan
-issue_io_plan w who object = unless_refused (first_refusal (expected_refusals w who object.0)) (issue_io (first_expected w object.0))
-
-abbrev pub cancel_io : Option CallbackRow → Plan
-cancel_io None = Refused NotStarted
-cancel_io (Some c) = Does (answer.Cancelled c.number) (change.Operate c GiveUp)
+issue_io_plan w who object = operate_first w who object answer.Operation Issue
 
 unfoldable pub cancel_io_plan : World → Who → ObjectId → Plan
-cancel_io_plan w who object = unless_refused (first_refusal (expected_refusals w who object.0)) (cancel_io (first_expected w object.0))
+cancel_io_plan w who object = operate_first w who object answer.Cancelled GiveUp
 
 -- ---- CompleteIo: an operation is over, and its callback is pending
 
@@ -76,13 +77,7 @@ abbrev pub issued_of : World → ℕ → Option CallbackRow
 issued_of w callback = issued_row (callback_of w callback)
 
 abbrev pub complete_io_refusals : World → Who → ℕ → List (Bool × Refusal)
-complete_io_refusals w who callback =
-    (not (is_actor w who), NoSuch)
-    ∷ (is_finished w who, Released)
-    ∷ (is_without_callback w who, NotRunning)
-    ∷ (is_in_wait w who, InWait)
-    ∷ (is_none (issued_of w callback), NoOperation)
-    ∷ []
+complete_io_refusals w who callback = actor_refusals w who ++ (is_none (issued_of w callback), NoOperation) ∷ []
 
 abbrev pub complete_io : ℕ → ℕ → Option CallbackRow → Plan
 complete_io error bytes None = Refused NoOperation

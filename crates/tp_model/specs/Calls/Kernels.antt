@@ -1,12 +1,12 @@
 -- Calls on events, semaphores, mutexes and critical sections: CreateEvent, CreateSemaphore, CreateMutex and
 -- InitializeCriticalSection, SetEvent, ResetEvent, ReleaseSemaphore, ReleaseMutex and LeaveCriticalSection. To take one,
 -- an actor begins a wait for it.
-use Rattle.std.specs.Prelude.{ℕ, ◌+◌, Bool, not, ◌||◌, ◌==◌, nat_le, nat_lt, List, [], ◌∷◌, ◌++◌, length}
+use Rattle.std.specs.Prelude.{ℕ, ◌+◌, Bool, not, ◌||◌, ◌==◌, nat_lt, List, [], ◌∷◌, length}
 use Rattle.tp_base.specs.declared.ids.Who.{Who}
 use Rattle.tp_base.specs.declared.ids.KernelId.{KernelId}
 use Rattle.tp_base.specs.declared.calls.Lock.{Lock}
 use Rattle.tp_base.specs.declared.answers.Refusal.{Refusal}
-use Rattle.tp_base.specs.declared.answers.Refusal.TheVariants.{NoSuch, WrongKind, Released, NotRunning, InWait, NotOwner, OverMaximum, ObjectLimit}
+use Rattle.tp_base.specs.declared.answers.Refusal.TheVariants.{NoSuch, WrongKind, Released, NotRunning, InWait, NotOwner, OverMaximum}
 use Rattle.tp_base.specs.declared.answers.Answer.{Answer}
 use Rattle.tp_base.specs.declared.answers.Answer.TheVariants as answer
 use Rattle.tp_base.specs.declared.plans.KernelChange.{KernelChange}
@@ -22,22 +22,12 @@ use Rattle.tp_model.specs.Conditions.{is_actor, is_finished, is_without_callback
 use Rattle.tp_base.specs.Kernels.{is_event, is_semaphore, is_lock, owns, passes_by, lock_made}
 use Rattle.tp_model.specs.Kernels.{is_kernel, is_kernel_that, count_at}
 use Rattle.tp_model.specs.Calls.Timers.{fire}
-use Rattle.tp_model.specs.Refusing.{first_refusal, unless_refused}
+use Rattle.tp_model.specs.Refusing.{first_refusal, unless_refused, make}
 
 -- ---- CreateEvent, CreateSemaphore, CreateMutex and InitializeCriticalSection
 
--- behind those of the actor, and before the limit those of the call's own
-abbrev pub create_kernel_refusals : World → Who → List (Bool × Refusal) → List (Bool × Refusal)
-create_kernel_refusals w who own =
-    (not (is_actor w who), NoSuch)
-    ∷ (is_finished w who, Released)
-    ∷ (is_without_callback w who, NotRunning)
-    ∷ (is_in_wait w who, InWait)
-    ∷ (own ++ (nat_le w.limits.kernels (length w.kernels), ObjectLimit) ∷ [])
-
 abbrev pub create_kernel : World → Who → List (Bool × Refusal) → KernelState → Plan
-create_kernel w who own state =
-    unless_refused (first_refusal (create_kernel_refusals w who own)) (Does (answer.Made (length w.kernels + 1)) (change.CreateKernel state))
+create_kernel w who own state = make w who own w.limits.kernels (length w.kernels) (length w.kernels + 1) (change.CreateKernel state)
 
 unfoldable pub create_event_plan : World → Who → Bool → Bool → Plan
 create_event_plan w who manual signalled = create_kernel w who [] (Event manual signalled)

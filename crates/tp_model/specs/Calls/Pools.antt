@@ -1,10 +1,10 @@
 -- Calls on pools: CreateThreadpool, CloseThreadpool, SetThreadpoolThreadMaximum, SetThreadpoolThreadMinimum.
-use Rattle.std.specs.Prelude.{ℕ, Bool, not, ◌||◌, ◌&&◌, ◌==◌, nat_le, List, [], ◌∷◌, length}
+use Rattle.std.specs.Prelude.{ℕ, Bool, not, ◌||◌, ◌&&◌, ◌==◌, List, [], ◌∷◌, length}
 use Rattle.std.specs.List.{list_any}
 use Rattle.tp_base.specs.declared.ids.Who.{Who}
 use Rattle.tp_base.specs.declared.ids.PoolId.{PoolId}
 use Rattle.tp_base.specs.declared.answers.Refusal.{Refusal}
-use Rattle.tp_base.specs.declared.answers.Refusal.TheVariants.{NoSuch, Released, PoolClosed, DefaultPool, NotRunning, InWait, ObjectLimit}
+use Rattle.tp_base.specs.declared.answers.Refusal.TheVariants.{NoSuch, Released, PoolClosed, DefaultPool, NotRunning, InWait}
 use Rattle.tp_base.specs.declared.answers.Answer.{Answer}
 use Rattle.tp_base.specs.declared.answers.Answer.TheVariants as answer
 use Rattle.tp_base.specs.declared.plans.Plan.{Plan}
@@ -17,21 +17,13 @@ use Rattle.tp_base.specs.declared.rows.CallbackRow.{CallbackRow}
 use Rattle.tp_model.specs.World.{World}
 use Rattle.tp_model.specs.Counts.{is_live}
 use Rattle.tp_model.specs.Conditions.{is_actor, is_finished, is_without_callback, is_in_wait, is_pool, is_closed_pool}
-use Rattle.tp_model.specs.Refusing.{first_refusal, unless_refused}
+use Rattle.tp_model.specs.Refusing.{first_refusal, unless_refused, make}
 
 -- ---- CreatePool: CreateThreadpool
 
-abbrev pub create_pool_refusals : World → Who → List (Bool × Refusal)
-create_pool_refusals w who =
-    (not (is_actor w who), NoSuch)
-    ∷ (is_finished w who, Released)
-    ∷ (is_without_callback w who, NotRunning)
-    ∷ (is_in_wait w who, InWait)
-    ∷ (nat_le w.limits.pools (length w.pools), ObjectLimit)
-    ∷ []
-
+-- the default pool is number 0
 unfoldable pub create_pool_plan : World → Who → Plan
-create_pool_plan w who = unless_refused (first_refusal (create_pool_refusals w who)) (Does (answer.Made (length w.pools)) change.CreatePool)
+create_pool_plan w who = make w who [] w.limits.pools (length w.pools) (length w.pools) change.CreatePool
 
 -- ---- ClosePool, SetMaximum, SetMinimum: CloseThreadpool, SetThreadpoolThreadMaximum, SetThreadpoolThreadMinimum
 

@@ -7,7 +7,7 @@ use Rattle.tp_base.specs.declared.calls.Kind.TheVariants.{Timer}
 use Rattle.tp_base.specs.declared.answers.Answer.{Answer}
 use Rattle.tp_base.specs.declared.answers.Answer.TheVariants as answer
 use Rattle.tp_base.specs.declared.answers.Refusal.{Refusal}
-use Rattle.tp_base.specs.declared.answers.Refusal.TheVariants.{NoSuch, Released, NotRunning, InWait, ClockEnd, CallbackLimit}
+use Rattle.tp_base.specs.declared.answers.Refusal.TheVariants.{ClockEnd, CallbackLimit}
 use Rattle.tp_base.specs.declared.plans.Plan.{Plan}
 use Rattle.tp_base.specs.declared.plans.Plan.TheVariants.{Does}
 use Rattle.tp_base.specs.declared.plans.Trigger.{Trigger}
@@ -17,9 +17,9 @@ use Rattle.tp_base.specs.declared.rows.TimerSetting.{TimerSetting}
 use Rattle.tp_base.specs.Armings.{is_armed, is_set}
 use Rattle.tp_base.specs.Timers.{clock_end, expired}
 use Rattle.tp_model.specs.World.{World}
-use Rattle.tp_model.specs.Conditions.{is_actor, is_finished, is_without_callback, is_in_wait, lacks_slots_for}
+use Rattle.tp_model.specs.Conditions.{lacks_slots_for}
 use Rattle.tp_model.specs.Sources.{count_fired}
-use Rattle.tp_model.specs.Refusing.{first_refusal, unless_refused, object_refusals}
+use Rattle.tp_model.specs.Refusing.{first_refusal, unless_refused, actor_refusals, object_refusals}
 
 -- ---- what a trigger does, and what its call answers
 
@@ -63,13 +63,7 @@ count_expiring w now = length (filter (λ (s : TimerSetting). not (is_armed s.ob
 
 abbrev pub advance_refusals : World → Who → ℕ → List (Bool × Refusal)
 advance_refusals w who now =
-    (not (is_actor w who), NoSuch)
-    ∷ (is_finished w who, Released)
-    ∷ (is_without_callback w who, NotRunning)
-    ∷ (is_in_wait w who, InWait)
-    ∷ (nat_lt clock_end now, ClockEnd)
-    ∷ (lacks_slots_for w (count_expiring w now), CallbackLimit)
-    ∷ []
+    actor_refusals w who ++ (nat_lt clock_end now, ClockEnd) ∷ (lacks_slots_for w (count_expiring w now), CallbackLimit) ∷ []
 
 unfoldable pub advance_plan : World → ℕ → Who → ℕ → Plan
 advance_plan w fresh who ticks =

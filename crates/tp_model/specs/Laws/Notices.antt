@@ -1,6 +1,6 @@
 -- The law Notices: a close of a group with cancel gives a notice of each member that has a cancel routine, in order of creation,
 -- once the callbacks of the group have returned; and nothing else gives one.
-use Rattle.std.specs.Prelude.{◌≡◌, ℕ, ◌+◌, Bool, true, false, not, ◌&&◌, ◌==◌, nat_lt, List, [], ◌∷◌, ◌++◌, length, map, if◌then◌else◌, option_map, Option, None, Some}
+use Rattle.std.specs.Prelude.{◌≡◌, ℕ, Bool, true, false, not, ◌&&◌, ◌==◌, nat_lt, List, [], ◌∷◌, ◌++◌, length, map, if◌then◌else◌, option_map, Option, None, Some}
 use Rattle.std.specs.List.{filter_map, list_any, range_with_len}
 use Rattle.std.specs.Option.{option_map_or}
 use Rattle.tp_base.specs.declared.ids.Who.{Who}
