@@ -1,5 +1,5 @@
 -- What a look or an edit by number comes to, where the place of the number is known.
-use Rattle.std.proofs.Common.{◌≡◌, ◌≢◌, ℕ, ◌+◌, ◌<◌, ◌≤◌, List, [], ◌∷◌, ◌++◌, length, get_or, set, drop, Some, None, map, if◌then◌else◌, true, false, arith, refl, sym, ap, ◌∙◌, suc, zero}
+use Rattle.std.proofs.Common.{Bool, ◌≡◌, ◌≢◌, ℕ, ◌+◌, ◌<◌, ◌≤◌, List, [], ◌∷◌, ◌++◌, length, get_or, set, drop, Some, None, map, if◌then◌else◌, true, false, arith, refl, sym, ap, ◌∙◌, suc, zero}
 use Rattle.std.specs.Prelude.{◌==◌, find, filter, is_some, not, nat_lt}
 use Rattle.std.specs.List.{All, slice_get}
 use Rattle.std.specs.List.Sorted.{IsPartitionPoint}
@@ -42,7 +42,7 @@ module _ (n : ℕ) where
     others = λ k d lt other. place.others (suc k) d (omega arith) (omega arith);
   }
 
-  row_in_rest : (e : Entry) (es : List Entry) (i : ℕ) → IsPlaceOfRow (e ∷ es) n (suc i) → IsPlaceOfRow es n i
+  pub row_in_rest : (e : Entry) (es : List Entry) (i : ℕ) → IsPlaceOfRow (e ∷ es) n (suc i) → IsPlaceOfRow es n i
   row_in_rest e es i at = record { entry = place_in_rest e es i at.entry; there = λ d. at.there d }
 
   -- where the first entry has the number, no entry of the rest has it
@@ -104,6 +104,20 @@ module _ (n : ℕ) where
   find_above (e ∷ es) (suc i) within parted =
       let rest : find (λ c. nat_lt n c.number) (rows_of es) ≡ slice_get (rows_of (drop i es)) 0 =
       find_above es i (omega arith) (λ k d le lt. parted.0 (suc k) d (omega arith) (omega arith), λ k d le lt. parted.1 (suc k) d (omega arith) (omega arith)) in
+      grind (arith, nat_tests, parted.0 0 e (omega arith) (omega arith), rest)
+
+  -- and so does the first of a group
+  pub find_above_of : (g : CallbackRow → Bool) (es : List Entry) (i : ℕ) → i ≤ length es → IsPartitionPoint (λ (e : Entry). e.row.number ≤ n) (λ (e : Entry). n < e.row.number) es i
+      → find (λ c. nat_lt n c.number) (filter g (rows_of es)) ≡ find g (rows_of (drop i es))
+  find_above_of g [] zero within parted = refl
+  find_above_of g [] (suc i) within parted = absurd (omega arith)
+  find_above_of g (e ∷ es) zero within parted =
+      let rest : find (λ c. nat_lt n c.number) (filter g (rows_of es)) ≡ find g (rows_of (drop 0 es)) =
+      find_above_of g es 0 (omega arith) (λ k d le lt. absurd (omega arith), λ k d le lt. parted.1 (suc k) d (omega arith) (omega arith)) in
+      grind (arith, nat_tests, parted.1 0 e (omega arith) (omega arith), rest)
+  find_above_of g (e ∷ es) (suc i) within parted =
+      let rest : find (λ c. nat_lt n c.number) (filter g (rows_of es)) ≡ find g (rows_of (drop i es)) =
+      find_above_of g es i (omega arith) (λ k d le lt. parted.0 (suc k) d (omega arith) (omega arith), λ k d le lt. parted.1 (suc k) d (omega arith) (omega arith)) in
       grind (arith, nat_tests, parted.0 0 e (omega arith) (omega arith), rest)
 
 -- those that are there rise

@@ -1,5 +1,5 @@
 -- Entries that rise by number, as a search by halving sees them.
-use Rattle.std.proofs.Common.{◌≡◌, ◌≢◌, ℕ, ◌<◌, ◌≤◌, ◌∙◌, ◌-◌, List, length, get_or, set, arith, ap, ⊎_elim}
+use Rattle.std.proofs.Common.{◌≡◌, ◌≢◌, ℕ, ◌+◌, ◌<◌, ◌≤◌, ◌∙◌, ◌-◌, List, length, get_or, set, arith, ap, ⊎_elim}
 use Rattle.std.specs.List.{All}
 use Rattle.std.specs.List.Sorted.{IsNonDecreasingBy, IsPartitionPoint}
 use Rattle.std.proofs.lemmas.Bool.{cases_eq, cases_lt}
@@ -55,3 +55,19 @@ below_last es n e rising below k d lt =
     (λ (before : k < length es - 1). let less = rising k (length es - 1) d before (omega arith) in omega arith)
     (λ (at : length es - 1 ≤ k). let is : k ≡ length es - 1 = omega arith in rw is (omega arith))
     (cases_lt k (length es - 1))
+
+-- where the first is above n, all are
+pub above_first : (es : List Entry) (n : ℕ) (e : Entry) → EntriesRise es → n < (get_or es 0 e).row.number → All (λ (x : Entry). n < x.row.number) es
+above_first es n e rising above k d lt =
+    let first = ap (λ (x : Entry). x.row.number) (get_or_default es 0 d e (omega arith)) in
+    ⊎_elim
+    (λ (behind : 0 < k). let more = rising 0 k d behind lt in omega arith)
+    (λ (at : k ≤ 0). let is : k ≡ 0 = omega arith in rw is (omega arith))
+    (cases_lt 0 k)
+
+-- the entries up to n end behind the one that has it
+pub parted_behind : (es : List Entry) (n i : ℕ) (e : Entry) → EntriesRise es → i < length es → (get_or es i e).row.number ≡ n → IsPartitionPoint (λ (x : Entry). x.row.number ≤ n) (λ (x : Entry). n < x.row.number) es (i + 1)
+parted_behind es n i e rising within here = (
+  λ k d low high. grind (arith, rising k i d, ap (λ (x : Entry). x.row.number) (get_or_default es i d e within), here, λ (at : k ≡ i). ap (λ (j : ℕ). (get_or es j d).row.number) at),
+  λ k d low high. grind (arith, rising i k d, ap (λ (x : Entry). x.row.number) (get_or_default es i d e within), here),
+)

@@ -1,3 +1,4 @@
+pub mod Listed
 pub mod LiveCallbacks
 pub mod Places
 pub mod Reserved

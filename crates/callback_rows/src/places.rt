@@ -1,11 +1,12 @@
 //! The places of numbers among entries that rise by number, and the entries whose rows left.
 
-ghost use Rattle.std.specs.Prelude.{◌≡◌, ◌≢◌, ◌*◌, ◌<◌, ◌≤◌, ◌==◌, All, IfSome, MatchOption, None, drop, find, length, slice_get, true, vec_capacity};
+ghost use Rattle.std.specs.Prelude.{◌≡◌, ◌≢◌, ◌*◌, ◌<◌, ◌≤◌, ◌==◌, ◌&&◌, All, IfSome, MatchOption, None, drop, find, length, slice_get, true, vec_capacity};
 ghost use Rattle.std.specs.Bool.{OnTrue};
 ghost use Rattle.std.specs.List.Sorted.{IsPartitionPoint};
 ghost use Rattle.callback_rows.specs.Places.{EntriesRise, IsPlaceOf, IsPlaceOfRow, rows_of};
 
 use crate::Entry;
+use tp_base::ids::GroupId;
 use tp_base::rows::CallbackRow;
 
 // How many entries have a number below this one.
@@ -17,13 +18,22 @@ fn first_from(entries: &[Entry], number: u64) -> usize
     entries.partition_point(|entry| entry.row.number < number)
 }
 
-// How many entries have a number up to this one.
-pub(crate) fn first_above(entries: &[Entry], number: u64) -> usize
+// How many entries have a number up to this one, found by halving.
+#[inline(never)]
+fn first_above(entries: &[Entry], number: u64) -> usize
     requires { EntriesRise entries.now }
     ensures bound { result ≤ length entries.now }
     ensures parted { IsPartitionPoint (λ e. e.row.number ≤ number) (λ e. number < e.row.number) entries.now result }
 {
     entries.partition_point(|entry| entry.row.number <= number)
+}
+
+// A row is there, and of this group.
+#[inline(always)]
+fn is_of_group(entry: &Entry, group: GroupId) -> bool
+    ensures { result ≡ (entry.now.there && (entry.now.row.group.0 == group.0)) }
+{
+    entry.there && entry.row.group.0 == group.0
 }
 
 // The first row that is there from this place on.
@@ -34,6 +44,25 @@ pub(crate) fn first_row(entries: &[Entry], from: usize) -> Option<CallbackRow>
     let mut place = from;
     while place < entries.len() {
         if entries[place].there {
+            return Some(entries[place].row);
+        }
+        place += 1;
+    }
+    None
+}
+
+// The first row of a group that is there from this place on.
+pub(crate) fn first_of_group_from(
+    entries: &[Entry],
+    from: usize,
+    group: GroupId,
+) -> Option<CallbackRow>
+    requires { from ≤ length entries.now }
+    ensures { result ≡ find (λ c. c.group.0 == group.0) (rows_of (drop from entries.now)) }
+{
+    let mut place = from;
+    while place < entries.len() {
+        if is_of_group(&entries[place], group) {
             return Some(entries[place].row);
         }
         place += 1;
@@ -79,6 +108,30 @@ fn entry_place(entries: &[Entry], number: u64) -> Option<usize>
     match place_from_last(entries, number) {
         Some(place) if entries[place].row.number == number => Some(place),
         _ => halved_place(entries, number),
+    }
+}
+
+// Whether all entries have a number above this one.
+#[inline(always)]
+fn is_below_all(entries: &[Entry], number: u64) -> bool
+    requires { EntriesRise entries.now }
+    ensures { OnTrue result (All (λ e. number < e.row.number) entries.now) }
+{
+    entries.len() == 0 || number < entries[0].row.number
+}
+
+// How many entries have a number up to this one. There is no halving where an entry of the number is
+// told by its distance from the last, nor where all numbers are above it.
+#[inline(always)]
+pub(crate) fn place_behind(entries: &[Entry], number: u64) -> usize
+    requires { EntriesRise entries.now }
+    ensures bound { result ≤ length entries.now }
+    ensures parted { IsPartitionPoint (λ e. e.row.number ≤ number) (λ e. number < e.row.number) entries.now result }
+{
+    match place_from_last(entries, number) {
+        Some(place) if entries[place].row.number == number => place + 1,
+        _ if is_below_all(entries, number) => 0,
+        _ => first_above(entries, number),
     }
 }
 

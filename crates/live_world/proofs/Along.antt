@@ -85,7 +85,7 @@ first_by_number fresh cs p c rising first =
 
 -- ---- the lists of objects
 
-and_swap : (a b : Bool) → (a && b) ≡ (b && a)
+pub and_swap : (a b : Bool) → (a && b) ≡ (b && a)
 and_swap true true = refl
 and_swap true false = refl
 and_swap false true = refl

@@ -1,15 +1,16 @@
--- Callbacks of an object that are cancelled one after another.
+-- Callbacks that are cancelled one after another, and those of an object.
 use Rattle.std.proofs.Common.{◌≡◌, ℕ, ◌<◌, Bool, true, false, cond, not, ◌&&◌, ◌==◌, List, [], ◌∷◌, nat_lt, slice_get, Option, Some, None, refl, sym, ap, ap₂, ◌∙◌, subst, arith, filter, find, eq-eqb, ne_eqb}
 use Rattle.std.specs.List.{AllByRecursion}
 use Rattle.std.proofs.lemmas.Bool.{ltb-true}
 use Rattle.tp_base.specs.declared.ids.ObjectId.{ObjectId}
 use Rattle.tp_base.specs.declared.rows.CallbackRow.{CallbackRow}
+use Rattle.tp_base.specs.declared.rows.WaitTarget.{WaitTarget}
 use Rattle.tp_base.specs.declared.rows.WaitTarget.TheVariants.{Object}
 use Rattle.tp_model.specs.Counts.{has_number}
 use Rattle.tp_model.specs.Changes.{replaced, with_callback}
 use Rattle.tp_model.specs.Support.Sound.{IsRising}
 use Rattle.tp_model.specs.Support.Remembered.{lives, forget}
-use Rattle.tp_model.specs.Waits.{is_outstanding_for, cancelled, cancel_where}
+use Rattle.tp_model.specs.Waits.{is_outstanding_for, is_cancelled_by, cancelled, cancel_where}
 use Rattle.tp_model.proofs.Lists.{filter_filter, find_kept, find_passes}
 use Rattle.tp_model.proofs.Callbacks.{found_all, filter_replaced_out, over_not_pending}
 use Rattle.tp_model.proofs.Cancelling.{cancelled_pending, cancelled_if}
@@ -26,6 +27,50 @@ pub none_where : (cs : List CallbackRow) (t : CallbackRow → Bool) → AllByRec
 none_where [] t all = refl
 none_where (c ∷ cs) t all = ap₂ (λ b ds. cond b (cancelled c) c ∷ ds) all.0 (none_where cs t all.1)
 
+-- ---- one callback is cancelled
+
+-- what is pending of a target cancelled
+abbrev pub settled_for : WaitTarget → Live → Live
+settled_for target l = became l (record l.world { callbacks = cancel_where (is_cancelled_by target true) l.world.callbacks })
+
+-- where nothing is left to cancel, all of it is
+pub nothing_left : (target : WaitTarget) (now : Live) → forget now.world ≡ now.world → filter (is_cancelled_by target true) now.world.callbacks ≡ [] → now ≡ settled_for target now
+nothing_left target now living none =
+    ap (λ w. record { world = w; made = now.made }) (sym living)
+    ∙ ap (λ cs. became now (record now.world { callbacks = cs })) (sym (none_where now.world.callbacks (is_cancelled_by target true) (none_passes (is_cancelled_by target true) now.world.callbacks none)))
+
+-- without it there is as much left to cancel, but for it
+pub settles_alike : (target : WaitTarget) (fresh : ℕ) (now : Live) (c : CallbackRow) → IsRising 1 fresh now.world.callbacks → is_cancelled_by target true c ≡ true → find (has_number c.number) now.world.callbacks ≡ Some c
+    → (new : Live) → new ≡ became now (with_callback now.world (cancelled c)) → settled_for target new ≡ settled_for target now
+settles_alike target fresh now c rising passes there new is =
+    ap (settled_for target) is
+    ∙ ap (λ ds. record { world = record now.world { callbacks = ds }; made = now.made })
+    (cancel_forget lives t (cancelled_pending target true) (λ x e. e) (replaced (cancelled c) now.world.callbacks) ∙ ap (filter lives) (each now.world.callbacks (found_all (λ x. x ≡ c) c.number c 1 fresh now.world.callbacks rising there refl)))
+  where
+    t : CallbackRow → Bool
+    t = is_cancelled_by target true
+
+    each : (ds : List CallbackRow) → AllByRecursion (λ x. has_number c.number x ≡ true → x ≡ c) ds → cancel_where t (replaced (cancelled c) ds) ≡ cancel_where t ds
+    each [] same = refl
+    each (d ∷ ds) same =
+        ap₂ (λ (x : CallbackRow) (xs : List CallbackRow). x ∷ xs)
+        (elim (has_number c.number d) as (λ b. has_number c.number d ≡ b → cancelled_if t (cond b (cancelled c) d) ≡ cancelled_if t d) [
+          | true ↦ λ e. sym (ap (λ (x : CallbackRow). cancelled_if t x) (same.0 e) ∙ ap (λ b. cond b (cancelled c) c) passes)
+          | false ↦ λ e. refl
+        ] refl)
+        (each ds same.1)
+
+-- what follows it is behind it
+pub behind : (c : CallbackRow) (ys : List CallbackRow) (after : Option CallbackRow) → after ≡ find (λ (x : CallbackRow). nat_lt c.number x.number) ys → (d : CallbackRow) → after ≡ Some d → c.number < d.number
+behind c ys after is d some = ltb-true c.number d.number (find_passes (λ (x : CallbackRow). nat_lt c.number x.number) d ys (sym is ∙ some))
+
+-- and is there without it
+pub still_among : (c : CallbackRow) (ys : List CallbackRow) (after : Option CallbackRow) → ((d : CallbackRow) → after ≡ Some d → c.number < d.number) → IsAmong number_of ys after → IsAmong number_of (filter (λ (x : CallbackRow). not (has_number c.number x)) ys) after
+still_among c ys None past there = tt
+still_among c ys (Some d) past there = find_kept (λ (x : CallbackRow). x.number == d.number) (λ (x : CallbackRow). not (has_number c.number x)) d (ap not (ne_eqb d.number c.number (λ same. omega (arith, same, past d refl)))) ys there
+
+-- ---- what is pending of an object is cancelled
+
 -- what is left to cancel leads to where all of it leads, and none of it stands before the next
 pub record Cancelling (object : ObjectId) (before now : Live) (next : Option CallbackRow) : Type 0 where
   pub leads : without_pending now object ≡ without_pending before object
@@ -38,9 +83,7 @@ cancelling_first object fresh now next rising is = record { leads = refl; seeks 
 pub cancelling_ended : (object : ObjectId) (before now : Live) (next : Option CallbackRow) → next ≡ None → forget now.world ≡ now.world → Cancelling object before now next → now ≡ without_pending before object
 cancelling_ended object before now next ends living k =
     let none : pending_of now.world object ≡ [] = sym k.seeks.left ∙ ap (λ o. filter waits (rest number_of (outstanding_of now.world object) o)) ends in
-    ap (λ w. record { world = w; made = now.made }) (sym living)
-    ∙ ap (λ cs. became now (record now.world { callbacks = cs })) (sym (none_where now.world.callbacks (is_pending_for object) (none_passes (is_pending_for object) now.world.callbacks none)))
-    ∙ k.leads
+    nothing_left (Object object) now living none ∙ k.leads
 
 -- ---- one of them
 
@@ -72,32 +115,8 @@ module _ (object : ObjectId) (fresh : ℕ) (now : Live) (c : CallbackRow) (risin
   outstanding_others : (new : Live) → new ≡ became now (with_callback now.world r) → outstanding_of new.world object ≡ filter (λ (x : CallbackRow). not (has_number c.number x)) ys
   outstanding_others new is = others (is_outstanding_for (Object object)) (over_not_outstanding (Object object)) (and_false (c.object.0 == object.0)) new is
 
-  -- without it there is as much left to cancel, but for it
-  leads : is_pending_for object c ≡ true → find (has_number c.number) cs ≡ Some c → (new : Live) → new ≡ became now (with_callback now.world r) → without_pending new object ≡ without_pending now object
-  leads passes there new is =
-      ap (λ l. without_pending l object) is
-      ∙ ap (λ ds. record { world = record now.world { callbacks = ds }; made = now.made }) (cancel_forget lives (is_pending_for object) (cancelled_pending (Object object) true) (λ x e. e) (replaced r cs) ∙ ap (filter lives) (each cs (found_all (λ x. x ≡ c) c.number c 1 fresh cs rising there refl)))
-    where
-      each : (ds : List CallbackRow) → AllByRecursion (λ x. has_number c.number x ≡ true → x ≡ c) ds → cancel_where (is_pending_for object) (replaced r ds) ≡ cancel_where (is_pending_for object) ds
-      each [] same = refl
-      each (d ∷ ds) same =
-          ap₂ (λ (x : CallbackRow) (xs : List CallbackRow). x ∷ xs)
-          (elim (has_number c.number d) as (λ b. has_number c.number d ≡ b → cancelled_if (is_pending_for object) (cond b r d) ≡ cancelled_if (is_pending_for object) d) [
-            | true ↦ λ e. sym (ap (λ (x : CallbackRow). cancelled_if (is_pending_for object) x) (same.0 e) ∙ ap (λ b. cond b (cancelled c) c) passes)
-            | false ↦ λ e. refl
-          ] refl)
-          (each ds same.1)
-
-  -- the next is behind it
-  behind : (after : Option CallbackRow) → after ≡ find (λ (x : CallbackRow). nat_lt c.number x.number) (outstanding_of now.world c.object) → (d : CallbackRow) → after ≡ Some d → c.number < d.number
-  behind after is d some = ltb-true c.number d.number (find_passes (λ (x : CallbackRow). nat_lt c.number x.number) d (outstanding_of now.world c.object) (sym is ∙ some))
-
   same_rest : (after : Option CallbackRow) → after ≡ find (λ (x : CallbackRow). nat_lt c.number x.number) (outstanding_of now.world c.object) → (new : Live) → new ≡ became now (with_callback now.world r) → rest number_of (outstanding_of new.world object) after ≡ rest number_of ys after
-  same_rest after found new is = ap (λ xs. rest number_of xs after) (outstanding_others new is) ∙ rest_without number_of c.number ys after (behind after found)
-
-  still_among : (after : Option CallbackRow) → ((d : CallbackRow) → after ≡ Some d → c.number < d.number) → IsAmong number_of ys after → IsAmong number_of (filter (λ (x : CallbackRow). not (has_number c.number x)) ys) after
-  still_among None past there = tt
-  still_among (Some d) past there = find_kept (λ (x : CallbackRow). x.number == d.number) (λ (x : CallbackRow). not (has_number c.number x)) d (ap not (ne_eqb d.number c.number (λ same. omega (arith, same, past d refl)))) ys there
+  same_rest after found new is = ap (λ xs. rest number_of xs after) (outstanding_others new is) ∙ rest_without number_of c.number ys after (behind c (outstanding_of now.world c.object) after found)
 
   pub cancels_next : (before : Live) (next : Option CallbackRow) → next ≡ Some c → Cancelling object before now next → CancelsNext object before now c next
   cancels_next before next is k =
@@ -107,8 +126,8 @@ module _ (object : ObjectId) (fresh : ℕ) (now : Live) (c : CallbackRow) (risin
         found = λ pends. first_by_number fresh cs (is_pending_for object) c rising (s.first pends);
         passes = λ passed after found. record { leads = k.leads; seeks = s.others passed after found };
         cancels = λ pends after found new becomes. record {
-          leads = leads (first_passes (is_pending_for object) c cs (s.first pends)) (first_by_number fresh cs (is_pending_for object) c rising (s.first pends)) new becomes ∙ k.leads;
-          seeks = record { left = left s k pends after found new becomes; among = subst (λ xs. IsAmong number_of xs after) (sym (outstanding_others new becomes)) (still_among after (behind after found) (s.at.among after found)) };
+          leads = settles_alike (Object object) fresh now c rising (first_passes (is_pending_for object) c cs (s.first pends)) (first_by_number fresh cs (is_pending_for object) c rising (s.first pends)) new becomes ∙ k.leads;
+          seeks = record { left = left s k pends after found new becomes; among = subst (λ xs. IsAmong number_of xs after) (sym (outstanding_others new becomes)) (still_among c ys after (behind c (outstanding_of now.world c.object) after found) (s.at.among after found)) };
         };
         same = same_rest;
       }
@@ -119,7 +138,7 @@ module _ (object : ObjectId) (fresh : ℕ) (now : Live) (c : CallbackRow) (risin
           let tail : List CallbackRow = filter waits (rest number_of ys after) in
           let whole : c ∷ tail ≡ pending_of now.world object = ap (λ b. cond b (c ∷ tail) tail) (sym pends) ∙ ap (filter waits) (sym (s.at.step after found)) ∙ k.seeks.left in
           ap (filter waits) (same_rest after found new becomes)
-          ∙ sym (passing_without number_of c.number waits ys after (behind after found))
+          ∙ sym (passing_without number_of c.number waits ys after (behind c (outstanding_of now.world c.object) after found))
           ∙ ap (λ b. cond b (c ∷ filter (λ (x : CallbackRow). not (has_number c.number x)) tail) (filter (λ (x : CallbackRow). not (has_number c.number x)) tail)) (sym (ap not (eq-eqb c.number c.number refl)))
           ∙ ap (filter (λ (x : CallbackRow). not (has_number c.number x))) whole
           ∙ sym (others (is_pending_for object) (λ x e. ap (λ b. b && (x.object.0 == object.0)) (over_not_pending x.status e)) refl new becomes)

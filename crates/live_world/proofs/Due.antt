@@ -1,9 +1,9 @@
 -- How many of the timers that are due at a moment are unarmed.
-use Rattle.std.proofs.Common.{◌≡◌, ℕ, zero, suc, ◌+◌, ◌<◌, ◌≤◌, Bool, true, false, cond, not, List, [], ◌∷◌, length, take, get_or, slice_get, Option, Some, None, refl, sym, ap, ◌∙◌, add-one, arith, filter, option_map, ltb-false}
+use Rattle.std.proofs.Common.{◌≡◌, ℕ, zero, suc, ◌+◌, ◌<◌, ◌≤◌, Bool, true, false, cond, not, List, [], ◌∷◌, length, take, get_or, slice_get, Option, Some, None, refl, sym, ap, ◌∙◌, add-one, arith, filter, option_map, ltb-false, ltb-true, lt-ltb}
 use Rattle.std.specs.Option.{option_map_or}
 use Rattle.std.proofs.lemmas.Bool.{le-ltb}
 use Rattle.std.proofs.lemmas.Bool.Decides.{nat_tests}
-use Rattle.std.proofs.lemmas.List.{take_all}
+use Rattle.std.proofs.lemmas.List.{length-map, take_all}
 use Rattle.std.proofs.lemmas.List.Elements.{recursion_from_All}
 use Rattle.std.proofs.lemmas.List.Sums.{length-filter, count_by-le-length}
 use Rattle.tp_base.specs.declared.ids.ObjectId.{ObjectId}
@@ -15,7 +15,11 @@ use Rattle.timer_objects.specs.Settings.{IsInOrder, object_at}
 use Rattle.tp_model.specs.World.{World}
 use Rattle.tp_model.specs.Counts.{slots}
 use Rattle.tp_model.specs.Conditions.{lacks_slots_for}
-use Rattle.tp_model.proofs.Arming.{one_if}
+use Rattle.tp_model.specs.Sources.{expiry_job, sources_of}
+use Rattle.tp_model.specs.Calls.Timers.{count_expiring}
+use Rattle.tp_model.specs.Support.Sound.{IsSound, count_set, may_be_armed}
+use Rattle.tp_model.proofs.Arming.{armed_has, armed_most, expiry_within, one_if}
+use Rattle.tp_model.proofs.Firing.{armable_wait}
 use Rattle.live_world.proofs.Lists.{filter_none}
 
 -- ---- those that are due stand first
@@ -98,3 +102,16 @@ unarmed_fewer now settings armings = omega (arith, length-filter (is_unarmed arm
 -- where there is a slot for each, there is one for fewer
 pub fewer_lack : (w : World) (most few : ℕ) → few ≤ most → lacks_slots_for w most ≡ false → lacks_slots_for w few ≡ false
 fewer_lack w most few fewer enough = le-ltb w.limits.slots (slots w + few) (omega (arith, fewer, ltb-false w.limits.slots (slots w + most) enough))
+
+-- where there is none for some, there is none for more
+pub more_lack : (w : World) (few most : ℕ) → few ≤ most → lacks_slots_for w few ≡ true → lacks_slots_for w most ≡ true
+more_lack w few most more lacks = lt-ltb w.limits.slots (slots w + most) (omega (arith, more, ltb-true w.limits.slots (slots w + few) lacks))
+
+-- each armed wait has one timeout at most, so of those that are due no more are armed than there are armed waits
+pub due_most : (fresh now : ℕ) (w : World) → IsSound fresh w → length (expired now w.settings) ≤ count_expiring w now + length w.armings
+due_most fresh now w sound =
+    omega (arith, expiry_within now (sources_of w) one_timeout, length-map (expired now w.settings) (expiry_job w.armings))
+  where
+    one_timeout : (o : ℕ) → is_armed o w.armings ≡ true → count_set o w.settings ≤ 1
+    one_timeout o armed =
+        omega (arith, (sound.timeouts o (armable_wait w.objects o (armed_has (λ n. may_be_armed w.objects n ≡ true) o w.armings sound.armings armed))).few, armed_most o w.armings)

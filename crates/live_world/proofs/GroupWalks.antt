@@ -1,10 +1,8 @@
--- All callbacks that are kept, gone along one after another, and what of them is of a group.
-use Rattle.std.proofs.Common.{◌≡◌, ℕ, ◌+◌, ◌<◌, ◌≤◌, Bool, true, false, cond, not, ◌&&◌, ◌||◌, ◌==◌, List, [], ◌∷◌, ◌++◌, length, map, nat_lt, slice_get, Option, Some, None, unwrap_or, refl, sym, ap, ap₂, ◌∙◌, subst, arith, filter, find, eq-eqb, ne_eqb, lt-ltb, length-append, append_assoc}
+-- Callbacks that are kept, gone along one after another: all of them, or those of one group.
+use Rattle.std.proofs.Common.{◌≡◌, ℕ, ◌+◌, ◌<◌, ◌≤◌, Bool, true, false, cond, not, ◌&&◌, ◌||◌, ◌==◌, List, [], ◌∷◌, ◌++◌, length, map, nat_lt, slice_get, Option, Some, None, unwrap_or, refl, sym, ap, ap₂, ◌∙◌, subst, arith, filter, find, option_map, eqb-true, eq-eqb, lt-ltb, length-append, append_assoc}
 use Rattle.std.specs.List.{All, AllByRecursion}
-use Rattle.std.proofs.lemmas.Bool.{ltb-true}
 use Rattle.std.proofs.lemmas.List.{length-map}
 use Rattle.std.proofs.lemmas.List.Elements.{All-from_recursion}
-use Rattle.std.proofs.lemmas.List.Sums.{length-filter, count_by-le-length}
 use Rattle.tp_base.specs.declared.ids.GroupId.{GroupId}
 use Rattle.tp_base.specs.declared.rows.Status.{Status}
 use Rattle.tp_base.specs.declared.rows.Status.TheVariants.{Expected, Issued, Pending, Running, Returned, Cancelled}
@@ -19,18 +17,17 @@ use Rattle.tp_model.specs.Changes.{replaced, with_callback}
 use Rattle.tp_model.specs.Support.Sound.{IsRising}
 use Rattle.tp_model.specs.Support.Remembered.{lives, forget}
 use Rattle.tp_model.specs.Waits.{is_cancelled_by, is_covered_by, is_held_for, cancelled, cancel_where, covered_of as covered_among}
-use Rattle.tp_model.proofs.Lists.{all_along, filter_filter, find_kept, find_passes}
-use Rattle.tp_model.proofs.Callbacks.{found_all, filter_replaced_out}
-use Rattle.tp_model.proofs.Cancelling.{cancelled_pending, cancelled_if}
-use Rattle.tp_model.proofs.Forgetting.{cancel_forget, over_not_cancelled}
-use Rattle.tp_model.proofs.Refusals.{both, false_true}
+use Rattle.tp_model.proofs.Lists.{all_along, filter_agree, filter_filter, find_all}
+use Rattle.tp_model.proofs.Callbacks.{filter_replaced_out, rising_filter}
+use Rattle.tp_model.proofs.Forgetting.{over_not_cancelled}
+use Rattle.tp_model.proofs.Refusals.{both, and_false, false_true}
 use Rattle.live_world.specs.Closing.{is_of_group, settled_group}
 use Rattle.live_world.specs.Live.{Live, became}
-use Rattle.live_world.proofs.Along.{number_of, rows_rise}
-use Rattle.live_world.proofs.Cancelled.{none_where}
-use Rattle.live_world.proofs.Lists.{all_pass, filter_alike, none_passes, set_twice}
+use Rattle.live_world.proofs.Along.{number_of, and_swap, first_filtered, looked_up, rows_rise}
+use Rattle.live_world.proofs.Cancelled.{none_where, nothing_left, settles_alike, behind, still_among}
+use Rattle.live_world.proofs.Lists.{all_pass, filter_alike, filter_both, set_twice}
 use Rattle.live_world.proofs.Numbers.{itself, all_before, has_covered}
-use Rattle.live_world.proofs.Walks.{Rises, rest, IsAmong, rest_first, first_among, rest_next, rest_without, passing_without, found_among, rises_filter, rises_map}
+use Rattle.live_world.proofs.Walks.{Rises, rest, IsAmong, rest_first, first_among, rest_next, rest_without, passing_without, found_among, rises_map}
 
 abbrev pub after_of : List CallbackRow → CallbackRow → Option CallbackRow
 after_of cs c = find (λ (x : CallbackRow). nat_lt c.number x.number) cs
@@ -77,6 +74,29 @@ row_at fresh cs c next rising is among =
     step after found =
         ap (rest number_of cs) is ∙ rest_next number_of 1 cs c (rows_rise 1 fresh cs rising) (subst (IsAmong number_of cs) is among)
         ∙ ap (λ o. c ∷ rest number_of cs o) (sym found)
+
+-- ---- those of one group, gone along
+
+-- the first of a group is the first of what is left without the others
+pub first_in_group : (group : GroupId) (fresh : ℕ) (cs : List CallbackRow) (next : Option CallbackRow) → IsRising 1 fresh cs → next ≡ find (is_of_group group) cs → next ≡ find (λ (c : CallbackRow). nat_lt 0 c.number) (filter (is_of_group group) cs)
+first_in_group group fresh cs next rising found =
+    let ds : List CallbackRow = filter (is_of_group group) cs in
+    found ∙ first_filtered (is_of_group group) cs ∙ sym (first_row_is fresh ds (find (λ (c : CallbackRow). nat_lt 0 c.number) ds) (rising_filter (is_of_group group) 1 fresh cs rising) refl)
+
+-- one of them is among all that are kept, and the next of its group is the next of them
+pub record InGroup (group : GroupId) (kept cs : List CallbackRow) (c : CallbackRow) : Type 0 where
+  pub there : find (has_number c.number) kept ≡ Some c
+  pub next : (after : Option CallbackRow) → after ≡ after_of (filter (is_of_group c.group) kept) c → after ≡ after_of (filter (is_of_group group) cs) c
+
+pub in_group : (group : GroupId) (fresh : ℕ) (kept cs : List CallbackRow) (c : CallbackRow) (next : Option CallbackRow) → kept ≡ cs → IsRising 1 fresh cs → next ≡ Some c → IsAmong number_of (filter (is_of_group group) cs) next → InGroup group kept cs c
+in_group group fresh kept cs c next same rising is among =
+    let ds : List CallbackRow = filter (is_of_group group) cs in
+    let found : find (has_number c.number) ds ≡ Some c = subst (IsAmong number_of ds) is among in
+    let of_group : is_of_group group c ≡ true = find_all (λ x. is_of_group group x ≡ true) (has_number c.number) c ds (all_pass (is_of_group group) cs) found in
+    record {
+      there = ap (find (has_number c.number)) same ∙ looked_up fresh cs (is_of_group group) (has_number c.number) c.number rising (ap (option_map number_of) found) ∙ found;
+      next = λ after e. e ∙ ap₂ (λ (xs : List CallbackRow) (n : ℕ). after_of (filter (λ (x : CallbackRow). x.group.0 == n) xs) c) same (eqb-true c.group.0 group.0 of_group);
+    }
 
 -- ---- what passes two tests is counted
 
@@ -131,45 +151,43 @@ counts_row p q fresh cs c next all some rising is k =
     one true = omega arith
     one false = omega arith
 
--- ---- what passes is covered
+-- ---- they are covered
 
-pub record CoveringRows (t : CallbackRow → Bool) (cs : List CallbackRow) (before now : Covers) (waiter : ℕ) (next : Option CallbackRow) : Type 0 where
+pub record CoveringRows (cs : List CallbackRow) (before now : Covers) (waiter : ℕ) (next : Option CallbackRow) : Type 0 where
   pub so_far : List ℕ
   pub covers : now ≡ with_wait before waiter (Some so_far)
-  pub all : so_far ++ map number_of (filter t (rest number_of cs next)) ≡ map number_of (filter t cs)
+  pub all : so_far ++ map number_of (rest number_of cs next) ≡ map number_of cs
   pub among : IsAmong number_of cs next
 
-pub covering_rows : (t : CallbackRow → Bool) (fresh : ℕ) (cs : List CallbackRow) (before now : Covers) (waiter : ℕ) (next : Option CallbackRow) → IsRising 1 fresh cs → now ≡ with_wait before waiter (Some []) → next ≡ find (λ (c : CallbackRow). nat_lt 0 c.number) cs → CoveringRows t cs before now waiter next
-covering_rows t fresh cs before now waiter next rising begun found =
+pub covering_rows : (fresh : ℕ) (cs : List CallbackRow) (before now : Covers) (waiter : ℕ) (next : Option CallbackRow) → IsRising 1 fresh cs → now ≡ with_wait before waiter (Some []) → next ≡ find (λ (c : CallbackRow). nat_lt 0 c.number) cs → CoveringRows cs before now waiter next
+covering_rows fresh cs before now waiter next rising begun found =
     let a = at_first fresh cs next rising found in
-    record { so_far = []; covers = begun; all = ap (λ ds. map number_of (filter t ds)) a.whole; among = a.among }
+    record { so_far = []; covers = begun; all = ap (map number_of) a.whole; among = a.among }
 
-pub record CoversRow (t : CallbackRow → Bool) (cs : List CallbackRow) (before now : Covers) (waiter : ℕ) (c : CallbackRow) (next : Option CallbackRow) : Type 0 where
+pub record CoversRow (cs : List CallbackRow) (before now : Covers) (waiter : ℕ) (c : CallbackRow) (next : Option CallbackRow) : Type 0 where
   pub at : RowAt cs c next
   pub so_far : List ℕ
   pub covers : now ≡ with_wait before waiter (Some so_far)
-  pub below : t c ≡ true → All (λ n. n < c.number) so_far
-  pub fewer : t c ≡ true → length so_far < length cs
-  pub passed : t c ≡ false → (after : Option CallbackRow) → after ≡ after_of cs c → CoveringRows t cs before now waiter after
-  pub covered : t c ≡ true → waiter < length before.waits → (new : Covers) → new ≡ with_wait now waiter (Some (with_number c.number (covered_of now waiter))) → (after : Option CallbackRow) → after ≡ after_of cs c → CoveringRows t cs before new waiter after
+  pub below : All (λ n. n < c.number) so_far
+  pub fewer : length so_far < length cs
+  pub covered : waiter < length before.waits → (new : Covers) → new ≡ with_wait now waiter (Some (with_number c.number (covered_of now waiter))) → (after : Option CallbackRow) → after ≡ after_of cs c → CoveringRows cs before new waiter after
 
-pub covers_row : (t : CallbackRow → Bool) (fresh : ℕ) (cs : List CallbackRow) (before now : Covers) (waiter : ℕ) (c : CallbackRow) (next : Option CallbackRow) → IsRising 1 fresh cs → next ≡ Some c → CoveringRows t cs before now waiter next → CoversRow t cs before now waiter c next
-covers_row t fresh cs before now waiter c next rising is k =
+pub covers_row : (fresh : ℕ) (cs : List CallbackRow) (before now : Covers) (waiter : ℕ) (c : CallbackRow) (next : Option CallbackRow) → IsRising 1 fresh cs → next ≡ Some c → CoveringRows cs before now waiter next → CoversRow cs before now waiter c next
+covers_row fresh cs before now waiter c next rising is k =
     record {
       at = at;
       so_far = k.so_far;
       covers = k.covers;
       below = below;
-      fewer = λ passes. omega (arith, ap length (whole true passes (after_of cs c) refl), length-append k.so_far (c.number ∷ left (after_of cs c)), length-map (filter t cs) number_of, length-filter t cs, count_by-le-length t cs);
-      passed = λ out after found. record { so_far = k.so_far; covers = k.covers; all = whole false out after found; among = at.among after found };
-      covered = λ passes within new becomes after found.
+      fewer = omega (arith, ap length (whole (after_of cs c) refl), length-append k.so_far (c.number ∷ left (after_of cs c)), length-map cs number_of);
+      covered = λ within new becomes after found.
           let had : covered_of now waiter ≡ k.so_far = ap (λ o. unwrap_or o []) (has_covered before now waiter k.so_far within k.covers) in
-          let behind : with_number c.number (covered_of now waiter) ≡ k.so_far ++ c.number ∷ [] = ap (with_number c.number) had ∙ with_greatest c.number k.so_far (below passes) in
+          let behind : with_number c.number (covered_of now waiter) ≡ k.so_far ++ c.number ∷ [] = ap (with_number c.number) had ∙ with_greatest c.number k.so_far below in
           record {
             so_far = k.so_far ++ c.number ∷ [];
             covers = becomes ∙ ap₂ (λ (b : Covers) (ns : List ℕ). with_wait b waiter (Some ns)) k.covers behind
                 ∙ ap (λ ws. record before { waits = ws }) (set_twice before.waits waiter (Some k.so_far) (Some (k.so_far ++ c.number ∷ [])));
-            all = append_assoc k.so_far (c.number ∷ []) (left after) ∙ whole true passes after found;
+            all = append_assoc k.so_far (c.number ∷ []) (left after) ∙ whole after found;
             among = at.among after found;
           };
     }
@@ -178,56 +196,60 @@ covers_row t fresh cs before now waiter c next rising is k =
     at = row_at fresh cs c next rising is k.among
 
     left : Option CallbackRow → List ℕ
-    left o = map number_of (filter t (rest number_of cs o))
+    left o = map number_of (rest number_of cs o)
 
-    whole : (b : Bool) → t c ≡ b → (after : Option CallbackRow) → after ≡ after_of cs c → k.so_far ++ cond b (c.number ∷ left after) (left after) ≡ map number_of (filter t cs)
-    whole b e after found =
-        ap (λ x. k.so_far ++ cond x (c.number ∷ left after) (left after)) (sym e)
-        ∙ ap (λ ns. k.so_far ++ ns) (one (t c))
-        ∙ ap (λ ds. k.so_far ++ map number_of (filter t ds)) (sym (at.step after found)) ∙ k.all
-      where
-        one : (x : Bool) → cond x (c.number ∷ left after) (left after) ≡ map number_of (cond x (c ∷ filter t (rest number_of cs after)) (filter t (rest number_of cs after)))
-        one true = refl
-        one false = refl
+    whole : (after : Option CallbackRow) → after ≡ after_of cs c → k.so_far ++ c.number ∷ left after ≡ map number_of cs
+    whole after found = ap (λ ds. k.so_far ++ map number_of ds) (sym (at.step after found)) ∙ k.all
 
-    below : t c ≡ true → All (λ n. n < c.number) k.so_far
-    below passes =
+    below : All (λ n. n < c.number) k.so_far
+    below =
         All-from_recursion (λ n. n < c.number) k.so_far
         (all_before 1 c.number k.so_far (left (after_of cs c))
-        (subst (Rises itself 1) (sym (whole true passes (after_of cs c) refl)) (rises_map itself number_of 1 (filter t cs) (rises_filter number_of t 1 cs (rows_rise 1 fresh cs rising)))))
+        (subst (Rises itself 1) (sym (whole (after_of cs c) refl)) (rises_map itself number_of 1 cs (rows_rise 1 fresh cs rising))))
 
 -- ---- what is pending of a group is cancelled
+
+-- what is not of the group is not cancelled
+pub over_not_of_group : (group : GroupId) (c : CallbackRow) → is_of_group group c ≡ false → is_cancelled_by (Group group) true c ≡ false
+over_not_of_group group c e = ap (λ b. is_pending c.status && b) e ∙ and_false (is_pending c.status)
 
 -- what is left to cancel leads to where all of it leads, and none of it stands before the next
 pub record CancellingGroup (group : GroupId) (before now : Live) (next : Option CallbackRow) : Type 0 where
   pub leads : settled_group now group true ≡ settled_group before group true
-  pub left : filter (is_cancelled_by (Group group) true) (rest number_of now.world.callbacks next) ≡ filter (is_cancelled_by (Group group) true) now.world.callbacks
-  pub among : IsAmong number_of now.world.callbacks next
+  pub left : filter (is_cancelled_by (Group group) true) (rest number_of (filter (is_of_group group) now.world.callbacks) next) ≡ filter (is_cancelled_by (Group group) true) now.world.callbacks
+  pub among : IsAmong number_of (filter (is_of_group group) now.world.callbacks) next
 
-pub cancelling_group : (group : GroupId) (fresh : ℕ) (now : Live) (next : Option CallbackRow) → IsRising 1 fresh now.world.callbacks → next ≡ find (λ (c : CallbackRow). nat_lt 0 c.number) now.world.callbacks → CancellingGroup group now now next
+pub cancelling_group : (group : GroupId) (fresh : ℕ) (now : Live) (next : Option CallbackRow) → IsRising 1 fresh now.world.callbacks → next ≡ find (is_of_group group) now.world.callbacks → CancellingGroup group now now next
 cancelling_group group fresh now next rising found =
-    let a = at_first fresh now.world.callbacks next rising found in
-    record { leads = refl; left = ap (filter (is_cancelled_by (Group group) true)) a.whole; among = a.among }
+    let cs : List CallbackRow = now.world.callbacks in
+    let a = at_first fresh (filter (is_of_group group) cs) next (rising_filter (is_of_group group) 1 fresh cs rising) (first_in_group group fresh cs next rising found) in
+    record {
+      leads = refl;
+      left = ap (filter (is_cancelled_by (Group group) true)) a.whole ∙ filter_filter (is_cancelled_by (Group group) true) (is_of_group group) (over_not_of_group group) cs;
+      among = a.among;
+    }
 
 -- where nothing is left, all of it is cancelled
 pub group_cancelled : (group : GroupId) (before now : Live) (next : Option CallbackRow) → next ≡ None → forget now.world ≡ now.world → CancellingGroup group before now next → now ≡ settled_group before group true
 group_cancelled group before now next ends living k =
     let t : CallbackRow → Bool = is_cancelled_by (Group group) true in
-    let none : filter t now.world.callbacks ≡ [] = sym k.left ∙ ap (λ o. filter t (rest number_of now.world.callbacks o)) ends in
-    ap (λ w. record { world = w; made = now.made }) (sym living)
-    ∙ ap (λ cs. became now (record now.world { callbacks = cs })) (sym (none_where now.world.callbacks t (none_passes t now.world.callbacks none)))
-    ∙ k.leads
+    let none : filter t now.world.callbacks ≡ [] = sym k.left ∙ ap (λ o. filter t (rest number_of (filter (is_of_group group) now.world.callbacks) o)) ends in
+    nothing_left (Group group) now living none ∙ k.leads
 
 pub record CancelsRow (group : GroupId) (before now : Live) (c : CallbackRow) (next : Option CallbackRow) : Type 0 where
-  pub at : RowAt now.world.callbacks c next
-  pub passed : is_cancelled_by (Group group) true c ≡ false → (after : Option CallbackRow) → after ≡ after_of now.world.callbacks c → CancellingGroup group before now after
-  pub cancels : is_cancelled_by (Group group) true c ≡ true → (after : Option CallbackRow) → after ≡ after_of now.world.callbacks c → (new : Live) → new ≡ became now (with_callback now.world (cancelled c)) → CancellingGroup group before new after
+  pub there : find (has_number c.number) now.world.callbacks ≡ Some c
+  pub at : RowAt (filter (is_of_group group) now.world.callbacks) c next
+  pub passed : is_pending c.status ≡ false → (after : Option CallbackRow) → after ≡ after_of (filter (is_of_group group) now.world.callbacks) c → CancellingGroup group before now after
+  pub cancels : is_pending c.status ≡ true → (after : Option CallbackRow) → after ≡ after_of (filter (is_of_group group) now.world.callbacks) c → (new : Live) → new ≡ became now (with_callback now.world (cancelled c)) → CancellingGroup group before new after
   -- as much is left without it
-  pub same : (after : Option CallbackRow) → after ≡ after_of now.world.callbacks c → (new : Live) → new ≡ became now (with_callback now.world (cancelled c)) → rest number_of new.world.callbacks after ≡ rest number_of now.world.callbacks after
+  pub same : (after : Option CallbackRow) → after ≡ after_of (filter (is_of_group group) now.world.callbacks) c → (new : Live) → new ≡ became now (with_callback now.world (cancelled c)) → rest number_of (filter (is_of_group group) new.world.callbacks) after ≡ rest number_of (filter (is_of_group group) now.world.callbacks) after
 
 module _ (group : GroupId) (fresh : ℕ) (now : Live) (c : CallbackRow) (rising : IsRising 1 fresh now.world.callbacks) (living : forget now.world ≡ now.world) where
   abbrev cs : List CallbackRow
   cs = now.world.callbacks
+
+  abbrev ys : List CallbackRow
+  ys = filter (is_of_group group) cs
 
   abbrev r : CallbackRow
   r = cancelled c
@@ -242,62 +264,53 @@ module _ (group : GroupId) (fresh : ℕ) (now : Live) (c : CallbackRow) (rising 
   kept : (new : Live) → new ≡ became now (with_callback now.world r) → new.world.callbacks ≡ filter others cs
   kept new is = ap (λ (l : Live). l.world.callbacks) is ∙ filter_replaced_out lives r cs refl ∙ ap (λ (w : World). filter others w.callbacks) living
 
+  rows_kept : (new : Live) → new ≡ became now (with_callback now.world r) → filter (is_of_group group) new.world.callbacks ≡ filter others ys
+  rows_kept new is =
+      ap (filter (is_of_group group)) (kept new is) ∙ filter_both (is_of_group group) others cs
+      ∙ filter_agree (λ x. others x && is_of_group group x) (λ x. is_of_group group x && others x) (λ x. and_swap (others x) (is_of_group group x)) cs
+      ∙ sym (filter_both others (is_of_group group) cs)
+
   passing : (new : Live) → new ≡ became now (with_callback now.world r) → filter t new.world.callbacks ≡ filter others (filter t cs)
   passing new is = ap (λ (l : Live). filter t l.world.callbacks) is ∙ filter_filter t lives (over_not_cancelled (Group group) true) (replaced r cs) ∙ filter_replaced_out t r cs refl
 
-  -- without it there is as much left to cancel, but for it
-  leads : t c ≡ true → find (has_number c.number) cs ≡ Some c → (new : Live) → new ≡ became now (with_callback now.world r) → settled_group new group true ≡ settled_group now group true
-  leads passes there new is =
-      ap (λ l. settled_group l group true) is
-      ∙ ap (λ ds. record { world = record now.world { callbacks = ds }; made = now.made }) (cancel_forget lives t (cancelled_pending (Group group) true) (λ x e. e) (replaced r cs) ∙ ap (filter lives) (each cs (found_all (λ x. x ≡ c) c.number c 1 fresh cs rising there refl)))
-    where
-      each : (ds : List CallbackRow) → AllByRecursion (λ x. has_number c.number x ≡ true → x ≡ c) ds → cancel_where t (replaced r ds) ≡ cancel_where t ds
-      each [] same = refl
-      each (d ∷ ds) same =
-          ap₂ (λ (x : CallbackRow) (xs : List CallbackRow). x ∷ xs)
-          (elim (has_number c.number d) as (λ b. has_number c.number d ≡ b → cancelled_if t (cond b r d) ≡ cancelled_if t d) [
-            | true ↦ λ e. sym (ap (λ (x : CallbackRow). cancelled_if t x) (same.0 e) ∙ ap (λ b. cond b (cancelled c) c) passes)
-            | false ↦ λ e. refl
-          ] refl)
-          (each ds same.1)
-
-  -- the next is behind it
-  behind : (after : Option CallbackRow) → after ≡ after_of cs c → (d : CallbackRow) → after ≡ Some d → c.number < d.number
-  behind after is d some = ltb-true c.number d.number (find_passes (λ (x : CallbackRow). nat_lt c.number x.number) d cs (sym is ∙ some))
-
-  same_rest : (after : Option CallbackRow) → after ≡ after_of cs c → (new : Live) → new ≡ became now (with_callback now.world r) → rest number_of new.world.callbacks after ≡ rest number_of cs after
-  same_rest after found new is = ap (λ xs. rest number_of xs after) (kept new is) ∙ rest_without number_of c.number cs after (behind after found)
-
-  still_among : (after : Option CallbackRow) → ((d : CallbackRow) → after ≡ Some d → c.number < d.number) → IsAmong number_of cs after → IsAmong number_of (filter others cs) after
-  still_among None past there = tt
-  still_among (Some d) past there = find_kept (λ (x : CallbackRow). x.number == d.number) others d (ap not (ne_eqb d.number c.number (λ same. omega (arith, same, past d refl)))) cs there
+  same_rest : (after : Option CallbackRow) → after ≡ after_of ys c → (new : Live) → new ≡ became now (with_callback now.world r) → rest number_of (filter (is_of_group group) new.world.callbacks) after ≡ rest number_of ys after
+  same_rest after found new is = ap (λ xs. rest number_of xs after) (rows_kept new is) ∙ rest_without number_of c.number ys after (behind c ys after found)
 
   pub cancels_row : (before : Live) (next : Option CallbackRow) → next ≡ Some c → CancellingGroup group before now next → CancelsRow group before now c next
   cancels_row before next is k =
       record {
+        there = there;
         at = at;
-        passed = λ out after found. record {
-          leads = k.leads;
-          left = ap (λ b. cond b (c ∷ filter t (rest number_of cs after)) (filter t (rest number_of cs after))) (sym out) ∙ ap (filter t) (sym (at.step after found)) ∙ k.left;
-          among = at.among after found;
-        };
-        cancels = λ passes after found new becomes. record {
-          leads = leads passes at.found new becomes ∙ k.leads;
-          left = left passes after found new becomes;
-          among = subst (λ xs. IsAmong number_of xs after) (sym (kept new becomes)) (still_among after (behind after found) (at.among after found));
+        passed = λ stays after found.
+            let out : t c ≡ false = ap (λ b. b && is_of_group group c) stays in
+            record {
+              leads = k.leads;
+              left = ap (λ b. cond b (c ∷ filter t (rest number_of ys after)) (filter t (rest number_of ys after))) (sym out) ∙ ap (filter t) (sym (at.step after found)) ∙ k.left;
+              among = at.among after found;
+            };
+        cancels = λ pends after found new becomes. record {
+          leads = settles_alike (Group group) fresh now c rising (passes pends) there new becomes ∙ k.leads;
+          left = left (passes pends) after found new becomes;
+          among = subst (λ xs. IsAmong number_of xs after) (sym (rows_kept new becomes)) (still_among c ys after (behind c ys after found) (at.among after found));
         };
         same = same_rest;
       }
     where
-      at : RowAt cs c next
-      at = row_at fresh cs c next rising is k.among
+      at : RowAt ys c next
+      at = row_at fresh ys c next (rising_filter (is_of_group group) 1 fresh cs rising) is k.among
 
-      left : t c ≡ true → (after : Option CallbackRow) → after ≡ after_of cs c → (new : Live) → new ≡ became now (with_callback now.world r) → filter t (rest number_of new.world.callbacks after) ≡ filter t new.world.callbacks
-      left passes after found new becomes =
-          let tail : List CallbackRow = filter t (rest number_of cs after) in
-          let whole : c ∷ tail ≡ filter t cs = ap (λ b. cond b (c ∷ tail) tail) (sym passes) ∙ ap (filter t) (sym (at.step after found)) ∙ k.left in
+      there : find (has_number c.number) cs ≡ Some c
+      there = (in_group group fresh cs cs c next refl rising is k.among).there
+
+      passes : is_pending c.status ≡ true → t c ≡ true
+      passes pends = ap₂ (λ a b. a && b) pends (find_all (λ x. is_of_group group x ≡ true) (has_number c.number) c ys (all_pass (is_of_group group) cs) at.found)
+
+      left : t c ≡ true → (after : Option CallbackRow) → after ≡ after_of ys c → (new : Live) → new ≡ became now (with_callback now.world r) → filter t (rest number_of (filter (is_of_group group) new.world.callbacks) after) ≡ filter t new.world.callbacks
+      left passed after found new becomes =
+          let tail : List CallbackRow = filter t (rest number_of ys after) in
+          let whole : c ∷ tail ≡ filter t cs = ap (λ b. cond b (c ∷ tail) tail) (sym passed) ∙ ap (filter t) (sym (at.step after found)) ∙ k.left in
           ap (filter t) (same_rest after found new becomes)
-          ∙ sym (passing_without number_of c.number t cs after (behind after found))
+          ∙ sym (passing_without number_of c.number t ys after (behind c ys after found))
           ∙ ap (λ b. cond b (c ∷ filter others tail) (filter others tail)) (sym (ap not (eq-eqb c.number c.number refl)))
           ∙ ap (filter others) whole
           ∙ sym (passing new becomes)

@@ -17,6 +17,7 @@ pub mod ClosesWhole
 pub mod WaitsLeft
 pub mod Members
 pub mod MemberWalks
+pub mod LeastOperating
 pub mod MembersReleased
 pub mod Using
 pub mod Opening

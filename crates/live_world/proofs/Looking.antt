@@ -13,6 +13,7 @@ use Rattle.tp_model.specs.Groups.{is_simple_of}
 use Rattle.tp_model.specs.Waits.{is_held_for}
 use Rattle.tp_model.specs.Support.Sound.{IsRising}
 use Rattle.tp_model.specs.Support.Remembered.{lives}
+use Rattle.live_world.specs.Closing.{is_of_group}
 use Rattle.live_world.proofs.Lists.{all_pass}
 use Rattle.live_world.proofs.Numbers.{itself}
 use Rattle.live_world.proofs.Walks.{Rises, rest, IsAmong, all_least, rest_first, first_among, rest_next, found_among, rises_pairs}
@@ -26,8 +27,8 @@ all_live t cs living = each cs (subst (AllByRecursion (λ c. lives c ≡ true)) 
     each [] all = refl
     each (d ∷ ds) all = ap₂ (λ a b. (a && t d) || b) (sym all.0) (each ds all.1)
 
--- a simple callback that is kept is outstanding for its group, disassociated or not
-pub simple_live : (group : GroupId) (cs : List CallbackRow) → filter lives cs ≡ cs → list_any (λ c. (c.group.0 == group.0) && (c.object.0 == 0)) cs ≡ list_any (is_simple_of group) cs
+-- a callback of the group that has no object and is kept is outstanding for the group, disassociated or not
+pub simple_live : (group : GroupId) (cs : List CallbackRow) → filter lives cs ≡ cs → list_any (λ c. c.object.0 == 0) (filter (is_of_group group) cs) ≡ list_any (is_simple_of group) cs
 simple_live group cs living = each cs (subst (AllByRecursion (λ c. lives c ≡ true)) living (all_pass lives cs))
   where
     alike : (b o : Bool) (s : Status) → is_live s ≡ true → (b && o) ≡ ((b && is_held_for (Group group) s) && o)
@@ -39,9 +40,12 @@ simple_live group cs living = each cs (subst (AllByRecursion (λ c. lives c ≡ 
     alike true o Returned e = absurd cc
     alike true o Cancelled e = absurd cc
 
-    each : (ds : List CallbackRow) → AllByRecursion (λ c. lives c ≡ true) ds → list_any (λ c. (c.group.0 == group.0) && (c.object.0 == 0)) ds ≡ list_any (is_simple_of group) ds
+    each : (ds : List CallbackRow) → AllByRecursion (λ c. lives c ≡ true) ds → list_any (λ c. c.object.0 == 0) (filter (is_of_group group) ds) ≡ list_any (is_simple_of group) ds
     each [] all = refl
-    each (d ∷ ds) all = ap₂ (λ a b. a || b) (alike (d.group.0 == group.0) (d.object.0 == 0) d.status all.0) (each ds all.1)
+    each (d ∷ ds) all =
+        let left : List CallbackRow = filter (is_of_group group) ds in
+        elim (is_of_group group d) as (λ b. list_any (λ (c : CallbackRow). c.object.0 == 0) (cond b (d ∷ left) left) ≡ ((b && (d.object.0 == 0)) || list_any (λ (c : CallbackRow). c.object.0 == 0) left)) [ true ↦ refl | false ↦ refl ]
+        ∙ ap₂ (λ a b. a || b) (alike (d.group.0 == group.0) (d.object.0 == 0) d.status all.0) (each ds all.1)
 
 -- none passes before the next
 pub record Looking (t : CallbackRow → Bool) (cs : List CallbackRow) (next : Option CallbackRow) : Type 0 where

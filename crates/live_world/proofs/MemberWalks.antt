@@ -8,9 +8,8 @@ use Rattle.std.proofs.lemmas.List.Sums.{length-filter, count_by-le-length}
 use Rattle.tp_base.specs.declared.rows.ObjectRow.{ObjectRow}
 use Rattle.keyed_lists.specs.Keyed.{first_of, next_of}
 use Rattle.tp_model.specs.World.{World}
-use Rattle.tp_model.specs.Conditions.{has_operations}
 use Rattle.tp_model.specs.Counts.{numbered}
-use Rattle.tp_model.specs.Groups.{first_member, first_operating, gets_notice, has_cancel, is_group, is_member, is_member_at, is_object_that, members, notices_of, numbers_in, object_id, objects_that}
+use Rattle.tp_model.specs.Groups.{first_member, gets_notice, has_cancel, is_group, is_member, is_member_at, is_object_that, members, notices_of, numbers_in, object_id, objects_that}
 use Rattle.tp_model.proofs.Lists.{filter_filter, find_agree, find_all}
 use Rattle.tp_model.proofs.Releasing.{that_made}
 use Rattle.live_world.specs.declared.LiveWorld.TheInside.{Inside}
@@ -95,34 +94,6 @@ first_whole w group next is = ap (rest itself (members w group)) (first_is_least
 
 pub first_is_among : (w : World) (group : ℕ) (next : Option ℕ) → next ≡ first_member w group → IsAmong itself (members w group) next
 first_is_among w group next is = subst (IsAmong itself (members w group)) (sym (first_is_least w group next is)) (first_among itself (members w group))
-
--- ---- one that an operation is under way of
-
--- none of them stands before the next
-pub record SeekingOperating (w : World) (group : ℕ) (next : Option ℕ) : Type 0 where
-  pub left : find (has_operations w) (rest itself (members w group) next) ≡ first_operating w group
-  pub among : IsAmong itself (members w group) next
-
-pub seeking_operating : (w : World) (group : ℕ) (next : Option ℕ) → next ≡ first_member w group → SeekingOperating w group next
-seeking_operating w group next is =
-    record {
-      left = ap (find (has_operations w)) (first_whole w group next is) ∙ find_filter (is_member_at w group) (has_operations w) (numbers_in w.objects);
-      among = first_is_among w group next is;
-    }
-
-pub is_first_operating : (w : World) (group number : ℕ) (next : Option ℕ) → next ≡ Some number → has_operations w number ≡ true → SeekingOperating w group next → Some number ≡ first_operating w group
-is_first_operating w group number next is operates k =
-    let at = at_member w group number next is k.among in
-    ap (λ b. cond b (Some number) (find (has_operations w) (rest itself (members w group) (find (λ n. nat_lt number n) (members w group))))) (sym operates)
-    ∙ ap (find (has_operations w)) (sym (at.step (find (λ n. nat_lt number n) (members w group)) refl)) ∙ k.left
-
-pub seeking_on : (w : World) (group number : ℕ) (next after : Option ℕ) → next ≡ Some number → has_operations w number ≡ false → after ≡ find (λ n. nat_lt number n) (members w group) → SeekingOperating w group next → SeekingOperating w group after
-seeking_on w group number next after is idle found k =
-    let at = at_member w group number next is k.among in
-    record {
-      left = ap (λ b. cond b (Some number) (find (has_operations w) (rest itself (members w group) after))) (sym idle) ∙ ap (find (has_operations w)) (sym (at.step after found)) ∙ k.left;
-      among = at.among after found;
-    }
 
 -- ---- those that get a notice
 

@@ -1,16 +1,18 @@
 -- Closes of groups: which callbacks and objects are a group's, and what a close leaves.
-use Rattle.std.specs.Prelude.{◌≡◌, ℕ, Bool, ◌==◌, List, [], ◌∷◌, ◌++◌, map, length, get_or, if◌then◌else◌, option_map, Option, None, Some}
+use Rattle.std.specs.Prelude.{◌≡◌, ℕ, Bool, ◌&&◌, ◌==◌, nat_lt, List, [], ◌∷◌, ◌++◌, map, length, get_or, if◌then◌else◌, option_map, Option, None, Some}
 use Rattle.std.specs.List.{filter}
 use Rattle.tp_base.specs.declared.ids.Who.{Who}
 use Rattle.tp_base.specs.declared.ids.GroupId.{GroupId}
+use Rattle.tp_base.specs.declared.rows.ObjectRow.{ObjectRow}
 use Rattle.tp_base.specs.declared.rows.CallbackRow.{CallbackRow}
 use Rattle.tp_base.specs.declared.rows.WaitTarget.TheVariants.{Group}
 use Rattle.handle_table.specs.Table.{Table}
 use Rattle.cancel_wait.specs.Rising.{all_but}
 use Rattle.cancel_wait.specs.Covers.{Covers, wait_of}
 use Rattle.tp_model.specs.World.{World}
+use Rattle.tp_model.specs.Counts.{is_operating}
 use Rattle.tp_model.specs.Changes.{new_close}
-use Rattle.tp_model.specs.Groups.{gets_notice, objects_that, without_members, notices_of}
+use Rattle.tp_model.specs.Groups.{gets_notice, is_member, is_object_that, objects_that, without_members, notices_of}
 use Rattle.tp_model.specs.Waits.{is_cancelled_by, cancel_where}
 use Rattle.live_world.specs.declared.closing.Closing.{Closing}
 use Rattle.live_world.specs.declared.objects.Object.{Object}
@@ -20,6 +22,15 @@ use Rattle.live_world.specs.Parts.{shown_object}
 -- the callback is of the group
 abbrev pub is_of_group : GroupId → CallbackRow → Bool
 is_of_group group c = c.group.0 == group.0
+
+-- an operation of a member of the group is expected or under way
+abbrev pub operates : List ObjectRow → ℕ → CallbackRow → Bool
+operates objects group c = is_operating c.status && is_object_that (is_member group) objects c.object.0
+
+-- the lesser of two numbers, where there is a first one
+abbrev pub lesser : Option ℕ → ℕ → Option ℕ
+lesser None number = Some number
+lesser (Some least) number = if nat_lt number least then Some number else Some least
 
 abbrev pub numbers_of_group : List CallbackRow → GroupId → List ℕ
 numbers_of_group callbacks group = map (λ (c : CallbackRow). c.number) (filter (is_of_group group) callbacks)

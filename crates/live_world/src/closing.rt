@@ -32,16 +32,16 @@ pub(crate) fn open_closing(alloc: Global, actors: u32) -> Result<Vec<Option<Clos
 impl LiveWorld {
     ghost use Rattle.live_world.specs.Closing.{closing_begun, released_members, settled_group};
 
-    // Cancels what is pending of a group. Walks the callbacks.
+    // Cancels what is pending of a group. Walks the callbacks of the group.
     fn cancel_group(&mut self, group: GroupId)
         ensures { self.new ≡ settled_group self.old group true }
     {
         self.is_reachable();
-        let mut next = self.callback_after(0);
+        let mut next = self.callbacks.first_of_group(group);
         while let Some(callback) = next {
             self.is_reachable();
-            next = self.callback_after(callback.number);
-            if is_pending(&callback) && callback.group.0 == group.0 {
+            next = self.callbacks.next_of_group(&callback);
+            if is_pending(&callback) {
                 self.cancel_callback(callback);
             }
         }
@@ -72,7 +72,8 @@ impl LiveWorld {
     }
 
     // Begins a wait for a group that has nothing to cancel any more, with the notices that it is to
-    // give of the members, which are released then. Walks the callbacks and, with cancel, the members.
+    // give of the members, which are released then. Walks the callbacks of the group and, with cancel,
+    // its members.
     fn begin_closing(&mut self, who: Who, group: GroupId, cancel: bool, context: u64)
         requires allowed { MayClose self.old.world who group cancel (length (notices_of self.old.world group.0 cancel)) }
         requires settled { filter (is_cancelled_by (WaitTarget.Group group) cancel) self.old.world.callbacks ≡ [] }
@@ -104,7 +105,7 @@ impl LiveWorld {
     }
 
     // The members of a group are released, and an actor begins a wait for it. With cancel, what is
-    // pending is cancelled first. Walks the callbacks and the members.
+    // pending is cancelled first. Walks the callbacks of the group and its members.
     pub(crate) fn begin_close(
         &mut self,
         who: Who,

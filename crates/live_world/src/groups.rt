@@ -1,22 +1,23 @@
 //! Cleanup groups, and what a close of one would make of its members.
 
-ghost use Rattle.std.specs.Prelude.{◌≡◌, ◌+◌, ◌^◌, ◌<◌, ◌≤◌, ◌==◌, All, if◌then◌else◌, filter, find, length, nat_le, nat_lt, option_map, true, Some, IfSome};
+ghost use Rattle.std.specs.Prelude.{◌≡◌, ◌+◌, ◌^◌, ◌<◌, ◌≤◌, ◌==◌, All, if◌then◌else◌, filter, find, length, map, nat_le, nat_lt, option_map, true, Some, IfSome};
 ghost use Rattle.handle_table.specs.Found.{found_row as found_row_of};
-ghost use Rattle.live_world.specs.Parts.{shown_group, with_member};
+ghost use Rattle.live_world.specs.Parts.{shown_group, shown_object, with_member};
 ghost use Rattle.tp_model.specs.Counts.{numbered};
 ghost use Rattle.tp_model.specs.Conditions.{is_no_group_or_group, is_closed_group};
 ghost use Rattle.tp_model.specs.Groups.{is_group, members, first_member, has_simple, first_operating, notices_of};
 ghost use Rattle.tp_model.specs.Waits.{is_cancelled_by};
 ghost use Rattle.tp_model.specs.Calls.Waits.{count_covered, count_cancelled_by};
 ghost use Rattle.tp_model.specs.Support.Allowed.{IsAllowed};
-ghost use Rattle.live_world.specs.Closing.{is_of_group};
+ghost use Rattle.live_world.specs.Closing.{is_of_group, lesser, operates};
 ghost use Rattle.live_world.specs.Live.{moved};
 
 use crate::LiveWorld;
-use crate::leaving::gets_notice;
+use crate::leaving::{gets_notice, is_member};
+use crate::objects::Object;
 use crate::outstanding::WaitCounts;
-use crate::waits::is_pending;
-use handle_table::Found;
+use crate::waits::{is_operating, is_pending};
+use handle_table::{Found, Rows};
 use keyed_lists::KeyedLists;
 use tp_base::ids::{GroupId, ObjectId};
 use tp_base::plans::Change;
@@ -71,6 +72,38 @@ pub(crate) fn list_member(members: &mut KeyedLists, groups: u32, group: GroupId,
 {
     if group.0 <= groups {
         members.add(group.0, u64::from(number));
+    }
+}
+
+// The lesser of two numbers, where there is a first one.
+fn lesser(least: Option<u32>, number: u32) -> Option<u32>
+    ensures { result ≡ lesser least number }
+{
+    match least {
+        None => Some(number),
+        Some(least) => {
+            if number < least {
+                Some(number)
+            } else {
+                Some(least)
+            }
+        }
+    }
+}
+
+// The least of the group's members that are known to operate, with one callback more.
+fn least_with(
+    objects: &Rows<Object>,
+    group: GroupId,
+    least: Option<u32>,
+    callback: &CallbackRow,
+) -> Option<u32>
+    ensures { result ≡ (if operates (map shown_object objects.now.rows) group.0 callback.now then lesser least callback.now.object.0 else least) }
+{
+    if is_operating(callback) && is_member(objects, group, callback.object.0) {
+        lesser(least, callback.object.0)
+    } else {
+        least
     }
 }
 
@@ -148,54 +181,57 @@ impl LiveWorld {
     }
 
     /// The least of the group's members of which an operation is expected or under way, if there is
-    /// one. Walks the members before it.
+    /// one. Where there is an operation at all it walks the callbacks, and no objects.
     pub fn first_operating(&self, group: GroupId) -> Option<u32>
-        requires { is_group self.now.world group.0 ≡ true }
         ensures { result ≡ first_operating self.now.world group.0 }
     {
-        let mut next = self.first_member(group);
-        while let Some(number) = next {
-            if self.has_operations(ObjectId(number)) {
-                return Some(number);
-            }
-            next = self.next_member(group, number);
+        if self.operations.len() == 0 {
+            return None;
         }
-        None
+        self.is_reachable();
+        let mut least = None;
+        let mut next = self.callback_after(0);
+        while let Some(callback) = next {
+            least = least_with(&self.objects, group, least, &callback);
+            next = self.callback_after(callback.number);
+        }
+        least
     }
 
     /// Whether a callback that has no object is outstanding for the group, disassociated or not. Walks
-    /// the callbacks.
+    /// the callbacks of the group.
     pub fn has_simple(&self, group: GroupId) -> bool
         ensures { result ≡ has_simple self.now.world group }
     {
         self.is_reachable();
-        let mut next = self.callback_after(0);
+        let mut next = self.callbacks.first_of_group(group);
         while let Some(callback) = next {
-            if callback.group.0 == group.0 && callback.object.0 == 0 {
+            if callback.object.0 == 0 {
                 return true;
             }
-            next = self.callback_after(callback.number);
+            next = self.callbacks.next_of_group(&callback);
         }
         false
     }
 
-    // How many callbacks are kept of the group, and how many of those are pending. Walks the callbacks.
+    // How many callbacks are kept of the group, and how many of those are pending. Walks the callbacks
+    // of the group.
     fn count_of_group(&self, group: GroupId) -> OfGroup
         ensures all { result.all ≡ length (filter (is_of_group group) self.now.world.callbacks) }
         ensures pending { result.pending ≡ length (filter (is_cancelled_by (WaitTarget.Group group) true) self.now.world.callbacks) }
     {
         self.is_reachable();
         let mut count = OfGroup::NONE;
-        let mut next = self.callback_after(0);
+        let mut next = self.callbacks.first_of_group(group);
         while let Some(callback) = next {
             count = count.with(group, &callback);
-            next = self.callback_after(callback.number);
+            next = self.callbacks.next_of_group(&callback);
         }
         count
     }
 
     /// How many callbacks a close of the group would cover, and how many it would cancel before. Walks
-    /// the callbacks.
+    /// the callbacks of the group.
     pub fn close_counts(&self, group: GroupId, cancel: bool) -> WaitCounts
         ensures covered { result.covered ≡ count_covered self.now.world (WaitTarget.Group group) cancel }
         ensures cancelled { result.cancelled ≡ count_cancelled_by self.now.world (WaitTarget.Group group) cancel }

@@ -17,6 +17,16 @@ use handle_table::{Found, Rows};
 use keyed_lists::KeyedLists;
 use tp_base::ids::GroupId;
 
+// The object of this number is a member of the group.
+pub(crate) fn is_member(objects: &Rows<Object>, group: GroupId, number: u32) -> bool
+    ensures { result ≡ is_object_that (is_member group.0) (map shown_object objects.now.rows) number }
+{
+    match objects.get(number) {
+        Found::Live(object) => object.env.group.0 == group.0,
+        Found::Absent | Found::Released(_) => false,
+    }
+}
+
 // The object of this number is a member of the group, and has a cancel routine.
 pub(crate) fn gets_notice(objects: &Rows<Object>, group: GroupId, number: u32) -> bool
     ensures { result ≡ is_object_that (gets_notice_of group.0) (map shown_object objects.now.rows) number }
@@ -72,7 +82,7 @@ pub(crate) fn begin_notices(
     }
 }
 
-// Begins a wait that covers what is kept of this group. Walks the callbacks.
+// Begins a wait that covers what is kept of this group. Walks the callbacks of the group.
 pub(crate) fn begin_covering_group(
     barriers: &mut Barriers,
     waiter: u32,
@@ -86,11 +96,9 @@ pub(crate) fn begin_covering_group(
     ensures { barriers.new ≡ with_wait barriers.old waiter (Some (numbers_of_group callbacks.now.rows group)) }
 {
     barriers.begin(waiter);
-    let mut next = callbacks.after(0);
+    let mut next = callbacks.first_of_group(group);
     while let Some(callback) = next {
-        next = callbacks.after(callback.number);
-        if callback.group.0 == group.0 {
-            barriers.cover(waiter, callback.number);
-        }
+        barriers.cover(waiter, callback.number);
+        next = callbacks.next_of_group(&callback);
     }
 }

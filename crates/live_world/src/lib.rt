@@ -116,7 +116,7 @@ impl LiveWorld {
         let groups = Rows::open(alloc, limits.groups)?;
         let objects = Rows::open(alloc, limits.objects)?;
         let members = KeyedLists::open(alloc, limits.groups + 1, limits.objects)?;
-        let callbacks = CallbackRows::open(alloc, limits.slots)?;
+        let callbacks = CallbackRows::open(alloc, limits.slots, limits.groups)?;
         let queues = Queues::open(alloc, limits.pools, limits.slots)?;
         let outstanding = KeyedLists::open(alloc, limits.objects + 1, limits.slots)?;
         let started = KeyedLists::open(alloc, limits.objects + 1, limits.slots)?;

@@ -193,10 +193,14 @@ impl LiveWorld {
     }
 
     /// Whether there is no slot for all that would expire, if the clock came to a moment. An armed
-    /// wait whose timeout is due has one. Walks what is due only if there is no slot for each of it.
+    /// wait whose timeout is due has one. Walks what is due only if there are too few slots for all
+    /// of it, but enough for all of it less one for each armed wait.
     pub fn lacks_slots_at(&self, now: u64) -> bool
         ensures { result ≡ lacks_slots_for self.now.world (count_expiring self.now.world now) }
     {
-        self.lacks_slots(self.timers.count_due(now)) && self.lacks_slots(self.count_expiring(now))
+        let due = self.timers.count_due(now);
+        self.lacks_slots(due)
+            && (self.lacks_slots(due.saturating_sub(self.armed))
+                || self.lacks_slots(self.count_expiring(now)))
     }
 }

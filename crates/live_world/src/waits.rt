@@ -2,7 +2,7 @@
 
 ghost use Rattle.std.specs.Prelude.{◌≡◌, ◌+◌, ◌^◌, ◌<◌, IfOk, None, Some, false, is_none, replicate, slice_get};
 ghost use Rattle.std.specs.Option.{option_map_or};
-ghost use Rattle.tp_model.specs.Counts.{callback_of, is_pending as is_pending_by, is_running as is_running_by};
+ghost use Rattle.tp_model.specs.Counts.{callback_of, is_operating as is_operating_by, is_pending as is_pending_by, is_running as is_running_by};
 ghost use Rattle.tp_model.specs.Conditions.{is_in_wait};
 ghost use Rattle.tp_model.specs.Waits.{wait_of};
 ghost use Rattle.tp_model.specs.Calls.Waits.{is_starved, holds_starved};
@@ -63,6 +63,13 @@ pub(crate) fn is_pending(callback: &CallbackRow) -> bool
     ensures { result ≡ is_pending_by callback.now.status }
 {
     matches!(callback.status, Status::Pending)
+}
+
+// An operation of the callback is expected or under way.
+pub(crate) fn is_operating(callback: &CallbackRow) -> bool
+    ensures { result ≡ is_operating_by callback.now.status }
+{
+    matches!(callback.status, Status::Expected | Status::Issued)
 }
 
 // A worker runs the callback.

@@ -1,4 +1,5 @@
-use Rattle.std.proofs.Common.{length}
+use Rattle.std.proofs.Common.{length, filter}
+use Rattle.live_world.specs.Closing.{is_of_group}
 use Rattle.live_world.proofs.Walks.{rest}
 use Rattle.live_world.proofs.Along.{number_of}
 use Rattle.live_world.proofs.GroupWalks.{CancellingGroup}
@@ -8,4 +9,4 @@ abbrev pub invariant-loop-next : goal.invariant-loop-next
 invariant-loop-next l = CancellingGroup l.fn.group l.fn.self l.self l.next
 
 abbrev pub decreases-loop-next : goal.decreases-loop-next
-decreases-loop-next l = length (rest number_of l.self.world.callbacks l.next)
+decreases-loop-next l = length (rest number_of (filter (is_of_group l.fn.group) l.self.world.callbacks) l.next)

@@ -1,30 +1,33 @@
-use Rattle.std.proofs.Common.{find, sym, ap, ◌∙◌}
-use Rattle.tp_model.specs.Conditions.{has_operations}
-use Rattle.tp_model.specs.Groups.{members}
-use Rattle.live_world.proofs.MemberWalks.{AtMember, at_member, is_first_operating, seeking_on, seeking_operating}
-use Rattle.live_world.proofs.Numbers.{itself}
+use Rattle.std.proofs.Common.{◌+◌, cond, sym, ap, ◌∙◌}
+use Rattle.tp_model.specs.Groups.{first_operating}
+use Rattle.live_world.specs.Closing.{lesser, operates}
+use Rattle.live_world.specs.Live.{Live}
+use Rattle.live_world.specs.View.{shown}
+use Rattle.live_world.proofs.Along.{number_of}
+use Rattle.live_world.proofs.LeastOperating.{LeastNext, least_after, least_first, least_next, none_operates}
 use Rattle.live_world.proofs.Walks.{rest}
 use Rattle.live_world.proofs.LiveWorld.first_operating.Goals as goal
 use Rattle.live_world.proofs.LiveWorld.first_operating.Goals.{In-Some}
 
-at : (c : In-Some) → AtMember c.args.self.now.world c.args.group.0 c.in-Some.number c.loop-next.next
-at c = at_member c.args.self.now.world c.args.group.0 c.in-Some.number c.loop-next.next c.in-Some.is c.loop-next.invariant.among
+next : (c : In-Some) → LeastNext c.args.self.now.world c.args.group.0 c.in-Some.callback c.loop-next.next c.loop-next.least
+next c = least_next c.args.self.now.world c.args.group.0 (c.args.self.now.made + 1) c.in-Some.callback c.loop-next.next c.loop-next.least c.is_reachable.ensures.sound.numbers c.in-Some.is c.loop-next.invariant
 
 pub loop-next-init : goal.loop-next-init
-loop-next-init c = seeking_operating c.args.self.now.world c.args.group.0 c.first_member-next.result c.first_member-next.ensures
-
-pub returns-then-has_operations : goal.returns-then-has_operations
-returns-then-has_operations c = is_first_operating c.args.self.now.world c.args.group.0 c.in-Some.number c.loop-next.next c.in-Some.is (sym c.has_operations.ensures ∙ c.if-has_operations.true) c.loop-next.invariant
-
-pub next_member-next-requires : goal.next_member-next-requires
-next_member-next-requires c = record { made = c.requires; there = (at (goal.at.next_member-next-requires c).In-Some).there }
+loop-next-init c = least_first c.args.self.now.world c.args.group.0 (c.args.self.now.made + 1) c.callback_after-next.result c.is_reachable.ensures.sound.numbers c.callback_after-next.ensures
 
 pub loop-next-smaller : goal.loop-next-smaller
-loop-next-smaller c = (at (goal.at.loop-next-smaller c).In-Some).later c.next_member-next.result c.next_member-next.ensures
+loop-next-smaller c = (next (goal.at.loop-next-smaller c).In-Some).later c.callback_after-next-in-Some.result c.callback_after-next-in-Some.ensures
 
 pub loop-next-preserved : goal.loop-next-preserved
 loop-next-preserved c =
-    seeking_on c.args.self.now.world c.args.group.0 c.in-Some.number c.loop-next.next c.next_member-next.result c.in-Some.is (sym c.has_operations.ensures ∙ c.if-has_operations.false) c.next_member-next.ensures c.loop-next.invariant
+    (next (goal.at.loop-next-preserved c).In-Some).goes_on c.callback_after-next-in-Some.result c.least_with-least.result c.callback_after-next-in-Some.ensures
+    (c.least_with-least.ensures ∙ ap (λ (l : Live). cond (operates l.world.objects c.args.group.0 c.in-Some.callback) (lesser c.loop-next.least c.in-Some.callback.object.0) c.loop-next.least) c.self.view_is)
+
+pub returns-then-len-eq0 : goal.returns-then-len-eq0
+returns-then-len-eq0 c =
+    let i = c.self.inside in
+    none_operates (shown i).world c.args.group.0 i.operations.entries c.self.invariant.operating.operating.listed (sym c.len.ensures.value ∙ c.if-len-eq0.true)
+    ∙ ap (λ (l : Live). first_operating l.world c.args.group.0) c.self.view_is
 
 pub returns : goal.returns
-returns c = ap (λ o. find (has_operations c.args.self.now.world) (rest itself (members c.args.self.now.world c.args.group.0) o)) (sym c.in_default.is) ∙ c.loop-next.invariant.left
+returns c = ap (λ o. least_after c.args.self.now.world c.args.group.0 c.loop-next.least (rest number_of c.args.self.now.world.callbacks o)) (sym c.in_default.is) ∙ c.loop-next.invariant.left
