@@ -176,6 +176,3 @@ impl Barriers {
         self.begun.take_out(u64::from(waiter));
     }
 }
-
-#[cfg(test)]
-mod tests;

@@ -330,6 +330,3 @@ impl Groups {
         self.members.get(object.0 as usize).copied().flatten()
     }
 }
-
-#[cfg(test)]
-mod tests;

@@ -184,6 +184,3 @@ impl<T> Rows<T> {
         self.rows[number as usize - 1].value_mut()
     }
 }
-
-#[cfg(test)]
-mod tests;

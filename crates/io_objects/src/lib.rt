@@ -206,6 +206,3 @@ impl IoObjects {
         }
     }
 }
-
-#[cfg(test)]
-mod tests;

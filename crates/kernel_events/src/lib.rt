@@ -212,6 +212,3 @@ impl KernelTable {
         Some(object)
     }
 }
-
-#[cfg(test)]
-mod tests;

@@ -178,6 +178,3 @@ impl KeyedLists {
         }
     }
 }
-
-#[cfg(test)]
-mod tests;

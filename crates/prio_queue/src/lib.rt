@@ -108,6 +108,3 @@ impl Queues {
         self.pools[pool as usize].len()
     }
 }
-
-#[cfg(test)]
-mod tests;

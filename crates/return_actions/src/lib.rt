@@ -217,6 +217,3 @@ fn performed_at(word: SlotWord, action: Option<Action>) -> Option<KernelId>
         _ => None,
     }
 }
-
-#[cfg(test)]
-mod tests;

@@ -264,6 +264,3 @@ impl TimerObjects {
         Some((due, ObjectId(key + 1)))
     }
 }
-
-#[cfg(test)]
-mod tests;

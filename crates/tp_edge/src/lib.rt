@@ -39,6 +39,3 @@ pub use reading::{ReadFault, read_all};
 pub use sink::{Gave, Sink};
 pub use source::{Source, Took};
 pub use writing::{WriteFault, give_all};
-
-#[cfg(test)]
-mod tests;

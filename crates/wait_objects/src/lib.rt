@@ -200,6 +200,3 @@ impl WaitObjects {
         Some((due, object))
     }
 }
-
-#[cfg(test)]
-mod tests;

@@ -1,6 +1,6 @@
 //! Three keys, filled and emptied out of order.
 
-use crate::KeyedLists;
+use keyed_lists::KeyedLists;
 use std::test::Fail;
 
 #[test]

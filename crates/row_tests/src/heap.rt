@@ -1,7 +1,7 @@
 //! Three keys with due times, set and taken out.
 
-use crate::DueHeap;
 use std::test::Fail;
+use timer_heap::DueHeap;
 
 #[test]
 fn keys_come_due_in_order(rt: HostRuntime) -> Result<(), Fail> {

@@ -1,8 +1,8 @@
 //! Wait objects that are armed, satisfied and time out.
 
-use crate::{Wait, WaitObjects, WaitSet};
 use std::test::Fail;
 use tp_base::ids::ObjectId;
+use wait_objects::{Wait, WaitObjects, WaitSet};
 
 const CLOCK_END: u64 = i64::MAX as u64;
 

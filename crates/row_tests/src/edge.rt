@@ -1,8 +1,11 @@
 //! Streams that fail midway, the limit, and the real streams.
 
-use super::*;
 use std::test::Fail;
 use std::{env, fs, process};
+use tp_edge::{
+    MemorySink, MemorySource, NeverFails, ReadEdge, ReadFault, Sink, Source, WriteEdge, WriteFault,
+    give_all, read_all,
+};
 
 /// What is read of `abcdefghij`, 4 bytes a call: 4, 4, 2, then the end.
 #[test]

@@ -1,7 +1,7 @@
 //! Actions that are asked for, performed and left out.
 
-use crate::{Actions, Performed};
 use kernel_events::KernelTable;
+use return_actions::{Actions, Performed};
 use std::test::Fail;
 use tp_base::answers::{ActionKind, Refusal, SlotWord};
 use tp_base::calls::Lock;

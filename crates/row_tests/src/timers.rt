@@ -1,7 +1,7 @@
 //! Timers that are set, expire and are set anew.
 
-use crate::{TimerObjects, moment_of, next_due};
 use std::test::Fail;
+use timer_objects::{TimerObjects, moment_of, next_due};
 use tp_base::ids::ObjectId;
 
 const CLOCK_END: u64 = i64::MAX as u64;

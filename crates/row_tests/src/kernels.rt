@@ -1,7 +1,7 @@
 //! Kernel objects that are made, changed and taken, and the waits that they release.
 
-use crate::states::{is_event, is_lock, is_semaphore, lock_made, may_take, owns, passes};
-use crate::{KernelKind, KernelTable};
+use kernel_events::states::{is_event, is_lock, is_semaphore, lock_made, may_take, owns, passes};
+use kernel_events::{KernelKind, KernelTable};
 use std::test::Fail;
 use tp_base::answers::Refusal;
 use tp_base::calls::Lock;

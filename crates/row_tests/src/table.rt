@@ -1,6 +1,6 @@
 //! A table at a small limit, row by row.
 
-use crate::{Found, Rows};
+use handle_table::{Found, Rows};
 use std::test::Fail;
 
 #[derive(Clone, Copy)]

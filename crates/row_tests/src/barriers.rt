@@ -1,6 +1,6 @@
 //! Two waits that cover a number in common.
 
-use crate::Barriers;
+use cancel_wait::Barriers;
 use std::test::Fail;
 
 #[test]

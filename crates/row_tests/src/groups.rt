@@ -3,7 +3,7 @@
 ghost use Rattle.std.specs.Prelude.{◌≡◌, [], ◌∷◌, IfOk, None, replicate};
 ghost use Rattle.cleanup_groups.specs.Groups.{new_group};
 
-use crate::Groups;
+use cleanup_groups::Groups;
 use std::alloc::Global;
 use std::test::Fail;
 use tp_base::answers::Refusal;

@@ -1,6 +1,6 @@
 //! Operations that start, are issued out of their order, are cancelled and complete.
 
-use crate::IoObjects;
+use io_objects::IoObjects;
 use std::test::Fail;
 use tp_base::answers::Refusal;
 use tp_base::ids::ObjectId;

@@ -1,6 +1,6 @@
 //! Two pools, filled out of order and emptied in order.
 
-use crate::Queues;
+use prio_queue::Queues;
 use std::test::Fail;
 
 #[test]

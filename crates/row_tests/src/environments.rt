@@ -1,0 +1,32 @@
+use callback_env::CallbackEnviron;
+use std::test::Fail;
+use tp_base::calls::{Environ, Priority};
+use tp_base::ids::{GroupId, PoolId, RoutineId};
+
+#[test]
+fn setters_set_their_own_fields(rt: HostRuntime) -> Result<(), Fail> {
+    let mut env = CallbackEnviron::initialize();
+    let first = Environ {
+        pool: PoolId(0),
+        group: GroupId(0),
+        cancel: RoutineId(0),
+        priority: Priority::Normal,
+        long: false,
+    };
+    assert_eq!(rt; env.plain(), first);
+    env.set_pool(PoolId(2));
+    env.set_cleanup_group(GroupId(3), Some(RoutineId(4)));
+    env.set_priority(Priority::High);
+    env.set_runs_long();
+    let second = Environ {
+        pool: PoolId(2),
+        group: GroupId(3),
+        cancel: RoutineId(4),
+        priority: Priority::High,
+        long: true,
+    };
+    assert_eq!(rt; env.plain(), second);
+    env.set_cleanup_group(GroupId(5), None);
+    assert_eq!(rt; env.plain().cancel, RoutineId(0));
+    Ok(())
+}
