@@ -192,7 +192,8 @@ pub enum Word {
     Action(ActionKind),
 }
 
-// All words by the field in which each stands: the word, its text, and the fields behind it.
+// All words by the field in which each stands: the word, its text, and the fields behind it. Those of calls are
+// in two parts, since a search among all of them at once takes a minute to prove.
 macro_rules! words {
     ($then:ident, $($given:tt)+) => {
         $then! {
@@ -218,6 +219,8 @@ macro_rules! words {
                 (Word::IssueIo) b"issue-io" [Short];
                 (Word::CancelIo) b"cancel-io" [Short];
                 (Word::CompleteIo) b"complete-io" [Large Small Large];
+            }
+            Call {
                 (Word::BeginWait) b"wait" [Kind Short How];
                 (Word::BeginAcquire) b"acquire" [Short];
                 (Word::End) b"end" [];
@@ -385,6 +388,7 @@ macro_rules! fields_by_word {
 // The word with a text among those of one table.
 macro_rules! word_by_text {
     (Call $given:expr; Call { $($words:tt)+ } $($others:tt)*) => { among!($given; $($words)+) };
+    (OtherCall $given:expr; Call { $($first:tt)+ } Call { $($words:tt)+ } $($others:tt)*) => { among!($given; $($words)+) };
     (Answer $given:expr; Answer { $($words:tt)+ } $($others:tt)*) => { among!($given; $($words)+) };
     (Result $given:expr; Result { $($words:tt)+ } $($others:tt)*) => { among!($given; $($words)+) };
     (Refusal $given:expr; Refusal { $(($($word:tt)+) $text:literal [$($field:ident)*];)+ } $($others:tt)*) => {
@@ -459,7 +463,10 @@ pub fn fields_of(word: Word) -> &'static [Field]
 // A word that may be the one of the table with this text.
 fn guess_word(table: Field, text: &[u8]) -> Option<Word> {
     match table {
-        Field::Call => guess_call(text),
+        Field::Call => match guess_call(text) {
+            None => guess_other_call(text),
+            found => found,
+        },
         Field::Answer => guess_answer(text),
         Field::Refusal => guess_refusal(text),
         _ => guess_choice(table, text),
@@ -468,6 +475,10 @@ fn guess_word(table: Field, text: &[u8]) -> Option<Word> {
 
 fn guess_call(text: &[u8]) -> Option<Word> {
     words!(word_by_text, Call text)
+}
+
+fn guess_other_call(text: &[u8]) -> Option<Word> {
+    words!(word_by_text, OtherCall text)
 }
 
 fn guess_answer(text: &[u8]) -> Option<Word> {
