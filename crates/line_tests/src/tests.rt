@@ -7,7 +7,7 @@
 use std::alloc::{AllocError, Global};
 use std::process::Abort;
 use std::test::Fail;
-use tp_base::answers::{ActionKind, Answer, Entry, Look, Outcome, TakeResult};
+use tp_base::answers::{ActionKind, Answer, Entry, Look, Outcome};
 use tp_base::calls::{Call, Environ, Kind, Priority};
 use tp_base::ids::{GroupId, KernelId, ObjectId, PoolId, RoutineId, Who};
 use tp_lines::good::{read_good_call, read_good_entry};
@@ -670,7 +670,7 @@ fn lines_of_refusals(rt: HostRuntime) -> Result<(), Fail> {
 
 /// The names that the rows have for values are those of Rust.
 #[test]
-fn values_of_calls(rt: HostRuntime) {
+fn values_of_calls(rt: HostRuntime) -> Result<(), Fail> {
     let env = Environ {
         pool: PoolId(3),
         group: GroupId(65_535),
@@ -702,12 +702,10 @@ fn values_of_calls(rt: HostRuntime) {
         ("c1 set-wait 7 2 -10000", arm),
         ("c1 on-return event 7 12", leave),
     ] {
-        assert_eq!(rt;
-            parse_call(text.as_bytes()),
-            Ok((Who::Client(1), call)),
-            "{text}"
-        );
+        let want = format!(in rt.alloc(); "`{text}` {:?} {call:?}", Who::Client(1))?;
+        check_calls(&rt, rt.alloc(), want.as_str())?;
     }
+    Ok(())
 }
 
 #[test]
@@ -759,42 +757,62 @@ fn parts_of_outcomes_printed(rt: HostRuntime) -> Result<(), Fail> {
     Ok(())
 }
 
+// What is read of a good line of a call with its line feed, and its size.
+fn check_good_call(
+    rt: &impl Abort,
+    alloc: Global,
+    text: &str,
+    want: &str,
+) -> Result<(), AllocError> {
+    let told = match read_good_call(text.as_bytes()) {
+        Some(((who, call), size)) => format!(in alloc; "{who:?} {call:?} {size}")?,
+        None => format!(in alloc; "none")?,
+    };
+    assert_eq!(rt; told.as_str(), want, "{text}");
+    Ok(())
+}
+
+// The same of a line of an entry.
+fn check_good_entry(
+    rt: &impl Abort,
+    alloc: Global,
+    text: &str,
+    want: &str,
+) -> Result<(), AllocError> {
+    let told = match read_good_entry(text.as_bytes()) {
+        Some((entry, size)) => {
+            let Entry { who, call, answer } = entry;
+            format!(in alloc; "{who:?} {call:?} {answer:?} {size}")?
+        }
+        None => format!(in alloc; "none")?,
+    };
+    assert_eq!(rt; told.as_str(), want, "{text}");
+    Ok(())
+}
+
 #[test]
-fn good_lines(rt: HostRuntime) {
-    let taken = Some(((Who::Worker(3), Call::Take), 8));
-    assert_eq!(rt; read_good_call("w3 take\nc1 finish\n".as_bytes()), taken);
-    assert_eq!(rt; read_good_call("w3 take".as_bytes()), None);
-    assert_eq!(rt; read_good_call("w3 take 1\n".as_bytes()), None);
-    let taken = Answer::Taken {
-        callback: 70,
-        object: ObjectId(1),
-        routine: RoutineId(2),
-        context: 9,
-        result: TakeResult::Plain,
-    };
-    let entry = Entry {
-        who: Who::Worker(3),
-        call: Call::Take,
-        answer: taken,
-    };
-    let text = "w3 take -> taken 70 o1 r2 x9 plain\nend 1\n";
-    assert_eq!(rt; read_good_entry(text.as_bytes()), Some((entry, 35)));
-    let entry = Entry {
-        who: Who::Client(1),
-        call: Call::SubmitWork {
-            object: ObjectId(12),
-        },
-        answer: Answer::Queued { first: 4, count: 1 },
-    };
-    let text = "c1 submit 12 -> queued 4 1\n";
-    assert_eq!(rt; read_good_entry(text.as_bytes()), Some((entry, 27)));
-    assert_eq!(rt;
-        read_good_entry("w3 take -> taken 70 o1 r0 x9 plain\n".as_bytes()),
-        None
-    );
-    assert_eq!(rt;
-        read_good_entry("c1 submit 65536 -> queued 4 1\n".as_bytes()),
-        None
-    );
-    assert_eq!(rt; read_good_entry("end 1\n".as_bytes()), None);
+fn good_lines(rt: HostRuntime) -> Result<(), Fail> {
+    for (text, want) in [
+        ("w3 take\nc1 finish\n", "Worker(3) Take 8"),
+        ("w3 take", "none"),
+        ("w3 take 1\n", "none"),
+    ] {
+        check_good_call(&rt, rt.alloc(), text, want)?;
+    }
+    for (text, want) in [
+        (
+            "w3 take -> taken 70 o1 r2 x9 plain\nend 1\n",
+            "Worker(3) Take Taken { callback: 70, object: ObjectId(1), routine: RoutineId(2), context: 9, result: Plain } 35",
+        ),
+        (
+            "c1 submit 12 -> queued 4 1\n",
+            "Client(1) SubmitWork { object: ObjectId(12) } Queued { first: 4, count: 1 } 27",
+        ),
+        ("w3 take -> taken 70 o1 r0 x9 plain\n", "none"),
+        ("c1 submit 65536 -> queued 4 1\n", "none"),
+        ("end 1\n", "none"),
+    ] {
+        check_good_entry(&rt, rt.alloc(), text, want)?;
+    }
+    Ok(())
 }

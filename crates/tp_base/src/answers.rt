@@ -193,7 +193,7 @@ pub enum Outcome {
 }
 
 /// An entry of a history.
-#[derive(Clone, Copy, Debug, PartialEq)]
+#[derive(Clone, Copy, Debug)]
 pub struct Entry {
     pub who: Who,
     pub call: Call,

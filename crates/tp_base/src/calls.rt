@@ -52,7 +52,7 @@ pub enum Lock {
 }
 
 /// A call of one actor.
-#[derive(Clone, Copy, Debug, PartialEq)]
+#[derive(Clone, Copy, Debug)]
 pub enum Call {
     /// Makes a pool: `CreateThreadpool`.
     CreatePool,

@@ -9,6 +9,7 @@ ghost use Rattle.tp_lines.specs.Parts.{parts_of, parts_text};
 use crate::line;
 use crate::line::parts;
 use crate::parts::Parts;
+use crate::put::{counts_row, number_row, numbers_row};
 use crate::rows::read_parts;
 use crate::words::{Field, Word};
 use tp_base::answers::{Answer, Refusal, TakeResult};
@@ -182,9 +183,9 @@ pub fn put_answer(answer: &Answer, out: &mut [u8], at: usize) -> usize
 {
     match answer {
         Answer::Done => line::first(Word::Done, out, at),
-        Answer::Made { number } => { parts!(out, at; first(Word::Made) number(u64::from(*number))) }
+        Answer::Made { number } => { number_row(Word::Made, u64::from(*number), out, at) }
         Answer::Queued { first, count } => {
-            parts!(out, at; first(Word::Queued) number(*first) number(u64::from(*count)))
+            numbers_row(Word::Queued, *first, u64::from(*count), out, at)
         }
         Answer::WasSet { was, first, count } => {
             parts!(out, at; first(Word::Was) word(Word::YesNo(*was)) number(*first) number(u64::from(*count)))
@@ -197,10 +198,23 @@ pub fn put_answer(answer: &Answer, out: &mut [u8], at: usize) -> usize
             cancelled,
             notices,
         } => {
-            parts!(out, at; first(Word::Closing) number(u64::from(*covered)) number(u64::from(*cancelled)) number(u64::from(*notices)))
+            counts_row(
+                Word::Closing,
+                u64::from(*covered),
+                u64::from(*cancelled),
+                u64::from(*notices),
+                out,
+                at,
+            )
         }
         Answer::Begun { covered, cancelled } => {
-            parts!(out, at; first(Word::Begun) number(u64::from(*covered)) number(u64::from(*cancelled)))
+            numbers_row(
+                Word::Begun,
+                u64::from(*covered),
+                u64::from(*cancelled),
+                out,
+                at,
+            )
         }
         Answer::Ended => line::first(Word::Ended, out, at),
         Answer::Exhausted => line::first(Word::Exhausted, out, at),
@@ -213,26 +227,27 @@ pub fn put_answer(answer: &Answer, out: &mut [u8], at: usize) -> usize
         } => {
             parts!(out, at; first(Word::Notice) lettered(b'o', u64::from(object.0)) lettered(b'r', u64::from(routine.0)) lettered(b'x', *context) lettered(b'y', *cleanup))
         }
-        Answer::Started { callback } => { parts!(out, at; first(Word::Started) number(*callback)) }
-        Answer::Operation { callback } => {
-            parts!(out, at; first(Word::Operation) number(*callback))
-        }
-        Answer::Cancelled { callback } => {
-            parts!(out, at; first(Word::Cancelled) number(*callback))
-        }
+        Answer::Started { callback } => { number_row(Word::Started, *callback, out, at) }
+        Answer::Operation { callback } => { number_row(Word::Operation, *callback, out, at) }
+        Answer::Cancelled { callback } => { number_row(Word::Cancelled, *callback, out, at) }
         Answer::Count {
             previous,
             first,
             count,
         } => {
-            parts!(out, at; first(Word::Count) number(u64::from(*previous)) number(*first) number(u64::from(*count)))
+            counts_row(
+                Word::Count,
+                u64::from(*previous),
+                *first,
+                u64::from(*count),
+                out,
+                at,
+            )
         }
         Answer::Advanced { now, first, count } => {
-            parts!(out, at; first(Word::Advanced) number(*now) number(*first) number(u64::from(*count)))
+            counts_row(Word::Advanced, *now, *first, u64::from(*count), out, at)
         }
-        Answer::Attached { pool } => {
-            parts!(out, at; first(Word::Attached) number(u64::from(pool.0)))
-        }
+        Answer::Attached { pool } => { number_row(Word::Attached, u64::from(pool.0), out, at) }
         Answer::Taken {
             callback,
             object,

@@ -10,6 +10,7 @@ ghost use Rattle.tp_lines.specs.Actors.{ClientTexts, WorkerTexts};
 use crate::line;
 use crate::line::parts;
 use crate::parts::Parts;
+use crate::put::{counts_row, named_row, number_row, numbers_row, setting_row, words_row};
 use crate::rows::read_parts;
 use crate::words::{Field, Word};
 use line_grammar::numbers::read_prefixed;
@@ -247,19 +248,23 @@ pub fn put_call(call: &Call, out: &mut [u8], at: usize) -> usize
 {
     match call {
         Call::CreatePool => line::first(Word::CreatePool, out, at),
-        Call::ClosePool { pool } => {
-            parts!(out, at; first(Word::ClosePool) number(u64::from(pool.0)))
-        }
-        Call::SetMaximum { pool, value } => {
-            parts!(out, at; first(Word::SetMaximum) number(u64::from(pool.0)) number(u64::from(*value)))
-        }
-        Call::SetMinimum { pool, value } => {
-            parts!(out, at; first(Word::SetMinimum) number(u64::from(pool.0)) number(u64::from(*value)))
-        }
+        Call::ClosePool { pool } => number_row(Word::ClosePool, u64::from(pool.0), out, at),
+        Call::SetMaximum { pool, value } => numbers_row(
+            Word::SetMaximum,
+            u64::from(pool.0),
+            u64::from(*value),
+            out,
+            at,
+        ),
+        Call::SetMinimum { pool, value } => numbers_row(
+            Word::SetMinimum,
+            u64::from(pool.0),
+            u64::from(*value),
+            out,
+            at,
+        ),
         Call::CreateGroup => line::first(Word::CreateGroup, out, at),
-        Call::CloseGroup { group } => {
-            parts!(out, at; first(Word::CloseGroup) number(u64::from(group.0)))
-        }
+        Call::CloseGroup { group } => number_row(Word::CloseGroup, u64::from(group.0), out, at),
         Call::BeginClose {
             group,
             cancel,
@@ -278,7 +283,13 @@ pub fn put_call(call: &Call, out: &mut [u8], at: usize) -> usize
             put_environ(*env, out, end)
         }
         Call::CloseObject { kind, object } => {
-            parts!(out, at; first(Word::CloseObject) word(Word::Kind(*kind)) number(u64::from(object.0)))
+            named_row(
+                Word::CloseObject,
+                Word::Kind(*kind),
+                u64::from(object.0),
+                out,
+                at,
+            )
         }
         Call::SubmitSimple {
             routine,
@@ -289,16 +300,22 @@ pub fn put_call(call: &Call, out: &mut [u8], at: usize) -> usize
                 parts!(out, at; first(Word::SubmitSimple) lettered(b'r', u64::from(routine.0)) lettered(b'x', *context));
             put_environ(*env, out, end)
         }
-        Call::SubmitWork { object } => {
-            parts!(out, at; first(Word::Submit) number(u64::from(object.0)))
-        }
+        Call::SubmitWork { object } => number_row(Word::Submit, u64::from(object.0), out, at),
         Call::SetTimer {
             object,
             due,
             period,
             window,
         } => {
-            parts!(out, at; first(Word::SetTimer) number(u64::from(object.0)) due(*due) number(u64::from(*period)) number(u64::from(*window)))
+            setting_row(
+                Word::SetTimer,
+                u64::from(object.0),
+                *due,
+                u64::from(*period),
+                u64::from(*window),
+                out,
+                at,
+            )
         }
         Call::SetTimerEx {
             object,
@@ -306,12 +323,18 @@ pub fn put_call(call: &Call, out: &mut [u8], at: usize) -> usize
             period,
             window,
         } => {
-            parts!(out, at; first(Word::SetTimerEx) number(u64::from(object.0)) due(*due) number(u64::from(*period)) number(u64::from(*window)))
+            setting_row(
+                Word::SetTimerEx,
+                u64::from(object.0),
+                *due,
+                u64::from(*period),
+                u64::from(*window),
+                out,
+                at,
+            )
         }
-        Call::IsTimerSet { object } => {
-            parts!(out, at; first(Word::IsTimerSet) number(u64::from(object.0)))
-        }
-        Call::Advance { ticks } => { parts!(out, at; first(Word::Advance) number(*ticks)) }
+        Call::IsTimerSet { object } => number_row(Word::IsTimerSet, u64::from(object.0), out, at),
+        Call::Advance { ticks } => number_row(Word::Advance, *ticks, out, at),
         Call::SetWait {
             object,
             kernel,
@@ -319,21 +342,22 @@ pub fn put_call(call: &Call, out: &mut [u8], at: usize) -> usize
         } => {
             parts!(out, at; first(Word::SetWait) number(u64::from(object.0)) named(*kernel) due(*timeout))
         }
-        Call::StartIo { object } => {
-            parts!(out, at; first(Word::StartIo) number(u64::from(object.0)))
-        }
-        Call::IssueIo { object } => {
-            parts!(out, at; first(Word::IssueIo) number(u64::from(object.0)))
-        }
-        Call::CancelIo { object } => {
-            parts!(out, at; first(Word::CancelIo) number(u64::from(object.0)))
-        }
+        Call::StartIo { object } => number_row(Word::StartIo, u64::from(object.0), out, at),
+        Call::IssueIo { object } => number_row(Word::IssueIo, u64::from(object.0), out, at),
+        Call::CancelIo { object } => number_row(Word::CancelIo, u64::from(object.0), out, at),
         Call::CompleteIo {
             callback,
             error,
             bytes,
         } => {
-            parts!(out, at; first(Word::CompleteIo) number(*callback) number(u64::from(*error)) number(*bytes))
+            counts_row(
+                Word::CompleteIo,
+                *callback,
+                u64::from(*error),
+                *bytes,
+                out,
+                at,
+            )
         }
         Call::BeginWait {
             kind,
@@ -342,30 +366,55 @@ pub fn put_call(call: &Call, out: &mut [u8], at: usize) -> usize
         } => {
             parts!(out, at; first(Word::BeginWait) word(Word::Kind(*kind)) number(u64::from(object.0)) word(Word::How(*cancel)))
         }
-        Call::BeginAcquire { kernel } => {
-            parts!(out, at; first(Word::BeginAcquire) number(u64::from(kernel.0)))
-        }
+        Call::BeginAcquire { kernel } => number_row(
+            Word::BeginAcquire,
+            u64::from(kernel.0),
+            out,
+            at,
+        ),
         Call::End => line::first(Word::End, out, at),
         Call::CreateEvent { manual, signalled } => {
-            parts!(out, at; first(Word::CreateEvent) word(Word::Reset(*manual)) word(Word::Signal(*signalled)))
+            words_row(
+                Word::CreateEvent,
+                Word::Reset(*manual),
+                Word::Signal(*signalled),
+                out,
+                at,
+            )
         }
-        Call::CreateSemaphore { initial, maximum } => {
-            parts!(out, at; first(Word::CreateSemaphore) number(u64::from(*initial)) number(u64::from(*maximum)))
-        }
+        Call::CreateSemaphore { initial, maximum } => numbers_row(
+            Word::CreateSemaphore,
+            u64::from(*initial),
+            u64::from(*maximum),
+            out,
+            at,
+        ),
         Call::CreateLock { lock, owned } => {
-            parts!(out, at; first(Word::CreateLock) word(Word::Lock(*lock)) word(Word::Owner(*owned)))
+            words_row(
+                Word::CreateLock,
+                Word::Lock(*lock),
+                Word::Owner(*owned),
+                out,
+                at,
+            )
         }
-        Call::SetEvent { kernel } => {
-            parts!(out, at; first(Word::SetEvent) number(u64::from(kernel.0)))
-        }
-        Call::ResetEvent { kernel } => {
-            parts!(out, at; first(Word::ResetEvent) number(u64::from(kernel.0)))
-        }
-        Call::ReleaseSemaphore { kernel, count } => {
-            parts!(out, at; first(Word::ReleaseSemaphore) number(u64::from(kernel.0)) number(u64::from(*count)))
-        }
+        Call::SetEvent { kernel } => number_row(Word::SetEvent, u64::from(kernel.0), out, at),
+        Call::ResetEvent { kernel } => number_row(Word::ResetEvent, u64::from(kernel.0), out, at),
+        Call::ReleaseSemaphore { kernel, count } => numbers_row(
+            Word::ReleaseSemaphore,
+            u64::from(kernel.0),
+            u64::from(*count),
+            out,
+            at,
+        ),
         Call::ReleaseLock { lock, kernel } => {
-            parts!(out, at; first(Word::ReleaseLock) word(Word::Lock(*lock)) number(u64::from(kernel.0)))
+            named_row(
+                Word::ReleaseLock,
+                Word::Lock(*lock),
+                u64::from(kernel.0),
+                out,
+                at,
+            )
         }
         Call::Attach => line::first(Word::Attach, out, at),
         Call::Detach => line::first(Word::Detach, out, at),

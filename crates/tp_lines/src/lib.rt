@@ -29,5 +29,6 @@ mod line;
 pub mod parse;
 mod parts;
 pub mod print;
+mod put;
 mod rows;
 mod words;

@@ -192,13 +192,19 @@ pub enum Word {
     Action(ActionKind),
 }
 
-// All words by the field in which each stands: the word, its text, and the fields behind it. Those of calls are
-// in two parts, since a search among all of them at once takes a minute to prove.
+// All words by the field in which each stands: the word, its text, and the fields behind it. The calls that come
+// most often are first, since a word is searched for in this order.
 macro_rules! words {
     ($then:ident, $($given:tt)+) => {
         $then! {
             $($given)+;
             Call {
+                (Word::Take) b"take" [];
+                (Word::Return) b"return" [];
+                (Word::Submit) b"submit" [Short];
+                (Word::End) b"end" [];
+                (Word::Attach) b"attach" [];
+                (Word::Detach) b"detach" [];
                 (Word::CreatePool) b"create-pool" [];
                 (Word::ClosePool) b"close-pool" [Short];
                 (Word::SetMaximum) b"set-maximum" [Short Small];
@@ -209,7 +215,6 @@ macro_rules! words {
                 (Word::Create) b"create" [Kind Routine Context Pool Priority Length Group Cancel];
                 (Word::CloseObject) b"close" [Kind Short];
                 (Word::SubmitSimple) b"submit-simple" [Routine Context Pool Priority Length Group Cancel];
-                (Word::Submit) b"submit" [Short];
                 (Word::SetTimer) b"set-timer" [Short Due Small Small];
                 (Word::SetTimerEx) b"set-timer-ex" [Short Due Small Small];
                 (Word::IsTimerSet) b"is-timer-set" [Short];
@@ -219,11 +224,8 @@ macro_rules! words {
                 (Word::IssueIo) b"issue-io" [Short];
                 (Word::CancelIo) b"cancel-io" [Short];
                 (Word::CompleteIo) b"complete-io" [Large Small Large];
-            }
-            Call {
                 (Word::BeginWait) b"wait" [Kind Short How];
                 (Word::BeginAcquire) b"acquire" [Short];
-                (Word::End) b"end" [];
                 (Word::CreateEvent) b"create-event" [Reset Signal];
                 (Word::CreateSemaphore) b"create-semaphore" [Level Level];
                 (Word::CreateLock) b"create-lock" [Lock Owner];
@@ -231,10 +233,6 @@ macro_rules! words {
                 (Word::ResetEvent) b"reset-event" [Short];
                 (Word::ReleaseSemaphore) b"release-semaphore" [Short Units];
                 (Word::ReleaseLock) b"release-lock" [Lock Short];
-                (Word::Attach) b"attach" [];
-                (Word::Detach) b"detach" [];
-                (Word::Take) b"take" [];
-                (Word::Return) b"return" [];
                 (Word::MayRunLong) b"may-run-long" [];
                 (Word::Disassociate) b"disassociate" [];
                 (Word::OnReturn) b"on-return" [Action Short Units];
@@ -385,34 +383,12 @@ macro_rules! fields_by_word {
     };
 }
 
-// The word with a text among those of one table.
-macro_rules! word_by_text {
-    (Call $given:expr; Call { $($words:tt)+ } $($others:tt)*) => { among!($given; $($words)+) };
-    (OtherCall $given:expr; Call { $($first:tt)+ } Call { $($words:tt)+ } $($others:tt)*) => { among!($given; $($words)+) };
-    (Answer $given:expr; Answer { $($words:tt)+ } $($others:tt)*) => { among!($given; $($words)+) };
-    (Result $given:expr; Result { $($words:tt)+ } $($others:tt)*) => { among!($given; $($words)+) };
-    (Refusal $given:expr; Refusal { $(($($word:tt)+) $text:literal [$($field:ident)*];)+ } $($others:tt)*) => {
-        &[$($($word)+),+]
-    };
-    (Kind $given:expr; Kind { $($words:tt)+ } $($others:tt)*) => { among!($given; $($words)+) };
-    (Priority $given:expr; Priority { $($words:tt)+ } $($others:tt)*) => { among!($given; $($words)+) };
-    (Length $given:expr; Length { $($words:tt)+ } $($others:tt)*) => { among!($given; $($words)+) };
-    (How $given:expr; How { $($words:tt)+ } $($others:tt)*) => { among!($given; $($words)+) };
-    (Reset $given:expr; Reset { $($words:tt)+ } $($others:tt)*) => { among!($given; $($words)+) };
-    (Signal $given:expr; Signal { $($words:tt)+ } $($others:tt)*) => { among!($given; $($words)+) };
-    (Lock $given:expr; Lock { $($words:tt)+ } $($others:tt)*) => { among!($given; $($words)+) };
-    (Owner $given:expr; Owner { $($words:tt)+ } $($others:tt)*) => { among!($given; $($words)+) };
-    (Flag $given:expr; Flag { $($words:tt)+ } $($others:tt)*) => { among!($given; $($words)+) };
-    (Slot $given:expr; Slot { $($words:tt)+ } $($others:tt)*) => { among!($given; $($words)+) };
-    (Action $given:expr; Action { $($words:tt)+ } $($others:tt)*) => { among!($given; $($words)+) };
-    ($wanted:ident $given:expr; $table:ident { $($words:tt)+ } $($others:tt)*) => {
-        word_by_text!($wanted $given; $($others)*)
-    };
-}
-
-macro_rules! among {
-    ($given:expr; $(($($word:tt)+) $text:literal [$($field:ident)*];)+) => {
-        match $given { $($text => Some($($word)+),)+ _ => None }
+macro_rules! spellings_by_table {
+    ($given:expr; $($table:ident { $(($($word:tt)+) $text:literal [$($field:ident)*];)+ })+) => {
+        match $given {
+            $(Field::$table => &[$(Spelling { text: $text, word: $($word)+ }),+],)+
+            _ => &[],
+        }
     };
 }
 
@@ -460,61 +436,25 @@ pub fn fields_of(word: Word) -> &'static [Field]
     words!(fields_by_word, word)
 }
 
+// A text, and the word that may have it.
+#[derive(Clone, Copy)]
+struct Spelling {
+    text: &'static [u8],
+    word: Word,
+}
+
+fn spellings(table: Field) -> &'static [Spelling] {
+    words!(spellings_by_table, table)
+}
+
 // A word that may be the one of the table with this text.
 fn guess_word(table: Field, text: &[u8]) -> Option<Word> {
-    match table {
-        Field::Call => match guess_call(text) {
-            None => guess_other_call(text),
-            found => found,
-        },
-        Field::Answer => guess_answer(text),
-        Field::Refusal => guess_refusal(text),
-        _ => guess_choice(table, text),
-    }
-}
-
-fn guess_call(text: &[u8]) -> Option<Word> {
-    words!(word_by_text, Call text)
-}
-
-fn guess_other_call(text: &[u8]) -> Option<Word> {
-    words!(word_by_text, OtherCall text)
-}
-
-fn guess_answer(text: &[u8]) -> Option<Word> {
-    words!(word_by_text, Answer text)
-}
-
-// Refusals are rare, and their words long.
-fn guess_refusal(text: &[u8]) -> Option<Word> {
-    for word in refusal_words() {
-        if word_text(*word) == text {
-            return Some(*word);
+    for spelling in spellings(table) {
+        if spelling.text == text {
+            return Some(spelling.word);
         }
     }
     None
-}
-
-fn refusal_words() -> &'static [Word] {
-    words!(word_by_text, Refusal())
-}
-
-fn guess_choice(table: Field, text: &[u8]) -> Option<Word> {
-    match table {
-        Field::Result => words!(word_by_text, Result text),
-        Field::Kind => words!(word_by_text, Kind text),
-        Field::Priority => words!(word_by_text, Priority text),
-        Field::Length => words!(word_by_text, Length text),
-        Field::How => words!(word_by_text, How text),
-        Field::Reset => words!(word_by_text, Reset text),
-        Field::Signal => words!(word_by_text, Signal text),
-        Field::Lock => words!(word_by_text, Lock text),
-        Field::Owner => words!(word_by_text, Owner text),
-        Field::Flag => words!(word_by_text, Flag text),
-        Field::Slot => words!(word_by_text, Slot text),
-        Field::Action => words!(word_by_text, Action text),
-        _ => None,
-    }
 }
 
 /// The word of the table that has this text.
