@@ -1,5 +1,5 @@
 -- The parts of a world that is opened.
-use Rattle.std.proofs.Common.{◌≡◌, ℕ, Bool, suc, zero, ◌+◌, None, true, false, cond, not, ◌&&◌, ◌==◌, slice_get, ◌-◌, List, [], ◌∷◌, length, map, get_or, replicate, refl, sym, ap, ap₂, ◌∙◌, subst, arith, sum_by}
+use Rattle.std.proofs.Common.{◌≡◌, ℕ, Bool, suc, zero, ◌+◌, None, true, false, cond, not, ◌&&◌, ◌==◌, slice_get, ◌-◌, List, [], length, map, get_or, replicate, refl, sym, ap, ap₂, ◌∙◌, subst, arith, sum_by}
 use Rattle.tp_base.specs.declared.limits.Limits.{Limits}
 use Rattle.tp_base.specs.declared.rows.ClientRow.{ClientRow}
 use Rattle.tp_base.specs.Ranges.{AreLimitsInRange}
@@ -8,8 +8,8 @@ use Rattle.handle_table.specs.Table.{Table, Marked}
 use Rattle.timer_objects.specs.Settings.{Timers}
 use Rattle.kernel_events.specs.Kernels.{Kernels}
 use Rattle.std.specs.Option.{option_map_or}
-use Rattle.prio_queue.specs.Pending.{Pending, Entry}
-use Rattle.pool_rows.specs.Pools.{Pools, made_pool}
+use Rattle.prio_queue.specs.Pending.{Entry}
+use Rattle.pool_rows.specs.Pools.{Pools}
 use Rattle.pool_rows.specs.Workers.{runs_in, runs_long_in, unattached as unattached_row}
 use Rattle.tp_model.specs.Counts.{is_expected, is_operating}
 use Rattle.tp_model.specs.World.{World, BegunWait, opening, unattached, unfinished}
@@ -20,10 +20,10 @@ use Rattle.live_world.specs.declared.objects.Object.{Object}
 use Rattle.live_world.specs.Parts.{world_of, shown_worker, is_tied, is_timed_kind}
 use Rattle.live_world.specs.Invariant.{AreSized, AreLive, AreQueued, AreTallied, AreListed, AreCovered, AreTimed, AreKernels, AreSlotted, AreWanted, AreGrouped, AreMembered, AreClosing, IsHome, IsMarked}
 use Rattle.live_world.specs.View.{shown}
+use Rattle.live_world.specs.Opening.{opened_pools, opened_groups, opened_objects, opened_members, opened_callbacks, opened_queues, opened_lists, opened_barriers, opened_notices, opened_timers, opened_kernels}
 use Rattle.live_world.specs.declared.groups.Group.{Group}
 use Rattle.live_world.specs.declared.LiveWorld.TheInside.{Inside}
 use Rattle.live_world.proofs.Moving.{Becomes}
-use Rattle.keyed_lists.specs.Keyed.{Keyed}
 use Rattle.cancel_wait.specs.Covers.{Covers}
 use Rattle.tp_base.specs.declared.rows.CallbackRow.{CallbackRow}
 use Rattle.tp_base.specs.declared.rows.WorkerRow.{WorkerRow}
@@ -37,40 +37,6 @@ get_replicate d (suc n) (suc place) = get_replicate d n place
 none_held : (n : ℕ) → sum_by {X = List Entry} length (replicate n []) ≡ 0
 none_held zero = refl
 none_held (suc n) = none_held n
-
-abbrev pub opened_pools : Limits → Pools
-opened_pools limits = record { limit = limits.pools; pools = made_pool limits.workers ∷ []; workers = replicate limits.workers unattached_row }
-
-abbrev pub opened_groups : Limits → Table Group
-opened_groups limits = record { limit = limits.groups; rows = [] }
-
-abbrev pub opened_notices : Limits → Covers
-opened_notices limits = record { slots = limits.objects; waits = replicate (limits.clients + limits.workers) None }
-
-abbrev pub opened_objects : Limits → Table Object
-opened_objects limits = record { limit = limits.objects; rows = [] }
-
-abbrev pub opened_callbacks : Limits → LiveCallbacks
-opened_callbacks limits = record { slots = limits.slots; rows = [] }
-
-abbrev pub opened_queues : Limits → Pending
-opened_queues limits = record { slots = limits.slots; queues = replicate limits.pools [] }
-
-abbrev pub opened_lists : Limits → Keyed
-opened_lists limits = record { keys = limits.objects + 1; slots = limits.slots; entries = [] }
-
-abbrev pub opened_members : Limits → Keyed
-opened_members limits = record { keys = limits.groups + 1; slots = limits.objects; entries = [] }
-
-abbrev pub opened_barriers : Limits → Covers
-opened_barriers limits = record { slots = limits.slots; waits = replicate (limits.clients + limits.workers) None }
-
--- each part as it is opened
-abbrev pub opened_timers : Limits → Timers
-opened_timers limits = record { limit = limits.objects; there = replicate (limits.objects + 1) false; settings = [] }
-
-abbrev pub opened_kernels : Limits → Kernels
-opened_kernels limits = record { limit = limits.kernels; objects = limits.objects; rows = []; armed = [] }
 
 pub record IsOpened (i : Inside) : Type 0 where
   pub in_range : AreLimitsInRange i.limits

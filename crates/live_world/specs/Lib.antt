@@ -4,6 +4,7 @@ pub mod Closing
 pub mod Firing
 pub mod Invariant
 pub mod Live
+pub mod Opening
 pub mod Parts
 pub mod Performing
 pub mod Taking

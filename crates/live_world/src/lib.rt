@@ -27,6 +27,7 @@ use handle_table::Rows;
 use kernel_events::KernelTable;
 use keyed_lists::KeyedLists;
 use objects::Object;
+use opened::{open_lists, open_rows, open_waits};
 use pool_rows::PoolRows;
 use prio_queue::Queues;
 use std::alloc::{AllocError, Global};
@@ -47,6 +48,7 @@ mod io;
 mod kernels;
 mod leaving;
 mod objects;
+mod opened;
 pub mod outstanding;
 mod pools;
 pub mod timers;
@@ -112,38 +114,28 @@ impl LiveWorld {
         requires { AreLimitsInRange limits }
         ensures { IfOk result (λ live. live ≡ record { world = forget (opening limits); made = 0 }) }
     {
-        let pools = PoolRows::open(alloc, limits.pools, limits.workers)?;
-        let groups = Rows::open(alloc, limits.groups)?;
-        let objects = Rows::open(alloc, limits.objects)?;
-        let members = KeyedLists::open(alloc, limits.groups + 1, limits.objects)?;
-        let callbacks = CallbackRows::open(alloc, limits.slots, limits.groups)?;
-        let queues = Queues::open(alloc, limits.pools, limits.slots)?;
-        let outstanding = KeyedLists::open(alloc, limits.objects + 1, limits.slots)?;
-        let started = KeyedLists::open(alloc, limits.objects + 1, limits.slots)?;
-        let operations = KeyedLists::open(alloc, limits.objects + 1, limits.slots)?;
-        let barriers = Barriers::open(alloc, limits.clients + limits.workers, limits.slots)?;
-        let wanted = waits::open_wanted(alloc, limits.clients + limits.workers)?;
-        let closing = closing::open_closing(alloc, limits.clients + limits.workers)?;
-        let notices = Barriers::open(alloc, limits.clients + limits.workers, limits.objects)?;
+        let rows = open_rows(alloc, limits)?;
+        let lists = open_lists(alloc, limits)?;
+        let waits = open_waits(alloc, limits)?;
         let clients = actors::open_clients(alloc, limits.clients)?;
         let timers = TimerObjects::open(alloc, limits.objects)?;
         let kernels = KernelTable::open(alloc, limits.kernels, limits.objects)?;
         Ok(LiveWorld {
             limits,
-            pools,
-            groups,
-            objects,
-            members,
-            callbacks,
-            queues,
-            outstanding,
-            started,
-            operations,
-            barriers,
+            pools: rows.pools,
+            groups: rows.groups,
+            objects: rows.objects,
+            members: lists.members,
+            callbacks: rows.callbacks,
+            queues: rows.queues,
+            outstanding: lists.outstanding,
+            started: lists.started,
+            operations: lists.operations,
+            barriers: waits.barriers,
             waits: BegunWaits::none(),
-            wanted,
-            closing,
-            notices,
+            wanted: waits.wanted,
+            closing: waits.closing,
+            notices: waits.notices,
             clients,
             timers,
             kernels,

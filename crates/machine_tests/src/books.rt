@@ -5,6 +5,7 @@ ghost use Rattle.tp_base.specs.Ranges.{IsCallInRange};
 
 use pool_book::{Book, program_limits};
 use std::alloc::{AllocError, Global};
+use std::process::Abort;
 use std::test::Fail;
 use tp_base::answers::{Answer, Outcome, Refusal};
 use tp_base::calls::{Call, Environ, Kind, Priority};
@@ -41,6 +42,11 @@ fn book_of(alloc: Global, clients: u32, capacity: u32) -> Result<Book, AllocErro
 #[test]
 fn entries_take_room(rt: HostRuntime) -> Result<(), Fail> {
     let mut book = book_of(rt.alloc(), 1, 20)?;
+    check_room(&rt, &mut book);
+    Ok(())
+}
+
+fn check_room(rt: &impl Abort, book: &mut Book) {
     assert_eq!(rt;
         (
             book.capacity(),
@@ -59,13 +65,17 @@ fn entries_take_room(rt: HostRuntime) -> Result<(), Fail> {
         book.step(who, call);
         assert_eq!(rt; (book.len(), book.room()), (len, room));
     }
-    Ok(())
 }
 
 /// More is owed than there is room for: nothing but what is owed can be written down.
 #[test]
 fn room_is_none_where_more_is_owed(rt: HostRuntime) -> Result<(), Fail> {
     let mut book = book_of(rt.alloc(), 3, 1)?;
+    check_owed(&rt, &mut book);
+    Ok(())
+}
+
+fn check_owed(rt: &impl Abort, book: &mut Book) {
     assert_eq!(rt;
         book.step(Who::Worker(1), Call::Take),
         Outcome::Full { room: 0, cost: 1 }
@@ -75,7 +85,6 @@ fn room_is_none_where_more_is_owed(rt: HostRuntime) -> Result<(), Fail> {
         Outcome::Done(Answer::Done)
     );
     assert_eq!(rt; (book.len(), book.room()), (1, 0));
-    Ok(())
 }
 
 /// An armed wait has the slot for its callback, which is free where it is armed anew.
@@ -85,6 +94,11 @@ fn an_armed_wait_takes_a_slot(rt: HostRuntime) -> Result<(), Fail> {
     limits.slots = 1;
     assert!(rt; limits.in_range());
     let mut book = Book::open(rt.alloc(), limits, 20)?;
+    check_arming(&rt, &mut book);
+    Ok(())
+}
+
+fn check_arming(rt: &impl Abort, book: &mut Book) {
     let (manual, signalled) = (false, false);
     for (call, outcome) in [
         (Call::CreateEvent { manual, signalled }, made(1)),
@@ -99,7 +113,6 @@ fn an_armed_wait_takes_a_slot(rt: HostRuntime) -> Result<(), Fail> {
         assert!(rt; call.in_range());
         assert_eq!(rt; book.step(Who::Client(1), call), outcome);
     }
-    Ok(())
 }
 
 fn arm(object: u32) -> Call {

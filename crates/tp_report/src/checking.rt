@@ -1,6 +1,6 @@
 //! Checking of histories.
 
-ghost use Rattle.std.specs.Prelude.{◌≡◌, ◌≤◌, List, IfErr, IfOk};
+ghost use Rattle.std.specs.Prelude.{◌≡◌, ◌≤◌, [], List, IfErr, IfOk};
 ghost use Rattle.tp_base.specs.declared.answers.Entry.{Entry};
 ghost use Rattle.tp_model.specs.Laws.{KeepsLaws};
 ghost use Rattle.tp_report.specs.declared.headers.Header.{Header as FirstLine};
@@ -46,13 +46,31 @@ fn check_behind(alloc: Global, header: Header, text: &[u8]) -> Result<Verdict, C
     ensures err { IfErr result (λ fault. IsPlace (IsEntriesFault header.events text.now) fault) }
 {
     let mut book = Book::open(alloc, header.limits(), header.events)?;
+    check_entries(alloc, &mut book, header, text)
+}
+
+// The same on a book without entries, of the header's limits and capacity.
+fn check_entries(
+    alloc: Global,
+    book: &mut Book,
+    header: Header,
+    text: &[u8],
+) -> Result<Verdict, CheckFault>
+    requires header { HasHeaderLine header }
+    requires limits { book.old.limits ≡ limits_of header }
+    requires capacity { book.old.capacity ≡ header.events }
+    requires empty { book.old.history ≡ [] }
+    ensures ok { IfOk result (λ verdict. IsVerdictBehind header text.now verdict) }
+    ensures only { (entries : List Entry) → AreEntries header.events text.now entries → IsOrNoMemory (IsVerdict (limits_of header) header.events entries) result }
+    ensures err { IfErr result (λ fault. IsPlace (IsEntriesFault header.events text.now) fault) }
+{
     let mut verdict = Verdict::Legal { len: 0 };
     let mut len = 0;
     let mut rest = text;
     loop {
         match read_next_line(alloc, rest, header.events, len)? {
             Next::Another { entry, size } => {
-                verdict = judge(&mut book, verdict, &entry);
+                verdict = judge(book, verdict, &entry);
                 len += 1;
                 (_, rest) = rest.split_at(size);
             }

@@ -2,6 +2,7 @@
 
 ghost use Rattle.std.specs.Prelude.{◌≡◌, ◌≤◌, ◌<◌, ◌-◌, ◌^◌, ◌++◌, ◌∷◌, [], List, IfErr, IfOk, OnOk, length, max};
 ghost use Rattle.line_grammar.specs.Traces.{IsTraceFault};
+ghost use Rattle.pool_book.specs.ProgramLimits.{limits_with};
 ghost use Rattle.pool_book.specs.Recordings.{IsFirstOf, outcome_behind};
 ghost use Rattle.tp_base.specs.declared.calls.Call.{Call as Made};
 ghost use Rattle.tp_base.specs.Ranges.{IsCallInRange};
@@ -71,6 +72,21 @@ fn play(alloc: Global, bytes: &[u8], clients: u32) -> Result<Played, TextFault>
     ensures err { IfErr result (λ fault. IsPlace (IsTraceFault IsLine bytes.now) fault) }
 {
     let mut book = Book::open(alloc, program_limits(clients, WORKERS), CAPACITY)?;
+    play_calls(alloc, &mut book, bytes)
+}
+
+// The same on a book without entries.
+fn play_calls(alloc: Global, book: &mut Book, bytes: &[u8]) -> Result<Played, TextFault>
+    requires few { length bytes.now < 2 ^ 32 - 1 }
+    requires limits { book.old.limits ≡ limits_with book.old.limits.clients 4 }
+    requires clients { book.old.limits.clients ≤ 16 }
+    requires capacity { book.old.capacity ≡ 65536 }
+    requires empty { book.old.history ≡ [] }
+    ensures ok { IfOk result (λ played. IsPlayed book.old.limits.clients bytes.now played) }
+    ensures most { IfOk result (λ played. played.clients ≤ 16) }
+    ensures only { (calls : List (Actor × Made)) → IsTraceOf bytes.now calls → IsOrNoMemory (IsPlayedOf book.old.limits.clients calls) result }
+    ensures err { IfErr result (λ fault. IsPlace (IsTraceFault IsLine bytes.now) fault) }
+{
     let mut text = Lines::new(alloc);
     let mut greatest = 0;
     let mut lines = 0;
@@ -79,7 +95,7 @@ fn play(alloc: Global, bytes: &[u8], clients: u32) -> Result<Played, TextFault>
         match read_call(rest) {
             Err(place) => return Err(fault_behind(lines, place)),
             Ok(((who, call), size)) => {
-                play_call(&mut book, who, call, &mut text)?;
+                play_call(book, who, call, &mut text)?;
                 greatest = greater_client(greatest, who);
                 lines += 1;
                 (_, rest) = rest.split_at(size);

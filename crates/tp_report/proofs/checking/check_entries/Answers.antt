@@ -6,31 +6,31 @@ use Rattle.tp_report.proofs.Places.{next_place}
 use Rattle.tp_report.proofs.SoFar.{checked_next, checked_all, checked_only, checked_no, checked_fault, checked_few}
 use Rattle.tp_report.proofs.Unanswered.{or_no_memory}
 use Rattle.tp_report.specs.Verdicts.{IsVerdict, limits_of}
-use Rattle.tp_report.proofs.checking.check_behind.Goals as goal
+use Rattle.tp_report.proofs.checking.check_entries.Goals as goal
 
-pub loop-book-preserved : goal.loop-book-preserved
-loop-book-preserved c =
-    let l = c.loop-book in
+pub loop-entry-preserved : goal.loop-entry-preserved
+loop-entry-preserved c =
+    let l = c.loop-entry in
     rw c.split_at.ensures.back
-    (checked_next c.args.header c.args.text.now l.book l.verdict l.len l.rest.now l.invariant c.requires.events_most c.judge-verdict.new.book c.judge-verdict.result c.in-Another.entry c.in-Another.size
+    (checked_next c.args.header c.args.text.now l.book l.verdict l.len l.rest.now l.invariant c.requires.header.events_most c.judge-verdict.new.book c.judge-verdict.result c.in-Another.entry c.in-Another.size
     (subst (λ n. IsNext c.args.header.events l.len l.rest.now n) c.in-Another.is c.in_ok-entry.ensures) c.judge-verdict.ensures.same c.judge-verdict.ensures.judged)
 
 pub returns-in-End-clause-ok : goal.returns-in-End-clause-ok
 returns-in-End-clause-ok c =
-    let l = c.loop-book in
-    checked_all c.args.header c.args.text.now l.book l.verdict l.len l.rest.now l.invariant c.requires.events_most
+    let l = c.loop-entry in
+    checked_all c.args.header c.args.text.now l.book l.verdict l.len l.rest.now l.invariant c.requires.header.events_most
     (subst (λ n. IsNext c.args.header.events l.len l.rest.now n) c.in-End.is c.in_ok-entry.ensures)
 
 pub returns-in-End-clause-only : goal.returns-in-End-clause-only
 returns-in-End-clause-only c =
-    let l = c.loop-book in
-    checked_only c.args.header c.args.text.now l.book l.verdict l.len l.rest.now l.invariant c.requires.events_most
+    let l = c.loop-entry in
+    checked_only c.args.header c.args.text.now l.book l.verdict l.len l.rest.now l.invariant c.requires.header.events_most
     (subst (λ n. IsNext c.args.header.events l.len l.rest.now n) c.in-End.is c.in_ok-entry.ensures)
 
 pub fault_behind-requires-clause-place : goal.fault_behind-requires-clause-place
 fault_behind-requires-clause-place c =
-    let l = c.loop-book in
-    let few = checked_few c.args.header c.args.text.now l.book l.verdict l.len l.rest.now l.invariant c.requires.events_most in
+    let l = c.loop-entry in
+    let few = checked_few c.args.header c.args.text.now l.book l.verdict l.len l.rest.now l.invariant c.requires.header.events_most in
     omega (
       arith,
       next_place c.args.header.events l.len (omega (arith, few.0)) l.rest.now c.in-Fault.place
@@ -39,18 +39,18 @@ fault_behind-requires-clause-place c =
 
 pub returns-in-Fault-clause-only : goal.returns-in-Fault-clause-only
 returns-in-Fault-clause-only c = λ all a.
-    let l = c.loop-book in
+    let l = c.loop-entry in
     absurd
-    (checked_no c.args.header c.args.text.now l.book l.verdict l.len l.rest.now l.invariant c.requires.events_most c.in-Fault.place
+    (checked_no c.args.header c.args.text.now l.book l.verdict l.len l.rest.now l.invariant c.requires.header.events_most c.in-Fault.place
     (subst (λ n. IsNext c.args.header.events l.len l.rest.now n) c.in-Fault.is c.in_ok-entry.ensures) all a)
 
 pub returns-in-Fault-clause-err : goal.returns-in-Fault-clause-err
 returns-in-Fault-clause-err c =
-    let l = c.loop-book in
+    let l = c.loop-entry in
     subst (λ f. IsPlace (IsEntriesFault c.args.header.events c.args.text.now) f) (sym c.fault_behind.ensures)
-    (checked_fault c.args.header c.args.text.now l.book l.verdict l.len l.rest.now l.invariant c.requires.events_most c.in-Fault.place
+    (checked_fault c.args.header c.args.text.now l.book l.verdict l.len l.rest.now l.invariant c.requires.header.events_most c.in-Fault.place
     (subst (λ n. IsNext c.args.header.events l.len l.rest.now n) c.in-Fault.is c.in_ok-entry.ensures))
 
 pub returns-in_err-entry-clause-only : goal.returns-in_err-entry-clause-only
 returns-in_err-entry-clause-only c = λ all a.
-    let told = c.from_residual-in_err-entry in or_no_memory (IsVerdict (limits_of c.args.header) c.args.header.events all) told.result told.ensures.1
+    let told = c.from_residual in or_no_memory (IsVerdict (limits_of c.args.header) c.args.header.events all) told.result told.ensures.1
