@@ -6,6 +6,7 @@ ghost use Rattle.std.specs.Prelude.{◌≡◌, ◌+◌, ◌^◌, ◌<◌};
 ghost use Rattle.tp_model.specs.Calls.Io.{expecting as expecting_of, start_io_plan, issue_io_plan, cancel_io_plan, complete_io_plan};
 
 use crate::decisions::{Decision, accept};
+use crate::objects::one_callback;
 use crate::refusals::{actor_refusal, either, first_of, object_refusal};
 use live_world::LiveWorld;
 use live_world::callbacks::new_callback;
@@ -36,24 +37,16 @@ pub(crate) fn start_io(
     requires { world.now.made < 2 ^ 63 }
     ensures { decided result change.new ≡ start_io_plan world.now.world (world.now.made + 1) who object }
 {
-    let refusal = object_refusal!(
+    one_callback!(
         world,
         who,
         Kind::Io,
         object,
-        [(world.lacks_slots(1), Refusal::CallbackLimit)]
-    );
-    if let Some(refusal) = refusal {
-        return Decision::Refused(refusal);
-    }
-    let Some(row) = world.object(object) else {
-        return Decision::Refused(Refusal::NoSuch);
-    };
-    let callback = world.next_number();
-    accept(
         change,
-        Answer::Started { callback },
-        Change::ExpectCallback(expecting(callback, object, &row)),
+        |callback, row| (
+            Answer::Started { callback },
+            Change::ExpectCallback(expecting(callback, object, &row))
+        )
     )
 }
 

@@ -28,6 +28,29 @@ pub(crate) fn new_object(kind: Kind, routine: RoutineId, context: u64, env: Envi
     }
 }
 
+// Makes one callback of an object of a kind, with the number that it gets and the object's row.
+macro_rules! one_callback {
+    ($world:ident, $who:ident, $kind:expr, $object:ident, $change:ident, |$number:ident, $row:ident| ($told:expr, $made:expr)) => {{
+        let refusal = object_refusal!(
+            $world,
+            $who,
+            $kind,
+            $object,
+            [($world.lacks_slots(1), Refusal::CallbackLimit)]
+        );
+        if let Some(refusal) = refusal {
+            return Decision::Refused(refusal);
+        }
+        let Some($row) = $world.object($object) else {
+            return Decision::Refused(Refusal::NoSuch);
+        };
+        let $number = $world.next_number();
+        accept($change, $told, $made)
+    }};
+}
+
+pub(crate) use one_callback;
+
 /// Makes an object.
 #[tactic(auto, unfolding(tp_model::specs::Calls::Objects::create_plan))]
 pub(crate) fn create(

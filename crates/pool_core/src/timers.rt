@@ -15,6 +15,25 @@ use tp_base::calls::{CLOCK_END, Kind};
 use tp_base::ids::{ObjectId, Who};
 use tp_base::plans::{Change, Trigger};
 
+// Sets a timer or unsets it, and answers with the first callback of that and how many there are.
+macro_rules! set_with {
+    ($world:ident, $who:ident, $object:ident, $trigger:ident, $change:ident, |$first:ident, $count:ident| $told:expr) => {{
+        let $count = $world.count_fired(&$trigger);
+        let refusal = object_refusal!(
+            $world,
+            $who,
+            Kind::Timer,
+            $object,
+            [($world.lacks_slots($count), Refusal::CallbackLimit)]
+        );
+        if let Some(refusal) = refusal {
+            return Decision::Refused(refusal);
+        }
+        let $first = fire($world, $trigger, $count, $change);
+        Decision::Accepted($told)
+    }};
+}
+
 /// Sets a timer, or unsets it. One that is due at once makes a callback.
 #[tactic(auto, unfolding(tp_model::specs::Calls::Timers::set_timer_plan))]
 pub(crate) fn set_timer(
@@ -35,19 +54,14 @@ pub(crate) fn set_timer(
         period,
         window,
     };
-    let count = world.count_fired(&trigger);
-    let refusal = object_refusal!(
+    set_with!(
         world,
         who,
-        Kind::Timer,
         object,
-        [(world.lacks_slots(count), Refusal::CallbackLimit)]
-    );
-    if let Some(refusal) = refusal {
-        return Decision::Refused(refusal);
-    }
-    let first = fire(world, trigger, count, change);
-    Decision::Accepted(Answer::Queued { first, count })
+        trigger,
+        change,
+        |first, count| Answer::Queued { first, count }
+    )
 }
 
 /// Sets a timer, or unsets it, and tells whether that ended a setting.
@@ -70,23 +84,18 @@ pub(crate) fn set_timer_ex(
         period,
         window,
     };
-    let count = world.count_fired(&trigger);
-    let refusal = object_refusal!(
+    set_with!(
         world,
         who,
-        Kind::Timer,
         object,
-        [(world.lacks_slots(count), Refusal::CallbackLimit)]
-    );
-    if let Some(refusal) = refusal {
-        return Decision::Refused(refusal);
-    }
-    let first = fire(world, trigger, count, change);
-    Decision::Accepted(Answer::WasSet {
-        was: world.is_timer_set(object),
-        first,
-        count,
-    })
+        trigger,
+        change,
+        |first, count| Answer::WasSet {
+            was: world.is_timer_set(object),
+            first,
+            count,
+        }
+    )
 }
 
 /// Tells whether a timer is set.

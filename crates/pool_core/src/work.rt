@@ -5,7 +5,7 @@ ghost use Rattle.std.specs.Prelude.{◌≡◌, ◌+◌, ◌^◌, ◌<◌};
 ghost use Rattle.tp_model.specs.Calls.Work.{submit_work_plan, submit_simple_plan};
 
 use crate::decisions::{Decision, accept};
-use crate::objects::new_object;
+use crate::objects::{new_object, one_callback};
 use crate::refusals::{either, environ_refusal, first_of, object_refusal};
 use live_world::LiveWorld;
 use live_world::callbacks::new_callback;
@@ -25,24 +25,16 @@ pub(crate) fn submit_work(
     requires { world.now.made < 2 ^ 63 }
     ensures { decided result change.new ≡ submit_work_plan world.now.world (world.now.made + 1) who object }
 {
-    let refusal = object_refusal!(
+    one_callback!(
         world,
         who,
         Kind::Work,
         object,
-        [(world.lacks_slots(1), Refusal::CallbackLimit)]
-    );
-    if let Some(refusal) = refusal {
-        return Decision::Refused(refusal);
-    }
-    let Some(row) = world.object(object) else {
-        return Decision::Refused(Refusal::NoSuch);
-    };
-    let first = world.next_number();
-    accept(
         change,
-        Answer::Queued { first, count: 1 },
-        Change::QueueCallback(new_callback(first, object, &row, TakeResult::Plain)),
+        |first, row| (
+            Answer::Queued { first, count: 1 },
+            Change::QueueCallback(new_callback(first, object, &row, TakeResult::Plain))
+        )
     )
 }
 
