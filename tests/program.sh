@@ -2,7 +2,7 @@
 # shellcheck shell=bash
 
 input=
-for words in '' 'foo' 'trace trace' 'trace --json' 'Trace' ''$'\xff'; do
+for words in '' 'foo' 'trac' 'traced' 'tra ce' 'gen 07' 'trace trace' 'trace --json' 'Trace' ''$'\xff'; do
     # shellcheck disable=SC2086
     try "bad words: '$words'" 1 '' $'tpool: bad words\n' "$program" $words
 done
@@ -45,10 +45,16 @@ try 'standard error is closed' 1 '' '' without_errors "$program"
 
 takes() { yes 'w1 take' | head -c "$1"; }
 too_long() { takes 16777217 | "$program" trace; }
-longest() { takes 16777216 | "$program" trace | wc -l; }
+# How often each line comes, where those of one text stand together.
+counted() { uniq -c | awk '{ $1 = $1; print }'; }
+# Each refused call is an entry, for 65,536 of which there is room.
+longest() { takes 16777216 | "$program" trace | counted; }
+# The client comes behind the bytes where the greatest is looked for first.
+far_client() { { takes 72000 && echo 'c2 finish'; } | "$program" trace | counted; }
 short_of_memory() { takes 16000000 | (ulimit -v 20000 && "$program" trace); }
 try 'an input that is too long' 6 '' $'tpool: input too long\n' too_long
-try 'the longest input' 0 $'2097152\n' '' longest
+try 'the longest input' 0 $'65536 refused not-attached\n2031616 full 0 1\n' '' longest
+try 'a client far behind' 0 $'9000 refused not-attached\n1 ok\n' '' far_client
 try 'memory is refused' 5 '' $'tpool: want of memory\n' short_of_memory
 
 # Each file is a trace, with what each call comes to behind ` -> `.
@@ -66,6 +72,9 @@ verdict() {
     [[ $wanted != legal* ]] || status=0
     try "$name" "$status" "$wanted"$'\n' '' "$program" check
 }
+verdict 'the first wrong answer' 'not legal at 1: refused not-attached' 0 1 'w1 take -> ok' 'w1 attach -> ok'
+verdict 'a look is no answer' 'not legal at 1: look no-need' 0 1 'w1 attach -> attached 0'
+verdict 'a finish that is owed' 'not legal at 2: full 0 1' 16 1 'c1 finish -> ok' 'c2 submit 1 -> refused no-such'
 create='create work r1 x0 p0 normal short g0 q0 -> made 1'
 # Each of the eight clients' finishes is owed, and what runs is owed its return.
 begun=("c8 $create" 'c8 submit 1 -> queued 1 1' 'w1 attach -> attached 0' 'w1 take -> taken 1 o1 r1 x0 plain' 'c8 submit 1 -> queued 2 1')
@@ -94,3 +103,36 @@ verdict 'a wait for two: room for three' "not legal at 8: $not_yet" 3 2 "${runni
 verdict 'a wait for two: room for two' "not legal at 8: $not_yet" 4 2 "${running[@]}" "$keep" "$later" 'c1 end -> exhausted'
 verdict 'a wait for two: room for one' 'legal 8' 5 2 "${running[@]}" "$keep" "$later" 'c1 end -> exhausted'
 verdict 'a wait for one that runs: room for one' "not legal at 8: $not_yet" 5 2 "${running[@]}" 'c1 wait work 1 cancel -> begun 1 1' "$later" 'c1 end -> exhausted'
+
+input=$'history 1 clients 0 workers 1 events 16\nend 0\nand more'
+try 'what stands behind the end line is ignored' 0 $'legal 0\n' '' "$program" check
+
+# fault COMMAND LINE COLUMN INPUT: where an input is no more of the command's grammar.
+fault() {
+    input=$4
+    try "$1 stops in $(printf %q "$4")" 2 '' "tpool: bad line $2 column $3"$'\n' "$program" "$1"
+}
+fault trace 1 3 $'c17 finish\n'
+fault trace 1 10 'c1 finish'
+fault trace 1 7 'c1 fin'
+fault trace 1 1 $'\n'
+fault trace 1 10 $'c1 finish\r\n'
+fault trace 1 10 $'c1 finish \n'
+fault trace 3 6 $'w1 take\nw1 take\nw1 tale\n'
+fault trace 2 6 $'w1 take\nw1 tale\nw1 tale\n'
+fault trace 2 1 $'w1 take\n\n'
+fault trace 2 7 $'c1 create-pool\nc1 finsh\n'
+fault check 1 9 'history 2 clients 1'
+fault check 1 20 $'history 1 clients 17 workers 1 events 16\n'
+fault check 1 29 $'history 1 clients 1 workers 0 events 16\n'
+fault check 1 40 $'history 1 clients 1 workers 4 events 15\n'
+fault check 1 43 $'history 1 clients 1 workers 4 events 131073\n'
+first_line='history 1 clients 1 workers 4 events 16'
+fault check 1 40 "$first_line"
+fault check 2 1 "$first_line"$'\n'
+fault check 2 6 "$first_line"$'\nend 01\n'
+fault check 2 6 "$first_line"$'\nend 0'
+fault check 2 16 "$first_line"$'\nc1 finish -> ok \n'
+fault check 3 19 "$first_line"$'\nc1 '"$create"$'\nc1 submit 1 -> que'
+# A fault further down comes before an entry with a wrong answer.
+fault check 3 5 "$first_line"$'\nc1 finish -> ended\nend 2\n'

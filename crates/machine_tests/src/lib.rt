@@ -1,9 +1,6 @@
-//! Tests of `pool_book` and `tp_report`, in a crate of their own: a crate that has tests is proved again for
-//! them.
+//! Tests of `pool_book`, in a crate of their own: a crate that has tests is proved again for them.
 
 #![tactic(auto)]
 
 #[cfg(test)]
 mod books;
-#[cfg(test)]
-mod reports;

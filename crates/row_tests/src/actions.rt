@@ -1,5 +1,6 @@
 //! Actions that are asked for, performed and left out.
 
+use crate::expect_eq;
 use kernel_events::KernelTable;
 use return_actions::{Actions, Performed};
 use std::test::Fail;
@@ -22,33 +23,41 @@ const EVENT: KernelId = KernelId(4);
 #[test]
 fn a_slot_is_filled_once(rt: HostRuntime) -> Result<(), Fail> {
     let mut actions = Actions::empty();
-    assert_eq!(rt; actions.ask(ActionKind::Event, EVENT, 1), Ok(()));
-    assert_eq!(rt; actions.ask(ActionKind::Section, SECTION, 1), Ok(()));
-    assert_eq!(rt;
+    expect_eq(&rt, actions.ask(ActionKind::Event, EVENT, 1), Ok(()));
+    expect_eq(&rt, actions.ask(ActionKind::Section, SECTION, 1), Ok(()));
+    expect_eq(
+        &rt,
         actions.ask(ActionKind::Event, KernelId(9), 1),
         Err(Refusal::SlotTaken {
-            kind: ActionKind::Event
-        })
+            kind: ActionKind::Event,
+        }),
     );
-    assert_eq!(rt;
+    expect_eq(
+        &rt,
         actions.ask(ActionKind::Section, SECTION, 1),
         Err(Refusal::SlotTaken {
-            kind: ActionKind::Section
-        })
+            kind: ActionKind::Section,
+        }),
     );
-    assert_eq!(rt; actions.ask(ActionKind::Semaphore, SEMAPHORE, 2), Ok(()));
-    assert_eq!(rt; actions.ask(ActionKind::Mutex, MUTEX, 1), Ok(()));
-    assert_eq!(rt;
+    expect_eq(
+        &rt,
+        actions.ask(ActionKind::Semaphore, SEMAPHORE, 2),
+        Ok(()),
+    );
+    expect_eq(&rt, actions.ask(ActionKind::Mutex, MUTEX, 1), Ok(()));
+    expect_eq(
+        &rt,
         actions.ask(ActionKind::Semaphore, SEMAPHORE, 2),
         Err(Refusal::SlotTaken {
-            kind: ActionKind::Semaphore
-        })
+            kind: ActionKind::Semaphore,
+        }),
     );
-    assert_eq!(rt;
+    expect_eq(
+        &rt,
         actions.ask(ActionKind::Mutex, MUTEX, 1),
         Err(Refusal::SlotTaken {
-            kind: ActionKind::Mutex
-        })
+            kind: ActionKind::Mutex,
+        }),
     );
     Ok(())
 }
@@ -56,12 +65,21 @@ fn a_slot_is_filled_once(rt: HostRuntime) -> Result<(), Fail> {
 #[test]
 fn a_lock_of_another_is_left_out(rt: HostRuntime) -> Result<(), Fail> {
     let mut kernels = KernelTable::open(rt.alloc(), 2, 8)?;
-    assert_eq!(rt; kernels.create_semaphore(0, 2), Ok(SEMAPHORE));
-    assert_eq!(rt; kernels.create_lock(CLIENT, Lock::Mutex, true), Ok(MUTEX));
+    expect_eq(&rt, kernels.create_semaphore(0, 2), Ok(SEMAPHORE));
+    expect_eq(
+        &rt,
+        kernels.create_lock(CLIENT, Lock::Mutex, true),
+        Ok(MUTEX),
+    );
     let mut actions = Actions::empty();
-    assert_eq!(rt; actions.ask(ActionKind::Semaphore, SEMAPHORE, 2), Ok(()));
-    assert_eq!(rt; actions.ask(ActionKind::Mutex, MUTEX, 1), Ok(()));
-    assert_eq!(rt;
+    expect_eq(
+        &rt,
+        actions.ask(ActionKind::Semaphore, SEMAPHORE, 2),
+        Ok(()),
+    );
+    expect_eq(&rt, actions.ask(ActionKind::Mutex, MUTEX, 1), Ok(()));
+    expect_eq(
+        &rt,
         actions.perform(WORKER, &mut kernels),
         Performed {
             section: SlotWord::Unasked,
@@ -70,14 +88,15 @@ fn a_lock_of_another_is_left_out(rt: HostRuntime) -> Result<(), Fail> {
             event: SlotWord::Unasked,
             semaphore_at: Some(SEMAPHORE),
             event_at: None,
-        }
+        },
     );
-    assert_eq!(rt;
+    expect_eq(
+        &rt,
         (
             kernels.release_semaphore(SEMAPHORE, 1),
-            kernels.can_take(WORKER, MUTEX)
+            kernels.can_take(WORKER, MUTEX),
         ),
-        (Err(Refusal::OverMaximum { count: 2 }), Ok(false))
+        (Err(Refusal::OverMaximum { count: 2 }), Ok(false)),
     );
     Ok(())
 }
@@ -85,19 +104,29 @@ fn a_lock_of_another_is_left_out(rt: HostRuntime) -> Result<(), Fail> {
 #[test]
 fn all_are_performed(rt: HostRuntime) -> Result<(), Fail> {
     let mut kernels = KernelTable::open(rt.alloc(), 4, 8)?;
-    assert_eq!(rt; kernels.create_semaphore(1, 2), Ok(SEMAPHORE));
-    assert_eq!(rt; kernels.create_lock(WORKER, Lock::Mutex, true), Ok(MUTEX));
-    assert_eq!(rt;
-        kernels.create_lock(WORKER, Lock::Section, true),
-        Ok(SECTION)
+    expect_eq(&rt, kernels.create_semaphore(1, 2), Ok(SEMAPHORE));
+    expect_eq(
+        &rt,
+        kernels.create_lock(WORKER, Lock::Mutex, true),
+        Ok(MUTEX),
     );
-    assert_eq!(rt; kernels.create_event(false, false), Ok(EVENT));
+    expect_eq(
+        &rt,
+        kernels.create_lock(WORKER, Lock::Section, true),
+        Ok(SECTION),
+    );
+    expect_eq(&rt, kernels.create_event(false, false), Ok(EVENT));
     let mut actions = Actions::empty();
-    assert_eq!(rt; actions.ask(ActionKind::Event, EVENT, 1), Ok(()));
-    assert_eq!(rt; actions.ask(ActionKind::Semaphore, SEMAPHORE, 2), Ok(()));
-    assert_eq!(rt; actions.ask(ActionKind::Mutex, MUTEX, 1), Ok(()));
-    assert_eq!(rt; actions.ask(ActionKind::Section, SECTION, 1), Ok(()));
-    assert_eq!(rt;
+    expect_eq(&rt, actions.ask(ActionKind::Event, EVENT, 1), Ok(()));
+    expect_eq(
+        &rt,
+        actions.ask(ActionKind::Semaphore, SEMAPHORE, 2),
+        Ok(()),
+    );
+    expect_eq(&rt, actions.ask(ActionKind::Mutex, MUTEX, 1), Ok(()));
+    expect_eq(&rt, actions.ask(ActionKind::Section, SECTION, 1), Ok(()));
+    expect_eq(
+        &rt,
         actions.perform(WORKER, &mut kernels),
         Performed {
             section: SlotWord::Performed,
@@ -106,18 +135,20 @@ fn all_are_performed(rt: HostRuntime) -> Result<(), Fail> {
             event: SlotWord::Performed,
             semaphore_at: None,
             event_at: Some(EVENT),
-        }
+        },
     );
-    assert_eq!(rt;
+    expect_eq(
+        &rt,
         (
             kernels.can_take(CLIENT, MUTEX),
             kernels.can_take(CLIENT, SECTION),
-            kernels.can_take(CLIENT, EVENT)
+            kernels.can_take(CLIENT, EVENT),
         ),
-        (Ok(true), Ok(true), Ok(true))
+        (Ok(true), Ok(true), Ok(true)),
     );
     // The locks are free now, so that they are left out the next time.
-    assert_eq!(rt;
+    expect_eq(
+        &rt,
         actions.perform(WORKER, &mut kernels),
         Performed {
             section: SlotWord::NotOwner,
@@ -126,7 +157,7 @@ fn all_are_performed(rt: HostRuntime) -> Result<(), Fail> {
             event: SlotWord::Performed,
             semaphore_at: None,
             event_at: Some(EVENT),
-        }
+        },
     );
     Ok(())
 }

@@ -1,5 +1,6 @@
 ghost use Rattle.std.specs.Prelude.{◌≡◌};
 
+use crate::expect_eq;
 use callback_rows::CallbackRows;
 use std::test::Fail;
 use tp_base::answers::TakeResult;
@@ -51,7 +52,7 @@ fn rows_are_found_by_number(rt: HostRuntime) -> Result<(), Fail> {
     assert!(rt; !live.replace(row(6, 72)));
     assert!(rt; live.remove(2));
     assert!(rt; !live.remove(3));
-    assert_eq!(rt; live.len(), 2);
+    expect_eq(&rt, live.len(), 2);
     for (number, found, after) in [
         (0, None, Some(5)),
         (2, None, Some(5)),
@@ -59,8 +60,8 @@ fn rows_are_found_by_number(rt: HostRuntime) -> Result<(), Fail> {
         (6, None, Some(9)),
         (9, Some(70), None),
     ] {
-        assert_eq!(rt; live.find(number).map(|row| row.context), found);
-        assert_eq!(rt; live.after(number).map(|row| row.number), after);
+        expect_eq(&rt, live.find(number).map(|row| row.context), found);
+        expect_eq(&rt, live.after(number).map(|row| row.number), after);
     }
     Ok(())
 }
@@ -75,9 +76,10 @@ fn rows_of_a_group_follow_one_another(rt: HostRuntime) -> Result<(), Fail> {
     live.push(row_of(2, 6));
     live.push(row_of(1, 9));
     for (group, first) in [(1, Some(2)), (2, Some(3)), (3, None)] {
-        assert_eq!(rt;
+        expect_eq(
+            &rt,
             live.first_of_group(GroupId(group)).map(|row| row.number),
-            first
+            first,
         );
     }
     for (number, next) in [
@@ -87,18 +89,19 @@ fn rows_of_a_group_follow_one_another(rt: HostRuntime) -> Result<(), Fail> {
         (3, Some(6)),
         (6, None),
     ] {
-        assert_eq!(rt; number_behind(&live, number), next);
+        expect_eq(&rt, number_behind(&live, number), next);
     }
     assert!(rt; live.remove(5));
     assert!(rt; live.remove(3));
     for (group, first) in [(1, Some(2)), (2, Some(6)), (3, None)] {
-        assert_eq!(rt;
+        expect_eq(
+            &rt,
             live.first_of_group(GroupId(group)).map(|row| row.number),
-            first
+            first,
         );
     }
     for (number, next) in [(2, Some(9)), (9, None), (6, None)] {
-        assert_eq!(rt; number_behind(&live, number), next);
+        expect_eq(&rt, number_behind(&live, number), next);
     }
     Ok(())
 }

@@ -1,5 +1,6 @@
 //! Kernel objects that are made, changed and taken, and the waits that they release.
 
+use crate::expect_eq;
 use kernel_events::states::{is_event, is_lock, is_semaphore, lock_made, may_take, owns, passes};
 use kernel_events::{KernelKind, KernelTable};
 use std::test::Fail;
@@ -35,7 +36,7 @@ fn signalled(kernels: &KernelTable, kernel: KernelId) -> bool {
 #[test]
 fn kernel_objects_are_taken(rt: HostRuntime) -> Result<(), Fail> {
     let mut kernels = KernelTable::open(rt.alloc(), 3, 1)?;
-    assert_eq!(rt; kernels.get(EVENT).is_none(), true);
+    expect_eq(&rt, kernels.get(EVENT).is_none(), true);
     kernels.create(KernelState::Event {
         manual: false,
         signalled: true,
@@ -45,33 +46,35 @@ fn kernel_objects_are_taken(rt: HostRuntime) -> Result<(), Fail> {
         maximum: 2,
     });
     kernels.create(lock_made(Lock::Mutex, CLIENT, true));
-    assert_eq!(rt;
+    expect_eq(
+        &rt,
         (
             kernels.len(),
             kernels.get(KernelId(0)).is_none(),
-            kernels.get(KernelId(4)).is_none()
+            kernels.get(KernelId(4)).is_none(),
         ),
-        (3, true, true)
+        (3, true, true),
     );
     kernels.take(WORKER, EVENT);
-    assert_eq!(rt;
+    expect_eq(
+        &rt,
         (signalled(&kernels, EVENT), signalled(&kernels, SEMAPHORE)),
-        (false, true)
+        (false, true),
     );
     kernels.change(EVENT, KernelChange::Set);
-    assert_eq!(rt; signalled(&kernels, EVENT), true);
+    expect_eq(&rt, signalled(&kernels, EVENT), true);
     kernels.change(EVENT, KernelChange::Reset);
-    assert_eq!(rt; signalled(&kernels, EVENT), false);
+    expect_eq(&rt, signalled(&kernels, EVENT), false);
     kernels.change(SEMAPHORE, KernelChange::Raise(1));
     kernels.take(CLIENT, SEMAPHORE);
     kernels.take(CLIENT, SEMAPHORE);
-    assert_eq!(rt; signalled(&kernels, SEMAPHORE), false);
+    expect_eq(&rt, signalled(&kernels, SEMAPHORE), false);
     // A lock that its owner takes once more is free after as many releases.
     kernels.take(CLIENT, LOCK);
     kernels.change(LOCK, KernelChange::Leave);
-    assert_eq!(rt; signalled(&kernels, LOCK), false);
+    expect_eq(&rt, signalled(&kernels, LOCK), false);
     kernels.change(LOCK, KernelChange::Leave);
-    assert_eq!(rt; signalled(&kernels, LOCK), true);
+    expect_eq(&rt, signalled(&kernels, LOCK), true);
     Ok(())
 }
 
@@ -91,42 +94,47 @@ fn waits_are_released_in_order(rt: HostRuntime) -> Result<(), Fail> {
     kernels.arm(ObjectId(5), SEMAPHORE);
     kernels.arm(ObjectId(2), SEMAPHORE);
     kernels.arm(ObjectId(3), EVENT);
-    assert_eq!(rt;
+    expect_eq(
+        &rt,
         (kernels.first_armed(SEMAPHORE), kernels.first_armed(EVENT)),
-        (Some(ObjectId(4)), Some(ObjectId(1)))
+        (Some(ObjectId(4)), Some(ObjectId(1))),
     );
-    assert_eq!(rt; kernels.next_released(SEMAPHORE), None);
-    assert_eq!(rt;
+    expect_eq(&rt, kernels.next_released(SEMAPHORE), None);
+    expect_eq(
+        &rt,
         (kernels.disarm(ObjectId(5)), kernels.disarm(ObjectId(5))),
-        (true, false)
+        (true, false),
     );
-    assert_eq!(rt;
+    expect_eq(
+        &rt,
         (kernels.is_armed(ObjectId(5)), kernels.is_armed(ObjectId(2))),
-        (false, true)
+        (false, true),
     );
     kernels.change(SEMAPHORE, KernelChange::Raise(3));
-    assert_eq!(rt; kernels.next_released(SEMAPHORE), Some(ObjectId(4)));
-    assert_eq!(rt; kernels.next_released(SEMAPHORE), Some(ObjectId(2)));
-    assert_eq!(rt; kernels.next_released(SEMAPHORE), None);
+    expect_eq(&rt, kernels.next_released(SEMAPHORE), Some(ObjectId(4)));
+    expect_eq(&rt, kernels.next_released(SEMAPHORE), Some(ObjectId(2)));
+    expect_eq(&rt, kernels.next_released(SEMAPHORE), None);
     // The count that is left releases one that is armed later, and no other.
     kernels.arm(ObjectId(2), SEMAPHORE);
     kernels.arm(ObjectId(5), SEMAPHORE);
-    assert_eq!(rt;
+    expect_eq(
+        &rt,
         (
             kernels.next_released(SEMAPHORE),
-            kernels.next_released(SEMAPHORE)
+            kernels.next_released(SEMAPHORE),
         ),
-        (Some(ObjectId(2)), None)
+        (Some(ObjectId(2)), None),
     );
     // A manual event releases all.
     kernels.change(EVENT, KernelChange::Set);
-    assert_eq!(rt;
+    expect_eq(
+        &rt,
         (
             kernels.next_released(EVENT),
             kernels.next_released(EVENT),
-            kernels.next_released(EVENT)
+            kernels.next_released(EVENT),
         ),
-        (Some(ObjectId(1)), Some(ObjectId(3)), None)
+        (Some(ObjectId(1)), Some(ObjectId(3)), None),
     );
     Ok(())
 }
@@ -142,26 +150,33 @@ fn states_are_told_apart(rt: HostRuntime) -> Result<(), Fail> {
         maximum: 7,
     };
     let section = lock_made(Lock::Section, WORKER, true);
-    assert_eq!(rt; (is_event(event), is_event(semaphore)), (true, false));
-    assert_eq!(rt;
+    expect_eq(&rt, (is_event(event), is_event(semaphore)), (true, false));
+    expect_eq(
+        &rt,
         (is_semaphore(semaphore), is_semaphore(section)),
-        (true, false)
+        (true, false),
     );
-    assert_eq!(rt;
+    expect_eq(
+        &rt,
         (
             is_lock(Lock::Section, section),
-            is_lock(Lock::Mutex, section)
+            is_lock(Lock::Mutex, section),
         ),
-        (true, false)
+        (true, false),
     );
-    assert_eq!(rt; (passes(2, semaphore), passes(3, semaphore)), (false, true));
-    assert_eq!(rt;
+    expect_eq(
+        &rt,
+        (passes(2, semaphore), passes(3, semaphore)),
+        (false, true),
+    );
+    expect_eq(
+        &rt,
         (
             owns(WORKER, section),
             owns(CLIENT, section),
-            may_take(CLIENT, section)
+            may_take(CLIENT, section),
         ),
-        (true, false, false)
+        (true, false, false),
     );
     Ok(())
 }
@@ -170,104 +185,116 @@ fn states_are_told_apart(rt: HostRuntime) -> Result<(), Fail> {
 fn a_semaphore_releases_as_many_as_its_count(rt: HostRuntime) -> Result<(), Fail> {
     let mut kernels = KernelTable::open(rt.alloc(), 4, 8)?;
     let semaphore = KernelId(1);
-    assert_eq!(rt; kernels.create_semaphore(0, 2), Ok(semaphore));
+    expect_eq(&rt, kernels.create_semaphore(0, 2), Ok(semaphore));
     kernels.arm(ObjectId(5), semaphore);
     kernels.arm(ObjectId(2), semaphore);
-    assert_eq!(rt; kernels.release_semaphore(semaphore, 1), Ok(0));
-    assert_eq!(rt; kernels.next_released(semaphore), Some(ObjectId(5)));
-    assert_eq!(rt; kernels.next_released(semaphore), None);
-    assert_eq!(rt;
+    expect_eq(&rt, kernels.release_semaphore(semaphore, 1), Ok(0));
+    expect_eq(&rt, kernels.next_released(semaphore), Some(ObjectId(5)));
+    expect_eq(&rt, kernels.next_released(semaphore), None);
+    expect_eq(
+        &rt,
         kernels.release_semaphore(semaphore, 3),
-        Err(Refusal::OverMaximum { count: 0 })
+        Err(Refusal::OverMaximum { count: 0 }),
     );
-    assert_eq!(rt; kernels.set(semaphore), Err(Refusal::WrongKind));
+    expect_eq(&rt, kernels.set(semaphore), Err(Refusal::WrongKind));
     Ok(())
 }
 
 #[test]
 fn no_more_are_made_than_the_limit_says(rt: HostRuntime) -> Result<(), Fail> {
     let mut kernels = KernelTable::open(rt.alloc(), 2, 1)?;
-    assert_eq!(rt;
+    expect_eq(
+        &rt,
         (
             kernels.create_semaphore(3, 2),
-            kernels.create_semaphore(0, 0)
+            kernels.create_semaphore(0, 0),
         ),
         (
             Err(Refusal::OverMaximum { count: 3 }),
-            Err(Refusal::OverMaximum { count: 0 })
-        )
+            Err(Refusal::OverMaximum { count: 0 }),
+        ),
     );
-    assert_eq!(rt; kernels.create_event(true, false), Ok(EVENT));
-    assert_eq!(rt; kernels.create_semaphore(2, 2), Ok(SEMAPHORE));
-    assert_eq!(rt;
+    expect_eq(&rt, kernels.create_event(true, false), Ok(EVENT));
+    expect_eq(&rt, kernels.create_semaphore(2, 2), Ok(SEMAPHORE));
+    expect_eq(
+        &rt,
         (
             kernels.create_event(true, false),
             kernels.create_lock(CLIENT, Lock::Mutex, true),
             kernels.create_semaphore(2, 2),
-            kernels.create_semaphore(3, 2)
+            kernels.create_semaphore(3, 2),
         ),
         (
             Err(Refusal::ObjectLimit),
             Err(Refusal::ObjectLimit),
             Err(Refusal::ObjectLimit),
-            Err(Refusal::OverMaximum { count: 3 })
-        )
+            Err(Refusal::OverMaximum { count: 3 }),
+        ),
     );
-    assert_eq!(rt; kernels.len(), 2);
+    expect_eq(&rt, kernels.len(), 2);
     Ok(())
 }
 
 #[test]
 fn calls_take_their_own_kind(rt: HostRuntime) -> Result<(), Fail> {
     let mut kernels = KernelTable::open(rt.alloc(), 4, 1)?;
-    assert_eq!(rt; kernels.create_event(false, false), Ok(EVENT));
-    assert_eq!(rt; kernels.create_semaphore(1, 2), Ok(SEMAPHORE));
-    assert_eq!(rt; kernels.create_lock(CLIENT, Lock::Mutex, true), Ok(LOCK));
-    assert_eq!(rt;
+    expect_eq(&rt, kernels.create_event(false, false), Ok(EVENT));
+    expect_eq(&rt, kernels.create_semaphore(1, 2), Ok(SEMAPHORE));
+    expect_eq(
+        &rt,
+        kernels.create_lock(CLIENT, Lock::Mutex, true),
+        Ok(LOCK),
+    );
+    expect_eq(
+        &rt,
         kernels.create_lock(CLIENT, Lock::Section, false),
-        Ok(SECTION)
+        Ok(SECTION),
     );
-    assert_eq!(rt;
+    expect_eq(
+        &rt,
         (kernels.set(NONE), kernels.set(LOCK), kernels.set(EVENT)),
-        (Err(Refusal::NoSuch), Err(Refusal::WrongKind), Ok(()))
+        (Err(Refusal::NoSuch), Err(Refusal::WrongKind), Ok(())),
     );
-    assert_eq!(rt;
+    expect_eq(
+        &rt,
         (
             kernels.reset(NONE),
             kernels.reset(SEMAPHORE),
-            kernels.reset(EVENT)
+            kernels.reset(EVENT),
         ),
-        (Err(Refusal::NoSuch), Err(Refusal::WrongKind), Ok(()))
+        (Err(Refusal::NoSuch), Err(Refusal::WrongKind), Ok(())),
     );
-    assert_eq!(rt;
+    expect_eq(
+        &rt,
         (
             kernels.release_semaphore(NONE, 1),
             kernels.release_semaphore(EVENT, 1),
             kernels.release_semaphore(SEMAPHORE, 2),
-            kernels.release_semaphore(SEMAPHORE, 1)
+            kernels.release_semaphore(SEMAPHORE, 1),
         ),
         (
             Err(Refusal::NoSuch),
             Err(Refusal::WrongKind),
             Err(Refusal::OverMaximum { count: 1 }),
-            Ok(1)
-        )
+            Ok(1),
+        ),
     );
-    assert_eq!(rt;
+    expect_eq(
+        &rt,
         (
             kernels.release_lock(CLIENT, Lock::Mutex, NONE),
             kernels.release_lock(CLIENT, Lock::Section, LOCK),
             kernels.release_lock(WORKER, Lock::Mutex, LOCK),
             kernels.release_lock(CLIENT, Lock::Section, SECTION),
-            kernels.release_lock(CLIENT, Lock::Mutex, LOCK)
+            kernels.release_lock(CLIENT, Lock::Mutex, LOCK),
         ),
         (
             Err(Refusal::NoSuch),
             Err(Refusal::WrongKind),
             Err(Refusal::NotOwner),
             Err(Refusal::NotOwner),
-            Ok(())
-        )
+            Ok(()),
+        ),
     );
     Ok(())
 }
@@ -275,58 +302,67 @@ fn calls_take_their_own_kind(rt: HostRuntime) -> Result<(), Fail> {
 #[test]
 fn kernel_objects_are_taken_where_they_may_be(rt: HostRuntime) -> Result<(), Fail> {
     let mut kernels = KernelTable::open(rt.alloc(), 4, 1)?;
-    assert_eq!(rt; kernels.create_event(false, true), Ok(EVENT));
-    assert_eq!(rt; kernels.create_semaphore(1, 2), Ok(SEMAPHORE));
-    assert_eq!(rt; kernels.create_lock(CLIENT, Lock::Mutex, true), Ok(LOCK));
-    assert_eq!(rt;
+    expect_eq(&rt, kernels.create_event(false, true), Ok(EVENT));
+    expect_eq(&rt, kernels.create_semaphore(1, 2), Ok(SEMAPHORE));
+    expect_eq(
+        &rt,
+        kernels.create_lock(CLIENT, Lock::Mutex, true),
+        Ok(LOCK),
+    );
+    expect_eq(
+        &rt,
         (
             kernels.try_take(WORKER, NONE),
             kernels.can_take(WORKER, NONE),
-            kernels.is_waitable(NONE)
+            kernels.is_waitable(NONE),
         ),
         (
             Err(Refusal::NoSuch),
             Err(Refusal::NoSuch),
-            Err(Refusal::NoSuch)
-        )
+            Err(Refusal::NoSuch),
+        ),
     );
-    assert_eq!(rt;
+    expect_eq(
+        &rt,
         (
             kernels.can_take(WORKER, EVENT),
             kernels.try_take(WORKER, EVENT),
             kernels.try_take(WORKER, EVENT),
-            kernels.can_take(WORKER, EVENT)
+            kernels.can_take(WORKER, EVENT),
         ),
-        (Ok(true), Ok(true), Ok(false), Ok(false))
+        (Ok(true), Ok(true), Ok(false), Ok(false)),
     );
-    assert_eq!(rt;
+    expect_eq(
+        &rt,
         (
             kernels.try_take(WORKER, LOCK),
-            kernels.try_take(CLIENT, LOCK)
+            kernels.try_take(CLIENT, LOCK),
         ),
-        (Ok(false), Ok(true))
+        (Ok(false), Ok(true)),
     );
-    assert_eq!(rt;
+    expect_eq(
+        &rt,
         (
             kernels.is_waitable(EVENT),
             kernels.is_waitable(SEMAPHORE),
-            kernels.is_waitable(LOCK)
+            kernels.is_waitable(LOCK),
         ),
-        (Ok(true), Ok(true), Ok(false))
+        (Ok(true), Ok(true), Ok(false)),
     );
-    assert_eq!(rt;
+    expect_eq(
+        &rt,
         (
             kernels.kind(EVENT),
             kernels.kind(SEMAPHORE),
             kernels.kind(LOCK),
-            kernels.kind(SECTION)
+            kernels.kind(SECTION),
         ),
         (
             Some(KernelKind::Event),
             Some(KernelKind::Semaphore),
             Some(KernelKind::Mutex),
-            None
-        )
+            None,
+        ),
     );
     Ok(())
 }

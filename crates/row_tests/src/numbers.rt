@@ -1,26 +1,33 @@
+use crate::expect_eq;
 use rising_numbers::RisingNumbers;
 use std::test::Fail;
 
 #[test]
 fn numbers_rise(rt: HostRuntime) -> Result<(), Fail> {
     let mut numbers = RisingNumbers::open(rt.alloc(), 3)?;
-    assert_eq!(rt; (numbers.first(), numbers.after(0)), (None, None));
+    expect_eq(&rt, (numbers.first(), numbers.after(0)), (None, None));
     numbers.push(4);
     numbers.push(9);
     numbers.put(7);
-    assert_eq!(rt; (numbers.len(), numbers.first()), (3, Some(4)));
-    assert_eq!(rt;
+    expect_eq(&rt, (numbers.len(), numbers.first()), (3, Some(4)));
+    expect_eq(
+        &rt,
         (numbers.after(4), numbers.after(8), numbers.after(9)),
-        (Some(7), Some(9), None)
+        (Some(7), Some(9), None),
     );
     assert!(rt; numbers.take_out(4));
     assert!(rt; !numbers.take_out(4));
-    assert_eq!(rt; (numbers.contains(4), numbers.contains(7)), (false, true));
-    assert_eq!(rt;
+    expect_eq(
+        &rt,
+        (numbers.contains(4), numbers.contains(7)),
+        (false, true),
+    );
+    expect_eq(
+        &rt,
         (numbers.first(), numbers.get(1), numbers.get(2)),
-        (Some(7), Some(9), None)
+        (Some(7), Some(9), None),
     );
     numbers.clear();
-    assert_eq!(rt; (numbers.len(), numbers.first()), (0, None));
+    expect_eq(&rt, (numbers.len(), numbers.first()), (0, None));
     Ok(())
 }

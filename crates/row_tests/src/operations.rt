@@ -1,5 +1,6 @@
 //! Operations that start, are issued out of their order, are cancelled and complete.
 
+use crate::expect_eq;
 use io_objects::IoObjects;
 use std::test::Fail;
 use tp_base::answers::Refusal;
@@ -15,20 +16,21 @@ fn an_operation_completes_once(rt: HostRuntime) -> Result<(), Fail> {
     ios.create(B);
     ios.start(B, 4);
     ios.start(B, 7);
-    assert_eq!(rt; ios.len(), 2);
-    assert_eq!(rt; ios.complete(4), Err(Refusal::NoOperation));
-    assert_eq!(rt; ios.issue(B), Ok(4));
-    assert_eq!(rt; ios.cancel(B), Ok(7));
-    assert_eq!(rt; ios.issue(B), Err(Refusal::NotStarted));
-    assert_eq!(rt; ios.cancel(B), Err(Refusal::NotStarted));
-    assert_eq!(rt;
+    expect_eq(&rt, ios.len(), 2);
+    expect_eq(&rt, ios.complete(4), Err(Refusal::NoOperation));
+    expect_eq(&rt, ios.issue(B), Ok(4));
+    expect_eq(&rt, ios.cancel(B), Ok(7));
+    expect_eq(&rt, ios.issue(B), Err(Refusal::NotStarted));
+    expect_eq(&rt, ios.cancel(B), Err(Refusal::NotStarted));
+    expect_eq(
+        &rt,
         ios.can_close(B),
-        Err(Refusal::OperationsOutstanding { io: B })
+        Err(Refusal::OperationsOutstanding { io: B }),
     );
-    assert_eq!(rt; ios.complete(4), Ok(B));
-    assert_eq!(rt; ios.complete(4), Err(Refusal::NoOperation));
-    assert_eq!(rt; ios.complete(7), Err(Refusal::NoOperation));
-    assert_eq!(rt; (ios.can_close(B), ios.len()), (Ok(()), 0));
+    expect_eq(&rt, ios.complete(4), Ok(B));
+    expect_eq(&rt, ios.complete(4), Err(Refusal::NoOperation));
+    expect_eq(&rt, ios.complete(7), Err(Refusal::NoOperation));
+    expect_eq(&rt, (ios.can_close(B), ios.len()), (Ok(()), 0));
     Ok(())
 }
 
@@ -40,28 +42,31 @@ fn each_object_has_its_operations(rt: HostRuntime) -> Result<(), Fail> {
     ios.start(A, 1);
     ios.start(B, 2);
     ios.start(A, 5);
-    assert_eq!(rt; ios.issue(B), Ok(2));
-    assert_eq!(rt;
+    expect_eq(&rt, ios.issue(B), Ok(2));
+    expect_eq(
+        &rt,
         ios.can_close(A),
-        Err(Refusal::OperationsOutstanding { io: A })
+        Err(Refusal::OperationsOutstanding { io: A }),
     );
-    assert_eq!(rt; ios.issue(A), Ok(1));
-    assert_eq!(rt; ios.issue(A), Ok(5));
-    assert_eq!(rt; (ios.complete(5), ios.complete(2)), (Ok(A), Ok(B)));
-    assert_eq!(rt;
+    expect_eq(&rt, ios.issue(A), Ok(1));
+    expect_eq(&rt, ios.issue(A), Ok(5));
+    expect_eq(&rt, (ios.complete(5), ios.complete(2)), (Ok(A), Ok(B)));
+    expect_eq(
+        &rt,
         (ios.can_close(A), ios.can_close(B)),
-        (Err(Refusal::OperationsOutstanding { io: A }), Ok(()))
+        (Err(Refusal::OperationsOutstanding { io: A }), Ok(())),
     );
     ios.start(B, 6);
-    assert_eq!(rt; (ios.cancel(B), ios.complete(1)), (Ok(6), Ok(A)));
-    assert_eq!(rt; ios.can_close(A), Ok(()));
+    expect_eq(&rt, (ios.cancel(B), ios.complete(1)), (Ok(6), Ok(A)));
+    expect_eq(&rt, ios.can_close(A), Ok(()));
     ios.close(A);
-    assert_eq!(rt; (ios.is_there(A), ios.is_there(B)), (false, true));
-    assert_eq!(rt;
+    expect_eq(&rt, (ios.is_there(A), ios.is_there(B)), (false, true));
+    expect_eq(
+        &rt,
         (ios.is_there(ObjectId(0)), ios.is_there(ObjectId(3))),
-        (false, false)
+        (false, false),
     );
     ios.create(A);
-    assert_eq!(rt; ios.issue(A), Err(Refusal::NotStarted));
+    expect_eq(&rt, ios.issue(A), Err(Refusal::NotStarted));
     Ok(())
 }

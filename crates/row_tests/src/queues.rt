@@ -1,5 +1,6 @@
 //! Two pools, filled out of order and emptied in order.
 
+use crate::expect_eq;
 use prio_queue::Queues;
 use std::test::Fail;
 
@@ -9,11 +10,15 @@ fn entries_are_taken_in_order(rt: HostRuntime) -> Result<(), Fail> {
     queues.push(0, 1, 7);
     queues.push(0, 1, 5);
     queues.push(0, 0, 9);
-    assert_eq!(rt; (queues.len(0), queues.len(1)), (3, 0));
-    assert_eq!(rt; queues.first(0), Some(9));
-    assert_eq!(rt; (queues.remove(0, 9), queues.first(0)), (true, Some(5)));
-    assert_eq!(rt; (queues.remove(1, 5), queues.first(0)), (false, Some(5)));
-    assert_eq!(rt; (queues.remove(0, 7), queues.first(0)), (true, Some(5)));
-    assert_eq!(rt; (queues.remove(0, 5), queues.first(0)), (true, None));
+    expect_eq(&rt, (queues.len(0), queues.len(1)), (3, 0));
+    expect_eq(&rt, queues.first(0), Some(9));
+    expect_eq(&rt, (queues.remove(0, 9), queues.first(0)), (true, Some(5)));
+    expect_eq(
+        &rt,
+        (queues.remove(1, 5), queues.first(0)),
+        (false, Some(5)),
+    );
+    expect_eq(&rt, (queues.remove(0, 7), queues.first(0)), (true, Some(5)));
+    expect_eq(&rt, (queues.remove(0, 5), queues.first(0)), (true, None));
     Ok(())
 }

@@ -1,5 +1,6 @@
 //! A table at a small limit, row by row.
 
+use crate::expect_eq;
 use handle_table::{Found, Rows};
 use std::test::Fail;
 
@@ -21,43 +22,45 @@ fn seen(found: Found<'_, Place>) -> (Option<u16>, bool) {
 #[test]
 fn rows_are_numbered_from_one(rt: HostRuntime) -> Result<(), Fail> {
     let mut table = Rows::open(rt.alloc(), 2)?;
-    assert_eq!(rt; table.len(), 0);
-    assert_eq!(rt;
+    expect_eq(&rt, table.len(), 0);
+    expect_eq(
+        &rt,
         table
             .add(Place {
                 column: 30,
-                line: 1
+                line: 1,
             })
             .ok(),
-        Some(1)
+        Some(1),
     );
-    assert_eq!(rt;
+    expect_eq(
+        &rt,
         table
             .add(Place {
                 column: 50,
-                line: 2
+                line: 2,
             })
             .ok(),
-        Some(2)
+        Some(2),
     );
     match table.add(Place {
         column: 70,
         line: 3,
     }) {
         Ok(_) => return Err(Fail::from("a third row in a table of two")),
-        Err(place) => assert_eq!(rt; place.line, 3),
+        Err(place) => expect_eq(&rt, place.line, 3),
     }
-    assert_eq!(rt; table.len(), 2);
-    assert_eq!(rt; table.release(1), true);
-    assert_eq!(rt; table.release(1), false);
-    assert_eq!(rt; table.release(3), false);
+    expect_eq(&rt, table.len(), 2);
+    expect_eq(&rt, table.release(1), true);
+    expect_eq(&rt, table.release(1), false);
+    expect_eq(&rt, table.release(3), false);
     for (number, expected) in [
         (0, (None, false)),
         (1, (Some(30), true)),
         (2, (Some(50), false)),
         (3, (None, false)),
     ] {
-        assert_eq!(rt; seen(table.get(number)), expected);
+        expect_eq(&rt, seen(table.get(number)), expected);
     }
     Ok(())
 }
@@ -74,8 +77,8 @@ fn a_row_is_written_in_place(rt: HostRuntime) -> Result<(), Fail> {
             place.column = number;
         }
     }
-    assert_eq!(rt; seen(table.get(1)), (Some(1), true));
-    assert_eq!(rt; seen(table.get(2)), (Some(2), false));
-    assert_eq!(rt; table.get_mut(3).is_none(), true);
+    expect_eq(&rt, seen(table.get(1)), (Some(1), true));
+    expect_eq(&rt, seen(table.get(2)), (Some(2), false));
+    expect_eq(&rt, table.get_mut(3).is_none(), true);
     Ok(())
 }

@@ -1,5 +1,6 @@
 //! Timers that are set, expire and are set anew.
 
+use crate::expect_eq;
 use std::test::Fail;
 use timer_objects::{TimerObjects, moment_of, next_due};
 use tp_base::ids::ObjectId;
@@ -15,50 +16,55 @@ fn timers_expire_in_order(rt: HostRuntime) -> Result<(), Fail> {
     timers.create(c);
     timers.create(d);
     let set = timers.set(a, 100, Some(150), 0, 0);
-    assert_eq!(rt; (set.was, set.fires), (false, false));
+    expect_eq(&rt, (set.was, set.fires), (false, false));
     timers.set(b, 100, Some(-30), 1, 0);
     timers.set(d, 100, Some(130), 0, 5);
     timers.set(c, 100, Some(-100), 0, 0);
-    assert_eq!(rt;
+    expect_eq(
+        &rt,
         (timers.len(), timers.is_set(a), timers.is_set(ObjectId(0))),
-        (4, true, false)
+        (4, true, false),
     );
-    assert_eq!(rt;
+    expect_eq(
+        &rt,
         (
             timers.count_due(129),
             timers.count_due(130),
-            timers.count_due(199)
+            timers.count_due(199),
         ),
-        (0, 2, 3)
+        (0, 2, 3),
     );
-    assert_eq!(rt;
+    expect_eq(
+        &rt,
         (
             timers.nth(0),
             timers.nth(1),
             timers.nth(2),
             timers.nth(3),
-            timers.nth(4)
+            timers.nth(4),
         ),
-        (Some(b), Some(d), Some(a), Some(c), None)
+        (Some(b), Some(d), Some(a), Some(c), None),
     );
-    assert_eq!(rt; timers.expire(129), None);
-    assert_eq!(rt; timers.expire(160), Some((130, b)));
-    assert_eq!(rt; timers.expire(160), Some((130, d)));
-    assert_eq!(rt; timers.expire(160), Some((150, a)));
-    assert_eq!(rt; timers.expire(160), None);
-    assert_eq!(rt; (timers.is_set(a), timers.is_set(b)), (false, true));
-    assert_eq!(rt; timers.expire(20_130), Some((200, c)));
-    assert_eq!(rt; timers.expire(20_130), Some((10_130, b)));
-    assert_eq!(rt;
+    expect_eq(&rt, timers.expire(129), None);
+    expect_eq(&rt, timers.expire(160), Some((130, b)));
+    expect_eq(&rt, timers.expire(160), Some((130, d)));
+    expect_eq(&rt, timers.expire(160), Some((150, a)));
+    expect_eq(&rt, timers.expire(160), None);
+    expect_eq(&rt, (timers.is_set(a), timers.is_set(b)), (false, true));
+    expect_eq(&rt, timers.expire(20_130), Some((200, c)));
+    expect_eq(&rt, timers.expire(20_130), Some((10_130, b)));
+    expect_eq(
+        &rt,
         (timers.expire(20_130), timers.count_due(30_130)),
-        (None, 1)
+        (None, 1),
     );
     assert!(rt; timers.close(b));
-    assert_eq!(rt;
+    expect_eq(
+        &rt,
         (timers.is_there(b), timers.is_set(b), timers.len()),
-        (false, false, 0)
+        (false, false, 0),
     );
-    assert_eq!(rt; (timers.close(b), timers.is_there(a)), (false, true));
+    expect_eq(&rt, (timers.close(b), timers.is_there(a)), (false, true));
     Ok(())
 }
 
@@ -69,15 +75,20 @@ fn a_timer_has_one_setting(rt: HostRuntime) -> Result<(), Fail> {
     timers.create(timer);
     timers.set(timer, 0, Some(70), 3, 0);
     let set = timers.set(timer, 0, Some(90), 0, 0);
-    assert_eq!(rt; (set.was, set.fires, timers.len()), (true, false, 1));
-    assert_eq!(rt; (timers.unset(timer), timers.unset(timer)), (true, false));
-    assert_eq!(rt; (timers.is_there(timer), timers.len()), (true, 0));
+    expect_eq(&rt, (set.was, set.fires, timers.len()), (true, false, 1));
+    expect_eq(
+        &rt,
+        (timers.unset(timer), timers.unset(timer)),
+        (true, false),
+    );
+    expect_eq(&rt, (timers.is_there(timer), timers.len()), (true, 0));
     timers.set(timer, 0, Some(90), 0, 0);
-    assert_eq!(rt; timers.expire(80), None);
+    expect_eq(&rt, timers.expire(80), None);
     let set = timers.set(timer, 80, None, 4, 4);
-    assert_eq!(rt;
+    expect_eq(
+        &rt,
         (set.was, set.fires, timers.is_set(timer)),
-        (true, false, false)
+        (true, false, false),
     );
     Ok(())
 }
@@ -92,28 +103,31 @@ fn a_due_time_may_be_at_once(rt: HostRuntime) -> Result<(), Fail> {
     assert!(rt; timers.set(timer, 70, Some(70), 0, 0).fires);
     assert!(rt; !timers.is_set(timer));
     let set = timers.set(timer, 35_000, Some(5_000), 1, 0);
-    assert_eq!(rt; (set.was, set.fires), (false, true));
-    assert_eq!(rt; timers.expire(CLOCK_END), Some((45_000, timer)));
+    expect_eq(&rt, (set.was, set.fires), (false, true));
+    expect_eq(&rt, timers.expire(CLOCK_END), Some((45_000, timer)));
     let set = timers.set(timer, 100, Some(-1), 0, 0);
-    assert_eq!(rt; (set.was, set.fires), (true, false));
-    assert_eq!(rt; timers.expire(CLOCK_END), Some((101, timer)));
+    expect_eq(&rt, (set.was, set.fires), (true, false));
+    expect_eq(&rt, timers.expire(CLOCK_END), Some((101, timer)));
     Ok(())
 }
 
 #[test]
 fn moments_reach_past_the_end_of_the_clock(rt: HostRuntime) -> Result<(), Fail> {
-    assert_eq!(rt; moment_of(CLOCK_END, i64::MIN), u64::MAX);
-    assert_eq!(rt;
+    expect_eq(&rt, moment_of(CLOCK_END, i64::MIN), u64::MAX);
+    expect_eq(
+        &rt,
         (moment_of(5, 0), moment_of(5, 3), moment_of(5, i64::MAX)),
-        (5, 3, CLOCK_END)
+        (5, 3, CLOCK_END),
     );
-    assert_eq!(rt;
+    expect_eq(
+        &rt,
         next_due(CLOCK_END, u32::MAX, CLOCK_END),
-        CLOCK_END + 10_000 * u64::from(u32::MAX)
+        CLOCK_END + 10_000 * u64::from(u32::MAX),
     );
-    assert_eq!(rt;
+    expect_eq(
+        &rt,
         (next_due(7, 1, 10_006), next_due(7, 1, 10_007)),
-        (10_007, 20_007)
+        (10_007, 20_007),
     );
     Ok(())
 }
