@@ -9,7 +9,7 @@ ghost use Rattle.tp_lines.specs.Parts.{parts_of, parts_text};
 use crate::line;
 use crate::line::parts;
 use crate::parts::Parts;
-use crate::put::{counts_row, number_row, numbers_row};
+use crate::put::row;
 use crate::rows::read_parts;
 use crate::words::{Field, Word};
 use tp_base::answers::{Answer, Refusal, TakeResult};
@@ -182,72 +182,45 @@ pub fn put_answer(answer: &Answer, out: &mut [u8], at: usize) -> usize
     ensures most { result ≤ at + 250 }
 {
     match answer {
-        Answer::Done => line::first(Word::Done, out, at),
-        Answer::Made { number } => { number_row(Word::Made, u64::from(*number), out, at) }
-        Answer::Queued { first, count } => {
-            numbers_row(Word::Queued, *first, u64::from(*count), out, at)
-        }
-        Answer::WasSet { was, first, count } => {
-            parts!(out, at; first(Word::Was) word(Word::YesNo(*was)) number(*first) number(u64::from(*count)))
-        }
-        Answer::Flag { value } => { parts!(out, at; first(Word::Flag) word(Word::YesNo(*value))) }
-        Answer::Closed { later: true } => line::first(Word::Later, out, at),
-        Answer::Closed { later: false } => line::first(Word::Freed, out, at),
+        Answer::Done => row!(out, at; Word::Done),
+        Answer::Made { number } => row!(out, at; Word::Made, number(u64::from(*number))),
+        Answer::Queued { first, count } =>
+            row!(out, at; Word::Queued, number(*first) number(u64::from(*count))),
+        Answer::WasSet { was, first, count } =>
+            row!(out, at; Word::Was, word(Word::YesNo(*was)) number(*first) number(u64::from(*count))),
+        Answer::Flag { value } => row!(out, at; Word::Flag, word(Word::YesNo(*value))),
+        Answer::Closed { later: true } => row!(out, at; Word::Later),
+        Answer::Closed { later: false } => row!(out, at; Word::Freed),
         Answer::Closing {
             covered,
             cancelled,
             notices,
-        } => {
-            counts_row(
-                Word::Closing,
-                u64::from(*covered),
-                u64::from(*cancelled),
-                u64::from(*notices),
-                out,
-                at,
-            )
-        }
-        Answer::Begun { covered, cancelled } => {
-            numbers_row(
-                Word::Begun,
-                u64::from(*covered),
-                u64::from(*cancelled),
-                out,
-                at,
-            )
-        }
-        Answer::Ended => line::first(Word::Ended, out, at),
-        Answer::Exhausted => line::first(Word::Exhausted, out, at),
-        Answer::Stalled => line::first(Word::Stalled, out, at),
+        } =>
+            row!(out, at; Word::Closing, number(u64::from(*covered)) number(u64::from(*cancelled)) number(u64::from(*notices))),
+        Answer::Begun { covered, cancelled } =>
+            row!(out, at; Word::Begun, number(u64::from(*covered)) number(u64::from(*cancelled))),
+        Answer::Ended => row!(out, at; Word::Ended),
+        Answer::Exhausted => row!(out, at; Word::Exhausted),
+        Answer::Stalled => row!(out, at; Word::Stalled),
         Answer::Notice {
             object,
             routine,
             context,
             cleanup,
-        } => {
-            parts!(out, at; first(Word::Notice) lettered(b'o', u64::from(object.0)) lettered(b'r', u64::from(routine.0)) lettered(b'x', *context) lettered(b'y', *cleanup))
-        }
-        Answer::Started { callback } => { number_row(Word::Started, *callback, out, at) }
-        Answer::Operation { callback } => { number_row(Word::Operation, *callback, out, at) }
-        Answer::Cancelled { callback } => { number_row(Word::Cancelled, *callback, out, at) }
+        } =>
+            row!(out, at; Word::Notice, lettered(b'o', u64::from(object.0)) lettered(b'r', u64::from(routine.0)) lettered(b'x', *context) lettered(b'y', *cleanup)),
+        Answer::Started { callback } => row!(out, at; Word::Started, number(*callback)),
+        Answer::Operation { callback } => row!(out, at; Word::Operation, number(*callback)),
+        Answer::Cancelled { callback } => row!(out, at; Word::Cancelled, number(*callback)),
         Answer::Count {
             previous,
             first,
             count,
-        } => {
-            counts_row(
-                Word::Count,
-                u64::from(*previous),
-                *first,
-                u64::from(*count),
-                out,
-                at,
-            )
-        }
-        Answer::Advanced { now, first, count } => {
-            counts_row(Word::Advanced, *now, *first, u64::from(*count), out, at)
-        }
-        Answer::Attached { pool } => { number_row(Word::Attached, u64::from(pool.0), out, at) }
+        } =>
+            row!(out, at; Word::Count, number(u64::from(*previous)) number(*first) number(u64::from(*count))),
+        Answer::Advanced { now, first, count } =>
+            row!(out, at; Word::Advanced, number(*now) number(*first) number(u64::from(*count))),
+        Answer::Attached { pool } => row!(out, at; Word::Attached, number(u64::from(pool.0))),
         Answer::Taken {
             callback,
             object,
@@ -256,7 +229,7 @@ pub fn put_answer(answer: &Answer, out: &mut [u8], at: usize) -> usize
             result: taken,
         } => {
             let end =
-                parts!(out, at; first(Word::Taken) number(*callback) lettered(b'o', u64::from(object.0)) lettered(b'r', u64::from(routine.0)) lettered(b'x', *context));
+                row!(out, at; Word::Taken, number(*callback) lettered(b'o', u64::from(object.0)) lettered(b'r', u64::from(routine.0)) lettered(b'x', *context));
             put_result(*taken, out, end)
         }
         Answer::Returned {
@@ -266,11 +239,10 @@ pub fn put_answer(answer: &Answer, out: &mut [u8], at: usize) -> usize
             event,
             first,
             count,
-        } => {
-            parts!(out, at; first(Word::Returned) word(Word::Slot(*section)) word(Word::Slot(*mutex)) word(Word::Slot(*semaphore)) word(Word::Slot(*event)) number(*first) number(u64::from(*count)))
-        }
+        } =>
+            row!(out, at; Word::Returned, word(Word::Slot(*section)) word(Word::Slot(*mutex)) word(Word::Slot(*semaphore)) word(Word::Slot(*event)) number(*first) number(u64::from(*count))),
         Answer::Refused(refusal) => {
-            let end = line::first(Word::Refused, out, at);
+            let end = row!(out, at; Word::Refused);
             put_refusal(*refusal, out, end)
         }
     }

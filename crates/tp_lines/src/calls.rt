@@ -10,7 +10,7 @@ ghost use Rattle.tp_lines.specs.Actors.{ClientTexts, WorkerTexts};
 use crate::line;
 use crate::line::parts;
 use crate::parts::Parts;
-use crate::put::{counts_row, named_row, number_row, numbers_row, setting_row, words_row};
+use crate::put::row;
 use crate::rows::read_parts;
 use crate::words::{Field, Word};
 use line_grammar::numbers::read_prefixed;
@@ -247,31 +247,20 @@ pub fn put_call(call: &Call, out: &mut [u8], at: usize) -> usize
     ensures most { result ≤ at + 234 }
 {
     match call {
-        Call::CreatePool => line::first(Word::CreatePool, out, at),
-        Call::ClosePool { pool } => number_row(Word::ClosePool, u64::from(pool.0), out, at),
-        Call::SetMaximum { pool, value } => numbers_row(
-            Word::SetMaximum,
-            u64::from(pool.0),
-            u64::from(*value),
-            out,
-            at,
-        ),
-        Call::SetMinimum { pool, value } => numbers_row(
-            Word::SetMinimum,
-            u64::from(pool.0),
-            u64::from(*value),
-            out,
-            at,
-        ),
-        Call::CreateGroup => line::first(Word::CreateGroup, out, at),
-        Call::CloseGroup { group } => number_row(Word::CloseGroup, u64::from(group.0), out, at),
+        Call::CreatePool => row!(out, at; Word::CreatePool),
+        Call::ClosePool { pool } => row!(out, at; Word::ClosePool, number(u64::from(pool.0))),
+        Call::SetMaximum { pool, value } =>
+            row!(out, at; Word::SetMaximum, number(u64::from(pool.0)) number(u64::from(*value))),
+        Call::SetMinimum { pool, value } =>
+            row!(out, at; Word::SetMinimum, number(u64::from(pool.0)) number(u64::from(*value))),
+        Call::CreateGroup => row!(out, at; Word::CreateGroup),
+        Call::CloseGroup { group } => row!(out, at; Word::CloseGroup, number(u64::from(group.0))),
         Call::BeginClose {
             group,
             cancel,
             context,
-        } => {
-            parts!(out, at; first(Word::CloseMembers) number(u64::from(group.0)) word(Word::How(*cancel)) lettered(b'y', *context))
-        }
+        } =>
+            row!(out, at; Word::CloseMembers, number(u64::from(group.0)) word(Word::How(*cancel)) lettered(b'y', *context)),
         Call::Create {
             kind,
             routine,
@@ -279,157 +268,85 @@ pub fn put_call(call: &Call, out: &mut [u8], at: usize) -> usize
             env,
         } => {
             let end =
-                parts!(out, at; first(Word::Create) word(Word::Kind(*kind)) lettered(b'r', u64::from(routine.0)) lettered(b'x', *context));
+                row!(out, at; Word::Create, word(Word::Kind(*kind)) lettered(b'r', u64::from(routine.0)) lettered(b'x', *context));
             put_environ(*env, out, end)
         }
-        Call::CloseObject { kind, object } => {
-            named_row(
-                Word::CloseObject,
-                Word::Kind(*kind),
-                u64::from(object.0),
-                out,
-                at,
-            )
-        }
+        Call::CloseObject { kind, object } =>
+            row!(out, at; Word::CloseObject, word(Word::Kind(*kind)) number(u64::from(object.0))),
         Call::SubmitSimple {
             routine,
             context,
             env,
         } => {
             let end =
-                parts!(out, at; first(Word::SubmitSimple) lettered(b'r', u64::from(routine.0)) lettered(b'x', *context));
+                row!(out, at; Word::SubmitSimple, lettered(b'r', u64::from(routine.0)) lettered(b'x', *context));
             put_environ(*env, out, end)
         }
-        Call::SubmitWork { object } => number_row(Word::Submit, u64::from(object.0), out, at),
+        Call::SubmitWork { object } => row!(out, at; Word::Submit, number(u64::from(object.0))),
         Call::SetTimer {
             object,
             due,
             period,
             window,
-        } => {
-            setting_row(
-                Word::SetTimer,
-                u64::from(object.0),
-                *due,
-                u64::from(*period),
-                u64::from(*window),
-                out,
-                at,
-            )
-        }
+        } =>
+            row!(out, at; Word::SetTimer, number(u64::from(object.0)) due(*due) number(u64::from(*period)) number(u64::from(*window))),
         Call::SetTimerEx {
             object,
             due,
             period,
             window,
-        } => {
-            setting_row(
-                Word::SetTimerEx,
-                u64::from(object.0),
-                *due,
-                u64::from(*period),
-                u64::from(*window),
-                out,
-                at,
-            )
-        }
-        Call::IsTimerSet { object } => number_row(Word::IsTimerSet, u64::from(object.0), out, at),
-        Call::Advance { ticks } => number_row(Word::Advance, *ticks, out, at),
+        } =>
+            row!(out, at; Word::SetTimerEx, number(u64::from(object.0)) due(*due) number(u64::from(*period)) number(u64::from(*window))),
+        Call::IsTimerSet { object } => row!(out, at; Word::IsTimerSet, number(u64::from(object.0))),
+        Call::Advance { ticks } => row!(out, at; Word::Advance, number(*ticks)),
         Call::SetWait {
             object,
             kernel,
             timeout,
-        } => {
-            parts!(out, at; first(Word::SetWait) number(u64::from(object.0)) named(*kernel) due(*timeout))
-        }
-        Call::StartIo { object } => number_row(Word::StartIo, u64::from(object.0), out, at),
-        Call::IssueIo { object } => number_row(Word::IssueIo, u64::from(object.0), out, at),
-        Call::CancelIo { object } => number_row(Word::CancelIo, u64::from(object.0), out, at),
+        } => row!(out, at; Word::SetWait, number(u64::from(object.0)) named(*kernel) due(*timeout)),
+        Call::StartIo { object } => row!(out, at; Word::StartIo, number(u64::from(object.0))),
+        Call::IssueIo { object } => row!(out, at; Word::IssueIo, number(u64::from(object.0))),
+        Call::CancelIo { object } => row!(out, at; Word::CancelIo, number(u64::from(object.0))),
         Call::CompleteIo {
             callback,
             error,
             bytes,
-        } => {
-            counts_row(
-                Word::CompleteIo,
-                *callback,
-                u64::from(*error),
-                *bytes,
-                out,
-                at,
-            )
-        }
+        } =>
+            row!(out, at; Word::CompleteIo, number(*callback) number(u64::from(*error)) number(*bytes)),
         Call::BeginWait {
             kind,
             object,
             cancel,
-        } => {
-            parts!(out, at; first(Word::BeginWait) word(Word::Kind(*kind)) number(u64::from(object.0)) word(Word::How(*cancel)))
-        }
-        Call::BeginAcquire { kernel } => number_row(
-            Word::BeginAcquire,
-            u64::from(kernel.0),
-            out,
-            at,
-        ),
-        Call::End => line::first(Word::End, out, at),
-        Call::CreateEvent { manual, signalled } => {
-            words_row(
-                Word::CreateEvent,
-                Word::Reset(*manual),
-                Word::Signal(*signalled),
-                out,
-                at,
-            )
-        }
-        Call::CreateSemaphore { initial, maximum } => numbers_row(
-            Word::CreateSemaphore,
-            u64::from(*initial),
-            u64::from(*maximum),
-            out,
-            at,
-        ),
-        Call::CreateLock { lock, owned } => {
-            words_row(
-                Word::CreateLock,
-                Word::Lock(*lock),
-                Word::Owner(*owned),
-                out,
-                at,
-            )
-        }
-        Call::SetEvent { kernel } => number_row(Word::SetEvent, u64::from(kernel.0), out, at),
-        Call::ResetEvent { kernel } => number_row(Word::ResetEvent, u64::from(kernel.0), out, at),
-        Call::ReleaseSemaphore { kernel, count } => numbers_row(
-            Word::ReleaseSemaphore,
-            u64::from(kernel.0),
-            u64::from(*count),
-            out,
-            at,
-        ),
-        Call::ReleaseLock { lock, kernel } => {
-            named_row(
-                Word::ReleaseLock,
-                Word::Lock(*lock),
-                u64::from(kernel.0),
-                out,
-                at,
-            )
-        }
-        Call::Attach => line::first(Word::Attach, out, at),
-        Call::Detach => line::first(Word::Detach, out, at),
-        Call::Take => line::first(Word::Take, out, at),
-        Call::Return => line::first(Word::Return, out, at),
-        Call::MayRunLong => line::first(Word::MayRunLong, out, at),
-        Call::Disassociate => line::first(Word::Disassociate, out, at),
+        } =>
+            row!(out, at; Word::BeginWait, word(Word::Kind(*kind)) number(u64::from(object.0)) word(Word::How(*cancel))),
+        Call::BeginAcquire { kernel } =>
+            row!(out, at; Word::BeginAcquire, number(u64::from(kernel.0))),
+        Call::End => row!(out, at; Word::End),
+        Call::CreateEvent { manual, signalled } =>
+            row!(out, at; Word::CreateEvent, word(Word::Reset(*manual)) word(Word::Signal(*signalled))),
+        Call::CreateSemaphore { initial, maximum } =>
+            row!(out, at; Word::CreateSemaphore, number(u64::from(*initial)) number(u64::from(*maximum))),
+        Call::CreateLock { lock, owned } =>
+            row!(out, at; Word::CreateLock, word(Word::Lock(*lock)) word(Word::Owner(*owned))),
+        Call::SetEvent { kernel } => row!(out, at; Word::SetEvent, number(u64::from(kernel.0))),
+        Call::ResetEvent { kernel } => row!(out, at; Word::ResetEvent, number(u64::from(kernel.0))),
+        Call::ReleaseSemaphore { kernel, count } =>
+            row!(out, at; Word::ReleaseSemaphore, number(u64::from(kernel.0)) number(u64::from(*count))),
+        Call::ReleaseLock { lock, kernel } =>
+            row!(out, at; Word::ReleaseLock, word(Word::Lock(*lock)) number(u64::from(kernel.0))),
+        Call::Attach => row!(out, at; Word::Attach),
+        Call::Detach => row!(out, at; Word::Detach),
+        Call::Take => row!(out, at; Word::Take),
+        Call::Return => row!(out, at; Word::Return),
+        Call::MayRunLong => row!(out, at; Word::MayRunLong),
+        Call::Disassociate => row!(out, at; Word::Disassociate),
         Call::OnReturn {
             kind,
             kernel,
             count,
-        } => {
-            parts!(out, at; first(Word::OnReturn) word(Word::Action(*kind)) number(u64::from(kernel.0)) number(u64::from(*count)))
-        }
-        Call::Finish => line::first(Word::Finish, out, at),
+        } =>
+            row!(out, at; Word::OnReturn, word(Word::Action(*kind)) number(u64::from(kernel.0)) number(u64::from(*count))),
+        Call::Finish => row!(out, at; Word::Finish),
     }
 }
 

@@ -1,6 +1,7 @@
-//! Writing of rows of the forms that several calls and answers have: a word, and parts behind it.
+//! Writing of rows: a word, and parts behind it. `row!` writes any.
 //!
-//! Each of these writes as those of `line` do, and tells where its text ends.
+//! Rows of a form that several calls or answers have are written by one function each, so that the form is proved
+//! once. Each of these writes as those of `line` do, and tells where its text ends.
 
 ghost use Rattle.std.specs.Prelude.{◌≡◌, ◌+◌, ◌≤◌, [], ◌∷◌, ◌++◌, length, take};
 ghost use Rattle.tp_lines.specs.Parts.{row_text};
@@ -23,7 +24,7 @@ pub fn number_row(word: Word, number: u64, out: &mut [u8], at: usize) -> usize
 
 /// A word with two numbers.
 #[inline(always)]
-pub fn numbers_row(word: Word, first: u64, second: u64, out: &mut [u8], at: usize) -> usize
+pub fn two_numbers_row(word: Word, first: u64, second: u64, out: &mut [u8], at: usize) -> usize
     requires { at + 72 ≤ length out.old }
     ensures text { take result out.new ≡ take at out.old ++ row_text (word, Part.Large first ∷ Part.Large second ∷ []) }
     ensures least { at ≤ result }
@@ -34,7 +35,7 @@ pub fn numbers_row(word: Word, first: u64, second: u64, out: &mut [u8], at: usiz
 
 /// A word with two words.
 #[inline(always)]
-pub fn words_row(word: Word, first: Word, second: Word, out: &mut [u8], at: usize) -> usize
+pub fn two_words_row(word: Word, first: Word, second: Word, out: &mut [u8], at: usize) -> usize
     requires { at + 92 ≤ length out.old }
     ensures text { take result out.new ≡ take at out.old ++ row_text (word, Part.Word first ∷ Part.Word second ∷ []) }
     ensures least { at ≤ result }
@@ -45,7 +46,7 @@ pub fn words_row(word: Word, first: Word, second: Word, out: &mut [u8], at: usiz
 
 /// A word with a word and a number.
 #[inline(always)]
-pub fn named_row(word: Word, first: Word, number: u64, out: &mut [u8], at: usize) -> usize
+pub fn word_number_row(word: Word, first: Word, number: u64, out: &mut [u8], at: usize) -> usize
     requires { at + 82 ≤ length out.old }
     ensures text { take result out.new ≡ take at out.old ++ row_text (word, Part.Word first ∷ Part.Large number ∷ []) }
     ensures least { at ≤ result }
@@ -56,7 +57,7 @@ pub fn named_row(word: Word, first: Word, number: u64, out: &mut [u8], at: usize
 
 /// A word with three numbers.
 #[inline(always)]
-pub fn counts_row(
+pub fn three_numbers_row(
     word: Word,
     first: u64,
     second: u64,
@@ -90,3 +91,33 @@ pub fn setting_row(
 {
     parts!(out, at; first(word) number(object) due(due) number(period) number(window))
 }
+
+/// Writes a row from `at` on, as in `row!(out, at; Word::SetMaximum, number(7) number(70))`, and tells where it ends.
+macro_rules! row {
+    ($out:ident, $at:ident; $word:expr) => {
+        crate::line::first($word, $out, $at)
+    };
+    ($out:ident, $at:ident; $word:expr, number($number:expr)) => {
+        crate::put::number_row($word, $number, $out, $at)
+    };
+    ($out:ident, $at:ident; $word:expr, number($first:expr) number($second:expr)) => {
+        crate::put::two_numbers_row($word, $first, $second, $out, $at)
+    };
+    ($out:ident, $at:ident; $word:expr, number($first:expr) number($second:expr) number($third:expr)) => {
+        crate::put::three_numbers_row($word, $first, $second, $third, $out, $at)
+    };
+    ($out:ident, $at:ident; $word:expr, word($first:expr) number($number:expr)) => {
+        crate::put::word_number_row($word, $first, $number, $out, $at)
+    };
+    ($out:ident, $at:ident; $word:expr, word($first:expr) word($second:expr)) => {
+        crate::put::two_words_row($word, $first, $second, $out, $at)
+    };
+    ($out:ident, $at:ident; $word:expr, number($object:expr) due($due:expr) number($period:expr) number($window:expr)) => {
+        crate::put::setting_row($word, $object, $due, $period, $window, $out, $at)
+    };
+    ($out:ident, $at:ident; $word:expr, $($part:ident($($value:expr),*))+) => {
+        crate::line::parts!($out, $at; first($word) $($part($($value),*))+)
+    };
+}
+
+pub(crate) use row;

@@ -192,19 +192,13 @@ pub enum Word {
     Action(ActionKind),
 }
 
-// All words by the field in which each stands: the word, its text, and the fields behind it. The calls that come
-// most often are first, since a word is searched for in this order.
+// All words by the field in which each stands: the word, its text, and the fields behind it. Calls stand in their
+// groups: the lines that come most often are read by `fronts`, before a word is searched for here.
 macro_rules! words {
     ($then:ident, $($given:tt)+) => {
         $then! {
             $($given)+;
             Call {
-                (Word::Take) b"take" [];
-                (Word::Return) b"return" [];
-                (Word::Submit) b"submit" [Short];
-                (Word::End) b"end" [];
-                (Word::Attach) b"attach" [];
-                (Word::Detach) b"detach" [];
                 (Word::CreatePool) b"create-pool" [];
                 (Word::ClosePool) b"close-pool" [Short];
                 (Word::SetMaximum) b"set-maximum" [Short Small];
@@ -215,6 +209,7 @@ macro_rules! words {
                 (Word::Create) b"create" [Kind Routine Context Pool Priority Length Group Cancel];
                 (Word::CloseObject) b"close" [Kind Short];
                 (Word::SubmitSimple) b"submit-simple" [Routine Context Pool Priority Length Group Cancel];
+                (Word::Submit) b"submit" [Short];
                 (Word::SetTimer) b"set-timer" [Short Due Small Small];
                 (Word::SetTimerEx) b"set-timer-ex" [Short Due Small Small];
                 (Word::IsTimerSet) b"is-timer-set" [Short];
@@ -226,6 +221,7 @@ macro_rules! words {
                 (Word::CompleteIo) b"complete-io" [Large Small Large];
                 (Word::BeginWait) b"wait" [Kind Short How];
                 (Word::BeginAcquire) b"acquire" [Short];
+                (Word::End) b"end" [];
                 (Word::CreateEvent) b"create-event" [Reset Signal];
                 (Word::CreateSemaphore) b"create-semaphore" [Level Level];
                 (Word::CreateLock) b"create-lock" [Lock Owner];
@@ -233,6 +229,10 @@ macro_rules! words {
                 (Word::ResetEvent) b"reset-event" [Short];
                 (Word::ReleaseSemaphore) b"release-semaphore" [Short Units];
                 (Word::ReleaseLock) b"release-lock" [Lock Short];
+                (Word::Attach) b"attach" [];
+                (Word::Detach) b"detach" [];
+                (Word::Take) b"take" [];
+                (Word::Return) b"return" [];
                 (Word::MayRunLong) b"may-run-long" [];
                 (Word::Disassociate) b"disassociate" [];
                 (Word::OnReturn) b"on-return" [Action Short Units];
