@@ -758,36 +758,21 @@ fn parts_of_outcomes_printed(rt: HostRuntime) -> Result<(), Fail> {
 }
 
 // What is read of a good line of a call with its line feed, and its size.
-fn check_good_call(
-    rt: &impl Abort,
-    alloc: Global,
-    text: &str,
-    want: &str,
-) -> Result<(), AllocError> {
-    let told = match read_good_call(text.as_bytes()) {
-        Some(((who, call), size)) => format!(in alloc; "{who:?} {call:?} {size}")?,
-        None => format!(in alloc; "none")?,
-    };
-    assert_eq!(rt; told.as_str(), want, "{text}");
-    Ok(())
+fn told_of_call(alloc: Global, text: &str) -> Result<String, AllocError> {
+    match read_good_call(text.as_bytes()) {
+        Some(((who, call), size)) => format!(in alloc; "{who:?} {call:?} {size}"),
+        None => format!(in alloc; "none"),
+    }
 }
 
 // The same of a line of an entry.
-fn check_good_entry(
-    rt: &impl Abort,
-    alloc: Global,
-    text: &str,
-    want: &str,
-) -> Result<(), AllocError> {
-    let told = match read_good_entry(text.as_bytes()) {
-        Some((entry, size)) => {
-            let Entry { who, call, answer } = entry;
-            format!(in alloc; "{who:?} {call:?} {answer:?} {size}")?
+fn told_of_entry(alloc: Global, text: &str) -> Result<String, AllocError> {
+    match read_good_entry(text.as_bytes()) {
+        Some((Entry { who, call, answer }, size)) => {
+            format!(in alloc; "{who:?} {call:?} {answer:?} {size}")
         }
-        None => format!(in alloc; "none")?,
-    };
-    assert_eq!(rt; told.as_str(), want, "{text}");
-    Ok(())
+        None => format!(in alloc; "none"),
+    }
 }
 
 #[test]
@@ -797,7 +782,8 @@ fn good_lines(rt: HostRuntime) -> Result<(), Fail> {
         ("w3 take", "none"),
         ("w3 take 1\n", "none"),
     ] {
-        check_good_call(&rt, rt.alloc(), text, want)?;
+        let told = told_of_call(rt.alloc(), text)?;
+        assert_eq!(rt; told.as_str(), want, "{text}");
     }
     for (text, want) in [
         (
@@ -812,7 +798,8 @@ fn good_lines(rt: HostRuntime) -> Result<(), Fail> {
         ("c1 submit 65536 -> queued 4 1\n", "none"),
         ("end 1\n", "none"),
     ] {
-        check_good_entry(&rt, rt.alloc(), text, want)?;
+        let told = told_of_entry(rt.alloc(), text)?;
+        assert_eq!(rt; told.as_str(), want, "{text}");
     }
     Ok(())
 }
