@@ -76,6 +76,9 @@ verdict 'the first wrong answer' 'not legal at 1: refused not-attached' 0 1 'w1 
 verdict 'a look is no answer' 'not legal at 1: look no-need' 0 1 'w1 attach -> attached 0'
 verdict 'a finish that is owed' 'not legal at 2: full 0 1' 16 1 'c1 finish -> ok' 'c2 submit 1 -> refused no-such'
 create='create work r1 x0 p0 normal short g0 q0 -> made 1'
+entries=("c1 $create" 'c1 submit 1 -> queued 1 1')
+verdict 'accepted calls' 'legal 2' 1 4 "${entries[@]}"
+verdict 'a wrong number of an accepted call' 'not legal at 2: queued 1 1' 1 4 "${entries[@]/queued 1/queued 2}"
 # Each of the eight clients' finishes is owed, and what runs is owed its return.
 begun=("c8 $create" 'c8 submit 1 -> queued 1 1' 'w1 attach -> attached 0' 'w1 take -> taken 1 o1 r1 x0 plain' 'c8 submit 1 -> queued 2 1')
 verdict 'room for one entry and not for two' 'not legal at 6: full 1 2' 8 2 "${begun[@]}" 'w2 attach -> attached 0'
@@ -122,6 +125,7 @@ fault trace 3 6 $'w1 take\nw1 take\nw1 tale\n'
 fault trace 2 6 $'w1 take\nw1 tale\nw1 tale\n'
 fault trace 2 1 $'w1 take\n\n'
 fault trace 2 7 $'c1 create-pool\nc1 finsh\n'
+fault check 1 1 ''
 fault check 1 9 'history 2 clients 1'
 fault check 1 20 $'history 1 clients 17 workers 1 events 16\n'
 fault check 1 29 $'history 1 clients 1 workers 0 events 16\n'
