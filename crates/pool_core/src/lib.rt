@@ -45,7 +45,7 @@
 
 #![tactic(auto)]
 
-ghost use Rattle.std.specs.Prelude.{◌≡◌, ◌+◌, ◌^◌, ◌<◌, IfOk};
+ghost use Rattle.std.specs.Prelude.{◌≡◌, ◌+◌, ◌^◌, ◌<◌, IfOk, nat_lt};
 ghost use Rattle.pool_core.specs.Entered.{outcome_of_entry};
 ghost use Rattle.tp_base.specs.Ranges.{AreLimitsInRange, IsCallInRange, IsAnswerInRange, IsOutcomeInRange, IsRefusalInRange};
 ghost use Rattle.tp_model.specs.World.{World, opening};
@@ -155,7 +155,7 @@ impl Engine {
         ensures in_range { IsOutcomeInRange result }
     {
         let cost = price(change);
-        if room < cost {
+        if lacks_room(room, cost) {
             return Outcome::Full { room, cost };
         }
         self.apply(change);
@@ -193,6 +193,14 @@ impl Engine {
     }
 }
 
+// Whether an entry of this cost is too much for the room that a history has.
+#[inline(always)]
+fn lacks_room(room: u64, cost: u64) -> bool
+    ensures { result ≡ nat_lt room cost }
+{
+    room < cost
+}
+
 // What a refusal comes to, where the history has room for its entry.
 #[inline(always)]
 fn refuse(refusal: Refusal, room: u64) -> Outcome
@@ -200,7 +208,7 @@ fn refuse(refusal: Refusal, room: u64) -> Outcome
     ensures outcome { result ≡ outcome_of_entry room (Answer.Refused refusal) 1 }
     ensures in_range { IsOutcomeInRange result }
 {
-    if room < 1 {
+    if lacks_room(room, 1) {
         Outcome::Full { room, cost: 1 }
     } else {
         Outcome::Done(Answer::Refused(refusal))
