@@ -1,10 +1,8 @@
-//! Streams that fail midway, the limit, and the real streams.
+//! Streams that fail midway, and the limit.
 
 use std::test::Fail;
-use std::{env, fs, process};
 use tp_edge::{
-    MemorySink, MemorySource, NeverFails, ReadEdge, ReadFault, Sink, Source, WriteEdge, WriteFault,
-    give_all, read_all,
+    MemorySink, MemorySource, NeverFails, ReadFault, Sink, Source, WriteFault, give_all, read_all,
 };
 
 /// What is read of `abcdefghij`, 4 bytes a call: 4, 4, 2, then the end.
@@ -65,42 +63,5 @@ fn never_fails_gives_all(rt: HostRuntime) -> Result<(), Fail> {
         .ok_or("no bytes")?;
     assert_eq!(rt; bytes.as_slice(), b"abcdefghij".as_slice());
     assert_eq!(rt; source.faults(), 0);
-    Ok(())
-}
-
-/// More bytes than one request asks for, through a real file and back.
-#[test]
-fn passes_a_file_through(rt: HostRuntime) -> Result<(), Fail> {
-    let id = process::id(rt.process());
-    let name = format!(in rt.alloc(); "tp_edge_passes_a_file_through_{id}")?;
-    let path = env::temp_dir(&rt)?.join(rt.alloc(), name.as_str())?;
-    let bytes = vec![in rt.alloc(); 7; 100_000]?;
-    let mut sink = WriteEdge::new(fs::create(&rt, &path)?);
-    assert!(rt; give_all(&mut sink, &bytes).is_ok());
-    assert_eq!(rt; sink.faults(), 0);
-    let mut source = ReadEdge::new(fs::open(&rt, &path)?);
-    let back = read_all(rt.alloc(), &mut source, 100_000)
-        .ok()
-        .ok_or("no bytes")?;
-    assert_eq!(rt; source.faults(), 0);
-    assert!(rt; back == bytes);
-    fs::remove_file(&rt, &path)?;
-    Ok(())
-}
-
-/// A file that is open for reading alone takes no bytes, and one for writing alone gives none.
-#[test]
-fn counts_the_faults_of_a_file(rt: HostRuntime) -> Result<(), Fail> {
-    let id = process::id(rt.process());
-    let name = format!(in rt.alloc(); "tp_edge_counts_the_faults_of_a_file_{id}")?;
-    let path = env::temp_dir(&rt)?.join(rt.alloc(), name.as_str())?;
-    let mut source = ReadEdge::new(fs::create(&rt, &path)?);
-    let read = read_all(rt.alloc(), &mut source, 10);
-    assert!(rt; matches!(read, Err(ReadFault::Failed)));
-    assert_eq!(rt; source.faults(), 1);
-    let mut sink = WriteEdge::new(fs::open(&rt, &path)?);
-    assert_eq!(rt; give_all(&mut sink, b"a"), Err(WriteFault::Failed));
-    assert_eq!(rt; sink.faults(), 1);
-    fs::remove_file(&rt, &path)?;
     Ok(())
 }
