@@ -92,8 +92,8 @@ module _ (f : Field) (first : Word) where
           split = m.split;
         }) text r a
 
-pub met_all : (f : Field) → form_of f ≡ form.Choice → (text : List ℕ) (r : Result (Word × ℕ) ℕ) → IsRead (Met f (default_word f) WORDS.words) text r → IsRead (ChoiceTexts f) text r
-met_all f e text r a = read_same (Met f (default_word f) WORDS.words) (ChoiceTexts f)
+pub met_all : (f : Field) → form_of f ≡ form.Choice → (text : List ℕ) (r : Result (Word × ℕ) ℕ) → IsRead (Met f (default_word f) WORDS) text r → IsRead (ChoiceTexts f) text r
+met_all f e text r a = read_same (Met f (default_word f) WORDS) (ChoiceTexts f)
     (λ w t m. record { table = elim m.which [ inl d ↦ ap table_of d ∙ default_table f e | inr l ↦ l.1 ]; split = m.split })
     (λ w t m. record { which = inr (all_listed w, m.table); split = m.split }) text r a
 

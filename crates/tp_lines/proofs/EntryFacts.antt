@@ -5,7 +5,7 @@ use Rattle.std.proofs.lemmas.List.{append_assoc, length-append}
 use Rattle.line_grammar.specs.Language.{AnyOf, IsReadTo, IsStuck}
 use Rattle.line_grammar.specs.Parts.{Led, IsPair, Pairs, IsPart, IsTail}
 use Rattle.line_grammar.proofs.Pairs.{pairs_read, pairs_stuck_first, pairs_stuck_second, pairs_part}
-use Rattle.line_grammar.proofs.Readings.{part_renamed, read_renamed, stuck_renamed, led_none, led_part, led_tail, led_then, led_then_stuck}
+use Rattle.line_grammar.proofs.Readings.{part_renamed, read_renamed, stuck_renamed, led_none, led_part, led_tail, led_then_stuck}
 use Rattle.tp_base.specs.declared.answers.Answer.{Answer}
 use Rattle.tp_base.specs.declared.answers.Entry.{Entry}
 use Rattle.tp_base.specs.declared.calls.Call.{Call}
@@ -45,13 +45,6 @@ module _ (text : List ℕ) where
       subst (λ n. IsStuck ArrowTexts text n) sum
       (led_then_stuck 32 (Led 45 (Led 62 AnswerTexts)) text dash e ((k + 1) + 1)
       (led_then_stuck 45 (Led 62 AnswerTexts) dash head f (k + 1) (led_then_stuck 62 AnswerTexts head rest g k stuck)))
-
-  pub arrow_read : (dash head rest : List ℕ) → text ≡ 32 ∷ dash → dash ≡ 45 ∷ head → head ≡ 62 ∷ rest → (x : Answer) (n : ℕ) → IsReadTo AnswerTexts rest x n → IsReadTo ArrowTexts text x (n + 3)
-  arrow_read dash head rest e f g x n read =
-      let sum : ((n + 1) + 1) + 1 ≡ n + 3 = omega arith in
-      subst (λ m. IsReadTo ArrowTexts text x m) sum
-      (led_then 32 (Led 45 (Led 62 AnswerTexts)) text dash e x ((n + 1) + 1)
-      (led_then 45 (Led 62 AnswerTexts) dash head f x (n + 1) (led_then 62 AnswerTexts head rest g x n read)))
 
 arrow_part : IsPart 32 ArrowTexts
 arrow_part = led_part 32 (Led 45 (Led 62 AnswerTexts)) 32 (led_part 45 (Led 62 AnswerTexts) 32 (led_part 62 AnswerTexts 32 answer_part))

@@ -62,9 +62,9 @@ first_word a r b s la lb opened opened_too e = by_cut (cut a r b s e)
     by_cut (same f g) = f
 
 -- no answer begins as a look or full
-not_shown : (w v : Word) → table_of w ≡ field.Answer → table_of v ≡ field.Look → text_of_word w ≡ text_of_word v → find 2 (text_of_word v) WORDS.words ≡ None → ⊥
+not_shown : (w v : Word) → table_of w ≡ field.Answer → table_of v ≡ field.Look → text_of_word w ≡ text_of_word v → find 2 (text_of_word v) WORDS ≡ None → ⊥
 not_shown w v e f g none =
-    let same : Some w ≡ None = sym (found w) ∙ ap (λ t. find (rank t) (text_of_word w) WORDS.words) e ∙ ap (λ t. find 2 t WORDS.words) g ∙ none in
+    let same : Some w ≡ None = sym (found w) ∙ ap (λ t. find (rank t) (text_of_word w) WORDS) e ∙ ap (λ t. find 2 t WORDS) g ∙ none in
     let no_such : ⊥ = cc in no_such
 
 opens_parts : (parts : List Part) → Opens 32 (parts_text parts)
@@ -72,7 +72,7 @@ opens_parts [] = tt
 opens_parts (p ∷ parts) = refl
 
 apart : (row : Word × List Part) (w : Word) (parts : List Part) → table_of row.0 ≡ field.Answer → table_of w ≡ field.Look
-    → find 2 (text_of_word w) WORDS.words ≡ None → row_text row ≡ row_text (w, parts) → ⊥
+    → find 2 (text_of_word w) WORDS ≡ None → row_text row ≡ row_text (w, parts) → ⊥
 apart row w parts e f none g =
     not_shown row.0 w e f (first_word (text_of_word row.0) (parts_text row.1) (text_of_word w) (parts_text parts)
     (solid_lacks 32 (omega arith) (text_of_word row.0) (solid row.0)) (solid_lacks 32 (omega arith) (text_of_word w) (solid w))

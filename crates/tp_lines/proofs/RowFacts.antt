@@ -2,7 +2,7 @@
 use Rattle.std.proofs.Common.{◌≡◌, ℕ, zero, suc, ◌+◌, ◌≤◌, List, [], ◌∷◌, ◌++◌, drop, refl, sym, ap, ◌∙◌, subst, arith, Bool, true, false, nat_eq}
 use Rattle.std.specs.Prelude.{if◌then◌else◌}
 use Rattle.std.proofs.lemmas.List.{append-nil, append_assoc}
-use Rattle.line_grammar.specs.Language.{AnyOf, Stops, IsReadTo, IsStuck}
+use Rattle.line_grammar.specs.Language.{AnyOf, IsReadTo, IsStuck}
 use Rattle.line_grammar.specs.Parts.{IsPair, Opens, Pairs, IsPart, IsTail}
 use Rattle.line_grammar.proofs.Pairs.{pairs_read, pairs_stuck_first, pairs_stuck_second, pair_same}
 use Rattle.line_grammar.proofs.Readings.{read_renamed, stuck_renamed}
@@ -65,22 +65,6 @@ pub parts_tail : (fields : List Field) → IsTail 32 (PartsTexts fields)
 parts_tail fields = record {
   opens = parts_opens fields;
   some = let s = some_fit (room fields) fields (omega arith) in (s.0, parts_text s.0, record { fit = s.1; split = refl });
-}
-
--- no fields
-none_begin : (x : ℕ) (text : List ℕ) (parts : List Part) → PartsTexts [] parts (x ∷ text) → ⊥
-none_begin x text [] a = let no_such : ⊥ = cc in no_such
-none_begin x text (p ∷ parts) a = a.fit
-
-nothing_stops : (text : List ℕ) → Stops (AnyOf (PartsTexts [])) [] text
-nothing_stops [] = tt
-nothing_stops (x ∷ rest) = λ (more, (parts, a)). none_begin x more parts a
-
-pub nothing_read : (text : List ℕ) (before : List Part) → ArePartsRead [] text before before 0
-nothing_read text before = record {
-  added = [];
-  split = sym (append-nil before);
-  read = record { within = omega arith; text_of = record { fit = tt; split = refl }; stops = nothing_stops text };
 }
 
 -- a field, and those behind it

@@ -65,7 +65,7 @@ abbrev keeps_rules : Word → Bool
 keeps_rules w = both (is_solid (text_of_word w)) (both (nat_le (length (text_of_word w)) 30) (nat_le (room (fields_of w) + 1) (room_of (table_of w))))
 
 -- each word keeps the rules, and is the first of all in its field and with its text
-kept : (w : Word) → IsTrue (keeps_rules w) × (find (rank (table_of w)) (text_of_word w) WORDS.words ≡ Some w)
+kept : (w : Word) → IsTrue (keeps_rules w) × (find (rank (table_of w)) (text_of_word w) WORDS ≡ Some w)
 kept (word.Kind kind.Work) = (refl, refl)
 kept (word.Kind _) = (refl, refl)
 kept (word.Priority priority.High) = (refl, refl)
@@ -93,7 +93,7 @@ kept _ = (refl, refl)
 rules_kept : (w : Word) → IsTrue (keeps_rules w)
 rules_kept w = (kept w).0
 
-pub found : (w : Word) → find (rank (table_of w)) (text_of_word w) WORDS.words ≡ Some w
+pub found : (w : Word) → find (rank (table_of w)) (text_of_word w) WORDS ≡ Some w
 found w = (kept w).1
 
 pub solid : (w : Word) → IsTrue (is_solid (text_of_word w))
@@ -108,7 +108,7 @@ roomy w = leb-true _ _ (both_right (nat_le (length (text_of_word w)) 30) _ (both
 -- words of one field are told apart by their texts
 pub one_word : (w v : Word) → table_of w ≡ table_of v → text_of_word w ≡ text_of_word v → w ≡ v
 one_word w v e f =
-    let same : Some w ≡ Some v = sym (found w) ∙ ap (λ t. find (rank t) (text_of_word w) WORDS.words) e ∙ ap (λ t. find (rank (table_of v)) t WORDS.words) f ∙ found v in
+    let same : Some w ≡ Some v = sym (found w) ∙ ap (λ t. find (rank t) (text_of_word w) WORDS) e ∙ ap (λ t. find (rank (table_of v)) t WORDS) f ∙ found v in
     cc
 
 by_test : (b : Bool) (x w : Word) (words : List Word) (others : Option Word) → (others ≡ Some w → IsListed words w) → first_of_two b x others ≡ Some w → IsListed (x ∷ words) w
@@ -119,5 +119,5 @@ find_listed : (n : ℕ) (t : List ℕ) (words : List Word) (w : Word) → find n
 find_listed n t [] w e = let no_such : ⊥ = cc in absurd no_such
 find_listed n t (x ∷ words) w e = by_test (both (nat_eq (rank (table_of x)) n) (bytes_eq t (text_of_word x))) x w words (find n t words) (find_listed n t words w) e
 
-pub all_listed : (w : Word) → IsListed WORDS.words w
-all_listed w = find_listed (rank (table_of w)) (text_of_word w) WORDS.words w (found w)
+pub all_listed : (w : Word) → IsListed WORDS w
+all_listed w = find_listed (rank (table_of w)) (text_of_word w) WORDS w (found w)

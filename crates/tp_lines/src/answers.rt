@@ -5,6 +5,7 @@ ghost use Rattle.line_grammar.specs.Language.{IsRead};
 ghost use Rattle.tp_lines.specs.AnswerRows.{AnswerTexts, answer_at, refusal_at, result_at};
 ghost use Rattle.tp_lines.specs.Answers.{row_of_refusal, row_of_result, text_of_answer};
 ghost use Rattle.tp_lines.specs.Parts.{parts_of, parts_text};
+ghost use Rattle.tp_lines.specs.Writing.{IsPut};
 
 use crate::line;
 use crate::line::parts;
@@ -177,9 +178,7 @@ pub fn read_answer(text: &[u8]) -> Result<(Answer, usize), usize>
 #[inline(always)]
 pub fn put_answer(answer: &Answer, out: &mut [u8], at: usize) -> usize
     requires { at + 250 ≤ length out.old }
-    ensures text { take result out.new ≡ take at out.old ++ text_of_answer answer.now }
-    ensures least { at ≤ result }
-    ensures most { result ≤ at + 250 }
+    ensures { IsPut at out.old result out.new (text_of_answer answer.now) 250 }
 {
     match answer {
         Answer::Done => row!(out, at; Word::Done),
@@ -252,9 +251,7 @@ pub fn put_answer(answer: &Answer, out: &mut [u8], at: usize) -> usize
 #[inline(always)]
 fn put_result(taken: TakeResult, out: &mut [u8], at: usize) -> usize
     requires { at + 80 ≤ length out.old }
-    ensures text { take result out.new ≡ take at out.old ++ parts_text (parts_of (row_of_result taken)) }
-    ensures least { at ≤ result }
-    ensures most { result ≤ at + 80 }
+    ensures { IsPut at out.old result out.new (parts_text (parts_of (row_of_result taken))) 80 }
 {
     match taken {
         TakeResult::Plain => line::word(Word::Plain, out, at),
@@ -270,9 +267,7 @@ fn put_result(taken: TakeResult, out: &mut [u8], at: usize) -> usize
 #[inline(always)]
 fn put_refusal(refusal: Refusal, out: &mut [u8], at: usize) -> usize
     requires { at + 80 ≤ length out.old }
-    ensures text { take result out.new ≡ take at out.old ++ parts_text (parts_of (row_of_refusal refusal)) }
-    ensures least { at ≤ result }
-    ensures most { result ≤ at + 80 }
+    ensures { IsPut at out.old result out.new (parts_text (parts_of (row_of_refusal refusal))) 80 }
 {
     match refusal {
         Refusal::NoSuch => line::word(Word::NoSuch, out, at),

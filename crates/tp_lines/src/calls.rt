@@ -6,13 +6,14 @@ ghost use Rattle.tp_lines.specs.Calls.{CallLines, CallTexts, WhoTexts, call_at, 
 ghost use Rattle.tp_lines.specs.Parts.{parts_text, row_text};
 ghost use Rattle.tp_lines.specs.Words.{text_of_who};
 ghost use Rattle.tp_lines.specs.Actors.{ClientTexts, WorkerTexts};
+ghost use Rattle.tp_lines.specs.Writing.{IsPut};
 
-use crate::line;
 use crate::line::parts;
-use crate::parts::Parts;
+use crate::parts::{Part, Parts};
 use crate::put::row;
 use crate::rows::read_parts;
 use crate::words::{Field, Word};
+use crate::{line, put};
 use line_grammar::numbers::read_prefixed;
 use line_grammar::words::behind;
 use tp_base::calls::{Call, Environ};
@@ -246,115 +247,196 @@ pub fn put_call(call: &Call, out: &mut [u8], at: usize) -> usize
     ensures least { at ≤ result }
     ensures most { result ≤ at + 234 }
 {
+    let word = word_of(call);
     match call {
-        Call::CreatePool => row!(out, at; Word::CreatePool),
-        Call::ClosePool { pool } => row!(out, at; Word::ClosePool, number(u64::from(pool.0))),
-        Call::SetMaximum { pool, value } =>
-            row!(out, at; Word::SetMaximum, number(u64::from(pool.0)) number(u64::from(*value))),
-        Call::SetMinimum { pool, value } =>
-            row!(out, at; Word::SetMinimum, number(u64::from(pool.0)) number(u64::from(*value))),
-        Call::CreateGroup => row!(out, at; Word::CreateGroup),
-        Call::CloseGroup { group } => row!(out, at; Word::CloseGroup, number(u64::from(group.0))),
+        Call::CreatePool
+        | Call::CreateGroup
+        | Call::End
+        | Call::Attach
+        | Call::Detach
+        | Call::Take
+        | Call::Return
+        | Call::MayRunLong
+        | Call::Disassociate
+        | Call::Finish => line::first(word, out, at),
+        Call::ClosePool {
+            pool: PoolId(number),
+        }
+        | Call::CloseGroup {
+            group: GroupId(number),
+        }
+        | Call::SubmitWork {
+            object: ObjectId(number),
+        }
+        | Call::IsTimerSet {
+            object: ObjectId(number),
+        }
+        | Call::StartIo {
+            object: ObjectId(number),
+        }
+        | Call::IssueIo {
+            object: ObjectId(number),
+        }
+        | Call::CancelIo {
+            object: ObjectId(number),
+        }
+        | Call::BeginAcquire {
+            kernel: KernelId(number),
+        }
+        | Call::SetEvent {
+            kernel: KernelId(number),
+        }
+        | Call::ResetEvent {
+            kernel: KernelId(number),
+        } => row!(out, at; word, number(u64::from(*number))),
+        Call::Advance { ticks } => row!(out, at; word, number(*ticks)),
+        Call::SetMaximum {
+            pool: PoolId(first),
+            value: second,
+        }
+        | Call::SetMinimum {
+            pool: PoolId(first),
+            value: second,
+        }
+        | Call::CreateSemaphore {
+            initial: first,
+            maximum: second,
+        }
+        | Call::ReleaseSemaphore {
+            kernel: KernelId(first),
+            count: second,
+        } => row!(out, at; word, number(u64::from(*first)) number(u64::from(*second))),
         Call::BeginClose {
             group,
             cancel,
             context,
         } =>
-            row!(out, at; Word::CloseMembers, number(u64::from(group.0)) word(Word::How(*cancel)) lettered(b'y', *context)),
+            row!(out, at; word, number(u64::from(group.0)) word(Word::How(*cancel)) lettered(b'y', *context)),
         Call::Create {
             kind,
             routine,
             context,
             env,
         } => {
-            let end =
-                row!(out, at; Word::Create, word(Word::Kind(*kind)) lettered(b'r', u64::from(routine.0)) lettered(b'x', *context));
-            put_environ(*env, out, end)
+            let end = parts!(out, at; first(word) word(Word::Kind(*kind)));
+            put_routine(*routine, *context, *env, out, end)
         }
         Call::CloseObject { kind, object } =>
-            row!(out, at; Word::CloseObject, word(Word::Kind(*kind)) number(u64::from(object.0))),
+            row!(out, at; word, word(Word::Kind(*kind)) number(u64::from(object.0))),
         Call::SubmitSimple {
             routine,
             context,
             env,
         } => {
-            let end =
-                row!(out, at; Word::SubmitSimple, lettered(b'r', u64::from(routine.0)) lettered(b'x', *context));
-            put_environ(*env, out, end)
-        }
-        Call::SubmitWork { object } => row!(out, at; Word::Submit, number(u64::from(object.0))),
+            let end = line::first(word, out, at);
+            put_routine(*routine, *context, *env, out, end)
+        },
         Call::SetTimer {
             object,
             due,
             period,
             window,
-        } =>
-            row!(out, at; Word::SetTimer, number(u64::from(object.0)) due(*due) number(u64::from(*period)) number(u64::from(*window))),
-        Call::SetTimerEx {
+        }
+        | Call::SetTimerEx {
             object,
             due,
             period,
             window,
         } =>
-            row!(out, at; Word::SetTimerEx, number(u64::from(object.0)) due(*due) number(u64::from(*period)) number(u64::from(*window))),
-        Call::IsTimerSet { object } => row!(out, at; Word::IsTimerSet, number(u64::from(object.0))),
-        Call::Advance { ticks } => row!(out, at; Word::Advance, number(*ticks)),
+            row!(out, at; word, number(u64::from(object.0)) due(*due) number(u64::from(*period)) number(u64::from(*window))),
         Call::SetWait {
             object,
             kernel,
             timeout,
-        } => row!(out, at; Word::SetWait, number(u64::from(object.0)) named(*kernel) due(*timeout)),
-        Call::StartIo { object } => row!(out, at; Word::StartIo, number(u64::from(object.0))),
-        Call::IssueIo { object } => row!(out, at; Word::IssueIo, number(u64::from(object.0))),
-        Call::CancelIo { object } => row!(out, at; Word::CancelIo, number(u64::from(object.0))),
+        } => row!(out, at; word, number(u64::from(object.0)) named(*kernel) due(*timeout)),
         Call::CompleteIo {
             callback,
             error,
             bytes,
-        } =>
-            row!(out, at; Word::CompleteIo, number(*callback) number(u64::from(*error)) number(*bytes)),
+        } => row!(out, at; word, number(*callback) number(u64::from(*error)) number(*bytes)),
         Call::BeginWait {
             kind,
             object,
             cancel,
-        } =>
-            row!(out, at; Word::BeginWait, word(Word::Kind(*kind)) number(u64::from(object.0)) word(Word::How(*cancel))),
-        Call::BeginAcquire { kernel } =>
-            row!(out, at; Word::BeginAcquire, number(u64::from(kernel.0))),
-        Call::End => row!(out, at; Word::End),
+        } => {
+            let end = row!(out, at; word, word(Word::Kind(*kind)) number(u64::from(object.0)));
+            line::word(Word::How(*cancel), out, end)
+        }
         Call::CreateEvent { manual, signalled } =>
-            row!(out, at; Word::CreateEvent, word(Word::Reset(*manual)) word(Word::Signal(*signalled))),
-        Call::CreateSemaphore { initial, maximum } =>
-            row!(out, at; Word::CreateSemaphore, number(u64::from(*initial)) number(u64::from(*maximum))),
+            row!(out, at; word, word(Word::Reset(*manual)) word(Word::Signal(*signalled))),
         Call::CreateLock { lock, owned } =>
-            row!(out, at; Word::CreateLock, word(Word::Lock(*lock)) word(Word::Owner(*owned))),
-        Call::SetEvent { kernel } => row!(out, at; Word::SetEvent, number(u64::from(kernel.0))),
-        Call::ResetEvent { kernel } => row!(out, at; Word::ResetEvent, number(u64::from(kernel.0))),
-        Call::ReleaseSemaphore { kernel, count } =>
-            row!(out, at; Word::ReleaseSemaphore, number(u64::from(kernel.0)) number(u64::from(*count))),
+            row!(out, at; word, word(Word::Lock(*lock)) word(Word::Owner(*owned))),
         Call::ReleaseLock { lock, kernel } =>
-            row!(out, at; Word::ReleaseLock, word(Word::Lock(*lock)) number(u64::from(kernel.0))),
-        Call::Attach => row!(out, at; Word::Attach),
-        Call::Detach => row!(out, at; Word::Detach),
-        Call::Take => row!(out, at; Word::Take),
-        Call::Return => row!(out, at; Word::Return),
-        Call::MayRunLong => row!(out, at; Word::MayRunLong),
-        Call::Disassociate => row!(out, at; Word::Disassociate),
+            row!(out, at; word, word(Word::Lock(*lock)) number(u64::from(kernel.0))),
         Call::OnReturn {
             kind,
             kernel,
             count,
-        } =>
-            row!(out, at; Word::OnReturn, word(Word::Action(*kind)) number(u64::from(kernel.0)) number(u64::from(*count))),
-        Call::Finish => row!(out, at; Word::Finish),
+        } => {
+            let end = row!(out, at; word, word(Word::Action(*kind)) number(u64::from(kernel.0)));
+            line::number(u64::from(*count), out, end)
+        }
     }
+}
+
+// The word of a call.
+fn word_of(call: &Call) -> Word
+    ensures { result ≡ (row_of call.now).0 }
+{
+    match call {
+        Call::CreatePool => Word::CreatePool,
+        Call::ClosePool { .. } => Word::ClosePool,
+        Call::SetMaximum { .. } => Word::SetMaximum,
+        Call::SetMinimum { .. } => Word::SetMinimum,
+        Call::CreateGroup => Word::CreateGroup,
+        Call::CloseGroup { .. } => Word::CloseGroup,
+        Call::BeginClose { .. } => Word::CloseMembers,
+        Call::Create { .. } => Word::Create,
+        Call::CloseObject { .. } => Word::CloseObject,
+        Call::SubmitSimple { .. } => Word::SubmitSimple,
+        Call::SubmitWork { .. } => Word::Submit,
+        Call::SetTimer { .. } => Word::SetTimer,
+        Call::SetTimerEx { .. } => Word::SetTimerEx,
+        Call::IsTimerSet { .. } => Word::IsTimerSet,
+        Call::Advance { .. } => Word::Advance,
+        Call::SetWait { .. } => Word::SetWait,
+        Call::StartIo { .. } => Word::StartIo,
+        Call::IssueIo { .. } => Word::IssueIo,
+        Call::CancelIo { .. } => Word::CancelIo,
+        Call::CompleteIo { .. } => Word::CompleteIo,
+        Call::BeginWait { .. } => Word::BeginWait,
+        Call::BeginAcquire { .. } => Word::BeginAcquire,
+        Call::End => Word::End,
+        Call::CreateEvent { .. } => Word::CreateEvent,
+        Call::CreateSemaphore { .. } => Word::CreateSemaphore,
+        Call::CreateLock { .. } => Word::CreateLock,
+        Call::SetEvent { .. } => Word::SetEvent,
+        Call::ResetEvent { .. } => Word::ResetEvent,
+        Call::ReleaseSemaphore { .. } => Word::ReleaseSemaphore,
+        Call::ReleaseLock { .. } => Word::ReleaseLock,
+        Call::Attach => Word::Attach,
+        Call::Detach => Word::Detach,
+        Call::Take => Word::Take,
+        Call::Return => Word::Return,
+        Call::MayRunLong => Word::MayRunLong,
+        Call::Disassociate => Word::Disassociate,
+        Call::OnReturn { .. } => Word::OnReturn,
+        Call::Finish => Word::Finish,
+    }
+}
+
+// A routine with its context, and the environment.
+fn put_routine(routine: RoutineId, context: u64, env: Environ, out: &mut [u8], at: usize) -> usize
+    requires { at + 172 ≤ length out.old }
+    ensures { IsPut at out.old result out.new (parts_text (Part.Routine routine.0 ∷ Part.Context context ∷ environ_parts env)) 172 }
+{
+    let end = parts!(out, at; lettered(b'r', u64::from(routine.0)) lettered(b'x', context));
+    put_environ(env, out, end)
 }
 
 fn put_environ(env: Environ, out: &mut [u8], at: usize) -> usize
     requires { at + 128 ≤ length out.old }
-    ensures text { take result out.new ≡ take at out.old ++ parts_text (environ_parts env) }
-    ensures least { at ≤ result }
-    ensures most { result ≤ at + 128 }
+    ensures { IsPut at out.old result out.new (parts_text (environ_parts env)) 128 }
 {
     parts!(out, at; lettered(b'p', u64::from(env.pool.0)) word(Word::Priority(env.priority)) word(Word::Length(env.long)) lettered(b'g', u64::from(env.group.0)) lettered(b'q', u64::from(env.cancel.0)))
 }

@@ -7,6 +7,7 @@ ghost use Rattle.std.specs.Prelude.{◌≡◌, ◌+◌, ◌<◌, ◌≤◌, [], 
 ghost use Rattle.std.specs.Fmt.{signed_decimal};
 ghost use Rattle.tp_lines.specs.Shapes.{text_of_word};
 ghost use Rattle.tp_lines.specs.Words.{text_of_due, text_of_named};
+ghost use Rattle.tp_lines.specs.Writing.{IsPut};
 
 use crate::words::{Word, word_text};
 use itoa::write_digits;
@@ -59,9 +60,7 @@ fn digit_count(number: u64) -> usize
 #[inline(always)]
 pub fn digits(number: u64, out: &mut [u8], at: usize) -> usize
     requires { at + 20 ≤ length out.old }
-    ensures text { take result out.new ≡ take at out.old ++ decimal number }
-    ensures least { at ≤ result }
-    ensures most { result ≤ at + 20 }
+    ensures { IsPut at out.old result out.new (decimal number) 20 }
 {
     if number < 10 {
         return byte(b'0' + number as u8, out, at);
@@ -71,9 +70,7 @@ pub fn digits(number: u64, out: &mut [u8], at: usize) -> usize
 
 fn many_digits(number: u64, out: &mut [u8], at: usize) -> usize
     requires { at + 20 ≤ length out.old }
-    ensures text { take result out.new ≡ take at out.old ++ decimal number }
-    ensures least { at ≤ result }
-    ensures most { result ≤ at + 20 }
+    ensures { IsPut at out.old result out.new (decimal number) 20 }
 {
     let end = at + digit_count(number);
     write_digits(number, out, end);
@@ -84,9 +81,7 @@ fn many_digits(number: u64, out: &mut [u8], at: usize) -> usize
 #[inline(always)]
 pub fn first(word: Word, out: &mut [u8], at: usize) -> usize
     requires { at + 30 ≤ length out.old }
-    ensures text { take result out.new ≡ take at out.old ++ text_of_word word }
-    ensures least { at ≤ result }
-    ensures most { result ≤ at + 30 }
+    ensures { IsPut at out.old result out.new (text_of_word word) 30 }
 {
     text(word_text(word), out, at)
 }
@@ -95,9 +90,7 @@ pub fn first(word: Word, out: &mut [u8], at: usize) -> usize
 #[inline(always)]
 pub fn word(word: Word, out: &mut [u8], at: usize) -> usize
     requires { at + 31 ≤ length out.old }
-    ensures text { take result out.new ≡ take at out.old ++ 32 ∷ text_of_word word }
-    ensures least { at ≤ result }
-    ensures most { result ≤ at + 31 }
+    ensures { IsPut at out.old result out.new (32 ∷ text_of_word word) 31 }
 {
     let start = byte(b' ', out, at);
     first(word, out, start)
@@ -107,9 +100,7 @@ pub fn word(word: Word, out: &mut [u8], at: usize) -> usize
 #[inline(always)]
 pub fn number(number: u64, out: &mut [u8], at: usize) -> usize
     requires { at + 21 ≤ length out.old }
-    ensures text { take result out.new ≡ take at out.old ++ 32 ∷ decimal number }
-    ensures least { at ≤ result }
-    ensures most { result ≤ at + 21 }
+    ensures { IsPut at out.old result out.new (32 ∷ decimal number) 21 }
 {
     let start = byte(b' ', out, at);
     digits(number, out, start)
@@ -119,9 +110,7 @@ pub fn number(number: u64, out: &mut [u8], at: usize) -> usize
 #[inline(always)]
 pub fn lettered(letter: u8, number: u64, out: &mut [u8], at: usize) -> usize
     requires { at + 22 ≤ length out.old }
-    ensures text { take result out.new ≡ take at out.old ++ 32 ∷ letter ∷ decimal number }
-    ensures least { at ≤ result }
-    ensures most { result ≤ at + 22 }
+    ensures { IsPut at out.old result out.new (32 ∷ letter ∷ decimal number) 22 }
 {
     let space = byte(b' ', out, at);
     let start = byte(letter, out, space);
@@ -131,9 +120,7 @@ pub fn lettered(letter: u8, number: u64, out: &mut [u8], at: usize) -> usize
 /// A space, and a due time or `none`.
 pub fn due(due: Option<i64>, out: &mut [u8], at: usize) -> usize
     requires { at + 22 ≤ length out.old }
-    ensures text { take result out.new ≡ take at out.old ++ 32 ∷ text_of_due due }
-    ensures least { at ≤ result }
-    ensures most { result ≤ at + 22 }
+    ensures { IsPut at out.old result out.new (32 ∷ text_of_due due) 22 }
 {
     let start = byte(b' ', out, at);
     match due {
@@ -145,9 +132,7 @@ pub fn due(due: Option<i64>, out: &mut [u8], at: usize) -> usize
 /// A space, and the number of a kernel object or `none`.
 pub fn named(kernel: Option<KernelId>, out: &mut [u8], at: usize) -> usize
     requires { at + 21 ≤ length out.old }
-    ensures text { take result out.new ≡ take at out.old ++ 32 ∷ text_of_named kernel }
-    ensures least { at ≤ result }
-    ensures most { result ≤ at + 21 }
+    ensures { IsPut at out.old result out.new (32 ∷ text_of_named kernel) 21 }
 {
     let start = byte(b' ', out, at);
     match kernel {
@@ -159,9 +144,7 @@ pub fn named(kernel: Option<KernelId>, out: &mut [u8], at: usize) -> usize
 // A number with its sign.
 fn signed(number: i64, out: &mut [u8], at: usize) -> usize
     requires { at + 21 ≤ length out.old }
-    ensures text { take result out.new ≡ take at out.old ++ signed_decimal number }
-    ensures least { at ≤ result }
-    ensures most { result ≤ at + 21 }
+    ensures { IsPut at out.old result out.new (signed_decimal number) 21 }
 {
     let size = number.unsigned_abs();
     if number < 0 {

@@ -364,8 +364,7 @@ fn furthest_word(field: Field, text: &[u8]) -> Result<(Word, usize), usize>
     requires { form_of field ≡ Form.Choice }
     ensures { IsRead (ChoiceTexts field) text.now result }
 {
-    let words = WORDS.words;
-    furthest_among(field, &words, text)
+    furthest_among(field, &WORDS, text)
 }
 
 fn furthest_among(field: Field, words: &[Word], text: &[u8]) -> Result<(Word, usize), usize>

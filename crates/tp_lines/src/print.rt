@@ -2,6 +2,7 @@
 
 ghost use Rattle.std.specs.Prelude.{◌≡◌, ◌+◌, ◌≤◌, ◌++◌, ◌∷◌, [], ℕ, List, IfOk, OnErr, OnOk, length, take};
 ghost use Rattle.tp_lines.specs.Answers.{line_of_entry, text_of_answer, text_of_full, text_of_look, text_of_outcome};
+ghost use Rattle.tp_lines.specs.Writing.{IsPut};
 
 use crate::answers::put_answer;
 use crate::calls::{put_call, put_who};
@@ -152,9 +153,7 @@ pub fn print_entry(entry: &Entry, out: &mut Vec<u8>) -> Result<(), AllocError>
 #[inline(always)]
 fn put_outcome(outcome: &Outcome, out: &mut [u8], at: usize) -> usize
     requires { at + 250 ≤ length out.old }
-    ensures text { take result out.new ≡ take at out.old ++ text_of_outcome outcome.now }
-    ensures least { at ≤ result }
-    ensures most { result ≤ at + 250 }
+    ensures { IsPut at out.old result out.new (text_of_outcome outcome.now) 250 }
 {
     match outcome {
         Outcome::Done(answer) => put_answer(answer, out, at),
@@ -166,9 +165,7 @@ fn put_outcome(outcome: &Outcome, out: &mut [u8], at: usize) -> usize
 #[inline(always)]
 fn put_full(room: u64, cost: u64, out: &mut [u8], at: usize) -> usize
     requires { at + 250 ≤ length out.old }
-    ensures text { take result out.new ≡ take at out.old ++ text_of_full room cost }
-    ensures least { at ≤ result }
-    ensures most { result ≤ at + 250 }
+    ensures { IsPut at out.old result out.new (text_of_full room cost) 250 }
 {
     parts!(out, at; first(Word::Full) number(room) number(cost))
 }
@@ -176,9 +173,7 @@ fn put_full(room: u64, cost: u64, out: &mut [u8], at: usize) -> usize
 #[inline(always)]
 fn put_look(look: &Look, out: &mut [u8], at: usize) -> usize
     requires { at + 250 ≤ length out.old }
-    ensures text { take result out.new ≡ take at out.old ++ text_of_look look.now }
-    ensures least { at ≤ result }
-    ensures most { result ≤ at + 250 }
+    ensures { IsPut at out.old result out.new (text_of_look look.now) 250 }
 {
     match look {
         Look::NotYet { callback } => {

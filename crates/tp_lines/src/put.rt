@@ -5,6 +5,7 @@
 
 ghost use Rattle.std.specs.Prelude.{◌≡◌, ◌+◌, ◌≤◌, [], ◌∷◌, ◌++◌, length, take};
 ghost use Rattle.tp_lines.specs.Parts.{row_text};
+ghost use Rattle.tp_lines.specs.Writing.{IsPut};
 
 use crate::line;
 use crate::line::parts;
@@ -15,9 +16,7 @@ use crate::words::Word;
 #[inline(always)]
 pub fn number_row(word: Word, number: u64, out: &mut [u8], at: usize) -> usize
     requires { at + 51 ≤ length out.old }
-    ensures text { take result out.new ≡ take at out.old ++ row_text (word, Part.Large number ∷ []) }
-    ensures least { at ≤ result }
-    ensures most { result ≤ at + 51 }
+    ensures { IsPut at out.old result out.new (row_text (word, Part.Large number ∷ [])) 51 }
 {
     parts!(out, at; first(word) number(number))
 }
@@ -26,9 +25,7 @@ pub fn number_row(word: Word, number: u64, out: &mut [u8], at: usize) -> usize
 #[inline(always)]
 pub fn two_numbers_row(word: Word, first: u64, second: u64, out: &mut [u8], at: usize) -> usize
     requires { at + 72 ≤ length out.old }
-    ensures text { take result out.new ≡ take at out.old ++ row_text (word, Part.Large first ∷ Part.Large second ∷ []) }
-    ensures least { at ≤ result }
-    ensures most { result ≤ at + 72 }
+    ensures { IsPut at out.old result out.new (row_text (word, Part.Large first ∷ Part.Large second ∷ [])) 72 }
 {
     parts!(out, at; first(word) number(first) number(second))
 }
@@ -37,9 +34,7 @@ pub fn two_numbers_row(word: Word, first: u64, second: u64, out: &mut [u8], at: 
 #[inline(always)]
 pub fn two_words_row(word: Word, first: Word, second: Word, out: &mut [u8], at: usize) -> usize
     requires { at + 92 ≤ length out.old }
-    ensures text { take result out.new ≡ take at out.old ++ row_text (word, Part.Word first ∷ Part.Word second ∷ []) }
-    ensures least { at ≤ result }
-    ensures most { result ≤ at + 92 }
+    ensures { IsPut at out.old result out.new (row_text (word, Part.Word first ∷ Part.Word second ∷ [])) 92 }
 {
     parts!(out, at; first(word) word(first) word(second))
 }
@@ -48,9 +43,7 @@ pub fn two_words_row(word: Word, first: Word, second: Word, out: &mut [u8], at: 
 #[inline(always)]
 pub fn word_number_row(word: Word, first: Word, number: u64, out: &mut [u8], at: usize) -> usize
     requires { at + 82 ≤ length out.old }
-    ensures text { take result out.new ≡ take at out.old ++ row_text (word, Part.Word first ∷ Part.Large number ∷ []) }
-    ensures least { at ≤ result }
-    ensures most { result ≤ at + 82 }
+    ensures { IsPut at out.old result out.new (row_text (word, Part.Word first ∷ Part.Large number ∷ [])) 82 }
 {
     parts!(out, at; first(word) word(first) number(number))
 }
@@ -66,9 +59,7 @@ pub fn three_numbers_row(
     at: usize,
 ) -> usize
     requires { at + 93 ≤ length out.old }
-    ensures text { take result out.new ≡ take at out.old ++ row_text (word, Part.Large first ∷ Part.Large second ∷ Part.Large third ∷ []) }
-    ensures least { at ≤ result }
-    ensures most { result ≤ at + 93 }
+    ensures { IsPut at out.old result out.new (row_text (word, Part.Large first ∷ Part.Large second ∷ Part.Large third ∷ [])) 93 }
 {
     parts!(out, at; first(word) number(first) number(second) number(third))
 }
@@ -85,9 +76,7 @@ pub fn setting_row(
     at: usize,
 ) -> usize
     requires { at + 115 ≤ length out.old }
-    ensures text { take result out.new ≡ take at out.old ++ row_text (word, Part.Large object ∷ Part.Due due ∷ Part.Large period ∷ Part.Large window ∷ []) }
-    ensures least { at ≤ result }
-    ensures most { result ≤ at + 115 }
+    ensures { IsPut at out.old result out.new (row_text (word, Part.Large object ∷ Part.Due due ∷ Part.Large period ∷ Part.Large window ∷ [])) 115 }
 {
     parts!(out, at; first(word) number(object) due(due) number(period) number(window))
 }
