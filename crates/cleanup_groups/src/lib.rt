@@ -34,7 +34,7 @@ ghost use Rattle.cleanup_groups.specs.Groups.{after_close, checked, closing, gro
 ghost use Rattle.cleanup_groups.specs.Members.{first_in, object_id, told, told_if};
 
 use members::{count_told, first_above, join, leave, leave_all, tell};
-use notices::Notices;
+use notices::{Notices, open_notices};
 use std::alloc::{AllocError, Global};
 use std::marker::Model;
 use tp_base::answers::Refusal;
@@ -109,10 +109,7 @@ impl Groups {
         let rows = Vec::with_capacity(alloc, groups as usize)?;
         let members = vec![in alloc; None; objects as usize + 1]?;
         let firsts = vec![in alloc; None; groups as usize + 1]?;
-        let mut notices = Vec::with_capacity(alloc, waiters as usize)?;
-        for _ in 0..waiters {
-            notices.push_reserved(Notices::open(alloc, objects)?);
-        }
+        let notices = open_notices(alloc, waiters, objects)?;
         Ok(Groups {
             limit: groups,
             groups: rows,

@@ -1,6 +1,6 @@
 //! The notices that a waiter has still to give.
 
-ghost use Rattle.std.specs.Prelude.{◌≡◌, ◌<◌, ◌++◌, ◌∷◌, [], IfOk, drop, length, slice_get};
+ghost use Rattle.std.specs.Prelude.{◌≡◌, ◌<◌, ◌++◌, ◌∷◌, [], IfOk, drop, length, replicate, slice_get};
 
 use std::alloc::{AllocError, Global};
 use std::collections::VecDeque;
@@ -58,4 +58,19 @@ impl Notices {
     {
         self.objects.pop_front()
     }
+}
+
+// The notices of so many waiters, each with the memory for `room` of them, and none yet.
+pub(crate) fn open_notices(
+    alloc: Global,
+    waiters: u32,
+    room: u32,
+) -> Result<Vec<Notices>, AllocError>
+    ensures { IfOk result (λ all. all.items ≡ replicate waiters (record { room = room; objects = [] })) }
+{
+    let mut all = Vec::with_capacity(alloc, waiters as usize)?;
+    for _ in 0..waiters {
+        all.push_reserved(Notices::open(alloc, room)?);
+    }
+    Ok(all)
 }

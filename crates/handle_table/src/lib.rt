@@ -39,7 +39,6 @@ struct Row<T> {
 }
 
 /// What stands under a number.
-#[derive_where(Clone, Copy)]
 pub enum Found<'a, T> {
     /// No row was ever added under it.
     Absent,
@@ -48,6 +47,21 @@ pub enum Found<'a, T> {
     /// A row that was released.
     Released(&'a T),
 }
+
+// By hand, since a derived clone looks at each variant, though all that is found is `Copy`.
+impl<T> Clone for Found<'_, T> {
+    ghost use Rattle.std.specs.Prelude.{⊤};
+
+    ghost is_clone = { λ found copy. copy ≡ found };
+
+    ghost is_infallible = { λ _. ⊤ };
+
+    fn clone(&self) -> Result<Self, AllocError> {
+        Ok(*self)
+    }
+}
+
+impl<T> Copy for Found<'_, T> {}
 
 impl<T> Model for Rows<T> {
     ghost use Rattle.std.specs.Prelude.{map, vec_len, vec_capacity};
