@@ -1,89 +1,82 @@
 //! Columns of faults in drawn lines, against a finder of places that is written apart.
 //!
+//! Patterns are a line each of one text, which costs the check the same however long it is.
 //! A pattern is the fields of a line with a space between each two. A field is its alternatives with `|`
 //! between each two, or a name for these (`alternatives`). In one of them a sign stands for the numbers of
 //! a range (`range_of`), and any other byte for itself.
 
+use crate::checks::{expect_eq, expect_ok};
 use std::alloc::{AllocError, Global};
 use std::process::Abort;
-use std::test::Fail;
 use tp_lines::parse::{LineFault, LineKind, parse_call, parse_entry};
 
-fn call_patterns() -> [&'static str; 40] {
-    [
-        "c&|w~ create-pool",
-        "c&|w~ close-pool #",
-        "c&|w~ set-maximum # $",
-        "c&|w~ set-minimum # $",
-        "c&|w~ create-group",
-        "c&|w~ close-group #",
-        "c&|w~ close-members # HOW y@",
-        "c&|w~ create KIND r+ x@ p# PRIORITY LENGTH g+ q#",
-        "c&|w~ create KIND r+ x@ p# PRIORITY LENGTH g0 q0",
-        "c&|w~ close KIND #",
-        "c&|w~ submit-simple r+ x@ p# PRIORITY LENGTH g+ q#",
-        "c&|w~ submit-simple r+ x@ p# PRIORITY LENGTH g0 q0",
-        "c&|w~ submit #",
-        "c&|w~ set-timer # DUE $ $",
-        "c&|w~ set-timer-ex # DUE $ $",
-        "c&|w~ is-timer-set #",
-        "c&|w~ advance ^",
-        "c&|w~ set-wait # NAMED DUE",
-        "c&|w~ start-io #",
-        "c&|w~ issue-io #",
-        "c&|w~ cancel-io #",
-        "c&|w~ complete-io @ $ @",
-        "c&|w~ wait KIND # HOW",
-        "c&|w~ acquire #",
-        "c&|w~ end",
-        "c&|w~ create-event RESET SIGNAL",
-        "c&|w~ create-semaphore % %",
-        "c&|w~ create-lock LOCK OWNER",
-        "c&|w~ set-event #",
-        "c&|w~ reset-event #",
-        "c&|w~ release-semaphore # *",
-        "c&|w~ release-lock LOCK #",
-        "c&|w~ attach",
-        "c&|w~ detach",
-        "c&|w~ take",
-        "c&|w~ return",
-        "c&|w~ may-run-long",
-        "c&|w~ disassociate",
-        "c&|w~ on-return ACTION # *",
-        "c&|w~ finish",
-    ]
-}
+const CALL_PATTERNS: &str = "c&|w~ create-pool\n\
+    c&|w~ close-pool #\n\
+    c&|w~ set-maximum # $\n\
+    c&|w~ set-minimum # $\n\
+    c&|w~ create-group\n\
+    c&|w~ close-group #\n\
+    c&|w~ close-members # HOW y@\n\
+    c&|w~ create KIND r+ x@ p# PRIORITY LENGTH g+ q#\n\
+    c&|w~ create KIND r+ x@ p# PRIORITY LENGTH g0 q0\n\
+    c&|w~ close KIND #\n\
+    c&|w~ submit-simple r+ x@ p# PRIORITY LENGTH g+ q#\n\
+    c&|w~ submit-simple r+ x@ p# PRIORITY LENGTH g0 q0\n\
+    c&|w~ submit #\n\
+    c&|w~ set-timer # DUE $ $\n\
+    c&|w~ set-timer-ex # DUE $ $\n\
+    c&|w~ is-timer-set #\n\
+    c&|w~ advance ^\n\
+    c&|w~ set-wait # NAMED DUE\n\
+    c&|w~ start-io #\n\
+    c&|w~ issue-io #\n\
+    c&|w~ cancel-io #\n\
+    c&|w~ complete-io @ $ @\n\
+    c&|w~ wait KIND # HOW\n\
+    c&|w~ acquire #\n\
+    c&|w~ end\n\
+    c&|w~ create-event RESET SIGNAL\n\
+    c&|w~ create-semaphore % %\n\
+    c&|w~ create-lock LOCK OWNER\n\
+    c&|w~ set-event #\n\
+    c&|w~ reset-event #\n\
+    c&|w~ release-semaphore # *\n\
+    c&|w~ release-lock LOCK #\n\
+    c&|w~ attach\n\
+    c&|w~ detach\n\
+    c&|w~ take\n\
+    c&|w~ return\n\
+    c&|w~ may-run-long\n\
+    c&|w~ disassociate\n\
+    c&|w~ on-return ACTION # *\n\
+    c&|w~ finish";
 
-fn answer_patterns() -> [&'static str; 26] {
-    [
-        "ok",
-        "made +",
-        "queued @ #",
-        "was yes|no @ #",
-        "flag yes|no",
-        "freed",
-        "later",
-        "closing # # #",
-        "begun # #",
-        "ended|exhausted|stalled",
-        "notice o# r+ x@ y@",
-        "started|operation|cancelled @",
-        "count % @ #",
-        "advanced ^ @ #",
-        "attached #",
-        "taken @ o# r+ x@ plain|object|timeout",
-        "taken @ o# r+ x@ io $ @",
-        "returned SLOT SLOT SLOT SLOT @ #",
-        "refused no-such|wrong-kind|released|pool-closed|group-closed|default-pool|not-worker",
-        "refused not-running|still-running|in-wait|no-wait-begun|own-callback|not-started",
-        "refused no-operation|not-owner|not-waitable|clock-end|object-limit|callback-limit",
-        "refused not-attached|already-attached",
-        "refused has-members #",
-        "refused operations-outstanding #",
-        "refused slot-taken ACTION",
-        "refused over-maximum %",
-    ]
-}
+const ANSWER_PATTERNS: &str = "ok\n\
+    made +\n\
+    queued @ #\n\
+    was yes|no @ #\n\
+    flag yes|no\n\
+    freed\n\
+    later\n\
+    closing # # #\n\
+    begun # #\n\
+    ended|exhausted|stalled\n\
+    notice o# r+ x@ y@\n\
+    started|operation|cancelled @\n\
+    count % @ #\n\
+    advanced ^ @ #\n\
+    attached #\n\
+    taken @ o# r+ x@ plain|object|timeout\n\
+    taken @ o# r+ x@ io $ @\n\
+    returned SLOT SLOT SLOT SLOT @ #\n\
+    refused no-such|wrong-kind|released|pool-closed|group-closed|default-pool|not-worker\n\
+    refused not-running|still-running|in-wait|no-wait-begun|own-callback|not-started\n\
+    refused no-operation|not-owner|not-waitable|clock-end|object-limit|callback-limit\n\
+    refused not-attached|already-attached\n\
+    refused has-members #\n\
+    refused operations-outstanding #\n\
+    refused slot-taken ACTION\n\
+    refused over-maximum %";
 
 fn alternatives(field: &str) -> &str {
     match field {
@@ -243,12 +236,12 @@ fn pattern_reach(pattern: &str, text: &[u8]) -> Reach {
 }
 
 // How far a text goes along with one of the patterns.
-fn furthest_reach(patterns: &[&str], text: &[u8]) -> Reach {
+fn furthest_reach(patterns: &str, text: &[u8]) -> Reach {
     let mut best = Reach {
         place: 0,
         whole: false,
     };
-    for pattern in patterns {
+    for pattern in patterns.split('\n') {
         best = better(best, pattern_reach(pattern, text));
     }
     best
@@ -256,7 +249,7 @@ fn furthest_reach(patterns: &[&str], text: &[u8]) -> Reach {
 
 // How far a text goes along with entries.
 fn entry_reach(text: &[u8]) -> Reach {
-    let call = furthest_reach(&call_patterns(), text);
+    let call = furthest_reach(CALL_PATTERNS, text);
     if !call.whole {
         return call;
     }
@@ -268,7 +261,7 @@ fn entry_reach(text: &[u8]) -> Reach {
             whole: false,
         };
     }
-    let answer = furthest_reach(&answer_patterns(), rest_of(text, behind));
+    let answer = furthest_reach(ANSWER_PATTERNS, rest_of(text, behind));
     Reach {
         place: behind.saturating_add(answer.place),
         whole: answer.whole,
@@ -411,36 +404,46 @@ fn check_fault(rt: &impl Abort, text: &[u8], fault: Option<LineFault>, reach: Re
         Some(fault) => Some((fault.column as usize, fault.kind)),
         None => None,
     };
-    assert_eq!(rt; found, told);
+    expect_eq(rt, found, told);
 }
 
 #[test]
-fn columns_of_drawn_lines(rt: HostRuntime) -> Result<(), Fail> {
-    let alloc = rt.alloc();
+fn columns_of_drawn_lines(rt: HostRuntime) {
     let mut draws = Draws { state: 7 };
     for _round in 0..30_u64 {
-        for call in call_patterns() {
-            for answer in answer_patterns() {
-                let mut line = Vec::new(alloc);
-                draw_pattern(call, &mut draws, alloc, &mut line)?;
-                let text = draw_fault(line.as_slice(), &mut draws, alloc)?;
-                check_fault(
-                    &rt,
-                    text.as_slice(),
-                    parse_call(text.as_slice()).err(),
-                    furthest_reach(&call_patterns(), text.as_slice()),
-                );
-                line.extend_from_slice(b" -> ")?;
-                draw_pattern(answer, &mut draws, alloc, &mut line)?;
-                let entry = draw_fault(line.as_slice(), &mut draws, alloc)?;
-                check_fault(
-                    &rt,
-                    entry.as_slice(),
-                    parse_entry(entry.as_slice()).err(),
-                    entry_reach(entry.as_slice()),
-                );
+        for call in CALL_PATTERNS.split('\n') {
+            for answer in ANSWER_PATTERNS.split('\n') {
+                check_drawn(&rt, rt.alloc(), call, answer, &mut draws);
             }
         }
     }
-    Ok(())
+}
+
+// Draws a line of the call, and of the call and the answer, each with a fault, and reads both.
+fn check_drawn(rt: &impl Abort, alloc: Global, call: &str, answer: &str, draws: &mut Draws) {
+    let mut line = Vec::new(alloc);
+    expect_ok(rt, draw_pattern(call, draws, alloc, &mut line));
+    check_call(
+        rt,
+        &expect_ok(rt, draw_fault(line.as_slice(), draws, alloc)),
+    );
+    expect_ok(rt, line.extend_from_slice(b" -> "));
+    expect_ok(rt, draw_pattern(answer, draws, alloc, &mut line));
+    check_entry(
+        rt,
+        &expect_ok(rt, draw_fault(line.as_slice(), draws, alloc)),
+    );
+}
+
+fn check_call(rt: &impl Abort, text: &[u8]) {
+    check_fault(
+        rt,
+        text,
+        parse_call(text).err(),
+        furthest_reach(CALL_PATTERNS, text),
+    );
+}
+
+fn check_entry(rt: &impl Abort, text: &[u8]) {
+    check_fault(rt, text, parse_entry(text).err(), entry_reach(text));
 }

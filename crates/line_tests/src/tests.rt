@@ -4,9 +4,9 @@
 //! back quotes, and behind it what is read there: an actor, a call, and in an entry an answer, or the column
 //! and the kind of the fault.
 
+use crate::checks::{expect_eq, expect_ok};
 use std::alloc::{AllocError, Global};
 use std::process::Abort;
-use std::test::Fail;
 use tp_base::answers::{ActionKind, Answer, Entry, Look, Outcome};
 use tp_base::calls::{Call, Environ, Kind, Priority};
 use tp_base::ids::{GroupId, KernelId, ObjectId, PoolId, RoutineId, Who};
@@ -26,56 +26,64 @@ fn line_of(row: &str) -> &str {
 }
 
 // Each line of the table is read as its row says. A call that is read there is printed as that line again.
-fn check_calls(rt: &impl Abort, alloc: Global, table: &str) -> Result<(), AllocError> {
+fn check_calls(rt: &impl Abort, alloc: Global, table: &str) {
     for row in table.trim().split('\n') {
-        let row = row.trim();
-        let line = line_of(row);
-        let told = match parse_call(line.as_bytes()) {
-            Ok((who, call)) => {
-                let answer = Answer::Done;
-                let printed = format!(in alloc; "{line} -> ok")?;
-                check_printed(rt, alloc, printed.as_str(), &Entry { who, call, answer })?;
-                format!(in alloc; "`{line}` {who:?} {call:?}")?
-            }
-            Err(LineFault { column, kind }) => format!(in alloc; "`{line}` {column} {kind:?}")?,
-        };
-        assert_eq!(rt; told.as_str(), row);
+        check_call(rt, alloc, row.trim());
     }
-    Ok(())
+}
+
+fn check_call(rt: &impl Abort, alloc: Global, row: &str) {
+    let line = line_of(row);
+    let told = match parse_call(line.as_bytes()) {
+        Ok((who, call)) => {
+            let answer = Answer::Done;
+            let printed = expect_ok(rt, format!(in alloc; "{line} -> ok"));
+            check_printed(rt, alloc, printed.as_str(), &Entry { who, call, answer });
+            format!(in alloc; "`{line}` {who:?} {call:?}")
+        }
+        Err(fault) => told_of_fault(alloc, line, fault),
+    };
+    check_told(rt, told, row);
 }
 
 // The same of lines of entries.
-fn check_entries(rt: &impl Abort, alloc: Global, table: &str) -> Result<(), AllocError> {
+fn check_entries(rt: &impl Abort, alloc: Global, table: &str) {
     for row in table.trim().split('\n') {
-        let row = row.trim();
-        let line = line_of(row);
-        let told = match parse_entry(line.as_bytes()) {
-            Ok(entry) => {
-                check_printed(rt, alloc, line, &entry)?;
-                let Entry { who, call, answer } = entry;
-                format!(in alloc; "`{line}` {who:?} {call:?} {answer:?}")?
-            }
-            Err(LineFault { column, kind }) => format!(in alloc; "`{line}` {column} {kind:?}")?,
-        };
-        assert_eq!(rt; told.as_str(), row);
+        check_entry(rt, alloc, row.trim());
     }
-    Ok(())
 }
 
-fn check_printed(
-    rt: &impl Abort,
-    alloc: Global,
-    line: &str,
-    entry: &Entry,
-) -> Result<(), AllocError> {
+fn check_entry(rt: &impl Abort, alloc: Global, row: &str) {
+    let line = line_of(row);
+    let told = match parse_entry(line.as_bytes()) {
+        Ok(entry) => {
+            check_printed(rt, alloc, line, &entry);
+            let Entry { who, call, answer } = entry;
+            format!(in alloc; "`{line}` {who:?} {call:?} {answer:?}")
+        }
+        Err(fault) => told_of_fault(alloc, line, fault),
+    };
+    check_told(rt, told, row);
+}
+
+fn told_of_fault(alloc: Global, line: &str, fault: LineFault) -> Result<String, AllocError> {
+    let LineFault { column, kind } = fault;
+    format!(in alloc; "`{line}` {column} {kind:?}")
+}
+
+fn check_told(rt: &impl Abort, told: Result<String, AllocError>, wanted: &str) {
+    let told = expect_ok(rt, told);
+    expect_eq(rt, told.as_str(), wanted);
+}
+
+fn check_printed(rt: &impl Abort, alloc: Global, line: &str, entry: &Entry) {
     let mut out = Vec::new(alloc);
-    print_entry(entry, &mut out)?;
-    assert_eq!(rt; out.as_slice(), line.as_bytes(), "{line}");
-    Ok(())
+    expect_ok(rt, print_entry(entry, &mut out));
+    expect_eq(rt, (line, out.as_slice()), (line, line.as_bytes()));
 }
 
 #[test]
-fn lines_of_calls(rt: HostRuntime) -> Result<(), Fail> {
+fn lines_of_calls(rt: HostRuntime) {
     let table = "
         `c1 attach` Client(1) Attach
         `w64 take` Worker(64) Take
@@ -113,12 +121,11 @@ fn lines_of_calls(rt: HostRuntime) -> Result<(), Fail> {
         `c1 create work r1 x7 p0 normal short g0 q5` 42 Unexpected
         `c1 create work r1 x7 p0 low long g1 q65535 ` 43 Unexpected
     ";
-    check_calls(&rt, rt.alloc(), table)?;
-    Ok(())
+    check_calls(&rt, rt.alloc(), table);
 }
 
 #[test]
-fn lines_of_pools(rt: HostRuntime) -> Result<(), Fail> {
+fn lines_of_pools(rt: HostRuntime) {
     let table = "
         `c1 create-pool` Client(1) CreatePool
         `c1 close-pool 0` Client(1) ClosePool { pool: PoolId(0) }
@@ -163,12 +170,11 @@ fn lines_of_pools(rt: HostRuntime) -> Result<(), Fail> {
         `c1 set-minimum 1 4294967300` 27 Unexpected
         `c1 set-minimum 1 99999999999` 27 Unexpected
     ";
-    check_calls(&rt, rt.alloc(), table)?;
-    Ok(())
+    check_calls(&rt, rt.alloc(), table);
 }
 
 #[test]
-fn lines_of_groups(rt: HostRuntime) -> Result<(), Fail> {
+fn lines_of_groups(rt: HostRuntime) {
     let table = "
         `c1 create-group` Client(1) CreateGroup
         `c1 close-group 0` Client(1) CloseGroup { group: GroupId(0) }
@@ -207,12 +213,11 @@ fn lines_of_groups(rt: HostRuntime) -> Result<(), Fail> {
         `c1 close-members 1 keep y0 ` 27 Unexpected
         `c1 close-members 1 cancel y18446744073709551616` 47 Unexpected
     ";
-    check_calls(&rt, rt.alloc(), table)?;
-    Ok(())
+    check_calls(&rt, rt.alloc(), table);
 }
 
 #[test]
-fn lines_of_objects(rt: HostRuntime) -> Result<(), Fail> {
+fn lines_of_objects(rt: HostRuntime) {
     let table = "
         `c1 close work 65535` Client(1) CloseObject { kind: Work, object: ObjectId(65535) }
         `c1 wait work 65535 keep` Client(1) BeginWait { kind: Work, object: ObjectId(65535), cancel: false }
@@ -226,12 +231,11 @@ fn lines_of_objects(rt: HostRuntime) -> Result<(), Fail> {
         `c1 create work r1 x7 p0 low short g65536 q1` 40 Unexpected
         `c1 create work r1 x7 p0 low short g1` 37 Unfinished
     ";
-    check_calls(&rt, rt.alloc(), table)?;
-    Ok(())
+    check_calls(&rt, rt.alloc(), table);
 }
 
 #[test]
-fn lines_of_timers(rt: HostRuntime) -> Result<(), Fail> {
+fn lines_of_timers(rt: HostRuntime) {
     let table = "
         `c1 create timer r1 x7 p0 normal short g0 q0` Client(1) Create { kind: Timer, routine: RoutineId(1), context: 7, env: Environ { pool: PoolId(0), group: GroupId(0), cancel: RoutineId(0), priority: Normal, long: false } }
         `c1 close timer 3` Client(1) CloseObject { kind: Timer, object: ObjectId(3) }
@@ -284,12 +288,11 @@ fn lines_of_timers(rt: HostRuntime) -> Result<(), Fail> {
         `c1 set-timer 1 -9223372036854775808 0 0 ` 40 Unexpected
         `c1 set-timer-ex 1 -92233720368547758080 0 0` 39 Unexpected
     ";
-    check_calls(&rt, rt.alloc(), table)?;
-    Ok(())
+    check_calls(&rt, rt.alloc(), table);
 }
 
 #[test]
-fn lines_of_armed_waits(rt: HostRuntime) -> Result<(), Fail> {
+fn lines_of_armed_waits(rt: HostRuntime) {
     let table = "
         `c1 create wait r1 x7 p0 low short g0 q0` Client(1) Create { kind: Wait, routine: RoutineId(1), context: 7, env: Environ { pool: PoolId(0), group: GroupId(0), cancel: RoutineId(0), priority: Low, long: false } }
         `c1 close wait 3` Client(1) CloseObject { kind: Wait, object: ObjectId(3) }
@@ -321,12 +324,11 @@ fn lines_of_armed_waits(rt: HostRuntime) -> Result<(), Fail> {
         `c1 set-wait 1 2 none ` 21 Unexpected
         `c1 set-wait 1 none 9223372036854775808` 38 Unexpected
     ";
-    check_calls(&rt, rt.alloc(), table)?;
-    Ok(())
+    check_calls(&rt, rt.alloc(), table);
 }
 
 #[test]
-fn lines_of_operations(rt: HostRuntime) -> Result<(), Fail> {
+fn lines_of_operations(rt: HostRuntime) {
     let table = "
         `c1 create io r1 x7 p2 normal long g0 q0` Client(1) Create { kind: Io, routine: RoutineId(1), context: 7, env: Environ { pool: PoolId(2), group: GroupId(0), cancel: RoutineId(0), priority: Normal, long: true } }
         `c1 close io 3` Client(1) CloseObject { kind: Io, object: ObjectId(3) }
@@ -378,12 +380,11 @@ fn lines_of_operations(rt: HostRuntime) -> Result<(), Fail> {
         `c1 complete-io 18446744073709551616 0 0` 35 Unexpected
         `c1 complete-io 1 0 18446744073709551616` 39 Unexpected
     ";
-    check_calls(&rt, rt.alloc(), table)?;
-    Ok(())
+    check_calls(&rt, rt.alloc(), table);
 }
 
 #[test]
-fn lines_of_kernel_objects(rt: HostRuntime) -> Result<(), Fail> {
+fn lines_of_kernel_objects(rt: HostRuntime) {
     let table = "
         `c1 create-event manual set` Client(1) CreateEvent { manual: true, signalled: true }
         `c1 create-event manual clear` Client(1) CreateEvent { manual: true, signalled: false }
@@ -454,12 +455,11 @@ fn lines_of_kernel_objects(rt: HostRuntime) -> Result<(), Fail> {
         `c1 release-lock section 65536` 29 Unexpected
         `c1 release-lock semaphore 1` 19 Unexpected
     ";
-    check_calls(&rt, rt.alloc(), table)?;
-    Ok(())
+    check_calls(&rt, rt.alloc(), table);
 }
 
 #[test]
-fn lines_of_workers(rt: HostRuntime) -> Result<(), Fail> {
+fn lines_of_workers(rt: HostRuntime) {
     let table = "
         `c1 detach` Client(1) Detach
         `c1 may-run-long` Client(1) MayRunLong
@@ -507,12 +507,11 @@ fn lines_of_workers(rt: HostRuntime) -> Result<(), Fail> {
         `w1 on-return semaphore 1 2147483648` 35 Unexpected
         `w1 on-return event 65535 2147483647 ` 36 Unexpected
     ";
-    check_calls(&rt, rt.alloc(), table)?;
-    Ok(())
+    check_calls(&rt, rt.alloc(), table);
 }
 
 #[test]
-fn lines_of_entries(rt: HostRuntime) -> Result<(), Fail> {
+fn lines_of_entries(rt: HostRuntime) {
     let table = "
         `c1 take` 8 Unfinished
         `c1 take -> ` 12 Unfinished
@@ -586,12 +585,11 @@ fn lines_of_entries(rt: HostRuntime) -> Result<(), Fail> {
         `c1 take -> was yes 4` 21 Unfinished
         `c1 take -> advanced 9223372036854775807 0` 42 Unfinished
     ";
-    check_entries(&rt, rt.alloc(), table)?;
-    Ok(())
+    check_entries(&rt, rt.alloc(), table);
 }
 
 #[test]
-fn lines_of_answers(rt: HostRuntime) -> Result<(), Fail> {
+fn lines_of_answers(rt: HostRuntime) {
     let table = "
         `w7 return -> ok` Worker(7) Return Done
         `w7 return -> made 65535` Worker(7) Return Made { number: 65535 }
@@ -627,12 +625,11 @@ fn lines_of_answers(rt: HostRuntime) -> Result<(), Fail> {
         `w7 return -> returned not-owner over-maximum - done 0 0` Worker(7) Return Returned { section: NotOwner, mutex: OverMaximum, semaphore: Unasked, event: Performed, first: 0, count: 0 }
         `w7 return -> returned over-maximum not-owner done - 0 0` Worker(7) Return Returned { section: OverMaximum, mutex: NotOwner, semaphore: Performed, event: Unasked, first: 0, count: 0 }
     ";
-    check_entries(&rt, rt.alloc(), table)?;
-    Ok(())
+    check_entries(&rt, rt.alloc(), table);
 }
 
 #[test]
-fn lines_of_refusals(rt: HostRuntime) -> Result<(), Fail> {
+fn lines_of_refusals(rt: HostRuntime) {
     let table = "
         `w7 return -> refused no-such` Worker(7) Return Refused(NoSuch)
         `w7 return -> refused wrong-kind` Worker(7) Return Refused(WrongKind)
@@ -664,13 +661,12 @@ fn lines_of_refusals(rt: HostRuntime) -> Result<(), Fail> {
         `w7 return -> refused not-attached` Worker(7) Return Refused(NotAttached)
         `w7 return -> refused already-attached` Worker(7) Return Refused(AlreadyAttached)
     ";
-    check_entries(&rt, rt.alloc(), table)?;
-    Ok(())
+    check_entries(&rt, rt.alloc(), table);
 }
 
 /// The names that the rows have for values are those of Rust.
 #[test]
-fn values_of_calls(rt: HostRuntime) -> Result<(), Fail> {
+fn values_of_calls(rt: HostRuntime) {
     let env = Environ {
         pool: PoolId(3),
         group: GroupId(65_535),
@@ -694,22 +690,26 @@ fn values_of_calls(rt: HostRuntime) -> Result<(), Fail> {
         kernel: KernelId(7),
         count: 12,
     };
-    for (text, call) in [
-        (
-            "c1 create work r1 x18446744073709551615 p3 high long g65535 q9",
-            create,
-        ),
-        ("c1 set-wait 7 2 -10000", arm),
-        ("c1 on-return event 7 12", leave),
-    ] {
-        let want = format!(in rt.alloc(); "`{text}` {:?} {call:?}", Who::Client(1))?;
-        check_calls(&rt, rt.alloc(), want.as_str())?;
-    }
-    Ok(())
+    let alloc = rt.alloc();
+    check_value(
+        &rt,
+        alloc,
+        "c1 create work r1 x18446744073709551615 p3 high long g65535 q9",
+        &create,
+    );
+    check_value(&rt, alloc, "c1 set-wait 7 2 -10000", &arm);
+    check_value(&rt, alloc, "c1 on-return event 7 12", &leave);
+}
+
+// The line is read as this call of the first client.
+fn check_value(rt: &impl Abort, alloc: Global, line: &str, call: &Call) {
+    let row = format!(in alloc; "`{line}` {:?} {call:?}", Who::Client(1));
+    let row = expect_ok(rt, row);
+    check_calls(rt, alloc, row.as_str());
 }
 
 #[test]
-fn outcomes_printed(rt: HostRuntime) -> Result<(), Fail> {
+fn outcomes_printed(rt: HostRuntime) {
     let text = "queued 3 2
 full 1 3
 full 18446744073709551615 0
@@ -738,23 +738,26 @@ look stay
         Outcome::Look(Look::NoNeed),
         Outcome::Look(Look::Stay),
     ] {
-        lines.outcome(&outcome)?;
-        print_outcome(&outcome, &mut out)?;
-        out.extend_from_slice(b"\n")?;
+        print_twice(&rt, &outcome, &mut lines, &mut out);
     }
-    assert_eq!(rt; out.as_slice(), text.as_bytes());
-    assert_eq!(rt; lines.into_text().as_slice(), text.as_bytes());
-    Ok(())
+    expect_eq(&rt, out.as_slice(), text.as_bytes());
+    expect_eq(&rt, lines.into_text().as_slice(), text.as_bytes());
+}
+
+// Prints the outcome among the lines, and by itself.
+fn print_twice(rt: &impl Abort, outcome: &Outcome, lines: &mut Lines, out: &mut Vec<u8>) {
+    expect_ok(rt, lines.outcome(outcome));
+    expect_ok(rt, print_outcome(outcome, out));
+    expect_ok(rt, out.extend_from_slice(b"\n"));
 }
 
 #[test]
-fn parts_of_outcomes_printed(rt: HostRuntime) -> Result<(), Fail> {
+fn parts_of_outcomes_printed(rt: HostRuntime) {
     let mut out = Vec::new(rt.alloc());
-    print_answer(&Answer::Done, &mut out)?;
-    print_look(&Look::Empty, &mut out)?;
-    print_full(1, 3, &mut out)?;
-    assert_eq!(rt; out.as_slice(), "oklook emptyfull 1 3".as_bytes());
-    Ok(())
+    expect_ok(&rt, print_answer(&Answer::Done, &mut out));
+    expect_ok(&rt, print_look(&Look::Empty, &mut out));
+    expect_ok(&rt, print_full(1, 3, &mut out));
+    expect_eq(&rt, out.as_slice(), "oklook emptyfull 1 3".as_bytes());
 }
 
 // What is read of a good line of a call with its line feed, and its size.
@@ -776,14 +779,13 @@ fn told_of_entry(alloc: Global, text: &str) -> Result<String, AllocError> {
 }
 
 #[test]
-fn good_lines(rt: HostRuntime) -> Result<(), Fail> {
+fn good_lines(rt: HostRuntime) {
     for (text, want) in [
         ("w3 take\nc1 finish\n", "Worker(3) Take 8"),
         ("w3 take", "none"),
         ("w3 take 1\n", "none"),
     ] {
-        let told = told_of_call(rt.alloc(), text)?;
-        assert_eq!(rt; told.as_str(), want, "{text}");
+        check_good(&rt, text, told_of_call(rt.alloc(), text), want);
     }
     for (text, want) in [
         (
@@ -798,8 +800,11 @@ fn good_lines(rt: HostRuntime) -> Result<(), Fail> {
         ("c1 submit 65536 -> queued 4 1\n", "none"),
         ("end 1\n", "none"),
     ] {
-        let told = told_of_entry(rt.alloc(), text)?;
-        assert_eq!(rt; told.as_str(), want, "{text}");
+        check_good(&rt, text, told_of_entry(rt.alloc(), text), want);
     }
-    Ok(())
+}
+
+fn check_good(rt: &impl Abort, text: &str, told: Result<String, AllocError>, want: &str) {
+    let told = expect_ok(rt, told);
+    expect_eq(rt, (text, told.as_str()), (text, want));
 }

@@ -1,12 +1,12 @@
 //! Histories that are made by `pool_book` on machines with few places.
 
-ghost use Rattle.std.specs.Prelude.{◌≤◌};
+ghost use Rattle.std.specs.Prelude.{◌≡◌, ◌≤◌, Ok};
 ghost use Rattle.tp_base.specs.Ranges.{IsCallInRange};
 
 use pool_book::{Book, program_limits};
 use std::alloc::{AllocError, Global};
+use std::fmt::Debug;
 use std::process::Abort;
-use std::test::Fail;
 use tp_base::answers::{Answer, Outcome, Refusal};
 use tp_base::calls::{Call, Environ, Kind, Priority};
 use tp_base::ids::{GroupId, KernelId, ObjectId, PoolId, RoutineId, Who};
@@ -32,87 +32,103 @@ fn create() -> Call
 }
 
 // A book of so many clients and two workers.
-fn book_of(alloc: Global, clients: u32, capacity: u32) -> Result<Book, AllocError>
+fn book_of(rt: &impl Abort, alloc: Global, clients: u32, capacity: u32) -> Book
     requires { clients ≤ 16 }
 {
-    Book::open(alloc, program_limits(clients, 2), capacity)
+    expect_ok(rt, Book::open(alloc, program_limits(clients, 2), capacity))
+}
+
+// Takes the step, which comes to this. A step is taken in a function of its own, since the proof of a test grows with
+// each call and each outcome that it makes itself.
+fn check_step(rt: &impl Abort, book: &mut Book, call: Call, outcome: Outcome) {
+    assert!(rt; call.in_range());
+    let told = book.step(Who::Client(1), call);
+    expect_eq(rt, told, outcome);
+}
+
+// Ends the test where a value isn't the one that is expected. As a function of its own, since the proof of a test grows
+// with each way that leads out of it.
+fn expect_eq<T: PartialEq + Debug + Drop>(rt: &impl Abort, told: T, wanted: T) {
+    assert_eq!(rt; told, wanted);
+}
+
+// What was opened. Ends the test where memory is refused.
+fn expect_ok<T: Drop>(rt: &impl Abort, told: Result<T, AllocError>) -> T
+    ensures { told ≡ Ok result }
+{
+    match told {
+        Ok(value) => value,
+        Err(error) => panic!(rt; "{error:?}"),
+    }
 }
 
 /// A client's finish is owed, so it takes no room.
 #[test]
-fn entries_take_room(rt: HostRuntime) -> Result<(), Fail> {
-    let mut book = book_of(rt.alloc(), 1, 20)?;
-    check_room(&rt, &mut book);
-    Ok(())
-}
-
-fn check_room(rt: &impl Abort, book: &mut Book) {
-    assert_eq!(rt;
+fn entries_take_room(rt: HostRuntime) {
+    let mut book = book_of(&rt, rt.alloc(), 1, 20);
+    expect_eq(
+        &rt,
         (
             book.capacity(),
             book.limits().clients,
-            book.limits().workers
+            book.limits().workers,
         ),
-        (20, 1, 2)
+        (20, 1, 2),
     );
     let (client, worker) = (Who::Client(1), Who::Worker(1));
-    for (who, call, len, room) in [
-        (worker, Call::Attach, 0, 19),
-        (worker, Call::Take, 1, 18),
-        (client, Call::CreatePool, 2, 17),
-        (client, Call::Finish, 3, 17),
-    ] {
-        book.step(who, call);
-        assert_eq!(rt; (book.len(), book.room()), (len, room));
-    }
+    check_room(&rt, &mut book, worker, Call::Attach, (0, 19));
+    check_room(&rt, &mut book, worker, Call::Take, (1, 18));
+    check_room(&rt, &mut book, client, Call::CreatePool, (2, 17));
+    check_room(&rt, &mut book, client, Call::Finish, (3, 17));
+    drop(book);
+}
+
+// Takes the step, behind which the book has this length and this room.
+fn check_room(rt: &impl Abort, book: &mut Book, who: Who, call: Call, wanted: (u32, u64))
+    requires { IsCallInRange call }
+{
+    book.step(who, call);
+    expect_eq(rt, (book.len(), book.room()), wanted);
 }
 
 /// More is owed than there is room for: nothing but what is owed can be written down.
 #[test]
-fn room_is_none_where_more_is_owed(rt: HostRuntime) -> Result<(), Fail> {
-    let mut book = book_of(rt.alloc(), 3, 1)?;
-    check_owed(&rt, &mut book);
-    Ok(())
-}
-
-fn check_owed(rt: &impl Abort, book: &mut Book) {
-    assert_eq!(rt;
-        book.step(Who::Worker(1), Call::Take),
-        Outcome::Full { room: 0, cost: 1 }
-    );
-    assert_eq!(rt;
-        book.step(Who::Client(1), Call::Finish),
-        Outcome::Done(Answer::Done)
-    );
-    assert_eq!(rt; (book.len(), book.room()), (1, 0));
+fn room_is_none_where_more_is_owed(rt: HostRuntime) {
+    let mut book = book_of(&rt, rt.alloc(), 3, 1);
+    let told = book.step(Who::Worker(1), Call::Take);
+    expect_eq(&rt, told, Outcome::Full { room: 0, cost: 1 });
+    check_step(&rt, &mut book, Call::Finish, Outcome::Done(Answer::Done));
+    expect_eq(&rt, (book.len(), book.room()), (1, 0));
+    drop(book);
 }
 
 /// An armed wait has the slot for its callback, which is free where it is armed anew.
 #[test]
-fn an_armed_wait_takes_a_slot(rt: HostRuntime) -> Result<(), Fail> {
+fn an_armed_wait_takes_a_slot(rt: HostRuntime) {
     let mut limits = program_limits(1, 1);
     limits.slots = 1;
     assert!(rt; limits.in_range());
-    let mut book = Book::open(rt.alloc(), limits, 20)?;
-    check_arming(&rt, &mut book);
-    Ok(())
-}
-
-fn check_arming(rt: &impl Abort, book: &mut Book) {
+    let mut book = expect_ok(&rt, Book::open(rt.alloc(), limits, 20));
     let (manual, signalled) = (false, false);
-    for (call, outcome) in [
-        (Call::CreateEvent { manual, signalled }, made(1)),
-        (create(), made(1)),
-        (create(), made(2)),
-        (arm(1), queued(0, 0)),
-        (arm(2), refused(Refusal::CallbackLimit)),
-        (arm(1), queued(0, 0)),
-        (Call::SetEvent { kernel: EVENT }, queued(1, 1)),
-        (arm(1), refused(Refusal::CallbackLimit)),
-    ] {
-        assert!(rt; call.in_range());
-        assert_eq!(rt; book.step(Who::Client(1), call), outcome);
-    }
+    check_step(
+        &rt,
+        &mut book,
+        Call::CreateEvent { manual, signalled },
+        made(1),
+    );
+    check_step(&rt, &mut book, create(), made(1));
+    check_step(&rt, &mut book, create(), made(2));
+    check_step(&rt, &mut book, arm(1), queued(0, 0));
+    check_step(&rt, &mut book, arm(2), refused(Refusal::CallbackLimit));
+    check_step(&rt, &mut book, arm(1), queued(0, 0));
+    check_step(
+        &rt,
+        &mut book,
+        Call::SetEvent { kernel: EVENT },
+        queued(1, 1),
+    );
+    check_step(&rt, &mut book, arm(1), refused(Refusal::CallbackLimit));
+    drop(book);
 }
 
 fn arm(object: u32) -> Call {

@@ -1,9 +1,8 @@
 //! Actions that are asked for, performed and left out.
 
-use crate::expect_eq;
+use crate::checks::{expect_eq, expect_ok};
 use kernel_events::KernelTable;
 use return_actions::{Actions, Performed};
-use std::test::Fail;
 use tp_base::answers::{ActionKind, Refusal, SlotWord};
 use tp_base::calls::Lock;
 use tp_base::ids::{KernelId, Who};
@@ -21,50 +20,30 @@ const SECTION: KernelId = KernelId(3);
 const EVENT: KernelId = KernelId(4);
 
 #[test]
-fn a_slot_is_filled_once(rt: HostRuntime) -> Result<(), Fail> {
+fn a_slot_is_filled_once(rt: HostRuntime) {
     let mut actions = Actions::empty();
-    expect_eq(&rt, actions.ask(ActionKind::Event, EVENT, 1), Ok(()));
-    expect_eq(&rt, actions.ask(ActionKind::Section, SECTION, 1), Ok(()));
-    expect_eq(
-        &rt,
-        actions.ask(ActionKind::Event, KernelId(9), 1),
-        Err(Refusal::SlotTaken {
-            kind: ActionKind::Event,
-        }),
-    );
-    expect_eq(
-        &rt,
-        actions.ask(ActionKind::Section, SECTION, 1),
-        Err(Refusal::SlotTaken {
-            kind: ActionKind::Section,
-        }),
-    );
-    expect_eq(
-        &rt,
-        actions.ask(ActionKind::Semaphore, SEMAPHORE, 2),
-        Ok(()),
-    );
-    expect_eq(&rt, actions.ask(ActionKind::Mutex, MUTEX, 1), Ok(()));
-    expect_eq(
-        &rt,
-        actions.ask(ActionKind::Semaphore, SEMAPHORE, 2),
-        Err(Refusal::SlotTaken {
-            kind: ActionKind::Semaphore,
-        }),
-    );
-    expect_eq(
-        &rt,
-        actions.ask(ActionKind::Mutex, MUTEX, 1),
-        Err(Refusal::SlotTaken {
-            kind: ActionKind::Mutex,
-        }),
-    );
-    Ok(())
+    for (kind, kernel, count, taken) in [
+        (ActionKind::Event, EVENT, 1, false),
+        (ActionKind::Section, SECTION, 1, false),
+        (ActionKind::Event, KernelId(9), 1, true),
+        (ActionKind::Section, SECTION, 1, true),
+        (ActionKind::Semaphore, SEMAPHORE, 2, false),
+        (ActionKind::Mutex, MUTEX, 1, false),
+        (ActionKind::Semaphore, SEMAPHORE, 2, true),
+        (ActionKind::Mutex, MUTEX, 1, true),
+    ] {
+        let answer = if taken {
+            Err(Refusal::SlotTaken { kind })
+        } else {
+            Ok(())
+        };
+        expect_eq(&rt, actions.ask(kind, kernel, count), answer);
+    }
 }
 
 #[test]
-fn a_lock_of_another_is_left_out(rt: HostRuntime) -> Result<(), Fail> {
-    let mut kernels = KernelTable::open(rt.alloc(), 2, 8)?;
+fn a_lock_of_another_is_left_out(rt: HostRuntime) {
+    let mut kernels = expect_ok(&rt, KernelTable::open(rt.alloc(), 2, 8));
     let _semaphore = kernels.create_semaphore(0, 2);
     let _mutex = kernels.create_lock(CLIENT, Lock::Mutex, true);
     let mut actions = Actions::empty();
@@ -90,12 +69,12 @@ fn a_lock_of_another_is_left_out(rt: HostRuntime) -> Result<(), Fail> {
         ),
         (Err(Refusal::OverMaximum { count: 2 }), Ok(false)),
     );
-    Ok(())
+    drop(kernels);
 }
 
 #[test]
-fn all_are_performed(rt: HostRuntime) -> Result<(), Fail> {
-    let mut kernels = KernelTable::open(rt.alloc(), 4, 8)?;
+fn all_are_performed(rt: HostRuntime) {
+    let mut kernels = expect_ok(&rt, KernelTable::open(rt.alloc(), 4, 8));
     let _semaphore = kernels.create_semaphore(1, 2);
     let _mutex = kernels.create_lock(WORKER, Lock::Mutex, true);
     let _section = kernels.create_lock(WORKER, Lock::Section, true);
@@ -119,12 +98,12 @@ fn all_are_performed(rt: HostRuntime) -> Result<(), Fail> {
     );
     expect_eq(
         &rt,
-        (
+        [
             kernels.can_take(CLIENT, MUTEX),
             kernels.can_take(CLIENT, SECTION),
             kernels.can_take(CLIENT, EVENT),
-        ),
-        (Ok(true), Ok(true), Ok(true)),
+        ],
+        [Ok(true), Ok(true), Ok(true)],
     );
     // The locks are free now, so that they are left out the next time.
     expect_eq(
@@ -139,5 +118,5 @@ fn all_are_performed(rt: HostRuntime) -> Result<(), Fail> {
             event_at: Some(EVENT),
         },
     );
-    Ok(())
+    drop(kernels);
 }

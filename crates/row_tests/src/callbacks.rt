@@ -1,8 +1,7 @@
 ghost use Rattle.std.specs.Prelude.{◌≡◌};
 
-use crate::expect_eq;
+use crate::checks::{expect_eq, expect_ok};
 use callback_rows::CallbackRows;
-use std::test::Fail;
 use tp_base::answers::TakeResult;
 use tp_base::calls::Priority;
 use tp_base::ids::{GroupId, ObjectId, PoolId, RoutineId};
@@ -34,6 +33,18 @@ fn row_of(group: u32, number: u64) -> CallbackRow
     }
 }
 
+fn context_at(live: &CallbackRows, number: u64) -> Option<u64> {
+    live.find(number).map(|row| row.context)
+}
+
+fn number_after(live: &CallbackRows, number: u64) -> Option<u64> {
+    live.after(number).map(|row| row.number)
+}
+
+fn first_number(live: &CallbackRows, group: u32) -> Option<u64> {
+    live.first_of_group(GroupId(group)).map(|row| row.number)
+}
+
 // The number that follows this one in its group.
 fn number_behind(live: &CallbackRows, number: u64) -> Option<u64> {
     match live.find(number) {
@@ -43,16 +54,22 @@ fn number_behind(live: &CallbackRows, number: u64) -> Option<u64> {
 }
 
 #[test]
-fn rows_are_found_by_number(rt: HostRuntime) -> Result<(), Fail> {
-    let mut live = CallbackRows::open(rt.alloc(), 3, 2)?;
+fn rows_are_found_by_number(rt: HostRuntime) {
+    let mut live = expect_ok(&rt, CallbackRows::open(rt.alloc(), 3, 2));
     live.push(row(2, 70));
     live.push(row(5, 70));
     live.push(row(9, 70));
-    assert!(rt; live.replace(row(5, 71)));
-    assert!(rt; !live.replace(row(6, 72)));
-    assert!(rt; live.remove(2));
-    assert!(rt; !live.remove(3));
-    expect_eq(&rt, live.len(), 2);
+    expect_eq(
+        &rt,
+        (
+            live.replace(row(5, 71)),
+            live.replace(row(6, 72)),
+            live.remove(2),
+            live.remove(3),
+            live.len(),
+        ),
+        (true, false, true, false, 2),
+    );
     for (number, found, after) in [
         (0, None, Some(5)),
         (2, None, Some(5)),
@@ -60,48 +77,52 @@ fn rows_are_found_by_number(rt: HostRuntime) -> Result<(), Fail> {
         (6, None, Some(9)),
         (9, Some(70), None),
     ] {
-        expect_eq(&rt, live.find(number).map(|row| row.context), found);
-        expect_eq(&rt, live.after(number).map(|row| row.number), after);
+        let told = (context_at(&live, number), number_after(&live, number));
+        expect_eq(&rt, (number, told), (number, (found, after)));
     }
-    Ok(())
+    drop(live);
 }
 
 // Group 1 has a list, and group 2 hasn't.
 #[test]
-fn rows_of_a_group_follow_one_another(rt: HostRuntime) -> Result<(), Fail> {
-    let mut live = CallbackRows::open(rt.alloc(), 5, 1)?;
+fn rows_of_a_group_follow_one_another(rt: HostRuntime) {
+    let mut live = expect_ok(&rt, CallbackRows::open(rt.alloc(), 5, 1));
     live.push(row_of(1, 2));
     live.push(row_of(2, 3));
     live.push(row_of(1, 5));
     live.push(row_of(2, 6));
     live.push(row_of(1, 9));
-    for (group, first) in [(1, Some(2)), (2, Some(3)), (3, None)] {
-        expect_eq(
-            &rt,
-            live.first_of_group(GroupId(group)).map(|row| row.number),
-            first,
-        );
-    }
-    for (number, next) in [
-        (2, Some(5)),
-        (5, Some(9)),
-        (9, None),
-        (3, Some(6)),
-        (6, None),
-    ] {
-        expect_eq(&rt, number_behind(&live, number), next);
-    }
-    assert!(rt; live.remove(5));
-    assert!(rt; live.remove(3));
-    for (group, first) in [(1, Some(2)), (2, Some(6)), (3, None)] {
-        expect_eq(
-            &rt,
-            live.first_of_group(GroupId(group)).map(|row| row.number),
-            first,
-        );
-    }
-    for (number, next) in [(2, Some(9)), (9, None), (6, None)] {
-        expect_eq(&rt, number_behind(&live, number), next);
-    }
-    Ok(())
+    expect_eq(&rt, firsts(&live), [Some(2), Some(3), None]);
+    expect_eq(
+        &rt,
+        [
+            number_behind(&live, 2),
+            number_behind(&live, 5),
+            number_behind(&live, 9),
+            number_behind(&live, 3),
+            number_behind(&live, 6),
+        ],
+        [Some(5), Some(9), None, Some(6), None],
+    );
+    expect_eq(&rt, [live.remove(5), live.remove(3)], [true, true]);
+    expect_eq(&rt, firsts(&live), [Some(2), Some(6), None]);
+    expect_eq(
+        &rt,
+        [
+            number_behind(&live, 2),
+            number_behind(&live, 9),
+            number_behind(&live, 6),
+        ],
+        [Some(9), None, None],
+    );
+    drop(live);
+}
+
+// The first numbers of the groups 1, 2 and 3.
+fn firsts(live: &CallbackRows) -> [Option<u64>; 3] {
+    [
+        first_number(live, 1),
+        first_number(live, 2),
+        first_number(live, 3),
+    ]
 }

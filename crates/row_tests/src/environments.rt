@@ -1,10 +1,10 @@
+use crate::checks::expect_eq;
 use callback_env::CallbackEnviron;
-use std::test::Fail;
 use tp_base::calls::{Environ, Priority};
 use tp_base::ids::{GroupId, PoolId, RoutineId};
 
 #[test]
-fn setters_set_their_own_fields(rt: HostRuntime) -> Result<(), Fail> {
+fn setters_set_their_own_fields(rt: HostRuntime) {
     let mut env = CallbackEnviron::initialize();
     let first = Environ {
         pool: PoolId(0),
@@ -13,7 +13,7 @@ fn setters_set_their_own_fields(rt: HostRuntime) -> Result<(), Fail> {
         priority: Priority::Normal,
         long: false,
     };
-    assert_eq!(rt; env.plain(), first);
+    expect_eq(&rt, env.plain(), first);
     env.set_pool(PoolId(2));
     env.set_cleanup_group(GroupId(3), Some(RoutineId(4)));
     env.set_priority(Priority::High);
@@ -25,8 +25,7 @@ fn setters_set_their_own_fields(rt: HostRuntime) -> Result<(), Fail> {
         priority: Priority::High,
         long: true,
     };
-    assert_eq!(rt; env.plain(), second);
+    expect_eq(&rt, env.plain(), second);
     env.set_cleanup_group(GroupId(5), None);
-    assert_eq!(rt; env.plain().cancel, RoutineId(0));
-    Ok(())
+    expect_eq(&rt, env.plain().cancel, RoutineId(0));
 }

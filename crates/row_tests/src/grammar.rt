@@ -1,3 +1,4 @@
+use crate::checks::expect_eq;
 use line_grammar::numbers::{read_number, read_prefixed, read_signed};
 use line_grammar::words::{behind, further, read_word, size_before, something};
 
@@ -21,11 +22,18 @@ fn numbers_in_range(rt: HostRuntime) {
         ("16", 16, 131_072, Ok((16, 2))),
     ];
     for (text, least, most, read) in cases {
-        assert_eq!(rt; read_number(text.as_bytes(), least, most), read, "{text}");
+        let told = read_number(text.as_bytes(), least, most);
+        expect_eq(&rt, (text, told), (text, read));
     }
-    assert_eq!(rt; read_prefixed(b'c', "c17".as_bytes(), 1, 16), Ok((1, 2)));
-    assert_eq!(rt; read_prefixed(b'c', "w1".as_bytes(), 1, 16), Err(0));
-    assert_eq!(rt; read_prefixed(b'c', "c0".as_bytes(), 1, 16), Err(1));
+    expect_eq(
+        &rt,
+        [
+            read_prefixed(b'c', "c17".as_bytes(), 1, 16),
+            read_prefixed(b'c', "w1".as_bytes(), 1, 16),
+            read_prefixed(b'c', "c0".as_bytes(), 1, 16),
+        ],
+        [Ok((1, 2)), Err(0), Err(1)],
+    );
 }
 
 #[test]
@@ -47,7 +55,8 @@ fn numbers_with_a_sign(rt: HostRuntime) {
         ("-9223372036854775809", Ok((-922_337_203_685_477_580, 19))),
     ];
     for (text, read) in cases {
-        assert_eq!(rt; read_signed(text.as_bytes()), read, "{text}");
+        let told = read_signed(text.as_bytes());
+        expect_eq(&rt, (text, told), (text, read));
     }
 }
 
@@ -67,7 +76,7 @@ fn nothing_or_a_number(rt: HostRuntime) {
             something(read_signed(bytes)),
             read_word(None, "none", bytes),
         );
-        assert_eq!(rt; found, read, "{text}");
+        expect_eq(&rt, (text, found), (text, read));
     }
 }
 
@@ -76,10 +85,18 @@ fn words_and_choices(rt: HostRuntime) {
     let text = "set-timer-e".as_bytes();
     let short = read_word(1_u8, "set-timer", text);
     let long = read_word(2_u8, "set-timer-ex", text);
-    assert_eq!(rt; short, Ok((1, 9)));
-    assert_eq!(rt; long, Err(11));
-    assert_eq!(rt; further(short, long), Err(11));
-    assert_eq!(rt; size_before(b'-', text), 3);
-    assert!(rt; behind(b's', text).is_some());
-    assert!(rt; behind(b't', text).is_none());
+    expect_eq(
+        &rt,
+        (short, long, further(short, long)),
+        (Ok((1, 9)), Err(11), Err(11)),
+    );
+    expect_eq(
+        &rt,
+        (
+            size_before(b'-', text),
+            behind(b's', text).is_some(),
+            behind(b't', text).is_none(),
+        ),
+        (3, true, true),
+    );
 }

@@ -1,9 +1,8 @@
 //! Kernel objects that are made, changed and taken, and the waits that they release.
 
-use crate::expect_eq;
+use crate::checks::{expect_eq, expect_ok};
 use kernel_events::states::{is_event, is_lock, is_semaphore, lock_made, may_take, owns, passes};
 use kernel_events::{KernelKind, KernelTable};
-use std::test::Fail;
 use tp_base::answers::Refusal;
 use tp_base::calls::Lock;
 use tp_base::ids::{KernelId, ObjectId, Who};
@@ -34,8 +33,8 @@ fn signalled(kernels: &KernelTable, kernel: KernelId) -> bool {
 }
 
 #[test]
-fn kernel_objects_are_taken(rt: HostRuntime) -> Result<(), Fail> {
-    let mut kernels = KernelTable::open(rt.alloc(), 3, 1)?;
+fn kernel_objects_are_taken(rt: HostRuntime) {
+    let mut kernels = expect_ok(&rt, KernelTable::open(rt.alloc(), 3, 1));
     expect_eq(&rt, kernels.get(EVENT).is_none(), true);
     kernels.create(KernelState::Event {
         manual: false,
@@ -58,8 +57,8 @@ fn kernel_objects_are_taken(rt: HostRuntime) -> Result<(), Fail> {
     kernels.take(WORKER, EVENT);
     expect_eq(
         &rt,
-        (signalled(&kernels, EVENT), signalled(&kernels, SEMAPHORE)),
-        (false, true),
+        [signalled(&kernels, EVENT), signalled(&kernels, SEMAPHORE)],
+        [false, true],
     );
     kernels.change(EVENT, KernelChange::Set);
     expect_eq(&rt, signalled(&kernels, EVENT), true);
@@ -75,12 +74,12 @@ fn kernel_objects_are_taken(rt: HostRuntime) -> Result<(), Fail> {
     expect_eq(&rt, signalled(&kernels, LOCK), false);
     kernels.change(LOCK, KernelChange::Leave);
     expect_eq(&rt, signalled(&kernels, LOCK), true);
-    Ok(())
+    drop(kernels);
 }
 
 #[test]
-fn waits_are_released_in_order(rt: HostRuntime) -> Result<(), Fail> {
-    let mut kernels = KernelTable::open(rt.alloc(), 2, 5)?;
+fn waits_are_released_in_order(rt: HostRuntime) {
+    let mut kernels = expect_ok(&rt, KernelTable::open(rt.alloc(), 2, 5));
     kernels.create(KernelState::Event {
         manual: true,
         signalled: false,
@@ -96,51 +95,57 @@ fn waits_are_released_in_order(rt: HostRuntime) -> Result<(), Fail> {
     kernels.arm(ObjectId(3), EVENT);
     expect_eq(
         &rt,
-        (kernels.first_armed(SEMAPHORE), kernels.first_armed(EVENT)),
-        (Some(ObjectId(4)), Some(ObjectId(1))),
-    );
-    expect_eq(&rt, kernels.next_released(SEMAPHORE), None);
-    expect_eq(
-        &rt,
-        (kernels.disarm(ObjectId(5)), kernels.disarm(ObjectId(5))),
-        (true, false),
+        [kernels.first_armed(SEMAPHORE), kernels.first_armed(EVENT)],
+        [Some(ObjectId(4)), Some(ObjectId(1))],
     );
     expect_eq(
         &rt,
-        (kernels.is_armed(ObjectId(5)), kernels.is_armed(ObjectId(2))),
-        (false, true),
+        (
+            kernels.next_released(SEMAPHORE),
+            kernels.disarm(ObjectId(5)),
+            kernels.disarm(ObjectId(5)),
+            kernels.is_armed(ObjectId(5)),
+            kernels.is_armed(ObjectId(2)),
+        ),
+        (None, true, false, false, true),
     );
     kernels.change(SEMAPHORE, KernelChange::Raise(3));
-    expect_eq(&rt, kernels.next_released(SEMAPHORE), Some(ObjectId(4)));
-    expect_eq(&rt, kernels.next_released(SEMAPHORE), Some(ObjectId(2)));
-    expect_eq(&rt, kernels.next_released(SEMAPHORE), None);
+    expect_eq(
+        &rt,
+        [
+            kernels.next_released(SEMAPHORE),
+            kernels.next_released(SEMAPHORE),
+            kernels.next_released(SEMAPHORE),
+        ],
+        [Some(ObjectId(4)), Some(ObjectId(2)), None],
+    );
     // The count that is left releases one that is armed later, and no other.
     kernels.arm(ObjectId(2), SEMAPHORE);
     kernels.arm(ObjectId(5), SEMAPHORE);
     expect_eq(
         &rt,
-        (
+        [
             kernels.next_released(SEMAPHORE),
             kernels.next_released(SEMAPHORE),
-        ),
-        (Some(ObjectId(2)), None),
+        ],
+        [Some(ObjectId(2)), None],
     );
     // A manual event releases all.
     kernels.change(EVENT, KernelChange::Set);
     expect_eq(
         &rt,
-        (
+        [
             kernels.next_released(EVENT),
             kernels.next_released(EVENT),
             kernels.next_released(EVENT),
-        ),
-        (Some(ObjectId(1)), Some(ObjectId(3)), None),
+        ],
+        [Some(ObjectId(1)), Some(ObjectId(3)), None],
     );
-    Ok(())
+    drop(kernels);
 }
 
 #[test]
-fn states_are_told_apart(rt: HostRuntime) -> Result<(), Fail> {
+fn states_are_told_apart(rt: HostRuntime) {
     let event = KernelState::Event {
         manual: true,
         signalled: false,
@@ -150,215 +155,230 @@ fn states_are_told_apart(rt: HostRuntime) -> Result<(), Fail> {
         maximum: 7,
     };
     let section = lock_made(Lock::Section, WORKER, true);
-    expect_eq(&rt, (is_event(event), is_event(semaphore)), (true, false));
     expect_eq(
         &rt,
-        (is_semaphore(semaphore), is_semaphore(section)),
-        (true, false),
+        [
+            is_event(event),
+            is_event(semaphore),
+            is_semaphore(semaphore),
+            is_semaphore(section),
+        ],
+        [true, false, true, false],
     );
     expect_eq(
         &rt,
-        (
+        [
             is_lock(Lock::Section, section),
             is_lock(Lock::Mutex, section),
-        ),
-        (true, false),
+            passes(2, semaphore),
+            passes(3, semaphore),
+        ],
+        [true, false, false, true],
     );
     expect_eq(
         &rt,
-        (passes(2, semaphore), passes(3, semaphore)),
-        (false, true),
-    );
-    expect_eq(
-        &rt,
-        (
+        [
             owns(WORKER, section),
             owns(CLIENT, section),
             may_take(CLIENT, section),
-        ),
-        (true, false, false),
+        ],
+        [true, false, false],
     );
-    Ok(())
 }
 
 #[test]
-fn a_semaphore_releases_as_many_as_its_count(rt: HostRuntime) -> Result<(), Fail> {
-    let mut kernels = KernelTable::open(rt.alloc(), 4, 8)?;
+fn a_semaphore_releases_as_many_as_its_count(rt: HostRuntime) {
+    let mut kernels = expect_ok(&rt, KernelTable::open(rt.alloc(), 4, 8));
     let semaphore = KernelId(1);
     expect_eq(&rt, kernels.create_semaphore(0, 2), Ok(semaphore));
     kernels.arm(ObjectId(5), semaphore);
     kernels.arm(ObjectId(2), semaphore);
-    expect_eq(&rt, kernels.release_semaphore(semaphore, 1), Ok(0));
-    expect_eq(&rt, kernels.next_released(semaphore), Some(ObjectId(5)));
-    expect_eq(&rt, kernels.next_released(semaphore), None);
     expect_eq(
         &rt,
-        kernels.release_semaphore(semaphore, 3),
-        Err(Refusal::OverMaximum { count: 0 }),
+        (
+            kernels.release_semaphore(semaphore, 1),
+            kernels.next_released(semaphore),
+            kernels.next_released(semaphore),
+        ),
+        (Ok(0), Some(ObjectId(5)), None),
     );
-    expect_eq(&rt, kernels.set(semaphore), Err(Refusal::WrongKind));
-    Ok(())
+    expect_eq(
+        &rt,
+        (
+            kernels.release_semaphore(semaphore, 3),
+            kernels.set(semaphore),
+        ),
+        (
+            Err(Refusal::OverMaximum { count: 0 }),
+            Err(Refusal::WrongKind),
+        ),
+    );
+    drop(kernels);
 }
 
 #[test]
-fn no_more_are_made_than_the_limit_says(rt: HostRuntime) -> Result<(), Fail> {
-    let mut kernels = KernelTable::open(rt.alloc(), 2, 1)?;
+fn no_more_are_made_than_the_limit_says(rt: HostRuntime) {
+    let mut kernels = expect_ok(&rt, KernelTable::open(rt.alloc(), 2, 1));
     expect_eq(
         &rt,
-        (
+        [
             kernels.create_semaphore(3, 2),
             kernels.create_semaphore(0, 0),
-        ),
-        (
+        ],
+        [
             Err(Refusal::OverMaximum { count: 3 }),
             Err(Refusal::OverMaximum { count: 0 }),
-        ),
+        ],
     );
-    expect_eq(&rt, kernels.create_event(true, false), Ok(EVENT));
-    expect_eq(&rt, kernels.create_semaphore(2, 2), Ok(SEMAPHORE));
     expect_eq(
         &rt,
-        (
+        [
+            kernels.create_event(true, false),
+            kernels.create_semaphore(2, 2),
+        ],
+        [Ok(EVENT), Ok(SEMAPHORE)],
+    );
+    expect_eq(
+        &rt,
+        [
             kernels.create_event(true, false),
             kernels.create_lock(CLIENT, Lock::Mutex, true),
             kernels.create_semaphore(2, 2),
             kernels.create_semaphore(3, 2),
-        ),
-        (
+        ],
+        [
             Err(Refusal::ObjectLimit),
             Err(Refusal::ObjectLimit),
             Err(Refusal::ObjectLimit),
             Err(Refusal::OverMaximum { count: 3 }),
-        ),
+        ],
     );
     expect_eq(&rt, kernels.len(), 2);
-    Ok(())
+    drop(kernels);
 }
 
 #[test]
-fn calls_take_their_own_kind(rt: HostRuntime) -> Result<(), Fail> {
-    let mut kernels = KernelTable::open(rt.alloc(), 4, 1)?;
-    expect_eq(&rt, kernels.create_event(false, false), Ok(EVENT));
-    expect_eq(&rt, kernels.create_semaphore(1, 2), Ok(SEMAPHORE));
+fn calls_take_their_own_kind(rt: HostRuntime) {
+    let mut kernels = expect_ok(&rt, KernelTable::open(rt.alloc(), 4, 1));
     expect_eq(
         &rt,
-        kernels.create_lock(CLIENT, Lock::Mutex, true),
-        Ok(LOCK),
+        [
+            kernels.create_event(false, false),
+            kernels.create_semaphore(1, 2),
+            kernels.create_lock(CLIENT, Lock::Mutex, true),
+            kernels.create_lock(CLIENT, Lock::Section, false),
+        ],
+        [Ok(EVENT), Ok(SEMAPHORE), Ok(LOCK), Ok(SECTION)],
     );
     expect_eq(
         &rt,
-        kernels.create_lock(CLIENT, Lock::Section, false),
-        Ok(SECTION),
+        [kernels.set(NONE), kernels.set(LOCK), kernels.set(EVENT)],
+        [Err(Refusal::NoSuch), Err(Refusal::WrongKind), Ok(())],
     );
     expect_eq(
         &rt,
-        (kernels.set(NONE), kernels.set(LOCK), kernels.set(EVENT)),
-        (Err(Refusal::NoSuch), Err(Refusal::WrongKind), Ok(())),
-    );
-    expect_eq(
-        &rt,
-        (
+        [
             kernels.reset(NONE),
             kernels.reset(SEMAPHORE),
             kernels.reset(EVENT),
-        ),
-        (Err(Refusal::NoSuch), Err(Refusal::WrongKind), Ok(())),
+        ],
+        [Err(Refusal::NoSuch), Err(Refusal::WrongKind), Ok(())],
     );
     expect_eq(
         &rt,
-        (
+        [
             kernels.release_semaphore(NONE, 1),
             kernels.release_semaphore(EVENT, 1),
             kernels.release_semaphore(SEMAPHORE, 2),
             kernels.release_semaphore(SEMAPHORE, 1),
-        ),
-        (
+        ],
+        [
             Err(Refusal::NoSuch),
             Err(Refusal::WrongKind),
             Err(Refusal::OverMaximum { count: 1 }),
             Ok(1),
-        ),
+        ],
     );
     expect_eq(
         &rt,
-        (
+        [
             kernels.release_lock(CLIENT, Lock::Mutex, NONE),
             kernels.release_lock(CLIENT, Lock::Section, LOCK),
             kernels.release_lock(WORKER, Lock::Mutex, LOCK),
             kernels.release_lock(CLIENT, Lock::Section, SECTION),
             kernels.release_lock(CLIENT, Lock::Mutex, LOCK),
-        ),
-        (
+        ],
+        [
             Err(Refusal::NoSuch),
             Err(Refusal::WrongKind),
             Err(Refusal::NotOwner),
             Err(Refusal::NotOwner),
             Ok(()),
-        ),
+        ],
     );
-    Ok(())
+    drop(kernels);
 }
 
 #[test]
-fn kernel_objects_are_taken_where_they_may_be(rt: HostRuntime) -> Result<(), Fail> {
-    let mut kernels = KernelTable::open(rt.alloc(), 4, 1)?;
+fn kernel_objects_are_taken_where_they_may_be(rt: HostRuntime) {
+    let mut kernels = expect_ok(&rt, KernelTable::open(rt.alloc(), 4, 1));
     let _event = kernels.create_event(false, true);
     let _semaphore = kernels.create_semaphore(1, 2);
     let _lock = kernels.create_lock(CLIENT, Lock::Mutex, true);
     expect_eq(
         &rt,
-        (
+        [
             kernels.try_take(WORKER, NONE),
             kernels.can_take(WORKER, NONE),
             kernels.is_waitable(NONE),
-        ),
-        (
+        ],
+        [
             Err(Refusal::NoSuch),
             Err(Refusal::NoSuch),
             Err(Refusal::NoSuch),
-        ),
+        ],
     );
     expect_eq(
         &rt,
-        (
+        [
             kernels.can_take(WORKER, EVENT),
             kernels.try_take(WORKER, EVENT),
             kernels.try_take(WORKER, EVENT),
             kernels.can_take(WORKER, EVENT),
-        ),
-        (Ok(true), Ok(true), Ok(false), Ok(false)),
+        ],
+        [Ok(true), Ok(true), Ok(false), Ok(false)],
     );
     expect_eq(
         &rt,
-        (
+        [
             kernels.try_take(WORKER, LOCK),
             kernels.try_take(CLIENT, LOCK),
-        ),
-        (Ok(false), Ok(true)),
+        ],
+        [Ok(false), Ok(true)],
     );
     expect_eq(
         &rt,
-        (
+        [
             kernels.is_waitable(EVENT),
             kernels.is_waitable(SEMAPHORE),
             kernels.is_waitable(LOCK),
-        ),
-        (Ok(true), Ok(true), Ok(false)),
+        ],
+        [Ok(true), Ok(true), Ok(false)],
     );
     expect_eq(
         &rt,
-        (
+        [
             kernels.kind(EVENT),
             kernels.kind(SEMAPHORE),
             kernels.kind(LOCK),
             kernels.kind(SECTION),
-        ),
-        (
+        ],
+        [
             Some(KernelKind::Event),
             Some(KernelKind::Semaphore),
             Some(KernelKind::Mutex),
             None,
-        ),
+        ],
     );
-    Ok(())
+    drop(kernels);
 }

@@ -10,6 +10,8 @@ mod barriers;
 #[cfg(test)]
 mod callbacks;
 #[cfg(test)]
+mod checks;
+#[cfg(test)]
 mod edge;
 #[cfg(test)]
 mod environments;
@@ -39,15 +41,3 @@ mod timers;
 mod waits;
 #[cfg(test)]
 mod works;
-
-#[cfg(test)]
-use std::fmt::Debug;
-#[cfg(test)]
-use std::process::Abort;
-
-// Ends the test where a value isn't the one that is expected. As a function of its own, since the proof of a test grows
-// with each way that leads out of it.
-#[cfg(test)]
-fn expect_eq<T: PartialEq + Debug + Drop>(rt: &impl Abort, told: T, wanted: T) {
-    assert_eq!(rt; told, wanted);
-}

@@ -1,14 +1,16 @@
+use crate::checks::{expect_eq, expect_ok};
 use pool_rows::{Counts, PoolRows, WorkerRow};
-use std::test::Fail;
 use tp_base::answers::Refusal;
-use tp_base::ids::PoolId;
 
 #[test]
-fn counts_follow_the_workers(rt: HostRuntime) -> Result<(), Fail> {
-    let mut rows = PoolRows::open(rt.alloc(), 2, 3)?;
-    let pool = rows.create().ok().ok_or("a second pool")?;
-    assert_eq!(rt; rows.create(), Err(Refusal::ObjectLimit));
-    assert_eq!(rt; rows.pools(), 2);
+fn counts_follow_the_workers(rt: HostRuntime) {
+    let mut rows = expect_ok(&rt, PoolRows::open(rt.alloc(), 2, 3));
+    let pool = expect_ok(&rt, rows.create());
+    expect_eq(
+        &rt,
+        (rows.create(), rows.pools()),
+        (Err(Refusal::ObjectLimit), 2),
+    );
     rows.set_minimum(pool, 5);
     rows.set_maximum(pool, 0);
     rows.attach(2, pool);
@@ -23,7 +25,7 @@ fn counts_follow_the_workers(rt: HostRuntime) -> Result<(), Fail> {
         attached: 2,
         long: 1,
     };
-    assert_eq!(rt; rows.counts(pool), Some(busy));
+    expect_eq(&rt, rows.counts(pool), Some(busy));
     rows.give_back(2);
     rows.detach(3);
     rows.close(pool);
@@ -34,13 +36,16 @@ fn counts_follow_the_workers(rt: HostRuntime) -> Result<(), Fail> {
         long: 0,
         ..busy
     };
-    assert_eq!(rt; rows.counts(pool), Some(idle));
+    expect_eq(&rt, rows.counts(pool), Some(idle));
     let unattached = WorkerRow {
         pool: None,
         callback: 0,
         long: false,
     };
-    assert_eq!(rt; rows.worker(3), Some(unattached));
-    assert_eq!(rt; rows.worker(4), None);
-    Ok(())
+    expect_eq(
+        &rt,
+        [rows.worker(3), rows.worker(4)],
+        [Some(unattached), None],
+    );
+    drop(rows);
 }

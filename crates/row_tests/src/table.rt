@@ -1,8 +1,7 @@
 //! A table at a small limit, row by row.
 
-use crate::expect_eq;
+use crate::checks::{expect_eq, expect_ok};
 use handle_table::{Found, Rows};
-use std::test::Fail;
 
 #[derive(Clone, Copy)]
 struct Place {
@@ -20,8 +19,8 @@ fn seen(found: Found<'_, Place>) -> (Option<u16>, bool) {
 }
 
 #[test]
-fn rows_are_numbered_from_one(rt: HostRuntime) -> Result<(), Fail> {
-    let mut table = Rows::open(rt.alloc(), 2)?;
+fn rows_are_numbered_from_one(rt: HostRuntime) {
+    let mut table = expect_ok(&rt, Rows::open(rt.alloc(), 2));
     expect_eq(&rt, table.len(), 0);
     expect_eq(
         &rt,
@@ -43,17 +42,20 @@ fn rows_are_numbered_from_one(rt: HostRuntime) -> Result<(), Fail> {
             .ok(),
         Some(2),
     );
-    match table.add(Place {
+    let third = Place {
         column: 70,
         line: 3,
-    }) {
-        Ok(_) => return Err(Fail::from("a third row in a table of two")),
-        Err(place) => expect_eq(&rt, place.line, 3),
-    }
-    expect_eq(&rt, table.len(), 2);
-    expect_eq(&rt, table.release(1), true);
-    expect_eq(&rt, table.release(1), false);
-    expect_eq(&rt, table.release(3), false);
+    };
+    let given_back = match table.add(third) {
+        Ok(_) => None,
+        Err(place) => Some(place.line),
+    };
+    expect_eq(&rt, (given_back, table.len()), (Some(3), 2));
+    expect_eq(
+        &rt,
+        [table.release(1), table.release(1), table.release(3)],
+        [true, false, false],
+    );
     for (number, expected) in [
         (0, (None, false)),
         (1, (Some(30), true)),
@@ -62,12 +64,12 @@ fn rows_are_numbered_from_one(rt: HostRuntime) -> Result<(), Fail> {
     ] {
         expect_eq(&rt, seen(table.get(number)), expected);
     }
-    Ok(())
+    drop(table);
 }
 
 #[test]
-fn a_row_is_written_in_place(rt: HostRuntime) -> Result<(), Fail> {
-    let mut table = Rows::open(rt.alloc(), 2)?;
+fn a_row_is_written_in_place(rt: HostRuntime) {
+    let mut table = expect_ok(&rt, Rows::open(rt.alloc(), 2));
     for column in [30, 50] {
         let _ = table.add(Place { column, line: 1 });
     }
@@ -80,5 +82,5 @@ fn a_row_is_written_in_place(rt: HostRuntime) -> Result<(), Fail> {
     expect_eq(&rt, seen(table.get(1)), (Some(1), true));
     expect_eq(&rt, seen(table.get(2)), (Some(2), false));
     expect_eq(&rt, table.get_mut(3).is_none(), true);
-    Ok(())
+    drop(table);
 }

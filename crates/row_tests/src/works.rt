@@ -1,22 +1,22 @@
-use crate::expect_eq;
-use std::test::Fail;
+use crate::checks::{expect_eq, expect_ok};
 use tp_base::ids::ObjectId;
 use work_objects::WorkObjects;
 
+const WORK: ObjectId = ObjectId(2);
+
 #[test]
-fn callbacks_are_counted(rt: HostRuntime) -> Result<(), Fail> {
-    let mut works = WorkObjects::open(rt.alloc(), 2)?;
-    works.create(ObjectId(2));
-    expect_eq(&rt, works.count(ObjectId(2)), Some(0));
-    works.begun(ObjectId(2));
-    works.begun(ObjectId(2));
-    expect_eq(&rt, works.left(ObjectId(2)), 1);
-    expect_eq(&rt, works.count(ObjectId(2)), Some(1));
-    works.close(ObjectId(2));
+fn callbacks_are_counted(rt: HostRuntime) {
+    let mut works = expect_ok(&rt, WorkObjects::open(rt.alloc(), 2));
+    works.create(WORK);
+    expect_eq(&rt, works.count(WORK), Some(0));
+    works.begun(WORK);
+    works.begun(WORK);
+    expect_eq(&rt, (works.left(WORK), works.count(WORK)), (1, Some(1)));
+    works.close(WORK);
     for number in 0..5 {
         expect_eq(&rt, works.count(ObjectId(number)), None);
     }
-    works.create(ObjectId(2));
-    expect_eq(&rt, works.count(ObjectId(2)), Some(0));
-    Ok(())
+    works.create(WORK);
+    expect_eq(&rt, works.count(WORK), Some(0));
+    drop(works);
 }

@@ -1,9 +1,13 @@
 //! Whole runs of the top call, over streams in memory that fail midway.
 
+ghost use Rattle.std.specs.Prelude.{◌≡◌, Ok};
+
 use crate::status::Status;
 use crate::top::tp_main;
 use crate::words::WordList;
-use std::test::Fail;
+use std::alloc::Global;
+use std::fmt::Debug;
+use std::process::Abort;
 use tp_edge::{MemorySink, MemorySource};
 
 const TRACE: &str = "c1 create work r1 x7 p0 normal short g0 q0\n\
@@ -12,23 +16,53 @@ const TRACE: &str = "c1 create work r1 x7 p0 normal short g0 q0\n\
 const ANSWERS: &str = "made 1\nqueued 1 1\nattached 0\ntaken 1 o1 r1 x7 plain\n\
     returned - - - - 0 0\n";
 
-/// What the trace comes to over streams of which these calls fail, or none where it is 0, and what the sink then
-/// holds. A call takes 16 bytes, and gives 4.
-fn run(rt: &HostRuntime, failing_take: u32, failing_give: u32) -> Result<(Status, Vec<u8>), Fail> {
-    let mut words = WordList::new(rt.alloc());
-    words.push("trace")?;
-    let bytes = TRACE.as_bytes().to_vec(rt.alloc())?;
-    let failing = vec![in rt.alloc(); failing_take]?;
-    let mut source = MemorySource::new(rt.alloc(), bytes, 16, failing)?;
-    let failing = vec![in rt.alloc(); failing_give]?;
-    let mut sink = MemorySink::new(rt.alloc(), 100, 4, failing)?;
-    let status = tp_main(rt.alloc(), &words, &mut source, &mut sink);
-    Ok((status, sink.bytes().to_vec(rt.alloc())?))
+// Ends the test where a value isn't the one that is expected. As a function of its own, since the proof of a test grows
+// with each way that leads out of it, and with all that is dropped there.
+fn expect_eq<T: PartialEq + Debug + Drop>(rt: &impl Abort, told: T, wanted: T) {
+    assert_eq!(rt; told, wanted);
+}
+
+// What was made. Ends the test where nothing was.
+fn expect_ok<T: Drop, E: Debug + Drop>(rt: &impl Abort, told: Result<T, E>) -> T
+    ensures { told ≡ Ok result }
+{
+    match told {
+        Ok(value) => value,
+        Err(error) => panic!(rt; "{error:?}"),
+    }
+}
+
+/// The trace comes to this status over streams of which these calls fail, or none where it is 0, and the sink then
+/// holds this. A call takes 16 bytes, and gives 4.
+fn check_run(
+    rt: &impl Abort,
+    alloc: Global,
+    failing_take: u32,
+    failing_give: u32,
+    status: Status,
+    held: &str,
+) {
+    let mut words = WordList::new(alloc);
+    expect_ok(rt, words.push("trace"));
+    let bytes = expect_ok(rt, TRACE.as_bytes().to_vec(alloc));
+    let failing = expect_ok(rt, vec![in alloc; failing_take]);
+    let mut source = expect_ok(rt, MemorySource::new(alloc, bytes, 16, failing));
+    let failing = expect_ok(rt, vec![in alloc; failing_give]);
+    let mut sink = expect_ok(rt, MemorySink::new(alloc, 100, 4, failing));
+    let ended = tp_main(alloc, &words, &mut source, &mut sink);
+    drop(words);
+    drop(source);
+    expect_eq(
+        rt,
+        (failing_take, failing_give, ended, sink.bytes()),
+        (failing_take, failing_give, status, held.as_bytes()),
+    );
+    drop(sink);
 }
 
 /// The input has 83 bytes, 6 pieces of 16, and then its end; the output has 73, 19 pieces of 4.
 #[test]
-fn ends_at_the_fault_of_a_stream(rt: HostRuntime) -> Result<(), Fail> {
+fn ends_at_the_fault_of_a_stream(rt: HostRuntime) {
     for (failing_take, failing_give, status, held) in [
         (0, 0, Status::Fine, ANSWERS),
         (2, 0, Status::ReadFault, ""),
@@ -38,13 +72,6 @@ fn ends_at_the_fault_of_a_stream(rt: HostRuntime) -> Result<(), Fail> {
         (0, 1, Status::WriteFault, ""),
         (0, 3, Status::WriteFault, "made 1\nq"),
     ] {
-        let (ended, text) = run(&rt, failing_take, failing_give)?;
-        assert_eq!(rt; ended, status, "at {failing_take} and {failing_give}");
-        assert_eq!(rt;
-            text.as_slice(),
-            held.as_bytes(),
-            "at {failing_take} and {failing_give}"
-        );
+        check_run(&rt, rt.alloc(), failing_take, failing_give, status, held);
     }
-    Ok(())
 }
