@@ -27,7 +27,7 @@ use handle_table::Rows;
 use kernel_events::KernelTable;
 use keyed_lists::KeyedLists;
 use objects::Object;
-use opened::{open_lists, open_rows, open_waits};
+use opened::{both, open_lists, open_rows, open_waits};
 use pool_rows::PoolRows;
 use prio_queue::Queues;
 use std::alloc::{AllocError, Global};
@@ -115,11 +115,15 @@ impl LiveWorld {
         ensures { IfOk result (λ live. live ≡ record { world = forget (opening limits); made = 0 }) }
     {
         let rows = open_rows(alloc, limits)?;
-        let lists = open_lists(alloc, limits)?;
-        let waits = open_waits(alloc, limits)?;
-        let clients = actors::open_clients(alloc, limits.clients)?;
-        let timers = TimerObjects::open(alloc, limits.objects)?;
-        let kernels = KernelTable::open(alloc, limits.kernels, limits.objects)?;
+        let (rows, lists) = both(rows, open_lists(alloc, limits))?;
+        let (tables, waits) = both((rows, lists), open_waits(alloc, limits))?;
+        let (tables, clients) = both((tables, waits), actors::open_clients(alloc, limits.clients))?;
+        let (tables, timers) = both((tables, clients), TimerObjects::open(alloc, limits.objects))?;
+        let (tables, kernels) = both(
+            (tables, timers),
+            KernelTable::open(alloc, limits.kernels, limits.objects),
+        )?;
+        let ((((rows, lists), waits), clients), timers) = tables;
         Ok(LiveWorld {
             limits,
             pools: rows.pools,

@@ -1,7 +1,7 @@
-//! The parts of a live world as they are opened, some at a time. Where one can't be opened, those before it
+//! The parts of a live world as they are opened, one after another. Where one can't be opened, those before it
 //! are freed.
 
-ghost use Rattle.std.specs.Prelude.{◌≡◌, ◌+◌, [], IfOk, None, replicate};
+ghost use Rattle.std.specs.Prelude.{◌≡◌, ◌+◌, [], IfOk, None, Ok, replicate};
 ghost use Rattle.tp_base.specs.Ranges.{AreLimitsInRange};
 ghost use Rattle.live_world.specs.Opening.{opened_callbacks, opened_lists, opened_members, opened_pools};
 
@@ -47,6 +47,17 @@ pub(crate) struct OpenedWaits {
     pub notices: Barriers,
 }
 
+// Both, where the second could be made. Where not, the first is freed: here, and so at no way out of the function
+// that opens many parts, where the proof would go through all that it has by then, each time.
+pub(crate) fn both<A: Drop, B>(
+    first: A,
+    second: Result<B, AllocError>,
+) -> Result<(A, B), AllocError>
+    ensures { IfOk result (λ pair. (pair.0 ≡ first) × (second ≡ Ok pair.1)) }
+{
+    Ok((first, second?))
+}
+
 pub(crate) fn open_rows(alloc: Global, limits: Limits) -> Result<OpenedRows, AllocError>
     requires { AreLimitsInRange limits }
     ensures pools { IfOk result (λ rows. rows.pools ≡ opened_pools limits) }
@@ -58,12 +69,24 @@ pub(crate) fn open_rows(alloc: Global, limits: Limits) -> Result<OpenedRows, All
     ensures queue_slots { IfOk result (λ rows. rows.queues.slots ≡ limits.slots) }
     ensures queues { IfOk result (λ rows. rows.queues.queues ≡ replicate limits.pools []) }
 {
+    let pools = PoolRows::open(alloc, limits.pools, limits.workers)?;
+    let (pools, groups) = both(pools, Rows::open(alloc, limits.groups))?;
+    let (tables, objects) = both((pools, groups), Rows::open(alloc, limits.objects))?;
+    let (tables, callbacks) = both(
+        (tables, objects),
+        CallbackRows::open(alloc, limits.slots, limits.groups),
+    )?;
+    let (tables, queues) = both(
+        (tables, callbacks),
+        Queues::open(alloc, limits.pools, limits.slots),
+    )?;
+    let (((pools, groups), objects), callbacks) = tables;
     Ok(OpenedRows {
-        pools: PoolRows::open(alloc, limits.pools, limits.workers)?,
-        groups: Rows::open(alloc, limits.groups)?,
-        objects: Rows::open(alloc, limits.objects)?,
-        callbacks: CallbackRows::open(alloc, limits.slots, limits.groups)?,
-        queues: Queues::open(alloc, limits.pools, limits.slots)?,
+        pools,
+        groups,
+        objects,
+        callbacks,
+        queues,
     })
 }
 
@@ -74,11 +97,25 @@ pub(crate) fn open_lists(alloc: Global, limits: Limits) -> Result<OpenedLists, A
     ensures started { IfOk result (λ lists. lists.started ≡ opened_lists limits) }
     ensures operations { IfOk result (λ lists. lists.operations ≡ opened_lists limits) }
 {
+    let members = KeyedLists::open(alloc, limits.groups + 1, limits.objects)?;
+    let (members, outstanding) = both(
+        members,
+        KeyedLists::open(alloc, limits.objects + 1, limits.slots),
+    )?;
+    let (lists, started) = both(
+        (members, outstanding),
+        KeyedLists::open(alloc, limits.objects + 1, limits.slots),
+    )?;
+    let (lists, operations) = both(
+        (lists, started),
+        KeyedLists::open(alloc, limits.objects + 1, limits.slots),
+    )?;
+    let ((members, outstanding), started) = lists;
     Ok(OpenedLists {
-        members: KeyedLists::open(alloc, limits.groups + 1, limits.objects)?,
-        outstanding: KeyedLists::open(alloc, limits.objects + 1, limits.slots)?,
-        started: KeyedLists::open(alloc, limits.objects + 1, limits.slots)?,
-        operations: KeyedLists::open(alloc, limits.objects + 1, limits.slots)?,
+        members,
+        outstanding,
+        started,
+        operations,
     })
 }
 
@@ -92,10 +129,18 @@ pub(crate) fn open_waits(alloc: Global, limits: Limits) -> Result<OpenedWaits, A
     ensures notices { IfOk result (λ waits. waits.notices.waits ≡ replicate (limits.clients + limits.workers) None) }
 {
     let actors = limits.clients + limits.workers;
+    let barriers = Barriers::open(alloc, actors, limits.slots)?;
+    let (barriers, wanted) = both(barriers, open_wanted(alloc, actors))?;
+    let (waits, closing) = both((barriers, wanted), open_closing(alloc, actors))?;
+    let (waits, notices) = both(
+        (waits, closing),
+        Barriers::open(alloc, actors, limits.objects),
+    )?;
+    let ((barriers, wanted), closing) = waits;
     Ok(OpenedWaits {
-        barriers: Barriers::open(alloc, actors, limits.slots)?,
-        wanted: open_wanted(alloc, actors)?,
-        closing: open_closing(alloc, actors)?,
-        notices: Barriers::open(alloc, actors, limits.objects)?,
+        barriers,
+        wanted,
+        closing,
+        notices,
     })
 }

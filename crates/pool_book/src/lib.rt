@@ -28,7 +28,7 @@ use past::Past;
 use pool_core::Engine;
 use std::alloc::{AllocError, Global};
 use std::marker::Model;
-use tp_base::answers::{Entry, Look, Outcome};
+use tp_base::answers::{Look, Outcome};
 use tp_base::calls::Call;
 use tp_base::ids::Who;
 use tp_base::limits::Limits;
@@ -61,12 +61,13 @@ impl Model for Book {
 impl Drop for Book {
     fn drop(self) {
         let Book {
-            engine: _,
+            engine,
             limits: _,
             capacity: _,
             len: _,
             past: _,
         } = self;
+        drop(engine);
     }
 }
 
@@ -146,7 +147,7 @@ impl Book {
         let made = self.engine.step(who, call, room);
         if let Outcome::Done(answer) = made {
             self.len += 1;
-            self.past = self.past.and(&Entry { who, call, answer });
+            self.past = self.past.with(who, call, answer);
         }
         *outcome = made;
     }

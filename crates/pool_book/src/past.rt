@@ -5,7 +5,9 @@ ghost use Rattle.std.specs.Borrow.{ftrue};
 ghost use Rattle.tp_base.specs.declared.answers.Entry.{Entry as Written};
 
 use std::marker::Model;
-use tp_base::answers::Entry;
+use tp_base::answers::{Answer, Entry};
+use tp_base::calls::Call;
+use tp_base::ids::Who;
 
 // It takes no bytes, and its methods do nothing at run time.
 #[derive(Drop)]
@@ -30,5 +32,13 @@ impl Past {
         ensures { result.entries ≡ self.now.entries ++ _entry.now ∷ [] }
     {
         Past {}
+    }
+
+    // The same, of the entry's parts.
+    #[inline(always)]
+    pub fn with(&self, who: Who, call: Call, answer: Answer) -> Past
+        ensures { result.entries ≡ self.now.entries ++ record { who = who; call = call; answer = answer } ∷ [] }
+    {
+        self.and(&Entry { who, call, answer })
     }
 }

@@ -5,6 +5,7 @@ ghost use Rattle.tp_base.specs.declared.answers.Entry.{Entry as Written};
 ghost use Rattle.tp_base.specs.Ranges.{IsCallInRange};
 ghost use Rattle.tp_report.specs.Judging.{IsJudgedTo, IsSameMachine, len_told};
 ghost use Rattle.tp_report.specs.Verdicts.{verdict_text};
+ghost use Rattle.tp_report.specs.declared.verdict.Verdict.{Verdict};
 
 use pool_book::Book;
 use std::alloc::{AllocError, Global};
@@ -32,6 +33,16 @@ pub fn judge(book: &mut Book, verdict: Verdict, entry: &Entry) -> Verdict
     let Verdict::Legal { len } = verdict else {
         return verdict;
     };
+    judge_next(book, len, entry)
+}
+
+// The same, where the answers of the `len` entries before are the machine's.
+fn judge_next(book: &mut Book, len: u32, entry: &Entry) -> Verdict
+    requires in_range { IsCallInRange entry.now.call }
+    requires few { len < 2 ^ 32 - 1 }
+    ensures same { IsSameMachine book.old book.new }
+    ensures judged { (entries : List Written) → IsJudgedTo book.old entries (Verdict.Legal len) → IsJudgedTo book.new (entries ++ entry.now ∷ []) result }
+{
     let outcome = book.step(entry.who, entry.call);
     if is_answer(&outcome, &entry.answer) {
         Verdict::Legal { len: len + 1 }

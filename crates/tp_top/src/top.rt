@@ -1,21 +1,22 @@
 //! All that the program does, over any source and any sink.
 
-ghost use Rattle.std.specs.Prelude.{◌≡◌, ◌≢◌, ◌↔◌, ◌≤◌, ◌⊎◌, ℕ, List, Some, None, length};
+ghost use Rattle.std.specs.Prelude.{◌≡◌, ◌≢◌, ◌↔◌, ◌≤◌, ◌⊎◌, ℕ, List, IfOk, Some, None, length};
 ghost use Rattle.tp_edge.specs.Counts.{Rose};
 ghost use Rattle.tp_edge.specs.Given.{with_given, TookFirst};
 ghost use Rattle.tp_edge.specs.Taken.{behind, IsAbove, IsEnded};
 ghost use Rattle.tp_top.specs.Commands.{command_of};
 ghost use Rattle.tp_top.specs.Ends.{IsReply, IsRun, IsTakenTo, status_of};
-ghost use Rattle.tp_top.specs.Inputs.{Gives};
+ghost use Rattle.tp_report.specs.Verdicts.{verdict_text};
+ghost use Rattle.tp_top.specs.Inputs.{ending_of, Gives};
 ghost use Rattle.tp_top.specs.Runs.{IsAnswered, IsBadLine, IsBadLineOf, IsReadToEnd, IsUnwritten, IsWhole, IsWithin};
 ghost use Rattle.tp_top.specs.declared.status.Ending.{Ending};
 
 use crate::command::{Command, command_in};
 use crate::status::{Ending, Status};
 use crate::words::WordList;
-use std::alloc::Global;
+use std::alloc::{AllocError, Global};
 use tp_edge::{Sink, Source, WriteFault, give_all, read_all};
-use tp_report::{check, print_verdict, trace};
+use tp_report::{Verdict, check, print_verdict, trace};
 
 /// The most bytes that an input may have.
 const INPUT_LIMIT: usize = 16_777_216;
@@ -122,12 +123,20 @@ fn reply(alloc: Global, command: Command, bytes: &[u8]) -> Result<Output, Status
         }
         Command::Check => {
             let verdict = check(alloc, bytes)?;
-            let mut text = Vec::new(alloc);
-            print_verdict(alloc, &verdict, &mut text)?;
-            Ok(Output {
-                text,
-                ending: verdict.into(),
-            })
+            Ok(output_of(alloc, &verdict)?)
         }
     }
+}
+
+// What `check` writes of a verdict, and how it ends.
+fn output_of(alloc: Global, verdict: &Verdict) -> Result<Output, AllocError>
+    ensures text { IfOk result (λ output. output.text.items ≡ verdict_text verdict.now) }
+    ensures ending { IfOk result (λ output. output.ending ≡ ending_of verdict.now) }
+{
+    let mut text = Vec::new(alloc);
+    print_verdict(alloc, verdict, &mut text)?;
+    Ok(Output {
+        text,
+        ending: (*verdict).into(),
+    })
 }

@@ -1,62 +1,94 @@
-use Rattle.std.proofs.Common.{refl, ap₂}
+use Rattle.std.proofs.Common.{◌≡◌, ℕ, ◌+◌, None, replicate, ◌∙◌, refl, sym, ap, ap₂, subst}
+use Rattle.std.proofs.lemmas.Result.{IfOk-at_ok}
+use Rattle.std.specs.Global.{Vec}
+use Rattle.tp_base.specs.declared.limits.Limits.{Limits}
+use Rattle.tp_base.specs.declared.rows.ClientRow.{ClientRow}
+use Rattle.kernel_events.specs.Kernels.{Kernels}
+use Rattle.timer_objects.specs.Settings.{Timers}
 use Rattle.live_world.specs.declared.LiveWorld.TheInside.{Inside}
+use Rattle.live_world.specs.declared.begun.BegunWaits.{BegunWaits}
+use Rattle.live_world.specs.declared.opened.OpenedLists.{OpenedLists}
+use Rattle.live_world.specs.declared.opened.OpenedRows.{OpenedRows}
+use Rattle.live_world.specs.declared.opened.OpenedWaits.{OpenedWaits}
 use Rattle.tp_model.specs.World.{opening}
 use Rattle.tp_model.specs.Support.Remembered.{forget}
+use Rattle.tp_model.specs.World.{unfinished}
+use Rattle.live_world.specs.Opening.{opened_kernels, opened_lists, opened_members, opened_timers}
 use Rattle.live_world.proofs.Moving.{Becomes}
 use Rattle.live_world.proofs.Opening.{opened}
 use Rattle.live_world.proofs.LiveWorld.open.Goals as goal
 
-abbrev parts : goal.After-none → Inside
-parts c = record {
-  limits = c.args.limits;
-  pools = c.in_ok-rows.rows.pools;
-  groups = c.in_ok-rows.rows.groups;
-  objects = c.in_ok-rows.rows.objects;
-  members = c.in_ok-lists.lists.members;
-  callbacks = c.in_ok-rows.rows.callbacks;
-  queues = c.in_ok-rows.rows.queues;
-  outstanding = c.in_ok-lists.lists.outstanding;
-  started = c.in_ok-lists.lists.started;
-  operations = c.in_ok-lists.lists.operations;
-  barriers = c.in_ok-waits.waits.barriers;
-  waits = c.none.result;
-  wanted = c.in_ok-waits.waits.wanted;
-  closing = c.in_ok-waits.waits.closing;
-  notices = c.in_ok-waits.waits.notices;
-  clients = c.in_ok-clients.clients;
-  timers = c.in_ok-timers.timers;
-  kernels = c.in_ok-kernels.kernels;
+abbrev Tables : Type 0
+Tables = (((OpenedRows × OpenedLists) × OpenedWaits) × Vec ClientRow) × Timers
+
+abbrev parts : Limits → Tables → Kernels → BegunWaits → Inside
+parts limits ((((rows, lists), waits), clients), timers) kernels begun = record {
+  limits = limits;
+  pools = rows.pools;
+  groups = rows.groups;
+  objects = rows.objects;
+  members = lists.members;
+  callbacks = rows.callbacks;
+  queues = rows.queues;
+  outstanding = lists.outstanding;
+  started = lists.started;
+  operations = lists.operations;
+  barriers = waits.barriers;
+  waits = begun;
+  wanted = waits.wanted;
+  closing = waits.closing;
+  notices = waits.notices;
+  clients = clients;
+  timers = timers;
+  kernels = kernels;
   armed = 0;
   clock = 0;
   made = 0;
 }
 
-opened_here : (c : goal.After-none) → Becomes (parts c) (record { world = forget (opening c.args.limits); made = 0 })
+abbrev becomes : goal.After-none → Tables → Type 0
+becomes c tables = Becomes (parts c.args.limits tables c.in_ok-tables-4.kernels c.none.result) (record { world = forget (opening c.args.limits); made = 0 })
+
+opened_here : (c : goal.After-none) → becomes c c.in_ok-tables-4.tables
 opened_here c =
-    opened (parts c)
+    let limits : Limits = c.args.limits in
+    let actors : ℕ = limits.clients + limits.workers in
+    let rows = c.in_ok-rows.ensures in
+    let lists = c.in_ok-rows-2.ensures in
+    let waits = c.in_ok-tables.ensures in
+    let clients = c.in_ok-tables-2.ensures in
+    let timers = c.in_ok-tables-3.ensures in
+    let kernels = c.in_ok-tables-4.ensures in
+    let tables : Tables = ((((c.in_ok-rows.rows, c.in_ok-rows-2.lists), c.in_ok-tables.waits), c.in_ok-tables-2.clients), c.in_ok-tables-3.timers) in
+    let same : c.in_ok-tables-4.tables ≡ tables = kernels.0 ∙ ap (λ t. (t, c.in_ok-tables-3.timers)) (timers.0 ∙ ap (λ t. (t, c.in_ok-tables-2.clients)) (clients.0 ∙ ap (λ t. (t, c.in_ok-tables.waits)) (waits.0 ∙ ap (λ r. (r, c.in_ok-rows-2.lists)) lists.0))) in
+    subst (becomes c) (sym same) (opened (parts limits tables c.in_ok-tables-4.kernels c.none.result)
     (record {
       in_range = c.requires;
-      pools = c.in_ok-rows.ensures.pools;
-      groups = ap₂ (λ n rows. record { limit = n; rows = rows }) c.in_ok-rows.ensures.group_limit c.in_ok-rows.ensures.groups;
-      objects = ap₂ (λ n rows. record { limit = n; rows = rows }) c.in_ok-rows.ensures.object_limit c.in_ok-rows.ensures.objects;
-      members = c.in_ok-lists.ensures.members;
-      callbacks = c.in_ok-rows.ensures.callbacks;
-      queues = ap₂ (λ n qs. record { slots = n; queues = qs }) c.in_ok-rows.ensures.queue_slots c.in_ok-rows.ensures.queues;
-      outstanding = c.in_ok-lists.ensures.outstanding;
-      started = c.in_ok-lists.ensures.started;
-      operations = c.in_ok-lists.ensures.operations;
-      barriers = ap₂ (λ n ws. record { slots = n; waits = ws }) c.in_ok-waits.ensures.barrier_slots c.in_ok-waits.ensures.barriers;
-      clients = c.in_ok-clients.ensures;
-      timers = c.in_ok-timers.ensures;
+      pools = rows.pools;
+      groups = ap₂ (λ n rs. record { limit = n; rows = rs }) rows.group_limit rows.groups;
+      objects = ap₂ (λ n rs. record { limit = n; rows = rs }) rows.object_limit rows.objects;
+      members = IfOk-at_ok (λ x. x.members ≡ opened_members limits) lists.1 c.open_lists.ensures.members;
+      callbacks = rows.callbacks;
+      queues = ap₂ (λ n qs. record { slots = n; queues = qs }) rows.queue_slots rows.queues;
+      outstanding = IfOk-at_ok (λ x. x.outstanding ≡ opened_lists limits) lists.1 c.open_lists.ensures.outstanding;
+      started = IfOk-at_ok (λ x. x.started ≡ opened_lists limits) lists.1 c.open_lists.ensures.started;
+      operations = IfOk-at_ok (λ x. x.operations ≡ opened_lists limits) lists.1 c.open_lists.ensures.operations;
+      barriers = ap₂ (λ n ws. record { slots = n; waits = ws })
+          (IfOk-at_ok (λ x. x.barriers.slots ≡ limits.slots) waits.1 c.open_waits.ensures.barrier_slots)
+          (IfOk-at_ok (λ x. x.barriers.waits ≡ replicate actors None) waits.1 c.open_waits.ensures.barriers);
+      clients = IfOk-at_ok (λ x. x.items ≡ replicate limits.clients unfinished) clients.1 c.open_clients.ensures;
+      timers = IfOk-at_ok (λ x. x ≡ opened_timers limits) timers.1 c.open.ensures;
       clock = refl;
       waits = c.none.ensures;
-      wanted = c.in_ok-waits.ensures.wanted;
-      closing = c.in_ok-waits.ensures.closing;
-      notices = ap₂ (λ n ws. record { slots = n; waits = ws }) c.in_ok-waits.ensures.notice_slots c.in_ok-waits.ensures.notices;
-      kernels = c.in_ok-kernels.ensures;
+      wanted = IfOk-at_ok (λ x. x.wanted.items ≡ replicate actors None) waits.1 c.open_waits.ensures.wanted;
+      closing = IfOk-at_ok (λ x. x.closing.items ≡ replicate actors None) waits.1 c.open_waits.ensures.closing;
+      notices = ap₂ (λ n ws. record { slots = n; waits = ws })
+          (IfOk-at_ok (λ x. x.notices.slots ≡ limits.objects) waits.1 c.open_waits.ensures.notice_slots)
+          (IfOk-at_ok (λ x. x.notices.waits ≡ replicate actors None) waits.1 c.open_waits.ensures.notices);
+      kernels = IfOk-at_ok (λ x. x ≡ opened_kernels limits) kernels.1 c.open-2.ensures;
       armed = refl;
       made = refl;
-    })
+    }))
 
 pub invariant_of-result : goal.invariant_of-result
 invariant_of-result c = (opened_here c).keeps

@@ -8,26 +8,26 @@ pub invariant_of-self : goal.invariant_of-self
 invariant_of-self c =
     let a = c.self.inside in
     (entered a.engine c.step-made.new.self a.limits a.capacity a.len c.room-room.result a.past.entries c.args.self.now c.args.who c.args.call c.step-made.result
-    c.self.invariant c.self.view_is c.room-room.ensures c.step-made.ensures.meets c.in-Done.answer c.and-self-inside.result.entries c.in-Done.is c.and-self-inside.ensures).book
+    c.self.invariant c.self.view_is c.room-room.ensures c.step-made.ensures.meets c.in-Done.answer c.with-self-inside.result.entries c.in-Done.is c.with-self-inside.ensures).book
 
 pub returns-in-Done-clause-first : goal.returns-in-Done-clause-first
 returns-in-Done-clause-first c =
     let a = c.self.inside in
-    subst (λ (o : Outcome). IsFirstOf c.args.self.now (there a.limits a.capacity c.and-self-inside.result.entries) c.args.who c.args.call o) c.in-Done.is
+    subst (λ (o : Outcome). IsFirstOf c.args.self.now (there a.limits a.capacity c.with-self-inside.result.entries) c.args.who c.args.call o) c.in-Done.is
     (entered a.engine c.step-made.new.self a.limits a.capacity a.len c.room-room.result a.past.entries c.args.self.now c.args.who c.args.call c.step-made.result
-    c.self.invariant c.self.view_is c.room-room.ensures c.step-made.ensures.meets c.in-Done.answer c.and-self-inside.result.entries c.in-Done.is c.and-self-inside.ensures).first
+    c.self.invariant c.self.view_is c.room-room.ensures c.step-made.ensures.meets c.in-Done.answer c.with-self-inside.result.entries c.in-Done.is c.with-self-inside.ensures).first
 
 pub returns-in-Done-clause-legal : goal.returns-in-Done-clause-legal
 returns-in-Done-clause-legal c =
     let a = c.self.inside in
     (entered a.engine c.step-made.new.self a.limits a.capacity a.len c.room-room.result a.past.entries c.args.self.now c.args.who c.args.call c.step-made.result
-    c.self.invariant c.self.view_is c.room-room.ensures c.step-made.ensures.meets c.in-Done.answer c.and-self-inside.result.entries c.in-Done.is c.and-self-inside.ensures).book.legal
+    c.self.invariant c.self.view_is c.room-room.ensures c.step-made.ensures.meets c.in-Done.answer c.with-self-inside.result.entries c.in-Done.is c.with-self-inside.ensures).book.legal
 
 pub returns-in-Done-clause-laws : goal.returns-in-Done-clause-laws
 returns-in-Done-clause-laws c =
     let a = c.self.inside in
     (entered a.engine c.step-made.new.self a.limits a.capacity a.len c.room-room.result a.past.entries c.args.self.now c.args.who c.args.call c.step-made.result
-    c.self.invariant c.self.view_is c.room-room.ensures c.step-made.ensures.meets c.in-Done.answer c.and-self-inside.result.entries c.in-Done.is c.and-self-inside.ensures).laws
+    c.self.invariant c.self.view_is c.room-room.ensures c.step-made.ensures.meets c.in-Done.answer c.with-self-inside.result.entries c.in-Done.is c.with-self-inside.ensures).laws
 
 pub returns-in_default : goal.returns-in_default
 returns-in_default c =

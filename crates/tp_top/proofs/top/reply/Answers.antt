@@ -10,9 +10,9 @@ returns-in_err-verdict-in-Check c =
     (reply_of_fault c.args.bytes.now c.in_err-verdict-in-Check.field-0.0 c.from_residual-in_err-verdict-in-Check.result c.from_residual-in_err-verdict-in-Check.ensures.1
     c.in_err-verdict-in-Check.ensures.err c.in_err-verdict-in-Check.ensures.only)
 
-pub returns-in_ok-print_verdict-in-Check : goal.returns-in_ok-print_verdict-in-Check
-returns-in_ok-print_verdict-in-Check c =
-    subst (λ k. IsOutput k c.args.bytes.now c.print_verdict.new.out.items c.into.result) (sym c.in-Check.is)
-    (output_of_verdict c.args.bytes.now c.print_verdict.new.out.items c.in_ok-verdict-in-Check.verdict c.into.result
-    c.in_ok-verdict-in-Check.ensures.ok c.in_ok-verdict-in-Check.ensures.only
-    (c.in_ok-print_verdict-in-Check.ensures.ok ∙ ap (λ l. l ++ verdict_text c.in_ok-verdict-in-Check.verdict) c.new-text.ensures.items) c.into.ensures)
+pub returns-in_ok-output_of-in-Check : goal.returns-in_ok-output_of-in-Check
+returns-in_ok-output_of-in-Check c =
+    let output = c.in_ok-output_of-in-Check in
+    subst (λ k. IsOutput k c.args.bytes.now output.field-0.text.items output.field-0.ending) (sym c.in-Check.is)
+    (output_of_verdict c.args.bytes.now output.field-0.text.items c.in_ok-verdict-in-Check.verdict output.field-0.ending
+    c.in_ok-verdict-in-Check.ensures.ok c.in_ok-verdict-in-Check.ensures.only output.ensures.text output.ensures.ending)
