@@ -54,6 +54,3 @@ module _ (links : List Link) (objects : List ObjectId) (next : Option ObjectId) 
             onwards = record { rest = xs; before = Some x; linked = linked.1; first = refl; counts = omega (arith, counts) };
             more = omega (arith, counts);
           })
-
-  pub counted_all : next ≡ None → count ≡ length objects
-  counted_all is = omega (arith, counting.counts, ap length (no_head counting.rest (sym is ∙ counting.first)))

@@ -3,8 +3,7 @@ use Rattle.std.proofs.Common.{◌≡◌, ℕ, ◌+◌, ◌-◌, ◌<◌, ◌≤�
 use Rattle.std.proofs.lemmas.Bool.{ltb-true, ltb-false, cases_eq, eqb-false, eqb-true, leb-false, leb-true}
 use Rattle.std.proofs.lemmas.List.{append-nil, append_assoc, length-take-le, take-append-drop, get_or-drop, get_or_at, drop-drop, take_more}
 use Rattle.std.proofs.Math.Seq.{take-add}
-use Rattle.std.proofs.lemmas.Slice.Eq.{bytes_eq-Decides}
-use Rattle.std.specs.Prelude.{bytes_eq, Option, Some, None, Result, Ok, Err, nat_le, nat_lt, if◌then◌else◌}
+use Rattle.std.specs.Prelude.{Option, Some, None, Result, Ok, Err, nat_le, nat_lt, if◌then◌else◌}
 use Rattle.line_grammar.specs.Language.{Begins, Stops, AnyOf, IsReadTo, IsStuck, IsRead}
 use Rattle.line_grammar.specs.Words.{Word, Either, Optional, further_of, lacks, is_solid, something_of}
 use Rattle.line_grammar.specs.Parts.{IsPart}
@@ -32,10 +31,6 @@ word_stuck meaning word text k more within shared apart = record {
     stops = word_stops meaning word text k within apart (drop k text) refl;
   };
 }
-
--- texts that a test tells apart
-pub differ : (a b : List ℕ) → bytes_eq a b ≡ false → a ≡ b → ⊥
-differ a b test e = let same : bytes_eq a b ≡ true = (bytes_eq-Decides a b).1 e in let no_such : ⊥ = cc in no_such
 
 -- where a language stops, it stops further on too
 module _ {A : Type 0} (L : List A → Type 0) where

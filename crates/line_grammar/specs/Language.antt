@@ -55,7 +55,3 @@ IsRead W text (Err place) = IsStuck W text place
 pub record IsWhole {V A : Type 0} (W : V → List A → Type 0) (text : List A) (value : V) : Type 0 where
   pub text_of : W value text
   pub only : (other : V) → W other text → other ≡ value
-
-abbrev pub IsParsed : {V A : Type 0} → (V → List A → Type 0) → List A → Result V ℕ → Type 0
-IsParsed W text (Ok value) = IsWhole W text value
-IsParsed W text (Err place) = IsFault (AnyOf W) text place

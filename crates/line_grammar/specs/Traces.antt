@@ -15,12 +15,7 @@ abbrev pub trace_text : List (List ℕ) → List ℕ
 trace_text [] = []
 trace_text (line ∷ lines) = line ++ 10 ∷ trace_text lines
 
--- the bytes are lines of the language, each ended
-pub record IsTrace (L : List ℕ → Type 0) (bytes : List ℕ) (lines : List (List ℕ)) : Type 0 where
-  pub each : All L lines
-  pub split : bytes ≡ trace_text lines
-
--- the first fault of bytes that are no such lines: behind some lines something is left, which goes along
+-- the first fault of bytes that are no lines of the language, each ended: behind some lines something is left, which goes along
 -- with an ended line for as long as `front` and is none
 pub record IsTraceFault (L : List ℕ → Type 0) (bytes : List ℕ) (line column : ℕ) : Type 0 where
   pub lines : List (List ℕ)

@@ -102,9 +102,6 @@ module _ (armings : List Arming) (ss left : List TimerSetting) (due : ℕ) (obje
       ap (λ xs. armed_behind xs armings) f.all ∙ behind_first f.first f.rest armings ∙ ap (λ (o : ObjectId). armed_behind f.rest (without_arming o.0 armings)) f.is
       ∙ behind_told f.rest fewer ∙ ap (λ ps. filter (λ (a : Arming). not (is_told a.object.0 ps)) fewer) f.others ∙ sym (behind_told left fewer)
 
-  pub length_first : length ss ≡ length left + 1
-  length_first = omega (arith, ap length fired, length-map ss told, length-map left told)
-
 -- ---- the world
 
 module _ (l : Live) (left : List TimerSetting) (due : ℕ) (object : ObjectId) (fired : map told (expired l.world.now l.world.settings) ≡ (due, object) ∷ map told (expired l.world.now left)) (after : after_expiry l.world.now left ≡ after_expiry l.world.now l.world.settings) (once : is_armed object.0 l.world.armings ≡ true → count_set object.0 (expired l.world.now l.world.settings) ≤ 1) where

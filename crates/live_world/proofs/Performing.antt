@@ -24,27 +24,16 @@ use Rattle.tp_base.specs.Armings.{is_arming_on}
 use Rattle.tp_base.specs.Kernels.{is_signalled, state_after, taken}
 use Rattle.tp_model.specs.World.{World}
 use Rattle.tp_model.specs.Counts.{numbered}
-use Rattle.tp_model.specs.Kernels.{is_kernel_that, is_one_that, kernel_changed}
+use Rattle.tp_model.specs.Kernels.{is_kernel_that, is_one_that}
 use Rattle.tp_model.specs.Sources.{Firing, jobless, release_first, release_times, release_to, sources_of, with_state, signal}
 use Rattle.tp_model.specs.Actions.{act, perform, returning, word_of, words_of}
-use Rattle.tp_model.specs.Support.Remembered.{forget}
 use Rattle.tp_model.proofs.Actions.{may_raise_still}
 use Rattle.tp_model.proofs.Performing.{performed_keeps, returning_within}
 use Rattle.tp_model.proofs.Refusals.{numbered_at, numbered_some}
-use Rattle.live_world.specs.Live.{Live, fired_to, unfired, with_kernels}
+use Rattle.live_world.specs.Live.{Live, fired_to, unfired}
 use Rattle.live_world.specs.Performing.{MayPerform, suits_state}
-use Rattle.live_world.proofs.Firings.{behind, fired_none, fired_twice, same_sources, times_behind, with_all}
+use Rattle.live_world.proofs.Firings.{behind, fired_twice, times_behind}
 use Rattle.live_world.proofs.Takings.{changed_length}
-
--- a lock is given back
-pub left_by : (l new : Live) (kernel : ℕ) → forget l.world ≡ l.world → new ≡ with_kernels l (kernel_changed (state_after Leave) l.world.kernels kernel) → new ≡ fired_to l (jobless (with_state (state_after Leave) kernel (sources_of l.world)))
-left_by l new kernel living is =
-    is ∙ ap (λ cs. with_all l (with_state (state_after Leave) kernel (sources_of l.world)) cs l.made) (sym (ap (λ (w : World). w.callbacks) living))
-    ∙ sym (fired_none l (with_state (state_after Leave) kernel (sources_of l.world)))
-
--- nothing is performed
-pub none_performed : (l : Live) → forget l.world ≡ l.world → l ≡ fired_to l (unfired l)
-none_performed l living = sym (fired_none l (sources_of l.world) ∙ same_sources l living)
 
 -- ---- one behind another
 

@@ -220,9 +220,6 @@ queue_shown {cs = cs} pool k = ap length (k.queued pool) ∙ length-map (queue_a
 abbrev pub queued_entry : Pending → CallbackRow → Pending
 queued_entry queues c = with_queue queues c.pool.0 (with_entry (entry_of c) (queue_of queues c.pool.0))
 
-abbrev pub unqueued_entry : Pending → CallbackRow → Pending
-unqueued_entry queues c = with_queue queues c.pool.0 (without_number c.number (queue_of queues c.pool.0))
-
 -- a new callback comes to wait
 pub queued_more : {limits : Limits} {cs : List CallbackRow} {queues : Pending} (c : CallbackRow) → c.pool.0 < limits.pools → is_pending c.status ≡ true → IsRising 1 c.number cs → AreQueued limits cs queues → AreQueued limits (cs ++ c ∷ []) (queued_entry queues c)
 queued_more {limits} {cs} {queues} c home pends rising k =

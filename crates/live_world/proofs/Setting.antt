@@ -146,10 +146,6 @@ arm_needs object kernel timeout s =
       ]
     ]
 
-pub room_to_arm : (l : Live) (object : ObjectId) (kernel : KernelId) (timeout : Option ℤ) → slots_after l.world (trigger.SetWait object (Some kernel) timeout) ≤ l.world.limits.slots → lacks_slots_for (with_sources l (disarmed object (sources_of l.world))).world 1 ≡ false
-room_to_arm l object kernel timeout room =
-    le-ltb l.world.limits.slots (slots (with_sources l (disarmed object (sources_of l.world))).world + 1) (omega (arith, room, ap length (live_again l.world.callbacks), arm_needs object kernel timeout (disarmed object (sources_of l.world))))
-
 -- with a kernel object the wait has one slot
 set_needs : (object : ObjectId) (kernel : Option KernelId) (timeout : Option ℤ) (s : Sources)
     → length (set_wait object kernel timeout s).jobs + length (set_wait object kernel timeout s).sources.armings ≡ length (without_arming object.0 s.armings) + one_if (is_some kernel)
@@ -228,8 +224,3 @@ module _ (l self : Live) (object : ObjectId) (due : Option ℤ) (period window :
   set_fires new is =
       is ∙ ap (λ x. next_of_object x object Plain) step ∙ next_over l (set_to object due period window (sources_of l.world)) object Plain
       ∙ ap (λ js. fired_to l (record { sources = set_to object due period window (sources_of l.world); jobs = js })) (sym (ap (λ b. cond b (job object Plain ∷ []) []) expires))
-
-pub set_quietly : (l new : Live) (object : ObjectId) (due : Option ℤ) (period window : ℕ) → expires_at_once l.world.now due ≡ false → new ≡ with_sources l (set_to object due period window (sources_of l.world)) → new ≡ fired_to l (firing (trigger.SetTimer object due period window) (sources_of l.world))
-set_quietly l new object due period window later is =
-    is ∙ sym (fired_none l (set_to object due period window (sources_of l.world)))
-    ∙ ap (λ js. fired_to l (record { sources = set_to object due period window (sources_of l.world); jobs = js })) (sym (ap (λ b. cond b (job object Plain ∷ []) []) later))

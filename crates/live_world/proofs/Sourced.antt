@@ -85,17 +85,6 @@ settings_kept i object due period window k timer =
       clock = k.sound.clock;
     }
 
-pub clock_kept : (i : Inside) (now : ℕ) → IsLiveWorld i → now ≤ clock_end → AreKept i (record (sources_of (shown i).world) { now = now })
-clock_kept i now k within =
-    record {
-      long = refl;
-      once = k.kernels.once;
-      slots = k.slotted.slots;
-      made = record { settings = k.sound.timers; armings = k.sound.armings };
-      timed = k.sound.timeouts;
-      clock = within;
-    }
-
 pub kernels_kept : (i : Inside) (s : Sources) → IsLiveWorld i → s.settings ≡ i.timers.settings → s.armings ≡ i.kernels.armed → s.now ≡ i.clock → length s.kernels ≡ length i.kernels.rows → AreKept i s
 kernels_kept i s k settings armings clock long =
     subst (λ (x : ℕ). AreKept i (record s { now = x })) (sym clock)

@@ -5,13 +5,6 @@ use Rattle.tp_edge.specs.declared.reading.ReadFault.{ReadFault}
 use Rattle.tp_edge.specs.declared.reading.ReadFault.TheVariants.{NoMemory, TooLong}
 use Rattle.tp_edge.specs.Reading.{IsRead}
 
-pub IsRead-ok : (bytes : Vec ℕ) (limit : ℕ) → length bytes.items ≤ limit → IsRead (Ok bytes) limit bytes.items
-IsRead-ok bytes limit within = record {
-  all = refl;
-  too_long = ((λ e. cc), (λ e. absurd (omega arith)));
-  within = omega arith;
-}
-
 pub IsRead-too_long : (limit : ℕ) (taken : List ℕ) → length taken ≡ limit + 1 → IsRead (Err TooLong) limit taken
 IsRead-too_long limit taken e = record {
   all = tt;

@@ -79,10 +79,6 @@ pub rising_lower : (low lower fresh : ℕ) (cs : List CallbackRow) → lower ≤
 rising_lower low lower fresh [] le h = omega (arith, le, h)
 rising_lower low lower fresh (c ∷ cs) le h = (omega (arith, le, h.0), h.1)
 
-pub rising_higher : (low fresh higher : ℕ) (cs : List CallbackRow) → fresh ≤ higher → IsRising low fresh cs → IsRising low higher cs
-rising_higher low fresh higher [] le h = omega (arith, le, h)
-rising_higher low fresh higher (c ∷ cs) le h = (h.0, rising_higher (c.number + 1) fresh higher cs le h.1)
-
 pub rising_append : (low fresh : ℕ) (cs : List CallbackRow) (c : CallbackRow) → c.number ≡ fresh → IsRising low fresh cs → IsRising low (fresh + 1) (cs ++ c ∷ [])
 rising_append low fresh [] c e h = (omega (arith, e, h), omega (arith, e))
 rising_append low fresh (d ∷ cs) c e h = (h.0, rising_append (d.number + 1) fresh cs c e h.1)
@@ -153,24 +149,6 @@ find_above k low fresh [] lt h = refl
 find_above k low fresh (c ∷ cs) lt h =
     let other : has_number k c ≡ false = ne_eqb c.number k (λ e. omega (arith, e, h.0, lt)) in
     ap (λ b. cond b (Some c) (find (has_number k) cs)) other ∙ find_above k (c.number + 1) fresh cs (omega (arith, h.0, lt)) h.1
-
--- where a row is replaced by one that differs in nothing that p asks for, a filter by p has the row replaced
-pub filter_replaced : (p : CallbackRow → Bool) (r : CallbackRow) (cs : List CallbackRow) → ((c : CallbackRow) → has_number r.number c ≡ true → p c ≡ p r) → filter p (replaced r cs) ≡ replaced r (filter p cs)
-filter_replaced p r [] same = refl
-filter_replaced p r (c ∷ cs) same =
-    elim (has_number r.number c) as (λ b. has_number r.number c ≡ b → cond (p (cond b r c)) (cond b r c ∷ filter p (replaced r cs)) (filter p (replaced r cs)) ≡ replaced r (cond (p c) (c ∷ filter p cs) (filter p cs))) [
-      | true ↦ λ e. ap (λ t. cond (p r) (r ∷ t) t) (filter_replaced p r cs same) ∙ sym (
-          ap (λ b. replaced r (cond b (c ∷ filter p cs) (filter p cs))) (same c e)
-          ∙ elim (p r) as (λ b. replaced r (cond b (c ∷ filter p cs) (filter p cs)) ≡ cond b (r ∷ replaced r (filter p cs)) (replaced r (filter p cs))) [
-            | true ↦ ap (λ b. cond b r c ∷ replaced r (filter p cs)) e
-            | false ↦ refl
-          ])
-      | false ↦ λ e. ap (λ t. cond (p c) (c ∷ t) t) (filter_replaced p r cs same) ∙ sym (
-          elim (p c) as (λ b. replaced r (cond b (c ∷ filter p cs) (filter p cs)) ≡ cond b (c ∷ replaced r (filter p cs)) (replaced r (filter p cs))) [
-            | true ↦ ap (λ b. cond b r c ∷ replaced r (filter p cs)) e
-            | false ↦ refl
-          ])
-    ] refl
 
 -- ---- where a row leaves what a filter keeps
 

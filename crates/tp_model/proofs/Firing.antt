@@ -246,16 +246,6 @@ pub jobs_made : (objects : List ObjectRow) (jobs : List Job) → AreJobsOf (λ n
 jobs_made objects [] all = tt
 jobs_made objects (j ∷ js) all = ((standing_made objects j.object.0 all.0.0, all.0.1), jobs_made objects js all.1)
 
-pub timer_made : (w : World) (object : ObjectId) → IsTimer w object → IsMade (length w.objects) object.0
-timer_made w object ready = numbered_made w.objects object.0 ready.row ready.stands
-
-pub armable_made : (objects : List ObjectRow) (n : ℕ) → may_be_armed objects n ≡ true → IsMade (length objects) n
-armable_made objects n may = of_row (numbered objects n) refl may
-  where
-    of_row : (row : Option ObjectRow) → numbered objects n ≡ row → option_map_or (λ (o : ObjectRow). is_same_kind o.kind Wait && not o.released) row false ≡ true → IsMade (length objects) n
-    of_row None is h = absurd (false_true h)
-    of_row (Some row) is h = numbered_made objects n row is
-
 pub armable_wait : (objects : List ObjectRow) (n : ℕ) → may_be_armed objects n ≡ true → is_wait_at objects n ≡ true
 armable_wait objects n may = of_row (numbered objects n) refl may
   where

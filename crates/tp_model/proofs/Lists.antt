@@ -112,14 +112,6 @@ slice_get_append [] ys i x e = absurd cc
 slice_get_append (y ∷ xs) ys zero x e = e
 slice_get_append (y ∷ xs) ys (suc i) x e = slice_get_append xs ys i x e
 
--- what is told of each row is the same where a row is set that tells what the one before did
-pub set_kept : {X Y : Type 0} (f : X → Y) (xs : List X) (i j : ℕ) (old new x : X) → slice_get xs i ≡ Some old → f new ≡ f old → slice_get xs j ≡ Some x → (y : X) × (slice_get (slice_set xs i new) j ≡ Some y) × (f y ≡ f x)
-set_kept f [] i j old new x at same e = absurd cc
-set_kept f (z ∷ xs) zero zero old new x at same e = let is : x ≡ old = cc in (new, refl, same ∙ ap f (sym is))
-set_kept f (z ∷ xs) zero (suc j) old new x at same e = (x, e, refl)
-set_kept f (z ∷ xs) (suc i) zero old new x at same e = (x, e, refl)
-set_kept f (z ∷ xs) (suc i) (suc j) old new x at same e = set_kept f xs i j old new x at same e
-
 -- a filter after a row was put in another's place
 pub length_filter_set : {X : Type 0} (p : X → Bool) (xs : List X) (i : ℕ) (old new : X) → slice_get xs i ≡ Some old →
     length (filter p (slice_set xs i new)) + cond (p old) 1 0 ≡ length (filter p xs) + cond (p new) 1 0

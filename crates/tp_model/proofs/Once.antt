@@ -18,7 +18,7 @@ use Rattle.tp_base.specs.declared.rows.CallbackRow.{CallbackRow}
 use Rattle.tp_base.specs.declared.rows.WorkerRow.{WorkerRow}
 use Rattle.tp_base.specs.declared.answers.Entry.{Entry}
 use Rattle.tp_model.specs.World.{World}
-use Rattle.tp_model.specs.Counts.{has_number, is_pending, is_running}
+use Rattle.tp_model.specs.Counts.{has_number, is_pending}
 use Rattle.tp_model.specs.Changes.{replaced, taken as taken_row, operated, status_before, returned}
 use Rattle.tp_model.specs.Support.Sound.{IsRising}
 use Rattle.tp_model.specs.Laws.Entries.{Run, is_among, times, numbers_made, numbers_queued, numbers_taken, numbers_cancelled, count_cancelled, made_by, queued_by, queued_new, completed_by, is_complete_call, Event, event, Runs as Taking, taken_by, cancelled_by, cancelled_count}
@@ -58,18 +58,6 @@ pending_unbegun Cancelled e = refl
 pub pending_uncancelled : (s : Status) → is_pending s ≡ true → is_cancelled s ≡ false
 pending_uncancelled Cancelled e = cc
 pending_uncancelled _ e = refl
-
-running_begun : (s : Status) → is_running s ≡ true → has_begun s ≡ true
-running_begun (Running worker associated slots) e = refl
-running_begun Expected e = cc
-running_begun Issued e = cc
-running_begun Pending e = cc
-running_begun Returned e = refl
-running_begun Cancelled e = cc
-
-running_uncancelled : (s : Status) → is_running s ≡ true → is_cancelled s ≡ false
-running_uncancelled Cancelled e = cc
-running_uncancelled _ e = refl
 
 new_unbegun : (s : Status) → is_new s ≡ true → has_begun s ≡ false
 new_unbegun Expected e = refl

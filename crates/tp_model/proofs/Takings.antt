@@ -20,7 +20,6 @@ use Rattle.tp_model.specs.Sources.{Sources, Firing, sources_of, jobless, job, wi
 use Rattle.tp_model.specs.Actions.{slots_of, returning}
 use Rattle.tp_model.proofs.Performing.{performed_keeps}
 use Rattle.tp_model.proofs.Kernels.{all_changed}
-use Rattle.tp_base.specs.declared.limits.Limits.{Limits}
 use Rattle.tp_base.specs.declared.plans.WaitEnd.{WaitEnd}
 use Rattle.tp_base.specs.declared.plans.WaitEnd.TheVariants.{Free, Exhausted}
 use Rattle.tp_base.specs.declared.plans.KernelChange.{KernelChange}
@@ -34,7 +33,7 @@ use Rattle.tp_base.specs.declared.rows.PoolRow.{PoolRow}
 use Rattle.tp_base.specs.declared.rows.WaitTarget.{WaitTarget}
 use Rattle.tp_base.specs.declared.rows.WaitTarget.TheVariants.{Object, Group, Kernel}
 use Rattle.tp_base.specs.Kernels.{taken_by, state_after, takings_of}
-use Rattle.tp_model.specs.World.{World, BegunWait, opening}
+use Rattle.tp_model.specs.World.{World, BegunWait}
 use Rattle.tp_model.specs.Counts.{numbered}
 use Rattle.tp_model.specs.Kernels.{new_kernel, with_row}
 use Rattle.tp_model.specs.Waits.{wait_of}
@@ -147,7 +146,3 @@ taken_more fresh most w (change.Fire trigger first count) a all = most_raised mo
 taken_more fresh most w (change.Return by words first count) a all = most_raised most (most + 1) (omega arith) _ (returning_keeps most w words (slots_of by.callback.status) all)
 taken_more fresh most w (change.BeginClose who group cancel context notices) a all = most_raised most (most + 1) (omega arith) w.kernels all
 taken_more fresh most w ch a all = taken_up_to most (most + 1) w (omega arith) all
-
--- at first there is none
-pub taken_opening : (limits : Limits) (most : ℕ) → AreTakenAtMost most (opening limits)
-taken_opening limits most = tt

@@ -43,6 +43,3 @@ free_more n ds large h = free_append ds _ h (free_digit (n % 10))
 pub free_decimal : (n : ℕ) → n < 2 ^ 64 → IsFree (decimal n)
 unfolding FreeText
 free_decimal n bound = decimal_by_steps FreeText free_one free_more n bound
-
-pub free_prefixed : (letter n : ℕ) → nat_eq letter 10 ≡ false → n < 2 ^ 64 → IsFree (letter ∷ decimal n)
-free_prefixed letter n e bound = free_cons letter (decimal n) e (free_decimal n bound)

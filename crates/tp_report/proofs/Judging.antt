@@ -10,7 +10,7 @@ use Rattle.tp_model.specs.History.{IsLegal, IsLegalFrom, after, after_from, led_
 use Rattle.tp_model.specs.Step.{outcome_of}
 use Rattle.tp_model.specs.Table.{step}
 use Rattle.tp_model.specs.World.{World, opening}
-use Rattle.tp_report.specs.Judging.{IsJudgedTo, IsSameMachine}
+use Rattle.tp_report.specs.Judging.{IsJudgedTo}
 use Rattle.tp_report.specs.Verdicts.{IsWrongAt}
 use Rattle.tp_report.specs.declared.verdict.Verdict.{Verdict}
 use Rattle.tp_report.specs.declared.verdict.Verdict.TheVariants.{Legal, NotLegal}
@@ -90,6 +90,3 @@ module _ (old : Recording) (entries : List Entry) (entry : Entry) where
         wrong = w.wrong;
       } in
       record { written = tt; is_verdict = (at, wrong_no_legal old.limits old.capacity longer position outcome at) }
-
-pub same_machine : (old new : Recording) (entry : Entry) (told : Outcome) → new ≡ recorded old entry.who entry.call told → IsSameMachine old new
-same_machine old new entry told made = record { limits = ap (λ r. r.limits) made; capacity = ap (λ r. r.capacity) made }

@@ -11,14 +11,13 @@ use Rattle.line_grammar.proofs.Pairs.{one_then}
 use Rattle.line_grammar.proofs.Readings.{stuck_renamed}
 use Rattle.line_grammar.proofs.WordFacts.{lacking_part, either_read}
 use Rattle.tp_base.specs.declared.answers.Entry.{Entry}
-use Rattle.tp_base.specs.declared.calls.Call.{Call}
 use Rattle.tp_base.specs.declared.ids.Who.{Who}
 use Rattle.tp_base.specs.declared.ids.Who.TheVariants.{Client, Worker}
 use Rattle.tp_lines.specs.Answers.{EntryLines, IsEntryLine, text_of_answer}
 use Rattle.tp_lines.specs.Calls.{CallLines, line_of_call, row_of}
 use Rattle.tp_lines.specs.Parts.{row_text}
 use Rattle.tp_lines.specs.Words.{text_of_who}
-use Rattle.tp_lines.proofs.Bounds.{line_short, stuck_short}
+use Rattle.tp_lines.proofs.Bounds.{stuck_short}
 use Rattle.tp_lines.proofs.EntryFacts.{entries_part, entry_short}
 use Rattle.tp_lines.proofs.Feeds.{line_feedless}
 use Rattle.tp_lines.proofs.WhoFacts.{lines_part}
@@ -175,9 +174,3 @@ header_place text place stuck = stuck_short (Ended HeaderLines) 701 (ended_short
 
 pub next_place : (events len : ℕ) → len < 2 ^ 64 → (text : List ℕ) (place : ℕ) → IsStuck (Ended (NextLines events len)) text place → place ≤ 701
 next_place events len bound text place stuck = stuck_short (Ended (NextLines events len)) 701 (ended_short (NextLines events len) (next_short events len bound)) text place stuck
-
-call_short : (made : Who × Call) (line : List ℕ) → CallLines made line → length line ≤ 700
-call_short made line h = omega (arith, line_short made line h)
-
-pub call_place : (text : List ℕ) (place : ℕ) → IsStuck (Ended CallLines) text place → place ≤ 701
-call_place text place stuck = stuck_short (Ended CallLines) 701 (ended_short CallLines call_short) text place stuck

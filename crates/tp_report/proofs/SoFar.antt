@@ -2,7 +2,7 @@
 use Rattle.std.proofs.Common.{◌≡◌, ℕ, suc, ◌+◌, ◌<◌, ◌≤◌, ◌^◌, List, [], ◌∷◌, ◌++◌, length, take, drop, refl, sym, ap, ◌∙◌, subst, arith, zero-add, add-zero}
 use Rattle.std.specs.Prelude.{All, map, None, Some, Result, Ok, Err, IfOk, IfErr}
 use Rattle.std.proofs.lemmas.List.{append_assoc, append-nil, length-append, length-map, take-append-drop, length-take-le}
-use Rattle.std.proofs.lemmas.List.Elements.{All-nil, All-push, All-head, All-tail}
+use Rattle.std.proofs.lemmas.List.Elements.{All-push, All-head, All-tail}
 use Rattle.line_grammar.specs.Language.{IsReadTo, IsStuck}
 use Rattle.line_grammar.specs.Parts.{IsPart}
 use Rattle.line_grammar.specs.Traces.{trace_text}
@@ -38,9 +38,6 @@ pub record IsReadBehind (events : ℕ) (text : List ℕ) (entries : List Entry) 
   pub few : length entries ≤ events
   pub split : text ≡ entries_text entries ++ rest
   pub only : (all : List Entry) → AreRest events 0 text all → (tail : List Entry) × (all ≡ entries ++ tail) × AreRest events (length entries) rest tail
-
-pub read_none : (events : ℕ) (text : List ℕ) → IsReadBehind events text [] text
-read_none events text = record { have_lines = All-nil HasLine; few = omega arith; split = refl; only = λ all rest. (all, refl, rest) }
 
 bound_of : (events len : ℕ) → events ≤ 131072 → len ≤ events → len < 2 ^ 64
 bound_of events len most few = omega arith
@@ -270,16 +267,6 @@ pub record IsCheckedTo (header : Header) (text : List ℕ) (book : Recording) (v
   pub judged : IsJudgedTo book entries verdict
   pub limits : book.limits ≡ limits_of header
   pub capacity : book.capacity ≡ header.events
-
-pub checked_none : (header : Header) (text : List ℕ) (book : Recording) → book.limits ≡ limits_of header → book.capacity ≡ header.events → book.history ≡ [] → IsCheckedTo header text book (Legal 0) 0 text
-checked_none header text book limits capacity empty = record {
-  entries = [];
-  read = read_none header.events text;
-  counts = refl;
-  judged = record { written = empty; is_verdict = (tt, refl) };
-  limits = limits;
-  capacity = capacity;
-}
 
 pub told_len : (limits : Limits) (capacity : ℕ) (entries : List Entry) (verdict : Verdict) → IsVerdict limits capacity entries verdict → len_told verdict ≤ length entries
 told_len limits capacity entries (Legal len) v = omega (arith, v.1)

@@ -57,10 +57,6 @@ read_none bytes = record { have_lines = All-nil HasLine; split = refl; only = λ
 read_count : (bytes : List ℕ) (calls : List (Who × Call)) (rest : List ℕ) → IsReadTo bytes calls rest → length calls + length rest ≤ length bytes
 read_count bytes calls rest r = omega (arith, ap length r.split, length-append (lines_of calls) rest, lines_of-length calls)
 
--- what a trace that isn't empty begins with
-first_split : (rest : List ℕ) (made : Who × Call) (tail : List (Who × Call)) → IsTraceOf rest (made ∷ tail) → rest ≡ line_of made ++ 10 ∷ lines_of tail
-first_split rest made tail trace = trace.split
-
 module _ (bytes : List ℕ) (calls : List (Who × Call)) (rest : List ℕ) (r : IsReadTo bytes calls rest) where
   read_next : (made : Who × Call) (size : ℕ) → IsReadAs (Ended CallLines) rest made size → IsReadTo bytes (calls ++ made ∷ []) (drop size rest)
   read_next made size read =
