@@ -1,6 +1,5 @@
 use Rattle.std.proofs.Common.{◌<◌, ◌∙◌, length, ap, arith}
 use Rattle.std.proofs.lemmas.List.{length-map, with_items_is}
-use Rattle.std.proofs.lemmas.Grind.{common_steps}
 use Rattle.cleanup_groups.specs.Groups.{Grouped}
 use Rattle.cleanup_groups.specs.Notices.{Told}
 use Rattle.cleanup_groups.proofs.Shown.{closed}
@@ -14,19 +13,3 @@ returns-clause-after c =
     let as_many = c.leave_all.auto.members ∙ c.deref_mut.ensures.len in
     let left = with_items_is c.self.inside.members c.leave_all.new.members as_many ∙ rw c.deref_mut.ensures.value at c.leave_all.ensures.members in
     closed _ _ _ c.self.inside.notices.items c.args.waiter _ within c.index_mut-notices.ensures.value _ c.self.view_is c.args.group.0 c.args.notify _ _ told left
-
-pub invariant_of-self : goal.invariant_of-self
-invariant_of-self c =
-    let members = with_items_is c.self.inside.members c.leave_all.new.members (c.leave_all.auto.members ∙ c.deref_mut.ensures.len) in
-    let firsts = with_items_is c.self.inside.firsts c.leave_all.new.firsts (c.leave_all.auto.firsts ∙ c.deref_mut-2.ensures.len) in
-    rw (members, firsts) (record {
-      limited = c.self.invariant.limited;
-      reserved = c.self.invariant.reserved;
-      fits = c.self.invariant.fits;
-      none_0 = grind (arith, common_steps);
-      a_place = omega (arith, c.leave_all.auto.members, c.deref_mut.ensures.len, c.self.invariant.a_place);
-      few = omega (arith, c.leave_all.auto.members, c.deref_mut.ensures.len, c.self.invariant.few);
-      places = omega (arith, c.leave_all.auto.firsts, c.deref_mut-2.ensures.len, c.self.invariant.places);
-      kept = c.leave_all.ensures.firsts;
-      rooms = grind (arith, common_steps);
-    })
