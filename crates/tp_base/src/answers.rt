@@ -83,7 +83,7 @@ pub enum Refusal {
 }
 
 /// The answer that becomes part of the history.
-#[derive(Clone, Copy, Debug, PartialEq)]
+#[derive(Clone, Copy, PartialEq)]
 pub enum Answer {
     Done,
     /// The number of what was made.
@@ -182,7 +182,7 @@ pub enum Look {
 }
 
 /// What a call of the engine comes to.
-#[derive(Clone, Copy, Debug, PartialEq)]
+#[derive(Clone, Copy, PartialEq)]
 pub enum Outcome {
     /// The answer, which is the call's entry of the history.
     Done(Answer),
@@ -193,7 +193,7 @@ pub enum Outcome {
 }
 
 /// An entry of a history.
-#[derive(Clone, Copy, Debug)]
+#[derive(Clone, Copy)]
 pub struct Entry {
     pub who: Who,
     pub call: Call,

@@ -52,7 +52,7 @@ pub enum Lock {
 }
 
 /// A call of one actor.
-#[derive(Clone, Copy, Debug)]
+#[derive(Clone, Copy)]
 pub enum Call {
     /// Makes a pool: `CreateThreadpool`.
     CreatePool,

@@ -13,7 +13,7 @@ use tp_base::answers::{Answer, Entry, Outcome};
 use tp_lines::print::print_outcome;
 
 /// What is said of a history.
-#[derive(Clone, Copy, Debug, PartialEq)]
+#[derive(Clone, Copy)]
 pub enum Verdict {
     /// Each of its `len` entries has the machine's answer.
     Legal { len: u32 },
