@@ -84,8 +84,7 @@ refused_leads w who call refusal =
 
     deed_refused : deed_by (record { who = who; call = call; answer = answer.Refused refusal }) ≡ nothing
     deed_refused =
-        ap₂ (λ b c. record nothing { returned = b; loosened = c; completed = cond (is_complete_call call) [] [] }) (and_false (is_return_call call)) (and_false (is_disassociate_call call))
-        ∙ ap (λ (ns : List ℕ). record nothing { completed = ns }) (none_either (is_complete_call call))
+        ap₂ (λ b c. record nothing { returned = b; loosened = c }) (and_false (is_return_call call)) (and_false (is_disassociate_call call))
 
 -- the answer of End tells how the wait ends
 told_end : (w : World) (left : ℕ) (who : Who) (a : Answer) (ch : Change) → end_plan w left who ≡ plans.Does a ch → wait_end who a ≡ Some ch

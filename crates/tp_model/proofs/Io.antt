@@ -42,7 +42,7 @@ pub data IsDropped (h : List Happening) : Type 0 where
   Gave : h ≡ Starts ∷ GivesUp ∷ [] → IsDropped h
   Ready : (result : TakeResult) → IsReady result h → IsDropped h
 
-abbrev CameTo : Status → TakeResult → List Happening → Type 0
+abbrev pub CameTo : Status → TakeResult → List Happening → Type 0
 CameTo Expected result h = h ≡ Starts ∷ []
 CameTo Issued result h = h ≡ Starts ∷ Issues ∷ []
 CameTo Pending result h = IsReady result h
@@ -50,7 +50,7 @@ CameTo (Running worker associated slots) result h = IsTaken result h
 CameTo Returned result h = IsTaken result h
 CameTo Cancelled result h = IsDropped h
 
-abbrev Came : Option CallbackRow → List Happening → Type 0
+abbrev pub Came : Option CallbackRow → List Happening → Type 0
 Came None h = h ≡ []
 Came (Some c) h = CameTo c.status c.result h
 

@@ -1,5 +1,5 @@
--- I/O objects in small plays, by computation alone; and histories that the law Io refuses.
-use Rattle.std.proofs.Common.{◌≡◌, ℕ, Bool, not, ◌&&◌, ◌==◌, List, [], ◌∷◌, refl, sym, ap, ap₂, ◌∙◌, true, false, eq-eqb}
+-- I/O objects in small plays, by computation alone; and histories that the laws Io, Once and Covered refuse.
+use Rattle.std.proofs.Common.{◌≡◌, ℕ, Bool, not, ◌&&◌, ◌==◌, List, [], ◌∷◌, refl, sym, ap, ap₂, ◌∙◌, true, false, Some, eq-eqb}
 use Rattle.tp_base.specs.declared.ids.Who.TheVariants.{Client, Worker}
 use Rattle.tp_base.specs.declared.calls.Priority.TheVariants.{Normal}
 use Rattle.tp_base.specs.declared.calls.Kind.TheVariants.{Work, Io}
@@ -19,8 +19,11 @@ use Rattle.tp_model.specs.Calls.Io.{start_io_plan, issue_io_plan, cancel_io_plan
 use Rattle.tp_model.specs.Calls.Workers.{attach_plan, take_plan, return_plan}
 use Rattle.tp_model.specs.Calls.Waits.{begin_wait_plan, end_plan}
 use Rattle.tp_model.specs.History.{play}
-use Rattle.tp_model.specs.Laws.Entries.{Happening, is_completion, Starts, Issues, GivesUp, Completes, Runs, numbers_made, numbers_queued}
+use Rattle.tp_model.specs.Laws.Entries.{Happening, is_completion, Starts, Issues, GivesUp, Completes, Runs, numbers_made, ready}
 use Rattle.tp_model.proofs.Refusals.{false_true}
+use Rattle.tp_model.specs.Laws.Once.{AreOnce}
+use Rattle.tp_model.specs.Laws.Covered.{AreCovered}
+use Rattle.tp_base.specs.declared.rows.WaitTarget.TheVariants.{Object}
 use Rattle.tp_model.specs.Laws.Io.{AreOperated, IsWay, Untaken, Plain, Started, GivenUp, Issued, Completed, Taken}
 
 limits : Limits
@@ -261,14 +264,14 @@ completed n bytes = record { who = Client 1; call = call.CompleteIo n 0 bytes; a
 takes : ℕ → ℕ → Entry
 takes n bytes = record { who = Worker 1; call = call.Take; answer = answer.Taken n (record { 0 = 1 }) (record { 0 = 1 }) 0 (result.Io 0 bytes) }
 
--- a completion makes nothing, and makes a callback pending
+-- a completion makes nothing, and makes a callback ready
 completes_what_was_made : numbers_made (started 1 ∷ issued 1 ∷ completed 1 8 ∷ []) ≡ 1 ∷ []
 unfolding started issued completed
 completes_what_was_made = refl
 
-completes_and_queues : numbers_queued (started 1 ∷ issued 1 ∷ completed 1 8 ∷ []) ≡ 1 ∷ []
+makes_ready : ready (started 1 ∷ issued 1 ∷ completed 1 8 ∷ []) 1 ≡ Some 2
 unfolding started issued completed
-completes_and_queues = refl
+makes_ready = refl
 
 -- what happens to a callback is one of its ways
 abbrev is_way : List Happening → Bool
@@ -332,3 +335,38 @@ unstarted law = no_way refl (law.ways 1)
 other_bytes : AreOperated (started 1 ∷ issued 1 ∷ completed 1 8 ∷ takes 1 9 ∷ []) → ⊥
 unfolding started issued completed takes
 other_bytes law = no_way refl (law.ways 1)
+
+-- ---- a completion is of the operation that the call names, and not of another one that the answer tells: the laws Once and Covered refuse
+
+made : Entry
+made = record { who = Client 1; call = call.Create Io (record { 0 = 1 }) 0 plain; answer = answer.Made 1 }
+
+-- a completion of one operation that tells of another
+crossed : ℕ → ℕ → Entry
+crossed n told = record { who = Client 1; call = call.CompleteIo n 0 8; answer = answer.Queued told 1 }
+
+attached : Entry
+attached = record { who = Worker 1; call = call.Attach; answer = answer.Attached (record { 0 = 0 }) }
+
+-- a callback that is taken after a completion of another operation told its number, and before it is made
+taken_unmade : AreOnce limits (made ∷ started 1 ∷ issued 1 ∷ crossed 1 2 ∷ attached ∷ takes 2 8 ∷ started 2 ∷ []) → false ≡ true
+unfolding plain made started issued crossed attached takes
+taken_unmade law = law.only_ready (made ∷ started 1 ∷ issued 1 ∷ crossed 1 2 ∷ attached ∷ []) (started 2 ∷ []) (takes 2 8) refl 2 refl
+
+-- one that is taken after it is made, while its own operation goes on
+taken_uncompleted : AreOnce limits (made ∷ started 1 ∷ started 2 ∷ issued 1 ∷ issued 2 ∷ crossed 1 2 ∷ attached ∷ takes 2 8 ∷ []) → false ≡ true
+unfolding plain made started issued crossed attached takes
+taken_uncompleted law = law.only_ready (made ∷ started 1 ∷ started 2 ∷ issued 1 ∷ issued 2 ∷ crossed 1 2 ∷ attached ∷ []) [] (takes 2 8) refl 2 refl
+
+waits : Entry
+waits = record { who = Client 1; call = call.BeginWait Io (record { 0 = 1 }) true; answer = answer.Begun 0 1 }
+
+ended : Entry
+ended = record { who = Client 1; call = call.End; answer = answer.Ended }
+
+-- and one whose operation had completed before a wait with cancel, and which is taken after that, where each of two completions tells of the other one
+taken_after_wait : AreCovered (made ∷ started 1 ∷ started 2 ∷ issued 1 ∷ issued 2 ∷ crossed 1 2 ∷ waits ∷ ended ∷ crossed 2 1 ∷ attached ∷ takes 1 8 ∷ []) → true ≡ false
+unfolding plain made started issued crossed waits ended attached takes
+taken_after_wait law =
+    (law.at_each (made ∷ started 1 ∷ started 2 ∷ issued 1 ∷ issued 2 ∷ crossed 1 2 ∷ []) [] (crossed 2 1 ∷ attached ∷ takes 1 8 ∷ []) waits ended (record { target = Object (record { 0 = 1 }); cancel = true; cleanup = 0 }) refl refl refl refl refl refl).none_later
+    (crossed 2 1 ∷ attached ∷ []) [] (takes 1 8) (record { number = 1; object = record { 0 = 1 } }) refl refl

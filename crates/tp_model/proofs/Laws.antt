@@ -9,7 +9,7 @@ use Rattle.tp_model.proofs.Refusals.{both, false_true, same_actor_is}
 use Rattle.tp_model.proofs.Fates.{taken_from, pending_held, pending_left}
 use Rattle.tp_model.specs.Counts.{has_number, is_pending, next}
 use Rattle.tp_base.specs.declared.rows.CallbackRow.{CallbackRow}
-use Rattle.tp_model.proofs.Readying.{AreReady, are_ready_more}
+use Rattle.tp_model.proofs.Readying.{AreReady, takes_ready, are_ready_more}
 use Rattle.tp_model.proofs.Promising.{Promises, promises_more, run_at, NoneHeld, GoesOn, unheld, freed, Promised}
 use Rattle.tp_model.specs.Laws.Covered.{AreCovered, AreClosed, is_spoken_for, is_spoken_of, lets_go, end_in, ends, IsCovered, AllLetGo, returns, loosens, NoneTakes}
 use Rattle.tp_model.proofs.Running.{runs_on_more, AreRunning, IsRunning}
@@ -30,7 +30,7 @@ use Rattle.tp_model.specs.Laws.Once.{AreOnce}
 use Rattle.tp_model.specs.Laws.Maximum.{IsWithinMaximum}
 use Rattle.tp_model.proofs.Preserving.{opening_sound}
 use Rattle.tp_model.proofs.Entries.{fresh_in, LeadsOn, entry_leads, IsKept, kept_to_end, kept_to_entry, Reached}
-use Rattle.tp_model.proofs.Once.{AgreesAfter, agrees_on, takes_ready, takes_uncancelled, made_in_order, taken_once, left_untaken, made_are}
+use Rattle.tp_model.proofs.Once.{AgreesAfter, agrees_on, takes_uncancelled, made_in_order, taken_once, left_untaken, made_are}
 use Rattle.tp_model.specs.Laws.Io.{AreOperated}
 use Rattle.tp_model.proofs.Io.{AreOnTheirWay, on_their_way_more, are_operated_after}
 use Rattle.tp_model.specs.Laws.Armed.{AreArmed}
@@ -78,7 +78,7 @@ opening_holds : (limits : Limits) → Holds limits [] (opening limits)
 opening_holds limits =
     record {
       sound = opening_sound limits;
-      agrees = record { in_order = refl; taken_begun = λ n. refl; pending_queued = λ n c found waits. absurd cc; named_cancelled = λ n named. absurd cc; as_many_taken = refl; as_many_cancelled = refl };
+      agrees = record { in_order = refl; taken_begun = λ n. refl; named_cancelled = λ n named. absurd cc; as_many_taken = refl; as_many_cancelled = refl };
       staffed = opening_staffed limits;
       runs = λ earlier later entry run split. absurd (no_place earlier entry later split);
       ready = record { past = λ n among. absurd cc; ready = λ n c among found. absurd cc };
@@ -134,7 +134,7 @@ module _ (limits : Limits) (capacity : ℕ) (history : List Entry) (legal : IsLe
         at_most_once = taken_once history (after limits history) at_end.sound.numbers at_end.agrees;
         only_ready = λ before later entry is.
             let r = at_entry before later entry is in
-            takes_ready before r.world entry (led_to r.world entry) r.holds.agrees (leads_on before entry r).leads.moves;
+            takes_ready before r.world r.holds.sound.numbers r.holds.agrees r.holds.on_their_way entry (led_to r.world entry) (leads_on before entry r).leads.moves;
         none_cancelled = λ before later entry is.
             let r = at_entry before later entry is in
             takes_uncancelled before r.world entry (led_to r.world entry) r.holds.agrees (leads_on before entry r).leads.moves;

@@ -1,6 +1,6 @@
 -- The law Once: what the entries so far tell of each callback is what its status says.
-use Rattle.std.proofs.Common.{◌≡◌, option_map, ◌&&◌, ℕ, suc, zero, ◌+◌, ◌<◌, ◌≤◌, Bool, true, false, cond, not, ◌||◌, ◌==◌, List, [], ◌∷◌, ◌++◌, length, Option, Some, None, is_some, slice_get, get_or, refl, sym, ap, ◌∙◌, append_assoc, subst, arith, filter, find, ◌⊎◌, inl, inr, eqb-true, length-append, lt-ltb}
-use Rattle.std.specs.List.{All, cons_option, list_any, range_with_len, flat_map, filter_map, position, position_or_len, prefix_len}
+use Rattle.std.proofs.Common.{◌≡◌, option_map, ◌&&◌, ℕ, suc, zero, ◌+◌, ◌≤◌, Bool, true, false, cond, not, ◌||◌, ◌==◌, List, [], ◌∷◌, ◌++◌, length, Option, Some, None, slice_get, get_or, refl, sym, ap, ◌∙◌, append_assoc, subst, arith, filter, find, eqb-true, length-append}
+use Rattle.std.specs.List.{All, cons_option, list_any, range_with_len, filter_map}
 use Rattle.std.specs.Option.{option_to_list}
 use Rattle.std.proofs.lemmas.List.{append-nil, length-map}
 use Rattle.std.proofs.lemmas.Grind.{flat_map-append}
@@ -21,14 +21,14 @@ use Rattle.tp_model.specs.World.{World}
 use Rattle.tp_model.specs.Counts.{has_number, is_pending}
 use Rattle.tp_model.specs.Changes.{replaced, taken as taken_row, operated, status_before, returned}
 use Rattle.tp_model.specs.Support.Sound.{IsRising}
-use Rattle.tp_model.specs.Laws.Entries.{Run, is_among, times, numbers_made, numbers_queued, numbers_taken, numbers_cancelled, count_cancelled, made_by, queued_by, queued_new, completed_by, is_complete_call, Event, event, Runs as Taking, taken_by, cancelled_by, cancelled_count}
-use Rattle.tp_model.specs.Laws.Once.{is_left, left, TakesReady, TakesUncancelled}
+use Rattle.tp_model.specs.Laws.Entries.{Run, is_among, times, numbers_made, numbers_taken, numbers_cancelled, count_cancelled, made_by, Event, event, Runs as Taking, taken_by, cancelled_by, cancelled_count}
+use Rattle.tp_model.specs.Laws.Once.{is_left, left, TakesUncancelled}
 use Rattle.tp_model.specs.Support.Told.{Deed, deed_by, deed_of, nothing}
-use Rattle.tp_model.specs.Support.Moves.{Asking, asked_slots, Move, Stay, Mark, Attach, Detach, Take, Return, Moves, run_of, AreNew, is_new, numbers_of, waiting_of, Amend, Operate, Cancel}
+use Rattle.tp_model.specs.Support.Moves.{Asking, asked_slots, Move, Stay, Mark, Attach, Detach, Take, Return, Moves, run_of, AreNew, is_new, numbers_of, Amend, Operate, Cancel}
 use Rattle.tp_model.specs.Waits.{cancelled as cancelled_row, cancel_where}
 use Rattle.tp_model.proofs.Cancelling.{IsPendingTest, cancelled_if, cancelled_found, length_cancelled, find_cancelled, count_uncancelled, count_cancelled as count_dropped}
 use Rattle.tp_model.proofs.Callbacks.{find_appended, find_replaced, find_replaced_other, length_replaced, length_filter_replaced, kept_found}
-use Rattle.tp_model.proofs.Refusals.{false_true, or_true, or_false}
+use Rattle.tp_model.proofs.Refusals.{false_true, or_false}
 
 -- ---- what a status says
 
@@ -80,18 +80,17 @@ times_begun (Some c) = cond (has_begun c.status) 1 0
 
 -- ---- the entries and the statuses agree
 
-pub record Agrees (made queued taken cancelled : List ℕ) (count : ℕ) (cs : List CallbackRow) : Type 0 where
+pub record Agrees (made taken cancelled : List ℕ) (count : ℕ) (cs : List CallbackRow) : Type 0 where
   pub in_order : made ≡ range_with_len 1 (length cs)
   pub taken_begun : (n : ℕ) → times n taken ≡ times_begun (find (has_number n) cs)
-  pub pending_queued : (n : ℕ) (c : CallbackRow) → find (has_number n) cs ≡ Some c → is_pending c.status ≡ true → is_among n queued ≡ true
   pub named_cancelled : (n : ℕ) → is_among n cancelled ≡ true → (c : CallbackRow) × (find (has_number n) cs ≡ Some c) × (is_cancelled c.status ≡ true)
   pub as_many_taken : length taken ≡ length (filter begun cs)
   pub as_many_cancelled : count + length cancelled ≡ length (filter dropped cs)
 
 -- with what an entry tells of the callbacks that there are
-abbrev AgreesWith : List ℕ → List ℕ → List ℕ → List ℕ → ℕ → Deed → List CallbackRow → Type 0
-AgreesWith made queued taken cancelled count deed cs =
-    Agrees made (queued ++ deed.completed) (taken ++ option_to_list deed.taken) (cancelled ++ option_to_list deed.cancelled) (count + deed.count) cs
+abbrev AgreesWith : List ℕ → List ℕ → List ℕ → ℕ → Deed → List CallbackRow → Type 0
+AgreesWith made taken cancelled count deed cs =
+    Agrees made (taken ++ option_to_list deed.taken) (cancelled ++ option_to_list deed.cancelled) (count + deed.count) cs
 
 range_more : (a n : ℕ) → range_with_len a n ++ (a + n) ∷ [] ≡ range_with_len a (n + 1)
 range_more a zero = let next : a + 0 ≡ a = omega arith in ap (λ m. m ∷ []) next
@@ -120,92 +119,34 @@ begun_appended n (d ∷ cs) c still =
       | false ↦ begun_appended n cs c still
     ]
 
--- what is found in a longer list was there, or is what was added
-found_appended : (n : ℕ) (cs : List CallbackRow) (c x : CallbackRow) → find (has_number n) (cs ++ c ∷ []) ≡ Some x → (find (has_number n) cs ≡ Some x) ⊎ (has_number n c ≡ true)
-found_appended n [] c x e =
-    elim (has_number n c) as (λ b. cond b (Some c) None ≡ Some x → (None ≡ Some x) ⊎ (b ≡ true)) [
-      | true ↦ λ _. inr refl
-      | false ↦ λ f. absurd cc
-    ] e
-found_appended n (d ∷ cs) c x e =
-    elim (has_number n d) as (λ b. cond b (Some d) (find (has_number n) (cs ++ c ∷ [])) ≡ Some x → (cond b (Some d) (find (has_number n) cs) ≡ Some x) ⊎ (has_number n c ≡ true)) [
-      | true ↦ λ f. inl f
-      | false ↦ λ f. found_appended n cs c x f
-    ] e
-
--- what was added is found where none of its number was there
-find_last : (n : ℕ) (cs : List CallbackRow) (c : CallbackRow) → find (has_number n) cs ≡ None → has_number n c ≡ true → find (has_number n) (cs ++ c ∷ []) ≡ Some c
-find_last n [] c none here = ap (λ b. cond b (Some c) None) here
-find_last n (d ∷ cs) c none here =
-    elim (has_number n d) as (λ b. cond b (Some d) (find (has_number n) cs) ≡ None → cond b (Some d) (find (has_number n) (cs ++ c ∷ [])) ≡ Some c) [
-      | true ↦ λ e. absurd cc
-      | false ↦ λ e. find_last n cs c e here
-    ] none
-
-among_front : (n : ℕ) (xs ys : List ℕ) → is_among n xs ≡ true → is_among n (xs ++ ys) ≡ true
-among_front n xs ys e = list_any-append (λ m. m == n) xs ys ∙ ap (λ b. b || is_among n ys) e
-
-among_back : (n : ℕ) (xs : List ℕ) (m : ℕ) → (m == n) ≡ true → is_among n (xs ++ m ∷ []) ≡ true
-among_back n xs m e = list_any-append (λ k. k == n) xs (m ∷ []) ∙ ap (λ b. is_among n xs || (b || false)) e ∙ or_true (is_among n xs)
-
 -- the rows found for one number are one
 same_row : (n m : ℕ) (x y : CallbackRow) (cs : List CallbackRow) → n ≡ m → find (has_number n) cs ≡ Some x → find (has_number m) cs ≡ Some y → x ≡ y
 same_row n m x y cs e fx fy = let both_found : Some x ≡ Some y = sym fx ∙ ap (λ k. find (has_number k) cs) e ∙ fy in cc
 
-module _ (made queued taken cancelled : List ℕ) (count : ℕ) (cs : List CallbackRow) where
-  agrees_same : Agrees made queued taken cancelled count cs → AgreesWith made queued taken cancelled count nothing cs
+module _ (made taken cancelled : List ℕ) (count : ℕ) (cs : List CallbackRow) where
+  agrees_same : Agrees made taken cancelled count cs → AgreesWith made taken cancelled count nothing cs
   agrees_same a =
       record {
         in_order = a.in_order;
         taken_begun = λ n. ap (times n) (append-nil taken) ∙ a.taken_begun n;
-        pending_queued = λ n c found waits. among_front n queued [] (a.pending_queued n c found waits);
         named_cancelled = λ n named. a.named_cancelled n (ap (is_among n) (sym (append-nil cancelled)) ∙ named);
         as_many_taken = ap length (append-nil taken) ∙ a.as_many_taken;
         as_many_cancelled = omega (arith, ap length (append-nil cancelled), a.as_many_cancelled);
       }
 
   -- one callback more, which has not begun
-  agrees_made : (c : CallbackRow) (fresh : ℕ) → Agrees made queued taken cancelled count cs → fresh ≡ length cs + 1 → c.number ≡ fresh → is_new c.status ≡ true → Agrees (made ++ c.number ∷ []) (queued ++ waiting_of (c ∷ [])) taken cancelled count (cs ++ c ∷ [])
+  agrees_made : (c : CallbackRow) (fresh : ℕ) → Agrees made taken cancelled count cs → fresh ≡ length cs + 1 → c.number ≡ fresh → is_new c.status ≡ true → Agrees (made ++ c.number ∷ []) taken cancelled count (cs ++ c ∷ [])
   agrees_made c fresh a is number new =
       record {
         in_order = ap (λ t. t ++ c.number ∷ []) a.in_order ∙ ap (λ n. range_with_len 1 (length cs) ++ n ∷ []) (omega (arith, is, number)) ∙ range_more 1 (length cs) ∙ ap (range_with_len 1) (sym (length-append cs (c ∷ [])));
         taken_begun = λ n. a.taken_begun n ∙ sym (begun_appended n cs c (new_unbegun c.status new));
-        pending_queued = λ n x found pending. was_queued n x found pending (found_appended n cs c x found);
         named_cancelled = λ n named. let old = a.named_cancelled n named in (old.0, find_appended n cs old.0 c old.1, old.2);
         as_many_taken = a.as_many_taken ∙ sym (count_appended begun cs c (new_unbegun c.status new));
         as_many_cancelled = omega (arith, a.as_many_cancelled, count_appended dropped cs c (new_uncancelled c.status new));
       }
-    where
-      here_queued : (n : ℕ) → is_pending c.status ≡ true → has_number n c ≡ true → is_among n (queued ++ waiting_of (c ∷ [])) ≡ true
-      here_queued n pending here = ap (λ b. is_among n (queued ++ numbers_of (cond b (c ∷ []) []))) pending ∙ among_back n queued c.number here
-
-      was_queued : (n : ℕ) (x : CallbackRow) → find (has_number n) (cs ++ c ∷ []) ≡ Some x → is_pending x.status ≡ true → (find (has_number n) cs ≡ Some x) ⊎ (has_number n c ≡ true) → is_among n (queued ++ waiting_of (c ∷ [])) ≡ true
-      was_queued n x found pending (inl old) = among_front n queued (waiting_of (c ∷ [])) (a.pending_queued n x old pending)
-      was_queued n x found pending (inr here) = of_old (find (has_number n) cs) refl
-        where
-          of_old : (o : Option CallbackRow) → find (has_number n) cs ≡ o → is_among n (queued ++ waiting_of (c ∷ [])) ≡ true
-          of_old (Some y) was =
-              let same : Some y ≡ Some x = sym (find_appended n cs y c was) ∙ found in
-              let is_x : y ≡ x = cc in
-              among_front n queued (waiting_of (c ∷ [])) (a.pending_queued n y was (ap (λ (z : CallbackRow). is_pending z.status) is_x ∙ pending))
-          of_old None was =
-              let same : Some c ≡ Some x = sym (find_last n cs c was here) ∙ found in
-              let is_x : c ≡ x = cc in
-              here_queued n (ap (λ (z : CallbackRow). is_pending z.status) is_x ∙ pending) here
 
   -- a row in place of the one of its number: what the others agree on stays
   module _ (fresh : ℕ) (c d : CallbackRow) (rising : IsRising 1 fresh cs) (found : find (has_number d.number) cs ≡ Some c) where
-    replaced_pending : ((n : ℕ) (x : CallbackRow) → find (has_number n) cs ≡ Some x → is_pending x.status ≡ true → is_among n queued ≡ true) → (is_pending d.status ≡ true → is_pending c.status ≡ true)
-        → (n : ℕ) (x : CallbackRow) → find (has_number n) (replaced d cs) ≡ Some x → is_pending x.status ≡ true → is_among n queued ≡ true
-    replaced_pending old kept n x there waits =
-        elim (has_number n d) as (λ b. has_number n d ≡ b → is_among n queued ≡ true) [
-          | true ↦ λ e.
-              let is : d.number ≡ n = eqb-true d.number n e in
-              let same : d ≡ x = same_row d.number n d x (replaced d cs) is (find_replaced d c cs found) there in
-              old n c (ap (λ k. find (has_number k) cs) (sym is) ∙ found) (kept (ap (λ (y : CallbackRow). is_pending y.status) same ∙ waits))
-          | false ↦ λ e. old n x (sym (find_replaced_other d n cs e) ∙ there) waits
-        ] refl
-
     replaced_cancelled : ((n : ℕ) → is_among n cancelled ≡ true → (x : CallbackRow) × (find (has_number n) cs ≡ Some x) × (is_cancelled x.status ≡ true)) → (is_cancelled c.status ≡ true → is_cancelled d.status ≡ true)
         → (n : ℕ) → is_among n cancelled ≡ true → (x : CallbackRow) × (find (has_number n) (replaced d cs) ≡ Some x) × (is_cancelled x.status ≡ true)
     replaced_cancelled old kept n named =
@@ -231,44 +172,25 @@ module _ (made queued taken cancelled : List ℕ) (count : ℕ) (cs : List Callb
           | false ↦ λ e. ap times_begun (sym (find_replaced_other d n cs e))
         ] refl
 
-    -- a callback that begins nothing new, nor is cancelled
-    agrees_put : (more : List ℕ) → Agrees made queued taken cancelled count cs → has_begun d.status ≡ has_begun c.status → is_cancelled d.status ≡ is_cancelled c.status
-        → ((n : ℕ) (x : CallbackRow) → find (has_number n) (replaced d cs) ≡ Some x → is_pending x.status ≡ true → is_among n (queued ++ more) ≡ true)
-        → AgreesWith made queued taken cancelled count (record nothing { completed = more }) (replaced d cs)
-    agrees_put more a same_begun same_cancelled pends =
+    -- a callback that begins nothing new, nor is cancelled; or is pending as its operation completes
+    agrees_put : Agrees made taken cancelled count cs → has_begun d.status ≡ has_begun c.status → is_cancelled d.status ≡ is_cancelled c.status
+        → AgreesWith made taken cancelled count nothing (replaced d cs)
+    agrees_put a same_begun same_cancelled =
         record {
           in_order = a.in_order ∙ ap (range_with_len 1) (sym (length_replaced d cs));
           taken_begun = λ n. ap (times n) (append-nil taken) ∙ a.taken_begun n ∙ begun_still same_begun n;
-          pending_queued = pends;
           named_cancelled = λ n named. replaced_cancelled a.named_cancelled (λ e. same_cancelled ∙ e) n (ap (is_among n) (sym (append-nil cancelled)) ∙ named);
           as_many_taken = ap length (append-nil taken) ∙ a.as_many_taken ∙ as_many begun same_begun;
           as_many_cancelled = omega (arith, ap length (append-nil cancelled), a.as_many_cancelled, as_many dropped same_cancelled);
         }
 
-    agrees_marked : Agrees made queued taken cancelled count cs → has_begun d.status ≡ has_begun c.status → is_cancelled d.status ≡ is_cancelled c.status → (is_pending d.status ≡ true → is_pending c.status ≡ true)
-        → AgreesWith made queued taken cancelled count nothing (replaced d cs)
-    agrees_marked a same_begun same_cancelled waits = agrees_put [] a same_begun same_cancelled (λ n x there pends. among_front n queued [] (replaced_pending a.pending_queued waits n x there pends))
-
-    -- an operation completes, so that its callback is pending
-    agrees_completed : Agrees made queued taken cancelled count cs → has_begun d.status ≡ has_begun c.status → is_cancelled d.status ≡ is_cancelled c.status
-        → AgreesWith made queued taken cancelled count (record nothing { completed = d.number ∷ [] }) (replaced d cs)
-    agrees_completed a same_begun same_cancelled = agrees_put (d.number ∷ []) a same_begun same_cancelled pends
-      where
-        pends : (n : ℕ) (x : CallbackRow) → find (has_number n) (replaced d cs) ≡ Some x → is_pending x.status ≡ true → is_among n (queued ++ d.number ∷ []) ≡ true
-        pends n x there waits =
-            elim (has_number n d) as (λ b. has_number n d ≡ b → is_among n (queued ++ d.number ∷ []) ≡ true) [
-              | true ↦ λ e. among_back n queued d.number e
-              | false ↦ λ e. among_front n queued (d.number ∷ []) (a.pending_queued n x (sym (find_replaced_other d n cs e) ∙ there) waits)
-            ] refl
-
     -- an operation is not issued, so that its callback is cancelled
-    agrees_given_up : Agrees made queued taken cancelled count cs → has_begun d.status ≡ has_begun c.status → is_cancelled d.status ≡ true → is_cancelled c.status ≡ false → is_pending d.status ≡ false
-        → AgreesWith made queued taken cancelled count (record nothing { cancelled = Some d.number }) (replaced d cs)
-    agrees_given_up a same_begun now before unpending =
+    agrees_given_up : Agrees made taken cancelled count cs → has_begun d.status ≡ has_begun c.status → is_cancelled d.status ≡ true → is_cancelled c.status ≡ false
+        → AgreesWith made taken cancelled count (record nothing { cancelled = Some d.number }) (replaced d cs)
+    agrees_given_up a same_begun now before =
         record {
           in_order = a.in_order ∙ ap (range_with_len 1) (sym (length_replaced d cs));
           taken_begun = λ n. ap (times n) (append-nil taken) ∙ a.taken_begun n ∙ begun_still same_begun n;
-          pending_queued = λ n x there pends. among_front n queued [] (replaced_pending a.pending_queued (λ e. absurd (false_true (sym unpending ∙ e))) n x there pends);
           named_cancelled = λ n named. either n named (d.number == n) refl;
           as_many_taken = ap length (append-nil taken) ∙ a.as_many_taken ∙ as_many begun same_begun;
           as_many_cancelled = omega (arith, length-append cancelled (d.number ∷ []), a.as_many_cancelled, length_filter_replaced dropped d c 1 fresh cs rising found, ap one_if now, ap one_if before);
@@ -282,13 +204,12 @@ module _ (made queued taken cancelled : List ℕ) (count : ℕ) (cs : List Callb
         either n named false e = replaced_cancelled a.named_cancelled (λ _. now) n (front n cancelled named e)
 
     -- a pending callback is taken
-    agrees_taken : (run : Option Run) (happens : Option Event) → Agrees made queued taken cancelled count cs → is_pending c.status ≡ true → has_begun d.status ≡ true → is_cancelled d.status ≡ false → is_pending d.status ≡ false
-        → AgreesWith made queued taken cancelled count (record nothing { taken = Some d.number; run = run; event = happens }) (replaced d cs)
-    agrees_taken run happens a waits begins uncancelled unpending =
+    agrees_taken : (run : Option Run) (happens : Option Event) → Agrees made taken cancelled count cs → is_pending c.status ≡ true → has_begun d.status ≡ true → is_cancelled d.status ≡ false
+        → AgreesWith made taken cancelled count (record nothing { taken = Some d.number; run = run; event = happens }) (replaced d cs)
+    agrees_taken run happens a waits begins uncancelled =
         record {
           in_order = a.in_order ∙ ap (range_with_len 1) (sym (length_replaced d cs));
           taken_begun = λ n. times_more n ∙ as_begun n;
-          pending_queued = λ n x there pends. among_front n queued [] (replaced_pending a.pending_queued (λ e. absurd (false_true (sym unpending ∙ e))) n x there pends);
           named_cancelled = λ n named. replaced_cancelled a.named_cancelled (λ e. absurd (false_true (sym (pending_uncancelled c.status waits) ∙ e))) n (ap (is_among n) (sym (append-nil cancelled)) ∙ named);
           as_many_taken = omega (arith, length-append taken (d.number ∷ []), a.as_many_taken, length_filter_replaced begun d c 1 fresh cs rising found, ap one_if begins, ap one_if (pending_unbegun c.status waits));
           as_many_cancelled = omega (arith, ap length (append-nil cancelled), a.as_many_cancelled, length_filter_replaced dropped d c 1 fresh cs rising found, ap one_if uncancelled, ap one_if (pending_uncancelled c.status waits));
@@ -313,7 +234,7 @@ module _ (made queued taken cancelled : List ℕ) (count : ℕ) (cs : List Callb
             ] refl
 
 -- pending callbacks are cancelled
-module _ (made queued taken cancelled : List ℕ) (count : ℕ) (cs : List CallbackRow) (test : CallbackRow → Bool) (only : IsPendingTest test) where
+module _ (made taken cancelled : List ℕ) (count : ℕ) (cs : List CallbackRow) (test : CallbackRow → Bool) (only : IsPendingTest test) where
   still_begun : (n : ℕ) (o : Option CallbackRow) → times_begun (cancelled_found test o) ≡ times_begun o
   still_begun n None = refl
   still_begun n (Some c) = of_test (test c) refl
@@ -322,15 +243,6 @@ module _ (made queued taken cancelled : List ℕ) (count : ℕ) (cs : List Callb
       of_test true e = ap (λ t. one_if (has_begun (cond t (cancelled_row c) c).status)) e ∙ sym (ap one_if (pending_unbegun c.status (only c e)))
       of_test false e = ap (λ t. one_if (has_begun (cond t (cancelled_row c) c).status)) e
 
-  -- what is pending after was pending before
-  was_pending : (n : ℕ) (o : Option CallbackRow) (c : CallbackRow) → cancelled_found test o ≡ Some c → is_pending c.status ≡ true → o ≡ Some c
-  was_pending n None c e waits = absurd cc
-  was_pending n (Some d) c e waits = of_test (test d) refl cc
-    where
-      of_test : (b : Bool) → test d ≡ b → cancelled_if test d ≡ c → Some d ≡ Some c
-      of_test true t is = absurd (false_true (ap (λ (x : CallbackRow). is_pending x.status) (sym (ap (λ u. cond u (cancelled_row d) d) t) ∙ is) ∙ waits))
-      of_test false t is = ap (λ x. Some x) (sym (ap (λ u. cond u (cancelled_row d) d) t) ∙ is)
-
   stays_cancelled : (o : Option CallbackRow) (c : CallbackRow) → o ≡ Some c → is_cancelled c.status ≡ true → (x : CallbackRow) × (cancelled_found test o ≡ Some x) × (is_cancelled x.status ≡ true)
   stays_cancelled o c is named = (cancelled_if test c, ap (cancelled_found test) is, of_test (test c))
     where
@@ -338,12 +250,11 @@ module _ (made queued taken cancelled : List ℕ) (count : ℕ) (cs : List Callb
       of_test true = refl
       of_test false = named
 
-  agrees_cancelled : Agrees made queued taken cancelled count cs → AgreesWith made queued taken cancelled count (record nothing { count = length (filter test cs) }) (cancel_where test cs)
+  agrees_cancelled : Agrees made taken cancelled count cs → AgreesWith made taken cancelled count (record nothing { count = length (filter test cs) }) (cancel_where test cs)
   agrees_cancelled a =
       record {
         in_order = a.in_order ∙ ap (range_with_len 1) (sym (length_cancelled test cs));
         taken_begun = λ n. ap (times n) (append-nil taken) ∙ a.taken_begun n ∙ sym (ap times_begun (find_cancelled test cs n) ∙ still_begun n (find (has_number n) cs));
-        pending_queued = λ n c found waits. among_front n queued [] (a.pending_queued n c (was_pending n (find (has_number n) cs) c (sym (find_cancelled test cs n) ∙ found) waits) waits);
         named_cancelled = λ n named.
             let old = a.named_cancelled n (ap (is_among n) (sym (append-nil cancelled)) ∙ named) in
             let now = stays_cancelled (find (has_number n) cs) old.0 old.1 old.2 in
@@ -354,51 +265,51 @@ module _ (made queued taken cancelled : List ℕ) (count : ℕ) (cs : List Callb
 
 -- ---- every move keeps it
 
-move_agrees : (made queued taken cancelled : List ℕ) (count fresh : ℕ) (w : World) (entry : Entry) (kept : List CallbackRow) (staff : List WorkerRow) → IsRising 1 fresh w.callbacks
-    → Agrees made queued taken cancelled count w.callbacks → Move w entry kept staff → AgreesWith made queued taken cancelled count (deed_by entry) kept
-move_agrees made queued taken cancelled count fresh w entry kept staff rising a move = of_move move
+move_agrees : (made taken cancelled : List ℕ) (count fresh : ℕ) (w : World) (entry : Entry) (kept : List CallbackRow) (staff : List WorkerRow) → IsRising 1 fresh w.callbacks
+    → Agrees made taken cancelled count w.callbacks → Move w entry kept staff → AgreesWith made taken cancelled count (deed_by entry) kept
+move_agrees made taken cancelled count fresh w entry kept staff rising a move = of_move move
   where
-    to : (deed : Deed) (cs : List CallbackRow) → deed_by entry ≡ deed → kept ≡ cs → AgreesWith made queued taken cancelled count deed cs → AgreesWith made queued taken cancelled count (deed_by entry) kept
-    to deed cs tells same here = subst (λ (t : Deed). AgreesWith made queued taken cancelled count t kept) (sym tells) (subst (λ l. AgreesWith made queued taken cancelled count deed l) (sym same) here)
+    to : (deed : Deed) (cs : List CallbackRow) → deed_by entry ≡ deed → kept ≡ cs → AgreesWith made taken cancelled count deed cs → AgreesWith made taken cancelled count (deed_by entry) kept
+    to deed cs tells same here = subst (λ (t : Deed). AgreesWith made taken cancelled count t kept) (sym tells) (subst (λ l. AgreesWith made taken cancelled count deed l) (sym same) here)
 
-    still : AgreesWith made queued taken cancelled count nothing w.callbacks
-    still = agrees_same made queued taken cancelled count w.callbacks a
+    still : AgreesWith made taken cancelled count nothing w.callbacks
+    still = agrees_same made taken cancelled count w.callbacks a
 
-    of_move : Move w entry kept staff → AgreesWith made queued taken cancelled count (deed_by entry) kept
+    of_move : Move w entry kept staff → AgreesWith made taken cancelled count (deed_by entry) kept
     of_move (Stay m) = to nothing w.callbacks m.tells m.callbacks still
     of_move (Mark m) =
         to nothing (replaced m.new w.callbacks) m.tells m.callbacks
-        (agrees_marked made queued taken cancelled count w.callbacks fresh m.old m.new rising m.found a (ap has_begun m.status) (ap is_cancelled m.status) (λ e. ap is_pending (sym m.status) ∙ e))
+        (agrees_put made taken cancelled count w.callbacks fresh m.old m.new rising m.found a (ap has_begun m.status) (ap is_cancelled m.status))
     of_move (Attach m) = to (record nothing { attached = Some m.pool.0 }) w.callbacks m.tells m.callbacks still
     of_move (Detach m) = to nothing w.callbacks m.tells m.callbacks still
     of_move (Take m) =
         let d : CallbackRow = taken_row m.callback m.worker in
         to (record nothing { taken = Some m.callback.number; run = Some (run_of m.callback); event = event m.callback.number (Taking m.callback.result) }) (replaced d w.callbacks) m.tells m.callbacks
-        (agrees_taken made queued taken cancelled count w.callbacks fresh m.callback d rising m.found (Some (run_of m.callback)) (event m.callback.number (Taking m.callback.result)) a m.waits refl refl refl)
+        (agrees_taken made taken cancelled count w.callbacks fresh m.callback d rising m.found (Some (run_of m.callback)) (event m.callback.number (Taking m.callback.result)) a m.waits refl refl)
     of_move (Return m) =
         let d : CallbackRow = returned m.callback in
         to (record nothing { returned = true; words = Some m.words }) (replaced d w.callbacks) m.tells m.callbacks
-        (agrees_marked made queued taken cancelled count w.callbacks fresh m.callback d rising m.found a (sym (ap has_begun m.running)) (sym (ap is_cancelled m.running)) (λ e. absurd (false_true e)))
+        (agrees_put made taken cancelled count w.callbacks fresh m.callback d rising m.found a (sym (ap has_begun m.running)) (sym (ap is_cancelled m.running)))
     of_move (Amend m) =
         let d : CallbackRow = record m.callback { status = Running m.worker (m.associated && not m.loose) (asked_slots m.asks m.slots) } in
         to (record nothing { loosened = m.loose; asked = option_map (λ (a : Asking). a.kind) m.asks }) (replaced d w.callbacks) m.tells m.callbacks
-        (agrees_marked made queued taken cancelled count w.callbacks fresh m.callback d rising m.found a (sym (ap has_begun m.running)) (sym (ap is_cancelled m.running)) (λ e. absurd (false_true e)))
+        (agrees_put made taken cancelled count w.callbacks fresh m.callback d rising m.found a (sym (ap has_begun m.running)) (sym (ap is_cancelled m.running)))
     of_move (Operate m) = operates m.how m.callback m.found m.status m.tells m.callbacks
       where
         operates : (how : IoStep) (c : CallbackRow) → find (has_number c.number) w.callbacks ≡ Some c → c.status ≡ status_before how → deed_by entry ≡ deed_of c.number how → kept ≡ replaced (operated how c) w.callbacks
-            → AgreesWith made queued taken cancelled count (deed_by entry) kept
+            → AgreesWith made taken cancelled count (deed_by entry) kept
         operates Issue c found comes tells same =
             to (deed_of c.number Issue) (replaced (operated Issue c) w.callbacks) tells same
-            (agrees_marked made queued taken cancelled count w.callbacks fresh c (operated Issue c) rising found a (sym (ap has_begun comes)) (sym (ap is_cancelled comes)) (λ e. absurd (false_true e)))
+            (agrees_put made taken cancelled count w.callbacks fresh c (operated Issue c) rising found a (sym (ap has_begun comes)) (sym (ap is_cancelled comes)))
         operates GiveUp c found comes tells same =
             to (deed_of c.number GiveUp) (replaced (operated GiveUp c) w.callbacks) tells same
-            (agrees_given_up made queued taken cancelled count w.callbacks fresh c (operated GiveUp c) rising found a (sym (ap has_begun comes)) refl (ap is_cancelled comes) refl)
+            (agrees_given_up made taken cancelled count w.callbacks fresh c (operated GiveUp c) rising found a (sym (ap has_begun comes)) refl (ap is_cancelled comes))
         operates (Complete error bytes) c found comes tells same =
             to (deed_of c.number (Complete error bytes)) (replaced (operated (Complete error bytes) c) w.callbacks) tells same
-            (agrees_completed made queued taken cancelled count w.callbacks fresh c (operated (Complete error bytes) c) rising found a (sym (ap has_begun comes)) (sym (ap is_cancelled comes)))
+            (agrees_put made taken cancelled count w.callbacks fresh c (operated (Complete error bytes) c) rising found a (sym (ap has_begun comes)) (sym (ap is_cancelled comes)))
     of_move (Cancel m) =
         to (record nothing { count = length (filter m.test w.callbacks) }) (cancel_where m.test w.callbacks) m.tells m.callbacks
-        (agrees_cancelled made queued taken cancelled count w.callbacks m.test m.waits a)
+        (agrees_cancelled made taken cancelled count w.callbacks m.test m.waits a)
 
 -- as many callbacks as before
 pub move_as_many : (w : World) (entry : Entry) (kept : List CallbackRow) (staff : List WorkerRow) → Move w entry kept staff → length kept ≡ length w.callbacks
@@ -413,47 +324,39 @@ move_as_many w entry kept staff (Operate m) = ap length m.callbacks ∙ length_r
 move_as_many w entry kept staff (Cancel m) = ap length m.callbacks ∙ length_cancelled m.test w.callbacks
 
 -- the callbacks that are made, one by one
-new_agree : (made queued taken cancelled : List ℕ) (count fresh : ℕ) (cs new : List CallbackRow) → fresh ≡ length cs + 1 → AreNew fresh new → Agrees made queued taken cancelled count cs
-    → Agrees (made ++ numbers_of new) (queued ++ waiting_of new) taken cancelled count (cs ++ new)
-new_agree made queued taken cancelled count fresh cs [] is rows a =
-    subst (λ m. Agrees m (queued ++ []) taken cancelled count (cs ++ [])) (sym (append-nil made))
-    (subst (λ q. Agrees made q taken cancelled count (cs ++ [])) (sym (append-nil queued)) (subst (Agrees made queued taken cancelled count) (sym (append-nil cs)) a))
-new_agree made queued taken cancelled count fresh cs (c ∷ new) is rows a =
-    let one : Agrees (made ++ c.number ∷ []) (queued ++ waiting_of (c ∷ [])) taken cancelled count (cs ++ c ∷ []) = agrees_made made queued taken cancelled count cs c fresh a is rows.0.numbered rows.0.unbegun in
+new_agree : (made taken cancelled : List ℕ) (count fresh : ℕ) (cs new : List CallbackRow) → fresh ≡ length cs + 1 → AreNew fresh new → Agrees made taken cancelled count cs
+    → Agrees (made ++ numbers_of new) taken cancelled count (cs ++ new)
+new_agree made taken cancelled count fresh cs [] is rows a =
+    subst (λ m. Agrees m taken cancelled count (cs ++ [])) (sym (append-nil made)) (subst (Agrees made taken cancelled count) (sym (append-nil cs)) a)
+new_agree made taken cancelled count fresh cs (c ∷ new) is rows a =
+    let one : Agrees (made ++ c.number ∷ []) taken cancelled count (cs ++ c ∷ []) = agrees_made made taken cancelled count cs c fresh a is rows.0.numbered rows.0.unbegun in
     let longer : fresh + 1 ≡ length (cs ++ c ∷ []) + 1 = omega (arith, is, length-append cs (c ∷ [])) in
-    let rest : Agrees ((made ++ c.number ∷ []) ++ numbers_of new) ((queued ++ waiting_of (c ∷ [])) ++ waiting_of new) taken cancelled count ((cs ++ c ∷ []) ++ new)
-    = new_agree (made ++ c.number ∷ []) (queued ++ waiting_of (c ∷ [])) taken cancelled count (fresh + 1) (cs ++ c ∷ []) new longer rows.1 one in
-    subst (λ m. Agrees m (queued ++ waiting_of (c ∷ new)) taken cancelled count (cs ++ c ∷ new)) (append_assoc made (c.number ∷ []) (numbers_of new))
-    (subst (λ q. Agrees ((made ++ c.number ∷ []) ++ numbers_of new) q taken cancelled count (cs ++ c ∷ new)) (waiting_split queued c new)
-    (subst (Agrees ((made ++ c.number ∷ []) ++ numbers_of new) ((queued ++ waiting_of (c ∷ [])) ++ waiting_of new) taken cancelled count) (append_assoc cs (c ∷ []) new) rest))
-  where
-    waiting_split : (qs : List ℕ) (d : CallbackRow) (ds : List CallbackRow) → (qs ++ waiting_of (d ∷ [])) ++ waiting_of ds ≡ qs ++ waiting_of (d ∷ ds)
-    waiting_split qs d ds =
-        append_assoc qs (waiting_of (d ∷ [])) (waiting_of ds)
-        ∙ elim (is_pending d.status) as (λ b. qs ++ (numbers_of (cond b (d ∷ []) []) ++ waiting_of ds) ≡ qs ++ numbers_of (cond b (d ∷ filter (λ (x : CallbackRow). is_pending x.status) ds) (filter (λ (x : CallbackRow). is_pending x.status) ds))) [ true ↦ refl | false ↦ refl ]
+    let rest : Agrees ((made ++ c.number ∷ []) ++ numbers_of new) taken cancelled count ((cs ++ c ∷ []) ++ new)
+    = new_agree (made ++ c.number ∷ []) taken cancelled count (fresh + 1) (cs ++ c ∷ []) new longer rows.1 one in
+    subst (λ m. Agrees m taken cancelled count (cs ++ c ∷ new)) (append_assoc made (c.number ∷ []) (numbers_of new))
+    (subst (Agrees ((made ++ c.number ∷ []) ++ numbers_of new) taken cancelled count) (append_assoc cs (c ∷ []) new) rest)
 
 -- ---- along a history
 
 abbrev pub AgreesAfter : List Entry → World → Type 0
-AgreesAfter history w = Agrees (numbers_made history) (numbers_queued history) (numbers_taken history) (numbers_cancelled history) (count_cancelled history) w.callbacks
+AgreesAfter history w = Agrees (numbers_made history) (numbers_taken history) (numbers_cancelled history) (count_cancelled history) w.callbacks
 
 -- one entry more tells what it tells besides
 agrees_entry : (before : List Entry) (entry : Entry) (cs : List CallbackRow)
-    → Agrees (numbers_made before ++ made_by entry) (numbers_queued before ++ queued_by entry.answer) (numbers_taken before ++ option_to_list (taken_by entry.answer)) (numbers_cancelled before ++ option_to_list (cancelled_by entry.answer)) (count_cancelled before + cancelled_count entry.answer) cs
-    → Agrees (numbers_made (before ++ entry ∷ [])) (numbers_queued (before ++ entry ∷ [])) (numbers_taken (before ++ entry ∷ [])) (numbers_cancelled (before ++ entry ∷ [])) (count_cancelled (before ++ entry ∷ [])) cs
+    → Agrees (numbers_made before ++ made_by entry) (numbers_taken before ++ option_to_list (taken_by entry.answer)) (numbers_cancelled before ++ option_to_list (cancelled_by entry.answer)) (count_cancelled before + cancelled_count entry.answer) cs
+    → Agrees (numbers_made (before ++ entry ∷ [])) (numbers_taken (before ++ entry ∷ [])) (numbers_cancelled (before ++ entry ∷ [])) (count_cancelled (before ++ entry ∷ [])) cs
 agrees_entry before entry cs a =
-    subst (λ m. Agrees m (numbers_queued all) (numbers_taken all) (numbers_cancelled all) (count_cancelled all) cs) (sym (lists made_by))
-    (subst (λ q. Agrees (numbers_made before ++ made_by entry) q (numbers_taken all) (numbers_cancelled all) (count_cancelled all) cs) (sym (lists (λ (e : Entry). queued_by e.answer)))
-    (subst (λ t. Agrees (numbers_made before ++ made_by entry) (numbers_queued before ++ queued_by entry.answer) t (numbers_cancelled all) (count_cancelled all) cs) (sym (ones (λ (e : Entry). taken_by e.answer)))
-    (subst (λ c. Agrees (numbers_made before ++ made_by entry) (numbers_queued before ++ queued_by entry.answer) (numbers_taken before ++ option_to_list (taken_by entry.answer)) c (count_cancelled all) cs) (sym (ones (λ (e : Entry). cancelled_by e.answer)))
-    (subst (λ s. Agrees (numbers_made before ++ made_by entry) (numbers_queued before ++ queued_by entry.answer) (numbers_taken before ++ option_to_list (taken_by entry.answer)) (numbers_cancelled before ++ option_to_list (cancelled_by entry.answer)) s cs)
-    (sym (sum_by_push (λ (e : Entry). cancelled_count e.answer) before entry)) a))))
+    subst (λ m. Agrees m (numbers_taken all) (numbers_cancelled all) (count_cancelled all) cs) (sym made)
+    (subst (λ t. Agrees (numbers_made before ++ made_by entry) t (numbers_cancelled all) (count_cancelled all) cs) (sym (ones (λ (e : Entry). taken_by e.answer)))
+    (subst (λ c. Agrees (numbers_made before ++ made_by entry) (numbers_taken before ++ option_to_list (taken_by entry.answer)) c (count_cancelled all) cs) (sym (ones (λ (e : Entry). cancelled_by e.answer)))
+    (subst (λ s. Agrees (numbers_made before ++ made_by entry) (numbers_taken before ++ option_to_list (taken_by entry.answer)) (numbers_cancelled before ++ option_to_list (cancelled_by entry.answer)) s cs)
+    (sym (sum_by_push (λ (e : Entry). cancelled_count e.answer) before entry)) a)))
   where
     all : List Entry
     all = before ++ entry ∷ []
 
-    lists : (f : Entry → List ℕ) → flat_map f (before ++ entry ∷ []) ≡ flat_map f before ++ f entry
-    lists f = flat_map-append f before (entry ∷ []) ∙ ap (λ t. flat_map f before ++ t) (append-nil (f entry))
+    made : numbers_made all ≡ numbers_made before ++ made_by entry
+    made = flat_map-append made_by before (entry ∷ []) ∙ ap (λ t. numbers_made before ++ t) (append-nil (made_by entry))
 
     single : (o : Option ℕ) → cons_option o [] ≡ option_to_list o
     single None = refl
@@ -462,28 +365,16 @@ agrees_entry before entry cs a =
     ones : (f : Entry → Option ℕ) → filter_map f (before ++ entry ∷ []) ≡ filter_map f before ++ option_to_list (f entry)
     ones f = filter_map-append f before (entry ∷ []) ∙ ap (λ t. filter_map f before ++ t) (single (f entry))
 
--- what an entry tells to be pending was made before, or is made by it
-pub queued_split : (entry : Entry) → completed_by entry ++ queued_new entry ≡ queued_by entry.answer
-queued_split entry =
-    elim (is_complete_call entry.call) as (λ b. cond b (queued_by entry.answer) [] ++ cond b [] (queued_by entry.answer) ≡ queued_by entry.answer) [ true ↦ append-nil (queued_by entry.answer) | false ↦ refl ]
-
 pub agrees_on : (before : List Entry) (w : World) (entry : Entry) (after : World) → IsRising 1 (length w.callbacks + 1) w.callbacks → AgreesAfter before w → Moves (length w.callbacks + 1) w entry after → AgreesAfter (before ++ entry ∷ []) after
 agrees_on before w entry after rising a moves =
-    let moved = move_agrees (numbers_made before) (numbers_queued before) (numbers_taken before) (numbers_cancelled before) (count_cancelled before) (length w.callbacks + 1) w entry moves.kept after.workers rising a moves.move in
+    let moved = move_agrees (numbers_made before) (numbers_taken before) (numbers_cancelled before) (count_cancelled before) (length w.callbacks + 1) w entry moves.kept after.workers rising a moves.move in
     let longer : length w.callbacks + 1 ≡ length moves.kept + 1 = ap (λ n. n + 1) (sym (move_as_many w entry moves.kept after.workers moves.move)) in
-    let made = new_agree (numbers_made before) (numbers_queued before ++ completed_by entry) (numbers_taken before ++ option_to_list (taken_by entry.answer)) (numbers_cancelled before ++ option_to_list (cancelled_by entry.answer)) (count_cancelled before + cancelled_count entry.answer)
+    let made = new_agree (numbers_made before) (numbers_taken before ++ option_to_list (taken_by entry.answer)) (numbers_cancelled before ++ option_to_list (cancelled_by entry.answer)) (count_cancelled before + cancelled_count entry.answer)
     (length w.callbacks + 1) moves.kept moves.new longer moves.rows moved in
-    agrees_entry before entry after.callbacks
-    (subst (λ m. AgreesMade m (numbers_queued before ++ queued_by entry.answer) after.callbacks) (sym moves.made)
-    (subst (λ q. AgreesMade (numbers_of moves.new) q after.callbacks) queued
-    (subst (λ cs. AgreesMade (numbers_of moves.new) ((numbers_queued before ++ completed_by entry) ++ waiting_of moves.new) cs) (sym moves.callbacks) made)))
+    agrees_entry before entry after.callbacks (subst (λ m. AgreesMade m after.callbacks) (sym moves.made) (subst (λ cs. AgreesMade (numbers_of moves.new) cs) (sym moves.callbacks) made))
   where
-    AgreesMade : List ℕ → List ℕ → List CallbackRow → Type 0
-    AgreesMade m q cs = Agrees (numbers_made before ++ m) q (numbers_taken before ++ option_to_list (taken_by entry.answer)) (numbers_cancelled before ++ option_to_list (cancelled_by entry.answer)) (count_cancelled before + cancelled_count entry.answer) cs
-
-    queued : (numbers_queued before ++ completed_by entry) ++ waiting_of moves.new ≡ numbers_queued before ++ queued_by entry.answer
-    queued =
-        ap (λ q. (numbers_queued before ++ completed_by entry) ++ q) (sym moves.queued) ∙ append_assoc (numbers_queued before) (completed_by entry) (queued_new entry) ∙ ap (λ q. numbers_queued before ++ q) (queued_split entry)
+    AgreesMade : List ℕ → List CallbackRow → Type 0
+    AgreesMade m cs = Agrees (numbers_made before ++ m) (numbers_taken before ++ option_to_list (taken_by entry.answer)) (numbers_cancelled before ++ option_to_list (cancelled_by entry.answer)) (count_cancelled before + cancelled_count entry.answer) cs
 
 -- ---- what the law says of an entry
 
@@ -503,31 +394,6 @@ taken_waits w entry kept staff n (Return m) e = absurd (let h = sym (ap (λ (t :
 taken_waits w entry kept staff n (Amend m) e = absurd (let h = sym (ap (λ (t : Deed). t.taken) m.tells) ∙ e in cc)
 taken_waits w entry kept staff n (Operate m) e = absurd (let h = sym (ap (λ (t : Deed). t.taken) m.tells) ∙ e in cc)
 taken_waits w entry kept staff n (Cancel m) e = absurd (let h = sym (ap (λ (t : Deed). t.taken) m.tells) ∙ e in cc)
-
--- a first place that passes is within the list
-passes_within : {X : Type 0} (p : X → Bool) (xs : List X) → list_any p xs ≡ true → is_some (position p xs) ≡ true
-passes_within {X} p xs e = ap (λ b. is_some (cond b (Some (position_or_len p xs)) None)) (lt-ltb (position_or_len p xs) (length xs) (before_end xs e))
-  where
-    before_end : (ys : List X) → list_any p ys ≡ true → prefix_len (λ x. not (p x)) ys < length ys
-    before_end [] h = absurd (false_true h)
-    before_end (y ∷ ys) h =
-        elim (p y) as (λ b. (b || list_any p ys) ≡ true → cond (not b) (1 + prefix_len (λ x. not (p x)) ys) 0 < length (y ∷ ys)) [
-          | true ↦ λ _. omega arith
-          | false ↦ λ rest. omega (arith, before_end ys rest)
-        ] h
-
-among_some : (n : ℕ) (history : List Entry) → is_among n (numbers_queued history) ≡ true → list_any (λ (e : Entry). is_among n (queued_by e.answer)) history ≡ true
-among_some n [] e = absurd (false_true e)
-among_some n (entry ∷ rest) e =
-    elim (is_among n (queued_by entry.answer)) as (λ b. (b || is_among n (numbers_queued rest)) ≡ true → (b || list_any (λ (x : Entry). is_among n (queued_by x.answer)) rest) ≡ true) [
-      | true ↦ λ _. refl
-      | false ↦ λ h. among_some n rest h
-    ] (sym (list_any-append (λ m. m == n) (queued_by entry.answer) (numbers_queued rest)) ∙ e)
-
-pub takes_ready : (before : List Entry) (w : World) (entry : Entry) (after : World) → AgreesAfter before w → Moves (length w.callbacks + 1) w entry after → TakesReady before entry
-takes_ready before w entry after a moves n e =
-    let taken = taken_waits w entry moves.kept after.workers n moves.move e in
-    passes_within (λ (x : Entry). is_among n (queued_by x.answer)) before (among_some n before (a.pending_queued n taken.0 taken.1 taken.2))
 
 pub takes_uncancelled : (before : List Entry) (w : World) (entry : Entry) (after : World) → AgreesAfter before w → Moves (length w.callbacks + 1) w entry after → TakesUncancelled before entry
 takes_uncancelled before w entry after a moves n e =

@@ -1,5 +1,5 @@
 -- What a wait promises from where it begins: of the callbacks that it speaks of, which may still be run.
-use Rattle.std.proofs.Common.{◌≡◌, ℕ, ◌+◌, ◌≤◌, Bool, true, false, cond, not, ◌&&◌, ◌||◌, ◌==◌, List, [], ◌∷◌, ◌++◌, length, drop, Option, Some, None, option_map, refl, sym, ap, ap₂, ◌∙◌, subst, find, filter, ◌⊎◌, inl, inr, arith, eqb-true, eq-eqb}
+use Rattle.std.proofs.Common.{◌≡◌, ℕ, ◌+◌, ◌≤◌, Bool, true, false, cond, not, ◌&&◌, ◌||◌, ◌==◌, List, [], ◌∷◌, ◌++◌, length, drop, is_some, Option, Some, None, option_map, refl, sym, ap, ap₂, ◌∙◌, subst, find, filter, ◌⊎◌, inl, inr, arith, eqb-true, eq-eqb}
 use Rattle.std.specs.Option.{option_map_or}
 use Rattle.std.specs.List.{list_any}
 use Rattle.tp_base.specs.declared.ids.Who.{Who}
@@ -19,7 +19,7 @@ use Rattle.tp_model.specs.Counts.{numbered, has_number, is_operating, is_pending
 use Rattle.tp_model.specs.Changes.{give_notice, notified}
 use Rattle.tp_model.specs.Waits.{is_of, is_held_for, is_object_target, is_outstanding_for, is_covered_by, is_held, held, wait_of, is_group_target}
 use Rattle.tp_model.specs.Laws.Once.{is_left}
-use Rattle.tp_model.specs.Laws.Entries.{Run, Begins, begins_by, is_among, is_ending, is_end_call, is_last_answer, is_ended_answer, notice_by, numbers_made, numbers_queued, objects_of, simples_of}
+use Rattle.tp_model.specs.Laws.Entries.{Run, Begins, begins_by, is_among, is_ending, is_end_call, is_last_answer, is_ended_answer, notice_by, born, ready, objects_of, simples_of}
 use Rattle.tp_model.specs.Laws.Covered.{ends, end_in, is_spoken_for, is_spoken_of}
 use Rattle.tp_model.specs.Laws.Notices.{given_by}
 use Rattle.tp_model.specs.Support.Sound.{IsRising, IsCallbackSound, HasObject, is_standing}
@@ -29,8 +29,8 @@ use Rattle.tp_model.proofs.Lists.{find_all, find_more, find_passes}
 use Rattle.tp_model.proofs.Fates.{WasRow, row_was}
 use Rattle.tp_model.proofs.Places.{LastPlace, Here, Earlier, last_place, FoundLast, Before, Now, found_last, none_last}
 use Rattle.tp_model.proofs.Once.{AgreesAfter}
-use Rattle.tp_model.proofs.Readying.{AreReady, made_past, not_true, past_row, longer}
-use Rattle.tp_model.proofs.Tied.{IsTied, IsInGroup, simples_queued, tied_still}
+use Rattle.tp_model.proofs.Readying.{AreReady, numbers_ready, ready_among, born_among, made_past, not_true, past_row, longer}
+use Rattle.tp_model.proofs.Tied.{IsTied, IsInGroup, simples_ready, tied_still}
 use Rattle.tp_model.proofs.Refusals.{both, or_true, false_true, same_actor_is, is_own_actor, neither, same_actor_sym}
 
 -- ---- what is told of waits
@@ -270,13 +270,13 @@ module _ (before : List Entry) (w : World) (x : Entry) (after : World) (leads : 
 
 -- a run that the wait speaks of, by what it is
 pub data IsSpoken (target : WaitTarget) (cancel : Bool) (before : List Entry) (run : Run) : Type 0 where
-  OfObject : (object : ObjectId) → target ≡ Object object → (run.object.0 == object.0) ≡ true → is_among run.number (cond cancel (numbers_queued before) (numbers_made before)) ≡ true → IsSpoken target cancel before run
+  OfObject : (object : ObjectId) → target ≡ Object object → (run.object.0 == object.0) ≡ true → is_some (cond cancel (ready before run.number) (born before run.number)) ≡ true → IsSpoken target cancel before run
   OfMember : (group : GroupId) → target ≡ Group group → is_among run.object.0 (objects_of group.0 before) ≡ true → IsSpoken target cancel before run
   OfSimple : (group : GroupId) → target ≡ Group group → (run.object.0 == 0) ≡ true → is_among run.number (simples_of group.0 before) ≡ true → IsSpoken target cancel before run
 
 pub spoken_is : (target : WaitTarget) (cancel : Bool) (before : List Entry) (run : Run) → is_spoken_for target cancel before run ≡ true → IsSpoken target cancel before run
 spoken_is (Object object) cancel before run e =
-    let parts = both (run.object.0 == object.0) (is_among run.number (cond cancel (numbers_queued before) (numbers_made before))) e in OfObject object refl parts.0 parts.1
+    let parts = both (run.object.0 == object.0) (is_some (cond cancel (ready before run.number) (born before run.number))) e in OfObject object refl parts.0 parts.1
 spoken_is (Kernel kernel) cancel before run e = absurd (false_true e)
 spoken_is (Group group) cancel before run e = of_member (is_among run.object.0 (objects_of group.0 before)) refl e
   where
@@ -305,15 +305,15 @@ spoken_of target cancel before w n c tied sound found (OfMember group is among) 
 
 -- ---- one entry more
 
-module _ (before : List Entry) (w : World) (x : Entry) (after : World) (rising : IsRising 1 (length w.callbacks + 1) w.callbacks) (agrees : AgreesAfter before w) (ready : AreReady before w) (tied : IsTied before w) (leads : Leads (length w.callbacks + 1) w x after) (sound : AllSound after) where
+module _ (before : List Entry) (w : World) (x : Entry) (after : World) (rising : IsRising 1 (length w.callbacks + 1) w.callbacks) (agrees : AgreesAfter before w) (may_take : AreReady before w) (tied : IsTied before w) (leads : Leads (length w.callbacks + 1) w x after) (sound : AllSound after) where
   -- what a wait that begins speaks of is past
   past_here : (b : Begins) → begins_by x ≡ Some b → (run : Run) → IsSpoken b.target b.cancel before run → IsPast after run
   past_here b begins run (OfObject object is same among) = inl (omega (arith, of_cancel b.cancel among, longer w x after leads))
     where
-      of_cancel : (cancel : Bool) → is_among run.number (cond cancel (numbers_queued before) (numbers_made before)) ≡ true → run.number ≤ length w.callbacks
-      of_cancel true h = ready.past run.number h
-      of_cancel false h = made_past before w run.number agrees h
-  past_here b begins run (OfSimple group is none among) = inl (omega (arith, ready.past run.number (simples_queued group.0 run.number before among), longer w x after leads))
+      of_cancel : (cancel : Bool) → is_some (cond cancel (ready before run.number) (born before run.number)) ≡ true → run.number ≤ length w.callbacks
+      of_cancel true h = may_take.past run.number (ready_among run.number before h)
+      of_cancel false h = made_past before w run.number agrees (born_among run.number before h)
+  past_here b begins run (OfSimple group is none among) = inl (omega (arith, may_take.past run.number (simples_ready group.0 run.number before among), longer w x after leads))
   past_here b begins run (OfMember group is among) =
       let of : IsInGroup w.objects group.0 run.object.0 = tied.objects group.0 run.object.0 among in
       let o = leads.groups.keeps run.object.0 of.row of.stands in
@@ -327,7 +327,7 @@ module _ (before : List Entry) (w : World) (x : Entry) (after : World) (rising :
       spoken n c e = spoken_is b.target b.cancel before (run_at n c) e
 
       its : (n : ℕ) (c : CallbackRow) → find (has_number n) after.callbacks ≡ Some c → is_spoken_of b before (run_at n c) ≡ true → is_of b.target c ≡ true
-      its n c found e = spoken_of b.target b.cancel before after n c (tied_still before w x after rising ready leads tied) sound found (spoken n c e)
+      its n c found e = spoken_of b.target b.cancel before after n c (tied_still before w x after rising may_take leads tied) sound found (spoken n c e)
 
       left_not : (s : Status) → is_pending s ≡ false → is_operating s ≡ false → is_left s ≡ false
       left_not Pending p o = absurd (false_true (sym p))
@@ -372,9 +372,9 @@ module _ (before : List Entry) (w : World) (x : Entry) (after : World) (rising :
 
               idle : IsSpoken b.target b.cancel before (run_at n c) → is_operating c.status ≡ false
               idle (OfObject object is its_own among) =
-                  let queued : is_among n (numbers_queued before) ≡ true = ap (λ t. is_among n (cond t (numbers_queued before) (numbers_made before))) (sym cancels) ∙ among in
-                  let was : WasRow w n c = past_row w x after leads n c (ready.past n queued) found in
-                  not_true (is_operating c.status) (is_operating was.old.status) was.follows.operating (ready.ready n was.old queued was.found)
+                  let is_ready : is_among n (numbers_ready before) ≡ true = ready_among n before (ap (λ t. is_some (cond t (ready before n) (born before n))) (sym cancels) ∙ among) in
+                  let was : WasRow w n c = past_row w x after leads n c (may_take.past n is_ready) found in
+                  not_true (is_operating c.status) (is_operating was.old.status) was.follows.operating (may_take.ready n was.old is_ready was.found)
               idle (OfMember group is among) = of_group group is
               idle (OfSimple group is none among) = of_group group is
 

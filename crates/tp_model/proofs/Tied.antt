@@ -1,7 +1,6 @@
 -- What entries tell of groups is what the objects and the callbacks are of.
 use Rattle.std.proofs.Common.{◌≡◌, ℕ, ◌+◌, ◌≤◌, Bool, true, false, cond, ◌||◌, ◌==◌, List, [], ◌∷◌, ◌++◌, length, Option, Some, None, refl, sym, ap, ◌∙◌, subst, find, ◌⊎◌, inl, inr, arith, eqb-true, append-nil}
 use Rattle.std.proofs.lemmas.Grind.{flat_map-append}
-use Rattle.std.proofs.lemmas.List.Folds.{list_any-append}
 use Rattle.tp_base.specs.declared.calls.Call.{Call}
 use Rattle.tp_base.specs.declared.calls.Call.TheVariants.{CompleteIo}
 use Rattle.tp_base.specs.declared.answers.Answer.{Answer}
@@ -11,15 +10,15 @@ use Rattle.tp_base.specs.declared.rows.CallbackRow.{CallbackRow}
 use Rattle.tp_model.specs.World.{World}
 use Rattle.tp_model.specs.Counts.{numbered, has_number}
 use Rattle.tp_model.specs.History.{is_refusal}
-use Rattle.tp_model.specs.Laws.Entries.{Creation, created_by, object_in, objects_of, is_for_group, simple_call, simple_by, simples_in, simples_of, is_among, is_complete_call, queued_by, queued_new, numbers_queued}
+use Rattle.tp_model.specs.Laws.Entries.{Creation, created_by, object_in, objects_of, is_for_group, simple_call, simple_by, simples_in, simples_of, is_among, is_complete_call, completed_by, queued_by, queued_new}
 use Rattle.tp_model.specs.Support.Sound.{IsRising}
 use Rattle.tp_model.specs.Support.Moves.{Leads}
 use Rattle.tp_model.proofs.Lists.{find_all}
 use Rattle.tp_model.proofs.Callbacks.{found_bounds}
 use Rattle.tp_model.proofs.Fates.{WasRow, row_was}
 use Rattle.tp_model.proofs.Places.{waiting_above}
-use Rattle.tp_model.proofs.Readying.{AreReady, among_split, past_row}
-use Rattle.tp_model.proofs.Refusals.{or_true, false_true}
+use Rattle.tp_model.proofs.Readying.{AreReady, ready_by, numbers_ready, among_front, among_back, among_split, past_row}
+use Rattle.tp_model.proofs.Refusals.{false_true}
 
 -- an object that was made with a group
 pub record IsInGroup (objects : List ObjectRow) (group n : ℕ) : Type 0 where
@@ -31,20 +30,6 @@ pub record IsTied (history : List Entry) (w : World) : Type 0 where
   pub objects : (group n : ℕ) → is_among n (objects_of group history) ≡ true → IsInGroup w.objects group n
   pub simples : (group n : ℕ) (c : CallbackRow) → is_among n (simples_of group history) ≡ true → find (has_number n) w.callbacks ≡ Some c → (c.object.0 ≡ 0) × (c.group.0 ≡ group)
 
--- what is told of a simple callback is told to be pending
-pub simples_queued : (group n : ℕ) (history : List Entry) → is_among n (simples_of group history) ≡ true → is_among n (numbers_queued history) ≡ true
-simples_queued group n [] e = e
-simples_queued group n (x ∷ history) e = of_either (simples_queued group n history) (among_split n (simples_in group x) (simples_of group history) e)
-  where
-    of_group : (b : Bool) → is_among n (cond b (queued_by x.answer) []) ≡ true → is_among n (queued_by x.answer) ≡ true
-    of_group true h = h
-    of_group false h = absurd (false_true h)
-
-    of_either : (is_among n (simples_of group history) ≡ true → is_among n (numbers_queued history) ≡ true) → (is_among n (simples_in group x) ≡ true) ⊎ (is_among n (simples_of group history) ≡ true) → is_among n (numbers_queued (x ∷ history)) ≡ true
-    of_either behind (inl here) = list_any-append (λ m. m == n) (queued_by x.answer) (numbers_queued history) ∙ ap (λ b. b || is_among n (numbers_queued history)) (of_group (is_for_group group (simple_by x)) here)
-    of_either behind (inr later) =
-        list_any-append (λ m. m == n) (queued_by x.answer) (numbers_queued history) ∙ ap (λ b. is_among n (queued_by x.answer) || b) (behind later) ∙ or_true (is_among n (queued_by x.answer))
-
 -- a SubmitSimple completes no operation
 simple_new : (group : ℕ) (call : Call) (a : Answer) → is_for_group group (cond (is_refusal a) None (simple_call call)) ≡ true → cond (is_complete_call call) [] (queued_by a) ≡ queued_by a
 simple_new group (CompleteIo callback error bytes) a e = absurd (none (is_refusal a) e)
@@ -53,6 +38,19 @@ simple_new group (CompleteIo callback error bytes) a e = absurd (none (is_refusa
     none true h = false_true h
     none false h = false_true h
 simple_new group _ a e = refl
+
+-- a simple callback may be taken from where it is made
+pub simples_ready : (group n : ℕ) (history : List Entry) → is_among n (simples_of group history) ≡ true → is_among n (numbers_ready history) ≡ true
+simples_ready group n [] e = e
+simples_ready group n (x ∷ history) e = of_either (simples_ready group n history) (among_split n (simples_in group x) (simples_of group history) e)
+  where
+    of_group : (b : Bool) → is_for_group group (simple_by x) ≡ b → is_among n (cond b (queued_by x.answer) []) ≡ true → is_among n (queued_new x) ≡ true
+    of_group true its h = ap (is_among n) (simple_new group x.call x.answer its) ∙ h
+    of_group false its h = absurd (false_true h)
+
+    of_either : (is_among n (simples_of group history) ≡ true → is_among n (numbers_ready history) ≡ true) → (is_among n (simples_in group x) ≡ true) ⊎ (is_among n (simples_of group history) ≡ true) → is_among n (numbers_ready (x ∷ history)) ≡ true
+    of_either behind (inl here) = among_front n (ready_by x) (numbers_ready history) (among_back n (completed_by x) (queued_new x) (of_group (is_for_group group (simple_by x)) refl here))
+    of_either behind (inr later) = among_back n (ready_by x) (numbers_ready history) (behind later)
 
 module _ (before : List Entry) (w : World) (x : Entry) (after : World) (rising : IsRising 1 (length w.callbacks + 1) w.callbacks) (ready : AreReady before w) (leads : Leads (length w.callbacks + 1) w x after) where
   still_in : (group n : ℕ) → IsInGroup w.objects group n → IsInGroup after.objects group n
@@ -64,7 +62,7 @@ module _ (before : List Entry) (w : World) (x : Entry) (after : World) (rising :
       record {
         objects = λ group n among. still_in group n (t.objects group n among);
         simples = λ group n c among found.
-            let was : WasRow w n c = past_row w x after leads n c (ready.past n (simples_queued group n before among)) found in
+            let was : WasRow w n c = past_row w x after leads n c (ready.past n (simples_ready group n before among)) found in
             let of = t.simples group n was.old among was.found in
             (ap (λ o. o.0) was.object ∙ of.0, ap (λ g. g.0) was.group ∙ of.1);
       }

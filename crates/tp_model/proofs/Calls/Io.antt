@@ -207,7 +207,7 @@ module _ (w : World) (who : Who) (callback error bytes : ℕ) where
             allowed = record { found = ap (callback_of w) same ∙ of.found; status = of.status };
             made_by = tt;
             accepted = refl;
-            tells = ap (λ n. record silent { deed = record nothing { completed = c.number ∷ []; event = event n (Completes error bytes) } }) (sym same);
+            tells = ap (λ n. record silent { deed = record nothing { completed = n ∷ []; event = event n (Completes error bytes) } }) (sym same);
           }
 
   pub complete_io_forget : (fresh : ℕ) → IsSound fresh w → complete_io_plan (forget w) who callback error bytes ≡ complete_io_plan w who callback error bytes

@@ -1,6 +1,6 @@
 -- The laws Covered and Closed: what may still run once a wait for the callbacks of an object has returned, or a close of a
 -- group.
-use Rattle.std.specs.Prelude.{◌≡◌, Bool, true, false, ◌&&◌, ◌||◌, ◌==◌, List, ◌∷◌, ◌++◌, if◌then◌else◌, Option, None, Some}
+use Rattle.std.specs.Prelude.{◌≡◌, Bool, true, false, ◌&&◌, ◌||◌, ◌==◌, List, ◌∷◌, ◌++◌, if◌then◌else◌, is_some, Option, None, Some}
 use Rattle.std.specs.List.{find, list_any}
 use Rattle.tp_base.specs.declared.ids.Who.{Who}
 use Rattle.tp_base.specs.declared.answers.Answer.TheVariants.{Ended}
@@ -9,7 +9,7 @@ use Rattle.tp_base.specs.declared.rows.WaitTarget.{WaitTarget}
 use Rattle.tp_base.specs.declared.rows.WaitTarget.TheVariants.{Object, Group, Kernel}
 use Rattle.tp_base.specs.Actors.{is_same_actor}
 use Rattle.tp_model.specs.Waits.{is_object_target, is_group_target}
-use Rattle.tp_model.specs.Laws.Entries.{Run, Begins, begins_by, is_among, is_ending, is_loosened, is_returned, numbers_made, numbers_queued, objects_of, simples_of, run_by}
+use Rattle.tp_model.specs.Laws.Entries.{Run, Begins, begins_by, is_among, is_ending, is_loosened, is_returned, born, ready, objects_of, simples_of, run_by}
 
 -- the entry ends the actor's wait
 abbrev pub ends : Who → Entry → Bool
@@ -23,7 +23,7 @@ end_in who entries = find (ends who) entries
 -- be taken before it. Of a close of a group the callbacks of the objects that were made before it with the group, and the
 -- simple ones of the group that were
 abbrev pub is_spoken_for : WaitTarget → Bool → List Entry → Run → Bool
-is_spoken_for (Object object) cancel before run = (run.object.0 == object.0) && is_among run.number (if cancel then numbers_queued before else numbers_made before)
+is_spoken_for (Object object) cancel before run = (run.object.0 == object.0) && is_some (if cancel then ready before run.number else born before run.number)
 is_spoken_for (Group group) cancel before run = is_among run.object.0 (objects_of group.0 before) || ((run.object.0 == 0) && is_among run.number (simples_of group.0 before))
 is_spoken_for (Kernel kernel) cancel before run = false
 

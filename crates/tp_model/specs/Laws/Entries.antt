@@ -54,10 +54,15 @@ abbrev pub is_complete_call : Call → Bool
 is_complete_call (CompleteIo callback error bytes) = true
 is_complete_call _ = false
 
--- what is pending as an operation completes was made before, and else what an entry tells to be pending is made by it
-abbrev pub completed_by : Entry → List ℕ
-completed_by entry = if is_complete_call entry.call then queued_by entry.answer else []
+-- the callback of the operation that an accepted CompleteIo completes. It is told by the call, whatever the answer says
+abbrev pub completed_call : Call → List ℕ
+completed_call (CompleteIo callback error bytes) = callback ∷ []
+completed_call _ = []
 
+abbrev pub completed_by : Entry → List ℕ
+completed_by entry = if is_refusal entry.answer then [] else completed_call entry.call
+
+-- what is pending as an operation completes was made before, and else what an entry tells to be pending is made by it
 abbrev pub queued_new : Entry → List ℕ
 queued_new entry = if is_complete_call entry.call then [] else queued_by entry.answer
 
@@ -92,8 +97,8 @@ cancelled_count _ = 0
 abbrev pub numbers_made : List Entry → List ℕ
 numbers_made history = flat_map made_by history
 
-abbrev pub numbers_queued : List Entry → List ℕ
-numbers_queued history = flat_map (λ entry. queued_by entry.answer) history
+abbrev pub numbers_started : List Entry → List ℕ
+numbers_started history = flat_map (λ entry. started_by entry.answer) history
 
 abbrev pub numbers_taken : List Entry → List ℕ
 numbers_taken history = filter_map (λ entry. taken_by entry.answer) history
@@ -108,9 +113,14 @@ count_cancelled history = sum_by (λ entry. cancelled_count entry.answer) histor
 abbrev pub born : List Entry → ℕ → Option ℕ
 born history n = position (λ entry. is_among n (made_by entry)) history
 
--- the place of the first entry after which the callback may be taken
+-- the place of the entry that completes its operation
+abbrev pub completed : List Entry → ℕ → Option ℕ
+completed history n = position (λ entry. is_among n (completed_by entry)) history
+
+-- the place of the entry after which the callback may be taken: where it is made, or, where it has an operation, where that
+-- completes
 abbrev pub ready : List Entry → ℕ → Option ℕ
-ready history n = position (λ entry. is_among n (queued_by entry.answer)) history
+ready history n = if is_among n (numbers_started history) then completed history n else born history n
 
 -- ---- workers
 
