@@ -1,4 +1,5 @@
 pub mod Counts
+pub mod Edges
 pub mod Given
 pub mod Memory
 pub mod Plan

@@ -1,30 +1,48 @@
 //! Where the program meets the real streams.
 
-ghost use Rattle.std.specs.Prelude.{◌≡◌, None};
+ghost use Rattle.std.specs.Prelude.{◌≡◌};
+ghost use Rattle.tp_edge.specs.Edges.{Edge, told, IsTold};
 
+use crate::first::First;
 use crate::sink::{Gave, Sink};
 use crate::source::{Source, Took};
 use std::io::{Read, Write};
+use std::marker::Model;
 
-/// A reader as a source. It tells nothing of its content. A read of no bytes is the end, and each
-/// error is a fault that raises the count.
+/// A reader as a source, seen as the bytes that the reader tells to be left in it, and the count of
+/// its faults. A read of no bytes is the end, and each error is a fault that raises the count.
 #[derive(Drop)]
-pub struct ReadEdge<R> {
+pub struct ReadEdge<R: Read> {
     inner: R,
     faults: u64,
+    first: First<R>,
+}
+
+impl<R: Read> Model for ReadEdge<R> {
+    ghost Value = { Edge };
+
+    ghost view = { λ edge. record { bytes = told (R.remaining edge.first.stream) (R.remaining edge.inner); faults = edge.faults } };
+
+    ghost invariant = { λ edge. IsTold (R.remaining edge.first.stream) (R.remaining edge.inner) };
 }
 
 impl<R: Read> ReadEdge<R> {
     /// A source that reads from `inner`. Takes no memory.
     pub fn new(inner: R) -> Self
-        ensures { ⟦<ReadEdge<R> as Source>⟧.failures result ≡ 0 }
+        ensures left { ⟦<ReadEdge<R> as Source>⟧.left result ≡ R.remaining inner }
+        ensures faults { ⟦<ReadEdge<R> as Source>⟧.failures result ≡ 0 }
     {
-        ReadEdge { inner, faults: 0 }
+        let first = First::of(&inner);
+        ReadEdge {
+            inner,
+            faults: 0,
+            first,
+        }
     }
 }
 
 impl<R: Read> Source for ReadEdge<R> {
-    ghost left = { λ _. None };
+    ghost left = { λ edge. edge.bytes };
 
     ghost failures = { λ edge. edge.faults };
 
@@ -44,25 +62,40 @@ impl<R: Read> Source for ReadEdge<R> {
     }
 }
 
-/// A writer as a sink. It tells nothing of its content. A write of no bytes and each error is a
-/// fault that raises the count.
+/// A writer as a sink, seen as the bytes that the writer tells that it holds, and the count of its
+/// faults. A write of no bytes and each error is a fault that raises the count.
 #[derive(Drop)]
-pub struct WriteEdge<W> {
+pub struct WriteEdge<W: Write> {
     inner: W,
     faults: u64,
+    first: First<W>,
+}
+
+impl<W: Write> Model for WriteEdge<W> {
+    ghost Value = { Edge };
+
+    ghost view = { λ edge. record { bytes = told (W.contents edge.first.stream) (W.contents edge.inner); faults = edge.faults } };
+
+    ghost invariant = { λ edge. IsTold (W.contents edge.first.stream) (W.contents edge.inner) };
 }
 
 impl<W: Write> WriteEdge<W> {
     /// A sink that writes to `inner`. Takes no memory.
     pub fn new(inner: W) -> Self
-        ensures { ⟦<WriteEdge<W> as Sink>⟧.failures result ≡ 0 }
+        ensures holds { ⟦<WriteEdge<W> as Sink>⟧.holds result ≡ W.contents inner }
+        ensures faults { ⟦<WriteEdge<W> as Sink>⟧.failures result ≡ 0 }
     {
-        WriteEdge { inner, faults: 0 }
+        let first = First::of(&inner);
+        WriteEdge {
+            inner,
+            faults: 0,
+            first,
+        }
     }
 }
 
 impl<W: Write> Sink for WriteEdge<W> {
-    ghost holds = { λ _. None };
+    ghost holds = { λ edge. edge.bytes };
 
     ghost failures = { λ edge. edge.faults };
 

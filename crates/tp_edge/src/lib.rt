@@ -8,8 +8,9 @@
 //!
 //! `read_all` reads a source to its end, and `give_all` gives a sink all of some bytes.
 //! `MemorySource`, `MemorySink` and `NeverFails` are streams in memory, for tests and for proofs
-//! above. `ReadEdge` and `WriteEdge` adapt std's readers and writers: they tell nothing of their
-//! content, and are the trusted edge of the program.
+//! above. `ReadEdge` and `WriteEdge` are a source of any reader and a sink of any writer of std, and
+//! tell what that tells of its bytes: a `Vec` those that it holds, a slice those that are left. The
+//! streams of the system tell nothing.
 //!
 //! A source of ten bytes that gives four of them a call, and whose third call fails:
 //!
@@ -22,6 +23,7 @@
 #![tactic(auto)]
 
 mod edges;
+mod first;
 mod memory_sink;
 mod memory_source;
 mod never_fails;
