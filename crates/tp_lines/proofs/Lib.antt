@@ -5,6 +5,7 @@ mod CallFacts
 mod Choices
 mod DueFacts
 pub mod EntryFacts
+mod Examples
 pub mod Feeds
 mod FrontFacts
 mod NamedFacts

@@ -8,15 +8,10 @@ const WORK: ObjectId = ObjectId(2);
 fn callbacks_are_counted(rt: HostRuntime) {
     let mut works = expect_ok(&rt, WorkObjects::open(rt.alloc(), 2));
     works.create(WORK);
-    expect_eq(&rt, works.count(WORK), Some(0));
     works.begun(WORK);
     works.begun(WORK);
     expect_eq(&rt, (works.left(WORK), works.count(WORK)), (1, Some(1)));
     works.close(WORK);
-    for number in 0..5 {
-        expect_eq(&rt, works.count(ObjectId(number)), None);
-    }
-    works.create(WORK);
-    expect_eq(&rt, works.count(WORK), Some(0));
+    expect_eq(&rt, works.count(WORK), None);
     drop(works);
 }

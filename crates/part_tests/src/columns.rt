@@ -6,7 +6,7 @@
 //! a range (`range_of`), and any other byte for itself.
 
 use crate::checks::{expect_eq, expect_ok};
-use std::alloc::{AllocError, Global};
+use std::alloc::Global;
 use std::process::Abort;
 use tp_lines::parse::{LineFault, LineKind, parse_call, parse_entry};
 
@@ -112,12 +112,9 @@ fn range_of(sign: u8) -> Option<(u64, u64)> {
     }
 }
 
-// How far a text goes along with something, and whether that ends there.
-#[derive(Clone, Copy, PartialEq)]
-struct Reach {
-    place: usize,
-    whole: bool,
-}
+// Where a text that goes along with something up to a place is once it has gone along with more: `Err` has the place
+// up to which it does, where that isn't all.
+type Reach = Result<usize, usize>;
 
 fn longer(value: u64, size: usize, byte: u8, range: (u64, u64)) -> Option<u64> {
     if byte < b'0' || b'9' < byte || (0 < size && value == 0) {
@@ -131,141 +128,89 @@ fn longer(value: u64, size: usize, byte: u8, range: (u64, u64)) -> Option<u64> {
     }
 }
 
-fn number_reach(range: (u64, u64), text: &[u8]) -> Reach {
+fn number_reach(range: (u64, u64), text: &[u8], place: usize) -> Reach {
     let mut value: u64 = 0;
-    let mut place: usize = 0;
-    for byte in text {
-        let Some(next) = longer(value, place, *byte, range) else {
+    let mut size: usize = 0;
+    for byte in text.iter().skip(place) {
+        let Some(next) = longer(value, size, *byte, range) else {
             break;
         };
         value = next;
-        place = place.saturating_add(1);
+        size = size.saturating_add(1);
     }
-    Reach {
-        place,
-        whole: 0 < place && range.0 <= value,
-    }
-}
-
-fn rest_of(text: &[u8], place: usize) -> &[u8] {
-    if place <= text.len() {
-        let (_, rest) = text.split_at(place);
-        rest
+    let end = place.saturating_add(size);
+    if 0 < size && range.0 <= value {
+        Ok(end)
     } else {
-        &[]
+        Err(end)
     }
 }
 
-// How far the text at a place goes along with one byte of a pattern.
-fn byte_reach(byte: u8, text: &[u8]) -> Reach {
+fn byte_reach(byte: u8, text: &[u8], place: usize) -> Reach {
     match range_of(byte) {
-        Some(range) => number_reach(range, text),
-        None => match text.first() {
-            Some(first) if *first == byte => Reach {
-                place: 1,
-                whole: true,
-            },
-            _ => Reach {
-                place: 0,
-                whole: false,
-            },
+        Some(range) => number_reach(range, text, place),
+        None => match text.get(place) {
+            Some(found) if *found == byte => Ok(place.saturating_add(1)),
+            _ => Err(place),
         },
     }
 }
 
-fn bytes_reach(pattern: &[u8], text: &[u8]) -> Reach {
-    let mut place: usize = 0;
+fn bytes_reach(pattern: &[u8], text: &[u8], place: usize) -> Reach {
+    let mut end = place;
     for byte in pattern {
-        let reach = byte_reach(*byte, rest_of(text, place));
-        place = place.saturating_add(reach.place);
-        if !reach.whole {
-            return Reach {
-                place,
-                whole: false,
-            };
-        }
+        end = byte_reach(*byte, text, end)?;
     }
-    Reach { place, whole: true }
+    Ok(end)
 }
 
 // The one that goes further, and of two that go as far one that ends there.
-fn better(one: Reach, other: Reach) -> Reach {
-    if one.place < other.place || (one.place == other.place && other.whole) {
-        other
-    } else {
-        one
+fn further(one: Reach, other: Reach) -> Reach {
+    match (one, other) {
+        (Ok(place), Ok(end)) => Ok(place.max(end)),
+        (Err(place), Err(end)) => Err(place.max(end)),
+        (Ok(place), Err(end)) | (Err(end), Ok(place)) => {
+            if end <= place { Ok(place) } else { Err(end) }
+        }
     }
 }
 
-fn field_reach(field: &str, text: &[u8]) -> Reach {
-    let mut best = Reach {
-        place: 0,
-        whole: false,
-    };
+fn field_reach(field: &str, text: &[u8], place: usize) -> Reach {
+    let mut furthest = Err(place);
     for alternative in alternatives(field).split('|') {
-        best = better(best, bytes_reach(alternative.as_bytes(), text));
+        furthest = further(furthest, bytes_reach(alternative.as_bytes(), text, place));
     }
-    best
+    furthest
 }
 
-fn pattern_reach(pattern: &str, text: &[u8]) -> Reach {
-    let mut place: usize = 0;
-    let mut begun = false;
+fn pattern_reach(pattern: &str, text: &[u8], place: usize) -> Reach {
+    let mut end = place;
     for field in pattern.split(' ') {
-        if begun {
-            let space = byte_reach(b' ', rest_of(text, place));
-            place = place.saturating_add(space.place);
-            if !space.whole {
-                return Reach {
-                    place,
-                    whole: false,
-                };
-            }
+        if place < end {
+            end = byte_reach(b' ', text, end)?;
         }
-        begun = true;
-        let reach = field_reach(field, rest_of(text, place));
-        place = place.saturating_add(reach.place);
-        if !reach.whole {
-            return Reach {
-                place,
-                whole: false,
-            };
-        }
+        end = field_reach(field, text, end)?;
     }
-    Reach { place, whole: true }
+    Ok(end)
 }
 
 // How far a text goes along with one of the patterns.
-fn furthest_reach(patterns: &str, text: &[u8]) -> Reach {
-    let mut best = Reach {
-        place: 0,
-        whole: false,
-    };
+fn furthest_reach(patterns: &str, text: &[u8], place: usize) -> Reach {
+    let mut furthest = Err(place);
     for pattern in patterns.split('\n') {
-        best = better(best, pattern_reach(pattern, text));
+        furthest = further(furthest, pattern_reach(pattern, text, place));
     }
-    best
+    furthest
 }
 
-// How far a text goes along with entries.
+fn call_reach(text: &[u8]) -> Reach {
+    furthest_reach(CALL_PATTERNS, text, 0)
+}
+
 fn entry_reach(text: &[u8]) -> Reach {
-    let call = furthest_reach(CALL_PATTERNS, text);
-    if !call.whole {
-        return call;
-    }
-    let arrow = bytes_reach(b" -> ", rest_of(text, call.place));
-    let behind = call.place.saturating_add(arrow.place);
-    if !arrow.whole {
-        return Reach {
-            place: behind,
-            whole: false,
-        };
-    }
-    let answer = furthest_reach(ANSWER_PATTERNS, rest_of(text, behind));
-    Reach {
-        place: behind.saturating_add(answer.place),
-        whole: answer.whole,
-    }
+    let call = call_reach(text)?;
+    let arrow = bytes_reach(b" -> ", text, call)?;
+    furthest_reach(ANSWER_PATTERNS, text, arrow)
 }
 
 // Numbers that look drawn, from a seed.
@@ -288,129 +233,117 @@ impl Draws {
     }
 }
 
-fn draw_number(
-    range: (u64, u64),
-    draws: &mut Draws,
-    alloc: Global,
-    out: &mut Vec<u8>,
-) -> Result<(), AllocError> {
-    let number = match draws.next(4) {
+fn append(rt: &impl Abort, bytes: &[u8], out: &mut Vec<u8>) {
+    expect_ok(rt, out.extend_from_slice(bytes));
+}
+
+fn drawn_number(range: (u64, u64), draws: &mut Draws) -> u64 {
+    match draws.next(4) {
         0 => range.0,
         1 => range.1,
         2 => draws.next(10),
         _ => draws.next(range.1),
-    };
-    let text = format!(in alloc; "{number}")?;
-    out.extend_from_slice(text.as_bytes())
+    }
 }
 
-fn draw_field(
-    field: &str,
-    draws: &mut Draws,
-    alloc: Global,
-    out: &mut Vec<u8>,
-) -> Result<(), AllocError> {
-    let chosen = draws.next(7);
-    let mut index: u64 = 0;
-    for alternative in alternatives(field).split('|') {
-        if index == chosen {
-            return draw_alternative(alternative, draws, alloc, out);
+// The alternative of this index, or the first one.
+fn chosen(field: &str, index: usize) -> &str {
+    for (place, alternative) in alternatives(field).split('|').enumerate() {
+        if place == index {
+            return alternative;
         }
-        index = index.saturating_add(1);
     }
     match alternatives(field).split('|').next() {
-        Some(first) => draw_alternative(first, draws, alloc, out),
-        None => Ok(()),
+        Some(first) => first,
+        None => field,
     }
 }
 
-fn draw_alternative(
-    alternative: &str,
-    draws: &mut Draws,
-    alloc: Global,
-    out: &mut Vec<u8>,
-) -> Result<(), AllocError> {
-    for byte in alternative.as_bytes() {
+fn draw_field(rt: &impl Abort, alloc: Global, field: &str, draws: &mut Draws, out: &mut Vec<u8>) {
+    for byte in chosen(field, draws.next(7) as usize).as_bytes() {
         match range_of(*byte) {
-            Some(range) => draw_number(range, draws, alloc, out)?,
-            None => out.extend_from_slice(&[*byte])?,
+            Some(range) => {
+                let number = drawn_number(range, draws);
+                let text = expect_ok(rt, format!(in alloc; "{number}"));
+                append(rt, text.as_bytes(), out);
+            }
+            None => append(rt, &[*byte], out),
         }
     }
-    Ok(())
 }
 
 fn draw_pattern(
+    rt: &impl Abort,
+    alloc: Global,
     pattern: &str,
     draws: &mut Draws,
-    alloc: Global,
     out: &mut Vec<u8>,
-) -> Result<(), AllocError> {
+) {
     let mut begun = false;
     for field in pattern.split(' ') {
         if begun {
-            out.extend_from_slice(b" ")?;
+            append(rt, b" ", out);
         }
         begun = true;
-        draw_field(field, draws, alloc, out)?;
+        draw_field(rt, alloc, field, draws, out);
     }
-    Ok(())
 }
 
-// The text with one byte changed, added or left out, or cut off at a place.
-fn draw_fault(text: &[u8], draws: &mut Draws, alloc: Global) -> Result<Vec<u8>, AllocError> {
-    let mut out = Vec::new(alloc);
+// The text up to a place, and what is behind it.
+fn parted(text: &[u8], place: usize) -> (&[u8], &[u8]) {
+    text.split_at(place.min(text.len()))
+}
+
+// The text with one byte changed, added, doubled or left out, or cut off at a place.
+fn draw_fault(rt: &impl Abort, alloc: Global, text: &[u8], draws: &mut Draws) -> Vec<u8> {
     let place = draws.next(text.len() as u64 + 1) as usize;
-    let kind = draws.next(5);
-    let byte = draw_byte(draws);
-    for (index, old) in text.iter().enumerate() {
-        if index == place {
-            match kind {
-                0 => return Ok(out),
-                1 => out.extend_from_slice(&[byte])?,
-                2 => out.extend_from_slice(&[byte, *old])?,
-                3 => {}
-                _ => out.extend_from_slice(&[*old, *old])?,
-            }
-        } else {
-            out.extend_from_slice(&[*old])?;
-        }
+    let (front, back) = parted(text, place);
+    let (one, behind) = parted(back, 1);
+    let byte = [drawn_byte(draws)];
+    let (first, second, third) = match draws.next(5) {
+        0 => (byte.as_slice(), behind, b"".as_slice()),
+        1 => (byte.as_slice(), one, behind),
+        2 => (one, one, behind),
+        3 => (behind, b"".as_slice(), b"".as_slice()),
+        _ => (b"".as_slice(), b"".as_slice(), b"".as_slice()),
+    };
+    let mut out = Vec::new(alloc);
+    for piece in [front, first, second, third] {
+        append(rt, piece, &mut out);
     }
-    Ok(out)
+    out
 }
 
-fn draw_byte(draws: &mut Draws) -> u8 {
+fn drawn_byte(draws: &mut Draws) -> u8 {
     let bytes = b"0123459 -|crwoxygqpetadnslmk>\n";
     let index = draws.next(30) as usize;
-    match bytes.get(index) {
-        Some(byte) => *byte,
-        None => b' ',
-    }
+    bytes.get(index).copied().unwrap_or(b' ')
 }
 
 // The fault is where the finder says, and there is none where it finds all of the text.
 fn check_fault(rt: &impl Abort, text: &[u8], fault: Option<LineFault>, reach: Reach) {
-    let end = reach.place == text.len();
-    let told = if reach.whole && end {
+    let (Ok(place) | Err(place)) = reach;
+    let kind = if place == text.len() {
+        LineKind::Unfinished
+    } else {
+        LineKind::Unexpected
+    };
+    let wanted = if reach == Ok(text.len()) {
         None
     } else {
-        let kind = if end {
-            LineKind::Unfinished
-        } else {
-            LineKind::Unexpected
-        };
-        Some((reach.place.saturating_add(1), kind))
+        Some((place.saturating_add(1), kind))
     };
     let found = match fault {
         Some(fault) => Some((fault.column as usize, fault.kind)),
         None => None,
     };
-    expect_eq(rt, found, told);
+    expect_eq(rt, (text, found), (text, wanted));
 }
 
 #[test]
 fn columns_of_drawn_lines(rt: HostRuntime) {
     let mut draws = Draws { state: 7 };
-    for _round in 0..30_u64 {
+    for _round in 0..10_u64 {
         for call in CALL_PATTERNS.split('\n') {
             for answer in ANSWER_PATTERNS.split('\n') {
                 check_drawn(&rt, rt.alloc(), call, answer, &mut draws);
@@ -422,26 +355,15 @@ fn columns_of_drawn_lines(rt: HostRuntime) {
 // Draws a line of the call, and of the call and the answer, each with a fault, and reads both.
 fn check_drawn(rt: &impl Abort, alloc: Global, call: &str, answer: &str, draws: &mut Draws) {
     let mut line = Vec::new(alloc);
-    expect_ok(rt, draw_pattern(call, draws, alloc, &mut line));
-    check_call(
-        rt,
-        &expect_ok(rt, draw_fault(line.as_slice(), draws, alloc)),
-    );
-    expect_ok(rt, line.extend_from_slice(b" -> "));
-    expect_ok(rt, draw_pattern(answer, draws, alloc, &mut line));
-    check_entry(
-        rt,
-        &expect_ok(rt, draw_fault(line.as_slice(), draws, alloc)),
-    );
+    draw_pattern(rt, alloc, call, draws, &mut line);
+    check_call(rt, &draw_fault(rt, alloc, &line, draws));
+    append(rt, b" -> ", &mut line);
+    draw_pattern(rt, alloc, answer, draws, &mut line);
+    check_entry(rt, &draw_fault(rt, alloc, &line, draws));
 }
 
 fn check_call(rt: &impl Abort, text: &[u8]) {
-    check_fault(
-        rt,
-        text,
-        parse_call(text).err(),
-        furthest_reach(CALL_PATTERNS, text),
-    );
+    check_fault(rt, text, parse_call(text).err(), call_reach(text));
 }
 
 fn check_entry(rt: &impl Abort, text: &[u8]) {

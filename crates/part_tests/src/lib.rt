@@ -1,0 +1,51 @@
+//! Tests of the crates that need no machine: of `tp_lines` and what it stands on, of the crates under the live
+//! world and of those beside it. They have a crate of their own, since a crate that has tests is proved again
+//! for them.
+//!
+//! What a call answers is said by its contract. A test calls each public function once with memory enough, where a
+//! contract leaves want of memory open, and compares what was printed or read with what was written by hand.
+
+#![tactic(auto)]
+
+#[cfg(test)]
+mod actions;
+#[cfg(test)]
+mod barriers;
+#[cfg(test)]
+mod callbacks;
+#[cfg(test)]
+mod checks;
+#[cfg(test)]
+mod columns;
+#[cfg(test)]
+mod edge;
+#[cfg(test)]
+mod environments;
+#[cfg(test)]
+mod grammar;
+#[cfg(test)]
+mod groups;
+#[cfg(test)]
+mod heap;
+#[cfg(test)]
+mod kernels;
+#[cfg(test)]
+mod lines;
+#[cfg(test)]
+mod lists;
+#[cfg(test)]
+mod numbers;
+#[cfg(test)]
+mod operations;
+#[cfg(test)]
+mod pools;
+#[cfg(test)]
+mod queues;
+#[cfg(test)]
+mod table;
+#[cfg(test)]
+mod timers;
+#[cfg(test)]
+mod waits;
+#[cfg(test)]
+mod works;
