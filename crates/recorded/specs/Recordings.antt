@@ -1,0 +1,46 @@
+-- A history with the limits of its machine and its capacity, and what a call comes to behind it.
+use Rattle.std.specs.Prelude.{◌≡◌, ℕ, List, [], ◌∷◌, ◌++◌, length}
+use Rattle.tp_base.specs.declared.answers.Entry.{Entry}
+use Rattle.tp_base.specs.declared.answers.Outcome.{Outcome}
+use Rattle.tp_base.specs.declared.answers.Outcome.TheVariants.{Done, Look, Full}
+use Rattle.tp_base.specs.declared.calls.Call.{Call}
+use Rattle.tp_base.specs.declared.ids.Who.{Who}
+use Rattle.tp_base.specs.declared.limits.Limits.{Limits}
+use Rattle.tp_model.specs.History.{after, play_from, room}
+use Rattle.tp_model.specs.Step.{outcome_of}
+use Rattle.tp_model.specs.Table.{step}
+use Rattle.tp_model.specs.World.{World}
+
+pub record Recording : Type 0 where
+  pub limits : Limits
+  pub capacity : ℕ
+  pub history : List Entry
+
+-- the world after the history
+abbrev pub world_behind : Recording → World
+world_behind r = after r.limits r.history
+
+-- the capacity, less the entries, less those that are owed
+abbrev pub room_of : Recording → ℕ
+room_of r = room r.capacity (world_behind r) (length r.history)
+
+-- the machine's outcome of a call behind the history
+abbrev pub outcome_behind : Recording → Who → Call → Outcome
+outcome_behind r who call = outcome_of (step (world_behind r) (room_of r) who call)
+
+-- what is written down of a call and its outcome: its entry, and nothing for a look or Full
+abbrev pub entries_told : Who → Call → Outcome → List Entry
+entries_told who call (Done answer) = record { who = who; call = call; answer = answer } ∷ []
+entries_told who call (Look look) = []
+entries_told who call (Full room cost) = []
+
+abbrev pub recorded : Recording → Who → Call → Outcome → Recording
+recorded r who call told = record r { history = r.history ++ entries_told who call told }
+
+-- what further calls come to behind the history
+abbrev pub outcomes_behind : Recording → List (Who × Call) → List Outcome
+outcomes_behind r calls = play_from (world_behind r) r.capacity (length r.history) calls
+
+-- the outcome is told, and is the first of those that the call and further ones come to
+abbrev pub IsFirstOf : Recording → Recording → Who → Call → Outcome → Type 0
+IsFirstOf old new who call told = (more : List (Who × Call)) → outcomes_behind old ((who, call) ∷ more) ≡ told ∷ outcomes_behind new more
