@@ -1,11 +1,12 @@
 //! Histories that are made by `pool_book` on machines with few places.
 
-ghost use Rattle.std.specs.Prelude.{◌≡◌, ◌≤◌, Ok};
+ghost use Rattle.std.specs.Prelude.{◌≤◌};
 ghost use Rattle.tp_base.specs.Ranges.{IsCallInRange};
 
-use pool_book::{Book, program_limits};
-use std::alloc::{AllocError, Global};
-use std::fmt::Debug;
+use crate::expect::{expect_eq, expect_ok};
+use pool_book::Book;
+use recorded::{Recorded, program_limits};
+use std::alloc::Global;
 use std::process::Abort;
 use tp_base::answers::{Answer, Outcome, Refusal};
 use tp_base::calls::{Call, Environ, Kind, Priority};
@@ -44,22 +45,6 @@ fn check_step(rt: &impl Abort, book: &mut Book, call: Call, outcome: Outcome) {
     assert!(rt; call.in_range());
     let told = book.step(Who::Client(1), call);
     expect_eq(rt, told, outcome);
-}
-
-// Ends the test where a value isn't the one that is expected. As a function of its own, since the proof of a test grows
-// with each way that leads out of it.
-fn expect_eq<T: PartialEq + Debug + Drop>(rt: &impl Abort, told: T, wanted: T) {
-    assert_eq!(rt; told, wanted);
-}
-
-// What was opened. Ends the test where memory is refused.
-fn expect_ok<T: Drop>(rt: &impl Abort, told: Result<T, AllocError>) -> T
-    ensures { told ≡ Ok result }
-{
-    match told {
-        Ok(value) => value,
-        Err(error) => panic!(rt; "{error:?}"),
-    }
 }
 
 /// A client's finish is owed, so it takes no room.

@@ -1,6 +1,11 @@
-//! Tests of `pool_book`, in a crate of their own: a crate that has tests is proved again for them.
+//! Tests of the machine and of the program over it, in a crate of their own: a crate that has tests is
+//! proved again for them.
 
 #![tactic(auto)]
 
 #[cfg(test)]
 mod books;
+#[cfg(test)]
+mod expect;
+#[cfg(test)]
+mod streams;

@@ -22,7 +22,7 @@ use Rattle.tp_model.specs.Table.{step}
 use Rattle.tp_model.specs.World.{World, opening, unattached, unfinished}
 use Rattle.tp_model.proofs.Laws.{keeps_laws}
 use Rattle.pool_book.specs.Kept.{IsBook}
-use Rattle.pool_book.specs.Recordings.{Recording, entries_told, outcome_behind, recorded, room_of, IsFirstOf}
+use Rattle.recorded.specs.Recordings.{Recording, entries_told, outcome_behind, recorded, room_of, IsFirstOf}
 use Rattle.pool_book.proofs.Histories.{after_push, legal_push, stays, step_enters}
 
 -- ---- at the beginning

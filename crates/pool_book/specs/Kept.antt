@@ -6,7 +6,7 @@ use Rattle.tp_base.specs.Ranges.{AreLimitsInRange}
 use Rattle.tp_model.specs.Counts.{owed}
 use Rattle.tp_model.specs.History.{IsLegal, after}
 use Rattle.tp_model.specs.Support.Remembered.{Remembered, StandsFor}
-use Rattle.pool_book.specs.Recordings.{Recording}
+use Rattle.recorded.specs.Recordings.{Recording}
 use Rattle.pool_book.specs.declared.Book.TheInside.{Inside}
 
 abbrev pub recording : Inside → Recording

@@ -1,3 +1,1 @@
 pub mod Kept
-pub mod ProgramLimits
-pub mod Recordings

@@ -1,11 +1,9 @@
-//! A history that is being made: one type keeps the engine, the limits, the capacity and what was
-//! written down.
+//! The machine itself, as `recorded` sees one: a type that keeps the engine, the limits, the capacity
+//! and what was written down.
 //!
 //! A book is seen as a history with its limits and its capacity. The type itself keeps that this
 //! history is legal and that its engine stands for the world after it; nothing above names the
-//! engine. `open` takes all memory; `step` makes a call, whose outcome is the machine's behind the
-//! history, and an accepted or refused call becomes the history's next entry. What the history still
-//! has room for is said here alone: its capacity, less its entries, less those that are owed.
+//! engine. Its calls and their contracts are those of `recorded::Recorded`.
 //!
 //! ```text
 //! let mut book = Book::open(alloc, program_limits(1, 4), 65_536)?;
@@ -17,18 +15,15 @@
 
 #![tactic(auto)]
 
-ghost use Rattle.std.specs.Prelude.{◌≡◌, ◌≤◌, [], length, IfOk};
-ghost use Rattle.tp_base.specs.Ranges.{AreLimitsInRange, IsCallInRange, IsOutcomeInRange};
 ghost use Rattle.tp_model.specs.History.{IsLegal};
 ghost use Rattle.tp_model.specs.Laws.{KeepsLaws};
-ghost use Rattle.pool_book.specs.Recordings.{outcome_behind, recorded, room_of, IsFirstOf};
-ghost use Rattle.pool_book.specs.ProgramLimits.{limits_with};
 
 use past::Past;
 use pool_core::Engine;
+use recorded::Recorded;
 use std::alloc::{AllocError, Global};
 use std::marker::Model;
-use tp_base::answers::{Look, Outcome};
+use tp_base::answers::Outcome;
 use tp_base::calls::Call;
 use tp_base::ids::Who;
 use tp_base::limits::Limits;
@@ -45,7 +40,7 @@ pub struct Book {
 }
 
 impl Model for Book {
-    ghost use Rattle.pool_book.specs.Recordings.{Recording};
+    ghost use Rattle.recorded.specs.Recordings.{Recording};
 
     ghost Value = { Recording };
 
@@ -71,37 +66,10 @@ impl Drop for Book {
     }
 }
 
-/// The limits of the program's machine, with so many clients and workers.
-pub fn program_limits(clients: u32, workers: u32) -> Limits
-    requires clients_most { clients ≤ 65535 }
-    requires workers_least { 1 ≤ workers }
-    requires workers_most { workers ≤ 65535 }
-    ensures value { result ≡ limits_with clients workers }
-    ensures in_range { AreLimitsInRange result }
-{
-    Limits {
-        clients,
-        workers,
-        pools: 64,
-        groups: 255,
-        objects: 4_095,
-        kernels: 1_024,
-        slots: 8_192,
-    }
-}
+impl Recorded for Book {
+    ghost recording = { λ book. book };
 
-impl Book {
-    /// Opens a book with no entries, on a machine of these limits that has made no step. The history
-    /// will have room for `capacity` entries, those that are owed among them.
-    ///
-    /// It takes all the memory that the machine will ever need; an `AllocError` comes where that
-    /// isn't there.
-    pub fn open(alloc: Global, limits: Limits, capacity: u32) -> Result<Book, AllocError>
-        requires { AreLimitsInRange limits }
-        ensures limits { IfOk result (λ book. book.limits ≡ limits) }
-        ensures capacity { IfOk result (λ book. book.capacity ≡ capacity) }
-        ensures empty { IfOk result (λ book. book.history ≡ []) }
-    {
+    fn open(alloc: Global, limits: Limits, capacity: u32) -> Result<Book, AllocError> {
         let engine = Engine::open(alloc, limits)?;
         Ok(Book {
             engine,
@@ -112,75 +80,34 @@ impl Book {
         })
     }
 
-    /// Makes a call of an actor.
-    ///
-    /// The outcome is the machine's: the answer, where the call was accepted or refused, which is then
-    /// the history's next entry; or a look or Full, where nothing happened and nothing is written down.
-    /// It takes no memory.
-    pub fn step(&mut self, who: Who, call: Call) -> Outcome
-        requires { IsCallInRange call }
-        ensures outcome { result ≡ outcome_behind self.old who call }
-        ensures history { self.new ≡ recorded self.old who call result }
-        // What is played on goes on from there.
-        ensures first { IsFirstOf self.old self.new who call result }
-        // Each number of it can stand in a line.
-        ensures in_range { IsOutcomeInRange result }
-        ensures legal { IsLegal self.new.limits self.new.capacity self.new.history }
-        ensures laws { KeepsLaws self.new.limits self.new.history }
-    {
-        let mut outcome = Outcome::Look(Look::Stay);
-        self.step_into(who, call, &mut outcome);
-        outcome
-    }
-
-    /// The same, and puts the outcome where it is wanted, in place of what is there.
-    pub fn step_into(&mut self, who: Who, call: Call, outcome: &mut Outcome)
-        requires { IsCallInRange call }
-        ensures outcome { outcome.new ≡ outcome_behind self.old who call }
-        ensures history { self.new ≡ recorded self.old who call outcome.new }
-        ensures first { IsFirstOf self.old self.new who call outcome.new }
-        ensures in_range { IsOutcomeInRange outcome.new }
-        ensures legal { IsLegal self.new.limits self.new.capacity self.new.history }
-        ensures laws { KeepsLaws self.new.limits self.new.history }
-    {
+    fn step_into(&mut self, who: Who, call: Call, outcome: &mut Outcome) {
         let room = self.room();
         let made = self.engine.step(who, call, room);
-        if let Outcome::Done(answer) = made {
+        if let Outcome::Done(answer) = &made {
             self.len += 1;
-            self.past = self.past.with(who, call, answer);
+            self.past = self.past.with(&who, &call, answer);
         }
         *outcome = made;
     }
 
-    /// The number of entries.
-    pub fn len(&self) -> u32
-        ensures { result ≡ length self.now.history }
-    {
+    fn len(&self) -> u32 {
         self.len
     }
 
-    /// How many more entries the history has room for, less those that are owed; 0 where more are owed.
-    pub fn room(&self) -> u64
-        ensures { result ≡ room_of self.now }
-    {
+    fn room(&self) -> u64 {
         u64::from(self.capacity.saturating_sub(self.len)).saturating_sub(self.engine.owed())
     }
 
-    /// The limits of the machine.
-    pub fn limits(&self) -> Limits
-        ensures value { result ≡ self.now.limits }
-        ensures in_range { AreLimitsInRange result }
-    {
+    fn limits(&self) -> Limits {
         self.limits
     }
 
-    /// How many entries the history has room for in all.
-    pub fn capacity(&self) -> u32
-        ensures { result ≡ self.now.capacity }
-    {
+    fn capacity(&self) -> u32 {
         self.capacity
     }
+}
 
+impl Book {
     /// The history of every book is legal, and keeps the laws. It does nothing: who calls it knows this.
     pub fn laws_are_kept(&self)
         ensures legal { IsLegal self.now.limits self.now.capacity self.now.history }

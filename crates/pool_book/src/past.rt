@@ -5,7 +5,7 @@ ghost use Rattle.std.specs.Borrow.{ftrue};
 ghost use Rattle.tp_base.specs.declared.answers.Entry.{Entry as Written};
 
 use std::marker::Model;
-use tp_base::answers::{Answer, Entry};
+use tp_base::answers::Answer;
 use tp_base::calls::Call;
 use tp_base::ids::Who;
 
@@ -27,18 +27,11 @@ impl Past {
         Past {}
     }
 
+    // The same with one more entry, which has these parts.
     #[inline(always)]
-    pub fn and(&self, _entry: &Entry) -> Past
-        ensures { result.entries ≡ self.now.entries ++ _entry.now ∷ [] }
+    pub fn with(&self, _who: &Who, _call: &Call, _answer: &Answer) -> Past
+        ensures { result.entries ≡ self.now.entries ++ record { who = _who.now; call = _call.now; answer = _answer.now } ∷ [] }
     {
         Past {}
-    }
-
-    // The same, of the entry's parts.
-    #[inline(always)]
-    pub fn with(&self, who: Who, call: Call, answer: Answer) -> Past
-        ensures { result.entries ≡ self.now.entries ++ record { who = who; call = call; answer = answer } ∷ [] }
-    {
-        self.and(&Entry { who, call, answer })
     }
 }

@@ -1,8 +1,7 @@
 -- Answers that are alike, field by field, are one.
-use Rattle.std.proofs.Common.{◌≡◌, ℕ, refl, ap, ◌∙◌, Bool, true, false, ◌==◌, ◌&&◌, eqb-true, eq-eqb}
+use Rattle.std.proofs.Common.{◌≡◌, ℕ, refl, sym, ap, ◌∙◌, Bool, true, false, ◌==◌, ◌&&◌, eqb-true, eq-eqb}
 use Rattle.tp_base.specs.contracts.answers.ActionKindPartialEq.TheImpl as action_eq
 use Rattle.tp_base.specs.contracts.answers.AnswerPartialEq.TheImpl as answer_eq
-use Rattle.tp_base.specs.contracts.answers.OutcomePartialEq.TheImpl as outcome_eq
 use Rattle.tp_base.specs.contracts.answers.RefusalPartialEq.TheImpl as refusal_eq
 use Rattle.tp_base.specs.contracts.answers.SlotWordPartialEq.TheImpl as slot_eq
 use Rattle.tp_base.specs.contracts.answers.TakeResultPartialEq.TheImpl as result_eq
@@ -13,7 +12,6 @@ use Rattle.tp_base.specs.declared.answers.ActionKind.{ActionKind}
 use Rattle.tp_base.specs.declared.answers.ActionKind.TheVariants.{Section, Mutex, Semaphore, Event}
 use Rattle.tp_base.specs.declared.answers.Answer.{Answer}
 use Rattle.tp_base.specs.declared.answers.Answer.TheVariants as answer
-use Rattle.tp_base.specs.declared.answers.Outcome.{Outcome}
 use Rattle.tp_base.specs.declared.answers.Outcome.TheVariants as outcome
 use Rattle.tp_base.specs.declared.answers.Refusal.{Refusal}
 use Rattle.tp_base.specs.declared.answers.Refusal.TheVariants as refusal
@@ -197,10 +195,8 @@ answer_self (answer.Taken x0 x1 x2 x3 x4) = conjoined _ _ (number_self x0) (conj
 answer_self (answer.Returned x0 x1 x2 x3 x4 x5) = conjoined _ _ (slot_self x0) (conjoined _ _ (slot_self x1) (conjoined _ _ (slot_self x2) (conjoined _ _ (slot_self x3) (conjoined _ _ (number_self x4) (number_self x5)))))
 answer_self (answer.Refused x0) = refusal_self x0
 
-pub done_same : (o : Outcome) (a : Answer) → outcome_eq.eq-value.it o (outcome.Done a) ≡ true → o ≡ outcome.Done a
-done_same (outcome.Done b) a e = ap (λ x. outcome.Done x) (answer_same b a e)
-done_same (outcome.Look look) a e = cc
-done_same (outcome.Full room cost) a e = cc
+pub told_same : (told a : Answer) → answer_eq.eq-value.it told a ≡ true → outcome.Done told ≡ outcome.Done a
+told_same told a e = ap (λ x. outcome.Done x) (answer_same told a e)
 
-pub done_self : (o : Outcome) (a : Answer) → o ≡ outcome.Done a → outcome_eq.eq-value.it o (outcome.Done a) ≡ true
-done_self o a e = ap (λ x. outcome_eq.eq-value.it x (outcome.Done a)) e ∙ answer_self a
+pub told_self : (told a : Answer) → outcome.Done told ≡ outcome.Done a → answer_eq.eq-value.it told a ≡ true
+told_self told a e = let same : told ≡ a = cc in ap (λ x. answer_eq.eq-value.it told x) (sym same) ∙ answer_self told

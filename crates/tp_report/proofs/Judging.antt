@@ -1,6 +1,6 @@
 -- How the verdict on a history goes on.
 use Rattle.std.proofs.Common.{◌≡◌, ℕ, suc, ◌+◌, List, [], ◌∷◌, ◌++◌, length, refl, sym, ap, ◌∙◌, subst, arith, add-zero, append_assoc, length-append}
-use Rattle.pool_book.specs.Recordings.{Recording, recorded, outcome_behind as told_behind}
+use Rattle.recorded.specs.Recordings.{Recording, recorded, outcome_behind as told_behind}
 use Rattle.tp_base.specs.declared.answers.Entry.{Entry}
 use Rattle.tp_base.specs.declared.answers.Outcome.{Outcome}
 use Rattle.tp_base.specs.declared.answers.Outcome.TheVariants.{Done}

@@ -13,7 +13,7 @@ use Rattle.tp_report.specs.declared.faults.TextFault.{TextFault}
 use Rattle.tp_report.specs.declared.faults.TextFault.TheVariants.{NoMemory, At}
 use Rattle.tp_report.specs.declared.verdict.Verdict.{Verdict}
 use Rattle.tp_report.specs.declared.verdict.Verdict.TheVariants.{Legal, NotLegal}
-use Rattle.pool_book.specs.Recordings.{Recording}
+use Rattle.recorded.specs.Recordings.{Recording}
 use Rattle.tp_report.specs.Histories.{HasHeaderLine, HasLine, HeaderLines, IsHistory, IsHistoryFault, NextLines, end_line, header_line}
 use Rattle.tp_report.specs.Readings.{Ended, IsNext}
 use Rattle.tp_report.specs.declared.lines.Next.TheVariants.{Another, End, Fault}

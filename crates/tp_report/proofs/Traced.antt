@@ -5,8 +5,8 @@ use Rattle.std.proofs.lemmas.List.{append-nil, nil_from_length, length-map, leng
 use Rattle.std.proofs.lemmas.List.Elements.{All-nil, All-push, All-head, All-tail, All-map, All-weaker}
 use Rattle.line_grammar.specs.Language.{IsReadTo as IsReadAs, IsStuck}
 use Rattle.line_grammar.specs.Traces.{trace_text, IsTraceFault}
-use Rattle.pool_book.specs.ProgramLimits.{limits_with}
-use Rattle.pool_book.specs.Recordings.{Recording, IsFirstOf, outcomes_behind}
+use Rattle.recorded.specs.ProgramLimits.{limits_with}
+use Rattle.recorded.specs.Recordings.{Recording, IsFirstOf, outcomes_behind}
 use Rattle.tp_base.specs.declared.answers.Outcome.{Outcome}
 use Rattle.tp_base.specs.declared.calls.Call.{Call}
 use Rattle.tp_base.specs.declared.ids.Who.{Who}

@@ -2,7 +2,7 @@
 use Rattle.std.specs.Prelude.{◌≡◌, ℕ, ◌+◌, ◌≤◌, List, ◌∷◌, ◌++◌, length, map, All}
 use Rattle.line_grammar.specs.Language.{AnyOf, Reaches}
 use Rattle.line_grammar.specs.Traces.{EndedLine, trace_text}
-use Rattle.pool_book.specs.Recordings.{Recording}
+use Rattle.recorded.specs.Recordings.{Recording}
 use Rattle.tp_base.specs.declared.answers.Entry.{Entry}
 use Rattle.tp_lines.specs.Answers.{line_of_entry}
 use Rattle.tp_report.specs.Histories.{HasLine, NextLines, end_line}

@@ -1,6 +1,6 @@
 -- What calls come to on a machine of some number of clients.
 use Rattle.std.specs.Prelude.{◌≡◌, ℕ, List}
-use Rattle.pool_book.specs.ProgramLimits.{limits_with}
+use Rattle.recorded.specs.ProgramLimits.{limits_with}
 use Rattle.tp_base.specs.declared.calls.Call.{Call}
 use Rattle.tp_base.specs.declared.ids.Who.{Who}
 use Rattle.tp_model.specs.History.{play}

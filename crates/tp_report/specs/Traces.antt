@@ -2,7 +2,7 @@
 use Rattle.std.specs.Prelude.{◌≡◌, ℕ, List, map, fold, max, All}
 use Rattle.std.specs.Global.{Vec}
 use Rattle.line_grammar.specs.Traces.{trace_text}
-use Rattle.pool_book.specs.ProgramLimits.{limits_with}
+use Rattle.recorded.specs.ProgramLimits.{limits_with}
 use Rattle.tp_base.specs.declared.answers.Outcome.{Outcome}
 use Rattle.tp_base.specs.declared.calls.Call.{Call}
 use Rattle.tp_base.specs.declared.ids.Who.{Who}

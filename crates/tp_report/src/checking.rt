@@ -13,14 +13,14 @@ use crate::faults::{CheckFault, fault_behind};
 use crate::headers::Header;
 use crate::lines::{Next, read_header_line, read_next_line};
 use crate::verdict::{Verdict, judge};
-use pool_book::Book;
+use recorded::Recorded;
 use std::alloc::Global;
 
-/// Reads a history, and says whether each answer in it is the machine's.
+/// Reads a history, and says whether each answer in it is that of the machine, a `B`.
 ///
 /// `Legal` comes exactly where each is; `NotLegal` names the first that isn't. `At` comes exactly
 /// where the bytes are no history, and `NoMemory` where memory was refused.
-pub fn check(alloc: Global, bytes: &[u8]) -> Result<Verdict, CheckFault>
+pub fn check<B: Recorded>(alloc: Global, bytes: &[u8]) -> Result<Verdict, CheckFault>
     ensures ok { IfOk result (λ verdict. IsJudged bytes.now verdict) }
     ensures only { (header : FirstLine) (entries : List Entry) → IsHistory bytes.now header entries →
         IsOrNoMemory (IsVerdict (limits_of header) header.events entries) result }
@@ -32,45 +32,31 @@ pub fn check(alloc: Global, bytes: &[u8]) -> Result<Verdict, CheckFault>
         Err(place) => Err(fault_behind(0, place)),
         Ok((header, size)) => {
             let (_, rest) = bytes.split_at(size);
-            check_behind(alloc, header, rest)
+            check_behind::<B>(alloc, header, rest)
         }
     }
 }
 
 // Reads what stands behind the header of a history, the entries and the end line, and judges each entry
 // as it is read.
-fn check_behind(alloc: Global, header: Header, text: &[u8]) -> Result<Verdict, CheckFault>
+fn check_behind<B: Recorded>(
+    alloc: Global,
+    header: Header,
+    text: &[u8],
+) -> Result<Verdict, CheckFault>
     requires { HasHeaderLine header }
     ensures ok { IfOk result (λ verdict. IsVerdictBehind header text.now verdict) }
     ensures only { (entries : List Entry) → AreEntries header.events text.now entries → IsOrNoMemory (IsVerdict (limits_of header) header.events entries) result }
     ensures err { IfErr result (λ fault. IsPlace (IsEntriesFault header.events text.now) fault) }
 {
-    let mut book = Book::open(alloc, header.limits(), header.events)?;
-    check_entries(alloc, &mut book, header, text)
-}
-
-// The same on a book without entries, of the header's limits and capacity.
-fn check_entries(
-    alloc: Global,
-    book: &mut Book,
-    header: Header,
-    text: &[u8],
-) -> Result<Verdict, CheckFault>
-    requires header { HasHeaderLine header }
-    requires limits { book.old.limits ≡ limits_of header }
-    requires capacity { book.old.capacity ≡ header.events }
-    requires empty { book.old.history ≡ [] }
-    ensures ok { IfOk result (λ verdict. IsVerdictBehind header text.now verdict) }
-    ensures only { (entries : List Entry) → AreEntries header.events text.now entries → IsOrNoMemory (IsVerdict (limits_of header) header.events entries) result }
-    ensures err { IfErr result (λ fault. IsPlace (IsEntriesFault header.events text.now) fault) }
-{
+    let mut book = B::open(alloc, header.limits(), header.events)?;
     let mut verdict = Verdict::Legal { len: 0 };
     let mut len = 0;
     let mut rest = text;
     loop {
         match read_next_line(alloc, rest, header.events, len)? {
             Next::Another { entry, size } => {
-                verdict = judge(book, verdict, &entry);
+                verdict = judge(&mut book, verdict, &entry);
                 len += 1;
                 (_, rest) = rest.split_at(size);
             }

@@ -7,11 +7,11 @@ ghost use Rattle.tp_report.specs.Readings.{Keyed, Sizes};
 
 use line_grammar::numbers::read_prefixed;
 use line_grammar::words::read_word;
-use pool_book::program_limits;
+use recorded::program_limits;
 use tp_base::limits::Limits;
 
 /// The numbers of a history's first line.
-#[derive(Clone, Copy, Debug, PartialEq)]
+#[derive(Clone, Copy)]
 pub struct Header {
     pub clients: u32,
     pub workers: u32,

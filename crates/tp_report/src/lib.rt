@@ -5,12 +5,13 @@
 //! text of that. A history as a text is its first line, which says how large the machine was; its
 //! entries, a line each; and the end line, with their number.
 //!
-//! Both take a text line by line: what is read is played at once on a `pool_book::Book`, and no list of
-//! the lines is kept. Both answer the place of the first fault of a text that isn't in the grammar.
+//! Both take a text line by line: what is read is played at once on a machine that keeps its history, a
+//! `recorded::Recorded` of the caller's choice, and no list of the lines is kept. Both answer the place
+//! of the first fault of a text that isn't in the grammar.
 //!
 //! ```text
-//! trace(alloc, b"c1 create-pool\nc1 finish\n")       // Ok("made 1\nok\n")
-//! trace(alloc, b"c1 create-pool\nc1 finsh\n")        // Err(TextFault::At { line: 2, column: 7 })
+//! trace::<Book>(alloc, b"c1 create-pool\nc1 finish\n")     // Ok("made 1\nok\n")
+//! trace::<Book>(alloc, b"c1 create-pool\nc1 finsh\n")      // Err(TextFault::At { line: 2, column: 7 })
 //! ```
 
 #![tactic(auto)]

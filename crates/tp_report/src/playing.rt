@@ -2,8 +2,7 @@
 
 ghost use Rattle.std.specs.Prelude.{◌≡◌, ◌≤◌, ◌<◌, ◌-◌, ◌^◌, ◌++◌, ◌∷◌, [], List, IfErr, IfOk, OnOk, length, max};
 ghost use Rattle.line_grammar.specs.Traces.{IsTraceFault};
-ghost use Rattle.pool_book.specs.ProgramLimits.{limits_with};
-ghost use Rattle.pool_book.specs.Recordings.{IsFirstOf, outcome_behind};
+ghost use Rattle.recorded.specs.Recordings.{IsFirstOf, outcome_behind};
 ghost use Rattle.tp_base.specs.declared.calls.Call.{Call as Made};
 ghost use Rattle.tp_base.specs.Ranges.{IsCallInRange};
 ghost use Rattle.tp_base.specs.declared.ids.Who.{Who as Actor};
@@ -15,7 +14,7 @@ ghost use Rattle.tp_report.specs.Traces.{client_number, IsOutput, IsOutputOf, Is
 
 use crate::faults::{TextFault, fault_behind};
 use crate::lines::read_call;
-use pool_book::{Book, program_limits};
+use recorded::{Recorded, program_limits};
 use std::alloc::{AllocError, Global};
 use tp_base::answers::{Look, Outcome};
 use tp_base::calls::Call;
@@ -31,25 +30,25 @@ const WORKERS: u32 = 4;
 /// Where the greatest client of a trace is looked for first.
 const FRONT: usize = 65_536;
 
-/// Plays the calls of a text in their order, on a machine that has made no step, and answers the line of
-/// what each comes to. The text, of which there are fewer than 2^32 - 1 bytes, is the lines of the calls;
+/// Plays the calls of a text in their order, on a machine, a `B`, that has made no step, and answers the
+/// line of what each comes to. The text, of which there are fewer than 2^32 - 1 bytes, is the lines of the calls;
 /// the machine has as many clients as the greatest number of one that makes a call.
 ///
 /// `At` comes exactly where the bytes are no lines of calls, and `NoMemory` where memory was refused.
-pub fn trace(alloc: Global, bytes: &[u8]) -> Result<Vec<u8>, TextFault>
+pub fn trace<B: Recorded>(alloc: Global, bytes: &[u8]) -> Result<Vec<u8>, TextFault>
     requires { length bytes.now < 2 ^ 32 - 1 }
     ensures ok { IfOk result (λ text. IsOutput bytes.now text.items) }
     ensures only { (calls : List (Actor × Made)) → IsTraceOf bytes.now calls → IsOrNoMemory (IsOutputOf calls) result }
     ensures err { IfErr result (λ fault. IsPlace (IsTraceFault IsLine bytes.now) fault) }
 {
     let guess = guess_clients(bytes);
-    let played = play(alloc, bytes, guess)?;
+    let played = play::<B>(alloc, bytes, guess)?;
     let clients = played.clients;
     if clients == guess {
         return Ok(played.text);
     }
     drop(played);
-    let again = play(alloc, bytes, clients)?;
+    let again = play::<B>(alloc, bytes, clients)?;
     Ok(again.text)
 }
 
@@ -63,7 +62,7 @@ pub struct Played {
 }
 
 // Plays the calls of a trace on a machine of so many clients, each as its line is read.
-fn play(alloc: Global, bytes: &[u8], clients: u32) -> Result<Played, TextFault>
+fn play<B: Recorded>(alloc: Global, bytes: &[u8], clients: u32) -> Result<Played, TextFault>
     requires few { length bytes.now < 2 ^ 32 - 1 }
     requires clients { clients ≤ 16 }
     ensures ok { IfOk result (λ played. IsPlayed clients bytes.now played) }
@@ -71,22 +70,7 @@ fn play(alloc: Global, bytes: &[u8], clients: u32) -> Result<Played, TextFault>
     ensures only { (calls : List (Actor × Made)) → IsTraceOf bytes.now calls → IsOrNoMemory (IsPlayedOf clients calls) result }
     ensures err { IfErr result (λ fault. IsPlace (IsTraceFault IsLine bytes.now) fault) }
 {
-    let mut book = Book::open(alloc, program_limits(clients, WORKERS), CAPACITY)?;
-    play_calls(alloc, &mut book, bytes)
-}
-
-// The same on a book without entries.
-fn play_calls(alloc: Global, book: &mut Book, bytes: &[u8]) -> Result<Played, TextFault>
-    requires few { length bytes.now < 2 ^ 32 - 1 }
-    requires limits { book.old.limits ≡ limits_with book.old.limits.clients 4 }
-    requires clients { book.old.limits.clients ≤ 16 }
-    requires capacity { book.old.capacity ≡ 65536 }
-    requires empty { book.old.history ≡ [] }
-    ensures ok { IfOk result (λ played. IsPlayed book.old.limits.clients bytes.now played) }
-    ensures most { IfOk result (λ played. played.clients ≤ 16) }
-    ensures only { (calls : List (Actor × Made)) → IsTraceOf bytes.now calls → IsOrNoMemory (IsPlayedOf book.old.limits.clients calls) result }
-    ensures err { IfErr result (λ fault. IsPlace (IsTraceFault IsLine bytes.now) fault) }
-{
+    let mut book = B::open(alloc, program_limits(clients, WORKERS), CAPACITY)?;
     let mut text = Lines::new(alloc);
     let mut greatest = 0;
     let mut lines = 0;
@@ -95,7 +79,7 @@ fn play_calls(alloc: Global, book: &mut Book, bytes: &[u8]) -> Result<Played, Te
         match read_call(rest) {
             Err(place) => return Err(fault_behind(lines, place)),
             Ok(((who, call), size)) => {
-                play_call(book, who, call, &mut text)?;
+                play_call(&mut book, who, call, &mut text)?;
                 greatest = greater_client(greatest, who);
                 lines += 1;
                 (_, rest) = rest.split_at(size);
@@ -110,10 +94,15 @@ fn play_calls(alloc: Global, book: &mut Book, bytes: &[u8]) -> Result<Played, Te
 
 // Makes a call, and appends the line of its outcome. On want of memory the call was made.
 #[inline(always)]
-fn play_call(book: &mut Book, who: Who, call: Call, lines: &mut Lines) -> Result<(), AllocError>
+fn play_call<B: Recorded>(
+    book: &mut B,
+    who: Who,
+    call: Call,
+    lines: &mut Lines,
+) -> Result<(), AllocError>
     requires { IsCallInRange call }
-    ensures first { IsFirstOf book.old book.new who call (outcome_behind book.old who call) }
-    ensures printed { OnOk result (lines.new ≡ lines.old ++ (text_of_outcome (outcome_behind book.old who call) ++ 10 ∷ [])) }
+    ensures first { IsFirstOf (B.recording book.old) (B.recording book.new) who call (outcome_behind (B.recording book.old) who call) }
+    ensures printed { OnOk result (lines.new ≡ lines.old ++ (text_of_outcome (outcome_behind (B.recording book.old) who call) ++ 10 ∷ [])) }
 {
     let mut outcome = Outcome::Look(Look::Stay);
     book.step_into(who, call, &mut outcome);

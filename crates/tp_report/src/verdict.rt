@@ -7,7 +7,7 @@ ghost use Rattle.tp_report.specs.Judging.{IsJudgedTo, IsSameMachine, len_told};
 ghost use Rattle.tp_report.specs.Verdicts.{verdict_text};
 ghost use Rattle.tp_report.specs.declared.verdict.Verdict.{Verdict};
 
-use pool_book::Book;
+use recorded::Recorded;
 use std::alloc::{AllocError, Global};
 use tp_base::answers::{Answer, Entry, Outcome};
 use tp_lines::print::print_outcome;
@@ -24,11 +24,11 @@ pub enum Verdict {
 
 /// The verdict on a history with one more entry, from that on those before it. As long as the answers
 /// are the machine's, the book goes along with the history; behind a wrong one nothing more is played.
-pub fn judge(book: &mut Book, verdict: Verdict, entry: &Entry) -> Verdict
+pub fn judge<B: Recorded>(book: &mut B, verdict: Verdict, entry: &Entry) -> Verdict
     requires in_range { IsCallInRange entry.now.call }
     requires few { len_told verdict < 2 ^ 32 - 1 }
-    ensures same { IsSameMachine book.old book.new }
-    ensures judged { (entries : List Written) → IsJudgedTo book.old entries verdict → IsJudgedTo book.new (entries ++ entry.now ∷ []) result }
+    ensures same { IsSameMachine (B.recording book.old) (B.recording book.new) }
+    ensures judged { (entries : List Written) → IsJudgedTo (B.recording book.old) entries verdict → IsJudgedTo (B.recording book.new) (entries ++ entry.now ∷ []) result }
 {
     let Verdict::Legal { len } = verdict else {
         return verdict;
@@ -37,11 +37,11 @@ pub fn judge(book: &mut Book, verdict: Verdict, entry: &Entry) -> Verdict
 }
 
 // The same, where the answers of the `len` entries before are the machine's.
-fn judge_next(book: &mut Book, len: u32, entry: &Entry) -> Verdict
+fn judge_next<B: Recorded>(book: &mut B, len: u32, entry: &Entry) -> Verdict
     requires in_range { IsCallInRange entry.now.call }
     requires few { len < 2 ^ 32 - 1 }
-    ensures same { IsSameMachine book.old book.new }
-    ensures judged { (entries : List Written) → IsJudgedTo book.old entries (Verdict.Legal len) → IsJudgedTo book.new (entries ++ entry.now ∷ []) result }
+    ensures same { IsSameMachine (B.recording book.old) (B.recording book.new) }
+    ensures judged { (entries : List Written) → IsJudgedTo (B.recording book.old) entries (Verdict.Legal len) → IsJudgedTo (B.recording book.new) (entries ++ entry.now ∷ []) result }
 {
     let outcome = book.step(entry.who, entry.call);
     if is_answer(&outcome, &entry.answer) {
@@ -58,7 +58,10 @@ fn judge_next(book: &mut Book, len: u32, entry: &Entry) -> Verdict
 fn is_answer(outcome: &Outcome, answer: &Answer) -> bool
     ensures { IsTrue result ↔ (outcome.now ≡ Outcome.Done answer.now) }
 {
-    *outcome == Outcome::Done(*answer)
+    match outcome {
+        Outcome::Done(told) => told == answer,
+        Outcome::Look(_) | Outcome::Full { .. } => false,
+    }
 }
 
 /// Appends the text of a verdict, with its line feed. On want of memory nothing is appended.

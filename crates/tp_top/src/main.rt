@@ -1,9 +1,9 @@
 //! The program tpool: the thread pool of Windows as a machine, played from text.
 //!
 //! `tpool trace` reads call lines from standard input and writes what each call comes to, a line
-//! each, to standard output. All of it is `tp_main`, which is proved over any source and any sink;
-//! here it meets the real streams. The exit status is 0, or that of the first thing that went
-//! wrong, with a line on standard error.
+//! each, to standard output. All of it is `tp_main` of `tp_run`, which is proved over any machine,
+//! any source and any sink; here it meets the machine itself and the real streams. The exit status
+//! is 0, or that of the first thing that went wrong, with a line on standard error.
 //!
 //! ```text
 //! $ tpool trace
@@ -15,27 +15,19 @@
 
 #![tactic(auto)]
 
-mod command;
-mod status;
-#[cfg(test)]
-mod tests;
-mod top;
-mod words;
-
-use status::Status;
+use pool_book::Book;
 use std::io::{Error, ErrorKind};
 use std::process::ExitCode;
 use std::{env, io};
-use top::tp_main;
 use tp_edge::{ReadEdge, WriteEdge};
-use words::WordList;
+use tp_run::{Status, WordList, tp_main};
 
 fn main(rt: HostRuntime) -> ExitCode {
     let status = match read_words(&rt) {
         Ok(words) => {
             let mut source = ReadEdge::new(rt.stdin());
             let mut sink = WriteEdge::new(rt.stdout());
-            tp_main(rt.alloc(), &words, &mut source, &mut sink)
+            tp_main::<Book, _, _>(rt.alloc(), &words, &mut source, &mut sink)
         }
         Err(status) => status,
     };

@@ -7,27 +7,27 @@ use Rattle.tp_report.proofs.SoFar.{result_ok, result_only, result_err, header_fa
 use Rattle.tp_report.proofs.checking.check.Goals as goal
 
 pub fault_behind-requires-clause-place : goal.fault_behind-requires-clause-place
-fault_behind-requires-clause-place c = omega (arith, header_place c.args.bytes.now c.in-Err.place c.in-Err.ensures)
+fault_behind-requires-clause-place g c = omega (arith, header_place c.args.bytes.now c.in-Err.place c.in-Err.ensures)
 
 pub returns-in-Err-clause-only : goal.returns-in-Err-clause-only
-returns-in-Err-clause-only c = λ header entries h. absurd (header_no c.args.bytes.now c.in-Err.place c.in-Err.ensures header entries h)
+returns-in-Err-clause-only g c = λ header entries h. absurd (header_no c.args.bytes.now c.in-Err.place c.in-Err.ensures header entries h)
 
 pub returns-in-Err-clause-err : goal.returns-in-Err-clause-err
-returns-in-Err-clause-err c =
+returns-in-Err-clause-err g c =
     subst (λ f. IsPlace (IsHistoryFault c.args.bytes.now) f) (sym c.fault_behind.ensures) (header_fault c.args.bytes.now c.in-Err.place (c.in-Err.place + 1) c.in-Err.ensures refl)
 
 pub returns-in-Ok-clause-ok : goal.returns-in-Ok-clause-ok
-returns-in-Ok-clause-ok c =
+returns-in-Ok-clause-ok g c =
     result_ok c.args.bytes.now c.in-Ok.header c.in-Ok.size c.in-Ok.ensures c.split_at.result.1.now c.split_at.ensures.back c.check_behind.result c.check_behind.ensures.ok
 
 pub returns-in-Ok-clause-only : goal.returns-in-Ok-clause-only
-returns-in-Ok-clause-only c =
+returns-in-Ok-clause-only g c =
     result_only c.args.bytes.now c.in-Ok.header c.in-Ok.size c.in-Ok.ensures c.split_at.result.1.now c.split_at.ensures.back c.check_behind.result c.check_behind.ensures.only
 
 pub returns-in-Ok-clause-err : goal.returns-in-Ok-clause-err
-returns-in-Ok-clause-err c =
+returns-in-Ok-clause-err g c =
     result_err c.args.bytes.now c.in-Ok.header c.in-Ok.size c.in-Ok.ensures c.split_at.result.1.now c.split_at.ensures.back c.check_behind.result c.check_behind.ensures.err
 
 pub returns-in-Ok-clause-laws : goal.returns-in-Ok-clause-laws
-returns-in-Ok-clause-laws c = λ header entries h.
-    legal_keeps (limits_of header) header.events entries c.check_behind.result (returns-in-Ok-clause-only c header entries h)
+returns-in-Ok-clause-laws g c = λ header entries h.
+    legal_keeps (limits_of header) header.events entries c.check_behind.result (returns-in-Ok-clause-only g c header entries h)

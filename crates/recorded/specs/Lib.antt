@@ -1,0 +1,2 @@
+pub mod ProgramLimits
+pub mod Recordings

@@ -1,0 +1,120 @@
+//! A machine whose history is written down, as all that stands above it sees one.
+//!
+//! A `Recorded` is seen as a history with its limits and its capacity. `open` takes all memory; `step`
+//! makes a call, whose outcome is the machine's behind the history, and an accepted or refused call
+//! becomes the history's next entry. What the history still has room for is said here alone: its
+//! capacity, less its entries, less those that are owed.
+//!
+//! What plays, judges or shares histories is written and proved over this trait, and knows no engine.
+//! A machine's part is `open`, `step_into`, `len`, `room`, `limits` and `capacity`; their contracts
+//! stand here, so an `impl` gives no clauses of its own.
+//!
+//! ```text
+//! fn attach_first<B: Recorded>(alloc: Global) -> Result<u64, AllocError> {
+//!     let mut book = B::open(alloc, program_limits(1, 4), 65_536)?;
+//!     book.step(Who::Client(1), Call::Finish);    // Outcome::Done(Answer::Done)
+//!     book.step(Who::Worker(1), Call::Attach);    // Outcome::Look(Look::NoNeed)
+//!     Ok(book.room())                             // 65_535
+//! }
+//! ```
+
+#![tactic(auto)]
+
+ghost use Rattle.std.specs.Prelude.{◌≡◌, ◌≤◌, [], length, IfOk};
+ghost use Rattle.tp_base.specs.Ranges.{AreLimitsInRange, IsCallInRange, IsOutcomeInRange};
+ghost use Rattle.tp_model.specs.History.{IsLegal};
+ghost use Rattle.tp_model.specs.Laws.{KeepsLaws};
+ghost use Rattle.recorded.specs.ProgramLimits.{limits_with};
+ghost use Rattle.recorded.specs.Recordings.{outcome_behind, recorded, room_of, IsFirstOf, Recording};
+
+use std::alloc::{AllocError, Global};
+use tp_base::answers::{Look, Outcome};
+use tp_base::calls::Call;
+use tp_base::ids::Who;
+use tp_base::limits::Limits;
+
+/// A machine, and the history of the calls that were made on it.
+pub trait Recorded: Drop {
+    ghost recording: { Self → Recording };
+
+    /// Opens a history with no entries, on a machine of these limits that has made no step. The history
+    /// will have room for `capacity` entries, those that are owed among them.
+    ///
+    /// It takes all the memory that the machine will ever need; an `AllocError` comes where that
+    /// isn't there.
+    fn open(alloc: Global, limits: Limits, capacity: u32) -> Result<Self, AllocError>
+    where
+        Self: Sized,
+        requires { AreLimitsInRange limits }
+        ensures limits { IfOk result (λ book. (recording book).limits ≡ limits) }
+        ensures capacity { IfOk result (λ book. (recording book).capacity ≡ capacity) }
+        ensures empty { IfOk result (λ book. (recording book).history ≡ []) };
+
+    /// Makes a call of an actor, and puts its outcome where it is wanted, in place of what is there.
+    ///
+    /// The outcome is the machine's: the answer, where the call was accepted or refused, which is then
+    /// the history's next entry; or a look or Full, where nothing happened and nothing is written down.
+    /// It takes no memory.
+    fn step_into(&mut self, who: Who, call: Call, outcome: &mut Outcome)
+        requires { IsCallInRange call }
+        ensures outcome { outcome.new ≡ outcome_behind (recording self.old) who call }
+        ensures history { recording self.new ≡ recorded (recording self.old) who call outcome.new }
+        // What is played on goes on from there.
+        ensures first { IsFirstOf (recording self.old) (recording self.new) who call outcome.new }
+        // Each number of it can stand in a line.
+        ensures in_range { IsOutcomeInRange outcome.new }
+        ensures legal { IsLegal (recording self.new).limits (recording self.new).capacity (recording self.new).history }
+        ensures laws { KeepsLaws (recording self.new).limits (recording self.new).history };
+
+    /// The same, and answers the outcome.
+    fn step(&mut self, who: Who, call: Call) -> Outcome
+        requires { IsCallInRange call }
+        ensures outcome { result ≡ outcome_behind (recording self.old) who call }
+        ensures history { recording self.new ≡ recorded (recording self.old) who call result }
+        ensures first { IsFirstOf (recording self.old) (recording self.new) who call result }
+        ensures in_range { IsOutcomeInRange result }
+        ensures legal { IsLegal (recording self.new).limits (recording self.new).capacity (recording self.new).history }
+        ensures laws { KeepsLaws (recording self.new).limits (recording self.new).history }
+    {
+        let mut outcome = Outcome::Look(Look::Stay);
+        self.step_into(who, call, &mut outcome);
+        outcome
+    }
+
+    /// The number of entries. The history is legal.
+    fn len(&self) -> u32
+        ensures len { result ≡ length (recording self.now).history }
+        ensures legal { IsLegal (recording self.now).limits (recording self.now).capacity (recording self.now).history };
+
+    /// How many more entries the history has room for, less those that are owed; 0 where more are owed.
+    fn room(&self) -> u64
+        ensures { result ≡ room_of (recording self.now) };
+
+    /// The limits of the machine.
+    fn limits(&self) -> Limits
+        ensures value { result ≡ (recording self.now).limits }
+        ensures in_range { AreLimitsInRange result };
+
+    /// How many entries the history has room for in all.
+    fn capacity(&self) -> u32
+        ensures { result ≡ (recording self.now).capacity };
+}
+
+/// The limits of the program's machine, with so many clients and workers.
+pub fn program_limits(clients: u32, workers: u32) -> Limits
+    requires clients_most { clients ≤ 65535 }
+    requires workers_least { 1 ≤ workers }
+    requires workers_most { workers ≤ 65535 }
+    ensures value { result ≡ limits_with clients workers }
+    ensures in_range { AreLimitsInRange result }
+{
+    Limits {
+        clients,
+        workers,
+        pools: 64,
+        groups: 255,
+        objects: 4_095,
+        kernels: 1_024,
+        slots: 8_192,
+    }
+}

@@ -1,0 +1,9 @@
+use Rattle.std.proofs.Common.{length}
+use Rattle.tp_report.proofs.SoFar.{IsCheckedTo}
+use Rattle.tp_report.proofs.checking.check_behind.Given as goal
+
+abbrev pub invariant-loop-book : goal.invariant-loop-book
+invariant-loop-book g l = IsCheckedTo l.header l.text (g.B.Recorded.recording l.book) l.verdict l.len l.rest
+
+abbrev pub decreases-loop-book : goal.decreases-loop-book
+decreases-loop-book g l = length l.rest

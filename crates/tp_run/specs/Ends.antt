@@ -1,0 +1,79 @@
+-- What stands between reading and the end of the program.
+use Rattle.std.specs.Prelude.{◌≡◌, ℕ, ◌≤◌, ◌↔◌, List, length, Option, Some, Result, Ok, Err}
+use Rattle.tp_edge.specs.Given.{with_given, TookFirst}
+use Rattle.tp_edge.specs.Taken.{behind, IsEnded}
+use Rattle.tp_edge.specs.declared.reading.ReadFault.{ReadFault as SourceFault}
+use Rattle.tp_edge.specs.declared.reading.ReadFault.TheVariants as source
+use Rattle.tp_report.specs.declared.faults.TextFault.{TextFault}
+use Rattle.tp_report.specs.declared.faults.TextFault.TheVariants as text
+use Rattle.tp_run.specs.Inputs.{Gives, IsFaultyAt}
+use Rattle.tp_run.specs.Runs.{IsWithin}
+use Rattle.tp_run.specs.declared.command.Command.{Command}
+use Rattle.tp_run.specs.declared.status.Ending.{Ending}
+use Rattle.tp_run.specs.declared.status.Ending.TheVariants as ending
+use Rattle.tp_run.specs.declared.status.Status.{Status}
+use Rattle.tp_run.specs.declared.status.Status.TheVariants.{Fine, Words, BadLine, ReadFault, WriteFault, NoMemory, TooLong, NotLegal}
+use Rattle.tp_run.specs.declared.top.Output.{Output}
+
+-- the end that a fault of reading leads to
+abbrev pub status_of_source : SourceFault → Status
+status_of_source source.NoMemory = NoMemory
+status_of_source source.Failed = ReadFault
+status_of_source source.TooLong = TooLong
+
+-- the end of the program where all was written
+abbrev pub status_of : Ending → Status
+status_of ending.Fine = Fine
+status_of ending.NotLegal = NotLegal
+
+-- the end that a fault of the input leads to
+abbrev pub status_of_text : TextFault → Status
+status_of_text text.NoMemory = NoMemory
+status_of_text (text.At line column) = BadLine line column
+
+-- the output for the input and its ending, and there are no others
+pub record IsOutput (command : Command) (bytes output : List ℕ) (ends : Ending) : Type 0 where
+  pub gives : Gives (Some command) bytes output ends
+  pub only : (other : List ℕ) (other_end : Ending) → Gives (Some command) bytes other other_end → (output ≡ other) × (ends ≡ other_end)
+
+pub record IsFaulty (command : Command) (bytes : List ℕ) (line column : ℕ) : Type 0 where
+  pub at : IsFaultyAt (Some command) bytes line column
+  pub none : (output : List ℕ) (ends : Ending) → Gives (Some command) bytes output ends → ⊥
+
+-- what a command answers to bytes
+abbrev pub IsReply : Command → List ℕ → Result Output Status → Type 0
+IsReply command bytes (Ok output) = IsOutput command bytes output.text.items output.ending
+IsReply command bytes (Err (BadLine line column)) = IsFaulty command bytes line column
+IsReply command bytes (Err NoMemory) = Unit {0}
+IsReply command bytes (Err _) = ⊥
+
+-- what came of the bytes that were taken from a source, of which this is left
+abbrev pub IsReplyTo : Command → List ℕ → Option (List ℕ) → Result Output Status → Type 0
+IsReplyTo command taken now (Ok output) = IsEnded now × IsOutput command taken output.text.items output.ending
+IsReplyTo command taken now (Err (BadLine line column)) = IsEnded now × IsFaulty command taken line column
+IsReplyTo command taken now (Err NoMemory) = Unit {0}
+IsReplyTo command taken now (Err ReadFault) = Unit {0}
+IsReplyTo command taken now (Err TooLong) = Unit {0}
+IsReplyTo command taken now (Err _) = ⊥
+
+pub record IsTakenTo (command : Command) (left now : Option (List ℕ)) (answer : Result Output Status) : Type 0 where
+  pub taken : List ℕ
+  pub took : left ≡ behind taken now
+  pub too_long : (answer ≡ Err TooLong) ↔ (length taken ≡ 16777217)
+  pub most : length taken ≤ 16777217
+  pub reply : IsReplyTo command taken now answer
+
+-- what came of the bytes that were taken, and what the sink holds
+abbrev pub Came : Command → List ℕ → Option (List ℕ) → Option (List ℕ) → Option (List ℕ) → Status → Type 0
+Came command taken now held holds Fine = IsEnded now × ((output : List ℕ) × IsOutput command taken output ending.Fine × (holds ≡ with_given output held))
+Came command taken now held holds NotLegal = IsEnded now × ((output : List ℕ) × IsOutput command taken output ending.NotLegal × (holds ≡ with_given output held))
+Came command taken now held holds WriteFault = IsEnded now × ((output : List ℕ) × (ends : Ending) × IsOutput command taken output ends × TookFirst held holds output)
+Came command taken now held holds (BadLine line column) = IsEnded now × IsFaulty command taken line column
+Came command taken now held holds Words = ⊥
+Came command taken now held holds _ = Unit {0}
+
+pub record IsRun (command : Command) (left now held holds : Option (List ℕ)) (status : Status) : Type 0 where
+  pub taken : List ℕ
+  pub took : left ≡ behind taken now
+  pub within : IsWithin status taken
+  pub came : Came command taken now held holds status

@@ -1,0 +1,43 @@
+-- What a command makes of its input.
+use Rattle.std.specs.Prelude.{◌≡◌, ℕ, List, Option, None, Some}
+use Rattle.line_grammar.specs.Traces.{IsTraceFault}
+use Rattle.tp_base.specs.declared.calls.Call.{Call}
+use Rattle.tp_base.specs.declared.ids.Who.{Who}
+use Rattle.tp_lines.specs.Faults.{IsLine}
+use Rattle.tp_run.specs.declared.command.Command.{Command}
+use Rattle.tp_run.specs.declared.command.Command.TheVariants.{Trace, Check}
+use Rattle.tp_run.specs.declared.status.Ending.{Ending}
+use Rattle.tp_run.specs.declared.status.Ending.TheVariants.{Fine, NotLegal}
+use Rattle.tp_base.specs.declared.answers.Entry.{Entry}
+use Rattle.tp_report.specs.Histories.{IsHistory, IsHistoryFault}
+use Rattle.tp_report.specs.Traces.{IsTraceOf, output_of}
+use Rattle.tp_report.specs.Verdicts.{IsVerdict, limits_of, verdict_text}
+use Rattle.tp_report.specs.declared.headers.Header.{Header}
+use Rattle.tp_report.specs.declared.verdict.Verdict.{Verdict}
+use Rattle.tp_report.specs.declared.verdict.Verdict.TheVariants as verdict
+
+abbrev pub ending_of : Verdict → Ending
+ending_of (verdict.Legal len) = Fine
+ending_of (verdict.NotLegal position outcome) = NotLegal
+
+-- the bytes are a history, this is the text of the machine's verdict on it, and its ending
+pub record IsChecked (bytes output : List ℕ) (ending : Ending) : Type 0 where
+  pub header : Header
+  pub entries : List Entry
+  pub told : Verdict
+  pub is_history : IsHistory bytes header entries
+  pub is_verdict : IsVerdict (limits_of header) header.events entries told
+  pub output_is : output ≡ verdict_text told
+  pub ending_is : ending ≡ ending_of told
+
+-- the bytes are in the grammar of the command's input, and these are its output for them and its ending
+abbrev pub Gives : Option Command → List ℕ → List ℕ → Ending → Type 0
+Gives None bytes output ending = ⊥
+Gives (Some Trace) bytes output ending = (calls : List (Who × Call)) × IsTraceOf bytes calls × (output ≡ output_of calls) × (ending ≡ Fine)
+Gives (Some Check) bytes output ending = IsChecked bytes output ending
+
+-- the bytes are not in the grammar of the command's input, and this is the place of their first fault
+abbrev pub IsFaultyAt : Option Command → List ℕ → ℕ → ℕ → Type 0
+IsFaultyAt None bytes line column = ⊥
+IsFaultyAt (Some Trace) bytes line column = IsTraceFault IsLine bytes line column
+IsFaultyAt (Some Check) bytes line column = IsHistoryFault bytes line column

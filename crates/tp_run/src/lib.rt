@@ -1,0 +1,22 @@
+//! All that the program tpool does, over any machine, any source and any sink.
+//!
+//! `tp_main` takes the words behind the program's name, reads its source to the end, and writes what
+//! the command makes of it to its sink; it answers how the program ends. The machine is a
+//! `recorded::Recorded` and the streams are those of `tp_edge`, so nothing here depends on an engine or
+//! on the streams of the system: the program `tp_top` gives it both.
+//!
+//! ```text
+//! words.push("trace")?;
+//! tp_main::<Book, _, _>(alloc, &words, &mut source, &mut sink)    // Status::Fine
+//! ```
+
+#![tactic(auto)]
+
+mod command;
+mod status;
+mod top;
+mod words;
+
+pub use status::Status;
+pub use top::tp_main;
+pub use words::WordList;

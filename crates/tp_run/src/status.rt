@@ -1,0 +1,121 @@
+//! How the program ends.
+
+ghost use Rattle.std.specs.Prelude.{◌≡◌};
+
+use std::alloc::AllocError;
+use tp_edge::ReadFault;
+use tp_report::{TextFault, Verdict};
+
+/// What was found out of an input that is in its grammar.
+#[derive(Clone, Copy)]
+pub enum Ending {
+    /// Nothing is wrong with it.
+    Fine,
+    /// It is a history in which an answer isn't the machine's.
+    NotLegal,
+}
+
+impl From<&Verdict> for Ending {
+    ghost use Rattle.tp_run.specs.Inputs.{ending_of};
+
+    ghost from_gives = { λ verdict ending. ending ≡ ending_of verdict.now };
+
+    fn from(verdict: &Verdict) -> Self {
+        match verdict {
+            Verdict::Legal { .. } => Ending::Fine,
+            Verdict::NotLegal { .. } => Ending::NotLegal,
+        }
+    }
+}
+
+/// How the program ends.
+#[derive(Clone, Copy, PartialEq, Eq)]
+pub enum Status {
+    /// The input was read to its end, and the output is whole.
+    Fine,
+    /// The words are no command. Nothing was read or written.
+    Words,
+    /// The input, read to its end, isn't in its grammar. Its first fault is in this line, counted
+    /// from 1, at this byte, counted from 1. Nothing was written.
+    BadLine { line: u32, column: u32 },
+    /// The source of the input had a fault. Nothing was written.
+    ReadFault,
+    /// The sink of the output had a fault. It took the first bytes of the output.
+    WriteFault,
+    /// Memory was refused. Nothing was written.
+    NoMemory,
+    /// The source gave 16,777,217 bytes. Nothing was written.
+    TooLong,
+    /// The input, read to its end, is a history that isn't legal. The output is whole.
+    NotLegal,
+}
+
+impl Status {
+    ghost use Rattle.tp_run.specs.Codes.{code_of};
+
+    /// The exit status of the program.
+    pub fn code(self) -> u8
+        ensures { result ≡ code_of self }
+    {
+        match self {
+            Status::Fine => 0,
+            Status::Words => 1,
+            Status::BadLine { .. } => 2,
+            Status::ReadFault => 3,
+            Status::WriteFault => 4,
+            Status::NoMemory => 5,
+            Status::TooLong => 6,
+            Status::NotLegal => 7,
+        }
+    }
+}
+
+impl From<Ending> for Status {
+    ghost use Rattle.tp_run.specs.Ends.{status_of};
+
+    ghost from_gives = { λ ending status. status ≡ status_of ending };
+
+    fn from(ending: Ending) -> Self {
+        match ending {
+            Ending::Fine => Status::Fine,
+            Ending::NotLegal => Status::NotLegal,
+        }
+    }
+}
+
+impl From<ReadFault> for Status {
+    ghost use Rattle.tp_run.specs.Ends.{status_of_source};
+
+    ghost from_gives = { λ fault status. status ≡ status_of_source fault };
+
+    fn from(fault: ReadFault) -> Self {
+        match fault {
+            ReadFault::NoMemory => Status::NoMemory,
+            ReadFault::Failed => Status::ReadFault,
+            ReadFault::TooLong => Status::TooLong,
+        }
+    }
+}
+
+impl From<TextFault> for Status {
+    ghost use Rattle.tp_run.specs.Ends.{status_of_text};
+
+    ghost from_gives = { λ fault status. status ≡ status_of_text fault };
+
+    fn from(fault: TextFault) -> Self {
+        match fault {
+            TextFault::NoMemory => Status::NoMemory,
+            TextFault::At { line, column } => Status::BadLine { line, column },
+        }
+    }
+}
+
+impl From<AllocError> for Status {
+    ghost use Rattle.tp_run.specs.declared.status.Status.TheVariants.{NoMemory};
+
+    ghost from_gives = { λ _ status. status ≡ NoMemory };
+
+    fn from(_error: AllocError) -> Self {
+        Status::NoMemory
+    }
+}

@@ -1,0 +1,153 @@
+//! All that the program does, over any machine, any source and any sink.
+
+ghost use Rattle.std.specs.Prelude.{◌≡◌, ◌≢◌, ◌↔◌, ◌≤◌, ◌⊎◌, ℕ, List, IfOk, Some, None, length};
+ghost use Rattle.tp_edge.specs.Counts.{Rose};
+ghost use Rattle.tp_edge.specs.Given.{with_given, TookFirst};
+ghost use Rattle.tp_edge.specs.Taken.{behind, IsAbove, IsEnded};
+ghost use Rattle.tp_run.specs.Commands.{command_of};
+ghost use Rattle.tp_run.specs.Ends.{IsReply, IsRun, IsTakenTo, status_of};
+ghost use Rattle.tp_report.specs.Verdicts.{verdict_text};
+ghost use Rattle.tp_run.specs.Inputs.{ending_of, Gives};
+ghost use Rattle.tp_run.specs.Runs.{IsAnswered, IsBadLine, IsBadLineOf, IsReadToEnd, IsUnwritten, IsWhole, IsWithin};
+ghost use Rattle.tp_run.specs.declared.status.Ending.{Ending};
+
+use crate::command::{Command, command_in};
+use crate::status::{Ending, Status};
+use crate::words::WordList;
+use recorded::Recorded;
+use std::alloc::{AllocError, Global};
+use tp_edge::{Sink, Source, WriteFault, give_all, read_all};
+use tp_report::{Verdict, check, print_verdict, trace};
+
+/// The most bytes that an input may have.
+const INPUT_LIMIT: usize = 16_777_216;
+
+/// Does what the words ask for on a machine, a `B`: reads the source to its end, and then writes to the
+/// sink.
+///
+/// `words` are those behind the program's name. The answer is the first of these that applies:
+/// `Words`; `ReadFault` and `TooLong`, at which reading ends; `NoMemory` of reading; `BadLine`;
+/// `NoMemory`; `WriteFault`; `NotLegal`; `Fine`. All memory is taken before anything is written.
+pub fn tp_main<B: Recorded, S: Source, K: Sink>(
+    alloc: Global,
+    words: &WordList,
+    source: &mut S,
+    sink: &mut K,
+) -> Status
+    // The words alone decide whether they are a command; if not, nothing is done.
+    ensures words { (result ≡ Status.Words) ↔ (command_of words.now ≡ None) }
+    ensures unread { result ≡ Status.Words → source.new ≡ source.old }
+    ensures unwritten { IsUnwritten result → sink.new ≡ sink.old }
+    // A fault of a stream has risen in this call.
+    ensures read_fault { result ≡ Status.ReadFault → Rose (S.failures source.old) (S.failures source.new) }
+    ensures write_fault { result ≡ Status.WriteFault → Rose (K.failures sink.old) (K.failures sink.new) }
+    ensures source_never_falls { S.failures source.old ≤ S.failures source.new }
+    ensures sink_never_falls { K.failures sink.old ≤ K.failures sink.new }
+    // What was taken from the source.
+    ensures taken { (taken : List ℕ) × (S.left source.old ≡ behind taken (S.left source.new)) × IsWithin result taken }
+    ensures too_long { result ≡ Status.TooLong → IsAbove INPUT_LIMIT (S.left source.old) }
+    ensures ended { IsReadToEnd result → IsEnded (S.left source.new) }
+    // A bad line is the first fault of the input, which is then in no grammar of the command.
+    ensures bad_line { IsBadLineOf (command_of words.now) (S.left source.old) result }
+    ensures bad_only { (bytes output : List ℕ) (ending : Ending) → S.left source.old ≡ Some bytes → Gives (command_of words.now) bytes output ending →
+        IsBadLine result → ⊥ }
+    // The sink gets the output for the input, once; and there is no other output for it.
+    ensures whole { IsWhole result → IsAnswered (command_of words.now) (S.left source.old)
+        (λ output ending. (result ≡ status_of ending) × (K.holds sink.new ≡ with_given output (K.holds sink.old))) }
+    ensures whole_only { (bytes output : List ℕ) (ending : Ending) → S.left source.old ≡ Some bytes → Gives (command_of words.now) bytes output ending →
+        IsWhole result → (result ≡ status_of ending) × (K.holds sink.new ≡ with_given output (K.holds sink.old)) }
+    // A sink that has a fault holds the first bytes of the output.
+    ensures first { result ≡ Status.WriteFault → IsAnswered (command_of words.now) (S.left source.old)
+        (λ output ending. TookFirst (K.holds sink.old) (K.holds sink.new) output) }
+    ensures first_only { (bytes output : List ℕ) (ending : Ending) → S.left source.old ≡ Some bytes → Gives (command_of words.now) bytes output ending →
+        result ≡ Status.WriteFault → TookFirst (K.holds sink.old) (K.holds sink.new) output }
+    // Nothing but want of memory keeps an input in the grammar from its output where no stream has a fault.
+    ensures complete { (bytes output : List ℕ) (ending : Ending) → S.left source.old ≡ Some bytes → Gives (command_of words.now) bytes output ending →
+        length bytes ≤ INPUT_LIMIT →
+        (Rose (S.failures source.old) (S.failures source.new) → ⊥) → (Rose (K.failures sink.old) (K.failures sink.new) → ⊥) →
+        (result ≡ status_of ending) ⊎ (result ≡ Status.NoMemory) }
+{
+    match command_in(words) {
+        None => Status::Words,
+        Some(command) => run::<B, _, _>(alloc, command, source, sink),
+    }
+}
+
+/// What a command makes of its input.
+#[derive(Drop)]
+pub struct Output {
+    /// All that is to be written.
+    pub text: Vec<u8>,
+    /// How the program ends once it is written.
+    pub ending: Ending,
+}
+
+// Reads the command's input, and writes its output.
+fn run<B: Recorded, S: Source, K: Sink>(
+    alloc: Global,
+    command: Command,
+    source: &mut S,
+    sink: &mut K,
+) -> Status
+    ensures run { IsRun command (S.left source.old) (S.left source.new) (K.holds sink.old) (K.holds sink.new) result }
+    ensures unwritten { IsUnwritten result → sink.new ≡ sink.old }
+    ensures read_fault { result ≡ Status.ReadFault → Rose (S.failures source.old) (S.failures source.new) }
+    ensures write_fault { result ≡ Status.WriteFault → Rose (K.failures sink.old) (K.failures sink.new) }
+    ensures source_never_falls { S.failures source.old ≤ S.failures source.new }
+    ensures sink_never_falls { K.failures sink.old ≤ K.failures sink.new }
+{
+    match read_output::<B, S>(alloc, command, source) {
+        Err(status) => status,
+        Ok(output) => match give_all(sink, &output.text) {
+            Ok(()) => output.ending.into(),
+            Err(WriteFault::Failed) => Status::WriteFault,
+        },
+    }
+}
+
+// Reads the command's input to its end, and answers its output.
+fn read_output<B: Recorded, S: Source>(
+    alloc: Global,
+    command: Command,
+    source: &mut S,
+) -> Result<Output, Status>
+    ensures taken { IsTakenTo command (S.left source.old) (S.left source.new) result }
+    ensures read_fault { result ≡ Err Status.ReadFault → Rose (S.failures source.old) (S.failures source.new) }
+    ensures never_falls { S.failures source.old ≤ S.failures source.new }
+{
+    let bytes = read_all(alloc, source, INPUT_LIMIT)?;
+    reply::<B>(alloc, command, &bytes)
+}
+
+// The command's output for its whole input.
+fn reply<B: Recorded>(alloc: Global, command: Command, bytes: &[u8]) -> Result<Output, Status>
+    requires { length bytes.now ≤ INPUT_LIMIT }
+    ensures { IsReply command bytes.now result }
+{
+    match command {
+        Command::Trace => {
+            let text = trace::<B>(alloc, bytes)?;
+            Ok(Output {
+                text,
+                ending: Ending::Fine,
+            })
+        }
+        Command::Check => {
+            let verdict = check::<B>(alloc, bytes)?;
+            Ok(output_of(alloc, &verdict)?)
+        }
+    }
+}
+
+// What `check` writes of a verdict, and how it ends.
+fn output_of(alloc: Global, verdict: &Verdict) -> Result<Output, AllocError>
+    ensures text { IfOk result (λ output. output.text.items ≡ verdict_text verdict.now) }
+    ensures ending { IfOk result (λ output. output.ending ≡ ending_of verdict.now) }
+{
+    let mut text = Vec::new(alloc);
+    print_verdict(alloc, verdict, &mut text)?;
+    Ok(Output {
+        text,
+        ending: verdict.into(),
+    })
+}
