@@ -14,7 +14,7 @@ use Rattle.tp_model.specs.Waits.{is_held_for, is_outstanding_for}
 use Rattle.tp_model.proofs.Lists.{all_along, filter_agree, find_all}
 use Rattle.tp_model.proofs.Refusals.{both, and_false}
 use Rattle.live_world.specs.Parts.{is_tied, tied_entry}
-use Rattle.live_world.specs.Invariant.{waits, runs}
+use Rattle.live_world.specs.Invariant.{is_pending_callback, is_running_callback}
 use Rattle.live_world.specs.Waiting.{numbers_of, outstanding_of, is_pending_for, pending_of}
 use Rattle.live_world.proofs.Lists.{all_pass, filter_both, filter_none}
 use Rattle.live_world.proofs.Listed.{held_alike}
@@ -25,12 +25,12 @@ number_of c = c.number
 
 -- ---- the rows
 
-pub rows_rise : (low fresh : ℕ) (cs : List CallbackRow) → IsRising low fresh cs → Rises number_of low cs
-rows_rise low fresh [] r = tt
-rows_rise low fresh (c ∷ cs) r = (r.0, rows_rise (c.number + 1) fresh cs r.1)
+pub rows_rise : (low next_number : ℕ) (cs : List CallbackRow) → IsRising low next_number cs → Rises number_of low cs
+rows_rise low next_number [] r = tt
+rows_rise low next_number (c ∷ cs) r = (r.0, rows_rise (c.number + 1) next_number cs r.1)
 
-pub outstanding_rise : (fresh : ℕ) (cs : List CallbackRow) (object : ObjectId) → IsRising 1 fresh cs → Rises number_of 1 (filter (is_outstanding_for (Object object)) cs)
-outstanding_rise fresh cs object rising = rises_filter number_of (is_outstanding_for (Object object)) 1 cs (rows_rise 1 fresh cs rising)
+pub outstanding_rise : (next_number : ℕ) (cs : List CallbackRow) (object : ObjectId) → IsRising 1 next_number cs → Rises number_of 1 (filter (is_outstanding_for (Object object)) cs)
+outstanding_rise next_number cs object rising = rises_filter number_of (is_outstanding_for (Object object)) 1 cs (rows_rise 1 next_number cs rising)
 
 -- an outstanding row is of the object
 pub of_object : (object : ObjectId) (cs : List CallbackRow) (q : CallbackRow → Bool) (c : CallbackRow) → find q (filter (is_outstanding_for (Object object)) cs) ≡ Some c → c.object ≡ object
@@ -51,14 +51,14 @@ first_found [] = refl
 first_found (x ∷ xs) = refl
 
 -- a row that is found among some is found by its number among all
-pub looked_up : (fresh : ℕ) (cs : List CallbackRow) (p t : CallbackRow → Bool) (number : ℕ) → IsRising 1 fresh cs → option_map number_of (find t (filter p cs)) ≡ Some number → find (has_number number) cs ≡ find t (filter p cs)
-looked_up fresh cs p t number rising is = known (find t (filter p cs)) refl is
+pub looked_up : (next_number : ℕ) (cs : List CallbackRow) (p t : CallbackRow → Bool) (number : ℕ) → IsRising 1 next_number cs → option_map number_of (find t (filter p cs)) ≡ Some number → find (has_number number) cs ≡ find t (filter p cs)
+looked_up next_number cs p t number rising is = known (find t (filter p cs)) refl is
   where
     known : (o : Option CallbackRow) → find t (filter p cs) ≡ o → option_map number_of o ≡ Some number → find (has_number number) cs ≡ find t (filter p cs)
     known None e h = absurd cc
     known (Some c) e h =
         let same : c.number ≡ number = cc in
-        let among : IsAmong number_of cs (find (λ x. p x && t x) cs) = found_among number_of 1 (λ x. p x && t x) cs (rows_rise 1 fresh cs rising) in
+        let among : IsAmong number_of cs (find (λ x. p x && t x) cs) = found_among number_of 1 (λ x. p x && t x) cs (rows_rise 1 next_number cs rising) in
         let there : find (λ x. x.number == c.number) cs ≡ Some c = subst (IsAmong number_of cs) (sym (find_filter p t cs) ∙ e) among in
         ap (λ n. find (has_number n) cs) (sym same) ∙ there ∙ sym e
 
@@ -79,9 +79,9 @@ first_passes p x (y ∷ ys) e =
     ] refl e
 
 -- and is found by its number
-pub first_by_number : (fresh : ℕ) (cs : List CallbackRow) (p : CallbackRow → Bool) (c : CallbackRow) → IsRising 1 fresh cs → slice_get (filter p cs) 0 ≡ Some c → find (has_number c.number) cs ≡ Some c
-first_by_number fresh cs p c rising first =
-    looked_up fresh cs p (λ _. true) c.number rising (ap (option_map number_of) (first_found (filter p cs) ∙ first)) ∙ first_found (filter p cs) ∙ first
+pub first_by_number : (next_number : ℕ) (cs : List CallbackRow) (p : CallbackRow → Bool) (c : CallbackRow) → IsRising 1 next_number cs → slice_get (filter p cs) 0 ≡ Some c → find (has_number c.number) cs ≡ Some c
+first_by_number next_number cs p c rising first =
+    looked_up next_number cs p (λ _. true) c.number rising (ap (option_map number_of) (first_found (filter p cs) ∙ first)) ∙ first_found (filter p cs) ∙ first
 
 -- ---- the lists of objects
 
@@ -124,7 +124,7 @@ pub outstanding_listed : (object : ObjectId) → IsListedFor object is_tied (is_
 outstanding_listed object c = ap (λ b. b && (c.object.0 == object.0)) (held_alike c.object object c.status) ∙ and_swap (is_held_for (Object object) c.status) (c.object.0 == object.0)
 
 -- the first of them
-module _ (fresh : ℕ) (cs : List CallbackRow) (object : ObjectId) (test p : CallbackRow → Bool) (listed : IsListedFor object test p) (entries : List Entry) (is : entries ≡ map tied_entry (filter test cs)) (first : Option ℕ) (found : first ≡ first_of entries object.0) where
+module _ (next_number : ℕ) (cs : List CallbackRow) (object : ObjectId) (test p : CallbackRow → Bool) (listed : IsListedFor object test p) (entries : List Entry) (is : entries ≡ map tied_entry (filter test cs)) (first : Option ℕ) (found : first ≡ first_of entries object.0) where
   first_shown : option_map number_of (find (λ _. true) (filter p cs)) ≡ first
   first_shown =
       sym (found ∙ ap (λ es. first_of es object.0) is
@@ -134,8 +134,8 @@ module _ (fresh : ℕ) (cs : List CallbackRow) (object : ObjectId) (test p : Cal
       and_true true = refl
       and_true false = refl
 
-  pub first_row : (number : ℕ) → IsRising 1 fresh cs → first ≡ Some number → find (has_number number) cs ≡ slice_get (filter p cs) 0
-  first_row number rising some = looked_up fresh cs p (λ _. true) number rising (first_shown ∙ some) ∙ first_found (filter p cs)
+  pub first_row : (number : ℕ) → IsRising 1 next_number cs → first ≡ Some number → find (has_number number) cs ≡ slice_get (filter p cs) 0
+  first_row number rising some = looked_up next_number cs p (λ _. true) number rising (first_shown ∙ some) ∙ first_found (filter p cs)
 
   pub any_row : is_some first ≡ list_any p cs
   any_row = sym (ap is_some first_shown) ∙ mapped (find (λ _. true) (filter p cs)) ∙ ap is_some (first_found (filter p cs)) ∙ sym (any_filtered p cs)
@@ -192,10 +192,10 @@ pub record AtRow (cs : List CallbackRow) (object : ObjectId) (c : CallbackRow) :
   pub step : rest number_of (filter (is_outstanding_for (Object object)) cs) (Some c) ≡ c ∷ rest number_of (filter (is_outstanding_for (Object object)) cs) (find (λ (x : CallbackRow). nat_lt c.number x.number) (filter (is_outstanding_for (Object object)) cs))
   pub among : IsAmong number_of (filter (is_outstanding_for (Object object)) cs) (find (λ (x : CallbackRow). nat_lt c.number x.number) (filter (is_outstanding_for (Object object)) cs))
 
-pub at_row : (fresh : ℕ) (cs : List CallbackRow) (object : ObjectId) (c : CallbackRow) → IsRising 1 fresh cs → IsAmong number_of (filter (is_outstanding_for (Object object)) cs) (Some c) → AtRow cs object c
-at_row fresh cs object c rising there =
+pub at_row : (next_number : ℕ) (cs : List CallbackRow) (object : ObjectId) (c : CallbackRow) → IsRising 1 next_number cs → IsAmong number_of (filter (is_outstanding_for (Object object)) cs) (Some c) → AtRow cs object c
+at_row next_number cs object c rising there =
     let ys : List CallbackRow = filter (is_outstanding_for (Object object)) cs in
-    let rises : Rises number_of 1 ys = outstanding_rise fresh cs object rising in
+    let rises : Rises number_of 1 ys = outstanding_rise next_number cs object rising in
     record {
       same = of_object object cs (λ x. x.number == c.number) c there;
       step = rest_next number_of 1 ys c rises there;
@@ -214,11 +214,11 @@ pub record AtNext (w : World) (object : ObjectId) (c : CallbackRow) (next : Opti
   pub later : (after : Option CallbackRow) → after ≡ find (λ (x : CallbackRow). nat_lt c.number x.number) (outstanding_of w c.object) → length (rest number_of (outstanding_of w object) after) < length (rest number_of (outstanding_of w object) next)
   pub among : (after : Option CallbackRow) → after ≡ find (λ (x : CallbackRow). nat_lt c.number x.number) (outstanding_of w c.object) → IsAmong number_of (outstanding_of w object) after
 
-pub at_next : (w : World) (fresh : ℕ) (object : ObjectId) (c : CallbackRow) (next : Option CallbackRow) → IsRising 1 fresh w.callbacks → next ≡ Some c → IsAmong number_of (outstanding_of w object) next → AtNext w object c next
-at_next w fresh object c next rising is among =
+pub at_next : (w : World) (next_number : ℕ) (object : ObjectId) (c : CallbackRow) (next : Option CallbackRow) → IsRising 1 next_number w.callbacks → next ≡ Some c → IsAmong number_of (outstanding_of w object) next → AtNext w object c next
+at_next w next_number object c next rising is among =
     let ys : List CallbackRow = outstanding_of w object in
     let there : IsAmong number_of ys (Some c) = subst (IsAmong number_of ys) is among in
-    let at = at_row fresh w.callbacks object c rising there in
+    let at = at_row next_number w.callbacks object c rising there in
     record {
       there = ap (λ o. find (has_number c.number) (outstanding_of w o)) at.same ∙ there;
       step = λ after found. left at after found;
@@ -230,8 +230,8 @@ at_next w fresh object c next rising is among =
     left at after found = ap (rest number_of (outstanding_of w object)) is ∙ at.step ∙ ap (λ o. c ∷ rest number_of (outstanding_of w object) o) (sym (next_row w object c after at.same found))
 
 -- all is left from the first on
-pub first_whole : (w : World) (fresh : ℕ) (object : ObjectId) (next : Option CallbackRow) → IsRising 1 fresh w.callbacks → next ≡ slice_get (outstanding_of w object) 0 → rest number_of (outstanding_of w object) next ≡ outstanding_of w object
-first_whole w fresh object next rising is = ap (rest number_of (outstanding_of w object)) is ∙ rest_first number_of 1 (outstanding_of w object) (outstanding_rise fresh w.callbacks object rising)
+pub first_whole : (w : World) (next_number : ℕ) (object : ObjectId) (next : Option CallbackRow) → IsRising 1 next_number w.callbacks → next ≡ slice_get (outstanding_of w object) 0 → rest number_of (outstanding_of w object) next ≡ outstanding_of w object
+first_whole w next_number object next rising is = ap (rest number_of (outstanding_of w object)) is ∙ rest_first number_of 1 (outstanding_of w object) (outstanding_rise next_number w.callbacks object rising)
 
 pub first_is_among : (w : World) (object : ObjectId) (next : Option CallbackRow) → next ≡ slice_get (outstanding_of w object) 0 → IsAmong number_of (outstanding_of w object) next
 first_is_among w object next is = subst (IsAmong number_of (outstanding_of w object)) (sym is) (first_among number_of (outstanding_of w object))
@@ -241,19 +241,19 @@ first_is_among w object next is = subst (IsAmong number_of (outstanding_of w obj
 -- what was counted so far, and what is left
 pub record Counting (ys : List CallbackRow) (next : Option CallbackRow) (all pending running : ℕ) : Type 0 where
   pub all_counted : all + length (rest number_of ys next) ≡ length ys
-  pub pending_counted : pending + length (filter waits (rest number_of ys next)) ≡ length (filter waits ys)
-  pub running_counted : running + length (filter runs (rest number_of ys next)) ≡ length (filter runs ys)
+  pub pending_counted : pending + length (filter is_pending_callback (rest number_of ys next)) ≡ length (filter is_pending_callback ys)
+  pub running_counted : running + length (filter is_running_callback (rest number_of ys next)) ≡ length (filter is_running_callback ys)
   pub pending_within : pending ≤ all
   pub running_within : running ≤ all
   pub among : IsAmong number_of ys next
 
-pub counting_first : (w : World) (fresh : ℕ) (object : ObjectId) (next : Option CallbackRow) → IsRising 1 fresh w.callbacks → next ≡ slice_get (outstanding_of w object) 0 → Counting (outstanding_of w object) next 0 0 0
-counting_first w fresh object next rising is =
-    let whole = first_whole w fresh object next rising is in
+pub counting_first : (w : World) (next_number : ℕ) (object : ObjectId) (next : Option CallbackRow) → IsRising 1 next_number w.callbacks → next ≡ slice_get (outstanding_of w object) 0 → Counting (outstanding_of w object) next 0 0 0
+counting_first w next_number object next rising is =
+    let whole = first_whole w next_number object next rising is in
     record {
       all_counted = omega (arith, ap length whole);
-      pending_counted = omega (arith, ap (λ xs. length (filter waits xs)) whole);
-      running_counted = omega (arith, ap (λ xs. length (filter runs xs)) whole);
+      pending_counted = omega (arith, ap (λ xs. length (filter is_pending_callback xs)) whole);
+      running_counted = omega (arith, ap (λ xs. length (filter is_running_callback xs)) whole);
       pending_within = omega arith;
       running_within = omega arith;
       among = first_is_among w object next is;
@@ -263,23 +263,23 @@ counting_first w fresh object next rising is =
 pub record CountsOne (w : World) (object : ObjectId) (c : CallbackRow) (next : Option CallbackRow) (all pending running : ℕ) : Type 0 where
   pub at : AtNext w object c next
   pub fewer : all < length (outstanding_of w object)
-  pub goes_on : (after : Option CallbackRow) (more waiting busy : ℕ) → after ≡ find (λ (x : CallbackRow). nat_lt c.number x.number) (outstanding_of w c.object) → more ≡ all + 1 → waiting ≡ pending + cond (waits c) 1 0 → busy ≡ running + cond (runs c) 1 0
+  pub goes_on : (after : Option CallbackRow) (more waiting busy : ℕ) → after ≡ find (λ (x : CallbackRow). nat_lt c.number x.number) (outstanding_of w c.object) → more ≡ all + 1 → waiting ≡ pending + cond (is_pending_callback c) 1 0 → busy ≡ running + cond (is_running_callback c) 1 0
       → Counting (outstanding_of w object) after more waiting busy
 
-pub counts_one : (w : World) (fresh : ℕ) (object : ObjectId) (c : CallbackRow) (next : Option CallbackRow) (all pending running : ℕ) → IsRising 1 fresh w.callbacks → next ≡ Some c → Counting (outstanding_of w object) next all pending running → CountsOne w object c next all pending running
-counts_one w fresh object c next all pending running rising is k =
+pub counts_one : (w : World) (next_number : ℕ) (object : ObjectId) (c : CallbackRow) (next : Option CallbackRow) (all pending running : ℕ) → IsRising 1 next_number w.callbacks → next ≡ Some c → Counting (outstanding_of w object) next all pending running → CountsOne w object c next all pending running
+counts_one w next_number object c next all pending running rising is k =
     let ys : List CallbackRow = outstanding_of w object in
-    let at = at_next w fresh object c next rising is k.among in
+    let at = at_next w next_number object c next rising is k.among in
     record {
       at = at;
       fewer = omega (arith, k.all_counted, ap length (at.step (find (λ (x : CallbackRow). nat_lt c.number x.number) (outstanding_of w c.object)) refl));
       goes_on = λ after more waiting busy found one_more one_waiting one_busy.
           record {
             all_counted = omega (arith, k.all_counted, ap length (at.step after found), one_more);
-            pending_counted = counted waits (waits c) pending waiting (rest number_of ys after) one_waiting (ap (λ xs. length (filter waits xs)) (at.step after found)) k.pending_counted;
-            running_counted = counted runs (runs c) running busy (rest number_of ys after) one_busy (ap (λ xs. length (filter runs xs)) (at.step after found)) k.running_counted;
-            pending_within = fits (waits c) pending waiting more k.pending_within one_waiting one_more;
-            running_within = fits (runs c) running busy more k.running_within one_busy one_more;
+            pending_counted = counted is_pending_callback (is_pending_callback c) pending waiting (rest number_of ys after) one_waiting (ap (λ xs. length (filter is_pending_callback xs)) (at.step after found)) k.pending_counted;
+            running_counted = counted is_running_callback (is_running_callback c) running busy (rest number_of ys after) one_busy (ap (λ xs. length (filter is_running_callback xs)) (at.step after found)) k.running_counted;
+            pending_within = fits (is_pending_callback c) pending waiting more k.pending_within one_waiting one_more;
+            running_within = fits (is_running_callback c) running busy more k.running_within one_busy one_more;
             among = at.among after found;
           };
     }
@@ -295,10 +295,10 @@ counts_one w fresh object c next all pending running rising is k =
 
 -- ---- the pending ones among them
 
-pub pending_among : (object : ObjectId) (cs : List CallbackRow) → filter waits (filter (is_outstanding_for (Object object)) cs) ≡ filter (is_pending_for object) cs
+pub pending_among : (object : ObjectId) (cs : List CallbackRow) → filter is_pending_callback (filter (is_outstanding_for (Object object)) cs) ≡ filter (is_pending_for object) cs
 pending_among object cs =
-    filter_both waits (is_outstanding_for (Object object)) cs
-    ∙ filter_agree (λ (c : CallbackRow). is_outstanding_for (Object object) c && waits c) (is_pending_for object) (λ c. alike (c.object.0 == object.0) c.status) cs
+    filter_both is_pending_callback (is_outstanding_for (Object object)) cs
+    ∙ filter_agree (λ (c : CallbackRow). is_outstanding_for (Object object) c && is_pending_callback c) (is_pending_for object) (λ c. alike (c.object.0 == object.0) c.status) cs
   where
     alike : (b : Bool) (s : Status) → ((b && is_held_for (Object object) s) && is_pending s) ≡ (is_pending s && b)
     alike true Expected = refl
@@ -317,27 +317,27 @@ pending_among object cs =
 
 -- none of them stands before the next
 pub record Seeking (object : ObjectId) (w : World) (next : Option CallbackRow) : Type 0 where
-  pub left : filter waits (rest number_of (outstanding_of w object) next) ≡ pending_of w object
+  pub left : filter is_pending_callback (rest number_of (outstanding_of w object) next) ≡ pending_of w object
   pub among : IsAmong number_of (outstanding_of w object) next
 
-pub seeking_first : (w : World) (fresh : ℕ) (object : ObjectId) (next : Option CallbackRow) → IsRising 1 fresh w.callbacks → next ≡ slice_get (outstanding_of w object) 0 → Seeking object w next
-seeking_first w fresh object next rising is = record { left = ap (filter waits) (first_whole w fresh object next rising is) ∙ pending_among object w.callbacks; among = first_is_among w object next is }
+pub seeking_first : (w : World) (next_number : ℕ) (object : ObjectId) (next : Option CallbackRow) → IsRising 1 next_number w.callbacks → next ≡ slice_get (outstanding_of w object) 0 → Seeking object w next
+seeking_first w next_number object next rising is = record { left = ap (filter is_pending_callback) (first_whole w next_number object next rising is) ∙ pending_among object w.callbacks; among = first_is_among w object next is }
 
 -- the next is one of them, or it is passed over
 pub record Seeks (object : ObjectId) (w : World) (c : CallbackRow) (next : Option CallbackRow) : Type 0 where
   pub at : AtNext w object c next
-  pub first : waits c ≡ true → slice_get (pending_of w object) 0 ≡ Some c
-  pub others : waits c ≡ false → (after : Option CallbackRow) → after ≡ find (λ (x : CallbackRow). nat_lt c.number x.number) (outstanding_of w c.object) → Seeking object w after
+  pub first : is_pending_callback c ≡ true → slice_get (pending_of w object) 0 ≡ Some c
+  pub others : is_pending_callback c ≡ false → (after : Option CallbackRow) → after ≡ find (λ (x : CallbackRow). nat_lt c.number x.number) (outstanding_of w c.object) → Seeking object w after
 
-pub seeks : (w : World) (fresh : ℕ) (object : ObjectId) (c : CallbackRow) (next : Option CallbackRow) → IsRising 1 fresh w.callbacks → next ≡ Some c → Seeking object w next → Seeks object w c next
-seeks w fresh object c next rising is k =
-    let at = at_next w fresh object c next rising is k.among in
+pub seeks : (w : World) (next_number : ℕ) (object : ObjectId) (c : CallbackRow) (next : Option CallbackRow) → IsRising 1 next_number w.callbacks → next ≡ Some c → Seeking object w next → Seeks object w c next
+seeks w next_number object c next rising is k =
+    let at = at_next w next_number object c next rising is k.among in
     record {
       at = at;
       first = λ pends. ap (λ xs. slice_get xs 0) (sym k.left ∙ left at (find (λ (x : CallbackRow). nat_lt c.number x.number) (outstanding_of w c.object)) refl true pends);
       others = λ passed after found. record { left = sym (left at after found false passed) ∙ k.left; among = at.among after found };
     }
   where
-    left : AtNext w object c next → (after : Option CallbackRow) → after ≡ find (λ (x : CallbackRow). nat_lt c.number x.number) (outstanding_of w c.object) → (b : Bool) → waits c ≡ b
-        → filter waits (rest number_of (outstanding_of w object) next) ≡ cond b (c ∷ filter waits (rest number_of (outstanding_of w object) after)) (filter waits (rest number_of (outstanding_of w object) after))
-    left at after found b e = ap (filter waits) (at.step after found) ∙ ap (λ t. cond t (c ∷ filter waits (rest number_of (outstanding_of w object) after)) (filter waits (rest number_of (outstanding_of w object) after))) e
+    left : AtNext w object c next → (after : Option CallbackRow) → after ≡ find (λ (x : CallbackRow). nat_lt c.number x.number) (outstanding_of w c.object) → (b : Bool) → is_pending_callback c ≡ b
+        → filter is_pending_callback (rest number_of (outstanding_of w object) next) ≡ cond b (c ∷ filter is_pending_callback (rest number_of (outstanding_of w object) after)) (filter is_pending_callback (rest number_of (outstanding_of w object) after))
+    left at after found b e = ap (filter is_pending_callback) (at.step after found) ∙ ap (λ t. cond t (c ∷ filter is_pending_callback (rest number_of (outstanding_of w object) after)) (filter is_pending_callback (rest number_of (outstanding_of w object) after))) e

@@ -23,14 +23,14 @@ use Rattle.tp_model.proofs.Forgetting.{over_not_covered, over_not_cancelled}
 use Rattle.tp_model.specs.Waits.{is_held_for, is_outstanding_for, is_cancelled_by, is_covered_by, cancelled, cancel_where, covered_of}
 use Rattle.tp_model.proofs.Lists.{all_along, all_filter, filter_agree, filter_filter}
 use Rattle.tp_model.proofs.Callbacks.{found_bounds}
-use Rattle.tp_model.proofs.Preserving.{sound_begin_wait}
+use Rattle.tp_model.proofs.Sound.{sound_begin_wait}
 use Rattle.tp_model.proofs.Refusals.{and_false}
 use Rattle.live_world.specs.declared.begun.BegunWaits.{BegunWaits}
 use Rattle.live_world.specs.declared.LiveWorld.TheInside.{Inside}
-use Rattle.live_world.specs.Live.{Live, moved, became, settled}
+use Rattle.live_world.specs.Live.{Live, moved, with_world, settled}
 use Rattle.live_world.specs.Parts.{place_of, is_held_among, held_among}
 use Rattle.live_world.specs.View.{shown, IsLiveWorld}
-use Rattle.live_world.specs.Invariant.{AreCovered, AreWanted, AreClosing, waits, runs}
+use Rattle.live_world.specs.Invariant.{AreCovered, AreWanted, AreClosing, is_pending_callback, is_running_callback}
 use Rattle.live_world.specs.Waiting.{numbers_of, is_covered_among}
 use Rattle.live_world.proofs.Lists.{filter_all, filter_alike, filter_both, filter_map, all_pass, none_passes}
 use Rattle.live_world.proofs.Along.{number_of, numbers_shown, pending_among}
@@ -43,20 +43,20 @@ use Rattle.live_world.proofs.Moving.{Becomes, became_by, moved_by}
 -- ---- what a wait covers
 
 -- each row is found by its number
-pub each_found : (low fresh : ℕ) (cs : List CallbackRow) → IsRising low fresh cs → AllByRecursion (λ c. find (has_number c.number) cs ≡ Some c) cs
-each_found low fresh [] r = tt
-each_found low fresh (c ∷ cs) r = (
+pub each_found : (low next_number : ℕ) (cs : List CallbackRow) → IsRising low next_number cs → AllByRecursion (λ c. find (has_number c.number) cs ≡ Some c) cs
+each_found low next_number [] r = tt
+each_found low next_number (c ∷ cs) r = (
   ap (λ b. cond b (Some c) (find (has_number c.number) cs)) (eq-eqb c.number c.number refl),
   all_along (λ x. find (has_number x.number) cs ≡ Some x) (λ x. find (has_number x.number) (c ∷ cs) ≡ Some x)
-      (λ x found. ap (λ b. cond b (Some c) (find (has_number x.number) cs)) (ne_eqb c.number x.number (λ same. omega (arith, same, (found_bounds x.number (c.number + 1) fresh x cs r.1 found).0))) ∙ found)
-      cs (each_found (c.number + 1) fresh cs r.1),
+      (λ x found. ap (λ b. cond b (Some c) (find (has_number x.number) cs)) (ne_eqb c.number x.number (λ same. omega (arith, same, (found_bounds x.number (c.number + 1) next_number x cs r.1 found).0))) ∙ found)
+      cs (each_found (c.number + 1) next_number cs r.1),
 )
 
 -- what is outstanding, or with cancel what of it runs
-pub covers_outstanding : (fresh : ℕ) (object : ObjectId) (cancel : Bool) (cs : List CallbackRow) → IsRising 1 fresh cs → covered_of (Object object) cancel cs ≡ filter (is_covered_among cs cancel) (map number_of (filter (is_outstanding_for (Object object)) cs))
-covers_outstanding fresh object cancel cs rising =
+pub covers_outstanding : (next_number : ℕ) (object : ObjectId) (cancel : Bool) (cs : List CallbackRow) → IsRising 1 next_number cs → covered_of (Object object) cancel cs ≡ filter (is_covered_among cs cancel) (map number_of (filter (is_outstanding_for (Object object)) cs))
+covers_outstanding next_number object cancel cs rising =
     ap (map number_of)
-    (filter_alike (is_covered_by (Object object) cancel) (λ c. p c && q c.number) cs (all_along (λ c. find (has_number c.number) cs ≡ Some c) (λ c. is_covered_by (Object object) cancel c ≡ (p c && q c.number)) one cs (each_found 1 fresh cs rising))
+    (filter_alike (is_covered_by (Object object) cancel) (λ c. p c && q c.number) cs (all_along (λ c. find (has_number c.number) cs ≡ Some c) (λ c. is_covered_by (Object object) cancel c ≡ (p c && q c.number)) one cs (each_found 1 next_number cs rising))
     ∙ sym (filter_both (λ (c : CallbackRow). q c.number) p cs))
     ∙ sym (filter_map q number_of (filter p cs))
   where
@@ -73,12 +73,12 @@ covers_outstanding fresh object cancel cs rising =
     alike false false = refl
 
     one : (c : CallbackRow) → find (has_number c.number) cs ≡ Some c → is_covered_by (Object object) cancel c ≡ (p c && q c.number)
-    one c found = ap (λ b. p c && b) (alike (runs c) cancel ∙ ap (λ o. not cancel || option_map_or runs o false) (sym found))
+    one c found = ap (λ b. p c && b) (alike (is_running_callback c) cancel ∙ ap (λ o. not cancel || option_map_or is_running_callback o false) (sym found))
 
 -- ---- how many it covers, and how many it cancels
 
 -- a wait with cancel covers what runs
-pub covers_running : (object : ObjectId) (cs : List CallbackRow) → length (covered_of (Object object) true (cancel_where (is_cancelled_by (Object object) true) cs)) ≡ length (filter runs (filter (is_outstanding_for (Object object)) cs))
+pub covers_running : (object : ObjectId) (cs : List CallbackRow) → length (covered_of (Object object) true (cancel_where (is_cancelled_by (Object object) true) cs)) ≡ length (filter is_running_callback (filter (is_outstanding_for (Object object)) cs))
 covers_running object cs = length-map (filter covers (cancel_where test cs)) number_of ∙ each cs ∙ ap length (sym (filter_both runs p cs))
   where
     covers : CallbackRow → Bool
@@ -106,19 +106,19 @@ covers_running object cs = length-map (filter covers (cancel_where test cs)) num
     one b true Cancelled is = absurd cc
     one b false Cancelled is = refl
 
-    each : (ds : List CallbackRow) → length (filter covers (cancel_where test ds)) ≡ length (filter (λ c. p c && runs c) ds)
+    each : (ds : List CallbackRow) → length (filter covers (cancel_where test ds)) ≡ length (filter (λ c. p c && is_running_callback c) ds)
     each [] = refl
     each (d ∷ ds) =
         ap (λ b. length (cond b (cond (test d) (cancelled d) d ∷ filter covers (cancel_where test ds)) (filter covers (cancel_where test ds))))
         (elim (test d) as (λ t. covers (cond t (cancelled d) d) ≡ cond t (((d.object.0 == object.0) && false) && (false || false)) (((d.object.0 == object.0) && is_held_for (Object object) d.status) && (is_running d.status || false))) [ true ↦ refl | false ↦ refl ]
         ∙ one (d.object.0 == object.0) (test d) d.status refl)
-        ∙ elim (p d && runs d) as (λ b. length (cond b (cond (test d) (cancelled d) d ∷ filter covers (cancel_where test ds)) (filter covers (cancel_where test ds))) ≡ length (cond b (d ∷ filter (λ c. p c && runs c) ds) (filter (λ c. p c && runs c) ds))) [
+        ∙ elim (p d && is_running_callback d) as (λ b. length (cond b (cond (test d) (cancelled d) d ∷ filter covers (cancel_where test ds)) (filter covers (cancel_where test ds))) ≡ length (cond b (d ∷ filter (λ c. p c && is_running_callback c) ds) (filter (λ c. p c && is_running_callback c) ds))) [
           | true ↦ ap suc (each ds)
           | false ↦ each ds
         ]
 
 -- and cancels what is pending
-pub cancels_pending : (object : ObjectId) (cs : List CallbackRow) → length (filter (is_cancelled_by (Object object) true) cs) ≡ length (filter waits (filter (is_outstanding_for (Object object)) cs))
+pub cancels_pending : (object : ObjectId) (cs : List CallbackRow) → length (filter (is_cancelled_by (Object object) true) cs) ≡ length (filter is_pending_callback (filter (is_outstanding_for (Object object)) cs))
 cancels_pending object cs = ap length (sym (pending_among object cs))
 
 -- without cancel nothing is cancelled, and all is covered
@@ -144,9 +144,9 @@ cancels_none object (c ∷ cs) = cancels_none object cs
 -- ---- the parts
 
 -- what is outstanding is held
-all_held : (fresh : ℕ) (object : ObjectId) (cs : List CallbackRow) → IsRising 1 fresh cs → AllByRecursion (λ n. is_held_among cs (Object object) n ≡ true) (map number_of (filter (is_outstanding_for (Object object)) cs))
-all_held fresh object cs rising =
-    held (filter (is_outstanding_for (Object object)) cs) (all_filter (λ c. find (has_number c.number) cs ≡ Some c) (is_outstanding_for (Object object)) cs (each_found 1 fresh cs rising)) (all_pass (is_outstanding_for (Object object)) cs)
+all_held : (next_number : ℕ) (object : ObjectId) (cs : List CallbackRow) → IsRising 1 next_number cs → AllByRecursion (λ n. is_held_among cs (Object object) n ≡ true) (map number_of (filter (is_outstanding_for (Object object)) cs))
+all_held next_number object cs rising =
+    held (filter (is_outstanding_for (Object object)) cs) (all_filter (λ c. find (has_number c.number) cs ≡ Some c) (is_outstanding_for (Object object)) cs (each_found 1 next_number cs rising)) (all_pass (is_outstanding_for (Object object)) cs)
   where
     held : (ds : List CallbackRow) → AllByRecursion (λ c. find (has_number c.number) cs ≡ Some c) ds → AllByRecursion (λ c. is_outstanding_for (Object object) c ≡ true) ds → AllByRecursion (λ n. is_held_among cs (Object object) n ≡ true) (map number_of ds)
     held [] found passes = tt
@@ -155,7 +155,7 @@ all_held fresh object cs rising =
 pub begun_by : (i : Inside) (l : Live) (who : Who) (object : ObjectId) (cancel : Bool) (place : ℕ) (barriers notices : Covers) (begun : BegunWaits) → shown i ≡ l → IsLiveWorld i
     → MayBegin l.world who (Object object) → filter (is_cancelled_by (Object object) cancel) l.world.callbacks ≡ [] → place_of i.limits who ≡ Some place
     → barriers ≡ with_wait i.barriers place (Some (filter (is_covered_among i.callbacks.rows cancel) (numbers_of i.outstanding.entries object.0))) → notices ≡ with_wait i.notices place (Some []) → begun.waits ≡ i.waits.waits ++ new_wait who (Object object) cancel i.callbacks.rows ∷ []
-    → Becomes (record i { barriers = barriers; waits = begun; notices = notices }) (became l (begin_wait l.world who (Object object) cancel l.world.callbacks))
+    → Becomes (record i { barriers = barriers; waits = begun; notices = notices }) (with_world l (begin_wait l.world who (Object object) cancel l.world.callbacks))
 begun_by i l who object cancel place barriers notices begun is k may settled at barriers_now notices_now waits_now =
     let cs : List CallbackRow = i.callbacks.rows in
     let w : World = (shown i).world in
@@ -191,7 +191,7 @@ begun_by i l who object cancel place barriers notices begun is k may settled at 
           (subst (λ bs. AreCovered i.limits cs bs (with_wait i.barriers place (Some b.covered))) (sym waits_now)
           (covered_begun place b at may_here.none held k.covered));
     }) in
-    record { keeps = r.keeps; becomes = r.becomes ∙ ap (λ (x : Live). became x (begin_wait x.world who (Object object) cancel x.world.callbacks)) is }
+    record { keeps = r.keeps; becomes = r.becomes ∙ ap (λ (x : Live). with_world x (begin_wait x.world who (Object object) cancel x.world.callbacks)) is }
 
 -- ---- what a begun wait comes to
 
@@ -215,10 +215,10 @@ may_settled l m who object cancel is a =
     subst (λ (x : Live). MayBegin x.world who (Object object)) (sym is) (record { actor = a.actor; none = a.none; object = a.object; made = a.made })
 
 -- to cancel and then to begin is the whole change
-pub begins : (l m : Live) (who : Who) (object : ObjectId) (cancel : Bool) → m ≡ settled l object cancel → became m (begin_wait m.world who (Object object) cancel m.world.callbacks) ≡ moved l (change.BeginWait who (Object object) cancel)
+pub begins : (l m : Live) (who : Who) (object : ObjectId) (cancel : Bool) → m ≡ settled l object cancel → with_world m (begin_wait m.world who (Object object) cancel m.world.callbacks) ≡ moved l (change.BeginWait who (Object object) cancel)
 begins l m who object cancel is =
     let kept : List CallbackRow = cancel_where (is_cancelled_by (Object object) cancel) l.world.callbacks in
-    ap (λ (x : Live). became x (begin_wait x.world who (Object object) cancel x.world.callbacks)) is
+    ap (λ (x : Live). with_world x (begin_wait x.world who (Object object) cancel x.world.callbacks)) is
     ∙ ap₂ (λ cs (ns : List ℕ). record { world = record l.world { callbacks = cs; waits = l.world.waits ++ (record { actor = who; target = Object object; covered = ns; notices = []; cleanup = 0 }) ∷ [] }; made = l.made })
     (filter_filter lives lives (λ _ e. e) kept)
     (ap (map number_of) (filter_filter (is_covered_by (Object object) cancel) lives (over_not_covered (Object object) cancel) kept))
@@ -227,7 +227,7 @@ begins l m who object cancel is =
 pub not_settled : (l : Live) (object : ObjectId) → forget l.world ≡ l.world → l ≡ settled l object false
 not_settled l object living =
     ap (λ w. record { world = w; made = l.made }) (sym living)
-    ∙ ap (λ cs. became l (record l.world { callbacks = cs })) (sym (none_where l.world.callbacks (is_cancelled_by (Object object) false) (none_passes (is_cancelled_by (Object object) false) l.world.callbacks (cancels_none object l.world.callbacks))))
+    ∙ ap (λ cs. with_world l (record l.world { callbacks = cs })) (sym (none_where l.world.callbacks (is_cancelled_by (Object object) false) (none_passes (is_cancelled_by (Object object) false) l.world.callbacks (cancels_none object l.world.callbacks))))
 
 -- ---- a wait for a kernel object
 

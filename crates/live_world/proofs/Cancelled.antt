@@ -16,8 +16,8 @@ use Rattle.tp_model.proofs.Callbacks.{found_all, filter_replaced_out, over_not_p
 use Rattle.tp_model.proofs.Cancelling.{cancelled_pending, cancelled_if}
 use Rattle.tp_model.proofs.Forgetting.{cancel_forget, over_not_outstanding}
 use Rattle.tp_model.proofs.Refusals.{and_false}
-use Rattle.live_world.specs.Invariant.{waits}
-use Rattle.live_world.specs.Live.{Live, became, without_pending}
+use Rattle.live_world.specs.Invariant.{is_pending_callback}
+use Rattle.live_world.specs.Live.{Live, with_world, without_pending}
 use Rattle.live_world.specs.Waiting.{is_pending_for, outstanding_of, pending_of}
 use Rattle.live_world.proofs.Lists.{none_passes}
 use Rattle.live_world.proofs.Walks.{rest, IsAmong, rest_without, passing_without}
@@ -31,21 +31,21 @@ none_where (c ∷ cs) t all = ap₂ (λ b ds. cond b (cancelled c) c ∷ ds) all
 
 -- what is pending of a target cancelled
 abbrev pub settled_for : WaitTarget → Live → Live
-settled_for target l = became l (record l.world { callbacks = cancel_where (is_cancelled_by target true) l.world.callbacks })
+settled_for target l = with_world l (record l.world { callbacks = cancel_where (is_cancelled_by target true) l.world.callbacks })
 
 -- where nothing is left to cancel, all of it is
 pub nothing_left : (target : WaitTarget) (now : Live) → forget now.world ≡ now.world → filter (is_cancelled_by target true) now.world.callbacks ≡ [] → now ≡ settled_for target now
 nothing_left target now living none =
     ap (λ w. record { world = w; made = now.made }) (sym living)
-    ∙ ap (λ cs. became now (record now.world { callbacks = cs })) (sym (none_where now.world.callbacks (is_cancelled_by target true) (none_passes (is_cancelled_by target true) now.world.callbacks none)))
+    ∙ ap (λ cs. with_world now (record now.world { callbacks = cs })) (sym (none_where now.world.callbacks (is_cancelled_by target true) (none_passes (is_cancelled_by target true) now.world.callbacks none)))
 
 -- without it there is as much left to cancel, but for it
-pub settles_alike : (target : WaitTarget) (fresh : ℕ) (now : Live) (c : CallbackRow) → IsRising 1 fresh now.world.callbacks → is_cancelled_by target true c ≡ true → find (has_number c.number) now.world.callbacks ≡ Some c
-    → (new : Live) → new ≡ became now (with_callback now.world (cancelled c)) → settled_for target new ≡ settled_for target now
-settles_alike target fresh now c rising passes there new is =
+pub settles_alike : (target : WaitTarget) (next_number : ℕ) (now : Live) (c : CallbackRow) → IsRising 1 next_number now.world.callbacks → is_cancelled_by target true c ≡ true → find (has_number c.number) now.world.callbacks ≡ Some c
+    → (new : Live) → new ≡ with_world now (with_callback now.world (cancelled c)) → settled_for target new ≡ settled_for target now
+settles_alike target next_number now c rising passes there new is =
     ap (settled_for target) is
     ∙ ap (λ ds. record { world = record now.world { callbacks = ds }; made = now.made })
-    (cancel_forget lives t (cancelled_pending target true) (λ x e. e) (replaced (cancelled c) now.world.callbacks) ∙ ap (filter lives) (each now.world.callbacks (found_all (λ x. x ≡ c) c.number c 1 fresh now.world.callbacks rising there refl)))
+    (cancel_forget lives t (cancelled_pending target true) (λ x e. e) (replaced (cancelled c) now.world.callbacks) ∙ ap (filter lives) (each now.world.callbacks (found_all (λ x. x ≡ c) c.number c 1 next_number now.world.callbacks rising there refl)))
   where
     t : CallbackRow → Bool
     t = is_cancelled_by target true
@@ -76,13 +76,13 @@ pub record Cancelling (object : ObjectId) (before now : Live) (next : Option Cal
   pub leads : without_pending now object ≡ without_pending before object
   pub seeks : Seeking object now.world next
 
-pub cancelling_first : (object : ObjectId) (fresh : ℕ) (now : Live) (next : Option CallbackRow) → IsRising 1 fresh now.world.callbacks → next ≡ slice_get (outstanding_of now.world object) 0 → Cancelling object now now next
-cancelling_first object fresh now next rising is = record { leads = refl; seeks = seeking_first now.world fresh object next rising is }
+pub cancelling_first : (object : ObjectId) (next_number : ℕ) (now : Live) (next : Option CallbackRow) → IsRising 1 next_number now.world.callbacks → next ≡ slice_get (outstanding_of now.world object) 0 → Cancelling object now now next
+cancelling_first object next_number now next rising is = record { leads = refl; seeks = seeking_first now.world next_number object next rising is }
 
 -- where nothing is left, all of it is cancelled
 pub cancelling_ended : (object : ObjectId) (before now : Live) (next : Option CallbackRow) → next ≡ None → forget now.world ≡ now.world → Cancelling object before now next → now ≡ without_pending before object
 cancelling_ended object before now next ends living k =
-    let none : pending_of now.world object ≡ [] = sym k.seeks.left ∙ ap (λ o. filter waits (rest number_of (outstanding_of now.world object) o)) ends in
+    let none : pending_of now.world object ≡ [] = sym k.seeks.left ∙ ap (λ o. filter is_pending_callback (rest number_of (outstanding_of now.world object) o)) ends in
     nothing_left (Object object) now living none ∙ k.leads
 
 -- ---- one of them
@@ -90,15 +90,15 @@ cancelling_ended object before now next ends living k =
 -- it is passed over or cancelled
 pub record CancelsNext (object : ObjectId) (before now : Live) (c : CallbackRow) (next : Option CallbackRow) : Type 0 where
   pub seeks : Seeks object now.world c next
-  pub found : waits c ≡ true → find (has_number c.number) now.world.callbacks ≡ Some c
-  pub passes : waits c ≡ false → (after : Option CallbackRow) → after ≡ find (λ (x : CallbackRow). nat_lt c.number x.number) (outstanding_of now.world c.object) → Cancelling object before now after
-  pub cancels : waits c ≡ true → (after : Option CallbackRow) → after ≡ find (λ (x : CallbackRow). nat_lt c.number x.number) (outstanding_of now.world c.object)
-      → (new : Live) → new ≡ became now (with_callback now.world (cancelled c)) → Cancelling object before new after
+  pub found : is_pending_callback c ≡ true → find (has_number c.number) now.world.callbacks ≡ Some c
+  pub passes : is_pending_callback c ≡ false → (after : Option CallbackRow) → after ≡ find (λ (x : CallbackRow). nat_lt c.number x.number) (outstanding_of now.world c.object) → Cancelling object before now after
+  pub cancels : is_pending_callback c ≡ true → (after : Option CallbackRow) → after ≡ find (λ (x : CallbackRow). nat_lt c.number x.number) (outstanding_of now.world c.object)
+      → (new : Live) → new ≡ with_world now (with_callback now.world (cancelled c)) → Cancelling object before new after
   -- as much is left without it
   pub same : (after : Option CallbackRow) → after ≡ find (λ (x : CallbackRow). nat_lt c.number x.number) (outstanding_of now.world c.object)
-      → (new : Live) → new ≡ became now (with_callback now.world (cancelled c)) → rest number_of (outstanding_of new.world object) after ≡ rest number_of (outstanding_of now.world object) after
+      → (new : Live) → new ≡ with_world now (with_callback now.world (cancelled c)) → rest number_of (outstanding_of new.world object) after ≡ rest number_of (outstanding_of now.world object) after
 
-module _ (object : ObjectId) (fresh : ℕ) (now : Live) (c : CallbackRow) (rising : IsRising 1 fresh now.world.callbacks) where
+module _ (object : ObjectId) (next_number : ℕ) (now : Live) (c : CallbackRow) (rising : IsRising 1 next_number now.world.callbacks) where
   abbrev cs : List CallbackRow
   cs = now.world.callbacks
 
@@ -109,36 +109,36 @@ module _ (object : ObjectId) (fresh : ℕ) (now : Live) (c : CallbackRow) (risin
   ys = outstanding_of now.world object
 
   -- what passes a test of callbacks that aren't over, without this one
-  others : (p : CallbackRow → Bool) → ((x : CallbackRow) → lives x ≡ false → p x ≡ false) → p r ≡ false → (new : Live) → new ≡ became now (with_callback now.world r) → filter p new.world.callbacks ≡ filter (λ (x : CallbackRow). not (has_number c.number x)) (filter p cs)
+  others : (p : CallbackRow → Bool) → ((x : CallbackRow) → lives x ≡ false → p x ≡ false) → p r ≡ false → (new : Live) → new ≡ with_world now (with_callback now.world r) → filter p new.world.callbacks ≡ filter (λ (x : CallbackRow). not (has_number c.number x)) (filter p cs)
   others p over out new is = ap (λ (l : Live). filter p l.world.callbacks) is ∙ filter_filter p lives over (replaced r cs) ∙ filter_replaced_out p r cs out
 
-  outstanding_others : (new : Live) → new ≡ became now (with_callback now.world r) → outstanding_of new.world object ≡ filter (λ (x : CallbackRow). not (has_number c.number x)) ys
+  outstanding_others : (new : Live) → new ≡ with_world now (with_callback now.world r) → outstanding_of new.world object ≡ filter (λ (x : CallbackRow). not (has_number c.number x)) ys
   outstanding_others new is = others (is_outstanding_for (Object object)) (over_not_outstanding (Object object)) (and_false (c.object.0 == object.0)) new is
 
-  same_rest : (after : Option CallbackRow) → after ≡ find (λ (x : CallbackRow). nat_lt c.number x.number) (outstanding_of now.world c.object) → (new : Live) → new ≡ became now (with_callback now.world r) → rest number_of (outstanding_of new.world object) after ≡ rest number_of ys after
+  same_rest : (after : Option CallbackRow) → after ≡ find (λ (x : CallbackRow). nat_lt c.number x.number) (outstanding_of now.world c.object) → (new : Live) → new ≡ with_world now (with_callback now.world r) → rest number_of (outstanding_of new.world object) after ≡ rest number_of ys after
   same_rest after found new is = ap (λ xs. rest number_of xs after) (outstanding_others new is) ∙ rest_without number_of c.number ys after (behind c (outstanding_of now.world c.object) after found)
 
   pub cancels_next : (before : Live) (next : Option CallbackRow) → next ≡ Some c → Cancelling object before now next → CancelsNext object before now c next
   cancels_next before next is k =
-      let s = seeks now.world fresh object c next rising is k.seeks in
+      let s = seeks now.world next_number object c next rising is k.seeks in
       record {
         seeks = s;
-        found = λ pends. first_by_number fresh cs (is_pending_for object) c rising (s.first pends);
+        found = λ pends. first_by_number next_number cs (is_pending_for object) c rising (s.first pends);
         passes = λ passed after found. record { leads = k.leads; seeks = s.others passed after found };
         cancels = λ pends after found new becomes. record {
-          leads = settles_alike (Object object) fresh now c rising (first_passes (is_pending_for object) c cs (s.first pends)) (first_by_number fresh cs (is_pending_for object) c rising (s.first pends)) new becomes ∙ k.leads;
+          leads = settles_alike (Object object) next_number now c rising (first_passes (is_pending_for object) c cs (s.first pends)) (first_by_number next_number cs (is_pending_for object) c rising (s.first pends)) new becomes ∙ k.leads;
           seeks = record { left = left s k pends after found new becomes; among = subst (λ xs. IsAmong number_of xs after) (sym (outstanding_others new becomes)) (still_among c ys after (behind c (outstanding_of now.world c.object) after found) (s.at.among after found)) };
         };
         same = same_rest;
       }
     where
-      left : Seeks object now.world c next → Cancelling object before now next → waits c ≡ true → (after : Option CallbackRow) → after ≡ find (λ (x : CallbackRow). nat_lt c.number x.number) (outstanding_of now.world c.object) → (new : Live) → new ≡ became now (with_callback now.world r)
-          → filter waits (rest number_of (outstanding_of new.world object) after) ≡ pending_of new.world object
+      left : Seeks object now.world c next → Cancelling object before now next → is_pending_callback c ≡ true → (after : Option CallbackRow) → after ≡ find (λ (x : CallbackRow). nat_lt c.number x.number) (outstanding_of now.world c.object) → (new : Live) → new ≡ with_world now (with_callback now.world r)
+          → filter is_pending_callback (rest number_of (outstanding_of new.world object) after) ≡ pending_of new.world object
       left s k pends after found new becomes =
-          let tail : List CallbackRow = filter waits (rest number_of ys after) in
-          let whole : c ∷ tail ≡ pending_of now.world object = ap (λ b. cond b (c ∷ tail) tail) (sym pends) ∙ ap (filter waits) (sym (s.at.step after found)) ∙ k.seeks.left in
-          ap (filter waits) (same_rest after found new becomes)
-          ∙ sym (passing_without number_of c.number waits ys after (behind c (outstanding_of now.world c.object) after found))
+          let tail : List CallbackRow = filter is_pending_callback (rest number_of ys after) in
+          let whole : c ∷ tail ≡ pending_of now.world object = ap (λ b. cond b (c ∷ tail) tail) (sym pends) ∙ ap (filter is_pending_callback) (sym (s.at.step after found)) ∙ k.seeks.left in
+          ap (filter is_pending_callback) (same_rest after found new becomes)
+          ∙ sym (passing_without number_of c.number is_pending_callback ys after (behind c (outstanding_of now.world c.object) after found))
           ∙ ap (λ b. cond b (c ∷ filter (λ (x : CallbackRow). not (has_number c.number x)) tail) (filter (λ (x : CallbackRow). not (has_number c.number x)) tail)) (sym (ap not (eq-eqb c.number c.number refl)))
           ∙ ap (filter (λ (x : CallbackRow). not (has_number c.number x))) whole
           ∙ sym (others (is_pending_for object) (λ x e. ap (λ b. b && (x.object.0 == object.0)) (over_not_pending x.status e)) refl new becomes)

@@ -26,16 +26,16 @@ entries_numbered byte [] same = refl
 entries_numbered byte (c ∷ cs) same = ap₂ (λ b t. entry b c.number ∷ t) same.0 (entries_numbered byte cs same.1)
 
 -- a number below all comes first
-put_first : (number low fresh : ℕ) (cs : List CallbackRow) → number < low → IsRising low fresh cs → with_number number (numbers cs) ≡ number ∷ numbers cs
-put_first number low fresh cs lt h = ap₂ (λ l t. l ++ number ∷ t) (none_below low cs lt h) (all_above low cs lt h)
+put_first : (number low next_number : ℕ) (cs : List CallbackRow) → number < low → IsRising low next_number cs → with_number number (numbers cs) ≡ number ∷ numbers cs
+put_first number low next_number cs lt h = ap₂ (λ l t. l ++ number ∷ t) (none_below low cs lt h) (all_above low cs lt h)
   where
-    none_below : (low : ℕ) (cs : List CallbackRow) → number < low → IsRising low fresh cs → filter (λ n. nat_lt n number) (numbers cs) ≡ []
+    none_below : (low : ℕ) (cs : List CallbackRow) → number < low → IsRising low next_number cs → filter (λ n. nat_lt n number) (numbers cs) ≡ []
     none_below low [] lt h = refl
     none_below low (c ∷ cs) lt h =
         ap (λ b. cond b (c.number ∷ filter (λ n. nat_lt n number) (numbers cs)) (filter (λ n. nat_lt n number) (numbers cs))) (le-ltb c.number number (omega (arith, h.0, lt)))
         ∙ none_below (c.number + 1) cs (omega (arith, h.0, lt)) h.1
 
-    all_above : (low : ℕ) (cs : List CallbackRow) → number < low → IsRising low fresh cs → filter (λ n. nat_lt number n) (numbers cs) ≡ numbers cs
+    all_above : (low : ℕ) (cs : List CallbackRow) → number < low → IsRising low next_number cs → filter (λ n. nat_lt number n) (numbers cs) ≡ numbers cs
     all_above low [] lt h = refl
     all_above low (c ∷ cs) lt h =
         ap (λ b. cond b (c.number ∷ filter (λ n. nat_lt number n) (numbers cs)) (filter (λ n. nat_lt number n) (numbers cs))) (lt-ltb number c.number (omega (arith, h.0, lt)))
@@ -48,23 +48,23 @@ put_after number lower ns lt =
     (lt-ltb lower number lt) (le-ltb number lower (omega (arith, lt)))
 
 -- a row that passes p, in place of one that fails it, puts its number among those that p keeps
-pub filter_replaced_in : (p : CallbackRow → Bool) (r c : CallbackRow) (low fresh : ℕ) (cs : List CallbackRow) → p c ≡ false → p r ≡ true → IsRising low fresh cs → find (has_number r.number) cs ≡ Some c
+pub filter_replaced_in : (p : CallbackRow → Bool) (r c : CallbackRow) (low next_number : ℕ) (cs : List CallbackRow) → p c ≡ false → p r ≡ true → IsRising low next_number cs → find (has_number r.number) cs ≡ Some c
     → with_number r.number (numbers (filter p cs)) ≡ numbers (filter p (replaced r cs))
-filter_replaced_in p r c low fresh [] out inside h e = absurd cc
-filter_replaced_in p r c low fresh (d ∷ cs) out inside h e =
+filter_replaced_in p r c low next_number [] out inside h e = absurd cc
+filter_replaced_in p r c low next_number (d ∷ cs) out inside h e =
     elim (has_number r.number d) as (λ b. has_number r.number d ≡ b → cond b (Some d) (find (has_number r.number) cs) ≡ Some c → with_number r.number (numbers (filter p (d ∷ cs))) ≡ numbers (cond (p (cond b r d)) (cond b r d ∷ filter p (replaced r cs)) (filter p (replaced r cs)))) [
       | true ↦ λ same found.
           let is_c : d ≡ c = cc in
           let is_r : d.number ≡ r.number = eqb-true d.number r.number same in
           let next : r.number < d.number + 1 = omega (arith, is_r) in
           ap (λ b. with_number r.number (numbers (cond b (d ∷ filter p cs) (filter p cs)))) (ap p is_c ∙ out)
-          ∙ put_first r.number (d.number + 1) fresh (filter p cs) next (rising_filter p (d.number + 1) fresh cs h.1)
+          ∙ put_first r.number (d.number + 1) next_number (filter p cs) next (rising_filter p (d.number + 1) next_number cs h.1)
           ∙ sym (
           ap (λ b. numbers (cond b (r ∷ filter p (replaced r cs)) (filter p (replaced r cs)))) inside
-          ∙ ap (λ t. r.number ∷ numbers (filter p t)) (replaced_above r (d.number + 1) fresh cs next h.1))
+          ∙ ap (λ t. r.number ∷ numbers (filter p t)) (replaced_above r (d.number + 1) next_number cs next h.1))
       | false ↦ λ _ found.
-          let rest : with_number r.number (numbers (filter p cs)) ≡ numbers (filter p (replaced r cs)) = filter_replaced_in p r c (d.number + 1) fresh cs out inside h.1 found in
-          let bounds = found_bounds r.number (d.number + 1) fresh c cs h.1 found in
+          let rest : with_number r.number (numbers (filter p cs)) ≡ numbers (filter p (replaced r cs)) = filter_replaced_in p r c (d.number + 1) next_number cs out inside h.1 found in
+          let bounds = found_bounds r.number (d.number + 1) next_number c cs h.1 found in
           elim (p d) as (λ b. with_number r.number (numbers (cond b (d ∷ filter p cs) (filter p cs))) ≡ numbers (cond b (d ∷ filter p (replaced r cs)) (filter p (replaced r cs)))) [
             | true ↦ put_after r.number d.number (numbers (filter p cs)) (omega (arith, bounds.0)) ∙ ap (λ t. d.number ∷ t) rest
             | false ↦ rest

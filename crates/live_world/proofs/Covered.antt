@@ -40,9 +40,9 @@ use Rattle.live_world.proofs.Listed.{held_alike}
 -- ---- what is held, by two tests
 
 -- tests that agree on what a wait covers
-held_agree : (p q : ℕ → Bool) (fresh : ℕ) (ns : List ℕ) → AllByRecursion (λ n. n < fresh) ns → ((n : ℕ) → n < fresh → p n ≡ q n) → filter p ns ≡ filter q ns
-held_agree p q fresh [] all same = refl
-held_agree p q fresh (n ∷ ns) all same = ap (λ b. cond b (n ∷ filter p ns) (filter p ns)) (same n all.0) ∙ ap (λ t. cond (q n) (n ∷ t) t) (held_agree p q fresh ns all.1 same)
+held_agree : (p q : ℕ → Bool) (next_number : ℕ) (ns : List ℕ) → AllByRecursion (λ n. n < next_number) ns → ((n : ℕ) → n < next_number → p n ≡ q n) → filter p ns ≡ filter q ns
+held_agree p q next_number [] all same = refl
+held_agree p q next_number (n ∷ ns) all same = ap (λ b. cond b (n ∷ filter p ns) (filter p ns)) (same n all.0) ∙ ap (λ t. cond (q n) (n ∷ t) t) (held_agree p q next_number ns all.1 same)
 
 -- or that agree but for one number
 held_but : (p q : ℕ → Bool) (k : ℕ) (ns : List ℕ) → ((n : ℕ) → p n ≡ (q n && not (n == k))) → filter p ns ≡ all_but k (filter q ns)
@@ -183,17 +183,17 @@ module _ {limits : Limits} {cs : List CallbackRow} {waits : List BegunWait} {bar
       of_wait (Some b) = of_target b b.target refl
 
   -- what is over is held by no wait
-  pub covered_lives : (fresh : ℕ) → IsRising 1 fresh cs → AreCovered limits cs waits barriers → AreCovered limits (filter lives cs) waits barriers
-  covered_lives fresh rising k =
+  pub covered_lives : (next_number : ℕ) → IsRising 1 next_number cs → AreCovered limits cs waits barriers → AreCovered limits (filter lives cs) waits barriers
+  covered_lives next_number rising k =
       covered_same (IsWaitKept limits) (filter lives cs) k.waits_kept
       (λ b _. filter_agree (is_held_among cs b.target) (is_held_among (filter lives cs) b.target)
-      (λ n. sym (over_forget (is_outstanding_for b.target) (over_not_outstanding b.target) 1 fresh n cs rising)) b.covered) k
+      (λ n. sym (over_forget (is_outstanding_for b.target) (over_not_outstanding b.target) 1 next_number n cs rising)) b.covered) k
 
   -- no wait holds a callback that is made later
-  pub covered_more : (fresh : ℕ) (c : CallbackRow) → c.number ≡ fresh → AllByRecursion (IsWaitSound fresh cs) waits → AreCovered limits cs waits barriers → AreCovered limits (cs ++ c ∷ []) waits barriers
-  covered_more fresh c number sound k =
-      covered_same (IsWaitSound fresh cs) (cs ++ c ∷ []) sound
-      (λ b s. held_agree (is_held_among cs b.target) (is_held_among (cs ++ c ∷ []) b.target) fresh b.covered s.made
+  pub covered_more : (next_number : ℕ) (c : CallbackRow) → c.number ≡ next_number → AllByRecursion (IsWaitSound next_number cs) waits → AreCovered limits cs waits barriers → AreCovered limits (cs ++ c ∷ []) waits barriers
+  covered_more next_number c number sound k =
+      covered_same (IsWaitSound next_number cs) (cs ++ c ∷ []) sound
+      (λ b s. held_agree (is_held_among cs b.target) (is_held_among (cs ++ c ∷ []) b.target) next_number b.covered s.made
       (λ n lt. ap (λ o. option_map_or (is_outstanding_for b.target) o false) (sym (appended n cs (ne_eqb c.number n (λ e. omega (arith, e, number, lt))))))) k
     where
       appended : (n : ℕ) (ds : List CallbackRow) → has_number n c ≡ false → find (has_number n) (ds ++ c ∷ []) ≡ find (has_number n) ds

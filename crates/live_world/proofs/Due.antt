@@ -108,8 +108,8 @@ pub more_lack : (w : World) (few most : ℕ) → few ≤ most → lacks_slots_fo
 more_lack w few most more lacks = lt-ltb w.limits.slots (slots w + most) (omega (arith, more, ltb-true w.limits.slots (slots w + few) lacks))
 
 -- each armed wait has one timeout at most, so of those that are due no more are armed than there are armed waits
-pub due_most : (fresh now : ℕ) (w : World) → IsSound fresh w → length (expired now w.settings) ≤ count_expiring w now + length w.armings
-due_most fresh now w sound =
+pub due_most : (next_number now : ℕ) (w : World) → IsSound next_number w → length (expired now w.settings) ≤ count_expiring w now + length w.armings
+due_most next_number now w sound =
     omega (arith, expiry_within now (sources_of w) one_timeout, length-map (expired now w.settings) (expiry_job w.armings))
   where
     one_timeout : (o : ℕ) → is_armed o w.armings ≡ true → count_set o w.settings ≤ 1

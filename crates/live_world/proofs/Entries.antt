@@ -22,9 +22,9 @@ AreBelow bound cs = AllByRecursion (λ (c : CallbackRow). c.number < bound) cs
 abbrev pub AreOf : ℕ → List CallbackRow → Type 0
 AreOf byte cs = AllByRecursion (λ (c : CallbackRow). priority_byte c.priority ≡ byte) cs
 
-pub below_fresh : (low fresh : ℕ) (cs : List CallbackRow) → IsRising low fresh cs → AreBelow fresh cs
-below_fresh low fresh [] h = tt
-below_fresh low fresh (c ∷ cs) h = (first_below c.number fresh cs h.1, below_fresh (c.number + 1) fresh cs h.1)
+pub below_next_number : (low next_number : ℕ) (cs : List CallbackRow) → IsRising low next_number cs → AreBelow next_number cs
+below_next_number low next_number [] h = tt
+below_next_number low next_number (c ∷ cs) h = (first_below c.number next_number cs h.1, below_next_number (c.number + 1) next_number cs h.1)
   where
     first_below : (n bound : ℕ) (rest : List CallbackRow) → IsRising (n + 1) bound rest → n < bound
     first_below n bound [] r = omega (arith, r)

@@ -22,7 +22,7 @@ use Rattle.tp_model.specs.Changes.{without_run}
 use Rattle.tp_model.specs.Support.Remembered.{lives, forget}
 use Rattle.tp_model.proofs.Firing.{length_rows}
 use Rattle.tp_model.proofs.Forgetting.{live_again}
-use Rattle.live_world.specs.Live.{Live, moved, became, fired_to, next_of_object, unfired, with_sources}
+use Rattle.live_world.specs.Live.{Live, moved, with_world, fired_to, next_of_object, unfired, with_sources}
 
 -- what lives of callbacks of which some are appended
 pub live_appended : (cs ds : List CallbackRow) → filter lives (filter lives cs ++ ds) ≡ filter lives (cs ++ ds)
@@ -36,11 +36,11 @@ kept l living = ap₂ (λ (w : World) (n : ℕ). record { world = w; made = n })
 -- ---- one after another
 
 -- the rows of jobs and of further ones
-rows_append : (objects : List ObjectRow) (fresh : ℕ) (js ks : List Job) → rows_of objects fresh (js ++ ks) ≡ rows_of objects fresh js ++ rows_of objects (fresh + length js) ks
-rows_append objects fresh [] ks = ap (λ n. rows_of objects n ks) (omega arith)
-rows_append objects fresh (j ∷ js) ks =
-    ap (λ cs. new_callback fresh j.object (object_row objects j.object) j.result ∷ cs)
-    (rows_append objects (fresh + 1) js ks ∙ ap (λ n. rows_of objects (fresh + 1) js ++ rows_of objects n ks) (omega arith))
+rows_append : (objects : List ObjectRow) (next_number : ℕ) (js ks : List Job) → rows_of objects next_number (js ++ ks) ≡ rows_of objects next_number js ++ rows_of objects (next_number + length js) ks
+rows_append objects next_number [] ks = ap (λ n. rows_of objects n ks) (omega arith)
+rows_append objects next_number (j ∷ js) ks =
+    ap (λ cs. new_callback next_number j.object (object_row objects j.object) j.result ∷ cs)
+    (rows_append objects (next_number + 1) js ks ∙ ap (λ n. rows_of objects (next_number + 1) js ++ rows_of objects n ks) (omega arith))
 
 -- the live world with these sources, callbacks and number of callbacks
 abbrev pub with_all : Live → Sources → List CallbackRow → ℕ → Live
@@ -54,12 +54,12 @@ pub sources_over : (l : Live) (s t : Sources) → with_sources (with_sources l s
 sources_over l s t = ap (λ cs. with_all l t cs l.made) (live_again l.world.callbacks)
 
 -- and nor is what was over
-pub fired_became : (l : Live) (v : World) (f : Firing) → fired_to (became l v) f ≡ record { world = forget (record v { settings = f.sources.settings; armings = f.sources.armings; kernels = f.sources.kernels; now = f.sources.now; callbacks = v.callbacks ++ rows_of v.objects (l.made + 1) f.jobs }); made = l.made + length f.jobs }
+pub fired_became : (l : Live) (v : World) (f : Firing) → fired_to (with_world l v) f ≡ record { world = forget (record v { settings = f.sources.settings; armings = f.sources.armings; kernels = f.sources.kernels; now = f.sources.now; callbacks = v.callbacks ++ rows_of v.objects (l.made + 1) f.jobs }); made = l.made + length f.jobs }
 fired_became l v f = ap (λ cs. with_all (record { world = v; made = l.made }) f.sources cs (l.made + length f.jobs)) (live_appended v.callbacks (rows_of v.objects (l.made + 1) f.jobs))
 
 -- a return, as its change says it
 pub return_moved : (l : Live) (by : Busy) (words : ActionWords) (first count : ℕ) → first ≡ l.made + 1 → count ≡ length (returning l.world words (slots_of by.callback.status)).jobs
-    → fired_to (became l (without_run l.world by)) (returning l.world words (slots_of by.callback.status)) ≡ moved l (change.Return by words first count)
+    → fired_to (with_world l (without_run l.world by)) (returning l.world words (slots_of by.callback.status)) ≡ moved l (change.Return by words first count)
 return_moved l by words first count number counted =
     let f : Firing = returning l.world words (slots_of by.callback.status) in
     fired_became l (without_run l.world by) f ∙ ap₂ (λ (n m : ℕ). record { world = forget (fired (without_run l.world by) n f); made = l.made + m }) (sym number) (sym counted)
@@ -108,9 +108,9 @@ slots_fired l f =
       length_rows l.world.objects (l.made + 1) f.jobs,
     )
   where
-    rows_live : (objects : List ObjectRow) (fresh : ℕ) (jobs : List Job) → filter lives (rows_of objects fresh jobs) ≡ rows_of objects fresh jobs
-    rows_live objects fresh [] = refl
-    rows_live objects fresh (j ∷ js) = ap (λ cs. new_callback fresh j.object (object_row objects j.object) j.result ∷ cs) (rows_live objects (fresh + 1) js)
+    rows_live : (objects : List ObjectRow) (next_number : ℕ) (jobs : List Job) → filter lives (rows_of objects next_number jobs) ≡ rows_of objects next_number jobs
+    rows_live objects next_number [] = refl
+    rows_live objects next_number (j ∷ js) = ap (λ cs. new_callback next_number j.object (object_row objects j.object) j.result ∷ cs) (rows_live objects (next_number + 1) js)
 
 -- ---- releases, one after another
 

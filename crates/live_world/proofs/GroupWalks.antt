@@ -22,7 +22,7 @@ use Rattle.tp_model.proofs.Callbacks.{filter_replaced_out, rising_filter}
 use Rattle.tp_model.proofs.Forgetting.{over_not_cancelled}
 use Rattle.tp_model.proofs.Refusals.{both, and_false, false_true}
 use Rattle.live_world.specs.Closing.{is_of_group, settled_group}
-use Rattle.live_world.specs.Live.{Live, became}
+use Rattle.live_world.specs.Live.{Live, with_world}
 use Rattle.live_world.proofs.Along.{number_of, and_swap, first_filtered, looked_up, rows_rise}
 use Rattle.live_world.proofs.Cancelled.{none_where, nothing_left, settles_alike, behind, still_among}
 use Rattle.live_world.proofs.Lists.{all_pass, filter_alike, filter_both, set_twice}
@@ -34,8 +34,8 @@ after_of cs c = find (λ (x : CallbackRow). nat_lt c.number x.number) cs
 
 -- ---- from the first on
 
-pub first_row_is : (fresh : ℕ) (cs : List CallbackRow) (next : Option CallbackRow) → IsRising 1 fresh cs → next ≡ find (λ (c : CallbackRow). nat_lt 0 c.number) cs → next ≡ slice_get cs 0
-first_row_is fresh cs next rising found = found ∙ first cs (rows_rise 1 fresh cs rising)
+pub first_row_is : (next_number : ℕ) (cs : List CallbackRow) (next : Option CallbackRow) → IsRising 1 next_number cs → next ≡ find (λ (c : CallbackRow). nat_lt 0 c.number) cs → next ≡ slice_get cs 0
+first_row_is next_number cs next rising found = found ∙ first cs (rows_rise 1 next_number cs rising)
   where
     first : (ds : List CallbackRow) → Rises number_of 1 ds → find (λ (c : CallbackRow). nat_lt 0 c.number) ds ≡ slice_get ds 0
     first [] r = refl
@@ -45,11 +45,11 @@ pub record AtFirst (cs : List CallbackRow) (next : Option CallbackRow) : Type 0 
   pub whole : rest number_of cs next ≡ cs
   pub among : IsAmong number_of cs next
 
-pub at_first : (fresh : ℕ) (cs : List CallbackRow) (next : Option CallbackRow) → IsRising 1 fresh cs → next ≡ find (λ (c : CallbackRow). nat_lt 0 c.number) cs → AtFirst cs next
-at_first fresh cs next rising found =
-    let is = first_row_is fresh cs next rising found in
+pub at_first : (next_number : ℕ) (cs : List CallbackRow) (next : Option CallbackRow) → IsRising 1 next_number cs → next ≡ find (λ (c : CallbackRow). nat_lt 0 c.number) cs → AtFirst cs next
+at_first next_number cs next rising found =
+    let is = first_row_is next_number cs next rising found in
     record {
-      whole = ap (rest number_of cs) is ∙ rest_first number_of 1 cs (rows_rise 1 fresh cs rising);
+      whole = ap (rest number_of cs) is ∙ rest_first number_of 1 cs (rows_rise 1 next_number cs rising);
       among = subst (IsAmong number_of cs) (sym is) (first_among number_of cs);
     }
 
@@ -61,40 +61,40 @@ pub record RowAt (cs : List CallbackRow) (c : CallbackRow) (next : Option Callba
   pub later : (after : Option CallbackRow) → after ≡ after_of cs c → length (rest number_of cs after) < length (rest number_of cs next)
   pub found : find (has_number c.number) cs ≡ Some c
 
-pub row_at : (fresh : ℕ) (cs : List CallbackRow) (c : CallbackRow) (next : Option CallbackRow) → IsRising 1 fresh cs → next ≡ Some c → IsAmong number_of cs next → RowAt cs c next
-row_at fresh cs c next rising is among =
+pub row_at : (next_number : ℕ) (cs : List CallbackRow) (c : CallbackRow) (next : Option CallbackRow) → IsRising 1 next_number cs → next ≡ Some c → IsAmong number_of cs next → RowAt cs c next
+row_at next_number cs c next rising is among =
     record {
       step = step;
-      among = λ after found. subst (IsAmong number_of cs) (sym found) (found_among number_of 1 (λ (x : CallbackRow). nat_lt c.number x.number) cs (rows_rise 1 fresh cs rising));
+      among = λ after found. subst (IsAmong number_of cs) (sym found) (found_among number_of 1 (λ (x : CallbackRow). nat_lt c.number x.number) cs (rows_rise 1 next_number cs rising));
       later = λ after found. omega (arith, ap length (step after found));
       found = subst (IsAmong number_of cs) is among;
     }
   where
     step : (after : Option CallbackRow) → after ≡ after_of cs c → rest number_of cs next ≡ c ∷ rest number_of cs after
     step after found =
-        ap (rest number_of cs) is ∙ rest_next number_of 1 cs c (rows_rise 1 fresh cs rising) (subst (IsAmong number_of cs) is among)
+        ap (rest number_of cs) is ∙ rest_next number_of 1 cs c (rows_rise 1 next_number cs rising) (subst (IsAmong number_of cs) is among)
         ∙ ap (λ o. c ∷ rest number_of cs o) (sym found)
 
 -- ---- those of one group, gone along
 
 -- the first of a group is the first of what is left without the others
-pub first_in_group : (group : GroupId) (fresh : ℕ) (cs : List CallbackRow) (next : Option CallbackRow) → IsRising 1 fresh cs → next ≡ find (is_of_group group) cs → next ≡ find (λ (c : CallbackRow). nat_lt 0 c.number) (filter (is_of_group group) cs)
-first_in_group group fresh cs next rising found =
+pub first_in_group : (group : GroupId) (next_number : ℕ) (cs : List CallbackRow) (next : Option CallbackRow) → IsRising 1 next_number cs → next ≡ find (is_of_group group) cs → next ≡ find (λ (c : CallbackRow). nat_lt 0 c.number) (filter (is_of_group group) cs)
+first_in_group group next_number cs next rising found =
     let ds : List CallbackRow = filter (is_of_group group) cs in
-    found ∙ first_filtered (is_of_group group) cs ∙ sym (first_row_is fresh ds (find (λ (c : CallbackRow). nat_lt 0 c.number) ds) (rising_filter (is_of_group group) 1 fresh cs rising) refl)
+    found ∙ first_filtered (is_of_group group) cs ∙ sym (first_row_is next_number ds (find (λ (c : CallbackRow). nat_lt 0 c.number) ds) (rising_filter (is_of_group group) 1 next_number cs rising) refl)
 
 -- one of them is among all that are kept, and the next of its group is the next of them
 pub record InGroup (group : GroupId) (kept cs : List CallbackRow) (c : CallbackRow) : Type 0 where
   pub there : find (has_number c.number) kept ≡ Some c
   pub next : (after : Option CallbackRow) → after ≡ after_of (filter (is_of_group c.group) kept) c → after ≡ after_of (filter (is_of_group group) cs) c
 
-pub in_group : (group : GroupId) (fresh : ℕ) (kept cs : List CallbackRow) (c : CallbackRow) (next : Option CallbackRow) → kept ≡ cs → IsRising 1 fresh cs → next ≡ Some c → IsAmong number_of (filter (is_of_group group) cs) next → InGroup group kept cs c
-in_group group fresh kept cs c next same rising is among =
+pub in_group : (group : GroupId) (next_number : ℕ) (kept cs : List CallbackRow) (c : CallbackRow) (next : Option CallbackRow) → kept ≡ cs → IsRising 1 next_number cs → next ≡ Some c → IsAmong number_of (filter (is_of_group group) cs) next → InGroup group kept cs c
+in_group group next_number kept cs c next same rising is among =
     let ds : List CallbackRow = filter (is_of_group group) cs in
     let found : find (has_number c.number) ds ≡ Some c = subst (IsAmong number_of ds) is among in
     let of_group : is_of_group group c ≡ true = find_all (λ x. is_of_group group x ≡ true) (has_number c.number) c ds (all_pass (is_of_group group) cs) found in
     record {
-      there = ap (find (has_number c.number)) same ∙ looked_up fresh cs (is_of_group group) (has_number c.number) c.number rising (ap (option_map number_of) found) ∙ found;
+      there = ap (find (has_number c.number)) same ∙ looked_up next_number cs (is_of_group group) (has_number c.number) c.number rising (ap (option_map number_of) found) ∙ found;
       next = λ after e. e ∙ ap₂ (λ (xs : List CallbackRow) (n : ℕ). after_of (filter (λ (x : CallbackRow). x.group.0 == n) xs) c) same (eqb-true c.group.0 group.0 of_group);
     }
 
@@ -107,9 +107,9 @@ pub record CountingRows (p q : CallbackRow → Bool) (cs : List CallbackRow) (ne
   pub few : all + length (rest number_of cs next) ≤ length cs
   pub among : IsAmong number_of cs next
 
-pub counting_rows : (p q : CallbackRow → Bool) (fresh : ℕ) (cs : List CallbackRow) (next : Option CallbackRow) → IsRising 1 fresh cs → next ≡ find (λ (c : CallbackRow). nat_lt 0 c.number) cs → CountingRows p q cs next 0 0
-counting_rows p q fresh cs next rising found =
-    let a = at_first fresh cs next rising found in
+pub counting_rows : (p q : CallbackRow → Bool) (next_number : ℕ) (cs : List CallbackRow) (next : Option CallbackRow) → IsRising 1 next_number cs → next ≡ find (λ (c : CallbackRow). nat_lt 0 c.number) cs → CountingRows p q cs next 0 0
+counting_rows p q next_number cs next rising found =
+    let a = at_first next_number cs next rising found in
     record {
       all_counted = omega (arith, ap (λ ds. length (filter p ds)) a.whole);
       some_counted = omega (arith, ap (λ ds. length (filter q ds)) a.whole);
@@ -126,9 +126,9 @@ pub record CountsRow (p q : CallbackRow → Bool) (cs : List CallbackRow) (c : C
   pub fewer : all < length cs
   pub goes_on : (after : Option CallbackRow) (more further : ℕ) → after ≡ after_of cs c → more ≡ all + cond (p c) 1 0 → further ≡ some + cond (q c) 1 0 → (q c ≡ true → p c ≡ true) → CountingRows p q cs after more further
 
-pub counts_row : (p q : CallbackRow → Bool) (fresh : ℕ) (cs : List CallbackRow) (c : CallbackRow) (next : Option CallbackRow) (all some : ℕ) → IsRising 1 fresh cs → next ≡ Some c → CountingRows p q cs next all some → CountsRow p q cs c next all some
-counts_row p q fresh cs c next all some rising is k =
-    let at = row_at fresh cs c next rising is k.among in
+pub counts_row : (p q : CallbackRow → Bool) (next_number : ℕ) (cs : List CallbackRow) (c : CallbackRow) (next : Option CallbackRow) (all some : ℕ) → IsRising 1 next_number cs → next ≡ Some c → CountingRows p q cs next all some → CountsRow p q cs c next all some
+counts_row p q next_number cs c next all some rising is k =
+    let at = row_at next_number cs c next rising is k.among in
     record {
       at = at;
       fewer = omega (arith, k.few, ap length (at.step (after_of cs c) refl));
@@ -159,9 +159,9 @@ pub record CoveringRows (cs : List CallbackRow) (before now : Covers) (waiter : 
   pub all : so_far ++ map number_of (rest number_of cs next) ≡ map number_of cs
   pub among : IsAmong number_of cs next
 
-pub covering_rows : (fresh : ℕ) (cs : List CallbackRow) (before now : Covers) (waiter : ℕ) (next : Option CallbackRow) → IsRising 1 fresh cs → now ≡ with_wait before waiter (Some []) → next ≡ find (λ (c : CallbackRow). nat_lt 0 c.number) cs → CoveringRows cs before now waiter next
-covering_rows fresh cs before now waiter next rising begun found =
-    let a = at_first fresh cs next rising found in
+pub covering_rows : (next_number : ℕ) (cs : List CallbackRow) (before now : Covers) (waiter : ℕ) (next : Option CallbackRow) → IsRising 1 next_number cs → now ≡ with_wait before waiter (Some []) → next ≡ find (λ (c : CallbackRow). nat_lt 0 c.number) cs → CoveringRows cs before now waiter next
+covering_rows next_number cs before now waiter next rising begun found =
+    let a = at_first next_number cs next rising found in
     record { so_far = []; covers = begun; all = ap (map number_of) a.whole; among = a.among }
 
 pub record CoversRow (cs : List CallbackRow) (before now : Covers) (waiter : ℕ) (c : CallbackRow) (next : Option CallbackRow) : Type 0 where
@@ -172,8 +172,8 @@ pub record CoversRow (cs : List CallbackRow) (before now : Covers) (waiter : ℕ
   pub fewer : length so_far < length cs
   pub covered : waiter < length before.waits → (new : Covers) → new ≡ with_wait now waiter (Some (with_number c.number (covered_of now waiter))) → (after : Option CallbackRow) → after ≡ after_of cs c → CoveringRows cs before new waiter after
 
-pub covers_row : (fresh : ℕ) (cs : List CallbackRow) (before now : Covers) (waiter : ℕ) (c : CallbackRow) (next : Option CallbackRow) → IsRising 1 fresh cs → next ≡ Some c → CoveringRows cs before now waiter next → CoversRow cs before now waiter c next
-covers_row fresh cs before now waiter c next rising is k =
+pub covers_row : (next_number : ℕ) (cs : List CallbackRow) (before now : Covers) (waiter : ℕ) (c : CallbackRow) (next : Option CallbackRow) → IsRising 1 next_number cs → next ≡ Some c → CoveringRows cs before now waiter next → CoversRow cs before now waiter c next
+covers_row next_number cs before now waiter c next rising is k =
     record {
       at = at;
       so_far = k.so_far;
@@ -193,7 +193,7 @@ covers_row fresh cs before now waiter c next rising is k =
     }
   where
     at : RowAt cs c next
-    at = row_at fresh cs c next rising is k.among
+    at = row_at next_number cs c next rising is k.among
 
     left : Option CallbackRow → List ℕ
     left o = map number_of (rest number_of cs o)
@@ -205,7 +205,7 @@ covers_row fresh cs before now waiter c next rising is k =
     below =
         All-from_recursion (λ n. n < c.number) k.so_far
         (all_before 1 c.number k.so_far (left (after_of cs c))
-        (subst (Rises itself 1) (sym (whole (after_of cs c) refl)) (rises_map itself number_of 1 cs (rows_rise 1 fresh cs rising))))
+        (subst (Rises itself 1) (sym (whole (after_of cs c) refl)) (rises_map itself number_of 1 cs (rows_rise 1 next_number cs rising))))
 
 -- ---- what is pending of a group is cancelled
 
@@ -219,10 +219,10 @@ pub record CancellingGroup (group : GroupId) (before now : Live) (next : Option 
   pub left : filter (is_cancelled_by (Group group) true) (rest number_of (filter (is_of_group group) now.world.callbacks) next) ≡ filter (is_cancelled_by (Group group) true) now.world.callbacks
   pub among : IsAmong number_of (filter (is_of_group group) now.world.callbacks) next
 
-pub cancelling_group : (group : GroupId) (fresh : ℕ) (now : Live) (next : Option CallbackRow) → IsRising 1 fresh now.world.callbacks → next ≡ find (is_of_group group) now.world.callbacks → CancellingGroup group now now next
-cancelling_group group fresh now next rising found =
+pub cancelling_group : (group : GroupId) (next_number : ℕ) (now : Live) (next : Option CallbackRow) → IsRising 1 next_number now.world.callbacks → next ≡ find (is_of_group group) now.world.callbacks → CancellingGroup group now now next
+cancelling_group group next_number now next rising found =
     let cs : List CallbackRow = now.world.callbacks in
-    let a = at_first fresh (filter (is_of_group group) cs) next (rising_filter (is_of_group group) 1 fresh cs rising) (first_in_group group fresh cs next rising found) in
+    let a = at_first next_number (filter (is_of_group group) cs) next (rising_filter (is_of_group group) 1 next_number cs rising) (first_in_group group next_number cs next rising found) in
     record {
       leads = refl;
       left = ap (filter (is_cancelled_by (Group group) true)) a.whole ∙ filter_filter (is_cancelled_by (Group group) true) (is_of_group group) (over_not_of_group group) cs;
@@ -240,11 +240,11 @@ pub record CancelsRow (group : GroupId) (before now : Live) (c : CallbackRow) (n
   pub there : find (has_number c.number) now.world.callbacks ≡ Some c
   pub at : RowAt (filter (is_of_group group) now.world.callbacks) c next
   pub passed : is_pending c.status ≡ false → (after : Option CallbackRow) → after ≡ after_of (filter (is_of_group group) now.world.callbacks) c → CancellingGroup group before now after
-  pub cancels : is_pending c.status ≡ true → (after : Option CallbackRow) → after ≡ after_of (filter (is_of_group group) now.world.callbacks) c → (new : Live) → new ≡ became now (with_callback now.world (cancelled c)) → CancellingGroup group before new after
+  pub cancels : is_pending c.status ≡ true → (after : Option CallbackRow) → after ≡ after_of (filter (is_of_group group) now.world.callbacks) c → (new : Live) → new ≡ with_world now (with_callback now.world (cancelled c)) → CancellingGroup group before new after
   -- as much is left without it
-  pub same : (after : Option CallbackRow) → after ≡ after_of (filter (is_of_group group) now.world.callbacks) c → (new : Live) → new ≡ became now (with_callback now.world (cancelled c)) → rest number_of (filter (is_of_group group) new.world.callbacks) after ≡ rest number_of (filter (is_of_group group) now.world.callbacks) after
+  pub same : (after : Option CallbackRow) → after ≡ after_of (filter (is_of_group group) now.world.callbacks) c → (new : Live) → new ≡ with_world now (with_callback now.world (cancelled c)) → rest number_of (filter (is_of_group group) new.world.callbacks) after ≡ rest number_of (filter (is_of_group group) now.world.callbacks) after
 
-module _ (group : GroupId) (fresh : ℕ) (now : Live) (c : CallbackRow) (rising : IsRising 1 fresh now.world.callbacks) (living : forget now.world ≡ now.world) where
+module _ (group : GroupId) (next_number : ℕ) (now : Live) (c : CallbackRow) (rising : IsRising 1 next_number now.world.callbacks) (living : forget now.world ≡ now.world) where
   abbrev cs : List CallbackRow
   cs = now.world.callbacks
 
@@ -261,19 +261,19 @@ module _ (group : GroupId) (fresh : ℕ) (now : Live) (c : CallbackRow) (rising 
   others x = not (has_number c.number x)
 
   -- what is kept without it
-  kept : (new : Live) → new ≡ became now (with_callback now.world r) → new.world.callbacks ≡ filter others cs
+  kept : (new : Live) → new ≡ with_world now (with_callback now.world r) → new.world.callbacks ≡ filter others cs
   kept new is = ap (λ (l : Live). l.world.callbacks) is ∙ filter_replaced_out lives r cs refl ∙ ap (λ (w : World). filter others w.callbacks) living
 
-  rows_kept : (new : Live) → new ≡ became now (with_callback now.world r) → filter (is_of_group group) new.world.callbacks ≡ filter others ys
+  rows_kept : (new : Live) → new ≡ with_world now (with_callback now.world r) → filter (is_of_group group) new.world.callbacks ≡ filter others ys
   rows_kept new is =
       ap (filter (is_of_group group)) (kept new is) ∙ filter_both (is_of_group group) others cs
       ∙ filter_agree (λ x. others x && is_of_group group x) (λ x. is_of_group group x && others x) (λ x. and_swap (others x) (is_of_group group x)) cs
       ∙ sym (filter_both others (is_of_group group) cs)
 
-  passing : (new : Live) → new ≡ became now (with_callback now.world r) → filter t new.world.callbacks ≡ filter others (filter t cs)
+  passing : (new : Live) → new ≡ with_world now (with_callback now.world r) → filter t new.world.callbacks ≡ filter others (filter t cs)
   passing new is = ap (λ (l : Live). filter t l.world.callbacks) is ∙ filter_filter t lives (over_not_cancelled (Group group) true) (replaced r cs) ∙ filter_replaced_out t r cs refl
 
-  same_rest : (after : Option CallbackRow) → after ≡ after_of ys c → (new : Live) → new ≡ became now (with_callback now.world r) → rest number_of (filter (is_of_group group) new.world.callbacks) after ≡ rest number_of ys after
+  same_rest : (after : Option CallbackRow) → after ≡ after_of ys c → (new : Live) → new ≡ with_world now (with_callback now.world r) → rest number_of (filter (is_of_group group) new.world.callbacks) after ≡ rest number_of ys after
   same_rest after found new is = ap (λ xs. rest number_of xs after) (rows_kept new is) ∙ rest_without number_of c.number ys after (behind c ys after found)
 
   pub cancels_row : (before : Live) (next : Option CallbackRow) → next ≡ Some c → CancellingGroup group before now next → CancelsRow group before now c next
@@ -289,7 +289,7 @@ module _ (group : GroupId) (fresh : ℕ) (now : Live) (c : CallbackRow) (rising 
               among = at.among after found;
             };
         cancels = λ pends after found new becomes. record {
-          leads = settles_alike (Group group) fresh now c rising (passes pends) there new becomes ∙ k.leads;
+          leads = settles_alike (Group group) next_number now c rising (passes pends) there new becomes ∙ k.leads;
           left = left (passes pends) after found new becomes;
           among = subst (λ xs. IsAmong number_of xs after) (sym (rows_kept new becomes)) (still_among c ys after (behind c ys after found) (at.among after found));
         };
@@ -297,15 +297,15 @@ module _ (group : GroupId) (fresh : ℕ) (now : Live) (c : CallbackRow) (rising 
       }
     where
       at : RowAt ys c next
-      at = row_at fresh ys c next (rising_filter (is_of_group group) 1 fresh cs rising) is k.among
+      at = row_at next_number ys c next (rising_filter (is_of_group group) 1 next_number cs rising) is k.among
 
       there : find (has_number c.number) cs ≡ Some c
-      there = (in_group group fresh cs cs c next refl rising is k.among).there
+      there = (in_group group next_number cs cs c next refl rising is k.among).there
 
       passes : is_pending c.status ≡ true → t c ≡ true
       passes pends = ap₂ (λ a b. a && b) pends (find_all (λ x. is_of_group group x ≡ true) (has_number c.number) c ys (all_pass (is_of_group group) cs) at.found)
 
-      left : t c ≡ true → (after : Option CallbackRow) → after ≡ after_of ys c → (new : Live) → new ≡ became now (with_callback now.world r) → filter t (rest number_of (filter (is_of_group group) new.world.callbacks) after) ≡ filter t new.world.callbacks
+      left : t c ≡ true → (after : Option CallbackRow) → after ≡ after_of ys c → (new : Live) → new ≡ with_world now (with_callback now.world r) → filter t (rest number_of (filter (is_of_group group) new.world.callbacks) after) ≡ filter t new.world.callbacks
       left passed after found new becomes =
           let tail : List CallbackRow = filter t (rest number_of ys after) in
           let whole : c ∷ tail ≡ filter t cs = ap (λ b. cond b (c ∷ tail) tail) (sym passed) ∙ ap (filter t) (sym (at.step after found)) ∙ k.left in

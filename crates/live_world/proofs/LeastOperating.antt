@@ -137,18 +137,18 @@ pub record LeastSoFar (w : World) (group : ℕ) (next : Option CallbackRow) (lea
   pub left : least_after w group least (rest number_of w.callbacks next) ≡ first_operating w group
   pub among : IsAmong number_of w.callbacks next
 
-pub least_first : (w : World) (group fresh : ℕ) (next : Option CallbackRow) → IsRising 1 fresh w.callbacks → next ≡ find (λ (c : CallbackRow). nat_lt 0 c.number) w.callbacks → LeastSoFar w group next None
-least_first w group fresh next rising found =
-    let at = at_first fresh w.callbacks next rising found in
+pub least_first : (w : World) (group next_number : ℕ) (next : Option CallbackRow) → IsRising 1 next_number w.callbacks → next ≡ find (λ (c : CallbackRow). nat_lt 0 c.number) w.callbacks → LeastSoFar w group next None
+least_first w group next_number next rising found =
+    let at = at_first next_number w.callbacks next rising found in
     record { left = ap (least_after w group None) at.whole ∙ least_is w group; among = at.among }
 
 pub record LeastNext (w : World) (group : ℕ) (c : CallbackRow) (next : Option CallbackRow) (least : Option ℕ) : Type 0 where
   pub goes_on : (after : Option CallbackRow) (more : Option ℕ) → after ≡ after_of w.callbacks c → more ≡ cond (operates w.objects group c) (lesser least c.object.0) least → LeastSoFar w group after more
   pub later : (after : Option CallbackRow) → after ≡ after_of w.callbacks c → length (rest number_of w.callbacks after) < length (rest number_of w.callbacks next)
 
-pub least_next : (w : World) (group fresh : ℕ) (c : CallbackRow) (next : Option CallbackRow) (least : Option ℕ) → IsRising 1 fresh w.callbacks → next ≡ Some c → LeastSoFar w group next least → LeastNext w group c next least
-least_next w group fresh c next least rising is k =
-    let at = row_at fresh w.callbacks c next rising is k.among in
+pub least_next : (w : World) (group next_number : ℕ) (c : CallbackRow) (next : Option CallbackRow) (least : Option ℕ) → IsRising 1 next_number w.callbacks → next ≡ Some c → LeastSoFar w group next least → LeastNext w group c next least
+least_next w group next_number c next least rising is k =
+    let at = row_at next_number w.callbacks c next rising is k.among in
     record {
       goes_on = λ after more found one. record {
         left = ap (λ o. least_after w group o (rest number_of w.callbacks after)) one ∙ ap (least_after w group least) (sym (at.step after found)) ∙ k.left;

@@ -10,10 +10,10 @@ pub mod Moving
 pub mod Counting
 pub mod Covered
 pub mod Closes
-pub mod ClosesBegun
+pub mod BeginCloseWait
 pub mod GroupsMade
 pub mod GroupWalks
-pub mod ClosesWhole
+pub mod BeginClose
 pub mod WaitsLeft
 pub mod Members
 pub mod MemberWalks

@@ -55,12 +55,12 @@ module _ {limits : Limits} {test : CallbackRow → Bool} {cs : List CallbackRow}
       }
 
   -- another row of a callback, which passes where the one before did
-  pub listed_same : (fresh : ℕ) (r c : CallbackRow) → r.number ≡ c.number → r.object ≡ c.object → test r ≡ test c → IsRising 1 fresh cs → find (has_number r.number) cs ≡ Some c → AreListed limits test cs lists → AreListed limits test (replaced r cs) lists
-  listed_same fresh r c number object alike rising found k =
+  pub listed_same : (next_number : ℕ) (r c : CallbackRow) → r.number ≡ c.number → r.object ≡ c.object → test r ≡ test c → IsRising 1 next_number cs → find (has_number r.number) cs ≡ Some c → AreListed limits test cs lists → AreListed limits test (replaced r cs) lists
+  listed_same next_number r c number object alike rising found k =
       record {
         key_count = k.key_count;
         listed_slots = k.listed_slots;
-        listed = k.listed ∙ sym (entries_same cs (found_all (λ x. (test r ≡ test x) × (tied_entry r ≡ tied_entry x)) r.number c 1 fresh cs rising found
+        listed = k.listed ∙ sym (entries_same cs (found_all (λ x. (test r ≡ test x) × (tied_entry r ≡ tied_entry x)) r.number c 1 next_number cs rising found
             (alike, ap₂ (λ (o : ObjectId) (n : ℕ). entry o.0 n) object number)));
       }
     where

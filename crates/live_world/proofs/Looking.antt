@@ -52,10 +52,10 @@ pub record Looking (t : CallbackRow → Bool) (cs : List CallbackRow) (next : Op
   pub left : list_any t (rest number_of cs next) ≡ list_any t cs
   pub among : IsAmong number_of cs next
 
-pub looking_first : (t : CallbackRow → Bool) (fresh : ℕ) (cs : List CallbackRow) (next : Option CallbackRow) → IsRising 1 fresh cs → next ≡ find (λ c. nat_lt 0 c.number) cs → Looking t cs next
-looking_first t fresh cs next rising found =
+pub looking_first : (t : CallbackRow → Bool) (next_number : ℕ) (cs : List CallbackRow) (next : Option CallbackRow) → IsRising 1 next_number cs → next ≡ find (λ c. nat_lt 0 c.number) cs → Looking t cs next
+looking_first t next_number cs next rising found =
     record {
-      left = ap (λ o. list_any t (rest number_of cs o)) is ∙ ap (list_any t) (rest_first number_of 1 cs (rows_rise 1 fresh cs rising));
+      left = ap (λ o. list_any t (rest number_of cs o)) is ∙ ap (list_any t) (rest_first number_of 1 cs (rows_rise 1 next_number cs rising));
       among = subst (IsAmong number_of cs) (sym is) (first_among number_of cs);
     }
   where
@@ -64,7 +64,7 @@ looking_first t fresh cs next rising found =
     first (d ∷ ds) r = ap (λ b. cond b (Some d) (find (λ (c : CallbackRow). nat_lt 0 c.number) ds)) (lt-ltb 0 d.number r.0)
 
     is : next ≡ slice_get cs 0
-    is = found ∙ first cs (rows_rise 1 fresh cs rising)
+    is = found ∙ first cs (rows_rise 1 next_number cs rising)
 
 -- the next passes, or it is passed over
 pub record Looks (t : CallbackRow → Bool) (cs : List CallbackRow) (c : CallbackRow) (next : Option CallbackRow) : Type 0 where
@@ -72,20 +72,20 @@ pub record Looks (t : CallbackRow → Bool) (cs : List CallbackRow) (c : Callbac
   pub others : t c ≡ false → (after : Option CallbackRow) → after ≡ find (λ x. nat_lt c.number x.number) cs → Looking t cs after
   pub later : (after : Option CallbackRow) → after ≡ find (λ x. nat_lt c.number x.number) cs → length (rest number_of cs after) < length (rest number_of cs next)
 
-pub looks : (t : CallbackRow → Bool) (fresh : ℕ) (cs : List CallbackRow) (c : CallbackRow) (next : Option CallbackRow) → IsRising 1 fresh cs → next ≡ Some c → Looking t cs next → Looks t cs c next
-looks t fresh cs c next rising is k =
+pub looks : (t : CallbackRow → Bool) (next_number : ℕ) (cs : List CallbackRow) (c : CallbackRow) (next : Option CallbackRow) → IsRising 1 next_number cs → next ≡ Some c → Looking t cs next → Looks t cs c next
+looks t next_number cs c next rising is k =
     record {
       passes = λ e. sym k.left ∙ ap (list_any t) (step (find (λ (x : CallbackRow). nat_lt c.number x.number) cs) refl) ∙ ap (λ b. b || list_any t (rest number_of cs (find (λ (x : CallbackRow). nat_lt c.number x.number) cs))) e;
       others = λ e after found. record {
         left = ap (λ b. b || list_any t (rest number_of cs after)) (sym e) ∙ ap (list_any t) (sym (step after found)) ∙ k.left;
-        among = subst (IsAmong number_of cs) (sym found) (found_among number_of 1 (λ (x : CallbackRow). nat_lt c.number x.number) cs (rows_rise 1 fresh cs rising));
+        among = subst (IsAmong number_of cs) (sym found) (found_among number_of 1 (λ (x : CallbackRow). nat_lt c.number x.number) cs (rows_rise 1 next_number cs rising));
       };
       later = λ after found. omega (arith, ap length (step after found));
     }
   where
     step : (after : Option CallbackRow) → after ≡ find (λ (x : CallbackRow). nat_lt c.number x.number) cs → rest number_of cs next ≡ c ∷ rest number_of cs after
     step after found =
-        ap (rest number_of cs) is ∙ rest_next number_of 1 cs c (rows_rise 1 fresh cs rising) (subst (IsAmong number_of cs) is k.among)
+        ap (rest number_of cs) is ∙ rest_next number_of 1 cs c (rows_rise 1 next_number cs rising) (subst (IsAmong number_of cs) is k.among)
         ∙ ap (λ o. c ∷ rest number_of cs o) (sym found)
 
 -- ---- of numbers

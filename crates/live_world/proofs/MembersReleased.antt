@@ -18,7 +18,7 @@ use Rattle.tp_model.proofs.Members.{release_goes_on, released_all}
 use Rattle.tp_model.proofs.Refusals.{and_false, both, false_true}
 use Rattle.tp_model.proofs.Releasing.{one_released, that_kept, that_made, that_row, none_in_range, released_if}
 use Rattle.live_world.specs.Closing.{released_members}
-use Rattle.live_world.specs.Live.{Live, became, moved}
+use Rattle.live_world.specs.Live.{Live, with_world, moved}
 use Rattle.live_world.proofs.Lists.{filter_both}
 use Rattle.live_world.proofs.MemberWalks.{at_member, first_is_among}
 
@@ -41,7 +41,7 @@ releasing_first group now made idle = record { leads = refl; idle = λ k member.
 pub members_are_released : (group : GroupId) (before now : Live) → first_member now.world group.0 ≡ None → forget now.world ≡ now.world → ReleasingMembers group before now → now ≡ released_members before group
 members_are_released group before now none living k =
     ap (λ w. record { world = w; made = now.made }) (sym living)
-    ∙ ap (λ w. became now w) (sym (released_all now.world group.0 none))
+    ∙ ap (λ w. with_world now w) (sym (released_all now.world group.0 none))
     ∙ k.leads
 
 first_is_member : (w : World) (group n : ℕ) → first_member w group ≡ Some n → is_member_at w group n ≡ true

@@ -40,13 +40,13 @@ use Rattle.tp_model.specs.Support.Remembered.{lives, forget}
 use Rattle.tp_model.proofs.Lists.{all_set, all_get, find_all}
 use Rattle.tp_model.proofs.Callbacks.{found_bounds, find_replaced as find_here, pending_lives, pending_not_running, rising_replaced}
 use Rattle.tp_model.proofs.Refusals.{numbered_at}
-use Rattle.tp_model.proofs.Preserving.{changed_sound, sound_cancelled, sound_returned}
+use Rattle.tp_model.proofs.Sound.{changed_sound, sound_cancelled, sound_returned}
 use Rattle.tp_model.proofs.Forgetting.{forget_sound}
 use Rattle.live_world.specs.declared.groups.Group.{Group}
 use Rattle.live_world.specs.declared.objects.Object.{Object}
 use Rattle.live_world.specs.declared.LiveWorld.TheInside.{Inside}
 use Rattle.live_world.specs.Closing.{IsLeft}
-use Rattle.live_world.specs.Live.{Live, moved, became}
+use Rattle.live_world.specs.Live.{Live, moved, with_world}
 use Rattle.live_world.specs.Parts.{world_of, shown_worker, is_tied, tied_entry}
 use Rattle.live_world.specs.View.{shown, IsLiveWorld}
 use Rattle.live_world.specs.Invariant.{AreSized, AreLive, AreQueued, AreTallied, AreListed, AreOperating, AreCovered, AreTimed, AreKernels, AreSlotted, AreWanted, AreGrouped, AreMembered, AreClosing, IsHome, IsMarked, AreMarked}
@@ -112,8 +112,8 @@ pub moved_by : (i j : Inside) (l : Live) (ch : Change) → shown i ≡ l → IsL
 moved_by i j l ch is k allowed counts after =
     let w : World = (shown i).world in
     let allowed_here : IsAllowed (i.made + 1) w ch = subst (λ (x : Live). IsAllowed (x.made + 1) x.world ch) (sym is) allowed in
-    let fresh : (i.made + 1) + news ch ≡ j.made + 1 = omega (arith, counts) in
-    let b = became_by j (changed w ch) (subst (λ n. IsSound n (changed w ch)) fresh (changed_sound (i.made + 1) w ch k.sound allowed_here)) (after allowed_here) in
+    let next_number : (i.made + 1) + news ch ≡ j.made + 1 = omega (arith, counts) in
+    let b = became_by j (changed w ch) (subst (λ n. IsSound n (changed w ch)) next_number (changed_sound (i.made + 1) w ch k.sound allowed_here)) (after allowed_here) in
     record {
       keeps = b.keeps;
       becomes = b.becomes ∙ ap (λ (n : ℕ). record { world = forget (changed w ch); made = n }) counts ∙ ap (λ (x : Live). moved x ch) is;
@@ -383,7 +383,7 @@ pub ended_by : (i : Inside) (l : Live) (by : Busy) (pools : Pools) (callbacks : 
     → pools ≡ with_kept_worker by.worker (λ w. record w { callback = 0; long = false }) i.pools
     → callbacks ≡ record i.callbacks { rows = filter (λ (x : CallbackRow). not (x.number == by.callback.number)) i.callbacks.rows }
     → outstanding ≡ unlisted i.outstanding by.callback.number → barriers ≡ left i.barriers by.callback.number
-    → Becomes (record i { pools = pools; callbacks = callbacks; outstanding = outstanding; barriers = barriers }) (became l (without_run l.world by))
+    → Becomes (record i { pools = pools; callbacks = callbacks; outstanding = outstanding; barriers = barriers }) (with_world l (without_run l.world by))
 ended_by i l by pools callbacks outstanding barriers is k running pools_now rows_now listed_now left_now =
     let a : Runs (shown i).world by = subst (λ (x : Live). Runs x.world by) (sym is) running in
     let on = is_run i by k a in
@@ -427,7 +427,7 @@ ended_by i l by pools callbacks outstanding barriers is k running pools_now rows
           (idle_alike r new refl refl)
           (marked_apart r i.callbacks.rows (slice_set i.pools.workers (by.worker - 1) new) (on.alone new refl) before) k.tallied));
     })) in
-    record { keeps = b.keeps; becomes = b.becomes ∙ ap (λ (x : Live). became x (without_run x.world by)) is }
+    record { keeps = b.keeps; becomes = b.becomes ∙ ap (λ (x : Live). with_world x (without_run x.world by)) is }
 
 -- ---- a callback is made
 
@@ -537,7 +537,7 @@ pub cancelled_by : (i : Inside) (l : Live) (c : CallbackRow) (callbacks : LiveCa
     → callbacks ≡ record i.callbacks { rows = filter (λ (x : CallbackRow). not (x.number == c.number)) i.callbacks.rows }
     → queues ≡ with_queue i.queues c.pool.0 (without_number c.number (queue_of i.queues c.pool.0))
     → outstanding ≡ unlisted i.outstanding c.number → barriers ≡ left i.barriers c.number
-    → Becomes (record i { callbacks = callbacks; queues = queues; outstanding = outstanding; barriers = barriers }) (became l (with_callback l.world (cancelled c)))
+    → Becomes (record i { callbacks = callbacks; queues = queues; outstanding = outstanding; barriers = barriers }) (with_world l (with_callback l.world (cancelled c)))
 cancelled_by i l c callbacks queues outstanding barriers is k found pends rows_now queues_now listed_now left_now =
     let found_here : find (has_number c.number) i.callbacks.rows ≡ Some c = ap (λ (x : Live). callback_of x.world c.number) is ∙ found in
     let r : CallbackRow = cancelled c in
@@ -572,4 +572,4 @@ cancelled_by i l c callbacks queues outstanding barriers is k found pends rows_n
       covered = subst (λ cs. AreCovered i.limits cs i.waits.waits (left i.barriers c.number)) (sym removed)
           (covered_lives (i.made + 1) (rising_replaced r 1 (i.made + 1) i.callbacks.rows k.sound.numbers) (covered_less r c refl found_here k.covered));
     })) in
-    record { keeps = b.keeps; becomes = b.becomes ∙ ap (λ (x : Live). became x (with_callback x.world r)) is }
+    record { keeps = b.keeps; becomes = b.becomes ∙ ap (λ (x : Live). with_world x (with_callback x.world r)) is }

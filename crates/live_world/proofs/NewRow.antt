@@ -13,7 +13,7 @@ use Rattle.live_world.specs.Invariant.{AreListed}
 use Rattle.live_world.specs.Parts.{shown_object}
 use Rattle.live_world.specs.View.{shown, IsLiveWorld}
 use Rattle.live_world.specs.declared.LiveWorld.TheInside.{Inside}
-use Rattle.live_world.proofs.Entries.{AreBelow, below_fresh}
+use Rattle.live_world.proofs.Entries.{AreBelow, below_next_number}
 use Rattle.live_world.proofs.Listed.{listed_few, listed_below}
 use Rattle.live_world.proofs.ObjectsMade.{object_made}
 
@@ -34,7 +34,7 @@ is_new i l c is k next =
     let a = subst (λ (x : Live). IsNext x c) (sym is) next in
     let fits : length (filter lives i.callbacks.rows) + length i.kernels.armed + 1 ≤ i.limits.slots = ltb-false i.limits.slots (length (filter lives i.callbacks.rows) + length i.kernels.armed + 1) a.room in
     record {
-      above = subst (λ n. AreBelow n i.callbacks.rows) (sym a.number) (below_fresh 1 (i.made + 1) i.callbacks.rows k.sound.numbers);
+      above = subst (λ n. AreBelow n i.callbacks.rows) (sym a.number) (below_next_number 1 (i.made + 1) i.callbacks.rows k.sound.numbers);
       room = omega (arith, fits, ap length k.alive.live);
       object = omega (arith, object_made (shown i).world.objects c a.object, length-map i.objects.rows shown_object);
     }

@@ -31,9 +31,9 @@ pub objects_made : (objects : List ObjectRow) (cs : List CallbackRow) → AllByR
 objects_made objects cs all = all_along (IsCallbackSound objects) (λ (c : CallbackRow). c.object.0 ≤ length objects) (object_made objects) cs all
 
 -- the next callback of an object that isn't released
-pub next_is_new : (w : World) (fresh : ℕ) (object : ObjectId) (told : TakeResult) (row : ObjectRow) (c : CallbackRow) → c ≡ new_callback fresh object row told → numbered w.objects object.0 ≡ Some row → is_standing w.objects object.0 ≡ true → IsSound fresh w → lacks_slots_for w 1 ≡ false → IsNewCallback fresh w c
-next_is_new w fresh object told row c is found stands sound room =
-    subst (IsNewCallback fresh w) (sym is) (record {
+pub next_is_new : (w : World) (next_number : ℕ) (object : ObjectId) (told : TakeResult) (row : ObjectRow) (c : CallbackRow) → c ≡ new_callback next_number object row told → numbered w.objects object.0 ≡ Some row → is_standing w.objects object.0 ≡ true → IsSound next_number w → lacks_slots_for w 1 ≡ false → IsNewCallback next_number w c
+next_is_new w next_number object told row c is found stands sound room =
+    subst (IsNewCallback next_number w) (sym is) (record {
       number = refl;
       pending = refl;
       object = λ _. record { row = row; stands = found; home = refl; group = refl };

@@ -15,7 +15,7 @@ use Rattle.tp_model.specs.Counts.{is_expected, is_operating}
 use Rattle.tp_model.specs.World.{World, BegunWait, opening, unattached, unfinished}
 use Rattle.tp_model.specs.Support.Sound.{IsSound}
 use Rattle.tp_model.specs.Support.Remembered.{forget}
-use Rattle.tp_model.proofs.Preserving.{opening_sound}
+use Rattle.tp_model.proofs.Sound.{opening_sound}
 use Rattle.live_world.specs.declared.objects.Object.{Object}
 use Rattle.live_world.specs.Parts.{world_of, shown_worker, is_tied, is_timed_kind}
 use Rattle.live_world.specs.Invariant.{AreSized, AreLive, AreQueued, AreTallied, AreListed, AreCovered, AreTimed, AreKernels, AreSlotted, AreWanted, AreGrouped, AreMembered, AreClosing, IsHome, IsMarked}

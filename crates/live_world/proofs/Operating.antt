@@ -69,12 +69,12 @@ module _ {limits : Limits} {cs : List CallbackRow} {started operations : Keyed} 
   pub operating_beside : (c : CallbackRow) → is_operating c.status ≡ false → AreOperating limits cs started operations → AreOperating limits (cs ++ c ∷ []) started operations
   operating_beside c out k = record { expected = listed_beside c (unexpected c.status out) k.expected; operating = listed_beside c out k.operating }
 
-  pub operating_same : (fresh : ℕ) (r c : CallbackRow) → r.number ≡ c.number → r.object ≡ c.object → is_operating r.status ≡ false → is_operating c.status ≡ false → IsRising 1 fresh cs → find (has_number r.number) cs ≡ Some c → AreOperating limits cs started operations
+  pub operating_same : (next_number : ℕ) (r c : CallbackRow) → r.number ≡ c.number → r.object ≡ c.object → is_operating r.status ≡ false → is_operating c.status ≡ false → IsRising 1 next_number cs → find (has_number r.number) cs ≡ Some c → AreOperating limits cs started operations
       → AreOperating limits (replaced r cs) started operations
-  operating_same fresh r c number object after before rising found k =
+  operating_same next_number r c number object after before rising found k =
       record {
-        expected = listed_same fresh r c number object (unexpected r.status after ∙ sym (unexpected c.status before)) rising found k.expected;
-        operating = listed_same fresh r c number object (after ∙ sym before) rising found k.operating;
+        expected = listed_same next_number r c number object (unexpected r.status after ∙ sym (unexpected c.status before)) rising found k.expected;
+        operating = listed_same next_number r c number object (after ∙ sym before) rising found k.operating;
       }
 
   pub operating_lives : AreOperating limits cs started operations → AreOperating limits (filter lives cs) started operations

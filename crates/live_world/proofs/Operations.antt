@@ -21,7 +21,7 @@ use Rattle.tp_model.proofs.Lists.{find_all}
 use Rattle.live_world.specs.Live.{Live, moved}
 use Rattle.live_world.specs.Parts.{is_tied}
 use Rattle.live_world.specs.View.{shown, IsLiveWorld}
-use Rattle.live_world.specs.Invariant.{AreCovered, AreListed, AreMarked, AreQueued, AreTallied, waits}
+use Rattle.live_world.specs.Invariant.{AreCovered, AreListed, AreMarked, AreQueued, AreTallied, is_pending_callback}
 use Rattle.live_world.specs.declared.LiveWorld.TheInside.{Inside}
 use Rattle.live_world.proofs.Alive.{alive_less, alive_more, alive_replaced, removed_rows}
 use Rattle.live_world.proofs.Covered.{covered_less, covered_lives, covered_more, covered_replaced}
@@ -184,13 +184,13 @@ pub room_to_wait : (i : Inside) (l : Live) (c : CallbackRow) (error bytes : ℕ)
 room_to_wait i l c error bytes is k allowed =
     let a : IsAllowed (i.made + 1) (shown i).world (change.Operate c (Complete error bytes)) = subst (λ (x : Live). IsAllowed (x.made + 1) x.world (change.Operate c (Complete error bytes))) (sym is) allowed in
     let r : CallbackRow = operated (Complete error bytes) c in
-    let more : length (filter waits (replaced r i.callbacks.rows)) + cond (waits c) 1 0 ≡ length (filter waits i.callbacks.rows) + cond (waits r) 1 0 = length_filter_replaced waits r c 1 (i.made + 1) i.callbacks.rows k.sound.numbers a.found in
+    let more : length (filter is_pending_callback (replaced r i.callbacks.rows)) + cond (is_pending_callback c) 1 0 ≡ length (filter is_pending_callback i.callbacks.rows) + cond (is_pending_callback r) 1 0 = length_filter_replaced is_pending_callback r c 1 (i.made + 1) i.callbacks.rows k.sound.numbers a.found in
     omega (
       arith,
       more,
       ap {B = ℕ} (λ b. cond b 1 0) (ap is_pending a.status),
-      length-filter waits (replaced r i.callbacks.rows),
-      count_by-le-length waits (replaced r i.callbacks.rows),
+      length-filter is_pending_callback (replaced r i.callbacks.rows),
+      count_by-le-length is_pending_callback (replaced r i.callbacks.rows),
       length-map i.callbacks.rows (λ (x : CallbackRow). cond (has_number r.number x) r x),
       k.slotted.slots,
       k.queued.held_all,

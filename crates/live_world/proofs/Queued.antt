@@ -19,9 +19,9 @@ use Rattle.tp_model.proofs.Lists.{all_along, all_filter, filter_filter}
 use Rattle.tp_model.proofs.Callbacks.{filter_replaced_out, found_all, length_filter_replaced, over_not_pending, kept_found}
 use Rattle.tp_model.proofs.Refusals.{false_true, both}
 use Rattle.live_world.specs.Parts.{entry_of, priority_byte, waiting_among, queue_among}
-use Rattle.live_world.specs.Invariant.{AreQueued, waits}
+use Rattle.live_world.specs.Invariant.{AreQueued, is_pending_callback}
 use Rattle.live_world.proofs.Lists.{filter_map, filter_none, both_parts, one_more, one_if}
-use Rattle.live_world.proofs.Entries.{AreBelow, AreOf, below_fresh, entries, new_entry, three}
+use Rattle.live_world.proofs.Entries.{AreBelow, AreOf, below_next_number, entries, new_entry, three}
 use Rattle.live_world.proofs.Completed.{numbers, with_number, entries_numbered, filter_replaced_in, kept_without, no_entry}
 
 -- ---- the parts of a queue, one for each priority
@@ -93,7 +93,7 @@ queue_more : (cs : List CallbackRow) (c : CallbackRow) → is_pending c.status �
 queue_more cs c pends rising =
     let pool : ℕ = c.pool.0 in
     let here : is_pending_in pool c ≡ true = ap₂ (λ a b. a && b) pends (eq-eqb pool pool refl) in
-    let below : AreBelow c.number cs = below_fresh 1 c.number cs rising in
+    let below : AreBelow c.number cs = below_next_number 1 c.number cs rising in
     let kept : (test : Priority → Bool) → AreBelow c.number (waiting_among cs pool test)
     = λ (test : Priority → Bool). all_filter (λ (x : CallbackRow). x.number < c.number) (λ x. is_pending_in pool x && test x.priority) cs below in
     let more : (test : Priority → Bool) → waiting_among (cs ++ c ∷ []) pool test ≡ waiting_among cs pool test ++ cond (test c.priority) (c ∷ []) []
@@ -142,11 +142,11 @@ filter_replaced_none p r (c ∷ cs) out all =
     ] refl
 
 -- neither the row before nor the row after waits in this pool
-queue_apart : (cs : List CallbackRow) (r c : CallbackRow) (fresh pool : ℕ) → IsRising 1 fresh cs → find (has_number r.number) cs ≡ Some c → is_pending_in pool c ≡ false → is_pending_in pool r ≡ false → queue_among (replaced r cs) pool ≡ queue_among cs pool
-queue_apart cs r c fresh pool rising found before after =
+queue_apart : (cs : List CallbackRow) (r c : CallbackRow) (next_number pool : ℕ) → IsRising 1 next_number cs → find (has_number r.number) cs ≡ Some c → is_pending_in pool c ≡ false → is_pending_in pool r ≡ false → queue_among (replaced r cs) pool ≡ queue_among cs pool
+queue_apart cs r c next_number pool rising found before after =
     same_parts (replaced r cs) cs pool
     (λ test. filter_replaced_none (λ x. is_pending_in pool x && test x.priority) r cs (ap (λ a. a && test r.priority) after)
-    (found_all (λ x. (is_pending_in pool x && test x.priority) ≡ false) r.number c 1 fresh cs rising found (ap (λ a. a && test c.priority) before)))
+    (found_all (λ x. (is_pending_in pool x && test x.priority) ≡ false) r.number c 1 next_number cs rising found (ap (λ a. a && test c.priority) before)))
 
 -- the entries of a queue by the numbers of each priority
 queue_numbers : (cs : List CallbackRow) (pool : ℕ) → map entry_of (queue_among cs pool) ≡ entries_of (numbers (waiting_among cs pool is_high)) (numbers (waiting_among cs pool is_normal)) (numbers (waiting_among cs pool is_low))
@@ -158,9 +158,9 @@ queue_numbers cs pool =
     (entries_numbered 2 (waiting_among cs pool is_low) (priority_of is_low 2 low_is cs pool))
 
 -- a callback that stands there and comes to wait has its place in the queue
-queue_put : (cs : List CallbackRow) (r c : CallbackRow) (fresh : ℕ) → is_pending c.status ≡ false → is_pending r.status ≡ true → IsRising 1 fresh cs → find (has_number r.number) cs ≡ Some c
+queue_put : (cs : List CallbackRow) (r c : CallbackRow) (next_number : ℕ) → is_pending c.status ≡ false → is_pending r.status ≡ true → IsRising 1 next_number cs → find (has_number r.number) cs ≡ Some c
     → with_entry (entry_of r) (map entry_of (queue_among cs r.pool.0)) ≡ map entry_of (queue_among (replaced r cs) r.pool.0)
-queue_put cs r c fresh before pends rising found =
+queue_put cs r c next_number before pends rising found =
     ap (with_entry (entry_of r)) (queue_numbers cs pool) ∙ of_priority r.priority refl ∙ sym (queue_numbers (replaced r cs) pool)
   where
     pool : ℕ
@@ -179,11 +179,11 @@ queue_put cs r c fresh before pends rising found =
     is_test test b is = ap₂ (λ a t. (a && t) && test r.priority) pends (eq-eqb pool pool refl) ∙ is
 
     here : (test : Priority → Bool) → test r.priority ≡ true → with_number r.number (now test) ≡ then test
-    here test is = filter_replaced_in (λ x. is_pending_in pool x && test x.priority) r c 1 fresh cs (fails test) (is_test test true is) rising found
+    here test is = filter_replaced_in (λ x. is_pending_in pool x && test x.priority) r c 1 next_number cs (fails test) (is_test test true is) rising found
 
     kept : (test : Priority → Bool) → test r.priority ≡ false → now test ≡ then test
     kept test is =
-        let none = found_all (λ x. (is_pending_in pool x && test x.priority) ≡ false) r.number c 1 fresh cs rising found (fails test) in
+        let none = found_all (λ x. (is_pending_in pool x && test x.priority) ≡ false) r.number c 1 next_number cs rising found (fails test) in
         sym (ap numbers (filter_replaced_none (λ x. is_pending_in pool x && test x.priority) r cs (is_test test false is) none))
 
     of_priority : (p : Priority) → r.priority ≡ p → with_entry (entry (priority_byte p) r.number) (entries_of (now is_high) (now is_normal) (now is_low)) ≡ entries_of (then is_high) (then is_normal) (then is_low)
@@ -235,29 +235,29 @@ queued_more {limits} {cs} {queues} c home pends rising k =
       queue_count = length-set queues.queues pool entries_now ∙ k.queue_count;
       queued = each_pool queues pool entries_now (λ p. map entry_of (queue_among (cs ++ c ∷ []) p)) (λ p. map entry_of (queue_among cs p)) within placed
           (λ p apart. ap (map entry_of) (sym (queue_more_elsewhere cs c p apart))) k.queued;
-      held_all = omega (arith, held_set queues pool entries_now within, longer, queue_shown pool k, k.held_all, one_more waits cs c pends);
+      held_all = omega (arith, held_set queues pool entries_now within, longer, queue_shown pool k, k.held_all, one_more is_pending_callback cs c pends);
     }
 
 -- a callback that stands there comes to wait
-pub queued_put : {limits : Limits} {cs : List CallbackRow} {queues : Pending} (fresh : ℕ) (r c : CallbackRow) → r.pool.0 < limits.pools → is_pending c.status ≡ false → is_pending r.status ≡ true → r.number ≡ c.number
-    → IsRising 1 fresh cs → find (has_number r.number) cs ≡ Some c → AreQueued limits cs queues → AreQueued limits (replaced r cs) (queued_entry queues r)
-queued_put {limits} {cs} {queues} fresh r c home before pends same_number rising found k =
+pub queued_put : {limits : Limits} {cs : List CallbackRow} {queues : Pending} (next_number : ℕ) (r c : CallbackRow) → r.pool.0 < limits.pools → is_pending c.status ≡ false → is_pending r.status ≡ true → r.number ≡ c.number
+    → IsRising 1 next_number cs → find (has_number r.number) cs ≡ Some c → AreQueued limits cs queues → AreQueued limits (replaced r cs) (queued_entry queues r)
+queued_put {limits} {cs} {queues} next_number r c home before pends same_number rising found k =
     let pool : ℕ = r.pool.0 in
     let entries_now : List Entry = with_entry (entry_of r) (queue_of queues pool) in
     let within : pool < length queues.queues = omega (arith, home, k.queue_count) in
-    let placed : entries_now ≡ map entry_of (queue_among (replaced r cs) pool) = ap (with_entry (entry_of r)) (k.queued pool) ∙ queue_put cs r c fresh before pends rising found in
+    let placed : entries_now ≡ map entry_of (queue_among (replaced r cs) pool) = ap (with_entry (entry_of r)) (k.queued pool) ∙ queue_put cs r c next_number before pends rising found in
     let here : is_pending_in pool r ≡ true = ap₂ (λ a b. a && b) pends (eq-eqb pool pool refl) in
     let none : (p : ℕ) → is_pending_in p c ≡ false = λ p. ap (λ b. b && (c.pool.0 == p)) before in
     let longer : length entries_now ≡ length (filter (is_pending_in pool) (replaced r cs))
     = ap length placed ∙ length-map (queue_among (replaced r cs) pool) entry_of ∙ length_queue (replaced r cs) pool in
     let more_here : length (filter (is_pending_in pool) (replaced r cs)) + one_if (is_pending_in pool c) ≡ length (filter (is_pending_in pool) cs) + one_if (is_pending_in pool r)
-    = length_filter_replaced (is_pending_in pool) r c 1 fresh cs rising found in
-    let more : length (filter waits (replaced r cs)) + one_if (waits c) ≡ length (filter waits cs) + one_if (waits r) = length_filter_replaced waits r c 1 fresh cs rising found in
+    = length_filter_replaced (is_pending_in pool) r c 1 next_number cs rising found in
+    let more : length (filter is_pending_callback (replaced r cs)) + one_if (is_pending_callback c) ≡ length (filter is_pending_callback cs) + one_if (is_pending_callback r) = length_filter_replaced is_pending_callback r c 1 next_number cs rising found in
     record {
       queue_slots = k.queue_slots;
       queue_count = length-set queues.queues pool entries_now ∙ k.queue_count;
       queued = each_pool queues pool entries_now (λ p. map entry_of (queue_among (replaced r cs) p)) (λ p. map entry_of (queue_among cs p)) within placed
-          (λ p apart. ap (map entry_of) (sym (queue_apart cs r c fresh p rising found (none p) (ap (λ b. is_pending r.status && b) (ne_eqb r.pool.0 p apart) ∙ no_and (is_pending r.status))))) k.queued;
+          (λ p apart. ap (map entry_of) (sym (queue_apart cs r c next_number p rising found (none p) (ap (λ b. is_pending r.status && b) (ne_eqb r.pool.0 p apart) ∙ no_and (is_pending r.status))))) k.queued;
       held_all = omega (arith, held_set queues pool entries_now within, longer, more_here, more, queue_shown pool k, k.held_all, ap one_if (none pool), ap one_if here, ap one_if before, ap one_if pends);
     }
   where
@@ -266,9 +266,9 @@ queued_put {limits} {cs} {queues} fresh r c home before pends same_number rising
     no_and false = refl
 
 -- a pending callback ceases to wait
-pub queued_less : {limits : Limits} {cs : List CallbackRow} {queues : Pending} (fresh : ℕ) (r c : CallbackRow) → c.pool.0 < limits.pools → is_pending c.status ≡ true → is_pending r.status ≡ false → r.number ≡ c.number
-    → IsRising 1 fresh cs → find (has_number r.number) cs ≡ Some c → AreQueued limits cs queues → AreQueued limits (replaced r cs) (with_queue queues c.pool.0 (without_number r.number (queue_of queues c.pool.0)))
-queued_less {limits} {cs} {queues} fresh r c home pends over same_number rising found k =
+pub queued_less : {limits : Limits} {cs : List CallbackRow} {queues : Pending} (next_number : ℕ) (r c : CallbackRow) → c.pool.0 < limits.pools → is_pending c.status ≡ true → is_pending r.status ≡ false → r.number ≡ c.number
+    → IsRising 1 next_number cs → find (has_number r.number) cs ≡ Some c → AreQueued limits cs queues → AreQueued limits (replaced r cs) (with_queue queues c.pool.0 (without_number r.number (queue_of queues c.pool.0)))
+queued_less {limits} {cs} {queues} next_number r c home pends over same_number rising found k =
     let pool : ℕ = c.pool.0 in
     let entries_now : List Entry = without_number r.number (queue_of queues pool) in
     let within : pool < length queues.queues = omega (arith, home, k.queue_count) in
@@ -278,13 +278,13 @@ queued_less {limits} {cs} {queues} fresh r c home pends over same_number rising 
     let shorter : length entries_now ≡ length (filter (is_pending_in pool) (replaced r cs))
     = ap length placed ∙ length-map (queue_among (replaced r cs) pool) entry_of ∙ length_queue (replaced r cs) pool in
     let fewer_here : length (filter (is_pending_in pool) (replaced r cs)) + one_if (is_pending_in pool c) ≡ length (filter (is_pending_in pool) cs) + one_if (is_pending_in pool r)
-    = length_filter_replaced (is_pending_in pool) r c 1 fresh cs rising found in
-    let fewer : length (filter waits (replaced r cs)) + one_if (waits c) ≡ length (filter waits cs) + one_if (waits r) = length_filter_replaced waits r c 1 fresh cs rising found in
+    = length_filter_replaced (is_pending_in pool) r c 1 next_number cs rising found in
+    let fewer : length (filter is_pending_callback (replaced r cs)) + one_if (is_pending_callback c) ≡ length (filter is_pending_callback cs) + one_if (is_pending_callback r) = length_filter_replaced is_pending_callback r c 1 next_number cs rising found in
     record {
       queue_slots = k.queue_slots;
       queue_count = length-set queues.queues pool entries_now ∙ k.queue_count;
       queued = each_pool queues pool entries_now (λ p. map entry_of (queue_among (replaced r cs) p)) (λ p. map entry_of (queue_among cs p)) within placed
-          (λ p apart. ap (map entry_of) (sym (queue_apart cs r c fresh p rising found (ap (λ b. is_pending c.status && b) (ne_eqb c.pool.0 p apart) ∙ no_and (is_pending c.status)) (ap (λ a. a && (r.pool.0 == p)) over)))) k.queued;
+          (λ p apart. ap (map entry_of) (sym (queue_apart cs r c next_number p rising found (ap (λ b. is_pending c.status && b) (ne_eqb c.pool.0 p apart) ∙ no_and (is_pending c.status)) (ap (λ a. a && (r.pool.0 == p)) over)))) k.queued;
       held_all = omega (arith, held_set queues pool entries_now within, shorter, fewer_here, fewer, queue_shown pool k, k.held_all, ap one_if here, ap one_if gone, ap one_if pends, ap one_if over);
     }
   where
@@ -293,14 +293,14 @@ queued_less {limits} {cs} {queues} fresh r c home pends over same_number rising 
     no_and false = refl
 
 -- neither the row before nor the row after waits
-pub queued_same : {limits : Limits} {cs : List CallbackRow} {queues : Pending} (fresh : ℕ) (r c : CallbackRow) → is_pending c.status ≡ false → is_pending r.status ≡ false
-    → IsRising 1 fresh cs → find (has_number r.number) cs ≡ Some c → AreQueued limits cs queues → AreQueued limits (replaced r cs) queues
-queued_same {limits} {cs} {queues} fresh r c before after rising found k =
+pub queued_same : {limits : Limits} {cs : List CallbackRow} {queues : Pending} (next_number : ℕ) (r c : CallbackRow) → is_pending c.status ≡ false → is_pending r.status ≡ false
+    → IsRising 1 next_number cs → find (has_number r.number) cs ≡ Some c → AreQueued limits cs queues → AreQueued limits (replaced r cs) queues
+queued_same {limits} {cs} {queues} next_number r c before after rising found k =
     record {
       queue_slots = k.queue_slots;
       queue_count = k.queue_count;
-      queued = λ p. k.queued p ∙ ap (map entry_of) (sym (queue_apart cs r c fresh p rising found (ap (λ a. a && (c.pool.0 == p)) before) (ap (λ a. a && (r.pool.0 == p)) after)));
-      held_all = k.held_all ∙ ap length (sym (filter_replaced_none waits r cs after (found_all (λ x. waits x ≡ false) r.number c 1 fresh cs rising found before)));
+      queued = λ p. k.queued p ∙ ap (map entry_of) (sym (queue_apart cs r c next_number p rising found (ap (λ a. a && (c.pool.0 == p)) before) (ap (λ a. a && (r.pool.0 == p)) after)));
+      held_all = k.held_all ∙ ap length (sym (filter_replaced_none is_pending_callback r cs after (found_all (λ x. is_pending_callback x ≡ false) r.number c 1 next_number cs rising found before)));
     }
 
 -- a callback is made that doesn't wait
@@ -310,7 +310,7 @@ queued_beside {limits} {cs} {queues} c still k =
       queue_slots = k.queue_slots;
       queue_count = k.queue_count;
       queued = λ p. k.queued p ∙ ap (map entry_of) (sym (same_parts (cs ++ c ∷ []) cs p (λ test. waiting_more cs c p test false (ap (λ a. (a && (c.pool.0 == p)) && test c.priority) still) ∙ append-nil (waiting_among cs p test))));
-      held_all = k.held_all ∙ ap length (sym (filter-append waits cs (c ∷ []) ∙ ap (λ b. filter waits cs ++ cond b (c ∷ []) []) still ∙ append-nil (filter waits cs)));
+      held_all = k.held_all ∙ ap length (sym (filter-append is_pending_callback cs (c ∷ []) ∙ ap (λ b. filter is_pending_callback cs ++ cond b (c ∷ []) []) still ∙ append-nil (filter is_pending_callback cs)));
     }
 
 -- what is over never waits
@@ -320,7 +320,7 @@ queued_lives {limits} {cs} {queues} k =
       queue_slots = k.queue_slots;
       queue_count = k.queue_count;
       queued = λ p. k.queued p ∙ ap (map entry_of) (sym (same_parts (filter lives cs) cs p (λ test. filter_filter (λ x. is_pending_in p x && test x.priority) lives (λ x e. ap (λ a. (a && (x.pool.0 == p)) && test x.priority) (over_not_pending x.status e)) cs)));
-      held_all = k.held_all ∙ ap length (sym (filter_filter waits lives (λ x e. over_not_pending x.status e) cs));
+      held_all = k.held_all ∙ ap length (sym (filter_filter is_pending_callback lives (λ x e. over_not_pending x.status e) cs));
     }
 
 -- ---- numbers in queues
@@ -334,26 +334,26 @@ number_free {cs = cs} number pool below k = ap (entries_have number) (k.queued p
     none (x ∷ xs) h = ap₂ (λ a b. a || b) (ne_eqb x.number number (λ e. omega (arith, e, h.0))) (none xs h.1)
 
 -- no entry has the number of a callback that doesn't wait
-pub number_unqueued : {limits : Limits} {cs : List CallbackRow} {queues : Pending} (fresh : ℕ) (c : CallbackRow) (pool : ℕ) → is_pending c.status ≡ false → IsRising 1 fresh cs → find (has_number c.number) cs ≡ Some c
+pub number_unqueued : {limits : Limits} {cs : List CallbackRow} {queues : Pending} (next_number : ℕ) (c : CallbackRow) (pool : ℕ) → is_pending c.status ≡ false → IsRising 1 next_number cs → find (has_number c.number) cs ≡ Some c
     → AreQueued limits cs queues → entries_have c.number (queue_of queues pool) ≡ false
-number_unqueued {cs = cs} fresh c pool idle rising found k =
+number_unqueued {cs = cs} next_number c pool idle rising found k =
     ap (entries_have c.number) (k.queued pool)
     ∙ no_entry c.number (queue_among cs pool) (both_parts _ (waiting_among cs pool is_high ++ waiting_among cs pool is_normal) (waiting_among cs pool is_low)
     (both_parts _ (waiting_among cs pool is_high) (waiting_among cs pool is_normal) (without is_high) (without is_normal)) (without is_low))
   where
     without : (test : Priority → Bool) → AllByRecursion (λ x. has_number c.number x ≡ false) (waiting_among cs pool test)
     without test =
-        let none = found_all (λ x. (is_pending_in pool x && test x.priority) ≡ false) c.number c 1 fresh cs rising found (ap (λ a. (a && (c.pool.0 == pool)) && test c.priority) idle) in
+        let none = found_all (λ x. (is_pending_in pool x && test x.priority) ≡ false) c.number c 1 next_number cs rising found (ap (λ a. (a && (c.pool.0 == pool)) && test c.priority) idle) in
         kept_without (λ x. is_pending_in pool x && test x.priority) c.number cs none
 
 -- the callback at the head of a queue is found by its number
-pub queue_found : (fresh : ℕ) (cs : List CallbackRow) (pool : ℕ) (c : CallbackRow) → IsRising 1 fresh cs → slice_get (queue_among cs pool) 0 ≡ Some c → find (has_number c.number) cs ≡ Some c
-queue_found fresh cs pool c rising first =
+pub queue_found : (next_number : ℕ) (cs : List CallbackRow) (pool : ℕ) (c : CallbackRow) → IsRising 1 next_number cs → slice_get (queue_among cs pool) 0 ≡ Some c → find (has_number c.number) cs ≡ Some c
+queue_found next_number cs pool c rising first =
     in_front (waiting_among cs pool is_high ++ waiting_among cs pool is_normal) (waiting_among cs pool is_low)
     (λ h. in_front (waiting_among cs pool is_high) (waiting_among cs pool is_normal) (in_waiting is_high) (in_waiting is_normal) h) (in_waiting is_low) first
   where
     in_waiting : (test : Priority → Bool) → slice_get (waiting_among cs pool test) 0 ≡ Some c → find (has_number c.number) cs ≡ Some c
-    in_waiting test h = (kept_found (λ x. is_pending_in pool x && test x.priority) 1 fresh cs 0 c rising h).0
+    in_waiting test h = (kept_found (λ x. is_pending_in pool x && test x.priority) 1 next_number cs 0 c rising h).0
 
     in_front : (xs ys : List CallbackRow) → (slice_get xs 0 ≡ Some c → find (has_number c.number) cs ≡ Some c) → (slice_get ys 0 ≡ Some c → find (has_number c.number) cs ≡ Some c) → slice_get (xs ++ ys) 0 ≡ Some c → find (has_number c.number) cs ≡ Some c
     in_front [] ys f g h = g h
@@ -368,15 +368,15 @@ queue_nowhere pools pool cs past homes = filter_none (is_pending_in pool) cs (al
     no_and false = refl
 
 -- the first number of a queue is that of the callback at its head
-pub first_shown : {limits : Limits} {queues : Pending} (fresh pool number : ℕ) (cs : List CallbackRow) → IsRising 1 fresh cs → AreQueued limits cs queues → first_number (queue_of queues pool) ≡ Some number → find (has_number number) cs ≡ slice_get (queue_among cs pool) 0
-first_shown {limits} {queues} fresh pool number cs rising k first = known (queue_among cs pool) refl (ap first_number (sym (k.queued pool)) ∙ first)
+pub first_shown : {limits : Limits} {queues : Pending} (next_number pool number : ℕ) (cs : List CallbackRow) → IsRising 1 next_number cs → AreQueued limits cs queues → first_number (queue_of queues pool) ≡ Some number → find (has_number number) cs ≡ slice_get (queue_among cs pool) 0
+first_shown {limits} {queues} next_number pool number cs rising k first = known (queue_among cs pool) refl (ap first_number (sym (k.queued pool)) ∙ first)
   where
     known : (q : List CallbackRow) → queue_among cs pool ≡ q → first_number (map entry_of q) ≡ Some number → find (has_number number) cs ≡ slice_get (queue_among cs pool) 0
     known [] e h = absurd cc
     known (c ∷ rest) e h =
         let same : c.number ≡ number = cc in
         let head : slice_get (queue_among cs pool) 0 ≡ Some c = ap (λ l. slice_get l 0) e in
-        ap (λ n. find (has_number n) cs) (sym same) ∙ queue_found fresh cs pool c rising head ∙ sym head
+        ap (λ n. find (has_number n) cs) (sym same) ∙ queue_found next_number cs pool c rising head ∙ sym head
 
 -- and there is none in a pool that was not made
 pub none_shown : (pools pool : ℕ) (cs : List CallbackRow) → pools ≤ pool → AllByRecursion (λ (c : CallbackRow). c.pool.0 < pools) cs → slice_get (queue_among cs pool) 0 ≡ None

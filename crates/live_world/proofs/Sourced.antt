@@ -18,7 +18,7 @@ use Rattle.tp_model.specs.Support.Remembered.{forget}
 use Rattle.tp_model.proofs.Arming.{one_if, timed_disarmed}
 use Rattle.tp_model.proofs.Firing.{AreSourcesIn, fired_in}
 use Rattle.tp_model.proofs.Lists.{all_filter}
-use Rattle.tp_model.proofs.Preserving.{fired_counted, sound_sources, sources_in}
+use Rattle.tp_model.proofs.Sound.{fired_counted, sound_sources, sources_in}
 use Rattle.live_world.specs.declared.LiveWorld.TheInside.{Inside}
 use Rattle.live_world.specs.Firing.{set_to}
 use Rattle.live_world.specs.Invariant.{AreOnce}

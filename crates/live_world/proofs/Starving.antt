@@ -72,12 +72,12 @@ not_starved w room (n ∷ ns) many = ap₂ (λ a b. a || b) (of_row (callback_of
         ∙ and_false (is_pending c.status)
 
 -- the first row of rising numbers has the least
-first_least : (low fresh n : ℕ) (d : CallbackRow) (cs : List CallbackRow) → IsRising low fresh cs → find (has_number n) cs ≡ Some d → (p : CallbackRow) × (slice_get cs 0 ≡ Some p) × (p.number ≤ n)
-first_least low fresh n d [] rising found = absurd cc
-first_least low fresh n d (c ∷ cs) rising found =
+first_least : (low next_number n : ℕ) (d : CallbackRow) (cs : List CallbackRow) → IsRising low next_number cs → find (has_number n) cs ≡ Some d → (p : CallbackRow) × (slice_get cs 0 ≡ Some p) × (p.number ≤ n)
+first_least low next_number n d [] rising found = absurd cc
+first_least low next_number n d (c ∷ cs) rising found =
     elim (has_number n c) as (λ b. has_number n c ≡ b → cond b (Some c) (find (has_number n) cs) ≡ Some d → (p : CallbackRow) × (slice_get (c ∷ cs) 0 ≡ Some p) × (p.number ≤ n)) [
       | true ↦ λ is _. let same : c.number ≡ n = eqb-true c.number n is in (c, refl, omega (arith, same))
-      | false ↦ λ _ h. let bounds = found_bounds n (c.number + 1) fresh d cs rising.1 h in (c, refl, omega (arith, bounds.0))
+      | false ↦ λ _ h. let bounds = found_bounds n (c.number + 1) next_number d cs rising.1 h in (c, refl, omega (arith, bounds.0))
     ] refl found
 
 -- ---- of a wait
@@ -99,7 +99,7 @@ one_pool objects c d sound_c sound_d same named =
     let row : of_c.row ≡ of_d.row = cc in
     of_c.home ∙ ap (λ (o : ObjectRow). o.env.pool) row ∙ sym of_d.home
 
-module _ (w : World) (fresh room : ℕ) (sound : IsSound fresh w) (b : BegunWait) (kept : IsWaitSound fresh w.callbacks b) (object : ObjectId) (target : b.target ≡ Object object) where
+module _ (w : World) (next_number room : ℕ) (sound : IsSound next_number w) (b : BegunWait) (kept : IsWaitSound next_number w.callbacks b) (object : ObjectId) (target : b.target ≡ Object object) where
   -- the callback of this number is starved
   abbrev starves : ℕ → Bool
   starves n = option_map_or (is_starved w room) (callback_of w n) false
@@ -126,7 +126,7 @@ module _ (w : World) (fresh room : ℕ) (sound : IsSound fresh w) (b : BegunWait
 
   -- the first pending callback of the object is found by its number, and it is pending
   first_found_row : (c : CallbackRow) → slice_get (pending_of w object) 0 ≡ Some c → find (has_number c.number) w.callbacks ≡ Some c
-  first_found_row c first = first_by_number fresh w.callbacks (is_pending_for object) c sound.numbers first
+  first_found_row c first = first_by_number next_number w.callbacks (is_pending_for object) c sound.numbers first
 
   -- it tells of all
   told : (c : CallbackRow) → slice_get (pending_of w object) 0 ≡ Some c → tells c ≡ true → holds_starved w room (held w b) ≡ true
@@ -147,7 +147,7 @@ module _ (w : World) (fresh room : ℕ) (sound : IsSound fresh w) (b : BegunWait
       let of_it : (d.object.0 == object.0) ≡ true = (both (d.object.0 == object.0) (is_held_for (Object object) d.status) outstanding).0 in
       let starved_parts = both (is_pending d.status) (nat_lt room 2 || (nat_lt room 4 && (attached w d.pool.0 == 0))) starved in
       let pends : is_pending_for object d ≡ true = ap₂ (λ p q. p && q) starved_parts.0 of_it in
-      let least = first_least 1 fresh n d (pending_of w object) (rising_filter (is_pending_for object) 1 fresh w.callbacks sound.numbers) (find_kept (has_number n) (is_pending_for object) d pends w.callbacks found) in
+      let least = first_least 1 next_number n d (pending_of w object) (rising_filter (is_pending_for object) 1 next_number w.callbacks sound.numbers) (find_kept (has_number n) (is_pending_for object) d pends w.callbacks found) in
       let c : CallbackRow = least.0 in
       let there : find (has_number c.number) w.callbacks ≡ Some c = first_found_row c least.1 in
       let c_pends : is_pending_for object c ≡ true = first_passes (is_pending_for object) c w.callbacks least.1 in
@@ -190,29 +190,29 @@ module _ (w : World) (fresh room : ℕ) (sound : IsSound fresh w) (b : BegunWait
 -- ---- of an actor's wait
 
 -- the wait whose first held callback this is
-pub record IsFirstHeld (w : World) (who : Who) (fresh : ℕ) (first : ℕ) : Type 0 where
+pub record IsFirstHeld (w : World) (who : Who) (next_number : ℕ) (first : ℕ) : Type 0 where
   pub wait : BegunWait
   pub begun : wait_of w who ≡ Some wait
-  pub kept : IsWaitSound fresh w.callbacks wait
+  pub kept : IsWaitSound next_number w.callbacks wait
   pub held_first : is_held w wait.target first ≡ true
 
-pub first_held : (w : World) (who : Who) (fresh first : ℕ) → IsSound fresh w → slice_get (held_by w who) 0 ≡ Some first → IsFirstHeld w who fresh first
-first_held w who fresh first sound is = of_wait (wait_of w who) refl is
+pub first_held : (w : World) (who : Who) (next_number first : ℕ) → IsSound next_number w → slice_get (held_by w who) 0 ≡ Some first → IsFirstHeld w who next_number first
+first_held w who next_number first sound is = of_wait (wait_of w who) refl is
   where
-    of_wait : (o : Option BegunWait) → wait_of w who ≡ o → slice_get (option_map_or (held w) o []) 0 ≡ Some first → IsFirstHeld w who fresh first
+    of_wait : (o : Option BegunWait) → wait_of w who ≡ o → slice_get (option_map_or (held w) o []) 0 ≡ Some first → IsFirstHeld w who next_number first
     of_wait None begun e = absurd cc
     of_wait (Some b) begun e =
         record {
           wait = b;
           begun = begun;
-          kept = find_all (IsWaitSound fresh w.callbacks) (λ (x : BegunWait). is_same_actor x.actor who) b w.waits sound.waits begun;
+          kept = find_all (IsWaitSound next_number w.callbacks) (λ (x : BegunWait). is_same_actor x.actor who) b w.waits sound.waits begun;
           held_first = first_passes (is_held w b.target) first b.covered e;
         }
 
 -- its row is of the object that the wait is for
-pub starved_by_first : (w : World) (who : Who) (fresh room first : ℕ) (row : CallbackRow) (pending : Option CallbackRow) → IsSound fresh w → IsFirstHeld w who fresh first → closing_by (wait_of w who) ≡ None → callback_of w first ≡ Some row → pending ≡ slice_get (pending_of w row.object) 0
+pub starved_by_first : (w : World) (who : Who) (next_number room first : ℕ) (row : CallbackRow) (pending : Option CallbackRow) → IsSound next_number w → IsFirstHeld w who next_number first → closing_by (wait_of w who) ≡ None → callback_of w first ≡ Some row → pending ≡ slice_get (pending_of w row.object) 0
     → option_map_or (λ c. is_starved w room c && is_among c.number (held_by w who)) pending false ≡ holds_starved w room (held_by w who)
-starved_by_first w who fresh room first row pending sound h closes found is = of_target h.wait.target refl (ap closing_by (sym h.begun) ∙ closes)
+starved_by_first w who next_number room first row pending sound h closes found is = of_target h.wait.target refl (ap closing_by (sym h.begun) ∙ closes)
   where
     of_target : (t : WaitTarget) → h.wait.target ≡ t → closing_of h.wait t ≡ None → option_map_or (λ c. is_starved w room c && is_among c.number (held_by w who)) pending false ≡ holds_starved w room (held_by w who)
     of_target (Object object) target kind =
@@ -220,7 +220,7 @@ starved_by_first w who fresh room first row pending sound h closes found is = of
         let same : row.object ≡ object = ap (λ n. record { 0 = n }) (eqb-true row.object.0 object.0 (both (row.object.0 == object.0) (is_held_for (Object object) row.status) passes).0) in
         let holds : held_by w who ≡ held w h.wait = ap (λ o. option_map_or (held w) o []) h.begun in
         ap (λ ns. option_map_or (λ c. is_starved w room c && is_among c.number ns) pending false) holds
-        ∙ first_tells w fresh room sound h.wait h.kept object target pending (is ∙ ap (λ o. slice_get (pending_of w o) 0) same)
+        ∙ first_tells w next_number room sound h.wait h.kept object target pending (is ∙ ap (λ o. slice_get (pending_of w o) 0) same)
         ∙ sym (ap (holds_starved w room) holds)
     of_target (Group group) target kind = absurd cc
     of_target (Kernel kernel) target kind = absurd (false_true (sym (ap (λ t. is_held w t first) target ∙ ap (λ o. option_map_or (is_outstanding_for (Kernel kernel)) o false) found) ∙ h.held_first))

@@ -231,10 +231,10 @@ busy_alike c row pool at busy home ran long =
       run_long = λ p. ap₂ (λ a b. a && b) (works row pool c at busy home ran p) long;
     }
 
-pub tallied_both : (fresh : ℕ) (r c : CallbackRow) (cs : List CallbackRow) (ws : List kept.WorkerRow) (place : ℕ) (row new : kept.WorkerRow)
-    → IsRising 1 fresh cs → find (has_number r.number) cs ≡ Some c → slice_get ws place ≡ Some row → CountAlike c row → CountAlike r new
+pub tallied_both : (next_number : ℕ) (r c : CallbackRow) (cs : List CallbackRow) (ws : List kept.WorkerRow) (place : ℕ) (row new : kept.WorkerRow)
+    → IsRising 1 next_number cs → find (has_number r.number) cs ≡ Some c → slice_get ws place ≡ Some row → CountAlike c row → CountAlike r new
     → AreMarked (replaced r cs) (slice_set ws place new) → AreTallied cs ws → AreTallied (replaced r cs) (slice_set ws place new)
-tallied_both fresh r c cs ws place row new rising found is before after marks k =
+tallied_both next_number r c cs ws place row new rising found is before after marks k =
     record {
       marked = marks;
       run = λ p. counted (is_running_in p) (runs_in p) (before.run p) (after.run p) (k.run p);
@@ -244,14 +244,14 @@ tallied_both fresh r c cs ws place row new rising found is before after marks k 
     counted : (of_callbacks : CallbackRow → Bool) (of_workers : kept.WorkerRow → Bool) → of_callbacks c ≡ of_workers row → of_callbacks r ≡ of_workers new
         → length (filter of_callbacks cs) ≡ length (filter of_workers ws) → length (filter of_callbacks (replaced r cs)) ≡ length (filter of_workers (slice_set ws place new))
     counted of_callbacks of_workers was now same =
-        let callbacks_now : length (filter of_callbacks (replaced r cs)) + one_if (of_callbacks c) ≡ length (filter of_callbacks cs) + one_if (of_callbacks r) = length_filter_replaced of_callbacks r c 1 fresh cs rising found in
+        let callbacks_now : length (filter of_callbacks (replaced r cs)) + one_if (of_callbacks c) ≡ length (filter of_callbacks cs) + one_if (of_callbacks r) = length_filter_replaced of_callbacks r c 1 next_number cs rising found in
         let workers_now : length (filter of_workers (slice_set ws place new)) + one_if (of_workers row) ≡ length (filter of_workers ws) + one_if (of_workers new) = length_filter_set of_workers ws place row new is in
         omega (arith, callbacks_now, workers_now, ap one_if was, ap one_if now, same)
 
 -- another row of a callback, which runs where the one before ran
-pub tallied_still : (fresh : ℕ) (r c : CallbackRow) (cs : List CallbackRow) (ws : List kept.WorkerRow) → ((p : ℕ) → is_running_in p r ≡ is_running_in p c) → ((p : ℕ) → is_running_long_in p r ≡ is_running_long_in p c)
-    → IsRising 1 fresh cs → find (has_number r.number) cs ≡ Some c → AreMarked (replaced r cs) ws → AreTallied cs ws → AreTallied (replaced r cs) ws
-tallied_still fresh r c cs ws run run_long rising found marks k =
+pub tallied_still : (next_number : ℕ) (r c : CallbackRow) (cs : List CallbackRow) (ws : List kept.WorkerRow) → ((p : ℕ) → is_running_in p r ≡ is_running_in p c) → ((p : ℕ) → is_running_long_in p r ≡ is_running_long_in p c)
+    → IsRising 1 next_number cs → find (has_number r.number) cs ≡ Some c → AreMarked (replaced r cs) ws → AreTallied cs ws → AreTallied (replaced r cs) ws
+tallied_still next_number r c cs ws run run_long rising found marks k =
     record {
       marked = marks;
       run = λ p. counted (is_running_in p) (run p) ∙ k.run p;
@@ -260,7 +260,7 @@ tallied_still fresh r c cs ws run run_long rising found marks k =
   where
     counted : (test : CallbackRow → Bool) → test r ≡ test c → length (filter test (replaced r cs)) ≡ length (filter test cs)
     counted test same =
-        let now : length (filter test (replaced r cs)) + one_if (test c) ≡ length (filter test cs) + one_if (test r) = length_filter_replaced test r c 1 fresh cs rising found in
+        let now : length (filter test (replaced r cs)) + one_if (test c) ≡ length (filter test cs) + one_if (test r) = length_filter_replaced test r c 1 next_number cs rising found in
         omega (arith, now, ap one_if same)
 
 -- what is over is at work nowhere

@@ -16,7 +16,7 @@ use Rattle.tp_model.specs.Groups.{gets_notice, is_member, is_object_that, object
 use Rattle.tp_model.specs.Waits.{is_cancelled_by, cancel_where}
 use Rattle.live_world.specs.declared.closing.Closing.{Closing}
 use Rattle.live_world.specs.declared.objects.Object.{Object}
-use Rattle.live_world.specs.Live.{Live, became}
+use Rattle.live_world.specs.Live.{Live, with_world}
 use Rattle.live_world.specs.Parts.{shown_object}
 
 -- the callback is of the group
@@ -53,12 +53,12 @@ numbers_noticed objects group cancel = if cancel then objects_that (gets_notice 
 
 -- what is pending of the group cancelled, if so it is asked
 abbrev pub settled_group : Live → GroupId → Bool → Live
-settled_group l group cancel = became l (record l.world { callbacks = cancel_where (is_cancelled_by (Group group) cancel) l.world.callbacks })
+settled_group l group cancel = with_world l (record l.world { callbacks = cancel_where (is_cancelled_by (Group group) cancel) l.world.callbacks })
 
 -- the wait begun, with its notices
-abbrev pub closing_begun : World → Who → GroupId → Bool → ℕ → World
-closing_begun w who group cancel context = record w { waits = w.waits ++ new_close who group cancel context (notices_of w group.0 cancel) w.callbacks ∷ [] }
+abbrev pub begin_close_wait : World → Who → GroupId → Bool → ℕ → World
+begin_close_wait w who group cancel context = record w { waits = w.waits ++ new_close who group cancel context (notices_of w group.0 cancel) w.callbacks ∷ [] }
 
 -- the members released
 abbrev pub released_members : Live → GroupId → Live
-released_members l group = became l (without_members l.world group.0)
+released_members l group = with_world l (without_members l.world group.0)

@@ -29,11 +29,11 @@ use Rattle.live_world.specs.declared.groups.Group.{Group}
 use Rattle.live_world.specs.declared.closing.Closing.{Closing}
 use Rattle.live_world.specs.declared.objects.Object.{Object}
 
-abbrev pub waits : CallbackRow → Bool
-waits c = is_pending c.status
+abbrev pub is_pending_callback : CallbackRow → Bool
+is_pending_callback c = is_pending c.status
 
-abbrev pub runs : CallbackRow → Bool
-runs c = is_running c.status
+abbrev pub is_running_callback : CallbackRow → Bool
+is_running_callback c = is_running c.status
 
 -- a worker's pool was made
 abbrev pub IsHome : ℕ → WorkerRow → Type 0
@@ -61,7 +61,7 @@ pub record AreQueued (limits : Limits) (callbacks : List CallbackRow) (queues : 
   pub queue_slots : queues.slots ≡ limits.slots
   pub queue_count : length queues.queues ≡ limits.pools
   pub queued : (pool : ℕ) → queue_of queues pool ≡ map entry_of (queue_among callbacks pool)
-  pub held_all : held queues ≡ length (filter waits callbacks)
+  pub held_all : held queues ≡ length (filter is_pending_callback callbacks)
 
 -- what a worker runs is kept, and the worker has its long mark
 abbrev pub IsMarked : List CallbackRow → WorkerRow → Type 0

@@ -26,12 +26,12 @@ abbrev pub moved : Live → Change → Live
 moved l change = record { world = forget (changed l.world change); made = l.made + news change }
 
 -- the same with another world
-abbrev pub became : Live → World → Live
-became l w = record { world = forget w; made = l.made }
+abbrev pub with_world : Live → World → Live
+with_world l w = record { world = forget w; made = l.made }
 
 -- the pending callbacks of an object cancelled, if so it is asked
 abbrev pub settled : Live → ObjectId → Bool → Live
-settled l object cancel = became l (record l.world { callbacks = cancel_where (is_cancelled_by (Object object) cancel) l.world.callbacks })
+settled l object cancel = with_world l (record l.world { callbacks = cancel_where (is_cancelled_by (Object object) cancel) l.world.callbacks })
 
 abbrev pub without_pending : Live → ObjectId → Live
 without_pending l object = settled l object true
@@ -44,7 +44,7 @@ with_kernels l kernels = record l { world = record l.world { kernels = kernels }
 
 -- other sources
 abbrev pub with_sources : Live → Sources → Live
-with_sources l s = became l (record l.world { settings = s.settings; armings = s.armings; kernels = s.kernels; now = s.now })
+with_sources l s = with_world l (record l.world { settings = s.settings; armings = s.armings; kernels = s.kernels; now = s.now })
 
 -- what a trigger or a return comes to: other sources, and callbacks
 abbrev pub fired_to : Live → Firing → Live

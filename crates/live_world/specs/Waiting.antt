@@ -13,7 +13,7 @@ use Rattle.tp_model.specs.Counts.{has_number, is_pending}
 use Rattle.tp_model.specs.Waits.{is_outstanding_for, wait_of, held}
 use Rattle.tp_model.specs.Sources.{object_row}
 use Rattle.tp_model.specs.Calls.Waits.{holds_starved}
-use Rattle.live_world.specs.Invariant.{runs}
+use Rattle.live_world.specs.Invariant.{is_running_callback}
 use Rattle.live_world.specs.declared.waits.Progress.{Progress}
 use Rattle.live_world.specs.declared.waits.Progress.TheVariants.{NotBegun, Free, Notifies, Starved, Holds, Acquires}
 
@@ -34,7 +34,7 @@ numbers_of entries key = map (λ (e : Entry). e.number) (filter (λ (e : Entry).
 
 -- whether a wait covers an outstanding callback, by its number: with cancel it covers what runs
 abbrev pub is_covered_among : List CallbackRow → Bool → ℕ → Bool
-is_covered_among callbacks cancel number = not cancel || option_map_or runs (find (has_number number) callbacks) false
+is_covered_among callbacks cancel number = not cancel || option_map_or is_running_callback (find (has_number number) callbacks) false
 
 -- what an actor's wait holds, if it has begun one
 abbrev pub held_by : World → Who → List ℕ

@@ -12,7 +12,7 @@ ghost use Rattle.tp_model.specs.Waits.{cancelled, is_cancelled_by};
 ghost use Rattle.tp_model.specs.Support.Allowed.{IsAllowed, MayBegin, Runs};
 ghost use Rattle.tp_model.specs.Support.Ranged.{AreTakenAtMost};
 ghost use Rattle.live_world.specs.Parts.{priority_byte as priority_byte_of};
-ghost use Rattle.live_world.specs.Live.{moved, became, fired_to, unfired, without_pending, settled};
+ghost use Rattle.live_world.specs.Live.{moved, with_world, fired_to, unfired, without_pending, settled};
 ghost use Rattle.live_world.specs.Performing.{MayPerform, suits_state};
 
 use crate::LiveWorld;
@@ -370,7 +370,7 @@ impl LiveWorld {
         requires runs { Runs self.old.world by }
         requires told { words ≡ words_of self.old.world (Worker by.worker) (slots_of_status by.callback.status) }
         requires young { self.old.made + 65536 ≤ 2 ^ 63 }
-        ensures { self.new ≡ fired_to (became self.old (without_run self.old.world by)) (returning self.old.world words (slots_of_status by.callback.status)) }
+        ensures { self.new ≡ fired_to (with_world self.old (without_run self.old.world by)) (returning self.old.world words (slots_of_status by.callback.status)) }
     {
         self.is_reachable();
         self.end_callback(by);
@@ -384,7 +384,7 @@ impl LiveWorld {
     // Ends the callback that a worker runs. The worker stays attached.
     fn end_callback(&mut self, by: Busy)
         requires { Runs self.old.world by }
-        ensures { self.new ≡ became self.old (without_run self.old.world by) }
+        ensures { self.new ≡ with_world self.old (without_run self.old.world by) }
     {
         let _was_there = self.callbacks.remove(by.callback.number);
         let _was_outstanding = self.outstanding.remove(by.callback.number);
@@ -396,7 +396,7 @@ impl LiveWorld {
     pub(crate) fn cancel_callback(&mut self, callback: CallbackRow)
         requires found { callback_of self.old.world callback.number ≡ Some callback }
         requires pending { is_pending_by callback.status ≡ true }
-        ensures { self.new ≡ became self.old (with_callback self.old.world (cancelled callback)) }
+        ensures { self.new ≡ with_world self.old (with_callback self.old.world (cancelled callback)) }
     {
         let _was_there = self.callbacks.remove(callback.number);
         let _was_pending = self.queues.remove(callback.pool.0, callback.number);
@@ -435,7 +435,7 @@ impl LiveWorld {
     fn cover_outstanding(&mut self, who: Who, object: ObjectId, cancel: bool)
         requires allowed { MayBegin self.old.world who (WaitTarget.Object object) }
         requires settled { filter (is_cancelled_by (WaitTarget.Object object) cancel) self.old.world.callbacks ≡ [] }
-        ensures { self.new ≡ became self.old (begin_wait self.old.world who (WaitTarget.Object object) cancel self.old.world.callbacks) }
+        ensures { self.new ≡ with_world self.old (begin_wait self.old.world who (WaitTarget.Object object) cancel self.old.world.callbacks) }
     {
         // The numbers rise, and there are no more of them than slots.
         let _ = self.outstanding.len();

@@ -4,7 +4,7 @@ ghost use Rattle.std.specs.Prelude.{◌≡◌, ◌+◌, IfOk, None, [], filter, 
 ghost use Rattle.tp_model.specs.Groups.{first_operating, is_group, notices_of};
 ghost use Rattle.tp_model.specs.Waits.{is_cancelled_by};
 ghost use Rattle.tp_model.specs.Support.Allowed.{IsAllowed, MayClose};
-ghost use Rattle.live_world.specs.Live.{became, moved};
+ghost use Rattle.live_world.specs.Live.{with_world, moved};
 
 use crate::LiveWorld;
 use crate::begun::Closes;
@@ -30,7 +30,7 @@ pub(crate) fn open_closing(alloc: Global, actors: u32) -> Result<Vec<Option<Clos
 }
 
 impl LiveWorld {
-    ghost use Rattle.live_world.specs.Closing.{closing_begun, released_members, settled_group};
+    ghost use Rattle.live_world.specs.Closing.{begin_close_wait, released_members, settled_group};
 
     // Cancels what is pending of a group. Walks the callbacks of the group.
     fn cancel_group(&mut self, group: GroupId)
@@ -74,10 +74,10 @@ impl LiveWorld {
     // Begins a wait for a group that has nothing to cancel any more, with the notices that it is to
     // give of the members, which are released then. Walks the callbacks of the group and, with cancel,
     // its members.
-    fn begin_closing(&mut self, who: Who, group: GroupId, cancel: bool, context: u64)
+    fn begin_close_wait(&mut self, who: Who, group: GroupId, cancel: bool, context: u64)
         requires allowed { MayClose self.old.world who group cancel (length (notices_of self.old.world group.0 cancel)) }
         requires settled { filter (is_cancelled_by (WaitTarget.Group group) cancel) self.old.world.callbacks ≡ [] }
-        ensures { self.new ≡ became self.old (closing_begun self.old.world who group cancel context) }
+        ensures { self.new ≡ with_world self.old (begin_close_wait self.old.world who group cancel context) }
     {
         let Some(waiter) = self.waiter(who) else {
             unreachable!()
@@ -118,7 +118,7 @@ impl LiveWorld {
         ensures { self.new ≡ moved self.old (Change.BeginClose who group cancel context _notices) }
     {
         self.settle_group(group, cancel);
-        self.begin_closing(who, group, cancel, context);
+        self.begin_close_wait(who, group, cancel, context);
         self.release_members(group);
     }
 

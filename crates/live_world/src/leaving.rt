@@ -92,7 +92,7 @@ pub(crate) fn begin_covering_group(
     requires there { waiter < length barriers.old.waits }
     requires idle { wait_of barriers.old waiter ≡ None }
     requires room { length callbacks.now.rows ≤ barriers.old.slots }
-    requires rising { (fresh : ℕ) × IsRising 1 fresh callbacks.now.rows }
+    requires rising { (next_number : ℕ) × IsRising 1 next_number callbacks.now.rows }
     ensures { barriers.new ≡ with_wait barriers.old waiter (Some (numbers_of_group callbacks.now.rows group)) }
 {
     barriers.begin(waiter);

@@ -5,7 +5,7 @@ ghost use Rattle.std.specs.Prelude.{◌≡◌, ◌+◌, ◌<◌, ◌≤◌, if�
 ghost use Rattle.tp_model.specs.Counts.{has_number};
 ghost use Rattle.tp_model.specs.Waits.{count_outstanding};
 ghost use Rattle.tp_model.specs.Calls.Waits.{count_covered, count_cancelled_by};
-ghost use Rattle.live_world.specs.Invariant.{waits, runs};
+ghost use Rattle.live_world.specs.Invariant.{is_pending_callback, is_running_callback};
 
 use crate::LiveWorld;
 use crate::waits::{is_pending, is_running};
@@ -40,8 +40,8 @@ impl Outstanding {
         requires pending { self.pending ≤ self.all }
         requires running { self.running ≤ self.all }
         ensures all { result.all ≡ self.all + 1 }
-        ensures pending { result.pending ≡ self.pending + (if waits callback.now then 1 else 0) }
-        ensures running { result.running ≡ self.running + (if runs callback.now then 1 else 0) }
+        ensures pending { result.pending ≡ self.pending + (if is_pending_callback callback.now then 1 else 0) }
+        ensures running { result.running ≡ self.running + (if is_running_callback callback.now then 1 else 0) }
     {
         Outstanding {
             all: self.all + 1,
@@ -102,8 +102,8 @@ impl LiveWorld {
     // Walks what is outstanding for the object.
     fn count_outstanding(&self, object: ObjectId) -> Outstanding
         ensures all { result.all ≡ length (outstanding_of self.now.world object) }
-        ensures pending { result.pending ≡ length (filter waits (outstanding_of self.now.world object)) }
-        ensures running { result.running ≡ length (filter runs (outstanding_of self.now.world object)) }
+        ensures pending { result.pending ≡ length (filter is_pending_callback (outstanding_of self.now.world object)) }
+        ensures running { result.running ≡ length (filter is_running_callback (outstanding_of self.now.world object)) }
     {
         self.is_reachable();
         let mut count = Outstanding::NONE;

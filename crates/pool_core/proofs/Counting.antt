@@ -31,32 +31,32 @@ notices_within w group true =
     let numbers = numbers_in w.objects in
     omega (arith, length-map (filter members numbers) object_id, length-filter members numbers, count_by-le-length members numbers, length-range_with_len 1 (length w.objects))
 
-pub few : (fresh : ℕ) (w : World) (ch : Change) → w.limits.slots ≤ 65535 → slots w ≤ w.limits.slots → length w.objects ≤ 65535 → IsAllowed fresh w ch → AreFew ch
-few fresh w (change.Fire trigger first count) most room objects a = record { made = omega (arith, a.counted, a.room room, most); cost = omega arith }
-few fresh w change.Keep most room objects a = record { made = omega arith; cost = omega arith }
-few fresh w change.CreatePool most room objects a = record { made = omega arith; cost = omega arith }
-few fresh w (change.ChangePool pool how) most room objects a = record { made = omega arith; cost = omega arith }
-few fresh w change.CreateGroup most room objects a = record { made = omega arith; cost = omega arith }
-few fresh w (change.CloseGroup group) most room objects a = record { made = omega arith; cost = omega arith }
-few fresh w (change.CreateObject row) most room objects a = record { made = omega arith; cost = omega arith }
-few fresh w (change.ReleaseObject object) most room objects a = record { made = omega arith; cost = omega arith }
-few fresh w (change.QueueCallback callback) most room objects a = record { made = omega arith; cost = omega arith }
-few fresh w (change.ExpectCallback callback) most room objects a = record { made = omega arith; cost = omega arith }
-few fresh w (change.Operate callback how) most room objects a = record { made = omega arith; cost = omega arith }
-few fresh w (change.CreateKernel state) most room objects a = record { made = omega arith; cost = omega arith }
-few fresh w (change.ChangeKernel kernel how) most room objects a = record { made = omega arith; cost = omega arith }
-few fresh w (change.Attach worker pool) most room objects a = record { made = omega arith; cost = omega arith }
-few fresh w (change.Detach by) most room objects a = record { made = omega arith; cost = omega arith }
-few fresh w (change.Take by callback) most room objects a = record { made = omega arith; cost = omega arith }
-few fresh w (change.Mark by mark) most room objects a = record { made = omega arith; cost = omega arith }
-few fresh w (change.Return by words first count) most room objects a =
+pub few : (next_number : ℕ) (w : World) (ch : Change) → w.limits.slots ≤ 65535 → slots w ≤ w.limits.slots → length w.objects ≤ 65535 → IsAllowed next_number w ch → AreFew ch
+few next_number w (change.Fire trigger first count) most room objects a = record { made = omega (arith, a.counted, a.room room, most); cost = omega arith }
+few next_number w change.Keep most room objects a = record { made = omega arith; cost = omega arith }
+few next_number w change.CreatePool most room objects a = record { made = omega arith; cost = omega arith }
+few next_number w (change.ChangePool pool how) most room objects a = record { made = omega arith; cost = omega arith }
+few next_number w change.CreateGroup most room objects a = record { made = omega arith; cost = omega arith }
+few next_number w (change.CloseGroup group) most room objects a = record { made = omega arith; cost = omega arith }
+few next_number w (change.CreateObject row) most room objects a = record { made = omega arith; cost = omega arith }
+few next_number w (change.ReleaseObject object) most room objects a = record { made = omega arith; cost = omega arith }
+few next_number w (change.QueueCallback callback) most room objects a = record { made = omega arith; cost = omega arith }
+few next_number w (change.ExpectCallback callback) most room objects a = record { made = omega arith; cost = omega arith }
+few next_number w (change.Operate callback how) most room objects a = record { made = omega arith; cost = omega arith }
+few next_number w (change.CreateKernel state) most room objects a = record { made = omega arith; cost = omega arith }
+few next_number w (change.ChangeKernel kernel how) most room objects a = record { made = omega arith; cost = omega arith }
+few next_number w (change.Attach worker pool) most room objects a = record { made = omega arith; cost = omega arith }
+few next_number w (change.Detach by) most room objects a = record { made = omega arith; cost = omega arith }
+few next_number w (change.Take by callback) most room objects a = record { made = omega arith; cost = omega arith }
+few next_number w (change.Mark by mark) most room objects a = record { made = omega arith; cost = omega arith }
+few next_number w (change.Return by words first count) most room objects a =
     record { made = omega (arith, a.counted, returning_within w words (slots_of by.callback.status), room, most); cost = omega arith }
-few fresh w (change.BeginWait who target cancel) most room objects a = record { made = omega arith; cost = omega arith }
-few fresh w (change.BeginClose who group cancel context notices) most room objects a =
+few next_number w (change.BeginWait who target cancel) most room objects a = record { made = omega arith; cost = omega arith }
+few next_number w (change.BeginClose who group cancel context notices) most room objects a =
     record { made = omega arith; cost = omega (arith, a.counted, notices_within w group.0 cancel, objects) }
-few fresh w (change.GiveNotice who) most room objects a = record { made = omega arith; cost = omega arith }
-few fresh w (change.EndWait who how) most room objects a = record { made = omega arith; cost = omega arith }
-few fresh w (change.Finish client) most room objects a = record { made = omega arith; cost = omega arith }
+few next_number w (change.GiveNotice who) most room objects a = record { made = omega arith; cost = omega arith }
+few next_number w (change.EndWait who how) most room objects a = record { made = omega arith; cost = omega arith }
+few next_number w (change.Finish client) most room objects a = record { made = omega arith; cost = omega arith }
 
 -- the slots that are taken, where each callback and each armed wait has one
 pub taken_within : (w : World) → IsBounded w → slots w ≤ w.limits.slots

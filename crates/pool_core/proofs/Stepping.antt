@@ -19,7 +19,7 @@ use Rattle.tp_model.specs.Support.Allowed.{price}
 use Rattle.tp_model.specs.Support.Sound.{IsSound}
 use Rattle.tp_model.specs.Support.Remembered.{Remembered, StandsFor, Meets, remembered_in}
 use Rattle.tp_model.proofs.Steps.{goes_refused, goes_looked, goes_full, goes_done}
-use Rattle.tp_model.proofs.Meeting.{meets}
+use Rattle.tp_model.proofs.Remembered.{meets}
 use Rattle.pool_core.specs.Entered.{outcome_of_entry, after_entry}
 
 module _ (e : Remembered) (w : World) (room : ℕ) (who : Who) (call : Call) where

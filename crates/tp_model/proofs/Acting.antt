@@ -252,7 +252,7 @@ filled_slot Event Mutex action slots free = omega arith
 filled_slot Event Semaphore action slots free = omega arith
 filled_slot Event Event action slots free = ap (λ o. one_if (is_some o) + 1) free
 
-module _ (fresh : ℕ) (history : List Entry) (w : World) (x : Entry) (after : World) (moves : Moves fresh w x after) where
+module _ (next_number : ℕ) (history : List Entry) (w : World) (x : Entry) (after : World) (moves : Moves next_number w x after) where
   -- in the world after the entry, among the callbacks that are made by it
   in_after : (worker : ℕ) (slots : Slots) → RunsWith moves.kept after.workers worker slots → RunsWith after.callbacks after.workers worker slots
   in_after worker slots r =

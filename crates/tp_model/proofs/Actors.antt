@@ -18,7 +18,7 @@ use Rattle.tp_model.specs.Support.Sound.{IsSound, RunsOn}
 use Rattle.tp_model.specs.Support.Allowed.{Idles, Runs}
 use Rattle.tp_model.proofs.Lists.{find_passes}
 use Rattle.tp_model.proofs.Callbacks.{kept_found}
-use Rattle.tp_model.proofs.Preserving.{worker_at}
+use Rattle.tp_model.proofs.Sound.{worker_at}
 use Rattle.tp_model.proofs.Refusals.{both, numbered_some}
 
 -- the actor is this worker, which is attached and runs nothing
@@ -46,10 +46,10 @@ pub record IsBusy (w : World) (who : Who) (by : Busy) : Type 0 where
   pub actor : who ≡ Worker by.worker
   pub runs : Runs w by
 
-busy_stands_at : (fresh : ℕ) (w : World) (number : ℕ) (pool : PoolId) (callback : ℕ) (c : Option CallbackRow) (by : Busy) → IsSound fresh w → numbered w.workers number ≡ Some (record { pool = Some pool; callback = Some callback }) → callback_of w callback ≡ c
+busy_stands_at : (next_number : ℕ) (w : World) (number : ℕ) (pool : PoolId) (callback : ℕ) (c : Option CallbackRow) (by : Busy) → IsSound next_number w → numbered w.workers number ≡ Some (record { pool = Some pool; callback = Some callback }) → callback_of w callback ≡ c
     → option_map (λ (x : CallbackRow). record { worker = number; pool = pool; callback = x }) c ≡ Some by → IsBusy w (Worker number) by
-busy_stands_at fresh w number pool callback None by s stands found is = absurd cc
-busy_stands_at fresh w number pool callback (Some c) by s stands found is =
+busy_stands_at next_number w number pool callback None by s stands found is = absurd cc
+busy_stands_at next_number w number pool callback (Some c) by s stands found is =
     let same : record { worker = number; pool = pool; callback = c } ≡ by = cc in
     let row : WorkerRow = record { pool = Some pool; callback = Some callback } in
     let at = numbered_some w.workers number row stands in
@@ -72,30 +72,30 @@ busy_stands_at fresh w number pool callback (Some c) by s stands found is =
     same_row : (x y : CallbackRow) → find (has_number callback) w.callbacks ≡ Some x → find (has_number callback) w.callbacks ≡ Some y → x ≡ y
     same_row x y fx fy = let both_found : Some x ≡ Some y = sym fx ∙ fy in cc
 
-busy_row_stands : (fresh : ℕ) (w : World) (number : ℕ) (pool : Option PoolId) (callback : Option ℕ) (by : Busy) → IsSound fresh w → numbered w.workers number ≡ Some (record { pool = pool; callback = callback }) → busy_row w number pool callback ≡ Some by → IsBusy w (Worker number) by
-busy_row_stands fresh w number (Some pool) (Some callback) by s stands is = busy_stands_at fresh w number pool callback (callback_of w callback) by s stands refl is
-busy_row_stands fresh w number (Some pool) None by s stands is = absurd cc
-busy_row_stands fresh w number None callback by s stands is = absurd cc
+busy_row_stands : (next_number : ℕ) (w : World) (number : ℕ) (pool : Option PoolId) (callback : Option ℕ) (by : Busy) → IsSound next_number w → numbered w.workers number ≡ Some (record { pool = pool; callback = callback }) → busy_row w number pool callback ≡ Some by → IsBusy w (Worker number) by
+busy_row_stands next_number w number (Some pool) (Some callback) by s stands is = busy_stands_at next_number w number pool callback (callback_of w callback) by s stands refl is
+busy_row_stands next_number w number (Some pool) None by s stands is = absurd cc
+busy_row_stands next_number w number None callback by s stands is = absurd cc
 
-busy_in_stands : (fresh : ℕ) (w : World) (number : ℕ) (row : Option WorkerRow) (by : Busy) → IsSound fresh w → numbered w.workers number ≡ row → busy_in w number row ≡ Some by → IsBusy w (Worker number) by
-busy_in_stands fresh w number None by s stands is = absurd cc
-busy_in_stands fresh w number (Some row) by s stands is = busy_row_stands fresh w number row.pool row.callback by s stands is
+busy_in_stands : (next_number : ℕ) (w : World) (number : ℕ) (row : Option WorkerRow) (by : Busy) → IsSound next_number w → numbered w.workers number ≡ row → busy_in w number row ≡ Some by → IsBusy w (Worker number) by
+busy_in_stands next_number w number None by s stands is = absurd cc
+busy_in_stands next_number w number (Some row) by s stands is = busy_row_stands next_number w number row.pool row.callback by s stands is
 
-pub busy_stands : (fresh : ℕ) (w : World) (who : Who) (by : Busy) → IsSound fresh w → busy_of w who ≡ Some by → IsBusy w who by
-busy_stands fresh w (Client number) by s is = absurd cc
-busy_stands fresh w (Worker number) by s is = busy_in_stands fresh w number (numbered w.workers number) by s refl is
+pub busy_stands : (next_number : ℕ) (w : World) (who : Who) (by : Busy) → IsSound next_number w → busy_of w who ≡ Some by → IsBusy w who by
+busy_stands next_number w (Client number) by s is = absurd cc
+busy_stands next_number w (Worker number) by s is = busy_in_stands next_number w number (numbered w.workers number) by s refl is
 
 abbrev IsNextIn : World → ℕ → CallbackRow → Type 0
 IsNextIn w pool c = (find (has_number c.number) w.callbacks ≡ Some c) × (is_pending_in pool c ≡ true)
 
 -- what is taken next is pending in the pool, and found by its number
-pub next_pending : (fresh : ℕ) (w : World) (pool : ℕ) (c : CallbackRow) → IsSound fresh w → next w pool ≡ Some c → (find (has_number c.number) w.callbacks ≡ Some c) × (is_pending_in pool c ≡ true)
-next_pending fresh w pool c s e = in_front (waiting w pool is_high) (waiting w pool is_normal ++ waiting w pool is_low) (λ h. in_waiting is_high h)
+pub next_pending : (next_number : ℕ) (w : World) (pool : ℕ) (c : CallbackRow) → IsSound next_number w → next w pool ≡ Some c → (find (has_number c.number) w.callbacks ≡ Some c) × (is_pending_in pool c ≡ true)
+next_pending next_number w pool c s e = in_front (waiting w pool is_high) (waiting w pool is_normal ++ waiting w pool is_low) (λ h. in_waiting is_high h)
     (λ h. in_front (waiting w pool is_normal) (waiting w pool is_low) (λ k. in_waiting is_normal k) (λ k. in_waiting is_low k) h) (regroup e)
   where
     in_waiting : (test : Priority → Bool) → slice_get (waiting w pool test) 0 ≡ Some c → IsNextIn w pool c
     in_waiting test h =
-        let kept = kept_found (λ x. is_pending_in pool x && test x.priority) 1 fresh w.callbacks 0 c s.numbers h in
+        let kept = kept_found (λ x. is_pending_in pool x && test x.priority) 1 next_number w.callbacks 0 c s.numbers h in
         (kept.0, (both (is_pending_in pool c) (test c.priority) kept.1).0)
 
     in_front : (xs ys : List CallbackRow) → (slice_get xs 0 ≡ Some c → IsNextIn w pool c) → (slice_get ys 0 ≡ Some c → IsNextIn w pool c) → slice_get (xs ++ ys) 0 ≡ Some c → IsNextIn w pool c

@@ -27,7 +27,7 @@ use Rattle.tp_model.proofs.Firing.{armable_wait}
 use Rattle.tp_model.proofs.Lists.{find_all}
 use Rattle.tp_model.proofs.Once.{AgreesAfter}
 use Rattle.tp_model.proofs.Places.{LastPlace, Here, Earlier, last_place, no_place, new_above, find_front}
-use Rattle.tp_model.proofs.Readying.{among_front, made_past}
+use Rattle.tp_model.proofs.Ready.{among_front, made_past}
 use Rattle.tp_model.proofs.Refusals.{false_true, or_true, or_false}
 
 -- the callback is there, and is of the object
@@ -83,12 +83,12 @@ two_rows m n o c d (e ∷ cs) apart fc fd oc od =
         known false h = h
         known true h = absurd (false_true (sym apart ∙ eq-eqb m n (sym (eqb-true e.number m is) ∙ eqb-true e.number n h)))
 
-made_above : (fresh n : ℕ) (cs : List CallbackRow) → AreNew fresh cs → is_among n (numbers_of cs) ≡ true → fresh ≤ n
-made_above fresh n [] rows e = absurd (false_true e)
-made_above fresh n (c ∷ cs) rows e =
-    elim (c.number == n) as (λ b. (c.number == n) ≡ b → (b || is_among n (numbers_of cs)) ≡ true → fresh ≤ n) [
+made_above : (next_number n : ℕ) (cs : List CallbackRow) → AreNew next_number cs → is_among n (numbers_of cs) ≡ true → next_number ≤ n
+made_above next_number n [] rows e = absurd (false_true e)
+made_above next_number n (c ∷ cs) rows e =
+    elim (c.number == n) as (λ b. (c.number == n) ≡ b → (b || is_among n (numbers_of cs)) ≡ true → next_number ≤ n) [
       | true ↦ λ is _. omega (arith, rows.0.numbered, eqb-true c.number n is)
-      | false ↦ λ _ h. omega (arith, made_above (fresh + 1) n cs rows.1 h)
+      | false ↦ λ _ h. omega (arith, made_above (next_number + 1) n cs rows.1 h)
     ] refl e
 
 -- ---- counts of entries

@@ -71,10 +71,10 @@ count_last p (y ∷ xs) x = omega (arith, count_one p y (xs ++ x ∷ []), count_
 abbrev pub count_jobs : ℕ → List Job → ℕ
 count_jobs object jobs = length (filter (λ (j : Job). j.object.0 == object) jobs)
 
-pub count_rows_of : (object : ℕ) (objects : List ObjectRow) (fresh : ℕ) (jobs : List Job) → count_rows object (rows_of objects fresh jobs) ≡ count_jobs object jobs
-count_rows_of object objects fresh [] = refl
-count_rows_of object objects fresh (j ∷ js) =
-    omega (arith, count_one (λ (c : CallbackRow). c.object.0 == object) (new_callback fresh j.object (object_row objects j.object) j.result) (rows_of objects (fresh + 1) js), count_one (λ (i : Job). i.object.0 == object) j js, count_rows_of object objects (fresh + 1) js)
+pub count_rows_of : (object : ℕ) (objects : List ObjectRow) (next_number : ℕ) (jobs : List Job) → count_rows object (rows_of objects next_number jobs) ≡ count_jobs object jobs
+count_rows_of object objects next_number [] = refl
+count_rows_of object objects next_number (j ∷ js) =
+    omega (arith, count_one (λ (c : CallbackRow). c.object.0 == object) (new_callback next_number j.object (object_row objects j.object) j.result) (rows_of objects (next_number + 1) js), count_one (λ (i : Job). i.object.0 == object) j js, count_rows_of object objects (next_number + 1) js)
 
 -- ---- one object
 

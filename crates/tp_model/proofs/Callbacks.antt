@@ -71,31 +71,31 @@ pending_not_running Cancelled e = refl
 
 -- ---- rising numbers
 
-pub rising_bound : (low fresh : ℕ) (cs : List CallbackRow) → IsRising low fresh cs → low ≤ fresh
-rising_bound low fresh [] h = h
-rising_bound low fresh (c ∷ cs) h = omega (arith, h.0, rising_bound (c.number + 1) fresh cs h.1)
+pub rising_bound : (low next_number : ℕ) (cs : List CallbackRow) → IsRising low next_number cs → low ≤ next_number
+rising_bound low next_number [] h = h
+rising_bound low next_number (c ∷ cs) h = omega (arith, h.0, rising_bound (c.number + 1) next_number cs h.1)
 
-pub rising_lower : (low lower fresh : ℕ) (cs : List CallbackRow) → lower ≤ low → IsRising low fresh cs → IsRising lower fresh cs
-rising_lower low lower fresh [] le h = omega (arith, le, h)
-rising_lower low lower fresh (c ∷ cs) le h = (omega (arith, le, h.0), h.1)
+pub rising_lower : (low lower next_number : ℕ) (cs : List CallbackRow) → lower ≤ low → IsRising low next_number cs → IsRising lower next_number cs
+rising_lower low lower next_number [] le h = omega (arith, le, h)
+rising_lower low lower next_number (c ∷ cs) le h = (omega (arith, le, h.0), h.1)
 
-pub rising_append : (low fresh : ℕ) (cs : List CallbackRow) (c : CallbackRow) → c.number ≡ fresh → IsRising low fresh cs → IsRising low (fresh + 1) (cs ++ c ∷ [])
-rising_append low fresh [] c e h = (omega (arith, e, h), omega (arith, e))
-rising_append low fresh (d ∷ cs) c e h = (h.0, rising_append (d.number + 1) fresh cs c e h.1)
+pub rising_append : (low next_number : ℕ) (cs : List CallbackRow) (c : CallbackRow) → c.number ≡ next_number → IsRising low next_number cs → IsRising low (next_number + 1) (cs ++ c ∷ [])
+rising_append low next_number [] c e h = (omega (arith, e, h), omega (arith, e))
+rising_append low next_number (d ∷ cs) c e h = (h.0, rising_append (d.number + 1) next_number cs c e h.1)
 
-pub rising_filter : (p : CallbackRow → Bool) (low fresh : ℕ) (cs : List CallbackRow) → IsRising low fresh cs → IsRising low fresh (filter p cs)
-rising_filter p low fresh [] h = h
-rising_filter p low fresh (c ∷ cs) h =
-    let tail : IsRising (c.number + 1) fresh (filter p cs) = rising_filter p (c.number + 1) fresh cs h.1 in
-    elim (p c) as (λ b. IsRising low fresh (cond b (c ∷ filter p cs) (filter p cs))) [
+pub rising_filter : (p : CallbackRow → Bool) (low next_number : ℕ) (cs : List CallbackRow) → IsRising low next_number cs → IsRising low next_number (filter p cs)
+rising_filter p low next_number [] h = h
+rising_filter p low next_number (c ∷ cs) h =
+    let tail : IsRising (c.number + 1) next_number (filter p cs) = rising_filter p (c.number + 1) next_number cs h.1 in
+    elim (p c) as (λ b. IsRising low next_number (cond b (c ∷ filter p cs) (filter p cs))) [
       | true ↦ (h.0, tail)
-      | false ↦ rising_lower (c.number + 1) low fresh (filter p cs) (omega (arith, h.0)) tail
+      | false ↦ rising_lower (c.number + 1) low next_number (filter p cs) (omega (arith, h.0)) tail
     ]
 
-pub rising_map : (f : CallbackRow → CallbackRow) → ((c : CallbackRow) → (f c).number ≡ c.number) → (low fresh : ℕ) (cs : List CallbackRow) → IsRising low fresh cs → IsRising low fresh (map f cs)
-rising_map f same low fresh [] h = h
-rising_map f same low fresh (c ∷ cs) h =
-    (subst (λ n. low ≤ n) (sym (same c)) h.0, subst (λ n. IsRising (n + 1) fresh (map f cs)) (sym (same c)) (rising_map f same (c.number + 1) fresh cs h.1))
+pub rising_map : (f : CallbackRow → CallbackRow) → ((c : CallbackRow) → (f c).number ≡ c.number) → (low next_number : ℕ) (cs : List CallbackRow) → IsRising low next_number cs → IsRising low next_number (map f cs)
+rising_map f same low next_number [] h = h
+rising_map f same low next_number (c ∷ cs) h =
+    (subst (λ n. low ≤ n) (sym (same c)) h.0, subst (λ n. IsRising (n + 1) next_number (map f cs)) (sym (same c)) (rising_map f same (c.number + 1) next_number cs h.1))
 
 -- ---- a row in place of the one of its number
 
@@ -106,8 +106,8 @@ replaced_number r c =
       | false ↦ λ _. refl
     ] refl
 
-pub rising_replaced : (r : CallbackRow) (low fresh : ℕ) (cs : List CallbackRow) → IsRising low fresh cs → IsRising low fresh (replaced r cs)
-rising_replaced r low fresh cs h = rising_map (λ c. cond (has_number r.number c) r c) (replaced_number r) low fresh cs h
+pub rising_replaced : (r : CallbackRow) (low next_number : ℕ) (cs : List CallbackRow) → IsRising low next_number cs → IsRising low next_number (replaced r cs)
+rising_replaced r low next_number cs h = rising_map (λ c. cond (has_number r.number c) r c) (replaced_number r) low next_number cs h
 
 pub length_replaced : (r : CallbackRow) (cs : List CallbackRow) → length (replaced r cs) ≡ length cs
 length_replaced r [] = refl
@@ -144,11 +144,11 @@ find_appended k (x ∷ cs) c d found =
     ] found
 
 -- rows above a number have another
-pub find_above : (k low fresh : ℕ) (cs : List CallbackRow) → k < low → IsRising low fresh cs → find (has_number k) cs ≡ None
-find_above k low fresh [] lt h = refl
-find_above k low fresh (c ∷ cs) lt h =
+pub find_above : (k low next_number : ℕ) (cs : List CallbackRow) → k < low → IsRising low next_number cs → find (has_number k) cs ≡ None
+find_above k low next_number [] lt h = refl
+find_above k low next_number (c ∷ cs) lt h =
     let other : has_number k c ≡ false = ne_eqb c.number k (λ e. omega (arith, e, h.0, lt)) in
-    ap (λ b. cond b (Some c) (find (has_number k) cs)) other ∙ find_above k (c.number + 1) fresh cs (omega (arith, h.0, lt)) h.1
+    ap (λ b. cond b (Some c) (find (has_number k) cs)) other ∙ find_above k (c.number + 1) next_number cs (omega (arith, h.0, lt)) h.1
 
 -- ---- where a row leaves what a filter keeps
 
@@ -175,52 +175,52 @@ filter_replaced_out p r (c ∷ cs) out =
 
 -- ---- one row of each number
 
-pub found_bounds : (k low fresh : ℕ) (c : CallbackRow) (cs : List CallbackRow) → IsRising low fresh cs → find (has_number k) cs ≡ Some c → (low ≤ k) × (k < fresh)
-found_bounds k low fresh c [] h e = absurd cc
-found_bounds k low fresh c (d ∷ cs) h e =
-    elim (has_number k d) as (λ b. has_number k d ≡ b → cond b (Some d) (find (has_number k) cs) ≡ Some c → (low ≤ k) × (k < fresh)) [
+pub found_bounds : (k low next_number : ℕ) (c : CallbackRow) (cs : List CallbackRow) → IsRising low next_number cs → find (has_number k) cs ≡ Some c → (low ≤ k) × (k < next_number)
+found_bounds k low next_number c [] h e = absurd cc
+found_bounds k low next_number c (d ∷ cs) h e =
+    elim (has_number k d) as (λ b. has_number k d ≡ b → cond b (Some d) (find (has_number k) cs) ≡ Some c → (low ≤ k) × (k < next_number)) [
       | true ↦ λ same _.
           let is_k : d.number ≡ k = eqb-true d.number k same in
-          let above : d.number + 1 ≤ fresh = rising_bound (d.number + 1) fresh cs h.1 in
+          let above : d.number + 1 ≤ next_number = rising_bound (d.number + 1) next_number cs h.1 in
           let least : low ≤ d.number = h.0 in
           (omega (arith, is_k, least), omega (arith, is_k, above))
       | false ↦ λ _ found.
-          let rest = found_bounds k (d.number + 1) fresh c cs h.1 found in
+          let rest = found_bounds k (d.number + 1) next_number c cs h.1 found in
           let least : low ≤ d.number = h.0 in
           (omega (arith, rest.0, least), rest.1)
     ] refl e
 
 -- what any test finds is found by its number
-pub find_numbered : (p : CallbackRow → Bool) (low fresh : ℕ) (cs : List CallbackRow) (c : CallbackRow) → IsRising low fresh cs → find p cs ≡ Some c → find (has_number c.number) cs ≡ Some c
-find_numbered p low fresh [] c h e = absurd cc
-find_numbered p low fresh (d ∷ cs) c h e =
+pub find_numbered : (p : CallbackRow → Bool) (low next_number : ℕ) (cs : List CallbackRow) (c : CallbackRow) → IsRising low next_number cs → find p cs ≡ Some c → find (has_number c.number) cs ≡ Some c
+find_numbered p low next_number [] c h e = absurd cc
+find_numbered p low next_number (d ∷ cs) c h e =
     elim (p d) as (λ b. cond b (Some d) (find p cs) ≡ Some c → find (has_number c.number) (d ∷ cs) ≡ Some c) [
       | true ↦ λ found.
           let same : d ≡ c = cc in
           ap (λ b. cond b (Some d) (find (has_number c.number) cs)) (eq-eqb d.number c.number (ap (λ (x : CallbackRow). x.number) same)) ∙ found
       | false ↦ λ found.
-          let rest = find_numbered p (d.number + 1) fresh cs c h.1 found in
-          let bounds = found_bounds c.number (d.number + 1) fresh c cs h.1 rest in
+          let rest = find_numbered p (d.number + 1) next_number cs c h.1 found in
+          let bounds = found_bounds c.number (d.number + 1) next_number c cs h.1 rest in
           ap (λ b. cond b (Some d) (find (has_number c.number) cs)) (ne_eqb d.number c.number (λ is. omega (arith, is, bounds.0))) ∙ rest
     ] e
 
-pub replaced_above : (r : CallbackRow) (low fresh : ℕ) (cs : List CallbackRow) → r.number < low → IsRising low fresh cs → replaced r cs ≡ cs
-replaced_above r low fresh [] lt h = refl
-replaced_above r low fresh (c ∷ cs) lt h =
+pub replaced_above : (r : CallbackRow) (low next_number : ℕ) (cs : List CallbackRow) → r.number < low → IsRising low next_number cs → replaced r cs ≡ cs
+replaced_above r low next_number [] lt h = refl
+replaced_above r low next_number (c ∷ cs) lt h =
     let least : low ≤ c.number = h.0 in
     let other : has_number r.number c ≡ false = ne_eqb c.number r.number (λ e. omega (arith, e, least, lt)) in
-    ap (λ b. cond b r c ∷ replaced r cs) other ∙ ap (λ t. c ∷ t) (replaced_above r (c.number + 1) fresh cs (omega (arith, least, lt)) h.1)
+    ap (λ b. cond b r c ∷ replaced r cs) other ∙ ap (λ t. c ∷ t) (replaced_above r (c.number + 1) next_number cs (omega (arith, least, lt)) h.1)
 
 -- a filter keeps one more or one less, as the row and the one before it pass
-pub length_filter_replaced : (p : CallbackRow → Bool) (r c : CallbackRow) (low fresh : ℕ) (cs : List CallbackRow) → IsRising low fresh cs → find (has_number r.number) cs ≡ Some c →
+pub length_filter_replaced : (p : CallbackRow → Bool) (r c : CallbackRow) (low next_number : ℕ) (cs : List CallbackRow) → IsRising low next_number cs → find (has_number r.number) cs ≡ Some c →
     length (filter p (replaced r cs)) + cond (p c) 1 0 ≡ length (filter p cs) + cond (p r) 1 0
-length_filter_replaced p r c low fresh [] h e = absurd cc
-length_filter_replaced p r c low fresh (d ∷ cs) h e =
+length_filter_replaced p r c low next_number [] h e = absurd cc
+length_filter_replaced p r c low next_number (d ∷ cs) h e =
     elim (has_number r.number d) as (λ b. has_number r.number d ≡ b → cond b (Some d) (find (has_number r.number) cs) ≡ Some c → length (cond (p (cond b r d)) (cond b r d ∷ filter p (replaced r cs)) (filter p (replaced r cs))) + cond (p c) 1 0 ≡ length (cond (p d) (d ∷ filter p cs) (filter p cs)) + cond (p r) 1 0) [
       | true ↦ λ same found.
           let is_c : d ≡ c = cc in
           let is_r : d.number ≡ r.number = eqb-true d.number r.number same in
-          let rest : replaced r cs ≡ cs = replaced_above r (d.number + 1) fresh cs (omega (arith, is_r)) h.1 in
+          let rest : replaced r cs ≡ cs = replaced_above r (d.number + 1) next_number cs (omega (arith, is_r)) h.1 in
           subst (λ x. length (cond (p r) (r ∷ filter p (replaced r cs)) (filter p (replaced r cs))) + cond (p x) 1 0 ≡ length (cond (p d) (d ∷ filter p cs) (filter p cs)) + cond (p r) 1 0) is_c
           (subst (λ t. length (cond (p r) (r ∷ filter p t) (filter p t)) + cond (p d) 1 0 ≡ length (cond (p d) (d ∷ filter p cs) (filter p cs)) + cond (p r) 1 0) (sym rest)
           (elim (p r) as (λ b. length (cond b (r ∷ filter p cs) (filter p cs)) + cond (p d) 1 0 ≡ length (cond (p d) (d ∷ filter p cs) (filter p cs)) + cond b 1 0) [
@@ -228,7 +228,7 @@ length_filter_replaced p r c low fresh (d ∷ cs) h e =
             | false ↦ elim (p d) as (λ b. length (filter p cs) + cond b 1 0 ≡ length (cond b (d ∷ filter p cs) (filter p cs)) + 0) [ true ↦ omega arith | false ↦ omega arith ]
           ]))
       | false ↦ λ _ found.
-          let rest = length_filter_replaced p r c (d.number + 1) fresh cs h.1 found in
+          let rest = length_filter_replaced p r c (d.number + 1) next_number cs h.1 found in
           elim (p d) as (λ b. length (cond b (d ∷ filter p (replaced r cs)) (filter p (replaced r cs))) + cond (p c) 1 0 ≡ length (cond b (d ∷ filter p cs) (filter p cs)) + cond (p r) 1 0) [
             | true ↦ omega (arith, rest)
             | false ↦ rest
@@ -236,22 +236,22 @@ length_filter_replaced p r c low fresh (d ∷ cs) h e =
     ] refl e
 
 -- what holds of the row found for a number holds of each row of that number
-pub found_all : (P : CallbackRow → Type 0) (k : ℕ) (c : CallbackRow) (low fresh : ℕ) (cs : List CallbackRow) → IsRising low fresh cs → find (has_number k) cs ≡ Some c → P c → AllByRecursion (λ x. has_number k x ≡ true → P x) cs
-found_all P k c low fresh [] h e holds = tt
-found_all P k c low fresh (d ∷ cs) h e holds =
+pub found_all : (P : CallbackRow → Type 0) (k : ℕ) (c : CallbackRow) (low next_number : ℕ) (cs : List CallbackRow) → IsRising low next_number cs → find (has_number k) cs ≡ Some c → P c → AllByRecursion (λ x. has_number k x ≡ true → P x) cs
+found_all P k c low next_number [] h e holds = tt
+found_all P k c low next_number (d ∷ cs) h e holds =
     elim (has_number k d) as (λ b. has_number k d ≡ b → cond b (Some d) (find (has_number k) cs) ≡ Some c → (b ≡ true → P d) × AllByRecursion (λ x. has_number k x ≡ true → P x) cs) [
       | true ↦ λ same found.
           let is_c : c ≡ d = cc in
           let is_k : d.number ≡ k = eqb-true d.number k same in
-          ((λ _. subst P is_c holds), none_all P k (d.number + 1) fresh cs (omega (arith, is_k)) h.1)
-      | false ↦ λ _ found. ((λ e. absurd cc), found_all P k c (d.number + 1) fresh cs h.1 found holds)
+          ((λ _. subst P is_c holds), none_all P k (d.number + 1) next_number cs (omega (arith, is_k)) h.1)
+      | false ↦ λ _ found. ((λ e. absurd cc), found_all P k c (d.number + 1) next_number cs h.1 found holds)
     ] refl e
   where
-    none_all : (P : CallbackRow → Type 0) (k : ℕ) (low fresh : ℕ) (cs : List CallbackRow) → k < low → IsRising low fresh cs → AllByRecursion (λ x. has_number k x ≡ true → P x) cs
-    none_all P k low fresh [] lt h = tt
-    none_all P k low fresh (d ∷ cs) lt h =
+    none_all : (P : CallbackRow → Type 0) (k : ℕ) (low next_number : ℕ) (cs : List CallbackRow) → k < low → IsRising low next_number cs → AllByRecursion (λ x. has_number k x ≡ true → P x) cs
+    none_all P k low next_number [] lt h = tt
+    none_all P k low next_number (d ∷ cs) lt h =
         let least : low ≤ d.number = h.0 in
-        ((λ e. absurd (omega (arith, eqb-true d.number k e, least, lt))), none_all P k (d.number + 1) fresh cs (omega (arith, least, lt)) h.1)
+        ((λ e. absurd (omega (arith, eqb-true d.number k e, least, lt))), none_all P k (d.number + 1) next_number cs (omega (arith, least, lt)) h.1)
 
 -- to filter by p before a row is replaced makes no difference to a filter by p after it
 pub filter_replaced_filter : (p : CallbackRow → Bool) (r : CallbackRow) (cs : List CallbackRow) → AllByRecursion (λ c. has_number r.number c ≡ true → p c ≡ true) cs → filter p (replaced r (filter p cs)) ≡ filter p (replaced r cs)
@@ -273,17 +273,17 @@ filter_replaced_filter p r (c ∷ cs) all =
     not_true false h = refl
 
 -- what a filter keeps is found by its number
-pub kept_found : (p : CallbackRow → Bool) (low fresh : ℕ) (cs : List CallbackRow) (i : ℕ) (c : CallbackRow) → IsRising low fresh cs → slice_get (filter p cs) i ≡ Some c → (find (has_number c.number) cs ≡ Some c) × (p c ≡ true)
-kept_found p low fresh [] i c h e = absurd cc
-kept_found p low fresh (d ∷ cs) i c h e =
+pub kept_found : (p : CallbackRow → Bool) (low next_number : ℕ) (cs : List CallbackRow) (i : ℕ) (c : CallbackRow) → IsRising low next_number cs → slice_get (filter p cs) i ≡ Some c → (find (has_number c.number) cs ≡ Some c) × (p c ≡ true)
+kept_found p low next_number [] i c h e = absurd cc
+kept_found p low next_number (d ∷ cs) i c h e =
     elim (p d) as (λ b. p d ≡ b → slice_get (cond b (d ∷ filter p cs) (filter p cs)) i ≡ Some c → (find (has_number c.number) (d ∷ cs) ≡ Some c) × (p c ≡ true)) [
-      | true ↦ λ passes got. at_place (λ j rest. kept_found p (d.number + 1) fresh cs j c h.1 rest) i passes got
-      | false ↦ λ _ got. later (kept_found p (d.number + 1) fresh cs i c h.1 got)
+      | true ↦ λ passes got. at_place (λ j rest. kept_found p (d.number + 1) next_number cs j c h.1 rest) i passes got
+      | false ↦ λ _ got. later (kept_found p (d.number + 1) next_number cs i c h.1 got)
     ] refl e
   where
     later : (find (has_number c.number) cs ≡ Some c) × (p c ≡ true) → (find (has_number c.number) (d ∷ cs) ≡ Some c) × (p c ≡ true)
     later found =
-        let bounds = found_bounds c.number (d.number + 1) fresh c cs h.1 found.0 in
+        let bounds = found_bounds c.number (d.number + 1) next_number c cs h.1 found.0 in
         let other : has_number c.number d ≡ false = ne_eqb d.number c.number (λ e. omega (arith, e, bounds.0)) in
         (ap (λ b. cond b (Some d) (find (has_number c.number) cs)) other ∙ found.0, found.1)
 

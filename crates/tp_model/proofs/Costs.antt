@@ -66,9 +66,9 @@ owed_worker w number old new is =
     omega (arith, changed)
 
 -- a callback's row in place of another
-pub owed_callback : (fresh : ℕ) (w : World) (old new : CallbackRow) → IsSound fresh w → find (has_number new.number) w.callbacks ≡ Some old → owed (with_callback w new) + one_if (runs old) ≡ owed w + one_if (runs new)
-owed_callback fresh w old new s found =
-    let changed = length_filter_replaced runs new old 1 fresh w.callbacks s.numbers found in
+pub owed_callback : (next_number : ℕ) (w : World) (old new : CallbackRow) → IsSound next_number w → find (has_number new.number) w.callbacks ≡ Some old → owed (with_callback w new) + one_if (runs old) ≡ owed w + one_if (runs new)
+owed_callback next_number w old new s found =
+    let changed = length_filter_replaced runs new old 1 next_number w.callbacks s.numbers found in
     omega (arith, changed)
 
 pub owed_client : (w : World) (number : ℕ) (old new : ClientRow) → numbered w.clients number ≡ Some old → owed (with_client w number new) + one_if (goes_on old) ≡ owed w + one_if (goes_on new)
@@ -85,25 +85,25 @@ owed_attached w number old pool is free =
     omega (arith, changed, none)
 
 -- a callback that begins will return
-pub owed_taken : (fresh : ℕ) (w : World) (number : ℕ) (row : WorkerRow) (pool : PoolId) (c : CallbackRow) → IsSound fresh w → numbered w.workers number ≡ Some row → row.pool ≡ Some pool → find (has_number c.number) w.callbacks ≡ Some c → is_pending c.status ≡ true
+pub owed_taken : (next_number : ℕ) (w : World) (number : ℕ) (row : WorkerRow) (pool : PoolId) (c : CallbackRow) → IsSound next_number w → numbered w.workers number ≡ Some row → row.pool ≡ Some pool → find (has_number c.number) w.callbacks ≡ Some c → is_pending c.status ≡ true
     → owed (with_worker (with_callback w (taken c number)) number (record { pool = Some pool; callback = Some c.number })) ≡ owed w + 1
-owed_taken fresh w number row pool c s is at found waits =
+owed_taken next_number w number row pool c s is at found waits =
     let new : WorkerRow = record { pool = Some pool; callback = Some c.number } in
     let moved : owed (with_worker (with_callback w (taken c number)) number new) + one_if (has_pool row) ≡ owed (with_callback w (taken c number)) + one_if (has_pool new)
     = owed_worker (with_callback w (taken c number)) number row new is in
-    let begun : owed (with_callback w (taken c number)) + one_if (runs c) ≡ owed w + one_if (runs (taken c number)) = owed_callback fresh w c (taken c number) s found in
+    let begun : owed (with_callback w (taken c number)) + one_if (runs c) ≡ owed w + one_if (runs (taken c number)) = owed_callback next_number w c (taken c number) s found in
     let stays : one_if (has_pool row) ≡ 1 = ap (λ (p : Option PoolId). one_if (is_some p)) at in
     let still : one_if (runs c) ≡ 0 = ap (λ b. one_if b) (pending_not_running c.status waits) in
     omega (arith, moved, begun, stays, still)
 
 -- a callback that returns owes nothing more
-pub owed_returned : (fresh : ℕ) (w : World) (number : ℕ) (row : WorkerRow) (c : CallbackRow) → IsSound fresh w → numbered w.workers number ≡ Some row → find (has_number c.number) w.callbacks ≡ Some c → is_running c.status ≡ true
+pub owed_returned : (next_number : ℕ) (w : World) (number : ℕ) (row : WorkerRow) (c : CallbackRow) → IsSound next_number w → numbered w.workers number ≡ Some row → find (has_number c.number) w.callbacks ≡ Some c → is_running c.status ≡ true
     → owed (with_worker (with_callback w (returned c)) number (record { pool = row.pool; callback = None })) + 1 ≡ owed w
-owed_returned fresh w number row c s is found ran =
+owed_returned next_number w number row c s is found ran =
     let new : WorkerRow = record { pool = row.pool; callback = None } in
     let moved : owed (with_worker (with_callback w (returned c)) number new) + one_if (has_pool row) ≡ owed (with_callback w (returned c)) + one_if (has_pool new)
     = owed_worker (with_callback w (returned c)) number row new is in
-    let ended : owed (with_callback w (returned c)) + one_if (runs c) ≡ owed w + one_if (runs (returned c)) = owed_callback fresh w c (returned c) s found in
+    let ended : owed (with_callback w (returned c)) + one_if (runs c) ≡ owed w + one_if (runs (returned c)) = owed_callback next_number w c (returned c) s found in
     let before : one_if (runs c) ≡ 1 = ap (λ b. one_if b) ran in
     omega (arith, moved, ended, before)
 
@@ -115,9 +115,9 @@ owed_finished w number old is unfinished =
     omega (arith, changed, one)
 
 -- a row that runs in the place of one that runs
-owed_same : (fresh : ℕ) (w : World) (r c : CallbackRow) → IsSound fresh w → find (has_number r.number) w.callbacks ≡ Some c → is_running r.status ≡ is_running c.status → owed (with_callback w r) ≡ owed w
-owed_same fresh w r c s found same =
-    let changed : owed (with_callback w r) + one_if (runs c) ≡ owed w + one_if (runs r) = owed_callback fresh w c r s found in
+owed_same : (next_number : ℕ) (w : World) (r c : CallbackRow) → IsSound next_number w → find (has_number r.number) w.callbacks ≡ Some c → is_running r.status ≡ is_running c.status → owed (with_callback w r) ≡ owed w
+owed_same next_number w r c s found same =
+    let changed : owed (with_callback w r) + one_if (runs c) ≡ owed w + one_if (runs r) = owed_callback next_number w c r s found in
     let alike : one_if (runs r) ≡ one_if (runs c) = ap one_if same in
     omega (arith, changed, alike)
 
@@ -129,10 +129,10 @@ asking_runs : (kind : ActionKind) (action : Action) (s : Status) → is_running 
 asking_runs kind action (Running worker associated slots) = refl
 asking_runs kind action _ = refl
 
-owed_marked : (fresh : ℕ) (w : World) (mark : Mark) (c : CallbackRow) → IsSound fresh w → find (has_number c.number) w.callbacks ≡ Some c → owed (with_callback w (marked mark c)) ≡ owed w
-owed_marked fresh w Long c s found = owed_same fresh w (marked Long c) c s found refl
-owed_marked fresh w Loose c s found = owed_same fresh w (marked Loose c) c s found (loosened_runs c.status)
-owed_marked fresh w (Asks kind action) c s found = owed_same fresh w (marked (Asks kind action) c) c s found (asking_runs kind action c.status)
+owed_marked : (next_number : ℕ) (w : World) (mark : Mark) (c : CallbackRow) → IsSound next_number w → find (has_number c.number) w.callbacks ≡ Some c → owed (with_callback w (marked mark c)) ≡ owed w
+owed_marked next_number w Long c s found = owed_same next_number w (marked Long c) c s found refl
+owed_marked next_number w Loose c s found = owed_same next_number w (marked Loose c) c s found (loosened_runs c.status)
+owed_marked next_number w (Asks kind action) c s found = owed_same next_number w (marked (Asks kind action) c) c s found (asking_runs kind action c.status)
 
 owed_release : (w : World) (object : ObjectId) (row : Option ObjectRow) → owed (release_object w object row) ≡ owed w
 owed_release w object None = refl
@@ -264,32 +264,32 @@ owed_change_pool w pool how None = refl
 owed_change_pool w pool how (Some row) = refl
 
 -- a change costs its entry, and what is owed more than before
-pub paid : (fresh : ℕ) (w : World) (ch : Change) → IsSound fresh w → IsAllowed fresh w ch → 1 + owed (changed w ch) ≡ owed w + price ch
-paid fresh w change.Keep s a = omega arith
-paid fresh w change.CreatePool s a = omega arith
-paid fresh w (change.ChangePool pool how) s a = omega (arith, owed_change_pool w pool.0 how (slice_get w.pools pool.0))
-paid fresh w (change.CreateObject row) s a = omega arith
-paid fresh w (change.ReleaseObject object) s a = omega (arith, owed_release w object (numbered w.objects object.0))
-paid fresh w (change.QueueCallback c) s a = omega (arith, owed_new_callback w c (pending_not_running c.status a.pending))
-paid fresh w (change.ExpectCallback c) s a = omega (arith, owed_new_callback w c (ap is_running a.expected))
-paid fresh w (change.Operate c how) s a = omega (arith, owed_same fresh w (operated how c) c s a.found (after_idle how ∙ sym (before_idle how c.status a.status)))
-paid fresh w (change.Fire trigger first count) s a =
+pub paid : (next_number : ℕ) (w : World) (ch : Change) → IsSound next_number w → IsAllowed next_number w ch → 1 + owed (changed w ch) ≡ owed w + price ch
+paid next_number w change.Keep s a = omega arith
+paid next_number w change.CreatePool s a = omega arith
+paid next_number w (change.ChangePool pool how) s a = omega (arith, owed_change_pool w pool.0 how (slice_get w.pools pool.0))
+paid next_number w (change.CreateObject row) s a = omega arith
+paid next_number w (change.ReleaseObject object) s a = omega (arith, owed_release w object (numbered w.objects object.0))
+paid next_number w (change.QueueCallback c) s a = omega (arith, owed_new_callback w c (pending_not_running c.status a.pending))
+paid next_number w (change.ExpectCallback c) s a = omega (arith, owed_new_callback w c (ap is_running a.expected))
+paid next_number w (change.Operate c how) s a = omega (arith, owed_same next_number w (operated how c) c s a.found (after_idle how ∙ sym (before_idle how c.status a.status)))
+paid next_number w (change.Fire trigger first count) s a =
     omega (arith, ap length (running_appended w.callbacks w.objects first (firing trigger (sources_of w)).jobs))
-paid fresh w (change.CreateKernel state) s a = omega arith
-paid fresh w (change.ChangeKernel kernel how) s a = omega arith
-paid fresh w (change.Attach worker pool) s a = omega (arith, owed_attached w worker unattached pool a.stands refl)
-paid fresh w (change.Detach by) s a =
+paid next_number w (change.CreateKernel state) s a = omega arith
+paid next_number w (change.ChangeKernel kernel how) s a = omega arith
+paid next_number w (change.Attach worker pool) s a = omega (arith, owed_attached w worker unattached pool a.stands refl)
+paid next_number w (change.Detach by) s a =
     let changed : owed (with_worker w by.worker unattached) + one_if (has_pool (record { pool = Some by.pool; callback = None })) ≡ owed w + one_if (has_pool unattached)
     = owed_worker w by.worker (record { pool = Some by.pool; callback = None }) unattached a in
     omega (arith, changed)
-paid fresh w (change.Take by c) s a = omega (arith, owed_taken fresh w by.worker (record { pool = Some by.pool; callback = None }) by.pool c s a.idles refl a.found a.pending)
-paid fresh w (change.Mark by mark) s a = omega (arith, owed_marked fresh w mark by.callback s a.runs.found)
-paid fresh w (change.Return by words first count) s a =
-    omega (arith, ap length (running_appended (replaced (returned by.callback) w.callbacks) w.objects first (returning w words (slots_of by.callback.status)).jobs), owed_returned fresh w by.worker (record { pool = Some by.pool; callback = Some by.callback.number }) by.callback s a.runs.stands a.runs.found (ap is_running a.runs.running))
-paid fresh w (change.BeginWait who target cancel) s a = omega (arith, owed_begin_wait w who target cancel)
-paid fresh w change.CreateGroup s a = omega arith
-paid fresh w (change.CloseGroup group) s a = omega arith
-paid fresh w (change.BeginClose who group cancel context notices) s a = omega (arith, owed_begin_close w who group cancel context notices, a.counted)
-paid fresh w (change.GiveNotice who) s a = omega (arith, owed_notified w who a.wait a.object a.rest s.apart a.begun a.left)
-paid fresh w (change.EndWait who how) s a = omega (arith, owed_end_wait w who a.wait s.apart a.begun a.unnoticed)
-paid fresh w (change.Finish client) s a = omega (arith, owed_finished w client unfinished a refl)
+paid next_number w (change.Take by c) s a = omega (arith, owed_taken next_number w by.worker (record { pool = Some by.pool; callback = None }) by.pool c s a.idles refl a.found a.pending)
+paid next_number w (change.Mark by mark) s a = omega (arith, owed_marked next_number w mark by.callback s a.runs.found)
+paid next_number w (change.Return by words first count) s a =
+    omega (arith, ap length (running_appended (replaced (returned by.callback) w.callbacks) w.objects first (returning w words (slots_of by.callback.status)).jobs), owed_returned next_number w by.worker (record { pool = Some by.pool; callback = Some by.callback.number }) by.callback s a.runs.stands a.runs.found (ap is_running a.runs.running))
+paid next_number w (change.BeginWait who target cancel) s a = omega (arith, owed_begin_wait w who target cancel)
+paid next_number w change.CreateGroup s a = omega arith
+paid next_number w (change.CloseGroup group) s a = omega arith
+paid next_number w (change.BeginClose who group cancel context notices) s a = omega (arith, owed_begin_close w who group cancel context notices, a.counted)
+paid next_number w (change.GiveNotice who) s a = omega (arith, owed_notified w who a.wait a.object a.rest s.apart a.begun a.left)
+paid next_number w (change.EndWait who how) s a = omega (arith, owed_end_wait w who a.wait s.apart a.begun a.unnoticed)
+paid next_number w (change.Finish client) s a = omega (arith, owed_finished w client unfinished a refl)

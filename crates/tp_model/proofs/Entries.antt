@@ -30,25 +30,25 @@ use Rattle.tp_model.specs.Calls.Waits.{end_refusals, end_for, end_held, end_wait
 use Rattle.tp_base.specs.declared.answers.Look.TheVariants as look
 use Rattle.tp_base.specs.declared.plans.WaitEnd.TheVariants as how
 use Rattle.tp_base.specs.declared.plans.Change.TheVariants as changes
-use Rattle.tp_model.specs.Support.Told.{deed_by, nothing, told, told_by}
+use Rattle.tp_model.specs.Support.Told.{deed_by, nothing, told_by_change, told_by}
 use Rattle.tp_model.specs.Support.Moves.{Stay, Keep, Leads}
 use Rattle.tp_model.proofs.Growing.{grows}
-use Rattle.tp_model.proofs.Preserving.{changed_sound}
+use Rattle.tp_model.proofs.Sound.{changed_sound}
 use Rattle.tp_model.proofs.Steps.{plan_allowed}
-use Rattle.tp_model.proofs.Moving.{change_leads}
+use Rattle.tp_model.proofs.Moves.{change_leads}
 use Rattle.tp_model.proofs.Refusals.{and_false, or_false, false_true}
 use Rattle.tp_base.specs.declared.ids.ObjectId.{ObjectId}
 
 -- the number that the next callback gets
-abbrev pub fresh_in : World → ℕ
-fresh_in w = length w.callbacks + 1
+abbrev pub next_number_in : World → ℕ
+next_number_in w = length w.callbacks + 1
 
 -- an entry leads to a sound world, as its call moves what there is
 pub record LeadsOn (w : World) (entry : Entry) (after : World) : Type 0 where
-  pub leads : Leads (fresh_in w) w entry after
-  pub sound : IsSound (fresh_in after) after
+  pub leads : Leads (next_number_in w) w entry after
+  pub sound : IsSound (next_number_in after) after
 
-refused_leads : (w : World) (who : Who) (call : Call) (refusal : Refusal) → Leads (fresh_in w) w (record { who = who; call = call; answer = answer.Refused refusal }) w
+refused_leads : (w : World) (who : Who) (call : Call) (refusal : Refusal) → Leads (next_number_in w) w (record { who = who; call = call; answer = answer.Refused refusal }) w
 refused_leads w who call refusal =
     record {
       moves = record {
@@ -133,19 +133,19 @@ told_change w left who CreatePool a ch is = ap change_of is
 told_change w left who _ a ch is = ap change_of is
 
 -- an entry of a legal history leads on
-pub entry_leads : (w : World) (left : ℕ) (entry : Entry) → IsSound (fresh_in w) w → outcome_of (step w left entry.who entry.call) ≡ outcome.Done entry.answer → LeadsOn w entry (led_to w entry)
+pub entry_leads : (w : World) (left : ℕ) (entry : Entry) → IsSound (next_number_in w) w → outcome_of (step w left entry.who entry.call) ≡ outcome.Done entry.answer → LeadsOn w entry (led_to w entry)
 entry_leads w left entry s answers = of_plan (plan w left entry.who entry.call) refl answers
   where
     of_change : (a : Answer) (ch : Change) → a ≡ entry.answer → plan w left entry.who entry.call ≡ plans.Does a ch → LeadsOn w entry (led_to w entry)
     of_change a ch same is =
-        let safe : IsSafeChange (fresh_in w) w entry.who entry.call a ch = plan_allowed (fresh_in w) left w entry.who entry.call a ch s is in
+        let safe : IsSafeChange (next_number_in w) w entry.who entry.call a ch = plan_allowed (next_number_in w) left w entry.who entry.call a ch s is in
         let makes : change_told w entry.who entry.call entry.answer ≡ Some ch = ap (change_told w entry.who entry.call) (sym same) ∙ told_change w left entry.who entry.call a ch is in
         let there : led_to w entry ≡ changed w ch = ap (λ b. cond b w (led_by w (change_told w entry.who entry.call entry.answer))) (ap is_refusal (sym same) ∙ safe.accepted) ∙ ap (led_by w) makes in
-        let tells : told_by entry ≡ told (fresh_in w) w ch = ap (λ (x : Answer). told_by (record { who = entry.who; call = entry.call; answer = x })) (sym same) ∙ safe.tells in
+        let tells : told_by entry ≡ told_by_change (next_number_in w) w ch = ap (λ (x : Answer). told_by (record { who = entry.who; call = entry.call; answer = x })) (sym same) ∙ safe.tells in
         subst (LeadsOn w entry) (sym there)
         (record {
-          leads = change_leads (fresh_in w) w entry ch s safe.allowed safe.made_by tells;
-          sound = subst (λ n. IsSound n (changed w ch)) (omega (arith, grows (fresh_in w) w ch safe.allowed)) (changed_sound (fresh_in w) w ch s safe.allowed);
+          leads = change_leads (next_number_in w) w entry ch s safe.allowed safe.made_by tells;
+          sound = subst (λ n. IsSound n (changed w ch)) (omega (arith, grows (next_number_in w) w ch safe.allowed)) (changed_sound (next_number_in w) w ch s safe.allowed);
         })
 
     of_plan : (p : Plan) → plan w left entry.who entry.call ≡ p → outcome_of (within w left (stepped w p)) ≡ outcome.Done entry.answer → LeadsOn w entry (led_to w entry)
@@ -161,7 +161,7 @@ entry_leads w left entry s answers = of_plan (plan w left entry.who entry.call) 
               let same : answer.Refused refusal ≡ entry.answer = cc in
               let stays : led_to w entry ≡ w = ap (λ a. cond (is_refusal a) w (led_by w (change_told w entry.who entry.call a))) (sym same) in
               subst (LeadsOn w entry) (sym stays)
-              (record { leads = subst (λ (a : Answer). Leads (fresh_in w) w (record { who = entry.who; call = entry.call; answer = a }) w) same (refused_leads w entry.who entry.call refusal); sound = s })
+              (record { leads = subst (λ (a : Answer). Leads (next_number_in w) w (record { who = entry.who; call = entry.call; answer = a }) w) same (refused_leads w entry.who entry.call refusal); sound = s })
         ] says
     of_plan (plans.Looked look) is says = absurd cc
 

@@ -154,8 +154,8 @@ move_was w entry kept staff n c (Operate m) found =
 move_was w entry kept staff n c (Cancel m) found = cancelled_was w n m.test c (ap (find (has_number n)) (sym m.callbacks) ∙ found)
 
 -- and what was not there is new
-pub row_was : (fresh : ℕ) (w : World) (entry : Entry) (after : World) (n : ℕ) (c : CallbackRow) → (moves : Moves fresh w entry after) → find (has_number n) after.callbacks ≡ Some c → WasRow w n c ⊎ (find (has_number n) moves.new ≡ Some c)
-row_was fresh w entry after n c moves found = of_either (find_either n moves.kept moves.new c (ap (find (has_number n)) (sym moves.callbacks) ∙ found))
+pub row_was : (next_number : ℕ) (w : World) (entry : Entry) (after : World) (n : ℕ) (c : CallbackRow) → (moves : Moves next_number w entry after) → find (has_number n) after.callbacks ≡ Some c → WasRow w n c ⊎ (find (has_number n) moves.new ≡ Some c)
+row_was next_number w entry after n c moves found = of_either (find_either n moves.kept moves.new c (ap (find (has_number n)) (sym moves.callbacks) ∙ found))
   where
     of_either : (find (has_number n) moves.kept ≡ Some c) ⊎ (find (has_number n) moves.new ≡ Some c) → WasRow w n c ⊎ (find (has_number n) moves.new ≡ Some c)
     of_either (inl old) = inl (move_was w entry moves.kept after.workers n c moves.move old)

@@ -35,32 +35,32 @@ use Rattle.tp_model.proofs.Refusals.{numbered_some, made, both, false_true}
 
 -- ---- the rows of jobs
 
-pub length_rows : (objects : List ObjectRow) (fresh : ℕ) (jobs : List Job) → length (rows_of objects fresh jobs) ≡ length jobs
-length_rows objects fresh [] = refl
-length_rows objects fresh (j ∷ js) = omega (arith, length_rows objects (fresh + 1) js)
+pub length_rows : (objects : List ObjectRow) (next_number : ℕ) (jobs : List Job) → length (rows_of objects next_number jobs) ≡ length jobs
+length_rows objects next_number [] = refl
+length_rows objects next_number (j ∷ js) = omega (arith, length_rows objects (next_number + 1) js)
 
-pub numbers_rows : (objects : List ObjectRow) (fresh : ℕ) (jobs : List Job) → numbers_of (rows_of objects fresh jobs) ≡ range_with_len fresh (length jobs)
-numbers_rows objects fresh [] = refl
-numbers_rows objects fresh (j ∷ js) = ap (λ ns. fresh ∷ ns) (numbers_rows objects (fresh + 1) js)
+pub numbers_rows : (objects : List ObjectRow) (next_number : ℕ) (jobs : List Job) → numbers_of (rows_of objects next_number jobs) ≡ range_with_len next_number (length jobs)
+numbers_rows objects next_number [] = refl
+numbers_rows objects next_number (j ∷ js) = ap (λ ns. next_number ∷ ns) (numbers_rows objects (next_number + 1) js)
 
-pub waiting_rows : (objects : List ObjectRow) (fresh : ℕ) (jobs : List Job) → waiting_of (rows_of objects fresh jobs) ≡ range_with_len fresh (length jobs)
-waiting_rows objects fresh [] = refl
-waiting_rows objects fresh (j ∷ js) = ap (λ ns. fresh ∷ ns) (waiting_rows objects (fresh + 1) js)
+pub waiting_rows : (objects : List ObjectRow) (next_number : ℕ) (jobs : List Job) → waiting_of (rows_of objects next_number jobs) ≡ range_with_len next_number (length jobs)
+waiting_rows objects next_number [] = refl
+waiting_rows objects next_number (j ∷ js) = ap (λ ns. next_number ∷ ns) (waiting_rows objects (next_number + 1) js)
 
-pub expecting_rows : (objects : List ObjectRow) (fresh : ℕ) (jobs : List Job) → expecting_of (rows_of objects fresh jobs) ≡ []
-expecting_rows objects fresh [] = refl
-expecting_rows objects fresh (j ∷ js) = expecting_rows objects (fresh + 1) js
+pub expecting_rows : (objects : List ObjectRow) (next_number : ℕ) (jobs : List Job) → expecting_of (rows_of objects next_number jobs) ≡ []
+expecting_rows objects next_number [] = refl
+expecting_rows objects next_number (j ∷ js) = expecting_rows objects (next_number + 1) js
 
 -- none of them runs
-still_rows : (objects : List ObjectRow) (fresh : ℕ) (jobs : List Job) → filter (λ (c : CallbackRow). is_running c.status) (rows_of objects fresh jobs) ≡ []
-still_rows objects fresh [] = refl
-still_rows objects fresh (j ∷ js) = still_rows objects (fresh + 1) js
+still_rows : (objects : List ObjectRow) (next_number : ℕ) (jobs : List Job) → filter (λ (c : CallbackRow). is_running c.status) (rows_of objects next_number jobs) ≡ []
+still_rows objects next_number [] = refl
+still_rows objects next_number (j ∷ js) = still_rows objects (next_number + 1) js
 
-pub running_appended : (cs : List CallbackRow) (objects : List ObjectRow) (fresh : ℕ) (jobs : List Job)
-    → filter (λ (c : CallbackRow). is_running c.status) (cs ++ rows_of objects fresh jobs) ≡ filter (λ (c : CallbackRow). is_running c.status) cs
-running_appended cs objects fresh jobs =
+pub running_appended : (cs : List CallbackRow) (objects : List ObjectRow) (next_number : ℕ) (jobs : List Job)
+    → filter (λ (c : CallbackRow). is_running c.status) (cs ++ rows_of objects next_number jobs) ≡ filter (λ (c : CallbackRow). is_running c.status) cs
+running_appended cs objects next_number jobs =
     let runs : CallbackRow → Bool = λ (c : CallbackRow). is_running c.status in
-    filter-append runs cs (rows_of objects fresh jobs) ∙ ap (λ rs. filter runs cs ++ rs) (still_rows objects fresh jobs) ∙ append-nil (filter runs cs)
+    filter-append runs cs (rows_of objects next_number jobs) ∙ ap (λ rs. filter runs cs ++ rs) (still_rows objects next_number jobs) ∙ append-nil (filter runs cs)
 
 -- ---- what is made of objects that were made
 
@@ -133,9 +133,9 @@ pub record AreSourcesOf (P R : ℕ → Type 0) (s : Sources) : Type 0 where
 abbrev pub AreJobsOf : (ℕ → Type 0) → List Job → Type 0
 AreJobsOf P jobs = AllByRecursion (λ (j : Job). P j.object.0 × (is_completion j.result ≡ false)) jobs
 
-pub new_rows : (P : ℕ → Type 0) (objects : List ObjectRow) (fresh : ℕ) (jobs : List Job) → AreJobsOf P jobs → AreNew fresh (rows_of objects fresh jobs)
-new_rows P objects fresh [] all = tt
-new_rows P objects fresh (j ∷ js) all = (record { numbered = refl; unbegun = refl; plain = λ _. all.0.1 }, new_rows P objects (fresh + 1) js all.1)
+pub new_rows : (P : ℕ → Type 0) (objects : List ObjectRow) (next_number : ℕ) (jobs : List Job) → AreJobsOf P jobs → AreNew next_number (rows_of objects next_number jobs)
+new_rows P objects next_number [] all = tt
+new_rows P objects next_number (j ∷ js) all = (record { numbered = refl; unbegun = refl; plain = λ _. all.0.1 }, new_rows P objects (next_number + 1) js all.1)
 
 pub record IsFiringOf (P R : ℕ → Type 0) (f : Firing) : Type 0 where
   pub sources : AreSourcesOf P R f.sources

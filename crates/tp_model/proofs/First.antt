@@ -12,15 +12,15 @@ use Rattle.tp_model.proofs.Callbacks.{found_bounds, kept_found}
 use Rattle.tp_model.proofs.Refusals.{both, false_true}
 
 -- the first that is kept has the least number of those that pass
-head_least : (p : CallbackRow → Bool) (low fresh : ℕ) (cs : List CallbackRow) (c d : CallbackRow) → IsRising low fresh cs → slice_get (filter p cs) 0 ≡ Some c → find (has_number d.number) cs ≡ Some d → p d ≡ true → c.number ≤ d.number
-head_least p low fresh [] c d r e found passes = absurd cc
-head_least p low fresh (x ∷ cs) c d r e found passes =
+head_least : (p : CallbackRow → Bool) (low next_number : ℕ) (cs : List CallbackRow) (c d : CallbackRow) → IsRising low next_number cs → slice_get (filter p cs) 0 ≡ Some c → find (has_number d.number) cs ≡ Some d → p d ≡ true → c.number ≤ d.number
+head_least p low next_number [] c d r e found passes = absurd cc
+head_least p low next_number (x ∷ cs) c d r e found passes =
     elim (p x) as (λ b. p x ≡ b → slice_get (cond b (x ∷ filter p cs) (filter p cs)) 0 ≡ Some c → c.number ≤ d.number) [
       | true ↦ λ _ h.
           let same : x ≡ c = cc in
-          let from : IsRising x.number fresh (x ∷ cs) = (omega arith, r.1) in
-          subst (λ (y : CallbackRow). y.number ≤ d.number) same (found_bounds d.number x.number fresh d (x ∷ cs) from found).0
-      | false ↦ λ out h. head_least p (x.number + 1) fresh cs c d r.1 h (behind (has_number d.number x) refl out found) passes
+          let from : IsRising x.number next_number (x ∷ cs) = (omega arith, r.1) in
+          subst (λ (y : CallbackRow). y.number ≤ d.number) same (found_bounds d.number x.number next_number d (x ∷ cs) from found).0
+      | false ↦ λ out h. head_least p (x.number + 1) next_number cs c d r.1 h (behind (has_number d.number x) refl out found) passes
     ] refl e
   where
     behind : (b : Bool) → has_number d.number x ≡ b → p x ≡ false → cond (has_number d.number x) (Some x) (find (has_number d.number) cs) ≡ Some d → find (has_number d.number) cs ≡ Some d
@@ -72,12 +72,12 @@ none_of_all High h n l = false_true (sym h)
 none_of_all Normal h n l = false_true (sym n)
 none_of_all Low h n l = false_true (sym l)
 
-module _ (fresh : ℕ) (w : World) (pool : ℕ) (s : IsSound fresh w) where
+module _ (next_number : ℕ) (w : World) (pool : ℕ) (s : IsSound next_number w) where
   kept_first : (of : Priority → Bool) (c : CallbackRow) → slice_get (waiting w pool of) 0 ≡ Some c → (callback_of w c.number ≡ Some c) × ((is_pending_in pool c && of c.priority) ≡ true)
-  kept_first of c e = kept_found (λ x. is_pending_in pool x && of x.priority) 1 fresh w.callbacks 0 c s.numbers e
+  kept_first of c e = kept_found (λ x. is_pending_in pool x && of x.priority) 1 next_number w.callbacks 0 c s.numbers e
 
   least_of : (of : Priority → Bool) (c d : CallbackRow) → slice_get (waiting w pool of) 0 ≡ Some c → callback_of w d.number ≡ Some d → is_pending_in pool d ≡ true → of d.priority ≡ true → c.number ≤ d.number
-  least_of of c d e found pending own = head_least (λ x. is_pending_in pool x && of x.priority) 1 fresh w.callbacks c d s.numbers e found (ap₂ (λ a b. a && b) pending own)
+  least_of of c d e found pending own = head_least (λ x. is_pending_in pool x && of x.priority) 1 next_number w.callbacks c d s.numbers e found (ap₂ (λ a b. a && b) pending own)
 
   none_of : (of : Priority → Bool) (d : CallbackRow) → slice_get (waiting w pool of) 0 ≡ None → callback_of w d.number ≡ Some d → is_pending_in pool d ≡ true → of d.priority ≡ false
   none_of of d none found pending = sym (ap (λ b. b && of d.priority) pending) ∙ none_kept (λ c. is_pending_in pool c && of c.priority) w.callbacks d.number d none found

@@ -39,8 +39,8 @@ use Rattle.tp_model.specs.Support.Remembered.{lives, forget}
 use Rattle.tp_model.proofs.Lists.{filter_filter, find_kept, all_filter}
 use Rattle.tp_model.proofs.Callbacks.{over_not_left, over_not_pending, over_not_running, pending_lives, before_lives, rising_filter, filter_replaced_out, filter_replaced_filter, found_all, find_above}
 use Rattle.tp_model.proofs.Cancelling.{IsPendingTest, cancelled_pending, cancelled_if}
-use Rattle.tp_model.proofs.Preserving.{worker_at}
-use Rattle.tp_model.proofs.Waiting.{AreLeftOver, waits_still}
+use Rattle.tp_model.proofs.Sound.{worker_at}
+use Rattle.tp_model.proofs.Waits.{AreLeftOver, waits_still}
 use Rattle.tp_model.proofs.Refusals.{numbered_some, false_true, and_false}
 use Rattle.tp_model.specs.Groups.{without_members, notices_of}
 
@@ -99,38 +99,38 @@ workers_forget cs worker [] s = tt
 workers_forget cs worker (r ∷ rs) s = (worker_forget cs worker r.pool r.callback s.0, workers_forget cs (worker + 1) rs s.1)
 
 -- what is found among those that live passes a test that none of the others passes
-pub over_forget : (p : CallbackRow → Bool) → ((c : CallbackRow) → lives c ≡ false → p c ≡ false) → (low fresh number : ℕ) (cs : List CallbackRow) → IsRising low fresh cs
+pub over_forget : (p : CallbackRow → Bool) → ((c : CallbackRow) → lives c ≡ false → p c ≡ false) → (low next_number number : ℕ) (cs : List CallbackRow) → IsRising low next_number cs
     → option_map_or p (find (has_number number) (filter lives cs)) false ≡ option_map_or p (find (has_number number) cs) false
-over_forget p over low fresh number [] r = refl
-over_forget p over low fresh number (c ∷ cs) r =
+over_forget p over low next_number number [] r = refl
+over_forget p over low next_number number (c ∷ cs) r =
     elim (lives c) as (λ t. lives c ≡ t → option_map_or p (find (has_number number) (cond t (c ∷ filter lives cs) (filter lives cs))) false ≡ option_map_or p (cond (has_number number c) (Some c) (find (has_number number) cs)) false) [
       | true ↦ λ _. elim (has_number number c) as (λ b. option_map_or p (cond b (Some c) (find (has_number number) (filter lives cs))) false ≡ option_map_or p (cond b (Some c) (find (has_number number) cs)) false) [
         | true ↦ refl
-        | false ↦ over_forget p over (c.number + 1) fresh number cs r.1
+        | false ↦ over_forget p over (c.number + 1) next_number number cs r.1
       ]
-      | false ↦ λ dead. over_forget p over (c.number + 1) fresh number cs r.1 ∙ elim (has_number number c) as (λ b. has_number number c ≡ b → option_map_or p (find (has_number number) cs) false ≡ option_map_or p (cond b (Some c) (find (has_number number) cs)) false) [
+      | false ↦ λ dead. over_forget p over (c.number + 1) next_number number cs r.1 ∙ elim (has_number number c) as (λ b. has_number number c ≡ b → option_map_or p (find (has_number number) cs) false ≡ option_map_or p (cond b (Some c) (find (has_number number) cs)) false) [
         | true ↦ λ e.
             let same : c.number ≡ number = eqb-true c.number number e in
-            ap (λ (o : Option CallbackRow). option_map_or p o false) (find_above number (c.number + 1) fresh cs (omega (arith, same)) r.1) ∙ sym (over c dead)
+            ap (λ (o : Option CallbackRow). option_map_or p o false) (find_above number (c.number + 1) next_number cs (omega (arith, same)) r.1) ∙ sym (over c dead)
         | false ↦ λ _. refl
       ] refl
     ] refl
 
 -- which callbacks may still be run is the same
-left_forget : (fresh : ℕ) (cs : List CallbackRow) → IsRising 1 fresh cs → AreLeftOver cs (filter lives cs)
-left_forget fresh cs rising target n left = sym (over_forget (is_left_of target) over 1 fresh n cs rising) ∙ left
+left_forget : (next_number : ℕ) (cs : List CallbackRow) → IsRising 1 next_number cs → AreLeftOver cs (filter lives cs)
+left_forget next_number cs rising target n left = sym (over_forget (is_left_of target) over 1 next_number n cs rising) ∙ left
   where
     over : (c : CallbackRow) → lives c ≡ false → is_left_of target c ≡ false
     over c dead = ap (λ b. is_of target c && b) (over_not_left c.status dead) ∙ and_false (is_of target c)
 
-pub forget_sound : (fresh : ℕ) (w : World) → IsSound fresh w → IsSound fresh (forget w)
-forget_sound fresh w s =
+pub forget_sound : (next_number : ℕ) (w : World) → IsSound next_number w → IsSound next_number (forget w)
+forget_sound next_number w s =
     record {
-      numbers = rising_filter lives 1 fresh w.callbacks s.numbers;
+      numbers = rising_filter lives 1 next_number w.callbacks s.numbers;
       workers = workers_forget w.callbacks 1 w.workers s.workers;
       object_pools = s.object_pools;
       apart = s.apart;
-      waits = waits_still fresh w.callbacks (filter lives w.callbacks) (left_forget fresh w.callbacks s.numbers) w.waits s.waits;
+      waits = waits_still next_number w.callbacks (filter lives w.callbacks) (left_forget next_number w.callbacks s.numbers) w.waits s.waits;
       timers = s.timers;
       armings = s.armings;
       timeouts = s.timeouts;
@@ -143,25 +143,25 @@ forget_sound fresh w s =
 
 -- ---- running callbacks
 
-busy_row_forget : (fresh : ℕ) (w : World) (number : ℕ) (pool : Option PoolId) (callback : Option ℕ) → IsSound fresh w → numbered w.workers number ≡ Some (record { pool = pool; callback = callback }) → busy_row (forget w) number pool callback ≡ busy_row w number pool callback
-busy_row_forget fresh w number (Some pool) (Some callback) s stands =
+busy_row_forget : (next_number : ℕ) (w : World) (number : ℕ) (pool : Option PoolId) (callback : Option ℕ) → IsSound next_number w → numbered w.workers number ≡ Some (record { pool = pool; callback = callback }) → busy_row (forget w) number pool callback ≡ busy_row w number pool callback
+busy_row_forget next_number w number (Some pool) (Some callback) s stands =
     let at = numbered_some w.workers number (record { pool = Some pool; callback = Some callback }) stands in
     let on : RunsOn w.callbacks (1 + (number - 1)) pool callback = worker_at w.callbacks 1 (number - 1) w.workers (record { pool = Some pool; callback = Some callback }) s.workers at.0 in
     ap (option_map (λ (c : CallbackRow). record { worker = number; pool = pool; callback = c })) (find_kept (has_number callback) lives on.callback (ap is_live on.runs) w.callbacks on.found ∙ sym on.found)
-busy_row_forget fresh w number (Some pool) None s stands = refl
-busy_row_forget fresh w number None callback s stands = refl
+busy_row_forget next_number w number (Some pool) None s stands = refl
+busy_row_forget next_number w number None callback s stands = refl
 
-busy_in_forget : (fresh : ℕ) (w : World) (number : ℕ) (row : Option WorkerRow) → IsSound fresh w → numbered w.workers number ≡ row → busy_in (forget w) number row ≡ busy_in w number row
-busy_in_forget fresh w number None s stands = refl
-busy_in_forget fresh w number (Some row) s stands = busy_row_forget fresh w number row.pool row.callback s stands
+busy_in_forget : (next_number : ℕ) (w : World) (number : ℕ) (row : Option WorkerRow) → IsSound next_number w → numbered w.workers number ≡ row → busy_in (forget w) number row ≡ busy_in w number row
+busy_in_forget next_number w number None s stands = refl
+busy_in_forget next_number w number (Some row) s stands = busy_row_forget next_number w number row.pool row.callback s stands
 
-pub busy_forget : (fresh : ℕ) (w : World) (who : Who) → IsSound fresh w → busy_of (forget w) who ≡ busy_of w who
-busy_forget fresh w (Client number) s = refl
-busy_forget fresh w (Worker number) s = busy_in_forget fresh w number (numbered w.workers number) s refl
+pub busy_forget : (next_number : ℕ) (w : World) (who : Who) → IsSound next_number w → busy_of (forget w) who ≡ busy_of w who
+busy_forget next_number w (Client number) s = refl
+busy_forget next_number w (Worker number) s = busy_in_forget next_number w number (numbered w.workers number) s refl
 
 -- the plan of a call that only a running callback makes
-pub in_callback_forget : (fresh : ℕ) (w : World) (who : Who) (rs : List (Bool × Refusal)) (by : Option Busy → Plan) → IsSound fresh w → unless_refused (first_refusal rs) (by (busy_of (forget w) who)) ≡ unless_refused (first_refusal rs) (by (busy_of w who))
-in_callback_forget fresh w who rs by s = ap (λ b. unless_refused (first_refusal rs) (by b)) (busy_forget fresh w who s)
+pub in_callback_forget : (next_number : ℕ) (w : World) (who : Who) (rs : List (Bool × Refusal)) (by : Option Busy → Plan) → IsSound next_number w → unless_refused (first_refusal rs) (by (busy_of (forget w) who)) ≡ unless_refused (first_refusal rs) (by (busy_of w who))
+in_callback_forget next_number w who rs by s = ap (λ b. unless_refused (first_refusal rs) (by b)) (busy_forget next_number w who s)
 
 -- ---- waits
 
@@ -224,14 +224,14 @@ release_forget w object None = live_forgotten w
 release_forget w object (Some row) = live_forgotten (release_object w object (Some row))
 
 -- a live row in the place of another
-replaced_forget : (fresh : ℕ) (w : World) (r c : CallbackRow) → IsSound fresh w → r.number ≡ c.number → find (has_number c.number) w.callbacks ≡ Some c → lives c ≡ true → filter lives (replaced r (filter lives w.callbacks)) ≡ filter lives (replaced r w.callbacks)
-replaced_forget fresh w r c s same found living =
-    filter_replaced_filter lives r w.callbacks (found_all (λ x. lives x ≡ true) r.number c 1 fresh w.callbacks s.numbers (ap (λ n. find (has_number n) w.callbacks) same ∙ found) living)
+replaced_forget : (next_number : ℕ) (w : World) (r c : CallbackRow) → IsSound next_number w → r.number ≡ c.number → find (has_number c.number) w.callbacks ≡ Some c → lives c ≡ true → filter lives (replaced r (filter lives w.callbacks)) ≡ filter lives (replaced r w.callbacks)
+replaced_forget next_number w r c s same found living =
+    filter_replaced_filter lives r w.callbacks (found_all (λ x. lives x ≡ true) r.number c 1 next_number w.callbacks s.numbers (ap (λ n. find (has_number n) w.callbacks) same ∙ found) living)
 
-marked_forget : (fresh : ℕ) (w : World) (mark : Mark) (c : CallbackRow) → IsSound fresh w → find (has_number c.number) w.callbacks ≡ Some c → lives c ≡ true → filter lives (replaced (marked mark c) (filter lives w.callbacks)) ≡ filter lives (replaced (marked mark c) w.callbacks)
-marked_forget fresh w Long c s found living = replaced_forget fresh w (marked Long c) c s refl found living
-marked_forget fresh w Loose c s found living = replaced_forget fresh w (marked Loose c) c s refl found living
-marked_forget fresh w (Asks kind action) c s found living = replaced_forget fresh w (marked (Asks kind action) c) c s refl found living
+marked_forget : (next_number : ℕ) (w : World) (mark : Mark) (c : CallbackRow) → IsSound next_number w → find (has_number c.number) w.callbacks ≡ Some c → lives c ≡ true → filter lives (replaced (marked mark c) (filter lives w.callbacks)) ≡ filter lives (replaced (marked mark c) w.callbacks)
+marked_forget next_number w Long c s found living = replaced_forget next_number w (marked Long c) c s refl found living
+marked_forget next_number w Loose c s found living = replaced_forget next_number w (marked Loose c) c s refl found living
+marked_forget next_number w (Asks kind action) c s found living = replaced_forget next_number w (marked (Asks kind action) c) c s refl found living
 
 -- callbacks appended
 appended_forget : (w : World) (cs : List CallbackRow) → forget (record w { callbacks = filter lives w.callbacks ++ cs }) ≡ forget (record w { callbacks = w.callbacks ++ cs })
@@ -252,32 +252,32 @@ wait_forget w who Free = of_wait (wait_of w who)
     of_wait None = live_forgotten (without_wait w who)
     of_wait (Some b) = of_target b.target
 
-pub changed_forget : (fresh : ℕ) (w : World) (ch : Change) → IsSound fresh w → IsAllowed fresh w ch → forget (changed (forget w) ch) ≡ forget (changed w ch)
-changed_forget fresh w change.Keep s a = live_forgotten w
-changed_forget fresh w change.CreatePool s a = live_forgotten (with_new_pool w)
-changed_forget fresh w (change.ChangePool pool how) s a = change_pool_forget w pool.0 how (slice_get w.pools pool.0)
-changed_forget fresh w (change.CreateObject row) s a = live_forgotten (with_object w row)
-changed_forget fresh w (change.ReleaseObject object) s a = release_forget w object (numbered w.objects object.0)
-changed_forget fresh w (change.QueueCallback c) s a = appended_forget w (c ∷ [])
-changed_forget fresh w (change.ExpectCallback c) s a = appended_forget w (c ∷ [])
-changed_forget fresh w (change.Operate c how) s a =
+pub changed_forget : (next_number : ℕ) (w : World) (ch : Change) → IsSound next_number w → IsAllowed next_number w ch → forget (changed (forget w) ch) ≡ forget (changed w ch)
+changed_forget next_number w change.Keep s a = live_forgotten w
+changed_forget next_number w change.CreatePool s a = live_forgotten (with_new_pool w)
+changed_forget next_number w (change.ChangePool pool how) s a = change_pool_forget w pool.0 how (slice_get w.pools pool.0)
+changed_forget next_number w (change.CreateObject row) s a = live_forgotten (with_object w row)
+changed_forget next_number w (change.ReleaseObject object) s a = release_forget w object (numbered w.objects object.0)
+changed_forget next_number w (change.QueueCallback c) s a = appended_forget w (c ∷ [])
+changed_forget next_number w (change.ExpectCallback c) s a = appended_forget w (c ∷ [])
+changed_forget next_number w (change.Operate c how) s a =
     let r : CallbackRow = operated how c in
-    as_live w (replaced r (filter lives w.callbacks)) (replaced r w.callbacks) (replaced_forget fresh w r c s refl a.found (before_lives how c.status a.status))
-changed_forget fresh w (change.Fire trigger first count) s a =
+    as_live w (replaced r (filter lives w.callbacks)) (replaced r w.callbacks) (replaced_forget next_number w r c s refl a.found (before_lives how c.status a.status))
+changed_forget next_number w (change.Fire trigger first count) s a =
     let f : Firing = firing trigger (sources_of w) in
     appended_forget (record w { settings = f.sources.settings; armings = f.sources.armings; kernels = f.sources.kernels; now = f.sources.now }) (rows_of w.objects first f.jobs)
-changed_forget fresh w (change.CreateKernel state) s a = live_forgotten (changed w (change.CreateKernel state))
-changed_forget fresh w (change.ChangeKernel kernel how) s a = live_forgotten (changed w (change.ChangeKernel kernel how))
-changed_forget fresh w (change.Attach worker pool) s a = live_forgotten (changed w (change.Attach worker pool))
-changed_forget fresh w (change.Detach by) s a = live_forgotten (changed w (change.Detach by))
-changed_forget fresh w (change.Take by c) s a =
+changed_forget next_number w (change.CreateKernel state) s a = live_forgotten (changed w (change.CreateKernel state))
+changed_forget next_number w (change.ChangeKernel kernel how) s a = live_forgotten (changed w (change.ChangeKernel kernel how))
+changed_forget next_number w (change.Attach worker pool) s a = live_forgotten (changed w (change.Attach worker pool))
+changed_forget next_number w (change.Detach by) s a = live_forgotten (changed w (change.Detach by))
+changed_forget next_number w (change.Take by c) s a =
     let r : CallbackRow = taken c by.worker in
     as_live (with_worker w by.worker (record { pool = Some by.pool; callback = Some c.number })) (replaced r (filter lives w.callbacks)) (replaced r w.callbacks)
-    (replaced_forget fresh w r c s refl a.found (pending_lives c.status a.pending))
-changed_forget fresh w (change.Mark by mark) s a =
+    (replaced_forget next_number w r c s refl a.found (pending_lives c.status a.pending))
+changed_forget next_number w (change.Mark by mark) s a =
     let r : CallbackRow = marked mark by.callback in
-    as_live w (replaced r (filter lives w.callbacks)) (replaced r w.callbacks) (marked_forget fresh w mark by.callback s a.runs.found (ap is_live a.runs.running))
-changed_forget fresh w (change.Return by words first count) s a =
+    as_live w (replaced r (filter lives w.callbacks)) (replaced r w.callbacks) (marked_forget next_number w mark by.callback s a.runs.found (ap is_live a.runs.running))
+changed_forget next_number w (change.Return by words first count) s a =
     let r : CallbackRow = returned by.callback in
     let f : Firing = returning w words (slots_of by.callback.status) in
     let rows : List CallbackRow = rows_of w.objects first f.jobs in
@@ -286,15 +286,15 @@ changed_forget fresh w (change.Return by words first count) s a =
     as_live (record (with_worker w by.worker (record { pool = Some by.pool; callback = None })) { settings = f.sources.settings; armings = f.sources.armings; kernels = f.sources.kernels; now = f.sources.now })
     (replaced r (filter lives w.callbacks) ++ rows) (replaced r w.callbacks ++ rows)
     (filter-append lives (replaced r (filter lives w.callbacks)) rows ∙ ap (λ t. t ++ filter lives rows) same ∙ sym (filter-append lives (replaced r w.callbacks) rows))
-changed_forget fresh w (change.BeginWait who target cancel) s a =
+changed_forget next_number w (change.BeginWait who target cancel) s a =
     ap₂ (λ cs covered. record w { callbacks = cs; waits = w.waits ++ (record { actor = who; target = target; covered = covered; notices = []; cleanup = 0 }) ∷ [] })
     (cancel_forget lives (is_cancelled_by target cancel) (cancelled_pending target cancel) (λ c e. e) w.callbacks) (covered_forget w target cancel)
-changed_forget fresh w (change.BeginClose who group cancel context notices) s a =
+changed_forget next_number w (change.BeginClose who group cancel context notices) s a =
     let v : World = without_members w group.0 in
     ap₂ (λ cs covered. record v { callbacks = cs; waits = w.waits ++ (record { actor = who; target = Group group; covered = covered; notices = notices_of w group.0 cancel; cleanup = context }) ∷ [] })
     (cancel_forget lives (is_cancelled_by (Group group) cancel) (cancelled_pending (Group group) cancel) (λ c e. e) w.callbacks) (covered_forget w (Group group) cancel)
-changed_forget fresh w change.CreateGroup s a = live_forgotten (changed w change.CreateGroup)
-changed_forget fresh w (change.CloseGroup group) s a = live_forgotten (changed w (change.CloseGroup group))
-changed_forget fresh w (change.GiveNotice who) s a = live_forgotten (changed w (change.GiveNotice who))
-changed_forget fresh w (change.EndWait who how) s a = wait_forget w who how
-changed_forget fresh w (change.Finish client) s a = live_forgotten (with_client w client finished)
+changed_forget next_number w change.CreateGroup s a = live_forgotten (changed w change.CreateGroup)
+changed_forget next_number w (change.CloseGroup group) s a = live_forgotten (changed w (change.CloseGroup group))
+changed_forget next_number w (change.GiveNotice who) s a = live_forgotten (changed w (change.GiveNotice who))
+changed_forget next_number w (change.EndWait who how) s a = wait_forget w who how
+changed_forget next_number w (change.Finish client) s a = live_forgotten (with_client w client finished)

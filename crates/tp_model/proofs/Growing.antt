@@ -26,31 +26,31 @@ released : (w : World) (object : ObjectId) (row : Option ObjectRow) → length (
 released w object None = omega arith
 released w object (Some row) = omega arith
 
-pub grows : (fresh : ℕ) (w : World) (ch : Change) → IsAllowed fresh w ch → length (changed w ch).callbacks ≡ length w.callbacks + news ch
-grows fresh w change.Keep a = omega arith
-grows fresh w change.CreatePool a = omega arith
-grows fresh w (change.ChangePool pool how) a = same_callbacks w pool.0 how (slice_get w.pools pool.0)
-grows fresh w (change.CreateObject row) a = omega arith
-grows fresh w (change.ReleaseObject object) a = released w object (numbered w.objects object.0)
-grows fresh w (change.QueueCallback c) a = length-append w.callbacks (c ∷ [])
-grows fresh w (change.ExpectCallback c) a = length-append w.callbacks (c ∷ [])
-grows fresh w (change.Operate c how) a = omega (arith, length_replaced (operated how c) w.callbacks)
-grows fresh w (change.Fire trigger first count) a =
+pub grows : (next_number : ℕ) (w : World) (ch : Change) → IsAllowed next_number w ch → length (changed w ch).callbacks ≡ length w.callbacks + news ch
+grows next_number w change.Keep a = omega arith
+grows next_number w change.CreatePool a = omega arith
+grows next_number w (change.ChangePool pool how) a = same_callbacks w pool.0 how (slice_get w.pools pool.0)
+grows next_number w (change.CreateObject row) a = omega arith
+grows next_number w (change.ReleaseObject object) a = released w object (numbered w.objects object.0)
+grows next_number w (change.QueueCallback c) a = length-append w.callbacks (c ∷ [])
+grows next_number w (change.ExpectCallback c) a = length-append w.callbacks (c ∷ [])
+grows next_number w (change.Operate c how) a = omega (arith, length_replaced (operated how c) w.callbacks)
+grows next_number w (change.Fire trigger first count) a =
     let jobs : List Job = (firing trigger (sources_of w)).jobs in
     omega (arith, length-append w.callbacks (rows_of w.objects first jobs), length_rows w.objects first jobs, a.counted)
-grows fresh w (change.CreateKernel state) a = omega arith
-grows fresh w (change.ChangeKernel kernel how) a = omega arith
-grows fresh w (change.Attach worker pool) a = omega arith
-grows fresh w (change.Detach by) a = omega arith
-grows fresh w (change.Take by c) a = omega (arith, length_replaced (taken c by.worker) w.callbacks)
-grows fresh w (change.Mark by mark) a = omega (arith, length_replaced (marked mark by.callback) w.callbacks)
-grows fresh w (change.Return by words first count) a =
+grows next_number w (change.CreateKernel state) a = omega arith
+grows next_number w (change.ChangeKernel kernel how) a = omega arith
+grows next_number w (change.Attach worker pool) a = omega arith
+grows next_number w (change.Detach by) a = omega arith
+grows next_number w (change.Take by c) a = omega (arith, length_replaced (taken c by.worker) w.callbacks)
+grows next_number w (change.Mark by mark) a = omega (arith, length_replaced (marked mark by.callback) w.callbacks)
+grows next_number w (change.Return by words first count) a =
     let jobs : List Job = (returning w words (slots_of by.callback.status)).jobs in
     omega (arith, length-append (replaced (returned by.callback) w.callbacks) (rows_of w.objects first jobs), length_rows w.objects first jobs, length_replaced (returned by.callback) w.callbacks, a.counted)
-grows fresh w (change.BeginWait who target cancel) a = omega (arith, length_cancelled (is_cancelled_by target cancel) w.callbacks)
-grows fresh w change.CreateGroup a = omega arith
-grows fresh w (change.CloseGroup group) a = omega arith
-grows fresh w (change.BeginClose who group cancel context notices) a = omega (arith, length_cancelled (is_cancelled_by (Group group) cancel) w.callbacks)
-grows fresh w (change.GiveNotice who) a = omega arith
-grows fresh w (change.EndWait who how) a = omega arith
-grows fresh w (change.Finish client) a = omega arith
+grows next_number w (change.BeginWait who target cancel) a = omega (arith, length_cancelled (is_cancelled_by target cancel) w.callbacks)
+grows next_number w change.CreateGroup a = omega arith
+grows next_number w (change.CloseGroup group) a = omega arith
+grows next_number w (change.BeginClose who group cancel context notices) a = omega (arith, length_cancelled (is_cancelled_by (Group group) cancel) w.callbacks)
+grows next_number w (change.GiveNotice who) a = omega arith
+grows next_number w (change.EndWait who how) a = omega arith
+grows next_number w (change.Finish client) a = omega arith

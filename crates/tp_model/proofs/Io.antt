@@ -144,10 +144,10 @@ module _ (w : World) (entry : Entry) (kept : List CallbackRow) (staff : List Wor
 -- ---- callbacks that are made
 
 -- what is made has higher numbers
-starts_above : (fresh n : ℕ) (new : List CallbackRow) → n < fresh → AreNew fresh new → starts n (expecting_of new) ≡ []
-starts_above fresh n [] below rows = refl
-starts_above fresh n (c ∷ new) below rows =
-    let rest : starts n (expecting_of new) ≡ [] = starts_above (fresh + 1) n new (omega (arith, below)) rows.1 in
+starts_above : (next_number n : ℕ) (new : List CallbackRow) → n < next_number → AreNew next_number new → starts n (expecting_of new) ≡ []
+starts_above next_number n [] below rows = refl
+starts_above next_number n (c ∷ new) below rows =
+    let rest : starts n (expecting_of new) ≡ [] = starts_above (next_number + 1) n new (omega (arith, below)) rows.1 in
     elim (is_expected c.status) as (λ b. starts n (numbers_with b) ≡ []) [
       | true ↦ ap (λ b. happened b) other ∙ rest
       | false ↦ rest
@@ -162,14 +162,14 @@ starts_above fresh n (c ∷ new) below rows =
     happened : Bool → List Happening
     happened b = map (λ m. Starts) (cond b (c.number ∷ filter (λ m. m == n) (expecting_of new)) (filter (λ m. m == n) (expecting_of new)))
 
-new_came : (fresh n : ℕ) (new : List CallbackRow) → AreNew fresh new → Came (find (has_number n) new) (starts n (expecting_of new))
-new_came fresh n [] rows = refl
-new_came fresh n (c ∷ new) rows =
+new_came : (next_number n : ℕ) (new : List CallbackRow) → AreNew next_number new → Came (find (has_number n) new) (starts n (expecting_of new))
+new_came next_number n [] rows = refl
+new_came next_number n (c ∷ new) rows =
     elim (has_number n c) as (λ b. has_number n c ≡ b → Came (cond b (Some c) (find (has_number n) new)) (starts n (expecting_of (c ∷ new)))) [
       | true ↦ λ e.
           let is : c.number ≡ n = eqb-true c.number n e in
-          own e (starts_above (fresh + 1) n new (omega (arith, is, rows.0.numbered)) rows.1) c.status refl rows.0.unbegun
-      | false ↦ λ e. subst (Came (find (has_number n) new)) (sym (others e (is_expected c.status) refl)) (new_came (fresh + 1) n new rows.1)
+          own e (starts_above (next_number + 1) n new (omega (arith, is, rows.0.numbered)) rows.1) c.status refl rows.0.unbegun
+      | false ↦ λ e. subst (Came (find (has_number n) new)) (sym (others e (is_expected c.status) refl)) (new_came (next_number + 1) n new rows.1)
     ] refl
   where
     numbers_with : Bool → List ℕ
@@ -201,8 +201,8 @@ on_their_way_more before w x after rising on moves n =
     (subst (λ ns. Came (find (has_number n) (moves.kept ++ moves.new)) (happenings n before ++ (starts n ns ++ happens_to n (event_by x)))) (sym moves.started)
     (of_kept (find (has_number n) moves.kept) refl (move_came w x moves.kept after.workers n (happenings n before) moves.move (on n)))))
   where
-    fresh : ℕ
-    fresh = length w.callbacks + 1
+    next_number : ℕ
+    next_number = length w.callbacks + 1
 
     behind : (cs ds : List CallbackRow) → find (has_number n) cs ≡ None → find (has_number n) (cs ++ ds) ≡ find (has_number n) ds
     behind [] ds e = refl
@@ -224,8 +224,8 @@ on_their_way_more before w x after rising on moves n =
         → Came (find (has_number n) (moves.kept ++ moves.new)) (happenings n before ++ (starts n (expecting_of moves.new) ++ happens_to n (event_by x)))
     of_kept (Some c) is came =
         let was : WasRow w n c = move_was w x moves.kept after.workers n c moves.move is in
-        let below = found_bounds n 1 fresh was.old w.callbacks rising was.found in
-        let none : starts n (expecting_of moves.new) ≡ [] = starts_above fresh n moves.new below.1 moves.rows in
+        let below = found_bounds n 1 next_number was.old w.callbacks rising was.found in
+        let none : starts n (expecting_of moves.new) ≡ [] = starts_above next_number n moves.new below.1 moves.rows in
         subst (λ l. Came (find (has_number n) (moves.kept ++ moves.new)) (happenings n before ++ (l ++ happens_to n (event_by x)))) (sym none)
         (subst (λ o. Came o (happenings n before ++ happens_to n (event_by x))) (is ∙ sym (find_front n moves.kept moves.new c is)) came)
     of_kept None is came =
@@ -233,7 +233,7 @@ on_their_way_more before w x after rising on moves n =
         subst (λ l. Came (find (has_number n) (moves.kept ++ moves.new)) (l ++ (starts n (expecting_of moves.new) ++ happens_to n (event_by x)))) (sym (none_front (happenings n before) (happens_to n (event_by x)) nothing))
         (subst (λ l. Came (find (has_number n) (moves.kept ++ moves.new)) (starts n (expecting_of moves.new) ++ l)) (sym (none_back (happenings n before) (happens_to n (event_by x)) nothing))
         (subst (Came (find (has_number n) (moves.kept ++ moves.new))) (sym (append-nil (starts n (expecting_of moves.new))))
-        (subst (λ o. Came o (starts n (expecting_of moves.new))) (sym (behind moves.kept moves.new is)) (new_came fresh n moves.new moves.rows))))
+        (subst (λ o. Came o (starts n (expecting_of moves.new))) (sym (behind moves.kept moves.new is)) (new_came next_number n moves.new moves.rows))))
 
 -- ---- what the law says
 

@@ -9,8 +9,8 @@ use Rattle.tp_model.proofs.Refusals.{both, false_true, same_actor_is}
 use Rattle.tp_model.proofs.Fates.{taken_from, pending_held, pending_left}
 use Rattle.tp_model.specs.Counts.{has_number, is_pending, next}
 use Rattle.tp_base.specs.declared.rows.CallbackRow.{CallbackRow}
-use Rattle.tp_model.proofs.Readying.{AreReady, takes_ready, are_ready_more}
-use Rattle.tp_model.proofs.Promising.{Promises, promises_more, run_at, NoneHeld, GoesOn, unheld, freed, Promised}
+use Rattle.tp_model.proofs.Ready.{AreReady, takes_ready, are_ready_more}
+use Rattle.tp_model.proofs.Covered.{Promises, promises_more, run_at, NoneHeld, GoesOn, unheld, freed, Promised}
 use Rattle.tp_model.specs.Laws.Covered.{AreCovered, AreClosed, is_spoken_for, is_spoken_of, lets_go, end_in, ends, IsCovered, AllLetGo, returns, loosens, NoneTakes}
 use Rattle.tp_model.proofs.Running.{runs_on_more, AreRunning, IsRunning}
 use Rattle.tp_model.proofs.Places.{no_place, any_either, find_behind}
@@ -28,8 +28,8 @@ use Rattle.tp_base.specs.declared.answers.ActionKind.{ActionKind}
 use Rattle.tp_model.proofs.Acting.{AreActing, are_acting_more, return_tells, at_most_one}
 use Rattle.tp_model.specs.Laws.Once.{AreOnce}
 use Rattle.tp_model.specs.Laws.Maximum.{IsWithinMaximum}
-use Rattle.tp_model.proofs.Preserving.{opening_sound}
-use Rattle.tp_model.proofs.Entries.{fresh_in, LeadsOn, entry_leads, IsKept, kept_to_end, kept_to_entry, Reached}
+use Rattle.tp_model.proofs.Sound.{opening_sound}
+use Rattle.tp_model.proofs.Entries.{next_number_in, LeadsOn, entry_leads, IsKept, kept_to_end, kept_to_entry, Reached}
 use Rattle.tp_model.proofs.Once.{AgreesAfter, agrees_on, takes_uncancelled, made_in_order, taken_once, left_untaken, made_are}
 use Rattle.tp_model.specs.Laws.Io.{AreOperated}
 use Rattle.tp_model.proofs.Io.{AreOnTheirWay, on_their_way_more, are_operated_after}
@@ -39,7 +39,7 @@ use Rattle.tp_model.proofs.Maximum.{IsStaffed, is_staffed_on, takes_below, openi
 use Rattle.tp_base.specs.declared.rows.WaitTarget.{WaitTarget}
 use Rattle.tp_base.specs.declared.ids.GroupId.{GroupId}
 use Rattle.tp_model.specs.Laws.Notices.{AreNoticed, IsFront, IsSettled, given, given_by, notices_due, due_to}
-use Rattle.tp_model.proofs.Noticing.{IsNoticing, AreDue, AreNumbered, AreNoticing, AreClosings, due_more, numbered_more, noticing_more, closings_more, AreClosedMade, closed_more}
+use Rattle.tp_model.proofs.Notices.{IsNoticing, AreDue, AreNumbered, AreNoticing, AreClosings, due_more, numbered_more, noticing_more, closings_more, AreClosedMade, closed_more}
 use Rattle.tp_model.proofs.Tied.{IsTied, tied_more}
 use Rattle.tp_model.specs.Support.Moves.{left_notices, GivesNotice, WaitsMove, End, Keep, Begin, Notify}
 use Rattle.tp_model.specs.Support.Told.{notice_at}
@@ -49,7 +49,7 @@ use Rattle.tp_model.proofs.Lists.{find_all}
 
 -- what holds of the world after a legal history
 pub record Holds (limits : Limits) (history : List Entry) (w : World) : Type 0 where
-  pub sound : IsSound (fresh_in w) w
+  pub sound : IsSound (next_number_in w) w
   pub agrees : AgreesAfter history w
   pub staffed : IsStaffed limits history w
   pub runs : AreRunning history w
@@ -101,7 +101,7 @@ keeps limits before w left entry h told =
       sound = on.sound;
       agrees = agrees_on before w entry (led_to w entry) h.sound.numbers h.agrees on.leads.moves;
       staffed = is_staffed_on limits before w entry (led_to w entry) h.sound h.staffed on.leads;
-      runs = runs_on_more (fresh_in w) before w entry (led_to w entry) h.runs on.leads.moves;
+      runs = runs_on_more (next_number_in w) before w entry (led_to w entry) h.runs on.leads.moves;
       ready = are_ready_more before w entry (led_to w entry) h.sound.numbers h.agrees h.ready on.leads;
       promises = promises_more before w entry (led_to w entry) h.sound.numbers h.agrees h.ready h.tied on.leads
           (λ n c found. find_all (IsCallbackSound (led_to w entry).objects) (has_number n) c (led_to w entry).callbacks on.sound.callback_objects found) h.promises;
@@ -111,7 +111,7 @@ keeps limits before w left entry h told =
       numbered = numbered_more before w entry (led_to w entry) on.leads h.numbered;
       noticing = noticing_more before w entry (led_to w entry) on.leads h.sound.notices h.due h.noticing;
       closings = closings_more before w entry (led_to w entry) on.leads h.closings;
-      acting = are_acting_more (fresh_in w) before w entry (led_to w entry) on.leads.moves h.acting;
+      acting = are_acting_more (next_number_in w) before w entry (led_to w entry) on.leads.moves h.acting;
       armed = armed_more before w entry (led_to w entry) h.sound on.sound h.agrees h.armed on.leads;
       on_their_way = on_their_way_more before w entry (led_to w entry) h.sound.numbers h.on_their_way on.leads.moves;
     }
@@ -359,7 +359,7 @@ module _ (limits : Limits) (capacity : ℕ) (history : List Entry) (legal : IsLe
         once = once;
         told = λ before between later taken return kind split takes quiet returned.
             let r = at_entry (before ++ taken ∷ between) later return split in
-            return_tells (fresh_in r.world) (before ++ taken ∷ between) r.world return (led_to r.world return) (leads_on (before ++ taken ∷ between) return r).leads.moves taken.who between kind
+            return_tells (next_number_in r.world) (before ++ taken ∷ between) r.world return (led_to r.world return) (leads_on (before ++ taken ∷ between) return r).leads.moves taken.who between kind
             (r.holds.acting before between taken refl takes quiet) returned;
       }
     where
@@ -381,4 +381,4 @@ module _ (limits : Limits) (capacity : ℕ) (history : List Entry) (legal : IsLe
 
   -- what a pool's worker takes next comes first of what is pending there
   pub next_is_first : (pool : ℕ) → IsNextOrNone (after limits history) pool (next (after limits history) pool)
-  next_is_first pool = next_first (fresh_in (after limits history)) (after limits history) pool at_end.sound
+  next_is_first pool = next_first (next_number_in (after limits history)) (after limits history) pool at_end.sound

@@ -2,6 +2,7 @@ pub mod Acting
 mod ActionExamples
 pub mod Actions
 pub mod Actors
+pub mod Allowed
 pub mod Armed
 pub mod Arming
 mod ArmingExamples
@@ -9,6 +10,7 @@ pub mod Callbacks
 pub mod Calls
 pub mod Cancelling
 pub mod Costs
+pub mod Covered
 pub mod Due
 pub mod Entries
 mod Examples
@@ -16,33 +18,31 @@ pub mod Fates
 pub mod Firing
 pub mod First
 pub mod Forgetting
-pub mod Growing
-mod LawExamples
-pub mod Io
 mod GroupExamples
+pub mod Growing
+pub mod Io
 mod IoExamples
 pub mod Kernels
+mod LawExamples
 pub mod Laws
 pub mod Lists
 pub mod Maximum
-pub mod Meeting
 pub mod Members
-pub mod Moving
-pub mod Noticing
+pub mod Moves
+pub mod Notices
 pub mod Once
 pub mod Performing
 pub mod Places
-pub mod Planning
-pub mod Preserving
-pub mod Promising
-pub mod Ranging
-pub mod Readying
+pub mod Ranged
+pub mod Ready
 pub mod Refusals
 pub mod Releasing
+pub mod Remembered
 pub mod Running
+pub mod Sound
 pub mod Steps
 pub mod Takings
 pub mod Tied
 mod TimerExamples
 mod WaitExamples
-pub mod Waiting
+pub mod Waits

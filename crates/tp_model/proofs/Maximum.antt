@@ -319,9 +319,9 @@ module _ (limits : Limits) (before : List Entry) (w : World) (entry : Entry) (ke
           omega (arith, was, now, ran, running_callbacks (replaced d w.callbacks) m.callbacks pool, length_filter_replaced (is_running_in pool) d m.callback 1 (length w.callbacks + 1) w.callbacks s.numbers m.found)
 
 -- none of the callbacks that are made runs
-none_run : (pool fresh : ℕ) (new : List CallbackRow) → AreNew fresh new → length (filter (is_running_in pool) new) ≡ 0
-none_run pool fresh [] rows = refl
-none_run pool fresh (c ∷ cs) rows = ap (λ b. length (cond (b && (c.pool.0 == pool)) (c ∷ filter (is_running_in pool) cs) (filter (is_running_in pool) cs))) (new_still c.status rows.0.unbegun) ∙ none_run pool (fresh + 1) cs rows.1
+none_run : (pool next_number : ℕ) (new : List CallbackRow) → AreNew next_number new → length (filter (is_running_in pool) new) ≡ 0
+none_run pool next_number [] rows = refl
+none_run pool next_number (c ∷ cs) rows = ap (λ b. length (cond (b && (c.pool.0 == pool)) (c ∷ filter (is_running_in pool) cs) (filter (is_running_in pool) cs))) (new_still c.status rows.0.unbegun) ∙ none_run pool (next_number + 1) cs rows.1
   where
     new_still : (status : Status) → is_new status ≡ true → is_running status ≡ false
     new_still (Running worker associated slots) e = cc

@@ -135,8 +135,8 @@ module _ (made taken cancelled : List ℕ) (count : ℕ) (cs : List CallbackRow)
       }
 
   -- one callback more, which has not begun
-  agrees_made : (c : CallbackRow) (fresh : ℕ) → Agrees made taken cancelled count cs → fresh ≡ length cs + 1 → c.number ≡ fresh → is_new c.status ≡ true → Agrees (made ++ c.number ∷ []) taken cancelled count (cs ++ c ∷ [])
-  agrees_made c fresh a is number new =
+  agrees_made : (c : CallbackRow) (next_number : ℕ) → Agrees made taken cancelled count cs → next_number ≡ length cs + 1 → c.number ≡ next_number → is_new c.status ≡ true → Agrees (made ++ c.number ∷ []) taken cancelled count (cs ++ c ∷ [])
+  agrees_made c next_number a is number new =
       record {
         in_order = ap (λ t. t ++ c.number ∷ []) a.in_order ∙ ap (λ n. range_with_len 1 (length cs) ++ n ∷ []) (omega (arith, is, number)) ∙ range_more 1 (length cs) ∙ ap (range_with_len 1) (sym (length-append cs (c ∷ [])));
         taken_begun = λ n. a.taken_begun n ∙ sym (begun_appended n cs c (new_unbegun c.status new));
@@ -146,7 +146,7 @@ module _ (made taken cancelled : List ℕ) (count : ℕ) (cs : List CallbackRow)
       }
 
   -- a row in place of the one of its number: what the others agree on stays
-  module _ (fresh : ℕ) (c d : CallbackRow) (rising : IsRising 1 fresh cs) (found : find (has_number d.number) cs ≡ Some c) where
+  module _ (next_number : ℕ) (c d : CallbackRow) (rising : IsRising 1 next_number cs) (found : find (has_number d.number) cs ≡ Some c) where
     replaced_cancelled : ((n : ℕ) → is_among n cancelled ≡ true → (x : CallbackRow) × (find (has_number n) cs ≡ Some x) × (is_cancelled x.status ≡ true)) → (is_cancelled c.status ≡ true → is_cancelled d.status ≡ true)
         → (n : ℕ) → is_among n cancelled ≡ true → (x : CallbackRow) × (find (has_number n) (replaced d cs) ≡ Some x) × (is_cancelled x.status ≡ true)
     replaced_cancelled old kept n named =
@@ -160,7 +160,7 @@ module _ (made taken cancelled : List ℕ) (count : ℕ) (cs : List CallbackRow)
         ] refl
 
     as_many : (p : CallbackRow → Bool) → p d ≡ p c → length (filter p cs) ≡ length (filter p (replaced d cs))
-    as_many p same = omega (arith, length_filter_replaced p d c 1 fresh cs rising found, ap one_if same)
+    as_many p same = omega (arith, length_filter_replaced p d c 1 next_number cs rising found, ap one_if same)
 
     begun_still : has_begun d.status ≡ has_begun c.status → (n : ℕ) → times_begun (find (has_number n) cs) ≡ times_begun (find (has_number n) (replaced d cs))
     begun_still same_begun n =
@@ -193,7 +193,7 @@ module _ (made taken cancelled : List ℕ) (count : ℕ) (cs : List CallbackRow)
           taken_begun = λ n. ap (times n) (append-nil taken) ∙ a.taken_begun n ∙ begun_still same_begun n;
           named_cancelled = λ n named. either n named (d.number == n) refl;
           as_many_taken = ap length (append-nil taken) ∙ a.as_many_taken ∙ as_many begun same_begun;
-          as_many_cancelled = omega (arith, length-append cancelled (d.number ∷ []), a.as_many_cancelled, length_filter_replaced dropped d c 1 fresh cs rising found, ap one_if now, ap one_if before);
+          as_many_cancelled = omega (arith, length-append cancelled (d.number ∷ []), a.as_many_cancelled, length_filter_replaced dropped d c 1 next_number cs rising found, ap one_if now, ap one_if before);
         }
       where
         front : (n : ℕ) (xs : List ℕ) → is_among n (xs ++ d.number ∷ []) ≡ true → (d.number == n) ≡ false → is_among n xs ≡ true
@@ -211,8 +211,8 @@ module _ (made taken cancelled : List ℕ) (count : ℕ) (cs : List CallbackRow)
           in_order = a.in_order ∙ ap (range_with_len 1) (sym (length_replaced d cs));
           taken_begun = λ n. times_more n ∙ as_begun n;
           named_cancelled = λ n named. replaced_cancelled a.named_cancelled (λ e. absurd (false_true (sym (pending_uncancelled c.status waits) ∙ e))) n (ap (is_among n) (sym (append-nil cancelled)) ∙ named);
-          as_many_taken = omega (arith, length-append taken (d.number ∷ []), a.as_many_taken, length_filter_replaced begun d c 1 fresh cs rising found, ap one_if begins, ap one_if (pending_unbegun c.status waits));
-          as_many_cancelled = omega (arith, ap length (append-nil cancelled), a.as_many_cancelled, length_filter_replaced dropped d c 1 fresh cs rising found, ap one_if uncancelled, ap one_if (pending_uncancelled c.status waits));
+          as_many_taken = omega (arith, length-append taken (d.number ∷ []), a.as_many_taken, length_filter_replaced begun d c 1 next_number cs rising found, ap one_if begins, ap one_if (pending_unbegun c.status waits));
+          as_many_cancelled = omega (arith, ap length (append-nil cancelled), a.as_many_cancelled, length_filter_replaced dropped d c 1 next_number cs rising found, ap one_if uncancelled, ap one_if (pending_uncancelled c.status waits));
         }
       where
         times_more : (n : ℕ) → times n (taken ++ d.number ∷ []) ≡ times n taken + cond (d.number == n) 1 0
@@ -265,9 +265,9 @@ module _ (made taken cancelled : List ℕ) (count : ℕ) (cs : List CallbackRow)
 
 -- ---- every move keeps it
 
-move_agrees : (made taken cancelled : List ℕ) (count fresh : ℕ) (w : World) (entry : Entry) (kept : List CallbackRow) (staff : List WorkerRow) → IsRising 1 fresh w.callbacks
+move_agrees : (made taken cancelled : List ℕ) (count next_number : ℕ) (w : World) (entry : Entry) (kept : List CallbackRow) (staff : List WorkerRow) → IsRising 1 next_number w.callbacks
     → Agrees made taken cancelled count w.callbacks → Move w entry kept staff → AgreesWith made taken cancelled count (deed_by entry) kept
-move_agrees made taken cancelled count fresh w entry kept staff rising a move = of_move move
+move_agrees made taken cancelled count next_number w entry kept staff rising a move = of_move move
   where
     to : (deed : Deed) (cs : List CallbackRow) → deed_by entry ≡ deed → kept ≡ cs → AgreesWith made taken cancelled count deed cs → AgreesWith made taken cancelled count (deed_by entry) kept
     to deed cs tells same here = subst (λ (t : Deed). AgreesWith made taken cancelled count t kept) (sym tells) (subst (λ l. AgreesWith made taken cancelled count deed l) (sym same) here)
@@ -279,34 +279,34 @@ move_agrees made taken cancelled count fresh w entry kept staff rising a move = 
     of_move (Stay m) = to nothing w.callbacks m.tells m.callbacks still
     of_move (Mark m) =
         to nothing (replaced m.new w.callbacks) m.tells m.callbacks
-        (agrees_put made taken cancelled count w.callbacks fresh m.old m.new rising m.found a (ap has_begun m.status) (ap is_cancelled m.status))
+        (agrees_put made taken cancelled count w.callbacks next_number m.old m.new rising m.found a (ap has_begun m.status) (ap is_cancelled m.status))
     of_move (Attach m) = to (record nothing { attached = Some m.pool.0 }) w.callbacks m.tells m.callbacks still
     of_move (Detach m) = to nothing w.callbacks m.tells m.callbacks still
     of_move (Take m) =
         let d : CallbackRow = taken_row m.callback m.worker in
         to (record nothing { taken = Some m.callback.number; run = Some (run_of m.callback); event = event m.callback.number (Taking m.callback.result) }) (replaced d w.callbacks) m.tells m.callbacks
-        (agrees_taken made taken cancelled count w.callbacks fresh m.callback d rising m.found (Some (run_of m.callback)) (event m.callback.number (Taking m.callback.result)) a m.waits refl refl)
+        (agrees_taken made taken cancelled count w.callbacks next_number m.callback d rising m.found (Some (run_of m.callback)) (event m.callback.number (Taking m.callback.result)) a m.waits refl refl)
     of_move (Return m) =
         let d : CallbackRow = returned m.callback in
         to (record nothing { returned = true; words = Some m.words }) (replaced d w.callbacks) m.tells m.callbacks
-        (agrees_put made taken cancelled count w.callbacks fresh m.callback d rising m.found a (sym (ap has_begun m.running)) (sym (ap is_cancelled m.running)))
+        (agrees_put made taken cancelled count w.callbacks next_number m.callback d rising m.found a (sym (ap has_begun m.running)) (sym (ap is_cancelled m.running)))
     of_move (Amend m) =
         let d : CallbackRow = record m.callback { status = Running m.worker (m.associated && not m.loose) (asked_slots m.asks m.slots) } in
         to (record nothing { loosened = m.loose; asked = option_map (λ (a : Asking). a.kind) m.asks }) (replaced d w.callbacks) m.tells m.callbacks
-        (agrees_put made taken cancelled count w.callbacks fresh m.callback d rising m.found a (sym (ap has_begun m.running)) (sym (ap is_cancelled m.running)))
+        (agrees_put made taken cancelled count w.callbacks next_number m.callback d rising m.found a (sym (ap has_begun m.running)) (sym (ap is_cancelled m.running)))
     of_move (Operate m) = operates m.how m.callback m.found m.status m.tells m.callbacks
       where
         operates : (how : IoStep) (c : CallbackRow) → find (has_number c.number) w.callbacks ≡ Some c → c.status ≡ status_before how → deed_by entry ≡ deed_of c.number how → kept ≡ replaced (operated how c) w.callbacks
             → AgreesWith made taken cancelled count (deed_by entry) kept
         operates Issue c found comes tells same =
             to (deed_of c.number Issue) (replaced (operated Issue c) w.callbacks) tells same
-            (agrees_put made taken cancelled count w.callbacks fresh c (operated Issue c) rising found a (sym (ap has_begun comes)) (sym (ap is_cancelled comes)))
+            (agrees_put made taken cancelled count w.callbacks next_number c (operated Issue c) rising found a (sym (ap has_begun comes)) (sym (ap is_cancelled comes)))
         operates GiveUp c found comes tells same =
             to (deed_of c.number GiveUp) (replaced (operated GiveUp c) w.callbacks) tells same
-            (agrees_given_up made taken cancelled count w.callbacks fresh c (operated GiveUp c) rising found a (sym (ap has_begun comes)) refl (ap is_cancelled comes))
+            (agrees_given_up made taken cancelled count w.callbacks next_number c (operated GiveUp c) rising found a (sym (ap has_begun comes)) refl (ap is_cancelled comes))
         operates (Complete error bytes) c found comes tells same =
             to (deed_of c.number (Complete error bytes)) (replaced (operated (Complete error bytes) c) w.callbacks) tells same
-            (agrees_put made taken cancelled count w.callbacks fresh c (operated (Complete error bytes) c) rising found a (sym (ap has_begun comes)) (sym (ap is_cancelled comes)))
+            (agrees_put made taken cancelled count w.callbacks next_number c (operated (Complete error bytes) c) rising found a (sym (ap has_begun comes)) (sym (ap is_cancelled comes)))
     of_move (Cancel m) =
         to (record nothing { count = length (filter m.test w.callbacks) }) (cancel_where m.test w.callbacks) m.tells m.callbacks
         (agrees_cancelled made taken cancelled count w.callbacks m.test m.waits a)
@@ -324,15 +324,15 @@ move_as_many w entry kept staff (Operate m) = ap length m.callbacks ∙ length_r
 move_as_many w entry kept staff (Cancel m) = ap length m.callbacks ∙ length_cancelled m.test w.callbacks
 
 -- the callbacks that are made, one by one
-new_agree : (made taken cancelled : List ℕ) (count fresh : ℕ) (cs new : List CallbackRow) → fresh ≡ length cs + 1 → AreNew fresh new → Agrees made taken cancelled count cs
+new_agree : (made taken cancelled : List ℕ) (count next_number : ℕ) (cs new : List CallbackRow) → next_number ≡ length cs + 1 → AreNew next_number new → Agrees made taken cancelled count cs
     → Agrees (made ++ numbers_of new) taken cancelled count (cs ++ new)
-new_agree made taken cancelled count fresh cs [] is rows a =
+new_agree made taken cancelled count next_number cs [] is rows a =
     subst (λ m. Agrees m taken cancelled count (cs ++ [])) (sym (append-nil made)) (subst (Agrees made taken cancelled count) (sym (append-nil cs)) a)
-new_agree made taken cancelled count fresh cs (c ∷ new) is rows a =
-    let one : Agrees (made ++ c.number ∷ []) taken cancelled count (cs ++ c ∷ []) = agrees_made made taken cancelled count cs c fresh a is rows.0.numbered rows.0.unbegun in
-    let longer : fresh + 1 ≡ length (cs ++ c ∷ []) + 1 = omega (arith, is, length-append cs (c ∷ [])) in
+new_agree made taken cancelled count next_number cs (c ∷ new) is rows a =
+    let one : Agrees (made ++ c.number ∷ []) taken cancelled count (cs ++ c ∷ []) = agrees_made made taken cancelled count cs c next_number a is rows.0.numbered rows.0.unbegun in
+    let longer : next_number + 1 ≡ length (cs ++ c ∷ []) + 1 = omega (arith, is, length-append cs (c ∷ [])) in
     let rest : Agrees ((made ++ c.number ∷ []) ++ numbers_of new) taken cancelled count ((cs ++ c ∷ []) ++ new)
-    = new_agree (made ++ c.number ∷ []) taken cancelled count (fresh + 1) (cs ++ c ∷ []) new longer rows.1 one in
+    = new_agree (made ++ c.number ∷ []) taken cancelled count (next_number + 1) (cs ++ c ∷ []) new longer rows.1 one in
     subst (λ m. Agrees m taken cancelled count (cs ++ c ∷ new)) (append_assoc made (c.number ∷ []) (numbers_of new))
     (subst (Agrees ((made ++ c.number ∷ []) ++ numbers_of new) taken cancelled count) (append_assoc cs (c ∷ []) new) rest)
 

@@ -95,36 +95,36 @@ find_either n (d ∷ cs) ds c e =
       | false ↦ λ h. find_either n cs ds c h
     ] e
 
-pub new_above : (fresh n : ℕ) (cs : List CallbackRow) (c : CallbackRow) → AreNew fresh cs → find (has_number n) cs ≡ Some c → fresh ≤ n
-new_above fresh n [] c rows e = absurd cc
-new_above fresh n (d ∷ cs) c rows e =
-    elim (has_number n d) as (λ b. has_number n d ≡ b → cond b (Some d) (find (has_number n) cs) ≡ Some c → fresh ≤ n) [
+pub new_above : (next_number n : ℕ) (cs : List CallbackRow) (c : CallbackRow) → AreNew next_number cs → find (has_number n) cs ≡ Some c → next_number ≤ n
+new_above next_number n [] c rows e = absurd cc
+new_above next_number n (d ∷ cs) c rows e =
+    elim (has_number n d) as (λ b. has_number n d ≡ b → cond b (Some d) (find (has_number n) cs) ≡ Some c → next_number ≤ n) [
       | true ↦ λ is _. let same : d.number ≡ n = eqb-true d.number n is in omega (arith, same, rows.0.numbered)
-      | false ↦ λ _ h. omega (arith, new_above (fresh + 1) n cs c rows.1 h)
+      | false ↦ λ _ h. omega (arith, new_above (next_number + 1) n cs c rows.1 h)
     ] refl e
 
-pub waiting_above : (fresh n : ℕ) (cs : List CallbackRow) → AreNew fresh cs → is_among n (waiting_of cs) ≡ true → fresh ≤ n
-waiting_above fresh n [] rows e = absurd (false_true e)
-waiting_above fresh n (d ∷ cs) rows e =
-    let later : is_among n (waiting_of cs) ≡ true → fresh ≤ n = λ (h : is_among n (waiting_of cs) ≡ true). omega (arith, waiting_above (fresh + 1) n cs rows.1 h) in
-    elim (is_pending d.status) as (λ b. is_among n (numbers_of (cond b (d ∷ filter (λ (x : CallbackRow). is_pending x.status) cs) (filter (λ (x : CallbackRow). is_pending x.status) cs))) ≡ true → fresh ≤ n) [
+pub waiting_above : (next_number n : ℕ) (cs : List CallbackRow) → AreNew next_number cs → is_among n (waiting_of cs) ≡ true → next_number ≤ n
+waiting_above next_number n [] rows e = absurd (false_true e)
+waiting_above next_number n (d ∷ cs) rows e =
+    let later : is_among n (waiting_of cs) ≡ true → next_number ≤ n = λ (h : is_among n (waiting_of cs) ≡ true). omega (arith, waiting_above (next_number + 1) n cs rows.1 h) in
+    elim (is_pending d.status) as (λ b. is_among n (numbers_of (cond b (d ∷ filter (λ (x : CallbackRow). is_pending x.status) cs) (filter (λ (x : CallbackRow). is_pending x.status) cs))) ≡ true → next_number ≤ n) [
       | true ↦ λ h. first_or later (d.number == n) refl h
       | false ↦ later
     ] e
   where
-    first_or : (is_among n (waiting_of cs) ≡ true → fresh ≤ n) → (b : Bool) → (d.number == n) ≡ b → ((d.number == n) || is_among n (waiting_of cs)) ≡ true → fresh ≤ n
+    first_or : (is_among n (waiting_of cs) ≡ true → next_number ≤ n) → (b : Bool) → (d.number == n) ≡ b → ((d.number == n) || is_among n (waiting_of cs)) ≡ true → next_number ≤ n
     first_or later true is h = let same : d.number ≡ n = eqb-true d.number n is in omega (arith, same, rows.0.numbered)
     first_or later false is h = later (sym (ap (λ b. b || is_among n (waiting_of cs)) is) ∙ h)
 
 -- of what is made, what is told to be pending is
-pub waiting_pends : (fresh n : ℕ) (cs : List CallbackRow) (c : CallbackRow) → AreNew fresh cs → find (has_number n) cs ≡ Some c → is_among n (waiting_of cs) ≡ true → is_pending c.status ≡ true
-waiting_pends fresh n [] c rows e among = absurd cc
-waiting_pends fresh n (d ∷ cs) c rows e among =
+pub waiting_pends : (next_number n : ℕ) (cs : List CallbackRow) (c : CallbackRow) → AreNew next_number cs → find (has_number n) cs ≡ Some c → is_among n (waiting_of cs) ≡ true → is_pending c.status ≡ true
+waiting_pends next_number n [] c rows e among = absurd cc
+waiting_pends next_number n (d ∷ cs) c rows e among =
     elim (has_number n d) as (λ b. has_number n d ≡ b → cond b (Some d) (find (has_number n) cs) ≡ Some c → is_pending c.status ≡ true) [
       | true ↦ λ is h.
           let same : d ≡ c = cc in
           ap (λ (x : CallbackRow). is_pending x.status) (sym same) ∙ here (eqb-true d.number n is) (is_pending d.status) refl
-      | false ↦ λ is h. waiting_pends (fresh + 1) n cs c rows.1 h (behind is (is_pending d.status) refl)
+      | false ↦ λ is h. waiting_pends (next_number + 1) n cs c rows.1 h (behind is (is_pending d.status) refl)
     ] refl e
   where
     among_by : (b : Bool) → is_pending d.status ≡ b → is_among n (numbers_of (cond b (d ∷ filter (λ (x : CallbackRow). is_pending x.status) cs) (filter (λ (x : CallbackRow). is_pending x.status) cs))) ≡ true
@@ -132,7 +132,7 @@ waiting_pends fresh n (d ∷ cs) c rows e among =
 
     here : d.number ≡ n → (b : Bool) → is_pending d.status ≡ b → is_pending d.status ≡ true
     here same true is = is
-    here same false is = let above : fresh + 1 ≤ n = waiting_above (fresh + 1) n cs rows.1 (among_by false is) in absurd (omega (arith, same, above, rows.0.numbered))
+    here same false is = let above : next_number + 1 ≤ n = waiting_above (next_number + 1) n cs rows.1 (among_by false is) in absurd (omega (arith, same, above, rows.0.numbered))
 
     behind : has_number n d ≡ false → (b : Bool) → is_pending d.status ≡ b → is_among n (waiting_of cs) ≡ true
     behind other true is = sym (ap (λ b. b || is_among n (waiting_of cs)) other) ∙ among_by true is

@@ -170,8 +170,8 @@ taken_runs w entry kept staff run (Amend m) e = absurd (let h = sym (ap (λ (d :
 taken_runs w entry kept staff run (Operate m) e = absurd (let h = sym (ap (λ (d : Deed). d.run) m.tells) ∙ e in cc)
 taken_runs w entry kept staff run (Cancel m) e = absurd (let h = sym (ap (λ (d : Deed). d.run) m.tells) ∙ e in cc)
 
-pub runs_on_more : (fresh : ℕ) (before : List Entry) (w : World) (x : Entry) (after : World) → AreRunning before w → Moves fresh w x after → AreRunning (before ++ x ∷ []) after
-runs_on_more fresh before w x after on moves earlier later entry run split takes quiet = of_place (last_place before x earlier entry later split)
+pub runs_on_more : (next_number : ℕ) (before : List Entry) (w : World) (x : Entry) (after : World) → AreRunning before w → Moves next_number w x after → AreRunning (before ++ x ∷ []) after
+runs_on_more next_number before w x after on moves earlier later entry run split takes quiet = of_place (last_place before x earlier entry later split)
   where
     in_after : (who : Who) (loose : Bool) → IsRunning moves.kept who run loose → IsRunning after.callbacks who run loose
     in_after who loose f =

@@ -27,12 +27,12 @@ is_full : (room cost : ℕ) (s : Step) → room < cost → unless_full room cost
 is_full room cost s short = ap (λ b. cond b (Full room cost) s) (lt-ltb room cost short)
 
 -- the change that a plan asks for is allowed
-pub plan_allowed : (fresh room : ℕ) (w : World) (who : Who) (call : Call) (answer : Answer) (ch : Change) → IsSound fresh w → plan_at w fresh room who call ≡ plan.Does answer ch → IsSafeChange fresh w who call answer ch
-plan_allowed fresh room w who call answer ch s is = subst (IsSafe fresh w who call) is (plan_safe fresh room w who call s)
+pub plan_allowed : (next_number room : ℕ) (w : World) (who : Who) (call : Call) (answer : Answer) (ch : Change) → IsSound next_number w → plan_at w next_number room who call ≡ plan.Does answer ch → IsSafeChange next_number w who call answer ch
+plan_allowed next_number room w who call answer ch s is = subst (IsSafe next_number w who call) is (plan_safe next_number room w who call s)
 
 -- and costs its price
-pub cost_is : (fresh : ℕ) (w : World) (ch : Change) → IsSound fresh w → IsAllowed fresh w ch → cost w (changed w ch) ≡ price ch
-cost_is fresh w ch s a = omega (arith, paid fresh w ch s a)
+pub cost_is : (next_number : ℕ) (w : World) (ch : Change) → IsSound next_number w → IsAllowed next_number w ch → cost w (changed w ch) ≡ price ch
+cost_is next_number w ch s a = omega (arith, paid next_number w ch s a)
 
 module _ (e : Remembered) (room : ℕ) (who : Who) (call : Call) where
   -- the outcome of a refusal

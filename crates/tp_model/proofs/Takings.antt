@@ -127,22 +127,22 @@ returning_keeps most w words slots all =
 pub taken_up_to : (most higher : ℕ) (w : World) → most ≤ higher → AreTakenAtMost most w → AreTakenAtMost higher w
 taken_up_to most higher w below all = most_raised most higher below w.kernels all
 
-pub taken_more : (fresh most : ℕ) (w : World) (ch : Change) → IsAllowed fresh w ch → AreTakenAtMost most w → AreTakenAtMost (most + 1) (changed w ch)
-taken_more fresh most w (change.CreateKernel state) a all =
+pub taken_more : (next_number most : ℕ) (w : World) (ch : Change) → IsAllowed next_number w ch → AreTakenAtMost most w → AreTakenAtMost (most + 1) (changed w ch)
+taken_more next_number most w (change.CreateKernel state) a all =
     all_append (λ (k : KernelRow). takings_of k.state ≤ most + 1) w.kernels (new_kernel state) (most_raised most (most + 1) (omega arith) w.kernels all) (omega (arith, a.takings))
-taken_more fresh most w (change.ChangeKernel kernel how) a all = row_changed (state_after how) (taken_no_more how) most w.kernels kernel.0 (numbered w.kernels kernel.0) refl all
-taken_more fresh most w (change.EndWait who how) a all = wait_left most w who how (wait_of w who) all
-taken_more fresh most w (change.ChangePool pool how) a all = with_pool (slice_get w.pools pool.0)
+taken_more next_number most w (change.ChangeKernel kernel how) a all = row_changed (state_after how) (taken_no_more how) most w.kernels kernel.0 (numbered w.kernels kernel.0) refl all
+taken_more next_number most w (change.EndWait who how) a all = wait_left most w who how (wait_of w who) all
+taken_more next_number most w (change.ChangePool pool how) a all = with_pool (slice_get w.pools pool.0)
   where
     with_pool : (row : Option PoolRow) → AreTakenAtMost (most + 1) (change_pool w pool.0 how row)
     with_pool None = taken_up_to most (most + 1) w (omega arith) all
     with_pool (Some row) = taken_up_to most (most + 1) w (omega arith) all
-taken_more fresh most w (change.ReleaseObject object) a all = with_object (numbered w.objects object.0)
+taken_more next_number most w (change.ReleaseObject object) a all = with_object (numbered w.objects object.0)
   where
     with_object : (row : Option ObjectRow) → AreTakenAtMost (most + 1) (release_object w object row)
     with_object None = taken_up_to most (most + 1) w (omega arith) all
     with_object (Some row) = taken_up_to most (most + 1) w (omega arith) all
-taken_more fresh most w (change.Fire trigger first count) a all = most_raised most (most + 1) (omega arith) _ (firing_keeps most trigger (sources_of w) all)
-taken_more fresh most w (change.Return by words first count) a all = most_raised most (most + 1) (omega arith) _ (returning_keeps most w words (slots_of by.callback.status) all)
-taken_more fresh most w (change.BeginClose who group cancel context notices) a all = most_raised most (most + 1) (omega arith) w.kernels all
-taken_more fresh most w ch a all = taken_up_to most (most + 1) w (omega arith) all
+taken_more next_number most w (change.Fire trigger first count) a all = most_raised most (most + 1) (omega arith) _ (firing_keeps most trigger (sources_of w) all)
+taken_more next_number most w (change.Return by words first count) a all = most_raised most (most + 1) (omega arith) _ (returning_keeps most w words (slots_of by.callback.status) all)
+taken_more next_number most w (change.BeginClose who group cancel context notices) a all = most_raised most (most + 1) (omega arith) w.kernels all
+taken_more next_number most w ch a all = taken_up_to most (most + 1) w (omega arith) all

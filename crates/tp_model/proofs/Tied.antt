@@ -17,7 +17,7 @@ use Rattle.tp_model.proofs.Lists.{find_all}
 use Rattle.tp_model.proofs.Callbacks.{found_bounds}
 use Rattle.tp_model.proofs.Fates.{WasRow, row_was}
 use Rattle.tp_model.proofs.Places.{waiting_above}
-use Rattle.tp_model.proofs.Readying.{AreReady, ready_by, numbers_ready, among_front, among_back, among_split, past_row}
+use Rattle.tp_model.proofs.Ready.{AreReady, ready_by, numbers_ready, among_front, among_back, among_split, past_row}
 use Rattle.tp_model.proofs.Refusals.{false_true}
 
 -- an object that was made with a group

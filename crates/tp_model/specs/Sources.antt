@@ -165,15 +165,15 @@ object_row objects object = unwrap_or (numbered objects object.0) no_object
 
 -- numbered on from a number
 abbrev pub rows_of : List ObjectRow → ℕ → List Job → List CallbackRow
-rows_of objects fresh [] = []
-rows_of objects fresh (job ∷ jobs) = new_callback fresh job.object (object_row objects job.object) job.result ∷ rows_of objects (fresh + 1) jobs
+rows_of objects next_number [] = []
+rows_of objects next_number (job ∷ jobs) = new_callback next_number job.object (object_row objects job.object) job.result ∷ rows_of objects (next_number + 1) jobs
 
 -- the world after what a trigger came to
 abbrev pub fired : World → ℕ → Firing → World
-fired w fresh f = record w {
+fired w next_number f = record w {
   settings = f.sources.settings;
   armings = f.sources.armings;
   kernels = f.sources.kernels;
   now = f.sources.now;
-  callbacks = w.callbacks ++ rows_of w.objects fresh f.jobs;
+  callbacks = w.callbacks ++ rows_of w.objects next_number f.jobs;
 }

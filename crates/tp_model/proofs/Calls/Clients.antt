@@ -13,20 +13,20 @@ use Rattle.tp_model.specs.Support.Safe.{IsSafe}
 use Rattle.tp_model.specs.Support.Remembered.{forget}
 use Rattle.tp_model.specs.Support.Ranged.{IsPlanInRange}
 use Rattle.tp_model.proofs.Refusals.{not_false, false_true}
-use Rattle.tp_model.proofs.Planning.{safe_unless}
-use Rattle.tp_model.proofs.Ranging.{ranged_unless}
+use Rattle.tp_model.proofs.Allowed.{safe_unless}
+use Rattle.tp_model.proofs.Ranged.{ranged_unless}
 
 -- ---- Finish
 
-pub finish_safe : (fresh : ℕ) (w : World) (who : Who) → IsSafe fresh w who Finish (finish_plan w who)
+pub finish_safe : (next_number : ℕ) (w : World) (who : Who) → IsSafe next_number w who Finish (finish_plan w who)
 unfolding finish_plan
-finish_safe fresh w who = safe_unless fresh w who Finish (finish_refusals w who) _ (λ none. finishes who (not_false (is_actor w who) none.0) none.1.1.0)
+finish_safe next_number w who = safe_unless next_number w who Finish (finish_refusals w who) _ (λ none. finishes who (not_false (is_actor w who) none.0) none.1.1.0)
   where
     stands : (number : ℕ) (row : Option ClientRow) → numbered w.clients number ≡ row → (is_some row || false) ≡ true → option_map_or (λ (r : ClientRow). r.finished) row false ≡ false → numbered w.clients number ≡ Some unfinished
     stands number None is there goes_on = absurd (false_true there)
     stands number (Some row) is there goes_on = is ∙ ap (λ b. Some (record { finished = b })) goes_on
 
-    finishes : (actor : Who) → is_actor w actor ≡ true → is_finished w actor ≡ false → IsSafe fresh w actor Finish (finish actor)
+    finishes : (actor : Who) → is_actor w actor ≡ true → is_finished w actor ≡ false → IsSafe next_number w actor Finish (finish actor)
     finishes (Client number) acts goes_on = record { allowed = stands number (numbered w.clients number) refl acts goes_on; made_by = refl; accepted = refl; tells = refl }
     finishes (Worker number) acts goes_on = tt
 

@@ -29,17 +29,17 @@ use Rattle.tp_model.specs.Support.Ranged.{IsRanged, IsPlanInRange}
 use Rattle.tp_model.proofs.Lists.{any_filter, find_agree, filter_filter}
 use Rattle.tp_model.proofs.Refusals.{neither, not_false, false_true}
 use Rattle.tp_model.proofs.Forgetting.{busy_forget, covered_forget, over_not_cancelled, over_not_outstanding}
-use Rattle.tp_model.proofs.Planning.{safe_unless, make_safe}
-use Rattle.tp_model.proofs.Ranging.{ranged_unless, make_ranged}
+use Rattle.tp_model.proofs.Allowed.{safe_unless, make_safe}
+use Rattle.tp_model.proofs.Ranged.{ranged_unless, make_ranged}
 use Rattle.tp_model.proofs.Calls.Objects.{over_not_operation}
 use Rattle.tp_model.proofs.Calls.Waits.{begun_ranged}
 
 -- ---- CreateGroup
 
-pub create_group_safe : (fresh : ℕ) (w : World) (who : Who) → IsSafe fresh w who CreateGroup (create_group_plan w who)
+pub create_group_safe : (next_number : ℕ) (w : World) (who : Who) → IsSafe next_number w who CreateGroup (create_group_plan w who)
 unfolding create_group_plan
-create_group_safe fresh w who =
-    make_safe fresh w who CreateGroup [] w.limits.groups (length w.groups) (length w.groups + 1) change.CreateGroup (λ room. record { allowed = room; made_by = tt; accepted = refl; tells = refl })
+create_group_safe next_number w who =
+    make_safe next_number w who CreateGroup [] w.limits.groups (length w.groups) (length w.groups + 1) change.CreateGroup (λ room. record { allowed = room; made_by = tt; accepted = refl; tells = refl })
 
 pub create_group_forget : (w : World) (who : Who) → create_group_plan (forget w) who ≡ create_group_plan w who
 unfolding create_group_plan
@@ -52,10 +52,10 @@ create_group_ranged w who g =
 
 -- ---- CloseGroup
 
-pub close_group_safe : (fresh : ℕ) (w : World) (who : Who) (group : GroupId) → IsSafe fresh w who (CloseGroup group) (close_group_plan w who group)
+pub close_group_safe : (next_number : ℕ) (w : World) (who : Who) (group : GroupId) → IsSafe next_number w who (CloseGroup group) (close_group_plan w who group)
 unfolding close_group_plan
-close_group_safe fresh w who group =
-    safe_unless fresh w who (CloseGroup group) (close_group_refusals w who group) _
+close_group_safe next_number w who group =
+    safe_unless next_number w who (CloseGroup group) (close_group_refusals w who group) _
     (λ none. record { allowed = not_false (is_group w group.0) (neither (not (is_actor w who)) (not (is_group w group.0)) none.0).1; made_by = tt; accepted = refl; tells = refl })
 
 pub close_group_forget : (w : World) (who : Who) (group : GroupId) → close_group_plan (forget w) who group ≡ close_group_plan w who group
@@ -95,10 +95,10 @@ close_group_ranged w who group g =
 
 -- ---- BeginClose
 
-pub begin_close_safe : (fresh : ℕ) (w : World) (who : Who) (group : GroupId) (cancel : Bool) (context : ℕ) → IsSafe fresh w who (BeginClose group cancel context) (begin_close_plan w who group cancel context)
+pub begin_close_safe : (next_number : ℕ) (w : World) (who : Who) (group : GroupId) (cancel : Bool) (context : ℕ) → IsSafe next_number w who (BeginClose group cancel context) (begin_close_plan w who group cancel context)
 unfolding begin_close_plan
-begin_close_safe fresh w who group cancel context =
-    safe_unless fresh w who (BeginClose group cancel context) (begin_close_refusals w who group.0) _ (λ none.
+begin_close_safe next_number w who group cancel context =
+    safe_unless next_number w who (BeginClose group cancel context) (begin_close_refusals w who group.0) _ (λ none.
     let there = neither (not (is_actor w who)) (not (is_group w group.0)) none.0 in
     record {
       allowed = record { actor = not_false (is_actor w who) there.0; none = none.1.1.1.1.0; made = not_false (is_group w group.0) there.1; idle = none_of (first_operating w group.0) none.1.1.1.1.1.1.0; counted = refl };
@@ -111,11 +111,11 @@ begin_close_safe fresh w who group cancel context =
     none_of None e = refl
     none_of (Some n) e = absurd (false_true (sym e))
 
-pub begin_close_forget : (fresh : ℕ) (w : World) (who : Who) (group : GroupId) (cancel : Bool) (context : ℕ) → IsSound fresh w → begin_close_plan (forget w) who group cancel context ≡ begin_close_plan w who group cancel context
+pub begin_close_forget : (next_number : ℕ) (w : World) (who : Who) (group : GroupId) (cancel : Bool) (context : ℕ) → IsSound next_number w → begin_close_plan (forget w) who group cancel context ≡ begin_close_plan w who group cancel context
 unfolding begin_close_plan
-begin_close_forget fresh w who group cancel context s =
+begin_close_forget next_number w who group cancel context s =
     ap₂ (λ r a. unless_refused r (plan.Does a (change.BeginClose who group cancel context (length (notices_of w group.0 cancel)))))
-    (ap₂ (λ by operating. first_refusal (with_both by operating)) (busy_forget fresh w who s) operating_forget)
+    (ap₂ (λ by operating. first_refusal (with_both by operating)) (busy_forget next_number w who s) operating_forget)
     (ap₂ (λ m n. answer.Closing m n (length (notices_of w group.0 cancel))) (ap length (covered_forget w (Group group) cancel)) cancelled_forget)
   where
     with_both : Option Busy → Option ℕ → List (Bool × Refusal)

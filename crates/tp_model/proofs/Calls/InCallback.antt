@@ -24,18 +24,18 @@ use Rattle.tp_model.specs.Support.Safe.{IsSafe}
 use Rattle.tp_model.specs.Support.Remembered.{forget}
 use Rattle.tp_model.specs.Support.Ranged.{IsPlanInRange}
 use Rattle.tp_model.proofs.Forgetting.{in_callback_forget, busy_forget}
-use Rattle.tp_model.proofs.Planning.{in_callback_safe, safe_unless}
-use Rattle.tp_model.proofs.Ranging.{in_callback_ranged}
+use Rattle.tp_model.proofs.Allowed.{in_callback_safe, safe_unless}
+use Rattle.tp_model.proofs.Ranged.{in_callback_ranged}
 
 -- ---- MayRunLong
 
-pub may_run_long_safe : (fresh : ℕ) (w : World) (who : Who) → IsSound fresh w → IsSafe fresh w who MayRunLong (may_run_long_plan w who)
+pub may_run_long_safe : (next_number : ℕ) (w : World) (who : Who) → IsSound next_number w → IsSafe next_number w who MayRunLong (may_run_long_plan w who)
 unfolding may_run_long_plan
-may_run_long_safe fresh w who s = in_callback_safe fresh w who MayRunLong (busy_refusals w who) (may_run_long w) s tt (λ _ b. record { allowed = record { runs = b.runs; unasked = tt }; made_by = b.actor; accepted = refl; tells = refl })
+may_run_long_safe next_number w who s = in_callback_safe next_number w who MayRunLong (busy_refusals w who) (may_run_long w) s tt (λ _ b. record { allowed = record { runs = b.runs; unasked = tt }; made_by = b.actor; accepted = refl; tells = refl })
 
-pub may_run_long_forget : (fresh : ℕ) (w : World) (who : Who) → IsSound fresh w → may_run_long_plan (forget w) who ≡ may_run_long_plan w who
+pub may_run_long_forget : (next_number : ℕ) (w : World) (who : Who) → IsSound next_number w → may_run_long_plan (forget w) who ≡ may_run_long_plan w who
 unfolding may_run_long_plan
-may_run_long_forget fresh w who s = in_callback_forget fresh w who (busy_refusals w who) (may_run_long w) s
+may_run_long_forget next_number w who s = in_callback_forget next_number w who (busy_refusals w who) (may_run_long w) s
 
 pub may_run_long_ranged : (w : World) (who : Who) → IsPlanInRange (may_run_long_plan w who)
 unfolding may_run_long_plan
@@ -43,13 +43,13 @@ may_run_long_ranged w who = in_callback_ranged w who (busy_refusals w who) (may_
 
 -- ---- Disassociate
 
-pub disassociate_safe : (fresh : ℕ) (w : World) (who : Who) → IsSound fresh w → IsSafe fresh w who Disassociate (disassociate_plan w who)
+pub disassociate_safe : (next_number : ℕ) (w : World) (who : Who) → IsSound next_number w → IsSafe next_number w who Disassociate (disassociate_plan w who)
 unfolding disassociate_plan
-disassociate_safe fresh w who s = in_callback_safe fresh w who Disassociate (busy_refusals w who) disassociate s tt (λ _ b. record { allowed = record { runs = b.runs; unasked = tt }; made_by = b.actor; accepted = refl; tells = refl })
+disassociate_safe next_number w who s = in_callback_safe next_number w who Disassociate (busy_refusals w who) disassociate s tt (λ _ b. record { allowed = record { runs = b.runs; unasked = tt }; made_by = b.actor; accepted = refl; tells = refl })
 
-pub disassociate_forget : (fresh : ℕ) (w : World) (who : Who) → IsSound fresh w → disassociate_plan (forget w) who ≡ disassociate_plan w who
+pub disassociate_forget : (next_number : ℕ) (w : World) (who : Who) → IsSound next_number w → disassociate_plan (forget w) who ≡ disassociate_plan w who
 unfolding disassociate_plan
-disassociate_forget fresh w who s = in_callback_forget fresh w who (busy_refusals w who) disassociate s
+disassociate_forget next_number w who s = in_callback_forget next_number w who (busy_refusals w who) disassociate s
 
 pub disassociate_ranged : (w : World) (who : Who) → IsPlanInRange (disassociate_plan w who)
 unfolding disassociate_plan
@@ -67,20 +67,20 @@ asked_slot w who kind by b is unasked =
     none_of None e = refl
     none_of (Some a) e = absurd (false_true (sym e))
 
-pub on_return_safe : (fresh : ℕ) (w : World) (who : Who) (kind : ActionKind) (kernel : KernelId) (count : ℕ) → IsSound fresh w → IsSafe fresh w who (OnReturn kind kernel count) (on_return_plan w who kind kernel count)
+pub on_return_safe : (next_number : ℕ) (w : World) (who : Who) (kind : ActionKind) (kernel : KernelId) (count : ℕ) → IsSound next_number w → IsSafe next_number w who (OnReturn kind kernel count) (on_return_plan w who kind kernel count)
 unfolding on_return_plan
-on_return_safe fresh w who kind kernel count s =
-    safe_unless fresh w who (OnReturn kind kernel count) (on_return_refusals w who kind kernel.0) _ (λ none. of_busy none.1.1.1.1.1.0 (busy_of w who) refl)
+on_return_safe next_number w who kind kernel count s =
+    safe_unless next_number w who (OnReturn kind kernel count) (on_return_refusals w who kind kernel.0) _ (λ none. of_busy none.1.1.1.1.1.0 (busy_of w who) refl)
   where
-    of_busy : has_asked w who kind ≡ false → (by : Option Busy) → busy_of w who ≡ by → IsSafe fresh w who (OnReturn kind kernel count) (on_return kind kernel count by)
+    of_busy : has_asked w who kind ≡ false → (by : Option Busy) → busy_of w who ≡ by → IsSafe next_number w who (OnReturn kind kernel count) (on_return kind kernel count by)
     of_busy unasked None is = tt
     of_busy unasked (Some by) is =
-        let b : IsBusy w who by = busy_stands fresh w who by s is in
+        let b : IsBusy w who by = busy_stands next_number w who by s is in
         record { allowed = record { runs = b.runs; unasked = asked_slot w who kind by b is unasked }; made_by = b.actor; accepted = refl; tells = refl }
 
-pub on_return_forget : (fresh : ℕ) (w : World) (who : Who) (kind : ActionKind) (kernel : KernelId) (count : ℕ) → IsSound fresh w → on_return_plan (forget w) who kind kernel count ≡ on_return_plan w who kind kernel count
+pub on_return_forget : (next_number : ℕ) (w : World) (who : Who) (kind : ActionKind) (kernel : KernelId) (count : ℕ) → IsSound next_number w → on_return_plan (forget w) who kind kernel count ≡ on_return_plan w who kind kernel count
 unfolding on_return_plan
-on_return_forget fresh w who kind kernel count s = ap by_callback (busy_forget fresh w who s)
+on_return_forget next_number w who kind kernel count s = ap by_callback (busy_forget next_number w who s)
   where
     with_asked : Bool → List (Bool × Refusal)
     with_asked asked =

@@ -35,21 +35,21 @@ use Rattle.tp_model.proofs.Lists.{all_get, find_all, find_filter, find_passes}
 use Rattle.tp_model.proofs.Callbacks.{find_numbered, find_above}
 use Rattle.tp_model.proofs.Refusals.{both, neither, not_false, false_true, numbered_some}
 use Rattle.tp_model.proofs.Forgetting.{live_again}
-use Rattle.tp_model.proofs.Planning.{safe_unless, row_stands}
-use Rattle.tp_model.proofs.Ranging.{ranged_unless}
+use Rattle.tp_model.proofs.Allowed.{safe_unless, row_stands}
+use Rattle.tp_model.proofs.Ranged.{ranged_unless}
 use Rattle.tp_model.proofs.Calls.Timers.{object_stands}
 
 -- ---- StartIo
 
-module _ (fresh : ℕ) (w : World) (who : Who) (object : ObjectId) where
-  pub start_io_safe : IsSound fresh w → IsSafe fresh w who (StartIo object) (start_io_plan w fresh who object)
+module _ (next_number : ℕ) (w : World) (who : Who) (object : ObjectId) where
+  pub start_io_safe : IsSound next_number w → IsSafe next_number w who (StartIo object) (start_io_plan w next_number who object)
   unfolding start_io_plan
   start_io_safe s =
-      safe_unless fresh w who (StartIo object) (start_io_refusals w who object.0) _
+      safe_unless next_number w who (StartIo object) (start_io_refusals w who object.0) _
       (λ none.
       let of : IsObjectOf Io w object = object_stands w Io object (not_false (is_object_of w Io object.0) none.1.0) (neither (is_finished w who) (is_released w object.0) none.1.1.0).1 in
       let home = all_get (λ (o : ObjectRow). o.env.pool.0 < length w.pools) w.objects _ of.row s.object_pools (numbered_some w.objects object.0 of.row of.stands).0 in
-      subst (λ row. IsSafe fresh w who (StartIo object) (start_io fresh object row)) (sym of.stands)
+      subst (λ row. IsSafe next_number w who (StartIo object) (start_io next_number object row)) (sym of.stands)
       (record {
         allowed = record { number = refl; expected = refl; object = λ _. record { row = of.row; stands = of.stands; home = refl; group = refl }; home = home; room = none.1.1.1.1.1.0; stands = row_stands w.objects object.0 of.row of.stands (neither (is_finished w who) (is_released w object.0) none.1.1.0).1 };
         made_by = ap (λ (r : Option ObjectRow). option_map_or (λ (o : ObjectRow). is_same_kind o.kind Wait) r false) of.stands ∙ ap (λ k. is_same_kind k Wait) of.kind;
@@ -57,18 +57,18 @@ module _ (fresh : ℕ) (w : World) (who : Who) (object : ObjectId) where
         tells = refl;
       }))
 
-  pub start_io_forget : start_io_plan (forget w) fresh who object ≡ start_io_plan w fresh who object
+  pub start_io_forget : start_io_plan (forget w) next_number who object ≡ start_io_plan w next_number who object
   unfolding start_io_plan
-  start_io_forget = ap (λ r. unless_refused r (start_io fresh object (numbered w.objects object.0))) refused
+  start_io_forget = ap (λ r. unless_refused r (start_io next_number object (numbered w.objects object.0))) refused
     where
       refused : first_refusal (start_io_refusals (forget w) who object.0) ≡ first_refusal (start_io_refusals w who object.0)
       refused = rw (live_again w.callbacks)
 
-  pub start_io_ranged : fresh < 2 ^ 64 → IsRanged w → IsCallInRange (StartIo object) → IsPlanInRange (start_io_plan w fresh who object)
+  pub start_io_ranged : next_number < 2 ^ 64 → IsRanged w → IsCallInRange (StartIo object) → IsPlanInRange (start_io_plan w next_number who object)
   unfolding start_io_plan
   start_io_ranged few g c = ranged_unless (start_io_refusals w who object.0) _ _ (starts (numbered w.objects object.0) refl)
     where
-      starts : (row : Option ObjectRow) → numbered w.objects object.0 ≡ row → IsPlanInRange (start_io fresh object row)
+      starts : (row : Option ObjectRow) → numbered w.objects object.0 ≡ row → IsPlanInRange (start_io next_number object row)
       starts None is = tt
       starts (Some row) is =
           let o = all_get IsObjectInRange w.objects _ row g.rows.objects (numbered_some w.objects object.0 row is).0 in
@@ -89,10 +89,10 @@ record IsExpected (w : World) (c : CallbackRow) : Type 0 where
   found : callback_of w c.number ≡ Some c
   status : c.status ≡ Expected
 
-first_stands : (fresh : ℕ) (w : World) (object : ℕ) (c : CallbackRow) → IsSound fresh w → first_expected w object ≡ Some c → IsExpected w c
-first_stands fresh w object c s is =
+first_stands : (next_number : ℕ) (w : World) (object : ℕ) (c : CallbackRow) → IsSound next_number w → first_expected w object ≡ Some c → IsExpected w c
+first_stands next_number w object c s is =
     record {
-      found = find_numbered (is_expected_of object) 1 fresh w.callbacks c s.numbers is;
+      found = find_numbered (is_expected_of object) 1 next_number w.callbacks c s.numbers is;
       status = expected_is c.status (both (is_expected c.status) (c.object.0 == object) (find_passes (is_expected_of object) c w.callbacks is)).0;
     }
 
@@ -116,12 +116,12 @@ module _ (w : World) (who : Who) (object : ObjectId) where
   first_ranged c g is = (find_all IsCallbackInRange (is_expected_of object.0) c w.callbacks g.rows.callbacks is).number
 
   -- what a step with it comes to
-  operate_safe : (fresh : ℕ) (call : Call) (told : ℕ → Answer) (how : IoStep) → IsSound fresh w → ((c : CallbackRow) → IsExpected w c → IsSafe fresh w who call (Does (told c.number) (change.Operate c how))) → IsSafe fresh w who call (operate_first w who object told how)
-  operate_safe fresh call told how s safe = safe_unless fresh w who call (expected_refusals w who object.0) _ (λ _. operates (first_expected w object.0) refl)
+  operate_safe : (next_number : ℕ) (call : Call) (told : ℕ → Answer) (how : IoStep) → IsSound next_number w → ((c : CallbackRow) → IsExpected w c → IsSafe next_number w who call (Does (told c.number) (change.Operate c how))) → IsSafe next_number w who call (operate_first w who object told how)
+  operate_safe next_number call told how s safe = safe_unless next_number w who call (expected_refusals w who object.0) _ (λ _. operates (first_expected w object.0) refl)
     where
-      operates : (first : Option CallbackRow) → first_expected w object.0 ≡ first → IsSafe fresh w who call (operate told how first)
+      operates : (first : Option CallbackRow) → first_expected w object.0 ≡ first → IsSafe next_number w who call (operate told how first)
       operates None is = tt
-      operates (Some c) is = safe c (first_stands fresh w object.0 c s is)
+      operates (Some c) is = safe c (first_stands next_number w object.0 c s is)
 
   operate_ranged : (told : ℕ → Answer) (how : IoStep) → IsRanged w → ((c : CallbackRow) → c.number < 2 ^ 64 → IsPlanInRange (Does (told c.number) (change.Operate c how))) → IsPlanInRange (operate_first w who object told how)
   operate_ranged told how g within = ranged_unless (expected_refusals w who object.0) _ _ (operates (first_expected w object.0) refl)
@@ -130,9 +130,9 @@ module _ (w : World) (who : Who) (object : ObjectId) where
       operates None is = tt
       operates (Some c) is = within c (first_ranged c g is)
 
-  pub issue_io_safe : (fresh : ℕ) → IsSound fresh w → IsSafe fresh w who (IssueIo object) (issue_io_plan w who object)
+  pub issue_io_safe : (next_number : ℕ) → IsSound next_number w → IsSafe next_number w who (IssueIo object) (issue_io_plan w who object)
   unfolding issue_io_plan
-  issue_io_safe fresh s = operate_safe fresh (IssueIo object) answer.Operation Issue s (λ c of. record { allowed = record { found = of.found; status = of.status }; made_by = tt; accepted = refl; tells = refl })
+  issue_io_safe next_number s = operate_safe next_number (IssueIo object) answer.Operation Issue s (λ c of. record { allowed = record { found = of.found; status = of.status }; made_by = tt; accepted = refl; tells = refl })
 
   pub issue_io_forget : issue_io_plan (forget w) who object ≡ issue_io_plan w who object
   unfolding issue_io_plan
@@ -142,9 +142,9 @@ module _ (w : World) (who : Who) (object : ObjectId) where
   unfolding issue_io_plan
   issue_io_ranged g = operate_ranged answer.Operation Issue g (λ c number. (number, tt))
 
-  pub cancel_io_safe : (fresh : ℕ) → IsSound fresh w → IsSafe fresh w who (CancelIo object) (cancel_io_plan w who object)
+  pub cancel_io_safe : (next_number : ℕ) → IsSound next_number w → IsSafe next_number w who (CancelIo object) (cancel_io_plan w who object)
   unfolding cancel_io_plan
-  cancel_io_safe fresh s = operate_safe fresh (CancelIo object) answer.Cancelled GiveUp s (λ c of. record { allowed = record { found = of.found; status = of.status }; made_by = tt; accepted = refl; tells = refl })
+  cancel_io_safe next_number s = operate_safe next_number (CancelIo object) answer.Cancelled GiveUp s (λ c of. record { allowed = record { found = of.found; status = of.status }; made_by = tt; accepted = refl; tells = refl })
 
   pub cancel_io_forget : cancel_io_plan (forget w) who object ≡ cancel_io_plan w who object
   unfolding cancel_io_plan
@@ -173,18 +173,18 @@ under_way w callback c is = of_row (callback_of w callback) refl is
         ] refl e
 
 -- what lives of the callbacks has the same operations under way
-issued_forget : (low fresh callback : ℕ) (cs : List CallbackRow) → IsRising low fresh cs → issued_row (find (has_number callback) (filter lives cs)) ≡ issued_row (find (has_number callback) cs)
-issued_forget low fresh callback [] r = refl
-issued_forget low fresh callback (c ∷ cs) r =
+issued_forget : (low next_number callback : ℕ) (cs : List CallbackRow) → IsRising low next_number cs → issued_row (find (has_number callback) (filter lives cs)) ≡ issued_row (find (has_number callback) cs)
+issued_forget low next_number callback [] r = refl
+issued_forget low next_number callback (c ∷ cs) r =
     elim (lives c) as (λ t. lives c ≡ t → issued_row (find (has_number callback) (cond t (c ∷ filter lives cs) (filter lives cs))) ≡ issued_row (cond (has_number callback c) (Some c) (find (has_number callback) cs))) [
       | true ↦ λ _. elim (has_number callback c) as (λ b. issued_row (cond b (Some c) (find (has_number callback) (filter lives cs))) ≡ issued_row (cond b (Some c) (find (has_number callback) cs))) [
         | true ↦ refl
-        | false ↦ issued_forget (c.number + 1) fresh callback cs r.1
+        | false ↦ issued_forget (c.number + 1) next_number callback cs r.1
       ]
-      | false ↦ λ dead. issued_forget (c.number + 1) fresh callback cs r.1 ∙ elim (has_number callback c) as (λ b. has_number callback c ≡ b → issued_row (find (has_number callback) cs) ≡ issued_row (cond b (Some c) (find (has_number callback) cs))) [
+      | false ↦ λ dead. issued_forget (c.number + 1) next_number callback cs r.1 ∙ elim (has_number callback c) as (λ b. has_number callback c ≡ b → issued_row (find (has_number callback) cs) ≡ issued_row (cond b (Some c) (find (has_number callback) cs))) [
         | true ↦ λ e.
             let same : c.number ≡ callback = eqb-true c.number callback e in
-            ap issued_row (find_above callback (c.number + 1) fresh cs (omega (arith, same)) r.1) ∙ sym (ap (λ b. cond b (Some c) None) (unissued c.status dead))
+            ap issued_row (find_above callback (c.number + 1) next_number cs (omega (arith, same)) r.1) ∙ sym (ap (λ b. cond b (Some c) None) (unissued c.status dead))
         | false ↦ λ _. refl
       ] refl
     ] refl
@@ -194,11 +194,11 @@ issued_forget low fresh callback (c ∷ cs) r =
     unissued _ e = refl
 
 module _ (w : World) (who : Who) (callback error bytes : ℕ) where
-  pub complete_io_safe : (fresh : ℕ) → IsSafe fresh w who (CompleteIo callback error bytes) (complete_io_plan w who callback error bytes)
+  pub complete_io_safe : (next_number : ℕ) → IsSafe next_number w who (CompleteIo callback error bytes) (complete_io_plan w who callback error bytes)
   unfolding complete_io_plan
-  complete_io_safe fresh = safe_unless fresh w who (CompleteIo callback error bytes) (complete_io_refusals w who callback) _ (λ _. completes (issued_of w callback) refl)
+  complete_io_safe next_number = safe_unless next_number w who (CompleteIo callback error bytes) (complete_io_refusals w who callback) _ (λ _. completes (issued_of w callback) refl)
     where
-      completes : (row : Option CallbackRow) → issued_of w callback ≡ row → IsSafe fresh w who (CompleteIo callback error bytes) (complete_io error bytes row)
+      completes : (row : Option CallbackRow) → issued_of w callback ≡ row → IsSafe next_number w who (CompleteIo callback error bytes) (complete_io error bytes row)
       completes None is = tt
       completes (Some c) is =
           let of : IsUnderWay w callback c = under_way w callback c is in
@@ -210,11 +210,11 @@ module _ (w : World) (who : Who) (callback error bytes : ℕ) where
             tells = ap (λ n. record silent { deed = record nothing { completed = n ∷ []; event = event n (Completes error bytes) } }) (sym same);
           }
 
-  pub complete_io_forget : (fresh : ℕ) → IsSound fresh w → complete_io_plan (forget w) who callback error bytes ≡ complete_io_plan w who callback error bytes
+  pub complete_io_forget : (next_number : ℕ) → IsSound next_number w → complete_io_plan (forget w) who callback error bytes ≡ complete_io_plan w who callback error bytes
   unfolding complete_io_plan
-  complete_io_forget fresh s =
+  complete_io_forget next_number s =
       ap (λ c. unless_refused (first_refusal (actor_refusals w who ++ (is_none c, NoOperation) ∷ [])) (complete_io error bytes c))
-      (issued_forget 1 fresh callback w.callbacks s.numbers)
+      (issued_forget 1 next_number callback w.callbacks s.numbers)
 
   pub complete_io_ranged : IsRanged w → IsCallInRange (CompleteIo callback error bytes) → IsPlanInRange (complete_io_plan w who callback error bytes)
   unfolding complete_io_plan

@@ -38,18 +38,18 @@ use Rattle.tp_model.proofs.Refusals.{NoneHolds, neither, not_false, false_true}
 use Rattle.tp_model.proofs.Kernels.{Stands, that_stands}
 use Rattle.tp_model.proofs.Lists.{all_get}
 use Rattle.tp_model.proofs.Refusals.{numbered_some}
-use Rattle.tp_model.proofs.Planning.{safe_unless, make_safe}
+use Rattle.tp_model.proofs.Allowed.{safe_unless, make_safe}
 use Rattle.tp_model.proofs.Arming.{signal_within}
 use Rattle.tp_model.proofs.Calls.Timers.{fire_safe, fire_ranged}
-use Rattle.tp_model.proofs.Ranging.{AreBare, make_ranged, ranged_unless}
+use Rattle.tp_model.proofs.Ranged.{AreBare, make_ranged, ranged_unless}
 
 -- ---- what makes one
 
 -- the entry's answer is its number
-create_safe : (fresh : ℕ) (w : World) (who : Who) (call : Call) (own : List (Bool × Refusal)) (state : KernelState)
-    → told_by (record { who = who; call = call; answer = answer.Made (length w.kernels + 1) }) ≡ silent → takings_of state ≤ 1 → IsSafe fresh w who call (create_kernel w who own state)
-create_safe fresh w who call own state tells takings =
-    make_safe fresh w who call own w.limits.kernels (length w.kernels) (length w.kernels + 1) (change.CreateKernel state)
+create_safe : (next_number : ℕ) (w : World) (who : Who) (call : Call) (own : List (Bool × Refusal)) (state : KernelState)
+    → told_by (record { who = who; call = call; answer = answer.Made (length w.kernels + 1) }) ≡ silent → takings_of state ≤ 1 → IsSafe next_number w who call (create_kernel w who own state)
+create_safe next_number w who call own state tells takings =
+    make_safe next_number w who call own w.limits.kernels (length w.kernels) (length w.kernels + 1) (change.CreateKernel state)
     (λ room. record { allowed = record { room = room; takings = takings }; made_by = tt; accepted = refl; tells = tells })
 
 create_ranged : (w : World) (who : Who) (own : List (Bool × Refusal)) (state : KernelState) → AreBare (make_refusals w who own w.limits.kernels (length w.kernels)) → IsRanged w
@@ -59,10 +59,10 @@ create_ranged w who own state bare g known =
 
 -- ---- CreateEvent
 
-pub create_event_safe : (fresh : ℕ) (w : World) (who : Who) (manual signalled : Bool) → IsSafe fresh w who (CreateEvent manual signalled) (create_event_plan w who manual signalled)
+pub create_event_safe : (next_number : ℕ) (w : World) (who : Who) (manual signalled : Bool) → IsSafe next_number w who (CreateEvent manual signalled) (create_event_plan w who manual signalled)
 unfolding create_event_plan
-create_event_safe fresh w who manual signalled =
-    create_safe fresh w who (CreateEvent manual signalled) [] (Event manual signalled) refl (omega arith)
+create_event_safe next_number w who manual signalled =
+    create_safe next_number w who (CreateEvent manual signalled) [] (Event manual signalled) refl (omega arith)
 
 pub create_event_forget : (w : World) (who : Who) (manual signalled : Bool) → create_event_plan (forget w) who manual signalled ≡ create_event_plan w who manual signalled
 unfolding create_event_plan
@@ -74,10 +74,10 @@ create_event_ranged w who manual signalled g = create_ranged w who [] (Event man
 
 -- ---- CreateSemaphore
 
-pub create_semaphore_safe : (fresh : ℕ) (w : World) (who : Who) (initial most : ℕ) → IsSafe fresh w who (CreateSemaphore initial most) (create_semaphore_plan w who initial most)
+pub create_semaphore_safe : (next_number : ℕ) (w : World) (who : Who) (initial most : ℕ) → IsSafe next_number w who (CreateSemaphore initial most) (create_semaphore_plan w who initial most)
 unfolding create_semaphore_plan
-create_semaphore_safe fresh w who initial most =
-    create_safe fresh w who (CreateSemaphore initial most) ((nat_lt most initial || (most == 0), OverMaximum initial) ∷ []) (Semaphore initial most) refl (omega arith)
+create_semaphore_safe next_number w who initial most =
+    create_safe next_number w who (CreateSemaphore initial most) ((nat_lt most initial || (most == 0), OverMaximum initial) ∷ []) (Semaphore initial most) refl (omega arith)
 
 pub create_semaphore_forget : (w : World) (who : Who) (initial most : ℕ) → create_semaphore_plan (forget w) who initial most ≡ create_semaphore_plan w who initial most
 unfolding create_semaphore_plan
@@ -103,10 +103,10 @@ made_state lock.Mutex who false = tt
 made_state lock.Section who true = tt
 made_state lock.Section who false = tt
 
-pub create_lock_safe : (fresh : ℕ) (w : World) (who : Who) (lock : Lock) (owned : Bool) → IsSafe fresh w who (CreateLock lock owned) (create_lock_plan w who lock owned)
+pub create_lock_safe : (next_number : ℕ) (w : World) (who : Who) (lock : Lock) (owned : Bool) → IsSafe next_number w who (CreateLock lock owned) (create_lock_plan w who lock owned)
 unfolding create_lock_plan
-create_lock_safe fresh w who lock owned =
-    create_safe fresh w who (CreateLock lock owned) [] (lock_made lock who owned) refl (made_takings lock who owned)
+create_lock_safe next_number w who lock owned =
+    create_safe next_number w who (CreateLock lock owned) [] (lock_made lock who owned) refl (made_takings lock who owned)
 
 pub create_lock_forget : (w : World) (who : Who) (lock : Lock) (owned : Bool) → create_lock_plan (forget w) who lock owned ≡ create_lock_plan w who lock owned
 unfolding create_lock_plan
@@ -118,10 +118,10 @@ create_lock_ranged w who lock owned g = create_ranged w who [] (lock_made lock w
 
 -- ---- what changes one
 
-change_safe : (fresh : ℕ) (w : World) (who : Who) (call : Call) (kind : KernelState → Bool) (kernel : KernelId) (own : List (Bool × Refusal)) (a : Answer) (how : KernelChange) → is_refusal a ≡ false
-    → told_by (record { who = who; call = call; answer = a }) ≡ silent → ((there : Stands kind w kernel.0) → NoneHolds own → Suits how there.row.state) → IsSafe fresh w who call (change_kernel w who kind kernel own a how)
-change_safe fresh w who call kind kernel own a how accepted tells suits =
-    safe_unless fresh w who call (kernel_refusals w who kind kernel.0 own) _
+change_safe : (next_number : ℕ) (w : World) (who : Who) (call : Call) (kind : KernelState → Bool) (kernel : KernelId) (own : List (Bool × Refusal)) (a : Answer) (how : KernelChange) → is_refusal a ≡ false
+    → told_by (record { who = who; call = call; answer = a }) ≡ silent → ((there : Stands kind w kernel.0) → NoneHolds own → Suits how there.row.state) → IsSafe next_number w who call (change_kernel w who kind kernel own a how)
+change_safe next_number w who call kind kernel own a how accepted tells suits =
+    safe_unless next_number w who call (kernel_refusals w who kind kernel.0 own) _
     (λ none.
     let there : Stands kind w kernel.0 = that_stands kind w kernel.0 (not_false (is_kernel_that kind w kernel.0) none.1.0) in
     record { allowed = record { row = there.row; stands = there.stands; suits = suits there none.1.1.1.1.1 }; made_by = tt; accepted = accepted; tells = tells })
@@ -136,28 +136,28 @@ signal_room : (w : World) (how : KernelChange) (kernel : ℕ) → slots w ≤ w.
     → length (filter (λ (c : CallbackRow). is_live c.status) w.callbacks) + length (signal how kernel (jobless (sources_of w))).jobs + length (signal how kernel (jobless (sources_of w))).sources.armings ≤ w.limits.slots
 signal_room w how kernel fits = omega (arith, signal_within how kernel (jobless (sources_of w)), fits)
 
-pub set_event_safe : (fresh : ℕ) (w : World) (who : Who) (kernel : KernelId) → IsSafe fresh w who (SetEvent kernel) (set_event_plan w fresh who kernel)
+pub set_event_safe : (next_number : ℕ) (w : World) (who : Who) (kernel : KernelId) → IsSafe next_number w who (SetEvent kernel) (set_event_plan w next_number who kernel)
 unfolding set_event_plan
-set_event_safe fresh w who kernel =
-    safe_unless fresh w who (SetEvent kernel) (kernel_refusals w who is_event kernel.0 []) _
+set_event_safe next_number w who kernel =
+    safe_unless next_number w who (SetEvent kernel) (kernel_refusals w who is_event kernel.0 []) _
     (λ none.
     let there : Stands is_event w kernel.0 = that_stands is_event w kernel.0 (not_false (is_kernel_that is_event w kernel.0) none.1.0) in
-    fire_safe fresh w who (SetEvent kernel) (trigger.SetEvent kernel) answer.Queued (λ first count. refl) (λ first count. refl) (record { row = there.row; stands = there.stands; suits = there.passes }) (signal_room w Set kernel.0))
+    fire_safe next_number w who (SetEvent kernel) (trigger.SetEvent kernel) answer.Queued (λ first count. refl) (λ first count. refl) (record { row = there.row; stands = there.stands; suits = there.passes }) (signal_room w Set kernel.0))
 
-pub set_event_forget : (fresh : ℕ) (w : World) (who : Who) (kernel : KernelId) → set_event_plan (forget w) fresh who kernel ≡ set_event_plan w fresh who kernel
+pub set_event_forget : (next_number : ℕ) (w : World) (who : Who) (kernel : KernelId) → set_event_plan (forget w) next_number who kernel ≡ set_event_plan w next_number who kernel
 unfolding set_event_plan
-set_event_forget fresh w who kernel = refl
+set_event_forget next_number w who kernel = refl
 
-pub set_event_ranged : (fresh : ℕ) (w : World) (who : Who) (kernel : KernelId) → fresh + 65536 ≤ 2 ^ 64 → IsRanged w → IsPlanInRange (set_event_plan w fresh who kernel)
+pub set_event_ranged : (next_number : ℕ) (w : World) (who : Who) (kernel : KernelId) → next_number + 65536 ≤ 2 ^ 64 → IsRanged w → IsPlanInRange (set_event_plan w next_number who kernel)
 unfolding set_event_plan
-set_event_ranged fresh w who kernel few g =
-    ranged_unless (kernel_refusals w who is_event kernel.0 []) _ _ (fire_ranged fresh w (trigger.SetEvent kernel) answer.Queued (λ first count f n. (f, n)) few g tt (signal_room w Set kernel.0 g.slots_most))
+set_event_ranged next_number w who kernel few g =
+    ranged_unless (kernel_refusals w who is_event kernel.0 []) _ _ (fire_ranged next_number w (trigger.SetEvent kernel) answer.Queued (λ first count f n. (f, n)) few g tt (signal_room w Set kernel.0 g.slots_most))
 
 -- ---- ResetEvent
 
-pub reset_event_safe : (fresh : ℕ) (w : World) (who : Who) (kernel : KernelId) → IsSafe fresh w who (ResetEvent kernel) (reset_event_plan w who kernel)
+pub reset_event_safe : (next_number : ℕ) (w : World) (who : Who) (kernel : KernelId) → IsSafe next_number w who (ResetEvent kernel) (reset_event_plan w who kernel)
 unfolding reset_event_plan
-reset_event_safe fresh w who kernel = change_safe fresh w who (ResetEvent kernel) is_event kernel [] answer.Done Reset refl refl (λ there _. there.passes)
+reset_event_safe next_number w who kernel = change_safe next_number w who (ResetEvent kernel) is_event kernel [] answer.Done Reset refl refl (λ there _. there.passes)
 
 pub reset_event_forget : (w : World) (who : Who) (kernel : KernelId) → reset_event_plan (forget w) who kernel ≡ reset_event_plan w who kernel
 unfolding reset_event_plan
@@ -183,25 +183,25 @@ count_ranged w kernel g = of_row (numbered w.kernels kernel) refl
     of_row None is = omega arith
     of_row (Some row) is = of_state row.state (all_get (λ (k : KernelRow). IsStateInRange k.state) w.kernels (kernel - 1) row g.rows.kernels (numbered_some w.kernels kernel row is).0)
 
-pub release_semaphore_safe : (fresh : ℕ) (w : World) (who : Who) (kernel : KernelId) (more : ℕ) → IsSafe fresh w who (ReleaseSemaphore kernel more) (release_semaphore_plan w fresh who kernel more)
+pub release_semaphore_safe : (next_number : ℕ) (w : World) (who : Who) (kernel : KernelId) (more : ℕ) → IsSafe next_number w who (ReleaseSemaphore kernel more) (release_semaphore_plan w next_number who kernel more)
 unfolding release_semaphore_plan
-release_semaphore_safe fresh w who kernel more =
-    safe_unless fresh w who (ReleaseSemaphore kernel more) (release_semaphore_refusals w who kernel.0 more) _
+release_semaphore_safe next_number w who kernel more =
+    safe_unless next_number w who (ReleaseSemaphore kernel more) (release_semaphore_refusals w who kernel.0 more) _
     (λ none.
     let there : Stands is_semaphore w kernel.0 = that_stands is_semaphore w kernel.0 (not_false (is_kernel_that is_semaphore w kernel.0) none.1.0) in
-    fire_safe fresh w who (ReleaseSemaphore kernel more) (trigger.ReleaseSemaphore kernel more) (answer.Count (count_at w kernel.0)) (λ first count. refl) (λ first count. refl)
+    fire_safe next_number w who (ReleaseSemaphore kernel more) (trigger.ReleaseSemaphore kernel more) (answer.Count (count_at w kernel.0)) (λ first count. refl) (λ first count. refl)
     (record { row = there.row; stands = there.stands; suits = (there.passes, sym (ap (λ r. option_map_or (λ (k : KernelRow). passes_by more k.state) r false) there.stands) ∙ none.1.1.1.1.1.0) })
     (signal_room w (Raise more) kernel.0))
 
-pub release_semaphore_forget : (fresh : ℕ) (w : World) (who : Who) (kernel : KernelId) (more : ℕ) → release_semaphore_plan (forget w) fresh who kernel more ≡ release_semaphore_plan w fresh who kernel more
+pub release_semaphore_forget : (next_number : ℕ) (w : World) (who : Who) (kernel : KernelId) (more : ℕ) → release_semaphore_plan (forget w) next_number who kernel more ≡ release_semaphore_plan w next_number who kernel more
 unfolding release_semaphore_plan
-release_semaphore_forget fresh w who kernel more = refl
+release_semaphore_forget next_number w who kernel more = refl
 
-pub release_semaphore_ranged : (fresh : ℕ) (w : World) (who : Who) (kernel : KernelId) (more : ℕ) → fresh + 65536 ≤ 2 ^ 64 → IsRanged w → IsPlanInRange (release_semaphore_plan w fresh who kernel more)
+pub release_semaphore_ranged : (next_number : ℕ) (w : World) (who : Who) (kernel : KernelId) (more : ℕ) → next_number + 65536 ≤ 2 ^ 64 → IsRanged w → IsPlanInRange (release_semaphore_plan w next_number who kernel more)
 unfolding release_semaphore_plan
-release_semaphore_ranged fresh w who kernel more few g =
+release_semaphore_ranged next_number w who kernel more few g =
     ranged_unless (release_semaphore_refusals w who kernel.0 more) _ (tt, (tt, (tt, (tt, (tt, (count_ranged w kernel.0 g, tt))))))
-    (fire_ranged fresh w (trigger.ReleaseSemaphore kernel more) (answer.Count (count_at w kernel.0)) (λ first count f n. (count_ranged w kernel.0 g, f, n)) few g tt (signal_room w (Raise more) kernel.0 g.slots_most))
+    (fire_ranged next_number w (trigger.ReleaseSemaphore kernel more) (answer.Count (count_at w kernel.0)) (λ first count f n. (count_ranged w kernel.0 g, f, n)) few g tt (signal_room w (Raise more) kernel.0 g.slots_most))
 
 -- ---- ReleaseLock
 
@@ -215,10 +215,10 @@ lock_suits lock.Section (Event manual signalled) e = absurd (false_true e)
 lock_suits lock.Mutex (Semaphore count most) e = absurd (false_true e)
 lock_suits lock.Section (Semaphore count most) e = absurd (false_true e)
 
-pub release_lock_safe : (fresh : ℕ) (w : World) (who : Who) (lock : Lock) (kernel : KernelId) → IsSafe fresh w who (ReleaseLock lock kernel) (release_lock_plan w who lock kernel)
+pub release_lock_safe : (next_number : ℕ) (w : World) (who : Who) (lock : Lock) (kernel : KernelId) → IsSafe next_number w who (ReleaseLock lock kernel) (release_lock_plan w who lock kernel)
 unfolding release_lock_plan
-release_lock_safe fresh w who lock kernel =
-    change_safe fresh w who (ReleaseLock lock kernel) (is_lock lock) kernel ((not (is_kernel_that (owns who) w kernel.0), NotOwner) ∷ []) answer.Done Leave refl refl (λ there _. lock_suits lock there.row.state there.passes)
+release_lock_safe next_number w who lock kernel =
+    change_safe next_number w who (ReleaseLock lock kernel) (is_lock lock) kernel ((not (is_kernel_that (owns who) w kernel.0), NotOwner) ∷ []) answer.Done Leave refl refl (λ there _. lock_suits lock there.row.state there.passes)
 
 pub release_lock_forget : (w : World) (who : Who) (lock : Lock) (kernel : KernelId) → release_lock_plan (forget w) who lock kernel ≡ release_lock_plan w who lock kernel
 unfolding release_lock_plan

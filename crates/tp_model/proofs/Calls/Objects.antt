@@ -31,15 +31,15 @@ use Rattle.tp_model.specs.Support.Ranged.{IsRanged, IsPlanInRange}
 use Rattle.tp_model.proofs.Lists.{any_filter}
 use Rattle.tp_model.proofs.Refusals.{neither, not_false, made, false_true}
 use Rattle.tp_model.proofs.Forgetting.{outstanding_forget}
-use Rattle.tp_model.proofs.Planning.{safe_unless}
-use Rattle.tp_model.proofs.Ranging.{ranged_unless, made_ranged}
+use Rattle.tp_model.proofs.Allowed.{safe_unless}
+use Rattle.tp_model.proofs.Ranged.{ranged_unless, made_ranged}
 
 -- ---- Create
 
-pub create_safe : (fresh : ℕ) (w : World) (who : Who) (kind : Kind) (routine : RoutineId) (context : ℕ) (env : Environ) → IsSafe fresh w who (Create kind routine context env) (create_plan w who kind routine context env)
+pub create_safe : (next_number : ℕ) (w : World) (who : Who) (kind : Kind) (routine : RoutineId) (context : ℕ) (env : Environ) → IsSafe next_number w who (Create kind routine context env) (create_plan w who kind routine context env)
 unfolding create_plan
-create_safe fresh w who kind routine context env =
-    safe_unless fresh w who (Create kind routine context env) (create_refusals w who env) _
+create_safe next_number w who kind routine context env =
+    safe_unless next_number w who (Create kind routine context env) (create_refusals w who env) _
     (λ none.
     let there = neither (not (is_actor w who) || not (is_pool w env.pool.0)) (not (is_no_group_or_group w env.group.0)) none.0 in
     let home = made w.pools env.pool.0 (not_false (is_pool w env.pool.0) (neither (not (is_actor w who)) (not (is_pool w env.pool.0)) there.0).1) in
@@ -65,10 +65,10 @@ unreleased w object there live idle = of_row (numbered w.objects object.0) refl 
     of_row None is h l = absurd (false_true h)
     of_row (Some row) is h l = record { row = row; stands = is; unreleased = l; idle = idle }
 
-pub close_object_safe : (fresh : ℕ) (w : World) (who : Who) (kind : Kind) (object : ObjectId) → IsSafe fresh w who (CloseObject kind object) (close_object_plan w who kind object)
+pub close_object_safe : (next_number : ℕ) (w : World) (who : Who) (kind : Kind) (object : ObjectId) → IsSafe next_number w who (CloseObject kind object) (close_object_plan w who kind object)
 unfolding close_object_plan
-close_object_safe fresh w who kind object =
-    safe_unless fresh w who (CloseObject kind object) (close_object_refusals w who kind object) _
+close_object_safe next_number w who kind object =
+    safe_unless next_number w who (CloseObject kind object) (close_object_refusals w who kind object) _
     (λ none.
     let there = not_false (is_object w object.0) (neither (not (is_actor w who)) (not (is_object w object.0)) none.0).1 in
     let live = (neither (is_finished w who) (is_released w object.0) none.1.1.0).1 in

@@ -18,21 +18,21 @@ use Rattle.tp_model.specs.Counts.{is_live}
 use Rattle.tp_model.specs.Conditions.{is_actor, is_pool}
 use Rattle.tp_model.specs.History.{is_refusal}
 use Rattle.tp_model.specs.Calls.Pools.{create_pool_plan, pool_refusals, change_pool_plan, is_used, close_pool_plan, set_maximum_plan, set_minimum_plan}
-use Rattle.tp_model.specs.Support.Told.{told, told_by}
+use Rattle.tp_model.specs.Support.Told.{told_by_change, told_by}
 use Rattle.tp_model.specs.Support.Safe.{IsSafe}
 use Rattle.tp_model.specs.Support.Remembered.{lives, forget}
 use Rattle.tp_model.specs.Support.Ranged.{IsRanged, IsPlanInRange}
 use Rattle.tp_model.proofs.Lists.{any_filter}
 use Rattle.tp_model.proofs.Refusals.{neither, not_false, made}
-use Rattle.tp_model.proofs.Planning.{safe_unless, make_safe}
-use Rattle.tp_model.proofs.Ranging.{ranged_unless, make_ranged}
+use Rattle.tp_model.proofs.Allowed.{safe_unless, make_safe}
+use Rattle.tp_model.proofs.Ranged.{ranged_unless, make_ranged}
 
 -- ---- CreatePool
 
-pub create_pool_safe : (fresh : ℕ) (w : World) (who : Who) → IsSafe fresh w who CreatePool (create_pool_plan w who)
+pub create_pool_safe : (next_number : ℕ) (w : World) (who : Who) → IsSafe next_number w who CreatePool (create_pool_plan w who)
 unfolding create_pool_plan
-create_pool_safe fresh w who =
-    make_safe fresh w who CreatePool [] w.limits.pools (length w.pools) (length w.pools) change.CreatePool (λ room. record { allowed = room; made_by = tt; accepted = refl; tells = refl })
+create_pool_safe next_number w who =
+    make_safe next_number w who CreatePool [] w.limits.pools (length w.pools) (length w.pools) change.CreatePool (λ room. record { allowed = room; made_by = tt; accepted = refl; tells = refl })
 
 pub create_pool_forget : (w : World) (who : Who) → create_pool_plan (forget w) who ≡ create_pool_plan w who
 unfolding create_pool_plan
@@ -45,10 +45,10 @@ create_pool_ranged w who g =
 
 -- ---- what changes a pool
 
-change_pool_safe : (fresh : ℕ) (w : World) (who : Who) (call : Call) (pool : PoolId) (how : PoolChange) (a : Answer) → is_refusal a ≡ false → told_by (record { who = who; call = call; answer = a }) ≡ told fresh w (change.ChangePool pool how)
-    → IsSafe fresh w who call (change_pool_plan w who pool how a)
-change_pool_safe fresh w who call pool how a accepted tells =
-    safe_unless fresh w who call (pool_refusals w who pool.0) _
+change_pool_safe : (next_number : ℕ) (w : World) (who : Who) (call : Call) (pool : PoolId) (how : PoolChange) (a : Answer) → is_refusal a ≡ false → told_by (record { who = who; call = call; answer = a }) ≡ told_by_change next_number w (change.ChangePool pool how)
+    → IsSafe next_number w who call (change_pool_plan w who pool how a)
+change_pool_safe next_number w who call pool how a accepted tells =
+    safe_unless next_number w who call (pool_refusals w who pool.0) _
     (λ none. record { allowed = made w.pools pool.0 (not_false (is_pool w pool.0) (neither (not (is_actor w who)) (not (is_pool w pool.0)) none.0).1); made_by = tt; accepted = accepted; tells = tells })
 
 change_pool_ranged : (w : World) (who : Who) (pool : PoolId) (how : PoolChange) (a : Answer) → IsAnswerInRange a → IsPlanInRange (change_pool_plan w who pool how a)
@@ -56,9 +56,9 @@ change_pool_ranged w who pool how a within = ranged_unless (pool_refusals w who 
 
 -- ---- ClosePool
 
-pub close_pool_safe : (fresh : ℕ) (w : World) (who : Who) (pool : PoolId) → IsSafe fresh w who (ClosePool pool) (close_pool_plan w who pool)
+pub close_pool_safe : (next_number : ℕ) (w : World) (who : Who) (pool : PoolId) → IsSafe next_number w who (ClosePool pool) (close_pool_plan w who pool)
 unfolding close_pool_plan
-close_pool_safe fresh w who pool = change_pool_safe fresh w who (ClosePool pool) pool Close (answer.Closed (is_used w pool.0)) refl refl
+close_pool_safe next_number w who pool = change_pool_safe next_number w who (ClosePool pool) pool Close (answer.Closed (is_used w pool.0)) refl refl
 
 used_forget : (w : World) (pool : ℕ) → is_used (forget w) pool ≡ is_used w pool
 used_forget w pool =
@@ -75,9 +75,9 @@ close_pool_ranged w who pool = change_pool_ranged w who pool Close (answer.Close
 
 -- ---- SetMaximum
 
-pub set_maximum_safe : (fresh : ℕ) (w : World) (who : Who) (pool : PoolId) (value : ℕ) → IsSafe fresh w who (SetMaximum pool value) (set_maximum_plan w who pool value)
+pub set_maximum_safe : (next_number : ℕ) (w : World) (who : Who) (pool : PoolId) (value : ℕ) → IsSafe next_number w who (SetMaximum pool value) (set_maximum_plan w who pool value)
 unfolding set_maximum_plan
-set_maximum_safe fresh w who pool value = change_pool_safe fresh w who (SetMaximum pool value) pool (Maximum value) answer.Done refl refl
+set_maximum_safe next_number w who pool value = change_pool_safe next_number w who (SetMaximum pool value) pool (Maximum value) answer.Done refl refl
 
 pub set_maximum_forget : (w : World) (who : Who) (pool : PoolId) (value : ℕ) → set_maximum_plan (forget w) who pool value ≡ set_maximum_plan w who pool value
 unfolding set_maximum_plan
@@ -89,9 +89,9 @@ set_maximum_ranged w who pool value = change_pool_ranged w who pool (Maximum val
 
 -- ---- SetMinimum
 
-pub set_minimum_safe : (fresh : ℕ) (w : World) (who : Who) (pool : PoolId) (value : ℕ) → IsSafe fresh w who (SetMinimum pool value) (set_minimum_plan w who pool value)
+pub set_minimum_safe : (next_number : ℕ) (w : World) (who : Who) (pool : PoolId) (value : ℕ) → IsSafe next_number w who (SetMinimum pool value) (set_minimum_plan w who pool value)
 unfolding set_minimum_plan
-set_minimum_safe fresh w who pool value = change_pool_safe fresh w who (SetMinimum pool value) pool (Minimum value) answer.Done refl refl
+set_minimum_safe next_number w who pool value = change_pool_safe next_number w who (SetMinimum pool value) pool (Minimum value) answer.Done refl refl
 
 pub set_minimum_forget : (w : World) (who : Who) (pool : PoolId) (value : ℕ) → set_minimum_plan (forget w) who pool value ≡ set_minimum_plan w who pool value
 unfolding set_minimum_plan

@@ -40,8 +40,8 @@ use Rattle.tp_model.proofs.Refusals.{neither, not_false, false_true, numbered_so
 use Rattle.tp_model.proofs.Callbacks.{over_not_pending}
 use Rattle.tp_model.proofs.Cancelling.{cancelled_if}
 use Rattle.tp_model.proofs.Forgetting.{over_not_cancelled, over_not_covered, covered_forget, busy_forget, over_forget, over_not_outstanding}
-use Rattle.tp_model.proofs.Planning.{safe_unless}
-use Rattle.tp_model.proofs.Ranging.{ranged_unless}
+use Rattle.tp_model.proofs.Allowed.{safe_unless}
+use Rattle.tp_model.proofs.Ranged.{ranged_unless}
 use Rattle.std.specs.List.{AllByRecursion}
 use Rattle.tp_base.specs.declared.rows.ObjectRow.{ObjectRow}
 use Rattle.tp_model.specs.Laws.Entries.{Notice, is_among}
@@ -53,10 +53,10 @@ use Rattle.tp_model.specs.Sources.{object_row, no_object}
 
 -- ---- BeginWait
 
-pub begin_wait_safe : (fresh : ℕ) (w : World) (who : Who) (kind : Kind) (object : ObjectId) (cancel : Bool) → IsSafe fresh w who (BeginWait kind object cancel) (begin_wait_plan w who kind object cancel)
+pub begin_wait_safe : (next_number : ℕ) (w : World) (who : Who) (kind : Kind) (object : ObjectId) (cancel : Bool) → IsSafe next_number w who (BeginWait kind object cancel) (begin_wait_plan w who kind object cancel)
 unfolding begin_wait_plan
-begin_wait_safe fresh w who kind object cancel =
-    safe_unless fresh w who (BeginWait kind object cancel) (begin_wait_refusals w who kind object.0) _ (λ none.
+begin_wait_safe next_number w who kind object cancel =
+    safe_unless next_number w who (BeginWait kind object cancel) (begin_wait_refusals w who kind object.0) _ (λ none.
     let there = neither (not (is_actor w who)) (not (is_object w object.0)) none.0 in
     record { allowed = record { actor = not_false (is_actor w who) there.0; none = none.1.1.1.1.0; object = tt; made = not_false (is_object w object.0) there.1 }; made_by = refl; accepted = refl; tells = refl })
 
@@ -65,9 +65,9 @@ begun_forget w target cancel =
     ap₂ (λ m n. answer.Begun m n) (ap length (covered_forget w target cancel))
     (ap length (filter_filter (is_cancelled_by target cancel) lives (over_not_cancelled target cancel) w.callbacks))
 
-own_refusals_forget : (fresh : ℕ) (w : World) (who : Who) (kind : Kind) (object : ℕ) → IsSound fresh w → first_refusal (begin_wait_refusals (forget w) who kind object) ≡ first_refusal (begin_wait_refusals w who kind object)
-own_refusals_forget fresh w who kind object s =
-    ap (λ (by : Option Busy). first_refusal (with_own (option_map_or (λ (x : Busy). is_associated x.callback.status && (x.callback.object.0 == object)) by false))) (busy_forget fresh w who s)
+own_refusals_forget : (next_number : ℕ) (w : World) (who : Who) (kind : Kind) (object : ℕ) → IsSound next_number w → first_refusal (begin_wait_refusals (forget w) who kind object) ≡ first_refusal (begin_wait_refusals w who kind object)
+own_refusals_forget next_number w who kind object s =
+    ap (λ (by : Option Busy). first_refusal (with_own (option_map_or (λ (x : Busy). is_associated x.callback.status && (x.callback.object.0 == object)) by false))) (busy_forget next_number w who s)
   where
     with_own : Bool → List (Bool × Refusal)
     with_own own =
@@ -79,10 +79,10 @@ own_refusals_forget fresh w who kind object s =
         ∷ (own, OwnCallback)
         ∷ []
 
-pub begin_wait_forget : (fresh : ℕ) (w : World) (who : Who) (kind : Kind) (object : ObjectId) (cancel : Bool) → IsSound fresh w → begin_wait_plan (forget w) who kind object cancel ≡ begin_wait_plan w who kind object cancel
+pub begin_wait_forget : (next_number : ℕ) (w : World) (who : Who) (kind : Kind) (object : ObjectId) (cancel : Bool) → IsSound next_number w → begin_wait_plan (forget w) who kind object cancel ≡ begin_wait_plan w who kind object cancel
 unfolding begin_wait_plan
-begin_wait_forget fresh w who kind object cancel s =
-    ap₂ (λ r a. unless_refused r (plan.Does a (change.BeginWait who (Object object) cancel))) (own_refusals_forget fresh w who kind object.0 s) (begun_forget w (Object object) cancel)
+begin_wait_forget next_number w who kind object cancel s =
+    ap₂ (λ r a. unless_refused r (plan.Does a (change.BeginWait who (Object object) cancel))) (own_refusals_forget next_number w who kind object.0 s) (begun_forget w (Object object) cancel)
 
 covers_within : (q test : CallbackRow → Bool) (cs : List CallbackRow) → length (filter q (cancel_where test cs)) ≤ length (filter (λ c. q (cancelled_if test c)) cs)
 covers_within q test [] = omega arith
@@ -116,10 +116,10 @@ none_cancelled : (target : WaitTarget) (cs : List CallbackRow) → length (filte
 none_cancelled target [] = refl
 none_cancelled target (c ∷ cs) = none_cancelled target cs
 
-pub begin_acquire_safe : (fresh : ℕ) (w : World) (who : Who) (kernel : KernelId) → IsSafe fresh w who (BeginAcquire kernel) (begin_acquire_plan w who kernel)
+pub begin_acquire_safe : (next_number : ℕ) (w : World) (who : Who) (kernel : KernelId) → IsSafe next_number w who (BeginAcquire kernel) (begin_acquire_plan w who kernel)
 unfolding begin_acquire_plan
-begin_acquire_safe fresh w who kernel =
-    safe_unless fresh w who (BeginAcquire kernel) (begin_acquire_refusals w who kernel.0) _ (λ none.
+begin_acquire_safe next_number w who kernel =
+    safe_unless next_number w who (BeginAcquire kernel) (begin_acquire_refusals w who kernel.0) _ (λ none.
     let there = neither (not (is_actor w who)) (not (is_kernel w kernel.0)) none.0 in
     record {
       allowed = record { actor = not_false (is_actor w who) there.0; none = none.1.1.1.0; object = tt; made = not_false (is_kernel w kernel.0) there.1 };
@@ -151,8 +151,8 @@ none_held w b kernel at = ap (λ t. filter (is_held w t) b.covered) at ∙ none 
     none (n ∷ ns) = ap (λ t. cond t (n ∷ filter (is_held w (Kernel kernel)) ns) (filter (is_held w (Kernel kernel)) ns)) (of_row (callback_of w n)) ∙ none ns
 
 -- a wait that holds a callback which is pending has no notices to give
-starved_unnoticed : (fresh room : ℕ) (w : World) (b : BegunWait) → IsWaitSound fresh w.callbacks b → holds_starved w room (held w b) ≡ true → b.notices ≡ []
-starved_unnoticed fresh room w b sound starved = of_list b.covered (λ n among. among) starved
+starved_unnoticed : (next_number room : ℕ) (w : World) (b : BegunWait) → IsWaitSound next_number w.callbacks b → holds_starved w room (held w b) ≡ true → b.notices ≡ []
+starved_unnoticed next_number room w b sound starved = of_list b.covered (λ n among. among) starved
   where
     of_row : (n : ℕ) (o : Option CallbackRow) → callback_of w n ≡ o → option_map_or (is_outstanding_for b.target) o false ≡ true → option_map_or (is_starved w room) o false ≡ true → is_among n b.covered ≡ true → b.notices ≡ []
     of_row n None at out short among = absurd (false_true out)
@@ -176,14 +176,14 @@ starved_unnoticed fresh room w b sound starved = of_list b.covered (λ n among. 
         behind m true h = refl
         behind m false h = h
 
-pub end_safe : (fresh room : ℕ) (w : World) (who : Who) → IsSound fresh w → IsSafe fresh w who End (end_plan w room who)
+pub end_safe : (next_number room : ℕ) (w : World) (who : Who) → IsSound next_number w → IsSafe next_number w who End (end_plan w room who)
 unfolding end_plan
-end_safe fresh room w who s = safe_unless fresh w who End (end_refusals w who) _ (λ _. ends (wait_of w who) refl)
+end_safe next_number room w who s = safe_unless next_number w who End (end_refusals w who) _ (λ _. ends (wait_of w who) refl)
   where
-    sound_wait : (b : BegunWait) → wait_of w who ≡ Some b → IsWaitSound fresh w.callbacks b
-    sound_wait b is = find_all (IsWaitSound fresh w.callbacks) (λ (x : BegunWait). is_same_actor x.actor who) b w.waits s.waits is
+    sound_wait : (b : BegunWait) → wait_of w who ≡ Some b → IsWaitSound next_number w.callbacks b
+    sound_wait b is = find_all (IsWaitSound next_number w.callbacks) (λ (x : BegunWait). is_same_actor x.actor who) b w.waits s.waits is
 
-    gives : (b : BegunWait) (os : List ObjectId) → wait_of w who ≡ Some b → IsTakeable w who b.target → held w b ≡ [] → b.notices ≡ os → IsSafe fresh w who End (end_notices w who b.cleanup os)
+    gives : (b : BegunWait) (os : List ObjectId) → wait_of w who ≡ Some b → IsTakeable w who b.target → held w b ≡ [] → b.notices ≡ os → IsSafe next_number w who End (end_notices w who b.cleanup os)
     gives b [] is takes free left = record { allowed = record { wait = b; begun = is; unnoticed = left; free = λ _. free; takes = λ _. takes }; made_by = refl; accepted = refl; tells = refl }
     gives b (o ∷ os) is takes free left =
         record {
@@ -193,13 +193,13 @@ end_safe fresh room w who s = safe_unless fresh w who End (end_refusals w who) _
           tells = ap (λ (n : Option Notice). record silent { notice = n }) (sym (ap (next_notice w.objects) is ∙ ap (first_left w.objects b.cleanup) left));
         }
 
-    ends_with : (b : BegunWait) (numbers : List ℕ) → wait_of w who ≡ Some b → IsTakeable w who b.target → held w b ≡ numbers → IsSafe fresh w who End (end_held w room who b numbers)
+    ends_with : (b : BegunWait) (numbers : List ℕ) → wait_of w who ≡ Some b → IsTakeable w who b.target → held w b ≡ numbers → IsSafe next_number w who End (end_held w room who b numbers)
     ends_with b [] is takes free = gives b b.notices is takes free refl
     ends_with b (n ∷ ns) is takes left =
-        elim (holds_starved w room (n ∷ ns)) as (λ t. holds_starved w room (n ∷ ns) ≡ t → IsSafe fresh w who End (cond t (plan.Does answer.Exhausted (change.EndWait who how.Exhausted)) (plan.Looked (look.NotYet n)))) [
+        elim (holds_starved w room (n ∷ ns)) as (λ t. holds_starved w room (n ∷ ns) ≡ t → IsSafe next_number w who End (cond t (plan.Does answer.Exhausted (change.EndWait who how.Exhausted)) (plan.Looked (look.NotYet n)))) [
           | true ↦ λ starved.
               record {
-                allowed = record { wait = b; begun = is; unnoticed = starved_unnoticed fresh room w b (sound_wait b is) (ap (holds_starved w room) left ∙ starved); free = λ e. absurd cc; takes = λ e. absurd cc };
+                allowed = record { wait = b; begun = is; unnoticed = starved_unnoticed next_number room w b (sound_wait b is) (ap (holds_starved w room) left ∙ starved); free = λ e. absurd cc; takes = λ e. absurd cc };
                 made_by = refl;
                 accepted = refl;
                 tells = refl;
@@ -207,16 +207,16 @@ end_safe fresh room w who s = safe_unless fresh w who End (end_refusals w who) _
           | false ↦ λ _. tt
         ] refl
 
-    ends : (b : Option BegunWait) → wait_of w who ≡ b → IsSafe fresh w who End (end_wait w room who b)
+    ends : (b : Option BegunWait) → wait_of w who ≡ b → IsSafe next_number w who End (end_wait w room who b)
     ends None is = tt
     ends (Some b) is = of_target b.target refl
       where
-        of_target : (t : WaitTarget) → b.target ≡ t → IsSafe fresh w who End (end_for w room who b t)
+        of_target : (t : WaitTarget) → b.target ≡ t → IsSafe next_number w who End (end_for w room who b t)
         of_target (Object object) at = ends_with b (held w b) is (subst (IsTakeable w who) (sym at) tt) refl
         of_target (Group group) at = ends_with b (held w b) is (subst (IsTakeable w who) (sym at) tt) refl
         of_target (Kernel kernel) at = acquires (is_kernel_that (may_take who) w kernel.0) refl
           where
-            acquires : (t : Bool) → is_kernel_that (may_take who) w kernel.0 ≡ t → IsSafe fresh w who End (cond t (plan.Does answer.Ended (change.EndWait who how.Free)) (plan.Looked (look.NotYetKernel kernel)))
+            acquires : (t : Bool) → is_kernel_that (may_take who) w kernel.0 ≡ t → IsSafe next_number w who End (cond t (plan.Does answer.Ended (change.EndWait who how.Free)) (plan.Looked (look.NotYetKernel kernel)))
             acquires true may =
                 record {
                   allowed = record { wait = b; begun = is; unnoticed = (sound_wait b is).quiet (ap is_group_target at); free = λ _. none_held w b kernel at; takes = λ _. subst (IsTakeable w who) (sym at) may };
@@ -226,22 +226,22 @@ end_safe fresh room w who s = safe_unless fresh w who End (end_refusals w who) _
                 }
             acquires false may = tt
 
-held_forget : (fresh : ℕ) (w : World) (target : WaitTarget) (number : ℕ) → IsSound fresh w → is_held (forget w) target number ≡ is_held w target number
-held_forget fresh w target number s = over_forget (is_outstanding_for target) (over_not_outstanding target) 1 fresh number w.callbacks s.numbers
+held_forget : (next_number : ℕ) (w : World) (target : WaitTarget) (number : ℕ) → IsSound next_number w → is_held (forget w) target number ≡ is_held w target number
+held_forget next_number w target number s = over_forget (is_outstanding_for target) (over_not_outstanding target) 1 next_number number w.callbacks s.numbers
 
-all_held_forget : (fresh : ℕ) (w : World) (b : BegunWait) → IsSound fresh w → held (forget w) b ≡ held w b
-all_held_forget fresh w b s = filter_agree (is_held (forget w) b.target) (is_held w b.target) (λ n. held_forget fresh w b.target n s) b.covered
+all_held_forget : (next_number : ℕ) (w : World) (b : BegunWait) → IsSound next_number w → held (forget w) b ≡ held w b
+all_held_forget next_number w b s = filter_agree (is_held (forget w) b.target) (is_held w b.target) (λ n. held_forget next_number w b.target n s) b.covered
 
-starved_forget : (fresh room : ℕ) (w : World) (numbers : List ℕ) → IsSound fresh w → holds_starved (forget w) room numbers ≡ holds_starved w room numbers
-starved_forget fresh room w [] s = refl
-starved_forget fresh room w (n ∷ ns) s =
+starved_forget : (next_number room : ℕ) (w : World) (numbers : List ℕ) → IsSound next_number w → holds_starved (forget w) room numbers ≡ holds_starved w room numbers
+starved_forget next_number room w [] s = refl
+starved_forget next_number room w (n ∷ ns) s =
     ap₂ (λ p q. p || q)
-    (over_forget (is_starved w room) (λ c e. ap (λ b. b && (nat_lt room 2 || (nat_lt room 4 && (attached w c.pool.0 == 0)))) (over_not_pending c.status e)) 1 fresh n w.callbacks s.numbers)
-    (starved_forget fresh room w ns s)
+    (over_forget (is_starved w room) (λ c e. ap (λ b. b && (nat_lt room 2 || (nat_lt room 4 && (attached w c.pool.0 == 0)))) (over_not_pending c.status e)) 1 next_number n w.callbacks s.numbers)
+    (starved_forget next_number room w ns s)
 
-pub end_forget : (fresh room : ℕ) (w : World) (who : Who) → IsSound fresh w → end_plan (forget w) room who ≡ end_plan w room who
+pub end_forget : (next_number room : ℕ) (w : World) (who : Who) → IsSound next_number w → end_plan (forget w) room who ≡ end_plan w room who
 unfolding end_plan
-end_forget fresh room w who s = ap (unless_refused (first_refusal (end_refusals w who))) (ends (wait_of w who))
+end_forget next_number room w who s = ap (unless_refused (first_refusal (end_refusals w who))) (ends (wait_of w who))
   where
     gives : (b : BegunWait) (os : List ObjectId) → end_notices (forget w) who b.cleanup os ≡ end_notices w who b.cleanup os
     gives b [] = refl
@@ -250,15 +250,15 @@ end_forget fresh room w who s = ap (unless_refused (first_refusal (end_refusals 
     ends_with : (b : BegunWait) (numbers : List ℕ) → end_held (forget w) room who b numbers ≡ end_held w room who b numbers
     ends_with b [] = gives b b.notices
     ends_with b (n ∷ ns) =
-        ap (λ b. cond b (plan.Does answer.Exhausted (change.EndWait who how.Exhausted)) (plan.Looked (look.NotYet n))) (starved_forget fresh room w (n ∷ ns) s)
+        ap (λ b. cond b (plan.Does answer.Exhausted (change.EndWait who how.Exhausted)) (plan.Looked (look.NotYet n))) (starved_forget next_number room w (n ∷ ns) s)
 
     ends : (b : Option BegunWait) → end_wait (forget w) room who b ≡ end_wait w room who b
     ends None = refl
     ends (Some b) = of_target b.target
       where
         of_target : (t : WaitTarget) → end_for (forget w) room who b t ≡ end_for w room who b t
-        of_target (Object object) = ap (end_held (forget w) room who b) (all_held_forget fresh w b s) ∙ ends_with b (held w b)
-        of_target (Group group) = ap (end_held (forget w) room who b) (all_held_forget fresh w b s) ∙ ends_with b (held w b)
+        of_target (Object object) = ap (end_held (forget w) room who b) (all_held_forget next_number w b s) ∙ ends_with b (held w b)
+        of_target (Group group) = ap (end_held (forget w) room who b) (all_held_forget next_number w b s) ∙ ends_with b (held w b)
         of_target (Kernel kernel) = refl
 
 -- the first of those that a wait still waits for is the number of a callback
@@ -279,9 +279,9 @@ held_ranged w b number numbers g e = first (is_held w b.target) (λ k found. of_
           | false ↦ λ _ q. first p within xs j js q
         ] refl h
 
-pub end_ranged : (fresh room : ℕ) (w : World) (who : Who) → IsSound fresh w → IsRanged w → IsPlanInRange (end_plan w room who)
+pub end_ranged : (next_number room : ℕ) (w : World) (who : Who) → IsSound next_number w → IsRanged w → IsPlanInRange (end_plan w room who)
 unfolding end_plan
-end_ranged fresh room w who s g = ranged_unless (end_refusals w who) _ _ (ends (wait_of w who) refl)
+end_ranged next_number room w who s g = ranged_unless (end_refusals w who) _ _ (ends (wait_of w who) refl)
   where
     gives : (b : BegunWait) (os : List ObjectId) → IsWaitInRange b → AllByRecursion (λ (o : ObjectId). is_object_that has_cancel w.objects o.0 ≡ true) os → IsPlanInRange (end_notices w who b.cleanup os)
     gives b [] within named = (tt, tt)

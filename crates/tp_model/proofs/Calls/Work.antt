@@ -25,8 +25,8 @@ use Rattle.tp_model.specs.Support.Ranged.{IsObjectInRange, IsRanged, IsPlanInRan
 use Rattle.tp_model.proofs.Lists.{all_get}
 use Rattle.tp_model.proofs.Refusals.{neither, not_false, false_true, made, numbered_some}
 use Rattle.tp_model.proofs.Forgetting.{live_again}
-use Rattle.tp_model.proofs.Planning.{safe_unless, row_stands}
-use Rattle.tp_model.proofs.Ranging.{ranged_unless}
+use Rattle.tp_model.proofs.Allowed.{safe_unless, row_stands}
+use Rattle.tp_model.proofs.Ranged.{ranged_unless}
 use Rattle.tp_model.specs.Support.Told.{silent}
 
 -- ---- SubmitWork
@@ -45,12 +45,12 @@ work_apart objects object work = of_row (numbered objects object) refl work
     of_row None is e = absurd (false_true e)
     of_row (Some row) is e = ap (λ (r : Option ObjectRow). option_map_or (λ (o : ObjectRow). is_same_kind o.kind Wait) r false) is ∙ of_kind row.kind e
 
-pub submit_work_safe : (fresh : ℕ) (w : World) (who : Who) (object : ObjectId) → IsSound fresh w → IsSafe fresh w who (SubmitWork object) (submit_work_plan w fresh who object)
+pub submit_work_safe : (next_number : ℕ) (w : World) (who : Who) (object : ObjectId) → IsSound next_number w → IsSafe next_number w who (SubmitWork object) (submit_work_plan w next_number who object)
 unfolding submit_work_plan
-submit_work_safe fresh w who object s =
-    safe_unless fresh w who (SubmitWork object) (submit_work_refusals w who object.0) _ (λ none. submits (numbered w.objects object.0) refl (work_apart w.objects object.0 (not_false (is_object_of w Work object.0) none.1.0)) none.1.1.1.1.1.0 (neither (is_finished w who) (is_released w object.0) none.1.1.0).1)
+submit_work_safe next_number w who object s =
+    safe_unless next_number w who (SubmitWork object) (submit_work_refusals w who object.0) _ (λ none. submits (numbered w.objects object.0) refl (work_apart w.objects object.0 (not_false (is_object_of w Work object.0) none.1.0)) none.1.1.1.1.1.0 (neither (is_finished w who) (is_released w object.0) none.1.1.0).1)
   where
-    submits : (row : Option ObjectRow) → numbered w.objects object.0 ≡ row → is_wait_at w.objects object.0 ≡ false → lacks_slots_for w 1 ≡ false → is_released w object.0 ≡ false → IsSafe fresh w who (SubmitWork object) (submit fresh object row)
+    submits : (row : Option ObjectRow) → numbered w.objects object.0 ≡ row → is_wait_at w.objects object.0 ≡ false → lacks_slots_for w 1 ≡ false → is_released w object.0 ≡ false → IsSafe next_number w who (SubmitWork object) (submit next_number object row)
     submits None is apart fits live = tt
     submits (Some row) is apart fits live =
         let at = numbered_some w.objects object.0 row is in
@@ -59,22 +59,22 @@ submit_work_safe fresh w who object s =
           allowed = record { number = refl; pending = refl; object = λ _. record { row = row; stands = is; home = refl; group = refl }; home = home; room = fits; stands = λ _. row_stands w.objects object.0 row is live };
           made_by = (apart, refl);
           accepted = refl;
-          tells = ap (λ b. record silent { made = fresh ∷ []; queued = fresh ∷ []; simple = cond b (Some row.env.group) None }) (sym (ne_eqb object.0 0 (λ e. omega (arith, e, at.1))));
+          tells = ap (λ b. record silent { made = next_number ∷ []; queued = next_number ∷ []; simple = cond b (Some row.env.group) None }) (sym (ne_eqb object.0 0 (λ e. omega (arith, e, at.1))));
         }
 
-pub submit_work_forget : (fresh : ℕ) (w : World) (who : Who) (object : ObjectId) → submit_work_plan (forget w) fresh who object ≡ submit_work_plan w fresh who object
+pub submit_work_forget : (next_number : ℕ) (w : World) (who : Who) (object : ObjectId) → submit_work_plan (forget w) next_number who object ≡ submit_work_plan w next_number who object
 unfolding submit_work_plan
-submit_work_forget fresh w who object = ap (λ r. unless_refused r (submit fresh object (numbered w.objects object.0))) refused
+submit_work_forget next_number w who object = ap (λ r. unless_refused r (submit next_number object (numbered w.objects object.0))) refused
   where
     refused : first_refusal (submit_work_refusals (forget w) who object.0) ≡ first_refusal (submit_work_refusals w who object.0)
     refused = rw (live_again w.callbacks)
 
-pub submit_work_ranged : (fresh : ℕ) (w : World) (who : Who) (object : ObjectId) → fresh < 2 ^ 64 → IsRanged w → IsCallInRange (SubmitWork object) → IsPlanInRange (submit_work_plan w fresh who object)
+pub submit_work_ranged : (next_number : ℕ) (w : World) (who : Who) (object : ObjectId) → next_number < 2 ^ 64 → IsRanged w → IsCallInRange (SubmitWork object) → IsPlanInRange (submit_work_plan w next_number who object)
 unfolding submit_work_plan
-submit_work_ranged fresh w who object few g c =
+submit_work_ranged next_number w who object few g c =
     ranged_unless (submit_work_refusals w who object.0) _ _ (submits (numbered w.objects object.0) refl)
   where
-    submits : (row : Option ObjectRow) → numbered w.objects object.0 ≡ row → IsPlanInRange (submit fresh object row)
+    submits : (row : Option ObjectRow) → numbered w.objects object.0 ≡ row → IsPlanInRange (submit next_number object row)
     submits None is = tt
     submits (Some row) is =
         let o = all_get IsObjectInRange w.objects _ row g.rows.objects (numbered_some w.objects object.0 row is).0 in
@@ -82,25 +82,25 @@ submit_work_ranged fresh w who object few g c =
 
 -- ---- SubmitSimple
 
-pub submit_simple_safe : (fresh : ℕ) (w : World) (who : Who) (routine : RoutineId) (context : ℕ) (env : Environ) → IsSafe fresh w who (SubmitSimple routine context env) (submit_simple_plan w fresh who routine context env)
+pub submit_simple_safe : (next_number : ℕ) (w : World) (who : Who) (routine : RoutineId) (context : ℕ) (env : Environ) → IsSafe next_number w who (SubmitSimple routine context env) (submit_simple_plan w next_number who routine context env)
 unfolding submit_simple_plan
-submit_simple_safe fresh w who routine context env =
-    safe_unless fresh w who (SubmitSimple routine context env) (submit_simple_refusals w who env) _
+submit_simple_safe next_number w who routine context env =
+    safe_unless next_number w who (SubmitSimple routine context env) (submit_simple_refusals w who env) _
     (λ none.
     let there = neither (not (is_actor w who) || not (is_pool w env.pool.0)) (not (is_no_group_or_group w env.group.0)) none.0 in
     let home = made w.pools env.pool.0 (not_false (is_pool w env.pool.0) (neither (not (is_actor w who)) (not (is_pool w env.pool.0)) there.0).1) in
     record { allowed = record { number = refl; pending = refl; object = λ named. absurd (named refl); home = home; room = none.1.1.1.1.1.1.0; stands = λ named. absurd (named refl) }; made_by = (refl, refl); accepted = refl; tells = refl })
 
-pub submit_simple_forget : (fresh : ℕ) (w : World) (who : Who) (routine : RoutineId) (context : ℕ) (env : Environ) → submit_simple_plan (forget w) fresh who routine context env ≡ submit_simple_plan w fresh who routine context env
+pub submit_simple_forget : (next_number : ℕ) (w : World) (who : Who) (routine : RoutineId) (context : ℕ) (env : Environ) → submit_simple_plan (forget w) next_number who routine context env ≡ submit_simple_plan w next_number who routine context env
 unfolding submit_simple_plan
-submit_simple_forget fresh w who routine context env =
-    ap (λ r. unless_refused r (plan.Does (answer.Queued fresh 1) (change.QueueCallback (simple_callback fresh routine context env)))) refused
+submit_simple_forget next_number w who routine context env =
+    ap (λ r. unless_refused r (plan.Does (answer.Queued next_number 1) (change.QueueCallback (simple_callback next_number routine context env)))) refused
   where
     refused : first_refusal (submit_simple_refusals (forget w) who env) ≡ first_refusal (submit_simple_refusals w who env)
     refused = rw (live_again w.callbacks)
 
-pub submit_simple_ranged : (fresh : ℕ) (w : World) (who : Who) (routine : RoutineId) (context : ℕ) (env : Environ) → fresh < 2 ^ 64 → IsCallInRange (SubmitSimple routine context env) → IsPlanInRange (submit_simple_plan w fresh who routine context env)
+pub submit_simple_ranged : (next_number : ℕ) (w : World) (who : Who) (routine : RoutineId) (context : ℕ) (env : Environ) → next_number < 2 ^ 64 → IsCallInRange (SubmitSimple routine context env) → IsPlanInRange (submit_simple_plan w next_number who routine context env)
 unfolding submit_simple_plan
-submit_simple_ranged fresh w who routine context env few c =
+submit_simple_ranged next_number w who routine context env few c =
     ranged_unless (submit_simple_refusals w who env) _ _
     ((few, omega arith), record { number = few; object = omega arith; routine = c.0; context = c.2; result = tt })

@@ -32,8 +32,8 @@ use Rattle.tp_model.proofs.Lists.{find_agree}
 use Rattle.tp_model.proofs.Refusals.{not_false, both, false_true}
 use Rattle.tp_model.proofs.Actors.{IsIdle, idle_stands, next_pending, pool_found}
 use Rattle.tp_model.proofs.Forgetting.{pending_forget, running_forget, running_long_forget, next_forget, in_need_forget, below_minimum_forget, in_callback_forget}
-use Rattle.tp_model.proofs.Planning.{safe_unless, in_callback_safe}
-use Rattle.tp_model.proofs.Ranging.{found_row, ranged_unless, in_callback_ranged}
+use Rattle.tp_model.proofs.Allowed.{safe_unless, in_callback_safe}
+use Rattle.tp_model.proofs.Ranged.{found_row, ranged_unless, in_callback_ranged}
 
 -- ---- Attach
 
@@ -46,16 +46,16 @@ free_row row home idle = of_parts row.pool row.callback home idle
     of_parts (Some pool) callback home idle = absurd (false_true (sym home))
     of_parts None (Some callback) home idle = absurd (false_true (sym idle))
 
-pub attach_safe : (fresh : ℕ) (w : World) (who : Who) → IsSafe fresh w who Attach (attach_plan w who)
+pub attach_safe : (next_number : ℕ) (w : World) (who : Who) → IsSafe next_number w who Attach (attach_plan w who)
 unfolding attach_plan
-attach_safe fresh w who =
-    safe_unless fresh w who Attach (attach_refusals w who) _ (λ none. joins who (pool_to_join w) refl (not_false (is_actor w who) none.0) none.1.1.1.0 none.1.1.1.1.0)
+attach_safe next_number w who =
+    safe_unless next_number w who Attach (attach_refusals w who) _ (λ none. joins who (pool_to_join w) refl (not_false (is_actor w who) none.0) none.1.1.1.0 none.1.1.1.1.0)
   where
     stands : (number : ℕ) (row : Option WorkerRow) → numbered w.workers number ≡ row → is_some row ≡ true → option_map_or (λ (r : WorkerRow). is_some r.callback) row false ≡ false → option_map_or (λ (r : WorkerRow). is_some r.pool) row false ≡ false → numbered w.workers number ≡ Some unattached
     stands number None is there idle free = absurd (false_true there)
     stands number (Some row) is there idle free = is ∙ ap (λ r. Some r) (free_row row free idle)
 
-    joins : (actor : Who) (pool : Option ℕ) → pool_to_join w ≡ pool → is_actor w actor ≡ true → runs_callback w actor ≡ false → is_attached w actor ≡ false → IsSafe fresh w actor Attach (attach_to actor pool)
+    joins : (actor : Who) (pool : Option ℕ) → pool_to_join w ≡ pool → is_actor w actor ≡ true → runs_callback w actor ≡ false → is_attached w actor ≡ false → IsSafe next_number w actor Attach (attach_to actor pool)
     joins (Worker number) (Some pool) least acts idle free =
         record { allowed = record { stands = stands number (numbered w.workers number) refl acts idle free; home = pool_found w pool least }; made_by = refl; accepted = refl; tells = refl }
     joins (Worker number) None least acts idle free = tt
@@ -82,15 +82,15 @@ attach_ranged w who g = ranged_unless (attach_refusals w who) _ _ (joins who (po
 
 -- ---- Detach
 
-pub detach_safe : (fresh : ℕ) (w : World) (who : Who) → IsSafe fresh w who Detach (detach_plan w who)
+pub detach_safe : (next_number : ℕ) (w : World) (who : Who) → IsSafe next_number w who Detach (detach_plan w who)
 unfolding detach_plan
-detach_safe fresh w who = safe_unless fresh w who Detach (idle_refusals w who) _ (λ _. leaves (idle_of w who) refl)
+detach_safe next_number w who = safe_unless next_number w who Detach (idle_refusals w who) _ (λ _. leaves (idle_of w who) refl)
   where
-    leaves : (by : Option Idle) → idle_of w who ≡ by → IsSafe fresh w who Detach (detach w by)
+    leaves : (by : Option Idle) → idle_of w who ≡ by → IsSafe next_number w who Detach (detach w by)
     leaves None is = tt
     leaves (Some by) is =
         let idle = idle_stands w who by is in
-        elim (may_leave w by.pool.0) as (λ b. IsSafe fresh w who Detach (cond b (plan.Does answer.Done (change.Detach by)) (plan.Looked look.Stay))) [
+        elim (may_leave w by.pool.0) as (λ b. IsSafe next_number w who Detach (cond b (plan.Does answer.Done (change.Detach by)) (plan.Looked look.Stay))) [
           | true ↦ record { allowed = idle.idles; made_by = idle.actor; accepted = refl; tells = refl }
           | false ↦ tt
         ]
@@ -122,17 +122,17 @@ detach_ranged w who = ranged_unless (idle_refusals w who) _ _ (leaves (idle_of w
 
 -- ---- Take
 
-pub take_safe : (fresh : ℕ) (w : World) (who : Who) → IsSound fresh w → IsSafe fresh w who Take (take_plan w who)
+pub take_safe : (next_number : ℕ) (w : World) (who : Who) → IsSound next_number w → IsSafe next_number w who Take (take_plan w who)
 unfolding take_plan
-take_safe fresh w who s = safe_unless fresh w who Take (idle_refusals w who) _ (λ _. takes (idle_of w who) refl)
+take_safe next_number w who s = safe_unless next_number w who Take (idle_refusals w who) _ (λ _. takes (idle_of w who) refl)
   where
-    taken : (by : Idle) (c : Option CallbackRow) → IsIdle w who by → next w by.pool.0 ≡ c → IsSafe fresh w who Take (take_callback w by c)
+    taken : (by : Idle) (c : Option CallbackRow) → IsIdle w who by → next w by.pool.0 ≡ c → IsSafe next_number w who Take (take_callback w by c)
     taken by None idle is = tt
     taken by (Some c) idle is =
-        let found = next_pending fresh w by.pool.0 c s is in
+        let found = next_pending next_number w by.pool.0 c s is in
         let waits = both (is_pending c.status) (c.pool.0 == by.pool.0) found.1 in
         elim (nat_le (maximum w by.pool.0) (running w by.pool.0))
-        as (λ b. nat_le (maximum w by.pool.0) (running w by.pool.0) ≡ b → IsSafe fresh w who Take (cond b (plan.Looked (look.AtMaximum (running w by.pool.0))) (plan.Does (answer.Taken c.number c.object c.routine c.context c.result) (change.Take by c)))) [
+        as (λ b. nat_le (maximum w by.pool.0) (running w by.pool.0) ≡ b → IsSafe next_number w who Take (cond b (plan.Looked (look.AtMaximum (running w by.pool.0))) (plan.Does (answer.Taken c.number c.object c.routine c.context c.result) (change.Take by c)))) [
           | true ↦ λ _. tt
           | false ↦ λ below.
               record {
@@ -149,7 +149,7 @@ take_safe fresh w who s = safe_unless fresh w who Take (idle_refusals w who) _ (
               }
         ] refl
 
-    takes : (by : Option Idle) → idle_of w who ≡ by → IsSafe fresh w who Take (take w by)
+    takes : (by : Option Idle) → idle_of w who ≡ by → IsSafe next_number w who Take (take w by)
     takes None is = tt
     takes (Some by) is = taken by (next w by.pool.0) (idle_stands w who by is) refl
 
@@ -166,14 +166,14 @@ take_forget w who = ap (unless_refused (first_refusal (idle_refusals w who))) (t
     takes None = refl
     takes (Some by) = ap (take_callback (forget w) by) (next_forget w by.pool.0) ∙ taken by (next w by.pool.0)
 
-pub take_ranged : (fresh : ℕ) (w : World) (who : Who) → IsSound fresh w → IsRanged w → IsPlanInRange (take_plan w who)
+pub take_ranged : (next_number : ℕ) (w : World) (who : Who) → IsSound next_number w → IsRanged w → IsPlanInRange (take_plan w who)
 unfolding take_plan
-take_ranged fresh w who s g = ranged_unless (idle_refusals w who) _ _ (takes (idle_of w who))
+take_ranged next_number w who s g = ranged_unless (idle_refusals w who) _ _ (takes (idle_of w who))
   where
     taken : (by : Idle) (c : Option CallbackRow) → next w by.pool.0 ≡ c → IsPlanInRange (take_callback w by c)
     taken by None is = tt
     taken by (Some c) is =
-        let r : IsCallbackInRange c = found_row c w.callbacks (next_pending fresh w by.pool.0 c s is).0 g.rows.callbacks in
+        let r : IsCallbackInRange c = found_row c w.callbacks (next_pending next_number w by.pool.0 c s is).0 g.rows.callbacks in
         elim (nat_le (maximum w by.pool.0) (running w by.pool.0)) as (λ b. IsPlanInRange (cond b (plan.Looked (look.AtMaximum (running w by.pool.0))) (plan.Does (answer.Taken c.number c.object c.routine c.context c.result) (change.Take by c)))) [
           | true ↦ g.running_most by.pool.0
           | false ↦ ((r.number, r.object, r.routine, r.context, r.result), tt)
@@ -185,27 +185,27 @@ take_ranged fresh w who s g = ranged_unless (idle_refusals w who) _ _ (takes (id
 
 -- ---- Return
 
-pub return_safe : (fresh : ℕ) (w : World) (who : Who) → IsSound fresh w → IsSafe fresh w who Return (return_plan w fresh who)
+pub return_safe : (next_number : ℕ) (w : World) (who : Who) → IsSound next_number w → IsSafe next_number w who Return (return_plan w next_number who)
 unfolding return_plan
-return_safe fresh w who s = in_callback_safe fresh w who Return (return_refusals w who) (return w fresh who) s tt (λ by b.
+return_safe next_number w who s = in_callback_safe next_number w who Return (return_refusals w who) (return w next_number who) s tt (λ by b.
     record {
       allowed = record { runs = b.runs; told = ap₂ (λ a s. words_of w a (slots_of s)) b.actor b.runs.running; number = refl; counted = refl };
       made_by = b.actor;
       accepted = refl;
       tells = ap (λ ns. record silent { deed = record nothing { returned = true; words = Some (words_of w who (slots_of by.callback.status)) }; made = ns; queued = ns })
-          (told_range fresh (length (returning w (words_of w who (slots_of by.callback.status)) (slots_of by.callback.status)).jobs));
+          (told_range next_number (length (returning w (words_of w who (slots_of by.callback.status)) (slots_of by.callback.status)).jobs));
     })
 
-pub return_forget : (fresh : ℕ) (w : World) (who : Who) → IsSound fresh w → return_plan (forget w) fresh who ≡ return_plan w fresh who
+pub return_forget : (next_number : ℕ) (w : World) (who : Who) → IsSound next_number w → return_plan (forget w) next_number who ≡ return_plan w next_number who
 unfolding return_plan
-return_forget fresh w who s = in_callback_forget fresh w who (return_refusals w who) (return w fresh who) s
+return_forget next_number w who s = in_callback_forget next_number w who (return_refusals w who) (return w next_number who) s
 
 -- so many callbacks as have their slots
-pub return_ranged : (fresh : ℕ) (w : World) (who : Who) → fresh + 65536 ≤ 2 ^ 64 → IsRanged w → IsPlanInRange (return_plan w fresh who)
+pub return_ranged : (next_number : ℕ) (w : World) (who : Who) → next_number + 65536 ≤ 2 ^ 64 → IsRanged w → IsPlanInRange (return_plan w next_number who)
 unfolding return_plan
-return_ranged fresh w who few g =
-    in_callback_ranged w who (return_refusals w who) (return w fresh who) _ tt (λ by.
+return_ranged next_number w who few g =
+    in_callback_ranged w who (return_refusals w who) (return w next_number who) _ tt (λ by.
     let words : ActionWords = words_of w who (slots_of by.callback.status) in
     let n : ℕ = length (returning w words (slots_of by.callback.status)).jobs in
     let within : n ≤ 65535 = omega (arith, returning_within w words (slots_of by.callback.status), g.slots_most, g.limits.slots_most) in
-    ((omega (arith, first_within fresh n, few), within), omega (arith, within, few)))
+    ((omega (arith, first_within next_number n, few), within), omega (arith, within, few)))

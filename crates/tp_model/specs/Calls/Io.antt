@@ -30,16 +30,16 @@ start_io_refusals w who object = object_refusals w who Io object ++ (lacks_slots
 
 -- its result is that of the operation, once that completes
 abbrev pub expecting : ℕ → ObjectId → ObjectRow → CallbackRow
-expecting fresh object row = record (new_callback fresh object row Plain) { status = Expected }
+expecting next_number object row = record (new_callback next_number object row Plain) { status = Expected }
 
 -- with the number that the callback gets
 abbrev pub start_io : ℕ → ObjectId → Option ObjectRow → Plan
-start_io fresh object None = Refused NoSuch
-start_io fresh object (Some row) = Does (answer.Started fresh) (change.ExpectCallback (expecting fresh object row))
+start_io next_number object None = Refused NoSuch
+start_io next_number object (Some row) = Does (answer.Started next_number) (change.ExpectCallback (expecting next_number object row))
 
 unfoldable pub start_io_plan : World → ℕ → Who → ObjectId → Plan
-start_io_plan w fresh who object =
-    unless_refused (first_refusal (start_io_refusals w who object.0)) (start_io fresh object (numbered w.objects object.0))
+start_io_plan w next_number who object =
+    unless_refused (first_refusal (start_io_refusals w who object.0)) (start_io next_number object (numbered w.objects object.0))
 
 -- ---- IssueIo and CancelIo: the first callback of the object that expects an operation gets it, or is cancelled
 

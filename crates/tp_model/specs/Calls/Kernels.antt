@@ -58,7 +58,7 @@ change_kernel w who kind kernel own told how =
 
 -- an armed wait takes the event at once, and an actor that waits for it when its wait ends
 unfoldable pub set_event_plan : World → ℕ → Who → KernelId → Plan
-set_event_plan w fresh who kernel = unless_refused (first_refusal (kernel_refusals w who is_event kernel.0 [])) (fire w fresh (SetEvent kernel) answer.Queued)
+set_event_plan w next_number who kernel = unless_refused (first_refusal (kernel_refusals w who is_event kernel.0 [])) (fire w next_number (SetEvent kernel) answer.Queued)
 
 unfoldable pub reset_event_plan : World → Who → KernelId → Plan
 reset_event_plan w who kernel = change_kernel w who is_event kernel [] answer.Done Reset
@@ -68,8 +68,8 @@ release_semaphore_refusals w who kernel more = kernel_refusals w who is_semaphor
 
 -- the answer has the count before
 unfoldable pub release_semaphore_plan : World → ℕ → Who → KernelId → ℕ → Plan
-release_semaphore_plan w fresh who kernel more =
-    unless_refused (first_refusal (release_semaphore_refusals w who kernel.0 more)) (fire w fresh (ReleaseSemaphore kernel more) (answer.Count (count_at w kernel.0)))
+release_semaphore_plan w next_number who kernel more =
+    unless_refused (first_refusal (release_semaphore_refusals w who kernel.0 more)) (fire w next_number (ReleaseSemaphore kernel more) (answer.Count (count_at w kernel.0)))
 
 unfoldable pub release_lock_plan : World → Who → Lock → KernelId → Plan
 release_lock_plan w who lock kernel =

@@ -25,11 +25,11 @@ use Rattle.tp_model.specs.Refusing.{first_refusal, unless_refused, actor_refusal
 
 -- the first number of so many callbacks, or 0 where there are none
 abbrev pub first_of : ℕ → ℕ → ℕ
-first_of fresh count = if count == 0 then 0 else fresh
+first_of next_number count = if count == 0 then 0 else next_number
 
 -- with the number that the next callback gets
 abbrev pub fire : World → ℕ → Trigger → (ℕ → ℕ → Answer) → Plan
-fire w fresh trigger told = Does (told (first_of fresh (count_fired w trigger)) (count_fired w trigger)) (change.Fire trigger fresh (count_fired w trigger))
+fire w next_number trigger told = Does (told (first_of next_number (count_fired w trigger)) (count_fired w trigger)) (change.Fire trigger next_number (count_fired w trigger))
 
 -- ---- SetTimer, SetTimerEx: SetThreadpoolTimer, SetThreadpoolTimerEx
 
@@ -37,17 +37,17 @@ abbrev pub set_timer_refusals : World → Who → ℕ → Trigger → List (Bool
 set_timer_refusals w who object trigger = object_refusals w who Timer object ++ (lacks_slots_for w (count_fired w trigger), CallbackLimit) ∷ []
 
 unfoldable pub set_timer_plan : World → ℕ → Who → ObjectId → Option ℤ → ℕ → ℕ → Plan
-set_timer_plan w fresh who object due period window =
+set_timer_plan w next_number who object due period window =
     unless_refused (first_refusal (set_timer_refusals w who object.0 (SetTimer object due period window)))
-    (fire w fresh (SetTimer object due period window) answer.Queued)
+    (fire w next_number (SetTimer object due period window) answer.Queued)
 
 abbrev pub is_timer_set : World → ℕ → Bool
 is_timer_set w object = is_set object w.settings
 
 unfoldable pub set_timer_ex_plan : World → ℕ → Who → ObjectId → Option ℤ → ℕ → ℕ → Plan
-set_timer_ex_plan w fresh who object due period window =
+set_timer_ex_plan w next_number who object due period window =
     unless_refused (first_refusal (set_timer_refusals w who object.0 (SetTimer object due period window)))
-    (fire w fresh (SetTimer object due period window) (answer.WasSet (is_timer_set w object.0)))
+    (fire w next_number (SetTimer object due period window) (answer.WasSet (is_timer_set w object.0)))
 
 -- ---- IsTimerSet: IsThreadpoolTimerSet
 
@@ -66,6 +66,6 @@ advance_refusals w who now =
     actor_refusals w who ++ (nat_lt clock_end now, ClockEnd) ∷ (lacks_slots_for w (count_expiring w now), CallbackLimit) ∷ []
 
 unfoldable pub advance_plan : World → ℕ → Who → ℕ → Plan
-advance_plan w fresh who ticks =
+advance_plan w next_number who ticks =
     unless_refused (first_refusal (advance_refusals w who (w.now + ticks)))
-    (fire w fresh (Advance (w.now + ticks)) (answer.Advanced (w.now + ticks)))
+    (fire w next_number (Advance (w.now + ticks)) (answer.Advanced (w.now + ticks)))

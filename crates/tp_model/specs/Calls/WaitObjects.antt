@@ -36,5 +36,5 @@ set_wait_refusals w who object kernel timeout =
     ∷ (object_refusals w who Wait object.0 ++ (names_lock w kernel, NotWaitable) ∷ (lacks_slots_after w (SetWait object kernel timeout), CallbackLimit) ∷ [])
 
 unfoldable pub set_wait_plan : World → ℕ → Who → ObjectId → Option KernelId → Option ℤ → Plan
-set_wait_plan w fresh who object kernel timeout =
-    unless_refused (first_refusal (set_wait_refusals w who object kernel timeout)) (fire w fresh (SetWait object kernel timeout) answer.Queued)
+set_wait_plan w next_number who object kernel timeout =
+    unless_refused (first_refusal (set_wait_refusals w who object kernel timeout)) (fire w next_number (SetWait object kernel timeout) answer.Queued)

@@ -27,12 +27,12 @@ submit_work_refusals w who object = object_refusals w who Work object ++ (lacks_
 
 -- with the number that the callback gets
 abbrev pub submit : ℕ → ObjectId → Option ObjectRow → Plan
-submit fresh object None = Refused NoSuch
-submit fresh object (Some row) = Does (answer.Queued fresh 1) (change.QueueCallback (new_callback fresh object row Plain))
+submit next_number object None = Refused NoSuch
+submit next_number object (Some row) = Does (answer.Queued next_number 1) (change.QueueCallback (new_callback next_number object row Plain))
 
 unfoldable pub submit_work_plan : World → ℕ → Who → ObjectId → Plan
-submit_work_plan w fresh who object =
-    unless_refused (first_refusal (submit_work_refusals w who object.0)) (submit fresh object (numbered w.objects object.0))
+submit_work_plan w next_number who object =
+    unless_refused (first_refusal (submit_work_refusals w who object.0)) (submit next_number object (numbered w.objects object.0))
 
 -- ---- SubmitSimple: TrySubmitThreadpoolCallback
 
@@ -41,8 +41,8 @@ submit_simple_refusals w who env = environ_refusals w who env ++ (lacks_slots_fo
 
 -- a callback without an object
 abbrev pub simple_callback : ℕ → RoutineId → ℕ → Environ → CallbackRow
-simple_callback fresh routine context env = new_callback fresh (record { 0 = 0 }) (new_object Work routine context env) Plain
+simple_callback next_number routine context env = new_callback next_number (record { 0 = 0 }) (new_object Work routine context env) Plain
 
 unfoldable pub submit_simple_plan : World → ℕ → Who → RoutineId → ℕ → Environ → Plan
-submit_simple_plan w fresh who routine context env =
-    unless_refused (first_refusal (submit_simple_refusals w who env)) (Does (answer.Queued fresh 1) (change.QueueCallback (simple_callback fresh routine context env)))
+submit_simple_plan w next_number who routine context env =
+    unless_refused (first_refusal (submit_simple_refusals w who env)) (Does (answer.Queued next_number 1) (change.QueueCallback (simple_callback next_number routine context env)))

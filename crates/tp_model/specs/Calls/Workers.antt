@@ -104,14 +104,14 @@ return_refusals w who =
 -- its actions on return are performed, those of locks where the worker owns them, and that of a semaphore where its count
 -- stays within its maximum
 abbrev pub return_with : ℕ → Busy → ActionWords → ℕ → Plan
-return_with fresh by words count = Does (answer.Returned words.section words.mutex words.semaphore words.event (first_of fresh count) count) (change.Return by words fresh count)
+return_with next_number by words count = Does (answer.Returned words.section words.mutex words.semaphore words.event (first_of next_number count) count) (change.Return by words next_number count)
 
 abbrev pub return_from : World → ℕ → Busy → ActionWords → Plan
-return_from w fresh by words = return_with fresh by words (length (returning w words (slots_of by.callback.status)).jobs)
+return_from w next_number by words = return_with next_number by words (length (returning w words (slots_of by.callback.status)).jobs)
 
 abbrev pub return : World → ℕ → Who → Option Busy → Plan
-return w fresh who None = Refused NotRunning
-return w fresh who (Some by) = return_from w fresh by (words_of w who (slots_of by.callback.status))
+return w next_number who None = Refused NotRunning
+return w next_number who (Some by) = return_from w next_number by (words_of w who (slots_of by.callback.status))
 
 unfoldable pub return_plan : World → ℕ → Who → Plan
-return_plan w fresh who = unless_refused (first_refusal (return_refusals w who)) (return w fresh who (busy_of w who))
+return_plan w next_number who = unless_refused (first_refusal (return_refusals w who)) (return w next_number who (busy_of w who))

@@ -54,8 +54,8 @@ pub record IsNewObject (w : World) (row : ObjectRow) : Type 0 where
 
 -- a pending callback of the next number that has its place, in a pool that was made, and of an object of that pool that
 -- isn't released, if it isn't simple
-pub record IsNewCallback (fresh : ℕ) (w : World) (callback : CallbackRow) : Type 0 where
-  pub number : callback.number ≡ fresh
+pub record IsNewCallback (next_number : ℕ) (w : World) (callback : CallbackRow) : Type 0 where
+  pub number : callback.number ≡ next_number
   pub pending : is_pending callback.status ≡ true
   pub object : IsCallbackSound w.objects callback
   pub home : callback.pool.0 < length w.pools
@@ -63,8 +63,8 @@ pub record IsNewCallback (fresh : ℕ) (w : World) (callback : CallbackRow) : Ty
   pub stands : callback.object.0 ≢ 0 → is_standing w.objects callback.object.0 ≡ true
 
 -- and one that expects an operation, of an object
-pub record IsNewOperation (fresh : ℕ) (w : World) (callback : CallbackRow) : Type 0 where
-  pub number : callback.number ≡ fresh
+pub record IsNewOperation (next_number : ℕ) (w : World) (callback : CallbackRow) : Type 0 where
+  pub number : callback.number ≡ next_number
   pub expected : callback.status ≡ Expected
   pub object : IsCallbackSound w.objects callback
   pub home : callback.pool.0 < length w.pools
@@ -121,9 +121,9 @@ IsReady w (trigger.SetEvent object) = MayChange w object kernel.Set
 IsReady w (trigger.ReleaseSemaphore object count) = MayChange w object (kernel.Raise count)
 
 -- so many callbacks as the trigger makes, numbered from the next number on, and no more slots are taken than there are
-pub record MayFire (fresh : ℕ) (w : World) (trigger : Trigger) (first count : ℕ) : Type 0 where
+pub record MayFire (next_number : ℕ) (w : World) (trigger : Trigger) (first count : ℕ) : Type 0 where
   pub ready : IsReady w trigger
-  pub number : first ≡ fresh
+  pub number : first ≡ next_number
   pub counted : count ≡ count_fired w trigger
   pub room : slots w ≤ w.limits.slots → slots_after w trigger ≤ w.limits.slots
 
@@ -163,10 +163,10 @@ pub record MayMark (w : World) (by : Busy) (mark : Mark) : Type 0 where
   pub unasked : IsUnasked mark runs.slots
 
 -- what becomes of the actions is by what their kernel objects are at
-pub record MayReturn (fresh : ℕ) (w : World) (by : Busy) (words : ActionWords) (first count : ℕ) : Type 0 where
+pub record MayReturn (next_number : ℕ) (w : World) (by : Busy) (words : ActionWords) (first count : ℕ) : Type 0 where
   pub runs : Runs w by
   pub told : words ≡ words_of w (Worker by.worker) runs.slots
-  pub number : first ≡ fresh
+  pub number : first ≡ next_number
   pub counted : count ≡ length (returning w words (slots_of by.callback.status)).jobs
 
 -- an object that is not released and has no operation under way
@@ -231,29 +231,29 @@ pub record MayEnd (w : World) (who : Who) (how : WaitEnd) : Type 0 where
 
 -- with the number that the next callback gets
 abbrev pub IsAllowed : ℕ → World → Change → Type 0
-IsAllowed fresh w change.Keep = Unit {0}
-IsAllowed fresh w change.CreatePool = length w.pools < w.limits.pools
-IsAllowed fresh w (change.ChangePool pool how) = pool.0 < length w.pools
-IsAllowed fresh w change.CreateGroup = length w.groups < w.limits.groups
-IsAllowed fresh w (change.CloseGroup group) = is_group w group.0 ≡ true
-IsAllowed fresh w (change.CreateObject row) = IsNewObject w row
-IsAllowed fresh w (change.ReleaseObject object) = IsUnreleased w object
-IsAllowed fresh w (change.QueueCallback callback) = IsNewCallback fresh w callback
-IsAllowed fresh w (change.ExpectCallback callback) = IsNewOperation fresh w callback
-IsAllowed fresh w (change.Operate callback how) = MayOperate w callback how
-IsAllowed fresh w (change.Fire trigger first count) = MayFire fresh w trigger first count
-IsAllowed fresh w (change.CreateKernel state) = IsNewKernel w state
-IsAllowed fresh w (change.ChangeKernel object how) = MayChange w object how
-IsAllowed fresh w (change.Attach worker pool) = MayAttach w worker pool
-IsAllowed fresh w (change.Detach by) = Idles w by
-IsAllowed fresh w (change.Take by callback) = MayTake w by callback
-IsAllowed fresh w (change.Mark by mark) = MayMark w by mark
-IsAllowed fresh w (change.Return by words first count) = MayReturn fresh w by words first count
-IsAllowed fresh w (change.BeginWait who target cancel) = MayBegin w who target
-IsAllowed fresh w (change.BeginClose who group cancel context notices) = MayClose w who group cancel notices
-IsAllowed fresh w (change.GiveNotice who) = MayNotify w who
-IsAllowed fresh w (change.EndWait who how) = MayEnd w who how
-IsAllowed fresh w (change.Finish client) = numbered w.clients client ≡ Some unfinished
+IsAllowed next_number w change.Keep = Unit {0}
+IsAllowed next_number w change.CreatePool = length w.pools < w.limits.pools
+IsAllowed next_number w (change.ChangePool pool how) = pool.0 < length w.pools
+IsAllowed next_number w change.CreateGroup = length w.groups < w.limits.groups
+IsAllowed next_number w (change.CloseGroup group) = is_group w group.0 ≡ true
+IsAllowed next_number w (change.CreateObject row) = IsNewObject w row
+IsAllowed next_number w (change.ReleaseObject object) = IsUnreleased w object
+IsAllowed next_number w (change.QueueCallback callback) = IsNewCallback next_number w callback
+IsAllowed next_number w (change.ExpectCallback callback) = IsNewOperation next_number w callback
+IsAllowed next_number w (change.Operate callback how) = MayOperate w callback how
+IsAllowed next_number w (change.Fire trigger first count) = MayFire next_number w trigger first count
+IsAllowed next_number w (change.CreateKernel state) = IsNewKernel w state
+IsAllowed next_number w (change.ChangeKernel object how) = MayChange w object how
+IsAllowed next_number w (change.Attach worker pool) = MayAttach w worker pool
+IsAllowed next_number w (change.Detach by) = Idles w by
+IsAllowed next_number w (change.Take by callback) = MayTake w by callback
+IsAllowed next_number w (change.Mark by mark) = MayMark w by mark
+IsAllowed next_number w (change.Return by words first count) = MayReturn next_number w by words first count
+IsAllowed next_number w (change.BeginWait who target cancel) = MayBegin w who target
+IsAllowed next_number w (change.BeginClose who group cancel context notices) = MayClose w who group cancel notices
+IsAllowed next_number w (change.GiveNotice who) = MayNotify w who
+IsAllowed next_number w (change.EndWait who how) = MayEnd w who how
+IsAllowed next_number w (change.Finish client) = numbered w.clients client ≡ Some unfinished
 
 -- the entries that a change costs: its own, and those that are owed more than before
 abbrev pub price : Change → ℕ

@@ -279,11 +279,11 @@ pub record ObjectsMove (w : World) (entry : Entry) (after : World) : Type 0 wher
   pub waits : (object : ℕ) → is_wait_at after.objects object ≡ (is_wait_at w.objects object || makes_wait object entry)
   pub new : (object : ℕ) → makes_wait object entry ≡ true → numbered w.objects object ≡ None
 
-pub record Moves (fresh : ℕ) (w : World) (entry : Entry) (after : World) : Type 0 where
+pub record Moves (next_number : ℕ) (w : World) (entry : Entry) (after : World) : Type 0 where
   pub kept : List CallbackRow
   pub new : List CallbackRow
   pub move : Move w entry kept after.workers
-  pub rows : AreNew fresh new
+  pub rows : AreNew next_number new
   pub made : made_by entry ≡ numbers_of new
   pub queued : queued_new entry ≡ waiting_of new
   pub started : started_by entry.answer ≡ expecting_of new
@@ -369,8 +369,8 @@ abbrev pub maximum_at : World → ℕ → ℕ
 maximum_at w pool = option_map_or (λ (p : PoolRow). p.maximum) (slice_get w.pools pool) w.limits.workers
 
 -- an entry leads from a world to another
-pub record Leads (fresh : ℕ) (w : World) (entry : Entry) (after : World) : Type 0 where
-  pub moves : Moves fresh w entry after
+pub record Leads (next_number : ℕ) (w : World) (entry : Entry) (after : World) : Type 0 where
+  pub moves : Moves next_number w entry after
   pub waits : WaitsMove w entry after
   pub limits : after.limits ≡ w.limits
   pub objects : ObjectsMove w entry after

@@ -25,10 +25,10 @@ use Rattle.tp_model.specs.Waits.{is_of, is_group_target}
 use Rattle.tp_model.specs.Laws.Entries.{is_among}
 use Rattle.tp_model.specs.Laws.Once.{is_left}
 
--- the numbers rise, from low on, and stay below fresh
+-- the numbers rise, from low on, and stay below next_number
 abbrev pub IsRising : ℕ → ℕ → List CallbackRow → Type 0
-IsRising low fresh [] = low ≤ fresh
-IsRising low fresh (c ∷ cs) = (low ≤ c.number) × IsRising (c.number + 1) fresh cs
+IsRising low next_number [] = low ≤ next_number
+IsRising low next_number (c ∷ cs) = (low ≤ c.number) × IsRising (c.number + 1) next_number cs
 
 -- the callback of this number runs on this worker, in this pool
 pub record RunsOn (callbacks : List CallbackRow) (worker : ℕ) (pool : PoolId) (number : ℕ) : Type 0 where
@@ -75,9 +75,9 @@ IsNamed (Object object) = object.0 ≢ 0
 IsNamed _ = Unit {0}
 
 -- a wait covers callbacks that were made, and of those that may still be run none without the ones before it
-pub record IsWaitSound (fresh : ℕ) (callbacks : List CallbackRow) (b : BegunWait) : Type 0 where
+pub record IsWaitSound (next_number : ℕ) (callbacks : List CallbackRow) (b : BegunWait) : Type 0 where
   pub named : IsNamed b.target
-  pub made : AllByRecursion (λ n. n < fresh) b.covered
+  pub made : AllByRecursion (λ n. n < next_number) b.covered
   pub closed : (m n : ℕ) → m < n → is_left_among callbacks b.target m ≡ true → is_left_among callbacks b.target n ≡ true → is_among n b.covered ≡ true → is_among m b.covered ≡ true
   -- where it covers one of those, or is for no group, it has no notices to give
   pub settled : (n : ℕ) → is_left_among callbacks b.target n ≡ true → is_among n b.covered ≡ true → b.notices ≡ []
@@ -119,8 +119,8 @@ abbrev pub is_standing : List ObjectRow → ℕ → Bool
 is_standing objects object = is_object_that (λ (o : ObjectRow). not o.released) objects object
 
 -- with the number that the next callback gets
-pub record IsSound (fresh : ℕ) (w : World) : Type 0 where
-  pub numbers : IsRising 1 fresh w.callbacks
+pub record IsSound (next_number : ℕ) (w : World) : Type 0 where
+  pub numbers : IsRising 1 next_number w.callbacks
   pub workers : AreWorkersSound w.callbacks 1 w.workers
   pub object_pools : AllByRecursion (λ (o : ObjectRow). o.env.pool.0 < length w.pools) w.objects
   pub apart : AreApart w.waits
@@ -130,7 +130,7 @@ pub record IsSound (fresh : ℕ) (w : World) : Type 0 where
   pub armings : AllByRecursion (λ (a : Arming). may_be_armed w.objects a.object.0 ≡ true) w.armings
   pub timeouts : (object : ℕ) → is_wait_at w.objects object ≡ true → IsTimedOut object w.settings w.armings
   pub clock : w.now ≤ clock_end
-  pub waits : AllByRecursion (IsWaitSound fresh w.callbacks) w.waits
+  pub waits : AllByRecursion (IsWaitSound next_number w.callbacks) w.waits
   pub callback_pools : AllByRecursion (λ (c : CallbackRow). c.pool.0 < length w.pools) w.callbacks
   pub callback_objects : AllByRecursion (IsCallbackSound w.objects) w.callbacks
   -- nor one that has an operation

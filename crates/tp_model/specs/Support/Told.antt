@@ -154,25 +154,25 @@ abbrev pub deed_of : ℕ → IoStep → Deed
 deed_of number how = record nothing { cancelled = cancelled_of number how; completed = completed_of number how; event = event number (happening_of how) }
 
 -- what the entry of a change tells, with the number that the next callback gets
-abbrev pub told : ℕ → World → Change → Told
-told fresh w (change.ChangePool pool how) = record silent { maxima = maxima_by pool.0 how }
-told fresh w (change.CreateObject row) = record silent { wait = wait_numbered row.kind (length w.objects + 1); created = Some (creation_of (length w.objects + 1) row) }
-told fresh w (change.ReleaseObject object) = record silent { closed = Some object }
-told fresh w (change.QueueCallback callback) = record silent { made = fresh ∷ []; queued = fresh ∷ []; simple = simple_group callback }
-told fresh w (change.ExpectCallback callback) = record silent { made = fresh ∷ []; started = fresh ∷ [] }
-told fresh w (change.Operate callback how) = record silent { deed = deed_of callback.number how }
-told fresh w (change.Fire trigger first count) = record silent { made = range_with_len first count; queued = range_with_len first count; sets = sets_of trigger }
-told fresh w (change.Attach worker pool) = record silent { deed = record nothing { attached = Some pool.0 } }
-told fresh w (change.Take by callback) =
+abbrev pub told_by_change : ℕ → World → Change → Told
+told_by_change next_number w (change.ChangePool pool how) = record silent { maxima = maxima_by pool.0 how }
+told_by_change next_number w (change.CreateObject row) = record silent { wait = wait_numbered row.kind (length w.objects + 1); created = Some (creation_of (length w.objects + 1) row) }
+told_by_change next_number w (change.ReleaseObject object) = record silent { closed = Some object }
+told_by_change next_number w (change.QueueCallback callback) = record silent { made = next_number ∷ []; queued = next_number ∷ []; simple = simple_group callback }
+told_by_change next_number w (change.ExpectCallback callback) = record silent { made = next_number ∷ []; started = next_number ∷ [] }
+told_by_change next_number w (change.Operate callback how) = record silent { deed = deed_of callback.number how }
+told_by_change next_number w (change.Fire trigger first count) = record silent { made = range_with_len first count; queued = range_with_len first count; sets = sets_of trigger }
+told_by_change next_number w (change.Attach worker pool) = record silent { deed = record nothing { attached = Some pool.0 } }
+told_by_change next_number w (change.Take by callback) =
     record silent { deed = record nothing { taken = Some callback.number; run = Some (record { number = callback.number; object = callback.object }); event = event callback.number (Taking callback.result) } }
-told fresh w (change.Mark by Loose) = record silent { deed = record nothing { loosened = true } }
-told fresh w (change.Mark by (Asks kind action)) = record silent { deed = record nothing { asked = Some kind } }
-told fresh w (change.BeginWait who target cancel) =
+told_by_change next_number w (change.Mark by Loose) = record silent { deed = record nothing { loosened = true } }
+told_by_change next_number w (change.Mark by (Asks kind action)) = record silent { deed = record nothing { asked = Some kind } }
+told_by_change next_number w (change.BeginWait who target cancel) =
     record silent { deed = record nothing { count = length (filter (is_cancelled_by target cancel) w.callbacks) }; begun = begins_of target cancel }
-told fresh w (change.BeginClose who group cancel context notices) =
+told_by_change next_number w (change.BeginClose who group cancel context notices) =
     record silent { deed = record nothing { count = length (filter (is_cancelled_by (Group group) cancel) w.callbacks) }; begun = Some (record { target = Group group; cancel = cancel; cleanup = context }) }
-told fresh w (change.GiveNotice who) = record silent { notice = next_notice w.objects (wait_of w who) }
-told fresh w (change.EndWait who how) = record silent { ending = true; freeing = is_free how }
-told fresh w (change.Return by words first count) =
+told_by_change next_number w (change.GiveNotice who) = record silent { notice = next_notice w.objects (wait_of w who) }
+told_by_change next_number w (change.EndWait who how) = record silent { ending = true; freeing = is_free how }
+told_by_change next_number w (change.Return by words first count) =
     record silent { deed = record nothing { returned = true; words = Some words }; made = range_with_len first count; queued = range_with_len first count }
-told fresh w _ = silent
+told_by_change next_number w _ = silent

@@ -1,21 +1,21 @@
 use Rattle.std.proofs.Common.{ap, ◌∙◌}
 use Rattle.tp_model.specs.Groups.{is_group}
 use Rattle.live_world.specs.Live.{Live}
-use Rattle.live_world.proofs.ClosesWhole.{group_settled, may_close_settled, begun_idle, settled_idle, closes_whole}
+use Rattle.live_world.proofs.BeginClose.{group_settled, may_close_settled, begun_idle, settled_idle, closes_whole}
 use Rattle.live_world.proofs.LiveWorld.begin_close.Goals as goal
 
-pub begin_closing-requires : goal.begin_closing-requires
-begin_closing-requires c = record {
+pub begin_close_wait-requires : goal.begin_close_wait-requires
+begin_close_wait-requires c = record {
   allowed = may_close_settled c.args.self.now c.settle_group.new.self c.args.who c.args.group c.args.cancel c.args._notices c.settle_group.ensures c.requires;
   settled = group_settled c.args.self.now c.settle_group.new.self c.args.group c.args.cancel c.settle_group.ensures;
 }
 
 pub release_members-requires : goal.release_members-requires
 release_members-requires c = record {
-  made = ap (λ (l : Live). is_group l.world c.args.group.0) c.begin_closing.ensures ∙ ap (λ (l : Live). is_group l.world c.args.group.0) c.settle_group.ensures ∙ c.requires.made;
-  idle = begun_idle c.settle_group.new.self c.begin_closing.new.self c.args.who c.args.group c.args.cancel c.args.context c.begin_closing.ensures
+  made = ap (λ (l : Live). is_group l.world c.args.group.0) c.begin_close_wait.ensures ∙ ap (λ (l : Live). is_group l.world c.args.group.0) c.settle_group.ensures ∙ c.requires.made;
+  idle = begun_idle c.settle_group.new.self c.begin_close_wait.new.self c.args.who c.args.group c.args.cancel c.args.context c.begin_close_wait.ensures
       (settled_idle c.args.self.now c.settle_group.new.self c.args.group c.args.cancel c.settle_group.ensures c.requires.idle);
 }
 
 pub returns : goal.returns
-returns c = c.release_members.ensures ∙ closes_whole c.args.self.now c.settle_group.new.self c.begin_closing.new.self c.args.who c.args.group c.args.cancel c.args.context c.args._notices c.settle_group.ensures c.begin_closing.ensures
+returns c = c.release_members.ensures ∙ closes_whole c.args.self.now c.settle_group.new.self c.begin_close_wait.new.self c.args.who c.args.group c.args.cancel c.args.context c.args._notices c.settle_group.ensures c.begin_close_wait.ensures

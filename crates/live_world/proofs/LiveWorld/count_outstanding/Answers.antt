@@ -2,7 +2,7 @@ use Rattle.std.proofs.Common.{◌+◌, length, ap, filter, arith}
 use Rattle.std.proofs.lemmas.List.Sums.{length-filter, count_by-le-length}
 use Rattle.tp_base.specs.declared.rows.WaitTarget.TheVariants.{Object}
 use Rattle.tp_model.specs.Waits.{is_outstanding_for}
-use Rattle.live_world.specs.Invariant.{waits, runs}
+use Rattle.live_world.specs.Invariant.{is_pending_callback, is_running_callback}
 use Rattle.live_world.specs.Waiting.{outstanding_of}
 use Rattle.live_world.proofs.Walks.{rest}
 use Rattle.live_world.proofs.Along.{CountsOne, number_of, counting_first, counts_one}
@@ -40,7 +40,7 @@ pub returns-clause-all : goal.returns-clause-all
 returns-clause-all c = omega (arith, c.loop-next.invariant.all_counted, ap (λ o. length (rest number_of (outstanding_of c.args.self.now.world c.args.object) o)) c.in_default.is)
 
 pub returns-clause-pending : goal.returns-clause-pending
-returns-clause-pending c = omega (arith, c.loop-next.invariant.pending_counted, ap (λ o. length (filter waits (rest number_of (outstanding_of c.args.self.now.world c.args.object) o))) c.in_default.is)
+returns-clause-pending c = omega (arith, c.loop-next.invariant.pending_counted, ap (λ o. length (filter is_pending_callback (rest number_of (outstanding_of c.args.self.now.world c.args.object) o))) c.in_default.is)
 
 pub returns-clause-running : goal.returns-clause-running
-returns-clause-running c = omega (arith, c.loop-next.invariant.running_counted, ap (λ o. length (filter runs (rest number_of (outstanding_of c.args.self.now.world c.args.object) o))) c.in_default.is)
+returns-clause-running c = omega (arith, c.loop-next.invariant.running_counted, ap (λ o. length (filter is_running_callback (rest number_of (outstanding_of c.args.self.now.world c.args.object) o))) c.in_default.is)

@@ -1,6 +1,6 @@
 use Rattle.std.proofs.Common.{◌≡◌, slice_get, None, Some, sym, ap, ◌∙◌}
 use Rattle.live_world.proofs.Covered.{at_place, nowhere}
-use Rattle.live_world.proofs.ClosesBegun.{has_notice, notice_is_first, given_by}
+use Rattle.live_world.proofs.BeginCloseWait.{has_notice, notice_is_first, given_by}
 use Rattle.live_world.proofs.LiveWorld.give_notice.Goals as goal
 
 pub unreachable-requires : goal.unreachable-requires

@@ -8,7 +8,7 @@ use Rattle.tp_model.specs.Support.Remembered.{lives}
 use Rattle.tp_model.proofs.Lists.{length_filter_le}
 use Rattle.tp_model.proofs.Callbacks.{over_not_pending}
 use Rattle.live_world.specs.Live.{Live}
-use Rattle.live_world.specs.Invariant.{waits}
+use Rattle.live_world.specs.Invariant.{is_pending_callback}
 use Rattle.live_world.specs.Parts.{is_tied}
 use Rattle.live_world.specs.View.{shown, IsLiveWorld}
 use Rattle.live_world.specs.declared.LiveWorld.TheInside.{Inside}
@@ -36,7 +36,7 @@ push-requires-2-clause-room c =
     omega (
       arith,
       (is_queued c.self.inside c.args.self.now c.args.callback c.self.view_is c.self.invariant c.requires.allowed).room,
-      length_filter_le waits lives (λ x e. over_not_pending x.status e) c.self.inside.callbacks.rows,
+      length_filter_le is_pending_callback lives (λ x e. over_not_pending x.status e) c.self.inside.callbacks.rows,
       ap length k.alive.live,
       k.queued.held_all,
       k.queued.queue_slots,

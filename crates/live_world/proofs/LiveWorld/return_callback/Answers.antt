@@ -7,16 +7,16 @@ use Rattle.tp_base.specs.declared.rows.Slots.{Slots}
 use Rattle.tp_model.specs.Actions.{returning, slots_of, words_of}
 use Rattle.tp_model.specs.Changes.{without_run}
 use Rattle.live_world.specs.Bounds.{IsBounded}
-use Rattle.live_world.specs.Live.{Live, became, fired_to}
+use Rattle.live_world.specs.Live.{Live, with_world, fired_to}
 use Rattle.live_world.proofs.Performing.{all_performed, eventless, locks_only, locks_performed, may_in_turn, may_raise_in_turn, may_still, section_only, three_performed, young_after}
 use Rattle.live_world.proofs.LiveWorld.return_callback.Goals as goal
 
 -- once the callback has ended, the words are as they were told
-told_then : (old l : Live) (by : Busy) (words : ActionWords) (slots : Slots) → l ≡ became old (without_run old.world by) → slots ≡ slots_of by.callback.status → words ≡ words_of old.world (Worker by.worker) (slots_of by.callback.status) → words ≡ words_of l.world (Worker by.worker) slots
+told_then : (old l : Live) (by : Busy) (words : ActionWords) (slots : Slots) → l ≡ with_world old (without_run old.world by) → slots ≡ slots_of by.callback.status → words ≡ words_of old.world (Worker by.worker) (slots_of by.callback.status) → words ≡ words_of l.world (Worker by.worker) slots
 told_then old l by words slots same is told =
     told ∙ ap (words_of old.world (Worker by.worker)) (sym is) ∙ sym (ap (λ (x : Live). words_of x.world (Worker by.worker) slots) same)
 
-young_then : (old l : Live) (by : Busy) → l ≡ became old (without_run old.world by) → IsBounded old.world → old.made + 65536 ≤ 2 ^ 63 → l.made + length l.world.armings ≤ 2 ^ 63
+young_then : (old l : Live) (by : Busy) → l ≡ with_world old (without_run old.world by) → IsBounded old.world → old.made + 65536 ≤ 2 ^ 63 → l.made + length l.world.armings ≤ 2 ^ 63
 young_then old l by same bounded young =
     omega (arith, ap (λ (x : Live). x.made) same, ap (λ (x : Live). length x.world.armings) same, bounded.slots_most, bounded.limits.slots_most, young)
 
@@ -75,4 +75,4 @@ returns c =
     let at = three_performed l c.perform-2.new.self c.perform-3.new.self c.args.words slots (locks_performed l c.perform.new.self c.perform-2.new.self c.args.words slots c.perform.ensures c.perform-2.ensures) c.perform-3.ensures in
     all_performed l c.perform-3.new.self c.perform-4.new.self c.args.words slots at c.perform-4.ensures
     ∙ ap (λ (x : Live). fired_to x (returning x.world c.args.words slots)) c.end_callback.ensures
-    ∙ ap (λ (s : Slots). fired_to (became c.args.self.now (without_run w c.args.by)) (returning w c.args.words s)) c.slots_of-slots.ensures
+    ∙ ap (λ (s : Slots). fired_to (with_world c.args.self.now (without_run w c.args.by)) (returning w c.args.words s)) c.slots_of-slots.ensures

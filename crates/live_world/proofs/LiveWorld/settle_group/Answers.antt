@@ -1,6 +1,6 @@
 use Rattle.std.proofs.Common.{sym, ap, ◌∙◌}
 use Rattle.live_world.specs.Closing.{settled_group}
-use Rattle.live_world.proofs.ClosesWhole.{not_settled_group}
+use Rattle.live_world.proofs.BeginClose.{not_settled_group}
 use Rattle.live_world.proofs.LiveWorld.settle_group.Goals as goal
 
 pub returns-else-cancel : goal.returns-else-cancel

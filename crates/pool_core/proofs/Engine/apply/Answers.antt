@@ -9,7 +9,7 @@ use Rattle.tp_model.specs.Support.Remembered.{Remembered, forget, remembered_in}
 use Rattle.tp_model.proofs.Costs.{paid}
 use Rattle.tp_model.proofs.Growing.{grows}
 use Rattle.tp_model.proofs.Forgetting.{owed_forget}
-use Rattle.tp_model.proofs.Ranging.{changed_rows, forget_rows}
+use Rattle.tp_model.proofs.Ranged.{changed_rows, forget_rows}
 use Rattle.tp_model.proofs.Takings.{taken_more}
 use Rattle.live_world.specs.Bounds.{IsBounded}
 use Rattle.live_world.specs.Live.{Live}

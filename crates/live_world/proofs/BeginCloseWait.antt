@@ -25,15 +25,15 @@ use Rattle.tp_model.specs.Support.Allowed.{IsAllowed, MayClose, MayNotify}
 use Rattle.tp_model.specs.Support.Remembered.{lives}
 use Rattle.tp_model.specs.Support.Sound.{IsSound, IsRising}
 use Rattle.tp_model.proofs.Lists.{all_along, all_filter}
-use Rattle.tp_model.proofs.Preserving.{sound_begin_close}
+use Rattle.tp_model.proofs.Sound.{sound_begin_close}
 use Rattle.tp_model.proofs.Refusals.{and_false, false_true}
 use Rattle.tp_model.proofs.Releasing.{members_released, that_released}
 use Rattle.live_world.specs.declared.begun.BegunWaits.{BegunWaits}
 use Rattle.live_world.specs.declared.objects.Object.{Object}
 use Rattle.live_world.specs.declared.LiveWorld.TheInside.{Inside}
-use Rattle.live_world.specs.Closing.{closing_begun, is_of_group, numbers_noticed, numbers_of_group}
+use Rattle.live_world.specs.Closing.{begin_close_wait, is_of_group, numbers_noticed, numbers_of_group}
 use Rattle.live_world.specs.Invariant.{AreClosing, AreCovered, AreWanted}
-use Rattle.live_world.specs.Live.{Live, became, moved}
+use Rattle.live_world.specs.Live.{Live, with_world, moved}
 use Rattle.live_world.specs.Parts.{held_among, is_held_among, notices_by, notices_left, place_of, shown_object, wait_among}
 use Rattle.live_world.specs.View.{shown, IsLiveWorld}
 use Rattle.live_world.proofs.Along.{number_of}
@@ -81,10 +81,10 @@ held_live group Returned e = absurd cc
 held_live group Cancelled e = absurd cc
 
 -- and all of that is held
-holds_group : (fresh : ℕ) (group : GroupId) (cs : List CallbackRow) → IsRising 1 fresh cs → filter lives cs ≡ cs → filter (is_held_among cs (Group group)) (numbers_of_group cs group) ≡ numbers_of_group cs group
-holds_group fresh group cs rising living =
+holds_group : (next_number : ℕ) (group : GroupId) (cs : List CallbackRow) → IsRising 1 next_number cs → filter lives cs ≡ cs → filter (is_held_among cs (Group group)) (numbers_of_group cs group) ≡ numbers_of_group cs group
+holds_group next_number group cs rising living =
     filter_all (is_held_among cs (Group group)) (numbers_of_group cs group)
-    (held (filter (is_of_group group) cs) (all_filter (λ c. find (has_number c.number) cs ≡ Some c) (is_of_group group) cs (each_found 1 fresh cs rising)) (all_pass (is_of_group group) cs)
+    (held (filter (is_of_group group) cs) (all_filter (λ c. find (has_number c.number) cs ≡ Some c) (is_of_group group) cs (each_found 1 next_number cs rising)) (all_pass (is_of_group group) cs)
     (all_filter (λ c. lives c ≡ true) (is_of_group group) cs (subst (AllByRecursion (λ c. lives c ≡ true)) living (all_pass lives cs))))
   where
     held : (ds : List CallbackRow) → AllByRecursion (λ c. find (has_number c.number) cs ≡ Some c) ds → AllByRecursion (λ c. is_of_group group c ≡ true) ds → AllByRecursion (λ c. lives c ≡ true) ds → AllByRecursion (λ n. is_held_among cs (Group group) n ≡ true) (map number_of ds)
@@ -116,12 +116,12 @@ left_noticed objects group false = refl
 -- ---- the wait begins
 
 -- before the members are released
-sound_closing : (fresh : ℕ) (w : World) (who : Who) (group : GroupId) (cancel : Bool) (context : ℕ) (n : ℕ) → MayClose w who group cancel n → filter (is_cancelled_by (Group group) cancel) w.callbacks ≡ [] → IsSound fresh w → IsSound fresh (closing_begun w who group cancel context)
-sound_closing fresh w who group cancel context n may settled s =
+sound_begin_close_wait : (next_number : ℕ) (w : World) (who : Who) (group : GroupId) (cancel : Bool) (context : ℕ) (n : ℕ) → MayClose w who group cancel n → filter (is_cancelled_by (Group group) cancel) w.callbacks ≡ [] → IsSound next_number w → IsSound next_number (begin_close_wait w who group cancel context)
+sound_begin_close_wait next_number w who group cancel context n may settled s =
     let test : CallbackRow → Bool = is_cancelled_by (Group group) cancel in
     let still = none_where w.callbacks test (none_passes test w.callbacks settled) in
-    let t : IsSound fresh (begin_close w who group cancel context (notices_of w group.0 cancel) w.callbacks)
-    = subst (λ ds. IsSound fresh (begin_close w who group cancel context (notices_of w group.0 cancel) ds)) still (sound_begin_close fresh w who group cancel context may.none may.idle s) in
+    let t : IsSound next_number (begin_close w who group cancel context (notices_of w group.0 cancel) w.callbacks)
+    = subst (λ ds. IsSound next_number (begin_close w who group cancel context (notices_of w group.0 cancel) ds)) still (sound_begin_close next_number w who group cancel context may.none may.idle s) in
     record {
       numbers = s.numbers;
       workers = s.workers;
@@ -140,18 +140,18 @@ sound_closing fresh w who group cancel context n may settled s =
           (λ (b : BegunWait). AllByRecursion (λ (o : ObjectId). is_object_that has_cancel w.objects o.0 ≡ true) b.notices)
           (λ b all. all_along (λ (o : ObjectId). is_object_that has_cancel (map (released_from group.0) w.objects) o.0 ≡ true) (λ (o : ObjectId). is_object_that has_cancel w.objects o.0 ≡ true)
           (λ o h. sym (that_released has_cancel (is_member_at w group.0) w.objects (map (released_from group.0) w.objects) (members_released w group.0) (λ x. refl) o.0) ∙ h) b.notices all)
-          (closing_begun w who group cancel context).waits t.notices;
+          (begin_close_wait w who group cancel context).waits t.notices;
     }
 
 pub closes_by : (i : Inside) (l : Live) (who : Who) (group : GroupId) (cancel : Bool) (context n place : ℕ) (barriers notices : Covers) (begun : BegunWaits) → shown i ≡ l → IsLiveWorld i
     → MayClose l.world who group cancel n → filter (is_cancelled_by (Group group) cancel) l.world.callbacks ≡ [] → place_of i.limits who ≡ Some place
     → barriers ≡ with_wait i.barriers place (Some (numbers_of_group i.callbacks.rows group)) → notices ≡ with_wait i.notices place (Some (numbers_noticed i.objects group cancel))
     → begun.waits ≡ i.waits.waits ++ new_close who group cancel context (map object_id (covered_of notices place)) i.callbacks.rows ∷ []
-    → Becomes (record i { barriers = barriers; waits = begun; closing = with_item i.closing place (Some (record { group = group; context = context })); notices = notices }) (became l (closing_begun l.world who group cancel context))
+    → Becomes (record i { barriers = barriers; waits = begun; closing = with_item i.closing place (Some (record { group = group; context = context })); notices = notices }) (with_world l (begin_close_wait l.world who group cancel context))
 closes_by i l who group cancel context n place barriers notices begun is k may settled at barriers_now notices_now waits_now =
     let cs : List CallbackRow = i.callbacks.rows in
     let w : World = (shown i).world in
-    let v : World = closing_begun w who group cancel context in
+    let v : World = begin_close_wait w who group cancel context in
     let b : BegunWait = new_close who group cancel context (notices_of w group.0 cancel) cs in
     let may_here : MayClose w who group cancel n = subst (λ (x : Live). MayClose x.world who group cancel n) (sym is) may in
     let settled_here = ap (λ (x : Live). filter (is_cancelled_by (Group group) cancel) x.world.callbacks) is ∙ settled in
@@ -161,7 +161,7 @@ closes_by i l who group cancel context n place barriers notices begun is k may s
     let held : held_among cs b ≡ b.covered = ap (filter (is_held_among cs (Group group))) covers ∙ holds_group (i.made + 1) group cs k.sound.numbers k.alive.live ∙ sym covers in
     let left : notices_left b ≡ numbers_noticed i.objects group cancel = left_noticed i.objects group cancel in
     let r = became_by (record i { barriers = barriers; waits = begun; closing = with_item i.closing place (Some (record { group = group; context = context })); notices = notices }) v
-    (sound_closing (i.made + 1) w who group cancel context n may_here settled_here k.sound)
+    (sound_begin_close_wait (i.made + 1) w who group cancel context n may_here settled_here k.sound)
     (record {
       shows = ap₂ (λ ds bs. record w { callbacks = ds; waits = bs }) (sym k.alive.live) waits_here;
       sized = k.sized;
@@ -181,7 +181,7 @@ closes_by i l who group cancel context n place barriers notices begun is k may s
       closing = subst (λ x. AreClosing i.limits begun.waits (slice_set i.closing.items place (Some (record { group = group; context = context }))) x) (sym (notices_now ∙ ap (λ ns. with_wait i.notices place (Some ns)) (sym left)))
           (subst (λ bs. AreClosing i.limits bs (slice_set i.closing.items place (Some (record { group = group; context = context }))) (with_wait i.notices place (Some (notices_left b)))) (sym waits_here) (closing_more place b at may_here.none k.closing));
     }) in
-    record { keeps = r.keeps; becomes = r.becomes ∙ ap (λ (x : Live). became x (closing_begun x.world who group cancel context)) is }
+    record { keeps = r.keeps; becomes = r.becomes ∙ ap (λ (x : Live). with_world x (begin_close_wait x.world who group cancel context)) is }
 
 -- ---- a notice is given
 

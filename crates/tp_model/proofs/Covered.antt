@@ -29,7 +29,7 @@ use Rattle.tp_model.proofs.Lists.{find_all, find_more, find_passes}
 use Rattle.tp_model.proofs.Fates.{WasRow, row_was}
 use Rattle.tp_model.proofs.Places.{LastPlace, Here, Earlier, last_place, FoundLast, Before, Now, found_last, none_last}
 use Rattle.tp_model.proofs.Once.{AgreesAfter}
-use Rattle.tp_model.proofs.Readying.{AreReady, numbers_ready, ready_among, born_among, made_past, not_true, past_row, longer}
+use Rattle.tp_model.proofs.Ready.{AreReady, numbers_ready, ready_among, born_among, made_past, not_true, past_row, longer}
 use Rattle.tp_model.proofs.Tied.{IsTied, IsInGroup, simples_ready, tied_still}
 use Rattle.tp_model.proofs.Refusals.{both, or_true, false_true, same_actor_is, is_own_actor, neither, same_actor_sym}
 

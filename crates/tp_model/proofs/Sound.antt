@@ -57,7 +57,7 @@ use Rattle.tp_model.proofs.Lists.{all_along, all_below, find_all, slice_get_appe
 use Rattle.tp_model.proofs.Cancelling.{IsPendingTest, cancelled_pending, cancelled_if, cancelled_number, running_passed, find_uncancelled, cancelled_found, find_cancelled}
 use Rattle.tp_model.proofs.Callbacks.{rising_append, rising_map, rising_replaced, find_replaced, find_replaced_other, find_appended}
 use Rattle.tp_model.proofs.Refusals.{neither, both, numbered_some, numbered_at, false_true, and_false, same_actor_sym}
-use Rattle.tp_model.proofs.Waiting.{waits_still, waits_longer, left_replaced, left_cancelled, target_named, new_wait_sound, new_close_sound}
+use Rattle.tp_model.proofs.Waits.{waits_still, waits_longer, left_replaced, left_cancelled, target_named, new_wait_sound, new_close_sound}
 use Rattle.tp_model.proofs.Releasing.{Releases, released_if, one_released, members_released, that_row, that_made, that_released, that_kept, all_passing, not_true_false, settings_left, armings_left, timed_left, operations_left, none_in_range, any_found, that_stands}
 use Rattle.tp_model.specs.Groups.{is_object_that, has_cancel, gets_notice, is_member, is_member_at, released_from, without_members, first_operating, is_operating_member, notices_of, objects_that, numbers_in, new_group, close_row, object_id}
 use Rattle.tp_base.specs.declared.ids.GroupId.{GroupId}
@@ -197,8 +197,8 @@ notices_along objects after h bs all =
 
 -- ---- changes of a world
 
-pub sound_object : (fresh : ℕ) (w : World) (o : ObjectRow) → o.env.pool.0 < length w.pools → IsSound fresh w → IsSound fresh (with_object w o)
-sound_object fresh w o home s =
+pub sound_object : (next_number : ℕ) (w : World) (o : ObjectRow) → o.env.pool.0 < length w.pools → IsSound next_number w → IsSound next_number (with_object w o)
+sound_object next_number w o home s =
     record {
       numbers = s.numbers;
       workers = s.workers;
@@ -233,10 +233,10 @@ sound_object fresh w o home s =
         none_there : {row : ObjectRow} → None ≡ Some row → ⊥
         none_there e = cc
 
-pub sound_new_callback : (fresh : ℕ) (w : World) (c : CallbackRow) → c.number ≡ fresh → c.pool.0 < length w.pools → IsCallbackSound w.objects c → OperationStands w.objects c → IsSound fresh w → IsSound (fresh + 1) (with_new_callback w c)
-sound_new_callback fresh w c number home object operation s =
+pub sound_new_callback : (next_number : ℕ) (w : World) (c : CallbackRow) → c.number ≡ next_number → c.pool.0 < length w.pools → IsCallbackSound w.objects c → OperationStands w.objects c → IsSound next_number w → IsSound (next_number + 1) (with_new_callback w c)
+sound_new_callback next_number w c number home object operation s =
     record {
-      numbers = rising_append 1 fresh w.callbacks c number s.numbers;
+      numbers = rising_append 1 next_number w.callbacks c number s.numbers;
       workers = workers_appended c w.callbacks 1 w.workers s.workers;
       object_pools = s.object_pools;
       apart = s.apart;
@@ -244,23 +244,23 @@ sound_new_callback fresh w c number home object operation s =
       armings = s.armings;
       timeouts = s.timeouts;
       clock = s.clock;
-      waits = waits_longer fresh c w.callbacks number w.waits s.waits;
+      waits = waits_longer next_number c w.callbacks number w.waits s.waits;
       callback_pools = all_append (λ (x : CallbackRow). x.pool.0 < length w.pools) w.callbacks c s.callback_pools home;
       callback_objects = all_append (IsCallbackSound w.objects) w.callbacks c s.callback_objects object;
       operations = all_append (OperationStands w.objects) w.callbacks c s.operations operation;
       notices = s.notices;
     }
 
-pub sound_free_worker : (fresh : ℕ) (w : World) (worker : ℕ) (row : WorkerRow) → row.callback ≡ None → IsSound fresh w → IsSound fresh (with_worker w worker row)
-sound_free_worker fresh w worker row free s =
+pub sound_free_worker : (next_number : ℕ) (w : World) (worker : ℕ) (row : WorkerRow) → row.callback ≡ None → IsSound next_number w → IsSound next_number (with_worker w worker row)
+sound_free_worker next_number w worker row free s =
     record { numbers = s.numbers; workers = workers_freed w.callbacks row 1 (worker - 1) w.workers free s.workers; object_pools = s.object_pools; callback_pools = s.callback_pools; apart = s.apart; waits = s.waits; callback_objects = s.callback_objects; timers = s.timers; armings = s.armings; timeouts = s.timeouts; clock = s.clock; operations = s.operations; notices = s.notices }
 
-pub sound_client : (fresh : ℕ) (w : World) (client : ℕ) (row : _) → IsSound fresh w → IsSound fresh (with_client w client row)
-sound_client fresh w client row s = record { numbers = s.numbers; workers = s.workers; object_pools = s.object_pools; callback_pools = s.callback_pools; apart = s.apart; waits = s.waits; callback_objects = s.callback_objects; timers = s.timers; armings = s.armings; timeouts = s.timeouts; clock = s.clock; operations = s.operations; notices = s.notices }
+pub sound_client : (next_number : ℕ) (w : World) (client : ℕ) (row : _) → IsSound next_number w → IsSound next_number (with_client w client row)
+sound_client next_number w client row s = record { numbers = s.numbers; workers = s.workers; object_pools = s.object_pools; callback_pools = s.callback_pools; apart = s.apart; waits = s.waits; callback_objects = s.callback_objects; timers = s.timers; armings = s.armings; timeouts = s.timeouts; clock = s.clock; operations = s.operations; notices = s.notices }
 
 -- a further pool, and another row of a pool
-pub sound_new_pool : (fresh : ℕ) (w : World) → IsSound fresh w → IsSound fresh (with_new_pool w)
-sound_new_pool fresh w s =
+pub sound_new_pool : (next_number : ℕ) (w : World) → IsSound next_number w → IsSound next_number (with_new_pool w)
+sound_new_pool next_number w s =
     let more : length w.pools ≤ length (w.pools ++ new_pool w.limits ∷ []) = omega (arith, length-append w.pools (new_pool w.limits ∷ [])) in
     record {
       numbers = s.numbers;
@@ -278,8 +278,8 @@ sound_new_pool fresh w s =
       notices = s.notices;
     }
 
-pub sound_pool : (fresh : ℕ) (w : World) (number : ℕ) (row : PoolRow) → IsSound fresh w → IsSound fresh (with_pool w number row)
-sound_pool fresh w number row s =
+pub sound_pool : (next_number : ℕ) (w : World) (number : ℕ) (row : PoolRow) → IsSound next_number w → IsSound next_number (with_pool w number row)
+sound_pool next_number w number row s =
     let as_many : length w.pools ≡ length (slice_set w.pools number row) = sym (length-set w.pools number row) in
     record {
       numbers = s.numbers;
@@ -316,12 +316,12 @@ operations_replaced : (objects : List ObjectRow) (r : CallbackRow) (cs : List Ca
 operations_replaced objects r cs here all = all_replaced (OperationStands objects) r cs here all
 
 -- a worker begins a pending callback of its pool
-pub sound_taken : (fresh : ℕ) (w : World) (worker : ℕ) (pool : PoolId) (c : CallbackRow) → 1 ≤ worker → find (has_number c.number) w.callbacks ≡ Some c → is_pending c.status ≡ true → c.pool ≡ pool → IsSound fresh w
-    → IsSound fresh (with_worker (with_callback w (taken c worker)) worker (record { pool = Some pool; callback = Some c.number }))
-sound_taken fresh w worker pool c from_one found waits home s =
+pub sound_taken : (next_number : ℕ) (w : World) (worker : ℕ) (pool : PoolId) (c : CallbackRow) → 1 ≤ worker → find (has_number c.number) w.callbacks ≡ Some c → is_pending c.status ≡ true → c.pool ≡ pool → IsSound next_number w
+    → IsSound next_number (with_worker (with_callback w (taken c worker)) worker (record { pool = Some pool; callback = Some c.number }))
+sound_taken next_number w worker pool c from_one found waits home s =
     let r : CallbackRow = taken c worker in
     record {
-      numbers = rising_replaced r 1 fresh w.callbacks s.numbers;
+      numbers = rising_replaced r 1 next_number w.callbacks s.numbers;
       workers = workers_changed r w.callbacks (record { pool = Some pool; callback = Some c.number }) 1 (worker - 1) w.workers
           (λ other _ p number runs. ne_eqb c.number number (λ e. not_pending runs.callback.status other runs.associated runs.slots runs.runs
           (let same : runs.callback ≡ c = same_found number c.number runs.callback c w.callbacks e runs.found found in ap (λ (x : CallbackRow). is_pending x.status) same ∙ waits)))
@@ -333,7 +333,7 @@ sound_taken fresh w worker pool c from_one found waits home s =
       armings = s.armings;
       timeouts = s.timeouts;
       clock = s.clock;
-      waits = waits_still fresh w.callbacks (replaced r w.callbacks) (left_replaced r c w.callbacks found (λ target left. absurd (false_true (sym (and_false (is_of target r)) ∙ left)))) w.waits s.waits;
+      waits = waits_still next_number w.callbacks (replaced r w.callbacks) (left_replaced r c w.callbacks found (λ target left. absurd (false_true (sym (and_false (is_of target r)) ∙ left)))) w.waits s.waits;
       callback_pools = pools_replaced (length w.pools) r c w.callbacks refl found s.callback_pools;
       callback_objects = objects_replaced w.objects r c w.callbacks refl refl refl found s.callback_objects;
       operations = operations_replaced w.objects r w.callbacks (λ operates. absurd (false_true operates)) s.operations;
@@ -348,12 +348,12 @@ sound_taken fresh w worker pool c from_one found waits home s =
         let both_found : Some x ≡ Some y = sym fx ∙ ap (λ k. find (has_number k) cs) (sym e) ∙ fy in cc
 
 -- a worker's callback returns
-pub sound_returned : (fresh : ℕ) (w : World) (worker : ℕ) (row : WorkerRow) (pool : PoolId) (c : CallbackRow) → 1 ≤ worker → row.callback ≡ None → RunsOn w.callbacks worker pool c.number → find (has_number c.number) w.callbacks ≡ Some c → IsSound fresh w
-    → IsSound fresh (with_worker (with_callback w (returned c)) worker row)
-sound_returned fresh w worker row pool c from_one free runs found s =
+pub sound_returned : (next_number : ℕ) (w : World) (worker : ℕ) (row : WorkerRow) (pool : PoolId) (c : CallbackRow) → 1 ≤ worker → row.callback ≡ None → RunsOn w.callbacks worker pool c.number → find (has_number c.number) w.callbacks ≡ Some c → IsSound next_number w
+    → IsSound next_number (with_worker (with_callback w (returned c)) worker row)
+sound_returned next_number w worker row pool c from_one free runs found s =
     let r : CallbackRow = returned c in
     record {
-      numbers = rising_replaced r 1 fresh w.callbacks s.numbers;
+      numbers = rising_replaced r 1 next_number w.callbacks s.numbers;
       workers = workers_changed r w.callbacks row 1 (worker - 1) w.workers
           (λ other apart p number others. ne_eqb c.number number (λ e. apart
           (same_worker other worker others.associated runs.associated others.slots runs.slots others.callback.status runs.callback.status others.runs runs.runs
@@ -365,7 +365,7 @@ sound_returned fresh w worker row pool c from_one free runs found s =
       armings = s.armings;
       timeouts = s.timeouts;
       clock = s.clock;
-      waits = waits_still fresh w.callbacks (replaced r w.callbacks) (left_replaced r c w.callbacks found (λ target left. absurd (false_true (sym (and_false (is_of target r)) ∙ left)))) w.waits s.waits;
+      waits = waits_still next_number w.callbacks (replaced r w.callbacks) (left_replaced r c w.callbacks found (λ target left. absurd (false_true (sym (and_false (is_of target r)) ∙ left)))) w.waits s.waits;
       callback_pools = pools_replaced (length w.pools) r c w.callbacks refl found s.callback_pools;
       callback_objects = objects_replaced w.objects r c w.callbacks refl refl refl found s.callback_objects;
       operations = operations_replaced w.objects r w.callbacks (λ operates. absurd (false_true operates)) s.operations;
@@ -412,13 +412,13 @@ workers_same r c cs worker [] found status at s = tt
 workers_same r c cs worker (w ∷ ws) found status at s = (worker_same r c cs worker w.pool w.callback found status at s.0, workers_same r c cs (worker + 1) ws found status at s.1)
 
 -- a row of the same number, pool and object, which runs where the one before it ran, and may be run only where that might
-sound_same : (fresh : ℕ) (w : World) (r c : CallbackRow) → r.number ≡ c.number → r.pool ≡ c.pool → r.group ≡ c.group → r.object ≡ c.object → (is_operating r.status ≡ true → is_operating c.status ≡ true)
-    → RunsWhere c.status r.status → ((target : WaitTarget) → is_left_of target r ≡ true → is_left_of target c ≡ true) → find (has_number c.number) w.callbacks ≡ Some c → IsSound fresh w
-    → IsSound fresh (with_callback w r)
-sound_same fresh w r c number pool group object operating status left found s =
+sound_same : (next_number : ℕ) (w : World) (r c : CallbackRow) → r.number ≡ c.number → r.pool ≡ c.pool → r.group ≡ c.group → r.object ≡ c.object → (is_operating r.status ≡ true → is_operating c.status ≡ true)
+    → RunsWhere c.status r.status → ((target : WaitTarget) → is_left_of target r ≡ true → is_left_of target c ≡ true) → find (has_number c.number) w.callbacks ≡ Some c → IsSound next_number w
+    → IsSound next_number (with_callback w r)
+sound_same next_number w r c number pool group object operating status left found s =
     let there : find (has_number r.number) w.callbacks ≡ Some c = ap (λ n. find (has_number n) w.callbacks) number ∙ found in
     record {
-      numbers = rising_replaced r 1 fresh w.callbacks s.numbers;
+      numbers = rising_replaced r 1 next_number w.callbacks s.numbers;
       workers = workers_same r c w.callbacks 1 w.workers there status pool s.workers;
       object_pools = s.object_pools;
       apart = s.apart;
@@ -426,7 +426,7 @@ sound_same fresh w r c number pool group object operating status left found s =
       armings = s.armings;
       timeouts = s.timeouts;
       clock = s.clock;
-      waits = waits_still fresh w.callbacks (replaced r w.callbacks) (left_replaced r c w.callbacks there left) w.waits s.waits;
+      waits = waits_still next_number w.callbacks (replaced r w.callbacks) (left_replaced r c w.callbacks there left) w.waits s.waits;
       callback_pools = pools_replaced (length w.pools) r c w.callbacks pool found s.callback_pools;
       callback_objects = objects_replaced w.objects r c w.callbacks pool group object found s.callback_objects;
       operations = operations_replaced w.objects r w.callbacks (λ operates. ap (λ (x : ObjectId). is_standing w.objects x.0) object ∙ find_all (OperationStands w.objects) (has_number c.number) c w.callbacks s.operations found (operating operates)) s.operations;
@@ -434,9 +434,9 @@ sound_same fresh w r c number pool group object operating status left found s =
     }
 
 -- a pending callback is cancelled
-pub sound_cancelled : (fresh : ℕ) (w : World) (c : CallbackRow) → find (has_number c.number) w.callbacks ≡ Some c → is_pending c.status ≡ true → IsSound fresh w → IsSound fresh (with_callback w (cancelled c))
-sound_cancelled fresh w c found pends s =
-    sound_same fresh w (cancelled c) c refl refl refl refl (λ e. absurd (false_true e)) (λ worker associated slots e. absurd (false_true (sym (ap is_pending e) ∙ pends))) (λ target left. absurd (false_true (sym (and_false (is_of target (cancelled c))) ∙ left))) found s
+pub sound_cancelled : (next_number : ℕ) (w : World) (c : CallbackRow) → find (has_number c.number) w.callbacks ≡ Some c → is_pending c.status ≡ true → IsSound next_number w → IsSound next_number (with_callback w (cancelled c))
+sound_cancelled next_number w c found pends s =
+    sound_same next_number w (cancelled c) c refl refl refl refl (λ e. absurd (false_true e)) (λ worker associated slots e. absurd (false_true (sym (ap is_pending e) ∙ pends))) (λ target left. absurd (false_true (sym (and_false (is_of target (cancelled c))) ∙ left))) found s
 
 -- a row with another status that may be run where that of before may
 left_same : (c : CallbackRow) (status : Status) → is_left status ≡ is_left c.status → (target : WaitTarget) → is_left_of target (record c { status = status }) ≡ true → is_left_of target c ≡ true
@@ -445,14 +445,14 @@ left_same c status same (Group group) left = ap (λ b. (c.group.0 == group.0) &&
 left_same c status same (Kernel kernel) left = left
 
 -- what a callback says of itself leaves it running where it ran
-pub sound_marked : (fresh : ℕ) (w : World) (mark : Mark) (c : CallbackRow) → find (has_number c.number) w.callbacks ≡ Some c → IsSound fresh w → IsSound fresh (with_callback w (marked mark c))
-sound_marked fresh w Long c found s = sound_same fresh w (marked Long c) c refl refl refl refl (λ e. e) (λ worker associated slots e. (associated, slots, e)) (λ target left. same_left target left) found s
+pub sound_marked : (next_number : ℕ) (w : World) (mark : Mark) (c : CallbackRow) → find (has_number c.number) w.callbacks ≡ Some c → IsSound next_number w → IsSound next_number (with_callback w (marked mark c))
+sound_marked next_number w Long c found s = sound_same next_number w (marked Long c) c refl refl refl refl (λ e. e) (λ worker associated slots e. (associated, slots, e)) (λ target left. same_left target left) found s
   where
     same_left : (target : WaitTarget) → is_left_of target (marked Long c) ≡ true → is_left_of target c ≡ true
     same_left (Object object) left = left
     same_left (Group group) left = left
     same_left (Kernel kernel) left = left
-sound_marked fresh w Loose c found s = sound_same fresh w (marked Loose c) c refl refl refl refl (λ e. sym (idle c.status) ∙ e) (λ worker associated slots e. (false, slots, ap loosened e)) (λ target left. same_left target left) found s
+sound_marked next_number w Loose c found s = sound_same next_number w (marked Loose c) c refl refl refl refl (λ e. sym (idle c.status) ∙ e) (λ worker associated slots e. (false, slots, ap loosened e)) (λ target left. same_left target left) found s
   where
     idle : (status : Status) → is_operating (loosened status) ≡ is_operating status
     idle (Running worker associated slots) = refl
@@ -468,8 +468,8 @@ sound_marked fresh w Loose c found s = sound_same fresh w (marked Loose c) c ref
 
     same_left : (target : WaitTarget) → is_left_of target (marked Loose c) ≡ true → is_left_of target c ≡ true
     same_left = left_same c (loosened c.status) (still c.status)
-sound_marked fresh w (Asks kind action) c found s =
-    sound_same fresh w (marked (Asks kind action) c) c refl refl refl refl (λ e. sym (idle c.status) ∙ e) (λ worker associated slots e. (associated, filled kind action slots, ap (asking kind action) e)) (λ target left. left_same c (asking kind action c.status) (still c.status) target left) found s
+sound_marked next_number w (Asks kind action) c found s =
+    sound_same next_number w (marked (Asks kind action) c) c refl refl refl refl (λ e. sym (idle c.status) ∙ e) (λ worker associated slots e. (associated, filled kind action slots, ap (asking kind action) e)) (λ target left. left_same c (asking kind action c.status) (still c.status) target left) found s
   where
     idle : (status : Status) → is_operating (asking kind action status) ≡ is_operating status
     idle (Running worker associated slots) = refl
@@ -484,9 +484,9 @@ sound_marked fresh w (Asks kind action) c found s =
     still Cancelled = refl
 
 -- an operation that goes a step runs nowhere, and its callback might be run before
-sound_operated : (fresh : ℕ) (w : World) (how : IoStep) (c : CallbackRow) → find (has_number c.number) w.callbacks ≡ Some c → c.status ≡ status_before how → IsSound fresh w → IsSound fresh (with_callback w (operated how c))
-sound_operated fresh w how c found comes s =
-    sound_same fresh w (operated how c) c refl refl refl refl (λ _. ap is_operating comes ∙ operates how) (λ worker associated slots e. absurd (idle how (sym comes ∙ e)))
+sound_operated : (next_number : ℕ) (w : World) (how : IoStep) (c : CallbackRow) → find (has_number c.number) w.callbacks ≡ Some c → c.status ≡ status_before how → IsSound next_number w → IsSound next_number (with_callback w (operated how c))
+sound_operated next_number w how c found comes s =
+    sound_same next_number w (operated how c) c refl refl refl refl (λ _. ap is_operating comes ∙ operates how) (λ worker associated slots e. absurd (idle how (sym comes ∙ e)))
     (λ target left. might target (ap is_left comes ∙ left_before how) left) found s
   where
     idle : {worker : ℕ} {associated : Bool} {slots : Slots} → (step : IoStep) → status_before step ≡ Running worker associated slots → ⊥
@@ -514,10 +514,10 @@ kind_released objects object row n is =
     that_released (λ (o : ObjectRow). is_same_kind o.kind Wait) (λ k. k == object.0) objects (slice_set objects (object.0 - 1) (record row { released = true })) (one_released objects object.0 row is) (λ o. refl) n
 
 -- objects are released that have no operation under way; they are unset and disarmed
-sound_releasing : (fresh : ℕ) (w : World) (gone : ℕ → Bool) (after : List ObjectRow) → Releases gone w.objects after → AllByRecursion (λ (o : ObjectRow). o.env.pool.0 < length w.pools) after
-    → ((n : ℕ) → gone n ≡ true → list_any (is_operation_of n) w.callbacks ≡ false) → IsSound fresh w
-    → IsSound fresh (record w { objects = after; settings = settings_left gone w.settings; armings = armings_left gone w.armings })
-sound_releasing fresh w gone after rel pools idle s =
+sound_releasing : (next_number : ℕ) (w : World) (gone : ℕ → Bool) (after : List ObjectRow) → Releases gone w.objects after → AllByRecursion (λ (o : ObjectRow). o.env.pool.0 < length w.pools) after
+    → ((n : ℕ) → gone n ≡ true → list_any (is_operation_of n) w.callbacks ≡ false) → IsSound next_number w
+    → IsSound next_number (record w { objects = after; settings = settings_left gone w.settings; armings = armings_left gone w.armings })
+sound_releasing next_number w gone after rel pools idle s =
     record {
       numbers = s.numbers;
       workers = s.workers;
@@ -537,10 +537,10 @@ sound_releasing fresh w gone after rel pools idle s =
     }
 
 -- an object is released
-sound_release : (fresh : ℕ) (w : World) (object : ObjectId) (row : Option ObjectRow) → numbered w.objects object.0 ≡ row → has_operations w object.0 ≡ false → IsSound fresh w → IsSound fresh (release_object w object row)
-sound_release fresh w object None is idle s = s
-sound_release fresh w object (Some row) is idle s =
-    sound_releasing fresh w (λ n. n == object.0) (slice_set w.objects (object.0 - 1) (record row { released = true })) (one_released w.objects object.0 row is)
+sound_release : (next_number : ℕ) (w : World) (object : ObjectId) (row : Option ObjectRow) → numbered w.objects object.0 ≡ row → has_operations w object.0 ≡ false → IsSound next_number w → IsSound next_number (release_object w object row)
+sound_release next_number w object None is idle s = s
+sound_release next_number w object (Some row) is idle s =
+    sound_releasing next_number w (λ n. n == object.0) (slice_set w.objects (object.0 - 1) (record row { released = true })) (one_released w.objects object.0 row is)
     (all_set (λ (o : ObjectRow). o.env.pool.0 < length w.pools) w.objects (object.0 - 1) (record row { released = true })
     (all_get (λ (o : ObjectRow). o.env.pool.0 < length w.pools) w.objects (object.0 - 1) row s.object_pools (numbered_some w.objects object.0 row is).0) s.object_pools)
     (λ n same. ap (λ k. has_operations w k) (eqb-true n object.0 same) ∙ idle) s
@@ -556,9 +556,9 @@ member_idle w group none n member = known (has_operations w n) refl
     known false e = e
     known true e = absurd (false_true (sym (none_in_range (is_operating_member w group) 1 (length w.objects) n none made.0 (omega (arith, made.1))) ∙ ap₂ (λ a b. a && b) member e))
 
-sound_members : (fresh : ℕ) (w : World) (group : ℕ) → first_operating w group ≡ None → IsSound fresh w → IsSound fresh (without_members w group)
-sound_members fresh w group none s =
-    sound_releasing fresh w (is_member_at w group) (map (released_from group) w.objects) (members_released w group)
+sound_members : (next_number : ℕ) (w : World) (group : ℕ) → first_operating w group ≡ None → IsSound next_number w → IsSound next_number (without_members w group)
+sound_members next_number w group none s =
+    sound_releasing next_number w (is_member_at w group) (map (released_from group) w.objects) (members_released w group)
     (all_map (λ (o : ObjectRow). o.env.pool.0 < length w.pools) (released_from group) (λ o h. elim (is_member group o) as (λ b. (released_if b o).env.pool.0 < length w.pools) [ true ↦ h | false ↦ h ]) w.objects s.object_pools)
     (member_idle w group none) s
 
@@ -593,11 +593,11 @@ all_cancelled : (P : CallbackRow → Type 0) (test : CallbackRow → Bool) → (
 all_cancelled P test h cs all = all_map P (cancelled_if test) (λ c here. elim (test c) as (λ b. P (cond b (cancelled c) c)) [ true ↦ h c here | false ↦ here ]) cs all
 
 -- a wait begins, and pending callbacks that pass a test are cancelled
-sound_begun : (fresh : ℕ) (w : World) (test : CallbackRow → Bool) (b : BegunWait) → IsPendingTest test → is_in_wait w b.actor ≡ false → IsWaitSound fresh (cancel_where test w.callbacks) b → AreNamed w.objects b.notices → IsSound fresh w
-    → IsSound fresh (record w { callbacks = cancel_where test w.callbacks; waits = w.waits ++ b ∷ [] })
-sound_begun fresh w test b only none sound named s =
+sound_begun : (next_number : ℕ) (w : World) (test : CallbackRow → Bool) (b : BegunWait) → IsPendingTest test → is_in_wait w b.actor ≡ false → IsWaitSound next_number (cancel_where test w.callbacks) b → AreNamed w.objects b.notices → IsSound next_number w
+    → IsSound next_number (record w { callbacks = cancel_where test w.callbacks; waits = w.waits ++ b ∷ [] })
+sound_begun next_number w test b only none sound named s =
     record {
-      numbers = rising_map (cancelled_if test) (cancelled_number test) 1 fresh w.callbacks s.numbers;
+      numbers = rising_map (cancelled_if test) (cancelled_number test) 1 next_number w.callbacks s.numbers;
       workers = workers_cancelled test w.callbacks only 1 w.workers s.workers;
       object_pools = s.object_pools;
       apart = apart_more w.waits b none s.apart;
@@ -605,23 +605,23 @@ sound_begun fresh w test b only none sound named s =
       armings = s.armings;
       timeouts = s.timeouts;
       clock = s.clock;
-      waits = all_append (IsWaitSound fresh (cancel_where test w.callbacks)) w.waits b (waits_still fresh w.callbacks (cancel_where test w.callbacks) (left_cancelled test w.callbacks) w.waits s.waits) sound;
+      waits = all_append (IsWaitSound next_number (cancel_where test w.callbacks)) w.waits b (waits_still next_number w.callbacks (cancel_where test w.callbacks) (left_cancelled test w.callbacks) w.waits s.waits) sound;
       callback_pools = all_cancelled (λ (c : CallbackRow). c.pool.0 < length w.pools) test (λ c h. h) w.callbacks s.callback_pools;
       callback_objects = all_cancelled (IsCallbackSound w.objects) test (λ c home named. let of = home named in record { row = of.row; stands = of.stands; home = of.home; group = of.group }) w.callbacks s.callback_objects;
       operations = all_cancelled (OperationStands w.objects) test (λ c h operates. absurd (false_true operates)) w.callbacks s.operations;
       notices = all_append (λ (x : BegunWait). AreNamed w.objects x.notices) w.waits b s.notices named;
     }
 
-pub sound_begin_wait : (fresh : ℕ) (w : World) (who : Who) (target : WaitTarget) (cancel : Bool) → is_in_wait w who ≡ false → IsTargetMade w target → IsSound fresh w → IsSound fresh (begin_wait w who target cancel (cancel_where (is_cancelled_by target cancel) w.callbacks))
-sound_begin_wait fresh w who target cancel none made s =
+pub sound_begin_wait : (next_number : ℕ) (w : World) (who : Who) (target : WaitTarget) (cancel : Bool) → is_in_wait w who ≡ false → IsTargetMade w target → IsSound next_number w → IsSound next_number (begin_wait w who target cancel (cancel_where (is_cancelled_by target cancel) w.callbacks))
+sound_begin_wait next_number w who target cancel none made s =
     let test : CallbackRow → Bool = is_cancelled_by target cancel in
-    let rising : IsRising 1 fresh (cancel_where test w.callbacks) = rising_map (cancelled_if test) (cancelled_number test) 1 fresh w.callbacks s.numbers in
-    sound_begun fresh w test (new_wait who target cancel (cancel_where test w.callbacks)) (cancelled_pending target cancel) none
-    (new_wait_sound fresh who target cancel (cancel_where test w.callbacks) (target_named w target made) rising) tt s
+    let rising : IsRising 1 next_number (cancel_where test w.callbacks) = rising_map (cancelled_if test) (cancelled_number test) 1 next_number w.callbacks s.numbers in
+    sound_begun next_number w test (new_wait who target cancel (cancel_where test w.callbacks)) (cancelled_pending target cancel) none
+    (new_wait_sound next_number who target cancel (cancel_where test w.callbacks) (target_named w target made) rising) tt s
 
 -- no callback of the group has an operation under way
-pub group_idle : (fresh : ℕ) (w : World) (group : ℕ) → first_operating w group ≡ None → IsSound fresh w → (n : ℕ) (c : CallbackRow) → find (has_number n) w.callbacks ≡ Some c → (c.group.0 == group) ≡ true → is_operating c.status ≡ false
-group_idle fresh w group none s n c found of = known (is_operating c.status) refl
+pub group_idle : (next_number : ℕ) (w : World) (group : ℕ) → first_operating w group ≡ None → IsSound next_number w → (n : ℕ) (c : CallbackRow) → find (has_number n) w.callbacks ≡ Some c → (c.group.0 == group) ≡ true → is_operating c.status ≡ false
+group_idle next_number w group none s n c found of = known (is_operating c.status) refl
   where
     known : (b : Bool) → is_operating c.status ≡ b → is_operating c.status ≡ false
     known false e = e
@@ -639,9 +639,9 @@ group_idle fresh w group none s n c found of = known (is_operating c.status) ref
         none_at no_object stands = false_true (ap (is_standing w.objects) (sym no_object) ∙ stands)
 
 -- after a close with cancel none of them may still be run
-pub closed_cut : (fresh : ℕ) (w : World) (group : GroupId) (cancel : Bool) → first_operating w group.0 ≡ None → IsSound fresh w → cancel ≡ true → (n : ℕ) (c : CallbackRow) → find (has_number n) (cancel_where (is_cancelled_by (Group group) cancel) w.callbacks) ≡ Some c
+pub closed_cut : (next_number : ℕ) (w : World) (group : GroupId) (cancel : Bool) → first_operating w group.0 ≡ None → IsSound next_number w → cancel ≡ true → (n : ℕ) (c : CallbackRow) → find (has_number n) (cancel_where (is_cancelled_by (Group group) cancel) w.callbacks) ≡ Some c
     → is_of (Group group) c ≡ true → is_left c.status ≡ false
-closed_cut fresh w group cancel none s cancels n c found of = of_row (find (has_number n) w.callbacks) refl (sym (find_cancelled test w.callbacks n) ∙ found)
+closed_cut next_number w group cancel none s cancels n c found of = of_row (find (has_number n) w.callbacks) refl (sym (find_cancelled test w.callbacks n) ∙ found)
   where
     test : CallbackRow → Bool
     test = is_cancelled_by (Group group) cancel
@@ -658,7 +658,7 @@ closed_cut fresh w group cancel none s cancels n c found of = of_row (find (has_
     of_test d true there passes is = ap (λ (x : CallbackRow). is_left x.status) (sym is)
     of_test d false there out is =
         let here : find (has_number n) w.callbacks ≡ Some c = there ∙ ap (λ x. Some x) is in
-        left_not c.status (pending_not (is_pending c.status) refl) (group_idle fresh w group.0 none s n c here of)
+        left_not c.status (pending_not (is_pending c.status) refl) (group_idle next_number w group.0 none s n c here of)
       where
         pending_not : (b : Bool) → is_pending c.status ≡ b → is_pending c.status ≡ false
         pending_not false e = e
@@ -680,15 +680,15 @@ notices_named objects group (n ∷ ns) =
       | false ↦ λ _. notices_named objects group ns
     ] refl
 
-pub sound_begin_close : (fresh : ℕ) (w : World) (who : Who) (group : GroupId) (cancel : Bool) (context : ℕ) → is_in_wait w who ≡ false → first_operating w group.0 ≡ None → IsSound fresh w
-    → IsSound fresh (begin_close w who group cancel context (notices_of w group.0 cancel) (cancel_where (is_cancelled_by (Group group) cancel) w.callbacks))
-sound_begin_close fresh w who group cancel context none idle s =
+pub sound_begin_close : (next_number : ℕ) (w : World) (who : Who) (group : GroupId) (cancel : Bool) (context : ℕ) → is_in_wait w who ≡ false → first_operating w group.0 ≡ None → IsSound next_number w
+    → IsSound next_number (begin_close w who group cancel context (notices_of w group.0 cancel) (cancel_where (is_cancelled_by (Group group) cancel) w.callbacks))
+sound_begin_close next_number w who group cancel context none idle s =
     let test : CallbackRow → Bool = is_cancelled_by (Group group) cancel in
     let kept : List CallbackRow = cancel_where test w.callbacks in
-    let rising : IsRising 1 fresh kept = rising_map (cancelled_if test) (cancelled_number test) 1 fresh w.callbacks s.numbers in
-    sound_begun fresh (without_members w group.0) test (new_close who group cancel context (notices_of w group.0 cancel) kept) (cancelled_pending (Group group) cancel) none
-    (new_close_sound fresh who group cancel context (notices_of w group.0 cancel) kept rising (λ is. ap (λ b. cond b (map object_id (objects_that (gets_notice group.0) w.objects)) []) is) (closed_cut fresh w group cancel idle s))
-    (of_cancel cancel) (sound_members fresh w group.0 idle s)
+    let rising : IsRising 1 next_number kept = rising_map (cancelled_if test) (cancelled_number test) 1 next_number w.callbacks s.numbers in
+    sound_begun next_number (without_members w group.0) test (new_close who group cancel context (notices_of w group.0 cancel) kept) (cancelled_pending (Group group) cancel) none
+    (new_close_sound next_number who group cancel context (notices_of w group.0 cancel) kept rising (λ is. ap (λ b. cond b (map object_id (objects_that (gets_notice group.0) w.objects)) []) is) (closed_cut next_number w group cancel idle s))
+    (of_cancel cancel) (sound_members next_number w group.0 idle s)
   where
     of_cancel : (b : Bool) → AreNamed (map (released_from group.0) w.objects) (cond b (map object_id (objects_that (gets_notice group.0) w.objects)) [])
     of_cancel false = tt
@@ -698,8 +698,8 @@ sound_begin_close fresh w who group cancel context none idle s =
         (map object_id (objects_that (gets_notice group.0) w.objects)) (notices_named w.objects group.0 (numbers_in w.objects))
 
 -- a notice is given
-pub sound_notified : (fresh : ℕ) (w : World) (who : Who) → IsSound fresh w → IsSound fresh (record w { waits = give_notice who w.waits })
-sound_notified fresh w who s =
+pub sound_notified : (next_number : ℕ) (w : World) (who : Who) → IsSound next_number w → IsSound next_number (record w { waits = give_notice who w.waits })
+sound_notified next_number w who s =
     record {
       numbers = s.numbers;
       workers = s.workers;
@@ -709,7 +709,7 @@ sound_notified fresh w who s =
       armings = s.armings;
       timeouts = s.timeouts;
       clock = s.clock;
-      waits = all_map (IsWaitSound fresh w.callbacks) (noted who) (λ b h. elim (is_same_actor b.actor who) as (λ t. IsWaitSound fresh w.callbacks (cond t (notified b) b)) [
+      waits = all_map (IsWaitSound next_number w.callbacks) (noted who) (λ b h. elim (is_same_actor b.actor who) as (λ t. IsWaitSound next_number w.callbacks (cond t (notified b) b)) [
         | true ↦ record { named = h.named; made = h.made; closed = h.closed; settled = λ n left covered. ap (drop 1) (h.settled n left covered); quiet = λ e. ap (drop 1) (h.quiet e) }
         | false ↦ h
       ]) w.waits s.waits;
@@ -746,8 +746,8 @@ apart_filter p (b ∷ bs) a =
       | false ↦ apart_filter p bs a.1
     ]
 
-pub sound_end_wait : (fresh : ℕ) (w : World) (who : Who) → IsSound fresh w → IsSound fresh (without_wait w who)
-sound_end_wait fresh w who s =
+pub sound_end_wait : (next_number : ℕ) (w : World) (who : Who) → IsSound next_number w → IsSound next_number (without_wait w who)
+sound_end_wait next_number w who s =
     let keeps : BegunWait → Bool = λ (b : BegunWait). not (is_same_actor b.actor who) in
     record {
       numbers = s.numbers;
@@ -758,7 +758,7 @@ sound_end_wait fresh w who s =
       armings = s.armings;
       timeouts = s.timeouts;
       clock = s.clock;
-      waits = all_filter (IsWaitSound fresh w.callbacks) keeps w.waits s.waits;
+      waits = all_filter (IsWaitSound next_number w.callbacks) keeps w.waits s.waits;
       callback_pools = s.callback_pools;
       callback_objects = s.callback_objects;
       operations = s.operations;
@@ -768,25 +768,25 @@ sound_end_wait fresh w who s =
 -- what a trigger comes to
 
 -- callbacks are appended one after another
-sound_rows : (fresh : ℕ) (w : World) (jobs : List Job) → AreJobsOf (IsMade (length w.objects)) jobs → IsSound fresh w → IsSound (fresh + length jobs) (record w { callbacks = w.callbacks ++ rows_of w.objects fresh jobs })
-sound_rows fresh w [] made s =
-    subst (λ (cs : List CallbackRow). IsSound (fresh + 0) (record w { callbacks = cs })) (sym (append-nil w.callbacks)) (subst (λ n. IsSound n w) (omega arith) s)
-sound_rows fresh w (j ∷ js) made s =
-    let c : CallbackRow = new_callback fresh j.object (object_row w.objects j.object) j.result in
+sound_rows : (next_number : ℕ) (w : World) (jobs : List Job) → AreJobsOf (IsMade (length w.objects)) jobs → IsSound next_number w → IsSound (next_number + length jobs) (record w { callbacks = w.callbacks ++ rows_of w.objects next_number jobs })
+sound_rows next_number w [] made s =
+    subst (λ (cs : List CallbackRow). IsSound (next_number + 0) (record w { callbacks = cs })) (sym (append-nil w.callbacks)) (subst (λ n. IsSound n w) (omega arith) s)
+sound_rows next_number w (j ∷ js) made s =
+    let c : CallbackRow = new_callback next_number j.object (object_row w.objects j.object) j.result in
     let home : c.pool.0 < length w.pools = row_of_made (λ (o : ObjectRow). o.env.pool.0 < length w.pools) w.objects j.object s.object_pools made.0.0 in
-    let more : IsSound (fresh + 1 + length js) (record w { callbacks = (w.callbacks ++ c ∷ []) ++ rows_of w.objects (fresh + 1) js })
-    = sound_rows (fresh + 1) (with_new_callback w c) js made.1 (sound_new_callback fresh w c refl home (λ _. record { row = object_row w.objects j.object; stands = made_stands w.objects j.object made.0.0; home = refl; group = refl }) (λ operates. absurd (false_true operates)) s) in
-    subst (λ (cs : List CallbackRow). IsSound (fresh + length (j ∷ js)) (record w { callbacks = cs })) (append_assoc w.callbacks (c ∷ []) (rows_of w.objects (fresh + 1) js))
-    (subst (λ n. IsSound n (record w { callbacks = (w.callbacks ++ c ∷ []) ++ rows_of w.objects (fresh + 1) js })) (omega arith) more)
+    let more : IsSound (next_number + 1 + length js) (record w { callbacks = (w.callbacks ++ c ∷ []) ++ rows_of w.objects (next_number + 1) js })
+    = sound_rows (next_number + 1) (with_new_callback w c) js made.1 (sound_new_callback next_number w c refl home (λ _. record { row = object_row w.objects j.object; stands = made_stands w.objects j.object made.0.0; home = refl; group = refl }) (λ operates. absurd (false_true operates)) s) in
+    subst (λ (cs : List CallbackRow). IsSound (next_number + length (j ∷ js)) (record w { callbacks = cs })) (append_assoc w.callbacks (c ∷ []) (rows_of w.objects (next_number + 1) js))
+    (subst (λ n. IsSound n (record w { callbacks = (w.callbacks ++ c ∷ []) ++ rows_of w.objects (next_number + 1) js })) (omega arith) more)
 
 -- the sources of a world
-pub sources_in : (fresh : ℕ) (w : World) → IsSound fresh w → AreSourcesIn w.objects (sources_of w)
-sources_in fresh w s = record { settings = s.timers; armings = s.armings }
+pub sources_in : (next_number : ℕ) (w : World) → IsSound next_number w → AreSourcesIn w.objects (sources_of w)
+sources_in next_number w s = record { settings = s.timers; armings = s.armings }
 
 -- and other ones
-pub sound_sources : (fresh : ℕ) (w : World) (s : Sources) → AreSourcesIn w.objects s → ((object : ℕ) → is_wait_at w.objects object ≡ true → IsTimedOut object s.settings s.armings) → s.now ≤ clock_end → IsSound fresh w
-    → IsSound fresh (record w { settings = s.settings; armings = s.armings; kernels = s.kernels; now = s.now })
-sound_sources fresh w s made timed within sound =
+pub sound_sources : (next_number : ℕ) (w : World) (s : Sources) → AreSourcesIn w.objects s → ((object : ℕ) → is_wait_at w.objects object ≡ true → IsTimedOut object s.settings s.armings) → s.now ≤ clock_end → IsSound next_number w
+    → IsSound next_number (record w { settings = s.settings; armings = s.armings; kernels = s.kernels; now = s.now })
+sound_sources next_number w s made timed within sound =
     record {
       numbers = sound.numbers;
       workers = sound.workers;
@@ -812,29 +812,29 @@ ready_apart w (SetTimer object due period window) ready n wait = known (object.0
     known true is = absurd (false_true (sym (ap wait_row ready.stands ∙ ap (λ k. is_same_kind k Wait) ready.kind) ∙ ap (is_wait_at w.objects) (eqb-true object.0 n is) ∙ wait))
 ready_apart w _ ready n wait = tt
 
-pub fired_counted : (fresh : ℕ) (w : World) (trigger : Trigger) → IsReady w trigger → IsSound fresh w → (object : ℕ) → is_wait_at w.objects object ≡ true
+pub fired_counted : (next_number : ℕ) (w : World) (trigger : Trigger) → IsReady w trigger → IsSound next_number w → (object : ℕ) → is_wait_at w.objects object ≡ true
     → IsCounted object (count_allowed (set_on object (sets_of trigger)) (count_armed object w.armings)) (firing trigger (sources_of w))
-fired_counted fresh w trigger ready s object wait = firing_counted object trigger (sources_of w) (ready_apart w trigger ready object wait) (s.timeouts object wait)
+fired_counted next_number w trigger ready s object wait = firing_counted object trigger (sources_of w) (ready_apart w trigger ready object wait) (s.timeouts object wait)
 
-sound_fired : (fresh : ℕ) (w : World) (trigger : Trigger) → IsReady w trigger → IsSound fresh w → IsSound (fresh + length (firing trigger (sources_of w)).jobs) (fired w fresh (firing trigger (sources_of w)))
-sound_fired fresh w trigger ready s =
+sound_fired : (next_number : ℕ) (w : World) (trigger : Trigger) → IsReady w trigger → IsSound next_number w → IsSound (next_number + length (firing trigger (sources_of w)).jobs) (fired w next_number (firing trigger (sources_of w)))
+sound_fired next_number w trigger ready s =
     let f : Firing = firing trigger (sources_of w) in
-    let made : IsFiringIn w.objects f = fired_in w trigger ready (sources_in fresh w s) in
-    sound_rows fresh (record w { settings = f.sources.settings; armings = f.sources.armings; kernels = f.sources.kernels; now = f.sources.now }) f.jobs (jobs_made w.objects f.jobs made.jobs)
-    (sound_sources fresh w f.sources made.sources (λ object wait. (fired_counted fresh w trigger ready s object wait).timed) (fired_clock w trigger ready s.clock) s)
+    let made : IsFiringIn w.objects f = fired_in w trigger ready (sources_in next_number w s) in
+    sound_rows next_number (record w { settings = f.sources.settings; armings = f.sources.armings; kernels = f.sources.kernels; now = f.sources.now }) f.jobs (jobs_made w.objects f.jobs made.jobs)
+    (sound_sources next_number w f.sources made.sources (λ object wait. (fired_counted next_number w trigger ready s object wait).timed) (fired_clock w trigger ready s.clock) s)
 
 -- ---- each change
 
-none_made : (fresh : ℕ) (w : World) → IsSound fresh w → IsSound (fresh + 0) w
-none_made fresh w s = subst (λ n. IsSound n w) (omega arith) s
+none_made : (next_number : ℕ) (w : World) → IsSound next_number w → IsSound (next_number + 0) w
+none_made next_number w s = subst (λ n. IsSound n w) (omega arith) s
 
-sound_change_pool : (fresh : ℕ) (w : World) (pool : ℕ) (how : PoolChange) (row : Option PoolRow) → IsSound fresh w → IsSound fresh (change_pool w pool how row)
-sound_change_pool fresh w pool how None s = s
-sound_change_pool fresh w pool how (Some row) s = sound_pool fresh w pool (pool_after how row) s
+sound_change_pool : (next_number : ℕ) (w : World) (pool : ℕ) (how : PoolChange) (row : Option PoolRow) → IsSound next_number w → IsSound next_number (change_pool w pool how row)
+sound_change_pool next_number w pool how None s = s
+sound_change_pool next_number w pool how (Some row) s = sound_pool next_number w pool (pool_after how row) s
 
 -- kernel objects change
-pub sound_kernels : (fresh : ℕ) (w : World) (kernels : List KernelRow) → IsSound fresh w → IsSound fresh (record w { kernels = kernels })
-sound_kernels fresh w kernels s =
+pub sound_kernels : (next_number : ℕ) (w : World) (kernels : List KernelRow) → IsSound next_number w → IsSound next_number (record w { kernels = kernels })
+sound_kernels next_number w kernels s =
     record {
       numbers = s.numbers;
       workers = s.workers;
@@ -852,16 +852,16 @@ sound_kernels fresh w kernels s =
     }
 
 -- with the number that the next callback gets, and as many as there are
-renumbered : (v : World) (f : Firing) (fresh first count : ℕ) → first ≡ fresh → count ≡ length f.jobs → IsSound (fresh + length f.jobs) (fired v fresh f) → IsSound (fresh + count) (fired v first f)
-renumbered v f fresh first count number counted h = subst (λ n. IsSound (fresh + n) (fired v first f)) (sym counted) (subst (λ n. IsSound (fresh + length f.jobs) (fired v n f)) (sym number) h)
+renumbered : (v : World) (f : Firing) (next_number first count : ℕ) → first ≡ next_number → count ≡ length f.jobs → IsSound (next_number + length f.jobs) (fired v next_number f) → IsSound (next_number + count) (fired v first f)
+renumbered v f next_number first count number counted h = subst (λ n. IsSound (next_number + n) (fired v first f)) (sym counted) (subst (λ n. IsSound (next_number + length f.jobs) (fired v n f)) (sym number) h)
 
 pending_idle : (status : Status) → is_pending status ≡ true → is_operating status ≡ false
 pending_idle Pending e = refl
 pending_idle _ e = absurd (false_true e)
 
 -- groups change
-pub sound_groups : (fresh : ℕ) (w : World) (groups : List GroupRow) → IsSound fresh w → IsSound fresh (record w { groups = groups })
-sound_groups fresh w groups s =
+pub sound_groups : (next_number : ℕ) (w : World) (groups : List GroupRow) → IsSound next_number w → IsSound next_number (record w { groups = groups })
+sound_groups next_number w groups s =
     record {
       numbers = s.numbers;
       workers = s.workers;
@@ -878,43 +878,43 @@ sound_groups fresh w groups s =
       notices = s.notices;
     }
 
-pub changed_sound : (fresh : ℕ) (w : World) (ch : Change) → IsSound fresh w → IsAllowed fresh w ch → IsSound (fresh + news ch) (changed w ch)
-changed_sound fresh w change.Keep s a = none_made fresh w s
-changed_sound fresh w change.CreatePool s a = none_made fresh (with_new_pool w) (sound_new_pool fresh w s)
-changed_sound fresh w (change.ChangePool pool how) s a = none_made fresh (changed w (change.ChangePool pool how)) (sound_change_pool fresh w pool.0 how (slice_get w.pools pool.0) s)
-changed_sound fresh w (change.CreateObject row) s a = none_made fresh (with_object w row) (sound_object fresh w row a.home s)
-changed_sound fresh w (change.ReleaseObject object) s a = none_made fresh (changed w (change.ReleaseObject object)) (sound_release fresh w object (numbered w.objects object.0) refl a.idle s)
-changed_sound fresh w (change.QueueCallback c) s a = sound_new_callback fresh w c a.number a.home a.object (λ operates. absurd (false_true (sym (pending_idle c.status a.pending) ∙ operates))) s
-changed_sound fresh w (change.ExpectCallback c) s a = sound_new_callback fresh w c a.number a.home a.object (λ _. a.stands) s
-changed_sound fresh w (change.Operate c how) s a = none_made fresh (changed w (change.Operate c how)) (sound_operated fresh w how c a.found a.status s)
-changed_sound fresh w (change.Fire trigger first count) s a = renumbered w (firing trigger (sources_of w)) fresh first count a.number a.counted (sound_fired fresh w trigger a.ready s)
-changed_sound fresh w (change.CreateKernel state) s a = none_made fresh (changed w (change.CreateKernel state)) (sound_kernels fresh w (w.kernels ++ new_kernel state ∷ []) s)
-changed_sound fresh w (change.ChangeKernel kernel how) s a = none_made fresh (changed w (change.ChangeKernel kernel how)) (sound_kernels fresh w (kernel_changed (state_after how) w.kernels kernel.0) s)
-changed_sound fresh w (change.Attach worker pool) s a = none_made fresh (changed w (change.Attach worker pool)) (sound_free_worker fresh w worker (record { pool = Some pool; callback = None }) refl s)
-changed_sound fresh w (change.Detach by) s a = none_made fresh (changed w (change.Detach by)) (sound_free_worker fresh w by.worker unattached refl s)
-changed_sound fresh w (change.Take by c) s a =
-    none_made fresh (changed w (change.Take by c)) (sound_taken fresh w by.worker by.pool c (numbered_some w.workers by.worker (record { pool = Some by.pool; callback = None }) a.idles).1 a.found a.pending a.home s)
-changed_sound fresh w (change.Mark by mark) s a = none_made fresh (changed w (change.Mark by mark)) (sound_marked fresh w mark by.callback a.runs.found s)
-changed_sound fresh w (change.Return by words first count) s a =
+pub changed_sound : (next_number : ℕ) (w : World) (ch : Change) → IsSound next_number w → IsAllowed next_number w ch → IsSound (next_number + news ch) (changed w ch)
+changed_sound next_number w change.Keep s a = none_made next_number w s
+changed_sound next_number w change.CreatePool s a = none_made next_number (with_new_pool w) (sound_new_pool next_number w s)
+changed_sound next_number w (change.ChangePool pool how) s a = none_made next_number (changed w (change.ChangePool pool how)) (sound_change_pool next_number w pool.0 how (slice_get w.pools pool.0) s)
+changed_sound next_number w (change.CreateObject row) s a = none_made next_number (with_object w row) (sound_object next_number w row a.home s)
+changed_sound next_number w (change.ReleaseObject object) s a = none_made next_number (changed w (change.ReleaseObject object)) (sound_release next_number w object (numbered w.objects object.0) refl a.idle s)
+changed_sound next_number w (change.QueueCallback c) s a = sound_new_callback next_number w c a.number a.home a.object (λ operates. absurd (false_true (sym (pending_idle c.status a.pending) ∙ operates))) s
+changed_sound next_number w (change.ExpectCallback c) s a = sound_new_callback next_number w c a.number a.home a.object (λ _. a.stands) s
+changed_sound next_number w (change.Operate c how) s a = none_made next_number (changed w (change.Operate c how)) (sound_operated next_number w how c a.found a.status s)
+changed_sound next_number w (change.Fire trigger first count) s a = renumbered w (firing trigger (sources_of w)) next_number first count a.number a.counted (sound_fired next_number w trigger a.ready s)
+changed_sound next_number w (change.CreateKernel state) s a = none_made next_number (changed w (change.CreateKernel state)) (sound_kernels next_number w (w.kernels ++ new_kernel state ∷ []) s)
+changed_sound next_number w (change.ChangeKernel kernel how) s a = none_made next_number (changed w (change.ChangeKernel kernel how)) (sound_kernels next_number w (kernel_changed (state_after how) w.kernels kernel.0) s)
+changed_sound next_number w (change.Attach worker pool) s a = none_made next_number (changed w (change.Attach worker pool)) (sound_free_worker next_number w worker (record { pool = Some pool; callback = None }) refl s)
+changed_sound next_number w (change.Detach by) s a = none_made next_number (changed w (change.Detach by)) (sound_free_worker next_number w by.worker unattached refl s)
+changed_sound next_number w (change.Take by c) s a =
+    none_made next_number (changed w (change.Take by c)) (sound_taken next_number w by.worker by.pool c (numbered_some w.workers by.worker (record { pool = Some by.pool; callback = None }) a.idles).1 a.found a.pending a.home s)
+changed_sound next_number w (change.Mark by mark) s a = none_made next_number (changed w (change.Mark by mark)) (sound_marked next_number w mark by.callback a.runs.found s)
+changed_sound next_number w (change.Return by words first count) s a =
     let runs = a.runs in
     let of : Slots = slots_of by.callback.status in
     let f : Firing = returning w words of in
     let v : World = without_run w by in
-    let sound : IsSound fresh v
-    = sound_returned fresh w by.worker (record { pool = Some by.pool; callback = None }) by.pool by.callback
+    let sound : IsSound next_number v
+    = sound_returned next_number w by.worker (record { pool = Some by.pool; callback = None }) by.pool by.callback
     (numbered_some w.workers by.worker (record { pool = Some by.pool; callback = Some by.callback.number }) runs.stands).1 refl
     (record { callback = by.callback; associated = runs.associated; slots = runs.slots; found = runs.found; runs = runs.running; at_home = runs.home }) runs.found s in
-    let made : IsFiringIn w.objects f = returning_of (λ n. is_standing w.objects n ≡ true) (λ n. may_be_armed w.objects n ≡ true) (λ n may. armable_stands w.objects n may) w words of (sources_in fresh w s) in
-    renumbered v f fresh first count a.number a.counted
-    (sound_rows fresh (record v { settings = f.sources.settings; armings = f.sources.armings; kernels = f.sources.kernels; now = f.sources.now }) f.jobs (jobs_made w.objects f.jobs made.jobs)
-    (sound_sources fresh v f.sources made.sources (λ object wait. (returning_counted object w words of (s.timeouts object wait)).timed) (omega (arith, s.clock, returning_now w words of)) sound))
-changed_sound fresh w (change.BeginWait who target cancel) s a = none_made fresh (changed w (change.BeginWait who target cancel)) (sound_begin_wait fresh w who target cancel a.none a.made s)
-changed_sound fresh w change.CreateGroup s a = none_made fresh (changed w change.CreateGroup) (sound_groups fresh w (w.groups ++ new_group ∷ []) s)
-changed_sound fresh w (change.CloseGroup group) s a = none_made fresh (changed w (change.CloseGroup group)) (sound_groups fresh w (close_row w.groups group.0 (numbered w.groups group.0)) s)
-changed_sound fresh w (change.BeginClose who group cancel context notices) s a = none_made fresh (changed w (change.BeginClose who group cancel context notices)) (sound_begin_close fresh w who group cancel context a.none a.idle s)
-changed_sound fresh w (change.GiveNotice who) s a = none_made fresh (changed w (change.GiveNotice who)) (sound_notified fresh w who s)
-changed_sound fresh w (change.EndWait who how) s a = none_made fresh (end_wait w who how) (sound_kernels fresh (without_wait w who) (kernels_left w who how (wait_of w who)) (sound_end_wait fresh w who s))
-changed_sound fresh w (change.Finish client) s a = none_made fresh (changed w (change.Finish client)) (sound_client fresh w client finished s)
+    let made : IsFiringIn w.objects f = returning_of (λ n. is_standing w.objects n ≡ true) (λ n. may_be_armed w.objects n ≡ true) (λ n may. armable_stands w.objects n may) w words of (sources_in next_number w s) in
+    renumbered v f next_number first count a.number a.counted
+    (sound_rows next_number (record v { settings = f.sources.settings; armings = f.sources.armings; kernels = f.sources.kernels; now = f.sources.now }) f.jobs (jobs_made w.objects f.jobs made.jobs)
+    (sound_sources next_number v f.sources made.sources (λ object wait. (returning_counted object w words of (s.timeouts object wait)).timed) (omega (arith, s.clock, returning_now w words of)) sound))
+changed_sound next_number w (change.BeginWait who target cancel) s a = none_made next_number (changed w (change.BeginWait who target cancel)) (sound_begin_wait next_number w who target cancel a.none a.made s)
+changed_sound next_number w change.CreateGroup s a = none_made next_number (changed w change.CreateGroup) (sound_groups next_number w (w.groups ++ new_group ∷ []) s)
+changed_sound next_number w (change.CloseGroup group) s a = none_made next_number (changed w (change.CloseGroup group)) (sound_groups next_number w (close_row w.groups group.0 (numbered w.groups group.0)) s)
+changed_sound next_number w (change.BeginClose who group cancel context notices) s a = none_made next_number (changed w (change.BeginClose who group cancel context notices)) (sound_begin_close next_number w who group cancel context a.none a.idle s)
+changed_sound next_number w (change.GiveNotice who) s a = none_made next_number (changed w (change.GiveNotice who)) (sound_notified next_number w who s)
+changed_sound next_number w (change.EndWait who how) s a = none_made next_number (end_wait w who how) (sound_kernels next_number (without_wait w who) (kernels_left w who how (wait_of w who)) (sound_end_wait next_number w who s))
+changed_sound next_number w (change.Finish client) s a = none_made next_number (changed w (change.Finish client)) (sound_client next_number w client finished s)
 
 -- and it is true of the opening world
 idle_workers : (cs : List CallbackRow) (first count : ℕ) → AreWorkersSound cs first (replicate count unattached)

@@ -29,11 +29,11 @@ use Rattle.tp_model.proofs.Refusals.{and_false, both, false_true}
 abbrev pub AreLeftOver : List CallbackRow → List CallbackRow → Type 0
 AreLeftOver before now = (target : WaitTarget) (n : ℕ) → is_left_among now target n ≡ true → is_left_among before target n ≡ true
 
-pub waits_still : (fresh : ℕ) (before now : List CallbackRow) → AreLeftOver before now → (bs : List BegunWait) → AllByRecursion (IsWaitSound fresh before) bs → AllByRecursion (IsWaitSound fresh now) bs
-waits_still fresh before now over [] all = tt
-waits_still fresh before now over (b ∷ bs) all = (
+pub waits_still : (next_number : ℕ) (before now : List CallbackRow) → AreLeftOver before now → (bs : List BegunWait) → AllByRecursion (IsWaitSound next_number before) bs → AllByRecursion (IsWaitSound next_number now) bs
+waits_still next_number before now over [] all = tt
+waits_still next_number before now over (b ∷ bs) all = (
   record { named = all.0.named; made = all.0.made; closed = λ m n lt left_m left_n. all.0.closed m n lt (over b.target m left_m) (over b.target n left_n); settled = λ n left. all.0.settled n (over b.target n left); quiet = all.0.quiet },
-  waits_still fresh before now over bs all.1,
+  waits_still next_number before now over bs all.1,
 )
 
 -- another row in place of one of the same object and group, which may be run only where that might
@@ -72,19 +72,19 @@ find_below : (n : ℕ) (c : CallbackRow) (cs : List CallbackRow) → n < c.numbe
 find_below n c [] lt = ap (λ b. cond b (Some c) None) (ne_eqb c.number n (λ e. omega (arith, e, lt)))
 find_below n c (d ∷ cs) lt = ap (λ t. cond (has_number n d) (Some d) t) (find_below n c cs lt)
 
-pub waits_longer : (fresh : ℕ) (c : CallbackRow) (cs : List CallbackRow) → c.number ≡ fresh → (bs : List BegunWait) → AllByRecursion (IsWaitSound fresh cs) bs → AllByRecursion (IsWaitSound (fresh + 1) (cs ++ c ∷ [])) bs
-waits_longer fresh c cs number [] all = tt
-waits_longer fresh c cs number (b ∷ bs) all = (
+pub waits_longer : (next_number : ℕ) (c : CallbackRow) (cs : List CallbackRow) → c.number ≡ next_number → (bs : List BegunWait) → AllByRecursion (IsWaitSound next_number cs) bs → AllByRecursion (IsWaitSound (next_number + 1) (cs ++ c ∷ [])) bs
+waits_longer next_number c cs number [] all = tt
+waits_longer next_number c cs number (b ∷ bs) all = (
   record {
     named = all.0.named;
-    made = all_below (λ n. n) fresh (fresh + 1) (omega arith) b.covered all.0.made;
+    made = all_below (λ n. n) next_number (next_number + 1) (omega arith) b.covered all.0.made;
     closed = λ m n lt left_m left_n covered.
-        let below : n < c.number = omega (arith, number, among_below fresh n b.covered all.0.made covered) in
+        let below : n < c.number = omega (arith, number, among_below next_number n b.covered all.0.made covered) in
         all.0.closed m n lt (was m (omega (arith, lt, below)) left_m) (was n below left_n) covered;
-    settled = λ n left covered. all.0.settled n (was n (omega (arith, number, among_below fresh n b.covered all.0.made covered)) left) covered;
+    settled = λ n left covered. all.0.settled n (was n (omega (arith, number, among_below next_number n b.covered all.0.made covered)) left) covered;
     quiet = all.0.quiet;
   },
-  waits_longer fresh c cs number bs all.1,
+  waits_longer next_number c cs number bs all.1,
 )
   where
     was : (n : ℕ) → n < c.number → is_left_among (cs ++ c ∷ []) b.target n ≡ true → is_left_among cs b.target n ≡ true
@@ -98,17 +98,17 @@ target_named w (Group group) made = tt
 target_named w (Kernel kernel) made = tt
 
 -- the numbers of rows are below the next
-numbers_below : (p : CallbackRow → Bool) (low fresh : ℕ) (cs : List CallbackRow) → IsRising low fresh cs → AllByRecursion (λ n. n < fresh) (map (λ (c : CallbackRow). c.number) (filter p cs))
-numbers_below p low fresh [] rising = tt
-numbers_below p low fresh (c ∷ cs) rising =
-    let rest = numbers_below p (c.number + 1) fresh cs rising.1 in
-    let above : c.number + 1 ≤ fresh = rising_bound (c.number + 1) fresh cs rising.1 in
-    elim (p c) as (λ b. AllByRecursion (λ n. n < fresh) (map (λ (x : CallbackRow). x.number) (cond b (c ∷ filter p cs) (filter p cs)))) [ true ↦ (omega (arith, above), rest) | false ↦ rest ]
+numbers_below : (p : CallbackRow → Bool) (low next_number : ℕ) (cs : List CallbackRow) → IsRising low next_number cs → AllByRecursion (λ n. n < next_number) (map (λ (c : CallbackRow). c.number) (filter p cs))
+numbers_below p low next_number [] rising = tt
+numbers_below p low next_number (c ∷ cs) rising =
+    let rest = numbers_below p (c.number + 1) next_number cs rising.1 in
+    let above : c.number + 1 ≤ next_number = rising_bound (c.number + 1) next_number cs rising.1 in
+    elim (p c) as (λ b. AllByRecursion (λ n. n < next_number) (map (λ (x : CallbackRow). x.number) (cond b (c ∷ filter p cs) (filter p cs)))) [ true ↦ (omega (arith, above), rest) | false ↦ rest ]
 
 -- a row whose number is among those of what passes has passed
-passed_among : (p : CallbackRow → Bool) (low fresh n : ℕ) (c : CallbackRow) (cs : List CallbackRow) → IsRising low fresh cs → find (has_number n) cs ≡ Some c → is_among n (map (λ (x : CallbackRow). x.number) (filter p cs)) ≡ true → p c ≡ true
-passed_among p low fresh n c [] rising found among = absurd (false_true among)
-passed_among p low fresh n c (d ∷ cs) rising found among =
+passed_among : (p : CallbackRow → Bool) (low next_number n : ℕ) (c : CallbackRow) (cs : List CallbackRow) → IsRising low next_number cs → find (has_number n) cs ≡ Some c → is_among n (map (λ (x : CallbackRow). x.number) (filter p cs)) ≡ true → p c ≡ true
+passed_among p low next_number n c [] rising found among = absurd (false_true among)
+passed_among p low next_number n c (d ∷ cs) rising found among =
     elim (has_number n d) as (λ b. has_number n d ≡ b → cond b (Some d) (find (has_number n) cs) ≡ Some c → is_among n (map (λ (x : CallbackRow). x.number) (filter p (d ∷ cs))) ≡ true → p c ≡ true) [
       | true ↦ λ here e h.
           let same : d ≡ c = cc in
@@ -119,14 +119,14 @@ passed_among p low fresh n c (d ∷ cs) rising found among =
             | false ↦ λ later. absurd (omega (arith, is, least n (d.number + 1) cs rising.1 later))
           ] h
       | false ↦ λ other e h.
-          passed_among p (d.number + 1) fresh n c cs rising.1 e
+          passed_among p (d.number + 1) next_number n c cs rising.1 e
           (elim (p d) as (λ b. is_among n (map (λ (x : CallbackRow). x.number) (cond b (d ∷ filter p cs) (filter p cs))) ≡ true → is_among n (map (λ (x : CallbackRow). x.number) (filter p cs)) ≡ true) [
             | true ↦ λ t. ap (λ b. b || is_among n (map (λ (x : CallbackRow). x.number) (filter p cs))) (sym other) ∙ t
             | false ↦ λ t. t
           ] h)
     ] refl found among
   where
-    least : (k bound : ℕ) (ds : List CallbackRow) → IsRising bound fresh ds → is_among k (map (λ (x : CallbackRow). x.number) (filter p ds)) ≡ true → bound ≤ k
+    least : (k bound : ℕ) (ds : List CallbackRow) → IsRising bound next_number ds → is_among k (map (λ (x : CallbackRow). x.number) (filter p ds)) ≡ true → bound ≤ k
     least k bound [] r e = absurd (false_true e)
     least k bound (x ∷ xs) r e =
         elim (p x) as (λ b. is_among k (map (λ (y : CallbackRow). y.number) (cond b (x ∷ filter p xs) (filter p xs))) ≡ true → bound ≤ k) [
@@ -159,11 +159,11 @@ left_outstanding target c left =
     held t Returned o e = absurd (false_true e)
     held t Cancelled o e = absurd (false_true e)
 
-pub new_wait_sound : (fresh : ℕ) (who : Who) (target : WaitTarget) (cancel : Bool) (kept : List CallbackRow) → IsNamed target → IsRising 1 fresh kept → IsWaitSound fresh kept (new_wait who target cancel kept)
-new_wait_sound fresh who target cancel kept named rising =
+pub new_wait_sound : (next_number : ℕ) (who : Who) (target : WaitTarget) (cancel : Bool) (kept : List CallbackRow) → IsNamed target → IsRising 1 next_number kept → IsWaitSound next_number kept (new_wait who target cancel kept)
+new_wait_sound next_number who target cancel kept named rising =
     record {
       named = named;
-      made = numbers_below covers 1 fresh kept rising;
+      made = numbers_below covers 1 next_number kept rising;
       closed = λ m n lt left_m left_n covered. closed m n left_m left_n covered;
       settled = λ n left covered. refl;
       quiet = λ _. refl;
@@ -180,17 +180,17 @@ new_wait_sound fresh who target cancel kept named rising =
         of_rows None at e p is h = absurd (false_true e)
         of_rows (Some c) at e None is h = absurd (false_true h)
         of_rows (Some c) at e (Some d) is h =
-            let passes : covers d ≡ true = passed_among covers 1 fresh n d kept rising is covered in
+            let passes : covers d ≡ true = passed_among covers 1 next_number n d kept rising is covered in
             let all : not (cancel && is_object_target target) ≡ true
             = sym (ap (λ b. b || not (cancel && is_object_target target)) (left_outstanding target d h).1) ∙ (both (is_outstanding_for target d) (is_running d.status || not (cancel && is_object_target target)) passes).1 in
             let here = left_outstanding target c e in
             among_numbers covers m c kept at (ap₂ (λ a b. a && (b || not (cancel && is_object_target target))) here.0 here.1 ∙ all)
 
 -- and one of a close of a group, where with cancel none of its callbacks may still be run
-pub new_close_sound : (fresh : ℕ) (who : Who) (group : GroupId) (cancel : Bool) (context : ℕ) (notices : List ObjectId) (kept : List CallbackRow) → IsRising 1 fresh kept → (cancel ≡ false → notices ≡ [])
-    → (cancel ≡ true → (n : ℕ) (c : CallbackRow) → find (has_number n) kept ≡ Some c → is_of (Group group) c ≡ true → is_left c.status ≡ false) → IsWaitSound fresh kept (new_close who group cancel context notices kept)
-new_close_sound fresh who group cancel context notices kept rising quiet cut =
-    let plain : IsWaitSound fresh kept (new_wait who (Group group) cancel kept) = new_wait_sound fresh who (Group group) cancel kept tt rising in
+pub new_close_sound : (next_number : ℕ) (who : Who) (group : GroupId) (cancel : Bool) (context : ℕ) (notices : List ObjectId) (kept : List CallbackRow) → IsRising 1 next_number kept → (cancel ≡ false → notices ≡ [])
+    → (cancel ≡ true → (n : ℕ) (c : CallbackRow) → find (has_number n) kept ≡ Some c → is_of (Group group) c ≡ true → is_left c.status ≡ false) → IsWaitSound next_number kept (new_close who group cancel context notices kept)
+new_close_sound next_number who group cancel context notices kept rising quiet cut =
+    let plain : IsWaitSound next_number kept (new_wait who (Group group) cancel kept) = new_wait_sound next_number who (Group group) cancel kept tt rising in
     record { named = tt; made = plain.made; closed = plain.closed; settled = λ n left _. of_cancel n left cancel refl; quiet = λ e. absurd (false_true (sym e)) }
   where
     of_row : (n : ℕ) → cancel ≡ true → (o : Option CallbackRow) → find (has_number n) kept ≡ o → option_map_or (is_left_of (Group group)) o false ≡ true → ⊥

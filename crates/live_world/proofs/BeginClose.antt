@@ -18,8 +18,8 @@ use Rattle.tp_model.specs.Waits.{is_cancelled_by, is_covered_by, cancelled, canc
 use Rattle.tp_model.proofs.Forgetting.{over_not_cancelled, over_not_covered}
 use Rattle.tp_model.proofs.Lists.{any_filter, filter_filter, find_agree}
 use Rattle.tp_model.proofs.Refusals.{and_false}
-use Rattle.live_world.specs.Closing.{closing_begun, released_members, settled_group}
-use Rattle.live_world.specs.Live.{Live, became, moved}
+use Rattle.live_world.specs.Closing.{begin_close_wait, released_members, settled_group}
+use Rattle.live_world.specs.Live.{Live, with_world, moved}
 use Rattle.live_world.proofs.Along.{number_of}
 use Rattle.live_world.proofs.Cancelled.{none_where}
 use Rattle.live_world.proofs.GroupWalks.{cancels_none_of}
@@ -48,7 +48,7 @@ group_settled l m group cancel is =
 pub not_settled_group : (l : Live) (group : GroupId) → forget l.world ≡ l.world → l ≡ settled_group l group false
 not_settled_group l group living =
     ap (λ w. record { world = w; made = l.made }) (sym living)
-    ∙ ap (λ cs. became l (record l.world { callbacks = cs })) (sym (none_where l.world.callbacks (is_cancelled_by (Group group) false) (none_passes (is_cancelled_by (Group group) false) l.world.callbacks (cancels_none_of group l.world.callbacks))))
+    ∙ ap (λ cs. with_world l (record l.world { callbacks = cs })) (sym (none_where l.world.callbacks (is_cancelled_by (Group group) false) (none_passes (is_cancelled_by (Group group) false) l.world.callbacks (cancels_none_of group l.world.callbacks))))
 
 -- ---- no operation is under way
 
@@ -82,10 +82,10 @@ settled_idle l m group cancel is idle =
     (numbers_in l.world.objects)
     ∙ idle
 
-pub begun_idle : (l m : Live) (who : Who) (group : GroupId) (cancel : Bool) (context : ℕ) → m ≡ became l (closing_begun l.world who group cancel context) → first_operating l.world group.0 ≡ None → first_operating m.world group.0 ≡ None
+pub begun_idle : (l m : Live) (who : Who) (group : GroupId) (cancel : Bool) (context : ℕ) → m ≡ with_world l (begin_close_wait l.world who group cancel context) → first_operating l.world group.0 ≡ None → first_operating m.world group.0 ≡ None
 begun_idle l m who group cancel context is idle =
     ap (λ (x : Live). first_operating x.world group.0) is
-    ∙ find_agree (is_operating_member (became l (closing_begun l.world who group cancel context)).world group.0) (is_operating_member l.world group.0)
+    ∙ find_agree (is_operating_member (with_world l (begin_close_wait l.world who group cancel context)).world group.0) (is_operating_member l.world group.0)
     (λ k. ap (λ b. is_member_at l.world group.0 k && b) (any_filter (is_operation_of k) lives (over_idle k) l.world.callbacks))
     (numbers_in l.world.objects)
     ∙ idle
@@ -97,13 +97,13 @@ may_close_settled l m who group cancel n is a =
 
 -- ---- the whole
 
-pub closes_whole : (l s m : Live) (who : Who) (group : GroupId) (cancel : Bool) (context notices : ℕ) → s ≡ settled_group l group cancel → m ≡ became s (closing_begun s.world who group cancel context)
+pub closes_whole : (l s m : Live) (who : Who) (group : GroupId) (cancel : Bool) (context notices : ℕ) → s ≡ settled_group l group cancel → m ≡ with_world s (begin_close_wait s.world who group cancel context)
     → released_members m group ≡ moved l (change.BeginClose who group cancel context notices)
 closes_whole l s m who group cancel context notices settled begun =
     let kept : List CallbackRow = cancel_where (is_cancelled_by (Group group) cancel) l.world.callbacks in
     let twice : filter lives (filter lives kept) ≡ filter lives kept = filter_filter lives lives (λ _ e. e) kept in
     ap (λ (x : Live). released_members x group) begun
-    ∙ ap (λ (x : Live). released_members (became x (closing_begun x.world who group cancel context)) group) settled
+    ∙ ap (λ (x : Live). released_members (with_world x (begin_close_wait x.world who group cancel context)) group) settled
     ∙ ap₂ (λ cs (ns : List ℕ). record { world = record (without_members l.world group.0) { callbacks = cs; waits = l.world.waits ++ (record { actor = who; target = Group group; covered = ns; notices = notices_of l.world group.0 cancel; cleanup = context }) ∷ [] }; made = l.made })
     (ap (filter lives) twice ∙ twice)
     (ap (map number_of) (filter_filter (is_covered_by (Group group) cancel) lives (over_not_covered (Group group) cancel) kept))

@@ -15,7 +15,7 @@ use Rattle.tp_model.specs.Table.{plan_at, unpriced, step}
 use Rattle.tp_model.specs.Support.Sound.{IsSound}
 use Rattle.tp_model.specs.Support.Safe.{IsSafe}
 use Rattle.tp_model.specs.Support.Remembered.{Remembered, forget, made_by, step_of, remembered_after, StandsFor, Meets, Goes}
-use Rattle.tp_model.proofs.Preserving.{changed_sound}
+use Rattle.tp_model.proofs.Sound.{changed_sound}
 use Rattle.tp_model.proofs.Growing.{grows}
 use Rattle.tp_model.proofs.Calls.{plan_safe, plan_forget}
 use Rattle.tp_model.proofs.Forgetting.{changed_forget, forget_sound, live_forgotten, owed_forget}
@@ -31,27 +31,27 @@ AreAlike v w (Full a m) (Full b n) = (a ≡ b) × (m ≡ n)
 AreAlike v w _ _ = ⊥
 
 -- the plan of a call leads to the same from both
-plan_alike : (fresh : ℕ) (w : World) (who : Who) (call : Call) (p : Plan) → IsSound fresh w → IsSafe fresh w who call p → IsSafe fresh (forget w) who call p → AreAlike (forget w) w (stepped (forget w) p) (stepped w p)
-plan_alike fresh w who call (plan.Refused refusal) s safe left = refl
-plan_alike fresh w who call (plan.Looked look) s safe left = refl
-plan_alike fresh w who call (plan.Does answer ch) s safe left =
-    let more = grows fresh w ch safe.allowed in
-    let left_more = grows fresh (forget w) ch left.allowed in
-    (refl, changed_forget fresh w ch s safe.allowed, omega (arith, more, left_more), omega (arith, more))
+plan_alike : (next_number : ℕ) (w : World) (who : Who) (call : Call) (p : Plan) → IsSound next_number w → IsSafe next_number w who call p → IsSafe next_number (forget w) who call p → AreAlike (forget w) w (stepped (forget w) p) (stepped w p)
+plan_alike next_number w who call (plan.Refused refusal) s safe left = refl
+plan_alike next_number w who call (plan.Looked look) s safe left = refl
+plan_alike next_number w who call (plan.Does answer ch) s safe left =
+    let more = grows next_number w ch safe.allowed in
+    let left_more = grows next_number (forget w) ch left.allowed in
+    (refl, changed_forget next_number w ch s safe.allowed, omega (arith, more, left_more), omega (arith, more))
 
 unpriced_alike : (room : ℕ) (w : World) (who : Who) (call : Call) → IsSound (length w.callbacks + 1) w → AreAlike (forget w) w (stepped (forget w) (plan_at (forget w) (length w.callbacks + 1) room who call)) (unpriced w room who call)
 unpriced_alike room w who call s =
-    let fresh : ℕ = length w.callbacks + 1 in
-    let same : plan_at (forget w) fresh room who call ≡ plan_at w fresh room who call = plan_forget fresh room w who call s in
-    let left : IsSafe fresh (forget w) who call (plan_at w fresh room who call) = subst (IsSafe fresh (forget w) who call) same (plan_safe fresh room (forget w) who call (forget_sound fresh w s)) in
+    let next_number : ℕ = length w.callbacks + 1 in
+    let same : plan_at (forget w) next_number room who call ≡ plan_at w next_number room who call = plan_forget next_number room w who call s in
+    let left : IsSafe next_number (forget w) who call (plan_at w next_number room who call) = subst (IsSafe next_number (forget w) who call) same (plan_safe next_number room (forget w) who call (forget_sound next_number w s)) in
     subst (λ p. AreAlike (forget w) w (stepped (forget w) p) (unpriced w room who call)) (sym same)
-    (plan_alike fresh w who call (plan_at w fresh room who call) s (plan_safe fresh room w who call s) left)
+    (plan_alike next_number w who call (plan_at w next_number room who call) s (plan_safe next_number room w who call s) left)
 
 -- each step leads to a world of which the same is true
-step_sound : (fresh : ℕ) (w : World) (who : Who) (call : Call) (p : Plan) → IsSound fresh w → IsSafe fresh w who call p → IsSound (fresh + made_by w (stepped w p)) (world_after w (stepped w p))
-step_sound fresh w who call (plan.Refused refusal) s safe = subst (λ n. IsSound n w) (omega arith) s
-step_sound fresh w who call (plan.Looked look) s safe = subst (λ n. IsSound n w) (omega arith) s
-step_sound fresh w who call (plan.Does answer ch) s safe = subst (λ n. IsSound n (changed w ch)) (omega (arith, grows fresh w ch safe.allowed)) (changed_sound fresh w ch s safe.allowed)
+step_sound : (next_number : ℕ) (w : World) (who : Who) (call : Call) (p : Plan) → IsSound next_number w → IsSafe next_number w who call p → IsSound (next_number + made_by w (stepped w p)) (world_after w (stepped w p))
+step_sound next_number w who call (plan.Refused refusal) s safe = subst (λ n. IsSound n w) (omega arith) s
+step_sound next_number w who call (plan.Looked look) s safe = subst (λ n. IsSound n w) (omega arith) s
+step_sound next_number w who call (plan.Does answer ch) s safe = subst (λ n. IsSound n (changed w ch)) (omega (arith, grows next_number w ch safe.allowed)) (changed_sound next_number w ch s safe.allowed)
 
 unpriced_sound : (room : ℕ) (w : World) (who : Who) (call : Call) → IsSound (length w.callbacks + 1) w → IsSound (length w.callbacks + 1 + made_by w (unpriced w room who call)) (world_after w (unpriced w room who call))
 unpriced_sound room w who call s = step_sound (length w.callbacks + 1) w who call (plan_at w (length w.callbacks + 1) room who call) s (plan_safe (length w.callbacks + 1) room w who call s)
@@ -87,18 +87,18 @@ within_alike w room (Full a m) (Accepted b after_w) h = absurd h
 within_alike w room (Full a m) (Refused b) h = absurd h
 within_alike w room (Full a m) (Looked b) h = absurd h
 
-sound_full : (fresh : ℕ) (w : World) (room cost : ℕ) (s : Step) → IsSound fresh w → IsSound (fresh + made_by w s) (world_after w s) → IsSound (fresh + made_by w (unless_full room cost s)) (world_after w (unless_full room cost s))
-sound_full fresh w room cost s before sound =
-    elim (nat_lt room cost) as (λ b. IsSound (fresh + made_by w (cond b (Full room cost) s)) (world_after w (cond b (Full room cost) s))) [
+sound_full : (next_number : ℕ) (w : World) (room cost : ℕ) (s : Step) → IsSound next_number w → IsSound (next_number + made_by w s) (world_after w s) → IsSound (next_number + made_by w (unless_full room cost s)) (world_after w (unless_full room cost s))
+sound_full next_number w room cost s before sound =
+    elim (nat_lt room cost) as (λ b. IsSound (next_number + made_by w (cond b (Full room cost) s)) (world_after w (cond b (Full room cost) s))) [
       | true ↦ subst (λ n. IsSound n w) (omega arith) before
       | false ↦ sound
     ]
 
-pub sound_within : (fresh : ℕ) (w : World) (room : ℕ) (s : Step) → IsSound fresh w → IsSound (fresh + made_by w s) (world_after w s) → IsSound (fresh + made_by w (within w room s)) (world_after w (within w room s))
-sound_within fresh w room (Accepted answer after) before sound = sound_full fresh w room (cost w after) (Accepted answer after) before sound
-sound_within fresh w room (Refused refusal) before sound = sound_full fresh w room 1 (Refused refusal) before sound
-sound_within fresh w room (Looked look) before sound = sound
-sound_within fresh w room (Full left price) before sound = sound
+pub sound_within : (next_number : ℕ) (w : World) (room : ℕ) (s : Step) → IsSound next_number w → IsSound (next_number + made_by w s) (world_after w s) → IsSound (next_number + made_by w (within w room s)) (world_after w (within w room s))
+sound_within next_number w room (Accepted answer after) before sound = sound_full next_number w room (cost w after) (Accepted answer after) before sound
+sound_within next_number w room (Refused refusal) before sound = sound_full next_number w room 1 (Refused refusal) before sound
+sound_within next_number w room (Looked look) before sound = sound
+sound_within next_number w room (Full left price) before sound = sound
 
 -- ---- an engine that stands for a world takes the world's steps
 
@@ -161,8 +161,8 @@ pub meets : (old new : Remembered) (w : World) (room : ℕ) (who : Who) (call : 
 meets old new w room who call told goes stands =
     let is : new ≡ remembered_after old (step_of old room who call) = goes.keeps in
     let says : told ≡ outcome_of (step_of old room who call) = goes.tells in
-    let fresh : ℕ = length w.callbacks + 1 in
-    let sound : IsSound fresh w = subst (λ n. IsSound (n + 1) w) stands.counts stands.sound in
+    let next_number : ℕ = length w.callbacks + 1 in
+    let sound : IsSound next_number w = subst (λ n. IsSound (n + 1) w) stands.counts stands.sound in
     let same : step_of old room who call ≡ forgotten_step w room who call = ap₂ (λ v m. within v room (stepped v (plan_at v (m + 1) room who call))) stands.remembers stands.counts in
     let alike : GoesAlike (forget w) w (forgotten_step w room who call) (step w room who call) = step_alike w room who call sound in
     let whole : forget old.world ≡ old.world = ap forget stands.remembers ∙ live_forgotten w ∙ sym stands.remembers in
@@ -175,7 +175,7 @@ meets old new w room who call told goes stands =
         remembers = ap (λ (r : Remembered). r.world) is ∙ remembered_world old (step_of old room who call) whole ∙ left;
         counts = counted;
         sound = subst (λ n. IsSound n (world_after w (step w room who call))) (omega (arith, counted, alike.more))
-            (sound_within fresh w room (unpriced w room who call) sound (unpriced_sound room w who call sound));
+            (sound_within next_number w room (unpriced w room who call) sound (unpriced_sound room w who call sound));
       };
       ages = ap (λ (r : Remembered). r.age) is ∙ remembered_age old (step_of old room who call) ∙ ap (λ b. cond b (old.age + 1) old.age) (ap is_accepted same ∙ alike.accepted);
     }

@@ -25,22 +25,22 @@ row_stands objects n row is live =
     ap (λ (o : Option ObjectRow). option_map_or (λ (r : ObjectRow). not r.released) o false) is ∙ ap not (sym (ap (λ (o : Option ObjectRow). option_map_or (λ (r : ObjectRow). r.released) o false) is) ∙ live)
 
 -- what follows where no refusal applies
-pub safe_unless : (fresh : ℕ) (w : World) (who : Who) (call : Call) (rs : List (Bool × Refusal)) (p : Plan) → (NoneHolds rs → IsSafe fresh w who call p) → IsSafe fresh w who call (unless_refused (first_refusal rs) p)
-safe_unless fresh w who call rs p h = known (first_refusal rs) refl
+pub safe_unless : (next_number : ℕ) (w : World) (who : Who) (call : Call) (rs : List (Bool × Refusal)) (p : Plan) → (NoneHolds rs → IsSafe next_number w who call p) → IsSafe next_number w who call (unless_refused (first_refusal rs) p)
+safe_unless next_number w who call rs p h = known (first_refusal rs) refl
   where
-    known : (r : Option Refusal) → first_refusal rs ≡ r → IsSafe fresh w who call (unless_refused r p)
+    known : (r : Option Refusal) → first_refusal rs ≡ r → IsSafe next_number w who call (unless_refused r p)
     known None is = h (none_holds rs is)
     known (Some refusal) is = tt
 
 -- of a call that makes one more, where there may be one more
-pub make_safe : (fresh : ℕ) (w : World) (who : Who) (call : Call) (own : List (Bool × Refusal)) (limit count number : ℕ) (c : Change) → (count < limit → IsSafe fresh w who call (Does (answer.Made number) c)) → IsSafe fresh w who call (make w who own limit count number c)
-make_safe fresh w who call own limit count number c safe = safe_unless fresh w who call (make_refusals w who own limit count) _ (λ none. safe (room_to_make w who own limit count none))
+pub make_safe : (next_number : ℕ) (w : World) (who : Who) (call : Call) (own : List (Bool × Refusal)) (limit count number : ℕ) (c : Change) → (count < limit → IsSafe next_number w who call (Does (answer.Made number) c)) → IsSafe next_number w who call (make w who own limit count number c)
+make_safe next_number w who call own limit count number c safe = safe_unless next_number w who call (make_refusals w who own limit count) _ (λ none. safe (room_to_make w who own limit count none))
 
 -- of a call that only a running callback makes
-pub in_callback_safe : (fresh : ℕ) (w : World) (who : Who) (call : Call) (rs : List (Bool × Refusal)) (by : Option Busy → Plan) → IsSound fresh w → IsSafe fresh w who call (by None)
-    → ((busy : Busy) → IsBusy w who busy → IsSafe fresh w who call (by (Some busy))) → IsSafe fresh w who call (unless_refused (first_refusal rs) (by (busy_of w who)))
-in_callback_safe fresh w who call rs by s none some = safe_unless fresh w who call rs _ (λ _. runs (busy_of w who) refl)
+pub in_callback_safe : (next_number : ℕ) (w : World) (who : Who) (call : Call) (rs : List (Bool × Refusal)) (by : Option Busy → Plan) → IsSound next_number w → IsSafe next_number w who call (by None)
+    → ((busy : Busy) → IsBusy w who busy → IsSafe next_number w who call (by (Some busy))) → IsSafe next_number w who call (unless_refused (first_refusal rs) (by (busy_of w who)))
+in_callback_safe next_number w who call rs by s none some = safe_unless next_number w who call rs _ (λ _. runs (busy_of w who) refl)
   where
-    runs : (b : Option Busy) → busy_of w who ≡ b → IsSafe fresh w who call (by b)
+    runs : (b : Option Busy) → busy_of w who ≡ b → IsSafe next_number w who call (by b)
     runs None is = none
-    runs (Some busy) is = some busy (busy_stands fresh w who busy s is)
+    runs (Some busy) is = some busy (busy_stands next_number w who busy s is)

@@ -44,7 +44,7 @@ use Rattle.tp_base.specs.Timers.{set_timer, expires_at_once}
 use Rattle.tp_model.specs.Sources.{Sources, Job, Firing, job, jobless, with_state, disarmed, release_to, release_first, release_times, arm, firing, sources_of, rows_of, object_row}
 use Rattle.tp_model.specs.Support.Sound.{IsSound, IsMade, is_standing}
 use Rattle.tp_model.proofs.Firing.{AreJobsOf, IsFiringOf, IsFiringIn, IsTriggerOf, row_of_made, firing_of, fired_in, jobs_made, armable_stands}
-use Rattle.tp_model.proofs.Preserving.{sources_in}
+use Rattle.tp_model.proofs.Sound.{sources_in}
 use Rattle.tp_model.specs.World.{World, BegunWait}
 use Rattle.tp_model.specs.Counts.{numbered, has_number}
 use Rattle.tp_model.specs.Conditions.{busy_of}
@@ -138,12 +138,12 @@ plain_ranged WaitObject0 e = tt
 plain_ranged WaitTimeout e = tt
 plain_ranged (Io error bytes) e = absurd (false_true (sym e))
 
-job_rows : (objects : List ObjectRow) (fresh : ℕ) (jobs : List Job) → AllByRecursion IsObjectInRange objects → AreJobsOf (IsMade (length objects)) jobs → AreJobsOf (λ n. n ≤ 65535) jobs → fresh + length jobs ≤ 2 ^ 64
-    → AllByRecursion IsCallbackInRange (rows_of objects fresh jobs)
-job_rows objects fresh [] os made few fits = tt
-job_rows objects fresh (j ∷ js) os made few fits =
+job_rows : (objects : List ObjectRow) (next_number : ℕ) (jobs : List Job) → AllByRecursion IsObjectInRange objects → AreJobsOf (IsMade (length objects)) jobs → AreJobsOf (λ n. n ≤ 65535) jobs → next_number + length jobs ≤ 2 ^ 64
+    → AllByRecursion IsCallbackInRange (rows_of objects next_number jobs)
+job_rows objects next_number [] os made few fits = tt
+job_rows objects next_number (j ∷ js) os made few fits =
     let o : IsObjectInRange (object_row objects j.object) = row_of_made IsObjectInRange objects j.object os made.0.0 in
-    (record { number = omega (arith, fits); object = few.0.0; routine = o.routine; context = o.context; result = plain_ranged j.result few.0.1 }, job_rows objects (fresh + 1) js os made.1 few.1 (omega (arith, fits)))
+    (record { number = omega (arith, fits); object = few.0.0; routine = o.routine; context = o.context; result = plain_ranged j.result few.0.1 }, job_rows objects (next_number + 1) js os made.1 few.1 (omega (arith, fits)))
 
 trigger_few : (trigger : Trigger) → IsTriggerInRange trigger → IsTriggerOf (λ n. n ≤ 65535) (λ n. n ≤ 65535) trigger
 trigger_few (SetTimer object due period window) here = here
@@ -254,19 +254,19 @@ taken_rows w who Free (Some b) rows = of_target b.target
     of_target (Group group) = rows.kernels
     of_target (Kernel kernel) = all_changed IsStateInRange (taken_by who) w.kernels kernel.0 (λ row _ within. taken_ranged who row.state within) rows.kernels
 
-pub changed_rows : (fresh : ℕ) (w : World) (ch : Change) → IsSound fresh w → IsAllowed fresh w ch → IsChangeInRange ch → AreRowsInRange w → AreRowsInRange (changed w ch)
-changed_rows fresh w change.Keep s a r rows = rows
-changed_rows fresh w change.CreatePool s a r rows = record { objects = rows.objects; callbacks = rows.callbacks; timers = rows.timers; armings = rows.armings; kernels = rows.kernels; waits = rows.waits; few = rows.few }
-changed_rows fresh w (change.ChangePool pool how) s a r rows = pool_rows w pool.0 how (slice_get w.pools pool.0) rows
-changed_rows fresh w (change.CreateObject row) s a r rows = record { objects = all_append IsObjectInRange w.objects row rows.objects r; callbacks = rows.callbacks; timers = rows.timers; armings = rows.armings; kernels = rows.kernels; waits = rows.waits; few = omega (arith, length-append w.objects (row ∷ []), a.room) }
-changed_rows fresh w (change.ReleaseObject object) s a r rows = release_rows w object (numbered w.objects object.0) refl rows
-changed_rows fresh w (change.QueueCallback c) s a r rows = record { objects = rows.objects; callbacks = all_append IsCallbackInRange w.callbacks c rows.callbacks r; timers = rows.timers; armings = rows.armings; kernels = rows.kernels; waits = rows.waits; few = rows.few }
-changed_rows fresh w (change.ExpectCallback c) s a r rows = record { objects = rows.objects; callbacks = all_append IsCallbackInRange w.callbacks c rows.callbacks r; timers = rows.timers; armings = rows.armings; kernels = rows.kernels; waits = rows.waits; few = rows.few }
-changed_rows fresh w (change.Operate c how) s a r rows =
+pub changed_rows : (next_number : ℕ) (w : World) (ch : Change) → IsSound next_number w → IsAllowed next_number w ch → IsChangeInRange ch → AreRowsInRange w → AreRowsInRange (changed w ch)
+changed_rows next_number w change.Keep s a r rows = rows
+changed_rows next_number w change.CreatePool s a r rows = record { objects = rows.objects; callbacks = rows.callbacks; timers = rows.timers; armings = rows.armings; kernels = rows.kernels; waits = rows.waits; few = rows.few }
+changed_rows next_number w (change.ChangePool pool how) s a r rows = pool_rows w pool.0 how (slice_get w.pools pool.0) rows
+changed_rows next_number w (change.CreateObject row) s a r rows = record { objects = all_append IsObjectInRange w.objects row rows.objects r; callbacks = rows.callbacks; timers = rows.timers; armings = rows.armings; kernels = rows.kernels; waits = rows.waits; few = omega (arith, length-append w.objects (row ∷ []), a.room) }
+changed_rows next_number w (change.ReleaseObject object) s a r rows = release_rows w object (numbered w.objects object.0) refl rows
+changed_rows next_number w (change.QueueCallback c) s a r rows = record { objects = rows.objects; callbacks = all_append IsCallbackInRange w.callbacks c rows.callbacks r; timers = rows.timers; armings = rows.armings; kernels = rows.kernels; waits = rows.waits; few = rows.few }
+changed_rows next_number w (change.ExpectCallback c) s a r rows = record { objects = rows.objects; callbacks = all_append IsCallbackInRange w.callbacks c rows.callbacks r; timers = rows.timers; armings = rows.armings; kernels = rows.kernels; waits = rows.waits; few = rows.few }
+changed_rows next_number w (change.Operate c how) s a r rows =
     record { objects = rows.objects; callbacks = put_row (operated how c) w.callbacks (operated_row how c r (found_row c w.callbacks a.found rows.callbacks)) rows.callbacks; timers = rows.timers; armings = rows.armings; kernels = rows.kernels; waits = rows.waits; few = rows.few }
-changed_rows fresh w (change.Fire trigger first count) s a r rows =
+changed_rows next_number w (change.Fire trigger first count) s a r rows =
     let f : Firing = firing trigger (sources_of w) in
-    let made : IsFiringIn w.objects f = fired_in w trigger a.ready (sources_in fresh w s) in
+    let made : IsFiringIn w.objects f = fired_in w trigger a.ready (sources_in next_number w s) in
     let few : IsFiringOf (λ n. n ≤ 65535) (λ n. n ≤ 65535) f = firing_of (λ n. n ≤ 65535) (λ n. n ≤ 65535) (λ n h. h) trigger (sources_of w) (trigger_few trigger r.0) (record { settings = rows.timers; armings = rows.armings }) in
     record {
       objects = rows.objects;
@@ -277,19 +277,19 @@ changed_rows fresh w (change.Fire trigger first count) s a r rows =
       waits = rows.waits;
       few = rows.few;
     }
-changed_rows fresh w (change.CreateKernel state) s a r rows =
+changed_rows next_number w (change.CreateKernel state) s a r rows =
     record { objects = rows.objects; callbacks = rows.callbacks; timers = rows.timers; armings = rows.armings; kernels = all_append (λ (k : KernelRow). IsStateInRange k.state) w.kernels (new_kernel state) rows.kernels r; waits = rows.waits; few = rows.few }
-changed_rows fresh w (change.ChangeKernel kernel how) s a r rows =
+changed_rows next_number w (change.ChangeKernel kernel how) s a r rows =
     record { objects = rows.objects; callbacks = rows.callbacks; timers = rows.timers; armings = rows.armings; kernels = suited_rows w kernel how a rows.kernels; waits = rows.waits; few = rows.few }
-changed_rows fresh w (change.Attach worker pool) s a r rows = record { objects = rows.objects; callbacks = rows.callbacks; timers = rows.timers; armings = rows.armings; kernels = rows.kernels; waits = rows.waits; few = rows.few }
-changed_rows fresh w (change.Detach by) s a r rows = record { objects = rows.objects; callbacks = rows.callbacks; timers = rows.timers; armings = rows.armings; kernels = rows.kernels; waits = rows.waits; few = rows.few }
-changed_rows fresh w (change.Take by c) s a r rows =
+changed_rows next_number w (change.Attach worker pool) s a r rows = record { objects = rows.objects; callbacks = rows.callbacks; timers = rows.timers; armings = rows.armings; kernels = rows.kernels; waits = rows.waits; few = rows.few }
+changed_rows next_number w (change.Detach by) s a r rows = record { objects = rows.objects; callbacks = rows.callbacks; timers = rows.timers; armings = rows.armings; kernels = rows.kernels; waits = rows.waits; few = rows.few }
+changed_rows next_number w (change.Take by c) s a r rows =
     record { objects = rows.objects; callbacks = put_row (taken c by.worker) w.callbacks (same_numbers (taken c by.worker) c refl refl refl refl refl (found_row c w.callbacks a.found rows.callbacks)) rows.callbacks; timers = rows.timers; armings = rows.armings; kernels = rows.kernels; waits = rows.waits; few = rows.few }
-changed_rows fresh w (change.Mark by mark) s a r rows = record { objects = rows.objects; callbacks = mark_rows w mark by.callback a.runs.found rows; timers = rows.timers; armings = rows.armings; kernels = rows.kernels; waits = rows.waits; few = rows.few }
-changed_rows fresh w (change.Return by words first count) s a r rows =
+changed_rows next_number w (change.Mark by mark) s a r rows = record { objects = rows.objects; callbacks = mark_rows w mark by.callback a.runs.found rows; timers = rows.timers; armings = rows.armings; kernels = rows.kernels; waits = rows.waits; few = rows.few }
+changed_rows next_number w (change.Return by words first count) s a r rows =
     let of : Slots = slots_of by.callback.status in
     let f : Firing = returning w words of in
-    let made : IsFiringIn w.objects f = returning_of (λ n. is_standing w.objects n ≡ true) (λ n. may_be_armed w.objects n ≡ true) (λ n may. armable_stands w.objects n may) w words of (sources_in fresh w s) in
+    let made : IsFiringIn w.objects f = returning_of (λ n. is_standing w.objects n ≡ true) (λ n. may_be_armed w.objects n ≡ true) (λ n may. armable_stands w.objects n may) w words of (sources_in next_number w s) in
     let few : IsFiringOf (λ n. n ≤ 65535) (λ n. n ≤ 65535) f = returning_of (λ n. n ≤ 65535) (λ n. n ≤ 65535) (λ n h. h) w words of (record { settings = rows.timers; armings = rows.armings }) in
     record {
       objects = rows.objects;
@@ -302,7 +302,7 @@ changed_rows fresh w (change.Return by words first count) s a r rows =
       waits = rows.waits;
       few = rows.few;
     }
-changed_rows fresh w (change.BeginWait who target cancel) s a r rows =
+changed_rows next_number w (change.BeginWait who target cancel) s a r rows =
     record {
       objects = rows.objects;
       callbacks = cancel_rows (is_cancelled_by target cancel) w.callbacks rows.callbacks;
@@ -312,9 +312,9 @@ changed_rows fresh w (change.BeginWait who target cancel) s a r rows =
       waits = all_append IsWaitInRange w.waits (new_wait who target cancel (cancel_where (is_cancelled_by target cancel) w.callbacks)) rows.waits (record { target = r; cleanup = omega arith });
       few = rows.few;
     }
-changed_rows fresh w change.CreateGroup s a r rows = record { objects = rows.objects; callbacks = rows.callbacks; timers = rows.timers; armings = rows.armings; kernels = rows.kernels; waits = rows.waits; few = rows.few }
-changed_rows fresh w (change.CloseGroup group) s a r rows = record { objects = rows.objects; callbacks = rows.callbacks; timers = rows.timers; armings = rows.armings; kernels = rows.kernels; waits = rows.waits; few = rows.few }
-changed_rows fresh w (change.BeginClose who group cancel context notices) s a r rows =
+changed_rows next_number w change.CreateGroup s a r rows = record { objects = rows.objects; callbacks = rows.callbacks; timers = rows.timers; armings = rows.armings; kernels = rows.kernels; waits = rows.waits; few = rows.few }
+changed_rows next_number w (change.CloseGroup group) s a r rows = record { objects = rows.objects; callbacks = rows.callbacks; timers = rows.timers; armings = rows.armings; kernels = rows.kernels; waits = rows.waits; few = rows.few }
+changed_rows next_number w (change.BeginClose who group cancel context notices) s a r rows =
     let kept : List CallbackRow = cancel_where (is_cancelled_by (Group group) cancel) w.callbacks in
     record {
       objects = all_map IsObjectInRange (released_from group.0) (λ o h. elim (is_member group.0 o) as (λ b. IsObjectInRange (cond b (record o { released = true }) o)) [ true ↦ record { routine = h.routine; context = h.context; cancel = h.cancel } | false ↦ h ]) w.objects rows.objects;
@@ -325,7 +325,7 @@ changed_rows fresh w (change.BeginClose who group cancel context notices) s a r 
       waits = all_append IsWaitInRange w.waits (new_close who group cancel context (notices_of w group.0 cancel) kept) rows.waits (record { target = tt; cleanup = r });
       few = omega (arith, length-map w.objects (released_from group.0), rows.few);
     }
-changed_rows fresh w (change.GiveNotice who) s a r rows =
+changed_rows next_number w (change.GiveNotice who) s a r rows =
     record {
       objects = rows.objects;
       callbacks = rows.callbacks;
@@ -336,7 +336,7 @@ changed_rows fresh w (change.GiveNotice who) s a r rows =
           (λ b h. elim (is_same_actor b.actor who) as (λ t. IsWaitInRange (cond t (notified b) b)) [ true ↦ record { target = h.target; cleanup = h.cleanup } | false ↦ h ]) w.waits rows.waits;
       few = rows.few;
     }
-changed_rows fresh w (change.EndWait who how) s a r rows =
+changed_rows next_number w (change.EndWait who how) s a r rows =
     record {
       objects = rows.objects;
       callbacks = rows.callbacks;
@@ -346,7 +346,7 @@ changed_rows fresh w (change.EndWait who how) s a r rows =
       waits = all_filter IsWaitInRange (λ (b : BegunWait). not (is_same_actor b.actor who)) w.waits rows.waits;
       few = rows.few;
     }
-changed_rows fresh w (change.Finish client) s a r rows = record { objects = rows.objects; callbacks = rows.callbacks; timers = rows.timers; armings = rows.armings; kernels = rows.kernels; waits = rows.waits; few = rows.few }
+changed_rows next_number w (change.Finish client) s a r rows = record { objects = rows.objects; callbacks = rows.callbacks; timers = rows.timers; armings = rows.armings; kernels = rows.kernels; waits = rows.waits; few = rows.few }
 
 pub forget_rows : (w : World) → AreRowsInRange w → AreRowsInRange (forget w)
 forget_rows w rows = record { objects = rows.objects; callbacks = all_filter IsCallbackInRange lives w.callbacks rows.callbacks; timers = rows.timers; armings = rows.armings; kernels = rows.kernels; waits = rows.waits; few = rows.few }

@@ -24,7 +24,7 @@ use Rattle.tp_model.specs.Support.Told.{notice_at}
 use Rattle.tp_model.specs.Support.Moves.{Leads, HasCreated, IsObjectStill, due_from, new_for, new_notices, left_notices, WaitsMove, Keep, Begin, Notify, End, due_after}
 use Rattle.tp_model.proofs.Lists.{find_all}
 use Rattle.tp_model.proofs.Places.{LastPlace, Here, Earlier, last_place, none_last}
-use Rattle.tp_model.proofs.Promising.{WaitAfter, NoticesAfter, AsBefore, OneGiven, wait_goes_on, find_given, find_others}
+use Rattle.tp_model.proofs.Covered.{WaitAfter, NoticesAfter, AsBefore, OneGiven, wait_goes_on, find_given, find_others}
 use Rattle.tp_model.proofs.Releasing.{that_row}
 use Rattle.tp_model.proofs.Refusals.{false_true, same_actor_is, is_own_actor, neither, and_false, or_false}
 use Rattle.tp_model.proofs.Due.{due_step}

@@ -7,10 +7,10 @@ use Rattle.live_world.specs.View.{shown}
 use Rattle.live_world.specs.declared.LiveWorld.TheInside.{Inside}
 use Rattle.live_world.proofs.Covered.{at_place, nowhere, place_there, idle_there, actor_somewhere}
 use Rattle.live_world.proofs.Closes.{unnoticed_there}
-use Rattle.live_world.proofs.ClosesBegun.{closes_by}
+use Rattle.live_world.proofs.BeginCloseWait.{closes_by}
 use Rattle.live_world.proofs.Members.{lists_rise, members_are}
 use Rattle.live_world.proofs.MemberWalks.{within_here}
-use Rattle.live_world.proofs.LiveWorld.begin_closing.Goals as goal
+use Rattle.live_world.proofs.LiveWorld.begin_close_wait.Goals as goal
 
 -- the conditions of the close in terms of the parts
 may : (i : Inside) (l : Live) (who : Who) (group : GroupId) (cancel : Bool) (n : ℕ) → shown i ≡ l → MayClose l.world who group cancel n → MayClose (shown i).world who group cancel n

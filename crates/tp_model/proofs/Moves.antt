@@ -41,11 +41,11 @@ use Rattle.tp_model.specs.Waits.{is_of, is_cancelled_by, cancel_where, is_covere
 use Rattle.tp_model.specs.Support.Sound.{IsSound, IsMade, is_wait_at, may_be_armed, count_armed, is_standing}
 use Rattle.tp_model.specs.Support.Allowed.{IsAllowed, IsMadeBy, Runs, MayMark, MayEnd, IsTarget, MayClose, MayNotify, IsUnreleased}
 use Rattle.tp_model.specs.Laws.Entries.{made_by, queued_new, started_by, begins_by, is_ending, Sets, sets_by, set_on, wait_made, wait_numbered, simple_by, is_for_group, Notice, Begins, Creation, created_by, closed_by, notice_by}
-use Rattle.tp_model.specs.Support.Told.{Told, deed_by, nothing, silent, maxima_by, told, told_by, is_free, simple_group, notice_at, next_notice, first_left, creation_of, begins_of}
+use Rattle.tp_model.specs.Support.Told.{Told, deed_by, nothing, silent, maxima_by, told_by_change, told_by, is_free, simple_group, notice_at, next_notice, first_left, creation_of, begins_of}
 use Rattle.tp_model.specs.Support.Moves.{Move, Stay, Mark as Marking, Attach, Detach, Take, Return, Moves, Leads, AreNew, maximum_at, is_new, numbers_of, Amend, Operate, Asking, IsFreeFor, asked_slots, Cancel, WaitsMove, Keep, Begin, End, ArmsMove, ObjectsMove, count_rows, count_allowed, due_from, GroupsMove, HasCreated, IsCreated, IsObjectStill, Notify, with_created, without_closed, without_released, due_after}
 use Rattle.tp_model.proofs.Firing.{numbers_rows, waiting_rows, expecting_rows, new_rows, numbered_made, fired_in, AreJobsOf, armable_stands}
 use Rattle.tp_model.proofs.Arming.{count_rows_of, armed_fewer}
-use Rattle.tp_model.proofs.Preserving.{sources_in, wait_row, numbered_append, kind_released, fired_counted, group_idle}
+use Rattle.tp_model.proofs.Sound.{sources_in, wait_row, numbered_append, kind_released, fired_counted, group_idle}
 use Rattle.tp_model.proofs.Cancelling.{cancelled_pending, cancelled_found_out, among_numbers, cancelled_found, find_cancelled}
 use Rattle.tp_model.proofs.Lists.{find_more, get_set, get_set_other}
 use Rattle.tp_model.proofs.Refusals.{false_true, and_false, and_true, or_false, numbered_at, numbered_some}
@@ -97,32 +97,32 @@ released_maxima : (w : World) (object : ObjectId) (row : Option ObjectRow) (pool
 released_maxima w object None pool = refl
 released_maxima w object (Some row) pool = refl
 
-maxima_changed : (fresh : ℕ) (w : World) (ch : Change) → IsAllowed fresh w ch → (pool : ℕ) → maximum_at (changed w ch) pool ≡ (told fresh w ch).maxima pool (maximum_at w pool)
-maxima_changed fresh w change.Keep a pool = refl
-maxima_changed fresh w (change.Fire trigger first count) a pool = refl
-maxima_changed fresh w change.CreatePool a pool = maximum_appended w.limits w.pools pool
-maxima_changed fresh w (change.ChangePool pool how) a other = maxima_put w pool.0 how (slice_get w.pools pool.0) refl a other
-maxima_changed fresh w (change.CreateObject row) a pool = refl
-maxima_changed fresh w (change.ReleaseObject object) a pool = released_maxima w object (numbered w.objects object.0) pool
-maxima_changed fresh w (change.QueueCallback c) a pool = refl
-maxima_changed fresh w (change.ExpectCallback c) a pool = refl
-maxima_changed fresh w (change.Operate c how) a pool = refl
-maxima_changed fresh w (change.CreateKernel state) a pool = refl
-maxima_changed fresh w (change.ChangeKernel kernel how) a pool = refl
-maxima_changed fresh w (change.Attach worker at) a pool = refl
-maxima_changed fresh w (change.Detach by) a pool = refl
-maxima_changed fresh w (change.Take by c) a pool = refl
-maxima_changed fresh w (change.Mark by Long) a pool = refl
-maxima_changed fresh w (change.Mark by Loose) a pool = refl
-maxima_changed fresh w (change.Mark by (Asks kind action)) a pool = refl
-maxima_changed fresh w (change.Return by words first count) a pool = refl
-maxima_changed fresh w (change.BeginWait who target cancel) a pool = refl
-maxima_changed fresh w change.CreateGroup a pool = refl
-maxima_changed fresh w (change.CloseGroup group) a pool = refl
-maxima_changed fresh w (change.BeginClose who group cancel context notices) a pool = refl
-maxima_changed fresh w (change.GiveNotice who) a pool = refl
-maxima_changed fresh w (change.EndWait who how) a pool = refl
-maxima_changed fresh w (change.Finish client) a pool = refl
+maxima_changed : (next_number : ℕ) (w : World) (ch : Change) → IsAllowed next_number w ch → (pool : ℕ) → maximum_at (changed w ch) pool ≡ (told_by_change next_number w ch).maxima pool (maximum_at w pool)
+maxima_changed next_number w change.Keep a pool = refl
+maxima_changed next_number w (change.Fire trigger first count) a pool = refl
+maxima_changed next_number w change.CreatePool a pool = maximum_appended w.limits w.pools pool
+maxima_changed next_number w (change.ChangePool pool how) a other = maxima_put w pool.0 how (slice_get w.pools pool.0) refl a other
+maxima_changed next_number w (change.CreateObject row) a pool = refl
+maxima_changed next_number w (change.ReleaseObject object) a pool = released_maxima w object (numbered w.objects object.0) pool
+maxima_changed next_number w (change.QueueCallback c) a pool = refl
+maxima_changed next_number w (change.ExpectCallback c) a pool = refl
+maxima_changed next_number w (change.Operate c how) a pool = refl
+maxima_changed next_number w (change.CreateKernel state) a pool = refl
+maxima_changed next_number w (change.ChangeKernel kernel how) a pool = refl
+maxima_changed next_number w (change.Attach worker at) a pool = refl
+maxima_changed next_number w (change.Detach by) a pool = refl
+maxima_changed next_number w (change.Take by c) a pool = refl
+maxima_changed next_number w (change.Mark by Long) a pool = refl
+maxima_changed next_number w (change.Mark by Loose) a pool = refl
+maxima_changed next_number w (change.Mark by (Asks kind action)) a pool = refl
+maxima_changed next_number w (change.Return by words first count) a pool = refl
+maxima_changed next_number w (change.BeginWait who target cancel) a pool = refl
+maxima_changed next_number w change.CreateGroup a pool = refl
+maxima_changed next_number w (change.CloseGroup group) a pool = refl
+maxima_changed next_number w (change.BeginClose who group cancel context notices) a pool = refl
+maxima_changed next_number w (change.GiveNotice who) a pool = refl
+maxima_changed next_number w (change.EndWait who how) a pool = refl
+maxima_changed next_number w (change.Finish client) a pool = refl
 
 -- ---- wait objects
 
@@ -202,9 +202,9 @@ none_front [] ys e = refl
 none_front (x ∷ xs) ys e = absurd cc
 
 -- the callbacks of jobs are of objects that aren't released
-homes_rows : (objects : List ObjectRow) (fresh : ℕ) (jobs : List Job) → AreJobsOf (λ n. is_standing objects n ≡ true) jobs → AllByRecursion (λ (c : CallbackRow). c.object.0 ≢ 0 → is_standing objects c.object.0 ≡ true) (rows_of objects fresh jobs)
-homes_rows objects fresh [] all = tt
-homes_rows objects fresh (j ∷ js) all = ((λ _. all.0.0), homes_rows objects (fresh + 1) js all.1)
+homes_rows : (objects : List ObjectRow) (next_number : ℕ) (jobs : List Job) → AreJobsOf (λ n. is_standing objects n ≡ true) jobs → AllByRecursion (λ (c : CallbackRow). c.object.0 ≢ 0 → is_standing objects c.object.0 ≡ true) (rows_of objects next_number jobs)
+homes_rows objects next_number [] all = tt
+homes_rows objects next_number (j ∷ js) all = ((λ _. all.0.0), homes_rows objects (next_number + 1) js all.1)
 
 -- what a cancellation leaves with an operation was there before
 kept_operating : (test : CallbackRow → Bool) (n : ℕ) (cs : List CallbackRow) (c : CallbackRow) → find (has_number n) (cancel_where test cs) ≡ Some c → is_operating c.status ≡ true → find (has_number n) cs ≡ Some c
@@ -229,13 +229,13 @@ uncancelled target cancel cs on n c found of = known (is_pending c.status) refl
     known false e = e
     known true e = absurd (none_left (is_cancelled_by target cancel) (cancelled_found_out (is_cancelled_by target cancel) (cancelled_pending target cancel) n cs c found) (ap₂ (λ a b. a && (b && is_of target c)) on e ∙ of))
 
-module _ (fresh : ℕ) (w : World) (entry : Entry) where
+module _ (next_number : ℕ) (w : World) (entry : Entry) where
   -- a change that makes no simple callback
   unsimple : simple_by entry ≡ None → (cs : List CallbackRow) (group : ℕ) → is_for_group group (simple_by entry) ≡ true → AllByRecursion (λ (c : CallbackRow). (c.object.0 ≡ 0) × (c.group.0 ≡ group)) cs
   unsimple none cs group e = absurd (false_true (sym (ap (is_for_group group) none) ∙ e))
 
   -- nothing is made
-  unmade : (after : World) → made_by entry ≡ [] → queued_new entry ≡ [] → ArmsMove w entry after [] → Move w entry after.callbacks after.workers → Moves fresh w entry after
+  unmade : (after : World) → made_by entry ≡ [] → queued_new entry ≡ [] → ArmsMove w entry after [] → Move w entry after.callbacks after.workers → Moves next_number w entry after
   unmade after made queued arms move =
       record { kept = after.callbacks; new = []; move = move; rows = tt; made = made; queued = queued; started = none_front (started_by entry.answer) (queued_new entry) made; callbacks = sym (append-nil after.callbacks); arms = arms; homes = tt; simples = λ group e. tt }
 
@@ -246,12 +246,12 @@ module _ (fresh : ℕ) (w : World) (entry : Entry) where
   same_armed : (after : World) → sets_by entry ≡ None → after.armings ≡ w.armings → ArmsMove w entry after []
   same_armed after sets same = quiet after sets (λ object. omega (arith, ap (count_armed object) same))
 
-  still : (after : World) → told_by entry ≡ silent → after.callbacks ≡ w.callbacks → after.workers ≡ w.workers → after.armings ≡ w.armings → Moves fresh w entry after
+  still : (after : World) → told_by entry ≡ silent → after.callbacks ≡ w.callbacks → after.workers ≡ w.workers → after.armings ≡ w.armings → Moves next_number w entry after
   still after tells callbacks workers armings =
       unmade after (ap (λ (t : Told). t.made) tells) (ap (λ (t : Told). t.queued) tells) (same_armed after (ap (λ (t : Told). t.sets) tells) armings)
       (Stay (record { tells = ap (λ (t : Told). t.deed) tells; callbacks = callbacks; workers = workers }))
 
-  pool_moves : (pool : ℕ) (how : PoolChange) (row : Option PoolRow) → made_by entry ≡ [] → queued_new entry ≡ [] → deed_by entry ≡ nothing → sets_by entry ≡ None → Moves fresh w entry (change_pool w pool how row)
+  pool_moves : (pool : ℕ) (how : PoolChange) (row : Option PoolRow) → made_by entry ≡ [] → queued_new entry ≡ [] → deed_by entry ≡ nothing → sets_by entry ≡ None → Moves next_number w entry (change_pool w pool how row)
   pool_moves pool how None made queued tells sets = unmade w made queued (same_armed w sets refl) (Stay (record { tells = tells; callbacks = refl; workers = refl }))
   pool_moves pool how (Some row) made queued tells sets = unmade (with_pool w pool (pool_after how row)) made queued (same_armed (with_pool w pool (pool_after how row)) sets refl) (Stay (record { tells = tells; callbacks = refl; workers = refl }))
 
@@ -278,7 +278,7 @@ module _ (fresh : ℕ) (w : World) (entry : Entry) where
         workers = refl;
       })
 
-  mark_moves : (by : Busy) (mark : Mark) → MayMark w by mark → entry.who ≡ Worker by.worker → told_by entry ≡ told fresh w (change.Mark by mark) → Moves fresh w entry (changed w (change.Mark by mark))
+  mark_moves : (by : Busy) (mark : Mark) → MayMark w by mark → entry.who ≡ Worker by.worker → told_by entry ≡ told_by_change next_number w (change.Mark by mark) → Moves next_number w entry (changed w (change.Mark by mark))
   mark_moves by Long may actor tells =
       unmade (changed w (change.Mark by Long)) (ap (λ (t : Told). t.made) tells) (ap (λ (t : Told). t.queued) tells) (same_armed (changed w (change.Mark by Long)) (ap (λ (t : Told). t.sets) tells) refl)
       (Marking (record { old = by.callback; new = marked Long by.callback; tells = ap (λ (t : Told). t.deed) tells; found = may.runs.found; status = refl; object = refl; group = refl; pool = refl; result = refl; callbacks = refl; workers = refl }))
@@ -291,7 +291,7 @@ module _ (fresh : ℕ) (w : World) (entry : Entry) where
       (amends by may.runs actor false (Some (record { kind = kind; action = action })) may.unasked (record by.callback { status = asking kind action by.callback.status }) (ap (λ (t : Told). t.deed) tells)
       (ap (asking kind action) may.runs.running ∙ ap (λ b. Running by.worker b (filled kind action may.runs.slots)) (sym (and_true may.runs.associated))))
 
-  release_moves : (object : ObjectId) (row : Option ObjectRow) → told_by entry ≡ told fresh w (change.ReleaseObject object) → Moves fresh w entry (release_object w object row)
+  release_moves : (object : ObjectId) (row : Option ObjectRow) → told_by entry ≡ told_by_change next_number w (change.ReleaseObject object) → Moves next_number w entry (release_object w object row)
   release_moves object None tells =
       unmade w (ap (λ (t : Told). t.made) tells) (ap (λ (t : Told). t.queued) tells) (same_armed w (ap (λ (t : Told). t.sets) tells) refl)
       (Stay (record { tells = ap (λ (t : Told). t.deed) tells; callbacks = refl; workers = refl }))
@@ -308,7 +308,7 @@ module _ (fresh : ℕ) (w : World) (entry : Entry) where
       of_object true is = (eqb-true c.object.0 0 is, eqb-true c.group.0 group (sym (ap (is_for_group group) (tells ∙ ap (λ b. cond b (Some c.group) None) is)) ∙ e))
       of_object false is = absurd (false_true (sym (ap (is_for_group group) (tells ∙ ap (λ b. cond b (Some c.group) None) is)) ∙ e))
 
-  pub change_moves : (ch : Change) → IsSound fresh w → IsAllowed fresh w ch → IsMadeBy w entry.who ch → told_by entry ≡ told fresh w ch → Moves fresh w entry (changed w ch)
+  pub change_moves : (ch : Change) → IsSound next_number w → IsAllowed next_number w ch → IsMadeBy w entry.who ch → told_by entry ≡ told_by_change next_number w ch → Moves next_number w entry (changed w ch)
   change_moves change.Keep s a by tells = still w tells refl refl refl
   change_moves change.CreatePool s a by tells = still (changed w change.CreatePool) tells refl refl refl
   change_moves (change.ChangePool pool how) s a by tells =
@@ -376,7 +376,7 @@ module _ (fresh : ℕ) (w : World) (entry : Entry) where
         kept = w.callbacks;
         new = rows_of w.objects first jobs;
         move = Stay (record { tells = ap (λ (t : Told). t.deed) tells; callbacks = refl; workers = refl });
-        rows = subst (λ n. AreNew n (rows_of w.objects first jobs)) a.number (new_rows (λ n. is_standing w.objects n ≡ true) w.objects first jobs (fired_in w trigger a.ready (sources_in fresh w s)).jobs);
+        rows = subst (λ n. AreNew n (rows_of w.objects first jobs)) a.number (new_rows (λ n. is_standing w.objects n ≡ true) w.objects first jobs (fired_in w trigger a.ready (sources_in next_number w s)).jobs);
         made = ap (λ (t : Told). t.made) tells ∙ told_range ∙ sym (numbers_rows w.objects first jobs);
         queued = ap (λ (t : Told). t.queued) tells ∙ told_range ∙ sym (waiting_rows w.objects first jobs);
         started = ap (λ (t : Told). t.started) tells ∙ sym (expecting_rows w.objects first jobs);
@@ -384,11 +384,11 @@ module _ (fresh : ℕ) (w : World) (entry : Entry) where
         arms = λ object wait.
             omega (
               arith,
-              (fired_counted fresh w trigger a.ready s object wait).jobs,
+              (fired_counted next_number w trigger a.ready s object wait).jobs,
               count_rows_of object w.objects first jobs,
               ap (λ (x : Option Sets). count_allowed (set_on object x) (count_armed object w.armings)) (ap (λ (t : Told). t.sets) tells),
             );
-        homes = homes_rows w.objects first jobs (fired_in w trigger a.ready (sources_in fresh w s)).jobs;
+        homes = homes_rows w.objects first jobs (fired_in w trigger a.ready (sources_in next_number w s)).jobs;
         simples = unsimple (ap (λ (t : Told). t.simple) tells) (rows_of w.objects first jobs);
       }
   change_moves (change.CreateKernel state) s a by tells = still (changed w (change.CreateKernel state)) tells refl refl refl
@@ -443,7 +443,7 @@ module _ (fresh : ℕ) (w : World) (entry : Entry) where
           callbacks = refl;
           workers = refl;
         });
-        rows = subst (λ n. AreNew n (rows_of w.objects first jobs)) a.number (new_rows (λ n. is_standing w.objects n ≡ true) w.objects first jobs (returning_of (λ n. is_standing w.objects n ≡ true) (λ n. may_be_armed w.objects n ≡ true) (λ n may. armable_stands w.objects n may) w words of (sources_in fresh w s)).jobs);
+        rows = subst (λ n. AreNew n (rows_of w.objects first jobs)) a.number (new_rows (λ n. is_standing w.objects n ≡ true) w.objects first jobs (returning_of (λ n. is_standing w.objects n ≡ true) (λ n. may_be_armed w.objects n ≡ true) (λ n may. armable_stands w.objects n may) w words of (sources_in next_number w s)).jobs);
         made = ap (λ (t : Told). t.made) tells ∙ told_range ∙ sym (numbers_rows w.objects first jobs);
         queued = ap (λ (t : Told). t.queued) tells ∙ told_range ∙ sym (waiting_rows w.objects first jobs);
         started = ap (λ (t : Told). t.started) tells ∙ sym (expecting_rows w.objects first jobs);
@@ -455,7 +455,7 @@ module _ (fresh : ℕ) (w : World) (entry : Entry) where
               count_rows_of object w.objects first jobs,
               ap (λ (x : Option Sets). count_allowed (set_on object x) (count_armed object w.armings)) (ap (λ (t : Told). t.sets) tells),
             );
-        homes = homes_rows w.objects first jobs (returning_of (λ n. is_standing w.objects n ≡ true) (λ n. may_be_armed w.objects n ≡ true) (λ n may. armable_stands w.objects n may) w words of (sources_in fresh w s)).jobs;
+        homes = homes_rows w.objects first jobs (returning_of (λ n. is_standing w.objects n ≡ true) (λ n. may_be_armed w.objects n ≡ true) (λ n may. armable_stands w.objects n may) w words of (sources_in next_number w s)).jobs;
         simples = unsimple (ap (λ (t : Told). t.simple) tells) (rows_of w.objects first jobs);
       }
   change_moves (change.BeginWait who target cancel) s a by tells =
@@ -499,7 +499,7 @@ module _ (fresh : ℕ) (w : World) (entry : Entry) where
           of_row None is = is
           of_row (Some o) is = absurd (omega (arith, (numbered_made w.objects object o is).1, eqb-true (length w.objects + 1) object same))
 
-  change_objects : (ch : Change) → told_by entry ≡ told fresh w ch → ObjectsMove w entry (changed w ch)
+  change_objects : (ch : Change) → told_by entry ≡ told_by_change next_number w ch → ObjectsMove w entry (changed w ch)
   change_objects (change.CreateObject row) tells = object_made row (ap (λ (t : Told). t.wait) tells)
   change_objects (change.ReleaseObject object) tells = of_row (numbered w.objects object.0) refl (ap (λ (t : Told). t.wait) tells)
     where
@@ -552,7 +552,7 @@ module _ (fresh : ℕ) (w : World) (entry : Entry) where
   -- ---- waits
 
   -- no change but four touches them
-  waits_same : (ch : Change) → (told fresh w ch).begun ≡ None → (told fresh w ch).ending ≡ false → (told fresh w ch).notice ≡ None → told_by entry ≡ told fresh w ch → (changed w ch).waits ≡ w.waits → WaitsMove w entry (changed w ch)
+  waits_same : (ch : Change) → (told_by_change next_number w ch).begun ≡ None → (told_by_change next_number w ch).ending ≡ false → (told_by_change next_number w ch).notice ≡ None → told_by entry ≡ told_by_change next_number w ch → (changed w ch).waits ≡ w.waits → WaitsMove w entry (changed w ch)
   waits_same ch none still silent_of tells same =
       Keep (record {
         begins = ap (λ (t : Told). t.begun) tells ∙ none;
@@ -562,7 +562,7 @@ module _ (fresh : ℕ) (w : World) (entry : Entry) where
         was = λ who wait found. inl (sym (ap (λ bs. find (λ (b : BegunWait). is_same_actor b.actor who) bs) same) ∙ found);
       })
 
-  begin_moves : (who : Who) (target : WaitTarget) (cancel : Bool) → IsSound fresh w → is_in_wait w who ≡ false → entry.who ≡ who → told_by entry ≡ told fresh w (change.BeginWait who target cancel) → IsTarget target
+  begin_moves : (who : Who) (target : WaitTarget) (cancel : Bool) → IsSound next_number w → is_in_wait w who ≡ false → entry.who ≡ who → told_by entry ≡ told_by_change next_number w (change.BeginWait who target cancel) → IsTarget target
       → WaitsMove w entry (changed w (change.BeginWait who target cancel))
   begin_moves who (Group group) cancel s none by tells is = absurd is
   begin_moves who (Kernel kernel) cancel s none by tells is =
@@ -603,7 +603,7 @@ module _ (fresh : ℕ) (w : World) (entry : Entry) where
         idle = λ e. absurd (false_true e);
       })
 
-  close_moves : (who : Who) (group : GroupId) (cancel : Bool) (context notices : ℕ) → IsSound fresh w → MayClose w who group cancel notices → entry.who ≡ who → told_by entry ≡ told fresh w (change.BeginClose who group cancel context notices)
+  close_moves : (who : Who) (group : GroupId) (cancel : Bool) (context notices : ℕ) → IsSound next_number w → MayClose w who group cancel notices → entry.who ≡ who → told_by entry ≡ told_by_change next_number w (change.BeginClose who group cancel context notices)
       → WaitsMove w entry (changed w (change.BeginClose who group cancel context notices))
   close_moves who group cancel context notices s a by tells =
       let test : CallbackRow → Bool = is_cancelled_by (Group group) cancel in
@@ -630,9 +630,9 @@ module _ (fresh : ℕ) (w : World) (entry : Entry) where
     where
       at_rest : (n : ℕ) (c : CallbackRow) → find (has_number n) (cancel_where (is_cancelled_by (Group group) cancel) w.callbacks) ≡ Some c → is_of (Group group) c ≡ true → (b : Bool) → is_operating c.status ≡ b → is_operating c.status ≡ false
       at_rest n c found of false e = e
-      at_rest n c found of true e = group_idle fresh w group.0 a.idle s n c (kept_operating (is_cancelled_by (Group group) cancel) n w.callbacks c found e) of
+      at_rest n c found of true e = group_idle next_number w group.0 a.idle s n c (kept_operating (is_cancelled_by (Group group) cancel) n w.callbacks c found e) of
 
-  notify_moves : (who : Who) → MayNotify w who → entry.who ≡ who → told_by entry ≡ told fresh w (change.GiveNotice who) → WaitsMove w entry (changed w (change.GiveNotice who))
+  notify_moves : (who : Who) → MayNotify w who → entry.who ≡ who → told_by entry ≡ told_by_change next_number w (change.GiveNotice who) → WaitsMove w entry (changed w (change.GiveNotice who))
   notify_moves who a by tells =
       Notify (record {
         wait = a.wait;
@@ -647,7 +647,7 @@ module _ (fresh : ℕ) (w : World) (entry : Entry) where
         waits = ap (λ x. give_notice x w.waits) (sym by);
       })
 
-  end_moves : (who : Who) (how : WaitEnd) → MayEnd w who how → entry.who ≡ who → told_by entry ≡ told fresh w (change.EndWait who how) → WaitsMove w entry (end_wait w who how)
+  end_moves : (who : Who) (how : WaitEnd) → MayEnd w who how → entry.who ≡ who → told_by entry ≡ told_by_change next_number w (change.EndWait who how) → WaitsMove w entry (end_wait w who how)
   end_moves who how a by tells =
       End (record {
         wait = a.wait;
@@ -664,7 +664,7 @@ module _ (fresh : ℕ) (w : World) (entry : Entry) where
       how_free Free e = refl
       how_free Exhausted e = absurd (false_true e)
 
-  pub change_waits : (ch : Change) → IsSound fresh w → IsAllowed fresh w ch → IsMadeBy w entry.who ch → told_by entry ≡ told fresh w ch → WaitsMove w entry (changed w ch)
+  pub change_waits : (ch : Change) → IsSound next_number w → IsAllowed next_number w ch → IsMadeBy w entry.who ch → told_by entry ≡ told_by_change next_number w ch → WaitsMove w entry (changed w ch)
   change_waits (change.BeginWait who target cancel) s a by tells = begin_moves who target cancel s a.none by tells a.object
   change_waits change.CreateGroup s a by tells = waits_same change.CreateGroup refl refl refl tells refl
   change_waits (change.CloseGroup group) s a by tells = waits_same (change.CloseGroup group) refl refl refl tells refl
@@ -728,11 +728,11 @@ module _ (fresh : ℕ) (w : World) (entry : Entry) where
   unbegun : begins_by entry ≡ None → (x : Begins) → begins_by entry ≡ Some x → is_group_target x.target ≡ false
   unbegun none x e = absurd (let nothing_begun = sym none ∙ e in cc)
 
-  quiet_groups : (after : World) → (ch : Change) → told_by entry ≡ told fresh w ch → (told fresh w ch).created ≡ None → (told fresh w ch).closed ≡ None → (told fresh w ch).begun ≡ None → after.objects ≡ w.objects → GroupsMove w entry after
+  quiet_groups : (after : World) → (ch : Change) → told_by entry ≡ told_by_change next_number w ch → (told_by_change next_number w ch).created ≡ None → (told_by_change next_number w ch).closed ≡ None → (told_by_change next_number w ch).begun ≡ None → after.objects ≡ w.objects → GroupsMove w entry after
   quiet_groups after ch tells none closes still_one same =
       same_groups after same (ap (λ (t : Told). t.created) tells ∙ none) (ap (λ (t : Told). t.closed) tells ∙ closes) (unbegun (ap (λ (t : Told). t.begun) tells ∙ still_one))
 
-  made_groups : (row : ObjectRow) → row.released ≡ false → told_by entry ≡ told fresh w (change.CreateObject row) → GroupsMove w entry (with_object w row)
+  made_groups : (row : ObjectRow) → row.released ≡ false → told_by entry ≡ told_by_change next_number w (change.CreateObject row) → GroupsMove w entry (with_object w row)
   made_groups row unreleased tells =
       let makes : created_by entry ≡ Some (creation_of (length w.objects + 1) row) = ap (λ (t : Told). t.created) tells in
       record {
@@ -763,7 +763,7 @@ module _ (fresh : ℕ) (w : World) (entry : Entry) where
         released = λ e. elim (gone n) as (λ b. (released_if b row).released ≡ true) [ true ↦ refl | false ↦ e ];
       }
 
-  closed_groups : (object : ObjectId) (row : Option ObjectRow) → numbered w.objects object.0 ≡ row → IsUnreleased w object → told_by entry ≡ told fresh w (change.ReleaseObject object) → GroupsMove w entry (release_object w object row)
+  closed_groups : (object : ObjectId) (row : Option ObjectRow) → numbered w.objects object.0 ≡ row → IsUnreleased w object → told_by entry ≡ told_by_change next_number w (change.ReleaseObject object) → GroupsMove w entry (release_object w object row)
   closed_groups object None is a tells = absurd (let there = sym is ∙ a.stands in cc)
   closed_groups object (Some row) is a tells =
       let at = numbered_some w.objects object.0 row is in
@@ -787,7 +787,7 @@ module _ (fresh : ℕ) (w : World) (entry : Entry) where
           ap (λ (x : Option Creation). with_created group x (without_closed (closed_by entry) (without_released group (begins_by entry) (due_from group 1 w.objects)))) c
           ∙ ap₂ (λ (x : Option ObjectId) (y : Option Begins). without_closed x (without_released group y (due_from group 1 w.objects))) o b
 
-  cleared_groups : (who : Who) (of : GroupId) (cancel : Bool) (context notices : ℕ) → told_by entry ≡ told fresh w (change.BeginClose who of cancel context notices) → GroupsMove w entry (changed w (change.BeginClose who of cancel context notices))
+  cleared_groups : (who : Who) (of : GroupId) (cancel : Bool) (context notices : ℕ) → told_by entry ≡ told_by_change next_number w (change.BeginClose who of cancel context notices) → GroupsMove w entry (changed w (change.BeginClose who of cancel context notices))
   cleared_groups who of cancel context notices tells =
       let begins : begins_by entry ≡ Some begun = ap (λ (t : Told). t.begun) tells in
       let makes : created_by entry ≡ None = ap (λ (t : Told). t.created) tells in
@@ -828,7 +828,7 @@ module _ (fresh : ℕ) (w : World) (entry : Entry) where
           of_old None e = absurd cc
           of_old (Some o) e = let same : released_from of.0 o ≡ row = cc in released_one o row (is_member of.0 o) refl same its
 
-  change_groups : (ch : Change) → IsAllowed fresh w ch → told_by entry ≡ told fresh w ch → GroupsMove w entry (changed w ch)
+  change_groups : (ch : Change) → IsAllowed next_number w ch → told_by entry ≡ told_by_change next_number w ch → GroupsMove w entry (changed w ch)
   change_groups (change.CreateObject row) a tells = made_groups row a.unreleased tells
   change_groups (change.ReleaseObject object) a tells = closed_groups object (numbered w.objects object.0) refl a tells
   change_groups (change.BeginClose who group cancel context notices) a tells = cleared_groups who group cancel context notices tells
@@ -865,7 +865,7 @@ module _ (fresh : ℕ) (w : World) (entry : Entry) where
   change_groups (change.EndWait who how) a tells = quiet_groups (changed w (change.EndWait who how)) (change.EndWait who how) tells refl refl refl refl
   change_groups (change.Finish client) a tells = quiet_groups (changed w (change.Finish client)) (change.Finish client) tells refl refl refl refl
 
-  pub change_leads : (ch : Change) → IsSound fresh w → IsAllowed fresh w ch → IsMadeBy w entry.who ch → told_by entry ≡ told fresh w ch → Leads fresh w entry (changed w ch)
+  pub change_leads : (ch : Change) → IsSound next_number w → IsAllowed next_number w ch → IsMadeBy w entry.who ch → told_by entry ≡ told_by_change next_number w ch → Leads next_number w entry (changed w ch)
   change_leads ch s a by tells =
       record {
         moves = change_moves ch s a by tells;
@@ -873,5 +873,5 @@ module _ (fresh : ℕ) (w : World) (entry : Entry) where
         limits = limits_same ch;
         objects = change_objects ch tells;
         groups = change_groups ch a tells;
-        maxima = λ pool. maxima_changed fresh w ch a pool ∙ sym (ap (λ (t : Told). t.maxima pool (maximum_at w pool)) tells);
+        maxima = λ pool. maxima_changed next_number w ch a pool ∙ sym (ap (λ (t : Told). t.maxima pool (maximum_at w pool)) tells);
       }
