@@ -34,6 +34,13 @@ try 'a directory is read' 3 '' $'tpool: read fault\n' on / "$program" trace
 input=$'c1 submit 1\n'
 try 'nothing can be written' 4 '' $'tpool: write fault\n' to /dev/full "$program" trace
 try 'nothing can be written of a verdict' 2 '' $'tpool: bad line 1 column 1\n' to /dev/full "$program" check
+# A file that has no room for more than 1,024 bytes takes a part of the output, and then fails.
+in_little_room() { (trap '' XFSZ && ulimit -f 1 && "$@"); }
+input=$(printf 'c1 create work r%d x0 p0 normal short g0 q0\n' {1..200})$'\n'
+numbered=$(printf 'made %d\n' {1..200})$'\n'
+try 'all can be written' 0 "$numbered" '' "$program" trace
+try 'a part can be written' 4 "${numbered:0:1024}" $'tpool: write fault\n' in_little_room "$program" trace
+input=$'c1 submit 1\n'
 try 'nobody reads' 4 '' $'tpool: write fault\n' into_closed_pipe "$program" trace
 try 'no line of a fault can be written' 1 '' '' errors_to /dev/full "$program"
 
