@@ -3,7 +3,6 @@
 
 ghost use Rattle.std.specs.Prelude.{◌≡◌, Ok};
 
-use std::alloc::AllocError;
 use std::process::Abort;
 
 /// Ends the test where a value isn't the one that is expected.
@@ -12,11 +11,11 @@ pub fn expect_eq<T: PartialEq + Drop>(rt: &impl Abort, told: T, wanted: T) {
 }
 
 /// What was made. Ends the test where memory is refused.
-pub fn expect_ok<T: Drop>(rt: &impl Abort, told: Result<T, AllocError>) -> T
+pub fn expect_ok<T: Drop, E: Drop>(rt: &impl Abort, told: Result<T, E>) -> T
     ensures { told ≡ Ok result }
 {
     match told {
         Ok(value) => value,
-        Err(error) => panic!(rt; "{error:?}"),
+        Err(_) => panic!(rt; "memory was refused"),
     }
 }
