@@ -1,0 +1,20 @@
+/* CloseThreadpoolIo while a read is under way.
+   The machine:  c1 close io 1 -> refused operations-outstanding 1 */
+#include "probe.h"
+#include "pipe.h"
+
+int main(void)
+{
+    HANDLE writer, reader = make_pipe(&writer);
+    struct operation read;
+    PTP_IO io;
+    begin();
+    io = CreateThreadpoolIo(reader, pass_io, "the callback", NULL);
+    StartThreadpoolIo(io);
+    begin_read(reader, &read, "a read");
+    CloseThreadpoolIo(io);
+    puts("closed");
+    write_to(writer, "text");
+    printf("%ld callbacks\n", reach(&over, 1));
+    return end();
+}
