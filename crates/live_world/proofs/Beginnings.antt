@@ -79,7 +79,7 @@ covers_outstanding next_number object cancel cs rising =
 
 -- a wait with cancel covers what runs
 pub covers_running : (object : ObjectId) (cs : List CallbackRow) → length (covered_of (Object object) true (cancel_where (is_cancelled_by (Object object) true) cs)) ≡ length (filter is_running_callback (filter (is_outstanding_for (Object object)) cs))
-covers_running object cs = length-map (filter covers (cancel_where test cs)) number_of ∙ each cs ∙ ap length (sym (filter_both runs p cs))
+covers_running object cs = length-map (filter covers (cancel_where test cs)) number_of ∙ each cs ∙ ap length (sym (filter_both is_running_callback p cs))
   where
     covers : CallbackRow → Bool
     covers = is_covered_by (Object object) true
