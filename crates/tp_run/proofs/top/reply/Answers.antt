@@ -1,5 +1,4 @@
-use Rattle.std.proofs.Common.{ap, ◌++◌, ◌∙◌, sym, subst}
-use Rattle.tp_report.specs.Verdicts.{verdict_text}
+use Rattle.std.proofs.Common.{sym, subst}
 use Rattle.tp_run.specs.Ends.{IsOutput, IsReply}
 use Rattle.tp_run.proofs.Checked.{output_of_verdict, reply_of_fault}
 use Rattle.tp_run.proofs.top.reply.Goals as goal
