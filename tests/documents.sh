@@ -2,9 +2,8 @@
 #
 # - a table that begins with `| Call | Prints |`: its rows are one trace, with the answers;
 # - a table that begins with `| Line | Column |`: each row is a bad line of a trace by itself;
-# - a line that begins with `**Example.**`, as **Example.** `CALL` → `ANSWER`: those of a page, from
-#   its top to its end, are one trace;
-# - a block marked `console`: commands behind `$ `, each with what it prints;
+# - a block marked `console`: commands behind `$ `, each with what a terminal shows of it, standard
+#   output and standard error;
 # - a block marked `history`: a legal history;
 # - a block marked `text` or `c` is no example. No block stands without a mark.
 # shellcheck shell=bash
@@ -70,8 +69,9 @@ session() {
 
 typed() {
     input=
-    try "$1: $2" '~[07]' "$3" '' inside "$here" bash -c "$2"
+    try "$1: $2" '~[0-7]' "$3" '' inside "$here" with_errors bash -c "$2"
 }
+with_errors() { "$@" 2>&1; }
 
 is_legal() {
     input=$2$'\n'
@@ -111,7 +111,7 @@ tables_are() {
     diff <(tables_of "$here/$page" '| Call | Prints |' | sed -n '/^--$/d;s/\t.*//p') <(cd "$here/examples" && cat "$@")
 }
 try 'the tables of the README are its examples' 0 '' '' tables_are README.md shutdown.trace pools.trace
-try 'the tables of docs/MACHINE.md are its examples' 0 '' '' tables_are docs/MACHINE.md timer-shutdown.trace handover.trace on-return.trace event-timeout.trace io-shutdown.trace
+try 'the tables of docs/MACHINE.md are its examples' 0 '' '' tables_are docs/MACHINE.md kind-work.trace kind-timer.trace kind-wait.trace kind-io.trace kind-pool.trace kind-group.trace kind-callback.trace kind-kernel.trace kind-actors.trace
 try 'the tables of docs/GUIDE.md are its examples' 0 '' '' tables_are docs/GUIDE.md guide-quiet.trace guide-disassociated.trace guide-late-submit.trace guide-half-mended.trace guide-mended.trace
 
 names_kit() { awk -v kit="$(sed -n "s/^kit='\(.*\)'/\1/p" "$tpool")" 'index($0, kit) { found = 1 } END { exit !found }' "$here/README.md"; }
@@ -123,15 +123,12 @@ stands_there() {
     [[ $1 =~ ^[a-zA-Z0-9_./{},-]+$ ]] && eval "paths=($1)" && inside "$here" ls -d "${paths[@]}"
 }
 
-for file in "$here"/README.md "$here/docs"/*.md; do
+for file in "$here"/README.md "$here/docs"/*.md "$here"/windows/README.md; do
     page=${file#"$here"/}
     each_part plays "$page, table" < <(tables_of "$file" '| Call | Prints |')
     each_part bad_lines "$page, bad lines" < <(tables_of "$file" '| Line | Column |')
     each_part session "$page, console" < <(blocks_of "$file" console)
     each_part is_legal "$page, history" < <(blocks_of "$file" history)
-    # shellcheck disable=SC2016
-    examples=$(sed -n 's/^\*\*Example\.\*\* `\([^`]*\)` → `\([^`]*\)`.*/\1\t\2/p' "$file")
-    [[ -z $examples ]] || plays "$page, examples" "$examples"
     unmarked=$(awk '/^```/ { inside = !inside; if (inside && $0 !~ /^```(console|history|text|sh|c)$/) print NR }' "$file")
     try "$page: each block is marked" 0 '' '' test -z "$unmarked"
     while IFS= read -r link; do
@@ -139,5 +136,5 @@ for file in "$here"/README.md "$here/docs"/*.md; do
     done < <(awk '{ while (match($0, /\]\([^)]*\)/)) { print substr($0, RSTART + 2, RLENGTH - 3); $0 = substr($0, RSTART + RLENGTH) } }' "$file" | awk '!/^https?:/ && !seen[$0]++')
     while IFS= read -r path; do
         try "$page: the path $path" 0 '~*' '' stands_there "$path"
-    done < <(awk '{ while (match($0, /`(crates|docs|examples|tests)\/[^` ]*`/)) { print substr($0, RSTART + 1, RLENGTH - 2); $0 = substr($0, RSTART + RLENGTH) } }' "$file" | awk '!seen[$0]++')
+    done < <(awk '{ while (match($0, /`(crates|docs|examples|script|tests|windows)\/[^` ]*`/)) { print substr($0, RSTART + 1, RLENGTH - 2); $0 = substr($0, RSTART + RLENGTH) } }' "$file" | awk '!seen[$0]++')
 done

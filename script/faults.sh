@@ -1,0 +1,76 @@
+# What the script says of a bad line, and of a history's wrong answer: the place, the line itself and a
+# likely cause. The program tells the place alone.
+# shellcheck shell=bash
+
+# Line $1 of the input, with the line feed that it has.
+line_of_input() {
+    tail -c +$((start + 1)) /dev/stdin 2>/dev/null | head -n "$1" | tail -n +"$1"
+}
+
+# Shows a bad line with a mark under the column, below its place and a likely cause.
+show_fault() {
+    local line=$1 column=$2 from=1 text
+    ((column <= 70)) || from=$((column - 60))
+    text=$(line_of_input "$line" | LC_ALL=C cut -b "$from-$((from + 99))" | LC_ALL=C tr -c '\n -~' '?')
+    ((from == 1)) || text=..${text:2}
+    printf '%s%d:%d: %s\n    %s\n    %*s\n' "$origin" "$line" "$column" "$(find_cause "$line" "$column")" \
+        "$text" $((column - from + 1)) '^' >&2
+}
+
+# The bytes of line $1 from byte $2 on, at most $3, without any NUL.
+rest_of_line() {
+    line_of_input "$1" | tail -c +"$2" | head -c "$3" | tr -d '\000'
+}
+
+# A likely cause of a fault, where its place shows one.
+find_cause() {
+    local line=$1 column=$2 byte before rest cause
+    rest=$(rest_of_line "$line" "$column" 60)
+    case $command:$line:$column:$rest in
+    trace:1:1:'history '*) cause='this is a history: ./tpool check reads it' ;;
+    check:1:1:[cw][0-9]*) cause='this is a trace: ./tpool trace reads it, and ./tpool history makes a history of it' ;;
+    *:*:*:[#\;]* | *:*:*:\ [#\;]* | *:*:*:'//'* | *:*:*:' //'* | *:*:*:'--'* | *:*:*:' --'*) cause='there are no comments' ;;
+    trace:*:*:' -> '*) cause='an answer stands here, as in a history: ./tpool check reads those' ;;
+    *) cause=$(find_meant "$line" "$column") ;;
+    esac
+    if [[ -z $cause ]]; then
+        byte=$(line_of_input "$line" | tail -c +"$column" | head -c 1 | od -An -tu1)
+        before=$( ((column == 1)) || rest_of_line "$line" $((column - 1)) 1)
+        cause=$(name_byte "${byte// /}" "$line" "$column" "$before" "$rest")
+    fi
+    [[ -n $cause || $command:$(rest_of_line "$line" 1 4) != 'check:end ' ]] || cause='the end line has the number of the entries'
+    echo "${cause:-no good line goes on like this}"
+}
+
+# The word that is meant by one that is none, if one is near.
+find_meant() {
+    line_of_input "$1" | LC_ALL=C awk -v column="$2" -f "$home/script/headings.awk" -f "$home/script/meant.awk" - "$pages" 2>/dev/null
+}
+
+# What a byte at a fault's place may mean, with the one before it and those from it on.
+name_byte() {
+    case $1:$2:$3 in
+    :*:1) echo 'the input ends here, and one more line is missing' ;;
+    :*) echo 'the input ends here: the line feed is missing, or more' ;;
+    9:*) echo 'a tab: one space stands between two words' ;;
+    10:*:1) echo 'an empty line' ;;
+    10:*) echo 'the line ends here, and something is missing' ;;
+    13:*) echo 'a carriage return: lines end in LF alone, and not in CR LF' ;;
+    239:1:1 | 25[45]:1:1) echo 'a byte order mark, it seems: the lines are plain ASCII' ;;
+    32:*:1) echo 'a space in front of the line' ;;
+    32:*) [[ $4 != ' ' && -n ${5// /} ]] || echo 'a space too many' ;;
+    4[89]:* | 5[0-7]:*) [[ $4 != 0 ]] || echo 'a number has no leading zeros' ;;
+    6[5-9]:* | [78]?:* | 90:*) echo 'words are in small letters' ;;
+    ?:* | [12]?:* | 3[01]:* | 127:*) echo 'a control character: the lines are plain ASCII' ;;
+    12[89]:* | 1[3-9]?:* | 2??:*) echo 'a byte that is not ASCII' ;;
+    esac
+}
+
+# Shows the entry of a history whose answer is wrong: its line, what it claims, and what the machine says.
+show_wrong_answer() {
+    local line=$(($1 + 1)) said=$2 text call
+    text=$(line_of_input "$line")
+    call=${text%% -> *}
+    printf '%s%d:%d: %s\n    the history says: %s\n    the machine says: %s\n' \
+        "$origin" "$line" $((${#call} + 5)) "$call" "${text#* -> }" "$said" >&2
+}
