@@ -115,7 +115,9 @@ meant 9 'c1 start io 1' start-io start-io
 meant 12 'c1 create wrok r1 x0 p0 normal short g0 q0' work 'create work'
 meant 26 'c1 create work r1 x7 p0 nromal short g0 q0' normal ''
 meant 20 'c1 wait work 1 cancle' cancel ''
+# shellcheck disable=SC2016
 shows trace 1 4 $'c1 SubmitThreadpoolWork(1)\n' 'SubmitThreadpoolWork is written `submit`: ./tpool calls SubmitThreadpoolWork'
+# shellcheck disable=SC2016
 shows check 2 10 "$end"$'c1 createEventA auto clear -> made 1\nend 1\n' 'CreateEvent is written `create-event`: ./tpool calls CreateEvent'
 shows trace 1 4 $'c1 SetThreadpoolCallbackPool 1\n' 'SetThreadpoolCallbackPool has no line of its own: ./tpool calls SetThreadpoolCallbackPool'
 shows trace 1 1 $'submit 1\n' 'a line begins with an actor, as c1 or w1'
