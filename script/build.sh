@@ -44,7 +44,7 @@ tell_unproved() {
     local why='nothing is proved on this machine yet'
     command -v rt >/dev/null || fail 127 "$why, and the command rt is missing, which runs, proves and builds the sources"
     [[ $state == missing ]] || why='the sources or the proofs have changed since they were proved'
-    say "$why, so the sources run as they are, in up to a minute; ./tpool prove proves and builds them, in up to $whole_build minutes"
+    say "$why, so the sources run as they are, in up to a minute; ./tpool prove proves and builds them, in up to $(count_minutes "$(count_at_once)") minutes"
 }
 
 # Runs the sources with the program's one word, by what rt offers for that. It keeps nothing, and has bounds:
@@ -82,6 +82,11 @@ count_at_once() {
     echo $((count > 0 ? count : 1))
 }
 
+# How many minutes it takes at most to prove all, where so many crates are proved at once.
+count_minutes() {
+    echo $(($1 < 4 ? whole_build * 4 / $1 : whole_build))
+}
+
 # Says which crates are done, as `rt all check` tells of them, and what is to do.
 show_progress() {
     local line name left done=()
@@ -113,8 +118,7 @@ build_program() {
     started=$(date +%s.%N)
     at_once=$(count_at_once)
     [[ $(rt version) == "$kit" ]] || say "this was proved with $kit, and rt is $(rt version)"
-    say "this takes up to $whole_build minutes with four processors, and longer with fewer; less where only some sources have changed"
-    say "proving ${#crates[@]} crates, up to $at_once at once: ${crates[*]}"
+    say "proving ${#crates[@]} crates, up to $at_once at once, in up to $(count_minutes "$at_once") minutes: ${crates[*]}"
     run_rt all check --jobs "$at_once" | show_progress
     ((PIPESTATUS[0] == 0)) || fail_build
     say "building $program"

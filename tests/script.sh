@@ -55,9 +55,15 @@ cp "$trace" "$room/a file"
 printf '%s' '-h is no option' >"$room/-h"
 try 'a file' 0 "$answers" '' "$tpool" trace "$trace"
 try 'a file, without rt' 0 "$answers" '' without_rt "$tpool" trace "$trace"
+mkdir "$room/find_alone"
+ln -s "$tools"/{bash,find} "$room/find_alone"
+with_find_alone() { PATH=$room/find_alone "$@"; }
+try 'a call starts nothing but find and the program' 0 "$answers" '' with_find_alone "$tpool" trace "$trace"
+try 'so does a check' 0 $'legal 5\n' '' with_find_alone "$tpool" check "$history"
 try 'through a link, from another folder' 0 "$answers" '' inside "$room" './a link' trace 'a file'
 try 'a file whose name begins with a hyphen' 2 '' $'~tpool: bad line 1 column 1\n-h:1:1: *' inside "$room" "$tpool" trace -- -h
 try 'a history' 0 $'legal 5\n' '' "$tpool" check "$history"
+try 'a file without a name' 3 '' $'tpool: read fault: there is no file \n' "$tpool" trace ''
 try 'no such file' 3 '' "tpool: read fault: there is no file $room/none"$'\n' "$tpool" trace "$room/none"
 try 'a folder' 3 '' "tpool: read fault: $room is a directory"$'\n' "$tpool" trace "$room"
 try 'a folder is shown' 3 '' "tpool: read fault: $room is a directory"$'\n' "$tpool" show "$room"
