@@ -42,8 +42,8 @@ is_below_newer() {
 # Says that nothing is proved, and by which command it would be.
 tell_unproved() {
     local why='nothing is proved on this machine yet'
-    command -v rt >/dev/null || fail 127 "$why, and the command rt is missing, which runs, proves and builds the sources"
     [[ $state == missing ]] || why='the sources or the proofs have changed since they were proved'
+    command -v rt >/dev/null || fail 127 "$why, and the command rt is missing, by which the sources are run, proved and built"
     say "$why, so the sources run as they are, in up to a minute; ./tpool prove proves and builds them, in up to $(count_minutes "$(count_at_once)") minutes"
 }
 

@@ -3,39 +3,60 @@
 # what it is about, where the calls and answers so far tell that; nothing else is asked, so what they don't
 # tell isn't written. `workers` is how many the machine has.
 
+BEGIN {
+    put(object_at, 3, "submit set-timer set-timer-ex is-timer-set set-wait start-io issue-io cancel-io")
+    put(object_at, 4, "wait close")
+    put(kernel_at, 3, "set-event reset-event release-semaphore acquire")
+    put(kernel_at, 4, "release-lock on-return set-wait")
+    put(pool_at, 3, "set-maximum set-minimum close-pool")
+    put(group_at, 3, "close-members close-group")
+    put(environment_at, 5, "submit-simple")
+    put(environment_at, 6, "create")
+}
+
 FILENAME == ARGV[1] {
     calls[++count] = $0
     if (length($0) > width) width = length($0)
     next
 }
 
+!form {
+    digits = length(count "")
+    form = "%" digits "d  %" digits "s  %-" width "s  %s\n"
+}
+
 {
     place++
-    read_call(calls[place])
-    about = subject()
-    entry = /^(look|full) / ? "" : ++entries
-    digits = length(count "")
-    printf "%" digits "d  %" digits "s  %-" width "s  %s\n", place, entry, calls[place], $0 (about == "" ? "" : " (" about ")")
-    learn()
+    about = ""
+    if ($1 != "full") {
+        read_call(calls[place])
+        about = subject()
+        if ($1 != "refused" && $1 != "look") learn()
+    }
+    entry = $1 == "look" || $1 == "full" ? "" : ++entries
+    printf form, place, entry, calls[place], $0 (about == "" ? "" : " (" about ")")
 }
 
 # --- What a call names: its actor, its word, and things by their numbers; "" where it names none
 
-function read_call(text,    environment) {
+# Notes at which word of a line of these calls a number of that kind stands.
+function put(words, at, these,    each, many) {
+    for (many = split(these, each, " "); many; many--) words[each[many]] = at
+}
+
+function read_call(text,    at) {
     split(text, word, " ")
     actor = word[1]
     call = word[2]
-    object = pool = group = kernel = ""
-    if (call ~ /^(submit|set-timer|set-timer-ex|is-timer-set|set-wait|start-io|issue-io|cancel-io)$/) object = word[3]
-    if (call ~ /^(wait|close)$/) object = word[4]
-    if (call ~ /^(set-event|reset-event|release-semaphore|acquire)$/) kernel = word[3]
-    if (call ~ /^(release-lock|on-return|set-wait)$/ && word[4] != "none") kernel = word[4]
-    if (call ~ /^(set-maximum|set-minimum|close-pool)$/) pool = word[3]
-    if (call ~ /^(close-members|close-group)$/) group = word[3]
-    environment = call == "create" ? 6 : call == "submit-simple" ? 5 : 0
-    if (environment) {
-        pool = substr(word[environment], 2)
-        group = substr(word[environment + 3], 2)
+    object = call in object_at ? word[object_at[call]] : ""
+    kernel = call in kernel_at ? word[kernel_at[call]] : ""
+    if (kernel == "none") kernel = ""
+    pool = call in pool_at ? word[pool_at[call]] : ""
+    group = call in group_at ? word[group_at[call]] : ""
+    if (call in environment_at) {
+        at = environment_at[call]
+        pool = substr(word[at], 2)
+        group = substr(word[at + 3], 2)
         if (group == "0") group = ""
     }
 }
@@ -44,7 +65,7 @@ function read_call(text,    environment) {
 
 function subject() {
     if ($1 == "refused") return of_refusal($2)
-    if ($1 == "notice" && actor in notices) return (given[actor] + 1) " of " notices[actor]
+    if ($1 == "notice") return actor in notices ? (given[actor] + 1) " of " notices[actor] : ""
     if ($1 != "look") return ""
     if ($2 == "not-yet" && $3 == "callback") return both(of_callback($4), stage_of($4))
     if ($2 == "not-yet") return $4 in kernel_kind ? both(named(kernel_kind[$4]), owner_of($4)) : ""
@@ -59,6 +80,7 @@ function of_refusal(name) {
     if (name == "not-owner") return owner_of(kernel)
     if (name == "in-wait" && actor in waits_for) return waits_for[actor]
     if (name ~ /^(still-running|own-callback)$/ && actor in runs) return "callback " runs[actor]
+    if (name ~ /^(has-members|operations-outstanding)$/) return $3 ? "object " $3 : "simple callbacks"
     if (name == "already-attached" && actor in pool_of) return "pool " pool_of[actor]
     return ""
 }
@@ -110,7 +132,6 @@ function both(one, other) {
 # --- What an answer tells for the lines behind it
 
 function learn() {
-    if ($1 ~ /^(refused|look|full)$/) return
     if ($1 == "made") learn_made($2)
     else if ($1 == "attached") pool_of[actor] = $2
     else if (call == "detach") delete pool_of[actor]
