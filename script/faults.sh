@@ -44,7 +44,7 @@ find_cause() {
 
 # The word that is meant by one that is none, if one is near.
 find_meant() {
-    line_of_input "$1" | LC_ALL=C awk -v column="$2" -f "$home/script/headings.awk" -f "$home/script/meant.awk" - "$pages" 2>/dev/null
+    rest_of_line "$1" 1 $(($2 + 99)) | LC_ALL=C awk -v column="$2" -f "$home/script/headings.awk" -f "$home/script/meant.awk" - "$pages" 2>/dev/null
 }
 
 # What a byte at a fault's place may mean, with the one before it and those from it on.
