@@ -123,7 +123,7 @@ stands_there() {
     [[ $1 =~ ^[a-zA-Z0-9_./{},-]+$ ]] && eval "paths=($1)" && inside "$here" ls -d "${paths[@]}"
 }
 
-for file in "$here"/README.md "$here/docs"/*.md "$here"/windows/README.md; do
+for file in "$here"/README.md "$here/docs"/*.md "$here/windows/README.md"; do
     page=${file#"$here"/}
     each_part plays "$page, table" < <(tables_of "$file" '| Call | Prints |')
     each_part bad_lines "$page, bad lines" < <(tables_of "$file" '| Line | Column |')
