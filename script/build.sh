@@ -43,7 +43,7 @@ is_below_newer() {
 tell_unproved() {
     local why='nothing is proved on this machine yet'
     [[ $state == missing ]] || why='the sources or the proofs have changed since they were proved'
-    command -v rt >/dev/null || fail 127 "$why, and the command rt is missing, by which the sources are run, proved and built"
+    command -v rt >/dev/null || fail 127 "the command rt is missing: $why, and by it the sources are run, proved and built"
     say "$why, so the sources run as they are, in about a minute; ./tpool prove proves and builds them, in up to $(count_minutes "$(count_at_once)") minutes"
 }
 

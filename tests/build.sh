@@ -43,7 +43,7 @@ try 'what is said of it is one line' 0 "$told" '' one_line "$copy/tpool" trace
 try 'unproved, by a pipe' 0 $'refused no-such\n' "$told" by_pipe with_rt "$copy/tpool" trace
 try 'unproved, shown' 0 $'1  1  c1 submit 1  refused no-such (object 1)\n' "$told" with_rt "$copy/tpool" show
 try 'unproved, to a full device' 4 '' "$told"$'tpool: write fault\n' to /dev/full with_rt "$copy/tpool" trace
-try 'not proved, and no rt' 127 '' '~tpool: nothing is proved on this machine yet, and the command rt is missing*' without_rt "$copy/tpool" trace
+try 'not proved, and no rt' 127 '' '~tpool: the command rt is missing: nothing is proved on this machine yet*' without_rt "$copy/tpool" trace
 fake=broken
 try 'unproved, and rt does not run it' 126 '' "$told"$'run=none proved=no\ntpool: no answer*./tpool prove*\n' with_rt "$copy/tpool" trace
 fake=too-long

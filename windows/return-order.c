@@ -1,45 +1,49 @@
-/* All four actions of a callback, and a wait for it. Four threads tell when each of them came, and
-   may be too slow to tell it in the right order.
+/* All four actions of a callback, and a wait for it. A thread looks again and again whether one of
+   them is done, and then at once at those that should be done before it.
    The machine: section, mutex, semaphore, event, all before any wait for the callback can end. */
 #include "probe.h"
 
+enum { SECTION, MUTEX, SEMAPHORE, EVENT };
+static const char *const names[] = { "section", "mutex", "semaphore", "event" };
 static CRITICAL_SECTION section;
-static HANDLE mutex, semaphore, event;
+static HANDLE objects[4];
 
 static void CALLBACK asks(PTP_CALLBACK_INSTANCE i, void *name, PTP_WORK work)
 {
     EnterCriticalSection(&section);
-    WaitForSingleObject(mutex, INFINITE);
-    SetEventWhenCallbackReturns(i, event);
-    ReleaseSemaphoreWhenCallbackReturns(i, semaphore, 1);
-    ReleaseMutexWhenCallbackReturns(i, mutex);
+    WaitForSingleObject(objects[MUTEX], INFINITE);
+    SetEventWhenCallbackReturns(i, objects[EVENT]);
+    ReleaseSemaphoreWhenCallbackReturns(i, objects[SEMAPHORE], 1);
+    ReleaseMutexWhenCallbackReturns(i, objects[MUTEX]);
     LeaveCriticalSectionWhenCallbackReturns(i, &section);
     hold(name);
 }
 
-static DWORD WINAPI wait_section(void *none) { EnterCriticalSection(&section); puts("section"); return 0; }
-static DWORD WINAPI wait_mutex(void *none) { WaitForSingleObject(mutex, INFINITE); puts("mutex"); return 0; }
-static DWORD WINAPI wait_semaphore(void *none) { WaitForSingleObject(semaphore, INFINITE); puts("semaphore"); return 0; }
-static DWORD WINAPI wait_event(void *none) { WaitForSingleObject(event, INFINITE); puts("event"); return 0; }
+static BOOL is_done(int which)
+{
+    return which == SECTION ? TryEnterCriticalSection(&section) : WaitForSingleObject(objects[which], 0) == WAIT_OBJECT_0;
+}
 
 int main(void)
 {
-    PTP_WORK work;
+    int first, other;
     begin();
-    InitializeCriticalSection(&section);
-    mutex = CreateMutex(NULL, FALSE, NULL);
-    semaphore = CreateSemaphore(NULL, 0, 5, NULL);
-    event = CreateEvent(NULL, TRUE, FALSE, NULL);
-    work = CreateThreadpoolWork(asks, "a callback", NULL);
-    SubmitThreadpoolWork(work);
-    reach(&begun, 1);
-    by_thread(wait_event, NULL);
-    by_thread(wait_semaphore, NULL);
-    by_thread(wait_mutex, NULL);
-    by_thread(wait_section, NULL);
-    let(1);
-    WaitForThreadpoolWorkCallbacks(work, FALSE);
-    printf("the wait is back; the event is set: %s\n", now(event));
-    Sleep(200);
+    for (first = EVENT; first >= SECTION; first--) {
+        PTP_WORK work = CreateThreadpoolWork(asks, "a callback", NULL);
+        InitializeCriticalSection(&section);
+        objects[MUTEX] = CreateMutex(NULL, FALSE, NULL);
+        objects[SEMAPHORE] = CreateSemaphore(NULL, 0, 5, NULL);
+        objects[EVENT] = CreateEvent(NULL, TRUE, FALSE, NULL);
+        SubmitThreadpoolWork(work);
+        reach(&begun, EVENT - first + 1);
+        let(1);
+        while (!is_done(first))
+            ;
+        for (other = first - 1; other >= SECTION; other--)
+            printf("before the %s the %s: %s\n", names[first], names[other], is_done(other) ? "yes" : "no");
+        WaitForThreadpoolWorkCallbacks(work, FALSE);
+        for (other = first + 1; other <= EVENT; other++)
+            printf("before the wait is over the %s: %s\n", names[other], is_done(other) ? "yes" : "no");
+    }
     return end();
 }
