@@ -19,7 +19,7 @@ compiles() {
 if command -v "$mingw" >/dev/null; then
     cp -r "$here/windows" "$room/windows"
     try 'windows: probe.h' 0 '' '' compiles -x c-header -o probe.h.gch probe.h
-    for file in "$here"/windows/*.c; do
+    for file in "$here/windows"/*.c; do
         try "windows: ${file##*/}" 0 '' '' compiles -fsyntax-only "${file##*/}"
     done
 else

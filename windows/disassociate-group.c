@@ -1,6 +1,7 @@
 /* A callback that has disassociated itself runs, and another thread closes its group; then the
    same where its object was closed before.
-   The machine:  closing 1 0 N;  look not-yet callback 1 until it returns */
+   The machine:  closing 1 0 1, look not-yet callback 1 until it returns, then the notice;
+                 close work 2 -> freed, closing 1 0 0, look not-yet callback 2 until it returns */
 #include "probe.h"
 
 static void CALLBACK leaves(PTP_CALLBACK_INSTANCE i, void *name, PTP_WORK work)

@@ -66,7 +66,7 @@ SHARED void submit_one_by_one(PTP_WORK work, LONG count)
     for (at = 1; at <= count; at++) {
         LONG wanted = begun + 1;
         SubmitThreadpoolWork(work);
-        for (tries = 0; tries < 30 && begun < wanted; tries++)
+        for (tries = 0; tries < 1000 && begun < wanted; tries++)
             Sleep(1);
     }
 }
