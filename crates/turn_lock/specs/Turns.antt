@@ -38,11 +38,22 @@ module _ {B : Type 0} where
   abbrev pub with_book : Turn B → B → Turn B
   with_book turn book = record turn { seat = record turn.seat { now = seat_with_book turn.seat.now book } }
 
+  abbrev pub seat_at : Turn B → Seat B
+  seat_at turn = turn.seat.now
+
+  abbrev pub lock_at : Turn B → TurnLock B
+  lock_at turn = turn.lock.now
+
+  -- it is still the same turn
+  pub record SameTurn (a b : Turn B) : Type 0 where
+    pub reference : b.seat.ghost_name ≡ a.seat.ghost_name
+    pub lock_is : lock_at b ≡ lock_at a
+
   -- the turn is at this lock and lends this seat, which has entered
   pub record IsTurnAt (recording : B → Recording) (lock : TurnLock B) (seat : MutBor (Seat B)) (turn : Turn B) : Type 0 where
     pub reference : turn.seat.ghost_name ≡ seat.ghost_name
-    pub lock_is : turn.lock.now ≡ lock
-    pub entered : HasEntered recording seat.now turn.seat.now
+    pub lock_is : lock_at turn ≡ lock
+    pub entered : HasEntered recording seat.now (seat_at turn)
 
 -- what the seat is once the borrow is over
 abbrev pub RestsIfBusy : (B : RattleType) → MutBor (Seat B.Denot) → Entered B.Denot → Fml

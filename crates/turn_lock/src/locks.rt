@@ -33,7 +33,7 @@ pub struct TurnLock<B: Recorded> {
 impl<B: Recorded> TurnLock<B> {
     ghost use Rattle.turn_lock.specs.Histories.{StartsWith};
     ghost use Rattle.turn_lock.specs.Locks.{name_of, setup_of, AreDealt, IsOf};
-    ghost use Rattle.turn_lock.specs.Seats.{seen_of, IsCopy, HasEntered, HasLooked, HasMet, IsGathered, IsIdle, IsLast};
+    ghost use Rattle.turn_lock.specs.Seats.{number_of, seen_of, IsCopy, HasEntered, HasLooked, HasMet, IsGathered, IsIdle, IsLast};
 
     /// A lock over a machine without entries, and its seats, of the numbers from 1 on, in their order:
     /// those of the clients come first, then those of the workers.
@@ -123,7 +123,7 @@ impl<B: Recorded> TurnLock<B> {
     pub fn join(&self, seat: &mut Seat<B>, other: Seat<B>)
         requires of { IsOf self.now seat.old × IsOf self.now other }
         requires idle { IsIdle seat.old × IsIdle other }
-        requires numberless { other.number ≡ 0 }
+        requires numberless { number_of other ≡ 0 }
         ensures looked { HasLooked seat.old seat.new }
         ensures told { StartsWith (seen_of seat.new) (seen_of other) }
     {
@@ -136,7 +136,7 @@ impl<B: Recorded> TurnLock<B> {
     pub(crate) fn grab(&self, seat: &mut Seat<B>) -> Result<(), u32>
         requires of { IsOf self.now seat.old }
         requires idle { IsIdle seat.old }
-        requires numbered { 0 < seat.old.number }
+        requires numbered { 0 < number_of seat.old }
         ensures entered { OnOk result (HasEntered B.recording seat.old seat.new) }
         ensures met { IfErr result (λ holder. HasMet holder seat.old seat.new) }
     {
@@ -157,7 +157,7 @@ impl<B: Recorded> TurnLock<B> {
     pub fn close(self, mut seats: Vec<Seat<B>>) -> B
         requires of { All (IsOf self) seats.items }
         requires idle { All IsIdle seats.items }
-        requires all { (number : ℕ) → 1 ≤ number → number ≤ (setup_of self).seats → Any (λ seat. seat.number ≡ number) seats.items }
+        requires all { (number : ℕ) → 1 ≤ number → number ≤ (setup_of self).seats → Any (λ seat. number_of seat ≡ number) seats.items }
         ensures last { All (IsLast (B.recording result)) seats.items }
     {
         let first = seats.pop().unwrap();

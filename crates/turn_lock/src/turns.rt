@@ -6,8 +6,8 @@ ghost use mir.Syntax.{named};
 ghost use Rattle.tp_base.specs.declared.answers.Entry.{Entry};
 ghost use Rattle.turn_lock.specs.contracts.turns.Turn.{the_row as turn_row};
 ghost use Rattle.turn_lock.specs.Locks.{IsOf};
-ghost use Rattle.turn_lock.specs.Seats.{HasAppended, HasLeft, IsAtTurn, IsIdle, IsToldWhole, IsWritten};
-ghost use Rattle.turn_lock.specs.Turns.{with_book, IfHeld, IsTurnAt, RestsIfBusy};
+ghost use Rattle.turn_lock.specs.Seats.{number_of, HasAppended, HasLeft, IsAtTurn, IsIdle, IsToldWhole, IsWritten};
+ghost use Rattle.turn_lock.specs.Turns.{lock_at, seat_at, with_book, IfHeld, IsTurnAt, RestsIfBusy, SameTurn};
 
 use crate::locks::{BOOK, HOLDER, LENGTH, TurnLock};
 use crate::rule::{Append, LetGo};
@@ -35,7 +35,7 @@ impl<B: Recorded> Seat<B> {
     pub fn try_enter<'a>(&'a mut self, lock: &'a TurnLock<B>) -> Entered<'a, B>
         requires of { IsOf lock.now self.old }
         requires idle { IsIdle self.old }
-        requires numbered { 0 < self.old.number }
+        requires numbered { 0 < number_of self.old }
         ensures* busy { sem 𝓛 (RestsIfBusy B.row self.entry result) }
         ensures held { IfHeld result (IsTurnAt B.recording lock.now self.entry) }
     {
@@ -59,10 +59,10 @@ impl<'a, B: Recorded> Turn<'a, B> {
 impl<B: Recorded> Turn<'_, B> {
     /// The machine in hand.
     pub fn book(&mut self) -> &mut B
-        requires of { IsOf self.old.lock.now self.old.seat.now }
-        requires at_turn { (book : B.row.Denot) × IsAtTurn self.old.seat.now book }
+        requires of { IsOf (lock_at self.old) (seat_at self.old) }
+        requires at_turn { (book : B.row.Denot) × IsAtTurn (seat_at self.old) book }
         ensures* writes_back { sem 𝓛 (Lends (turn_row (record { mir = named 1; lft = [] }) B.row B.Recorded) B.row self.entry result (with_book self.old)) }
-        ensures value { IsAtTurn self.old.seat.now result.now }
+        ensures value { IsAtTurn (seat_at self.old) result.now }
     {
         let table = &self.lock.table.shared;
         let seat = &mut *self.seat;
@@ -73,12 +73,11 @@ impl<B: Recorded> Turn<'_, B> {
     /// Says that the history has one entry more, which the machine in hand has and the seat has made.
     /// From here on every other seat can see it.
     pub fn append(&mut self)
-        requires of { IsOf self.old.lock.now self.old.seat.now }
-        requires numbered { 0 < self.old.seat.now.number }
-        requires written { (book : B.row.Denot) × (entry : Entry) × IsWritten B.recording self.old.seat.now book entry }
-        ensures same_reference { self.new.seat.ghost_name ≡ self.old.seat.ghost_name }
-        ensures lock { self.new.lock ≡ self.old.lock }
-        ensures appended { (book : B.row.Denot) (entry : Entry) → IsWritten B.recording self.old.seat.now book entry → HasAppended book entry self.old.seat.now self.new.seat.now }
+        requires of { IsOf (lock_at self.old) (seat_at self.old) }
+        requires numbered { 0 < number_of (seat_at self.old) }
+        requires written { (book : B.row.Denot) × (entry : Entry) × IsWritten B.recording (seat_at self.old) book entry }
+        ensures same { SameTurn self.old self.new }
+        ensures appended { (book : B.row.Denot) (entry : Entry) → IsWritten B.recording (seat_at self.old) book entry → HasAppended book entry (seat_at self.old) (seat_at self.new) }
     {
         let table = &self.lock.table.shared;
         let seat = &mut *self.seat;
@@ -89,9 +88,9 @@ impl<B: Recorded> Turn<'_, B> {
 
     /// Lets go. The machine in hand has to have the history that was seen, with no entry more.
     pub fn leave(self)
-        requires of { IsOf self.lock.now self.seat.now }
-        requires told { (book : B.row.Denot) × IsToldWhole B.recording self.seat.now book }
-        ensures left { HasLeft self.entry.seat.now self.exit.0.now }
+        requires of { IsOf (lock_at self) (seat_at self) }
+        requires told { (book : B.row.Denot) × IsToldWhole B.recording (seat_at self) book }
+        ensures left { HasLeft (seat_at self.entry) self.exit.0.now }
     {
         let Turn { seat, lock } = self;
         lock.table.shared.store::<LetGo>(&mut seat.raw, HOLDER, 0);
