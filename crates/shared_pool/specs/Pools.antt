@@ -1,5 +1,5 @@
 -- What contracts say of a shared pool and its seats.
-use Rattle.std.specs.Prelude.{◌≡◌, ℕ, ◌+◌, ◌<◌}
+use Rattle.std.specs.Prelude.{◌≡◌, ℕ, ◌+◌, ◌<◌, ◌≤◌, List, Any}
 use Rattle.tp_base.specs.declared.limits.Limits.{Limits}
 use Rattle.turn_lock.specs.declared.locks.TurnLock.{TurnLock}
 use Rattle.turn_lock.specs.declared.seats.Seat.{Seat}
@@ -30,3 +30,7 @@ module _ {B : Type 0} where
     pub of : IsOf (lock_in pool) seat
     pub idle : IsIdle seat
     pub numbered : 0 < number_of seat
+
+  -- each number of the pool is that of one of these seats
+  abbrev pub HaveAll : SharedPool B → List (Seat B) → Type 0
+  HaveAll pool seats = (number : ℕ) → 1 ≤ number → number ≤ (setup_at pool).seats → Any (λ (seat : Seat B). number_of seat ≡ number) seats

@@ -1,6 +1,6 @@
 //! A pool that several threads share.
 
-ghost use Rattle.std.specs.Prelude.{◌≡◌, ℕ, ◌<◌, ◌≤◌, length, All, Any, IfOk};
+ghost use Rattle.std.specs.Prelude.{◌≡◌, ◌<◌, length, All, IfOk};
 ghost use Rattle.tp_base.specs.declared.limits.Limits.{Limits as Bounds};
 ghost use Rattle.tp_base.specs.Ranges.{AreLimitsInRange, IsCallInRange};
 ghost use Rattle.turn_lock.specs.Locks.{setup_of};
@@ -53,7 +53,7 @@ fn actor(number: u32, clients: u32) -> Who
 
 impl<B: Recorded> SharedPool<B> {
     ghost use Rattle.turn_lock.specs.Locks.{AreDealt};
-    ghost use Rattle.shared_pool.specs.Pools.{lock_in, pool_setup, setup_at, IsPlayer, IsSeatOf};
+    ghost use Rattle.shared_pool.specs.Pools.{lock_in, pool_setup, setup_at, HaveAll, IsPlayer, IsSeatOf};
 
     /// Opens a pool on a machine of these limits that has made no step, and gives a seat for each
     /// actor: first the clients, then the workers. The history will have room for `capacity` entries,
@@ -69,6 +69,8 @@ impl<B: Recorded> SharedPool<B> {
         requires { AreLimitsInRange limits }
         ensures setup { IfOk result (λ made. setup_at made.0 ≡ pool_setup limits capacity) }
         ensures dealt { IfOk result (λ made. AreDealt (lock_in made.0) made.1.items) }
+        ensures players { IfOk result (λ made. All (IsPlayer made.0) made.1.items) }
+        ensures all { IfOk result (λ made. HaveAll made.0 made.1.items) }
     {
         let book = B::open(alloc, limits, capacity)?;
         let (lock, seats) = TurnLock::new(alloc, book, limits.clients + limits.workers)?;
@@ -163,7 +165,7 @@ impl<B: Recorded> SharedPool<B> {
     /// has seen, and has of each seat's actor the entries that the seat has made.
     pub fn close(self, seats: Vec<Seat<B>>) -> B
         requires seats { All (IsSeatOf self) seats.items }
-        requires all { (number : ℕ) → 1 ≤ number → number ≤ (setup_at self).seats → Any (λ seat. number_of seat ≡ number) seats.items }
+        requires all { HaveAll self seats.items }
         ensures last { All (IsLast (B.recording result)) seats.items }
     {
         let SharedPool { lock, limits: _ } = self;
