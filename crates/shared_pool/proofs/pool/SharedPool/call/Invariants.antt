@@ -1,0 +1,8 @@
+use Rattle.shared_pool.specs.Calls.{HasWaited}
+use Rattle.shared_pool.specs.Pools.{IsPlayer}
+use Rattle.shared_pool.proofs.pool.SharedPool.call.Given as goal
+
+abbrev pub invariant-loop : goal.invariant-loop
+invariant-loop g l =
+    (goal.iterator-loop g).can_next l.iterator' × (goal.iterator-loop g).is_finite l.iterator'
+    × IsPlayer l.fn.self l.seat × HasWaited l.fn.seat l.seat

@@ -1,0 +1,5 @@
+pub mod Beginnings
+pub mod Dealing
+pub mod Gathering
+pub mod Keeping
+pub mod Seating
