@@ -21,5 +21,6 @@
 #![tactic(auto)]
 
 mod pool;
+mod win32;
 
 pub use pool::{SharedPool, Tried};
