@@ -1,2 +1,3 @@
 pub mod Checked
 pub mod Cuts
+pub mod Numbers

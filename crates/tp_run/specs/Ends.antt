@@ -1,12 +1,12 @@
 -- What stands between reading and the end of the program.
-use Rattle.std.specs.Prelude.{◌≡◌, ℕ, ◌≤◌, ◌↔◌, List, length, Option, Some, Result, Ok, Err}
+use Rattle.std.specs.Prelude.{◌≡◌, ℕ, Bool, true, false, ◌≤◌, ◌↔◌, List, [], length, Option, Some, Result, Ok, Err}
 use Rattle.tp_edge.specs.Given.{with_given, TookFirst}
 use Rattle.tp_edge.specs.Taken.{behind, IsEnded}
 use Rattle.tp_edge.specs.declared.reading.ReadFault.{ReadFault as SourceFault}
 use Rattle.tp_edge.specs.declared.reading.ReadFault.TheVariants as source
 use Rattle.tp_report.specs.declared.faults.TextFault.{TextFault}
 use Rattle.tp_report.specs.declared.faults.TextFault.TheVariants as text
-use Rattle.tp_run.specs.Inputs.{Gives, IsFaultyAt}
+use Rattle.tp_run.specs.Inputs.{Gives, IsFaultyAt, reads}
 use Rattle.tp_run.specs.Runs.{IsWithin}
 use Rattle.tp_run.specs.declared.command.Command.{Command}
 use Rattle.tp_run.specs.declared.status.Ending.{Ending}
@@ -47,10 +47,18 @@ IsReply command bytes (Err (BadLine line column)) = IsFaulty command bytes line 
 IsReply command bytes (Err NoMemory) = Unit {0}
 IsReply command bytes (Err _) = ⊥
 
+-- the command's input was read to its end, of which this is left behind it; or it has none, and nothing was taken
+abbrev pub IsReadIf : Bool → List ℕ → Option (List ℕ) → Type 0
+IsReadIf true taken now = IsEnded now
+IsReadIf false taken now = taken ≡ []
+
+abbrev pub IsAllRead : Command → List ℕ → Option (List ℕ) → Type 0
+IsAllRead command taken now = IsReadIf (reads (Some command)) taken now
+
 -- what came of the bytes that were taken from a source, of which this is left
 abbrev pub IsReplyTo : Command → List ℕ → Option (List ℕ) → Result Output Status → Type 0
-IsReplyTo command taken now (Ok output) = IsEnded now × IsOutput command taken output.text.items output.ending
-IsReplyTo command taken now (Err (BadLine line column)) = IsEnded now × IsFaulty command taken line column
+IsReplyTo command taken now (Ok output) = IsAllRead command taken now × IsOutput command taken output.text.items output.ending
+IsReplyTo command taken now (Err (BadLine line column)) = IsAllRead command taken now × IsFaulty command taken line column
 IsReplyTo command taken now (Err NoMemory) = Unit {0}
 IsReplyTo command taken now (Err ReadFault) = Unit {0}
 IsReplyTo command taken now (Err TooLong) = Unit {0}
@@ -59,21 +67,23 @@ IsReplyTo command taken now (Err _) = ⊥
 pub record IsTakenTo (command : Command) (left now : Option (List ℕ)) (answer : Result Output Status) : Type 0 where
   pub taken : List ℕ
   pub took : left ≡ behind taken now
+  pub none : reads (Some command) ≡ false → taken ≡ []
   pub too_long : (answer ≡ Err TooLong) ↔ (length taken ≡ 16777217)
   pub most : length taken ≤ 16777217
   pub reply : IsReplyTo command taken now answer
 
 -- what came of the bytes that were taken, and what the sink holds
 abbrev pub Came : Command → List ℕ → Option (List ℕ) → Option (List ℕ) → Option (List ℕ) → Status → Type 0
-Came command taken now held holds Fine = IsEnded now × ((output : List ℕ) × IsOutput command taken output ending.Fine × (holds ≡ with_given output held))
-Came command taken now held holds NotLegal = IsEnded now × ((output : List ℕ) × IsOutput command taken output ending.NotLegal × (holds ≡ with_given output held))
-Came command taken now held holds WriteFault = IsEnded now × ((output : List ℕ) × (ends : Ending) × IsOutput command taken output ends × TookFirst held holds output)
-Came command taken now held holds (BadLine line column) = IsEnded now × IsFaulty command taken line column
+Came command taken now held holds Fine = IsAllRead command taken now × ((output : List ℕ) × IsOutput command taken output ending.Fine × (holds ≡ with_given output held))
+Came command taken now held holds NotLegal = IsAllRead command taken now × ((output : List ℕ) × IsOutput command taken output ending.NotLegal × (holds ≡ with_given output held))
+Came command taken now held holds WriteFault = IsAllRead command taken now × ((output : List ℕ) × (ends : Ending) × IsOutput command taken output ends × TookFirst held holds output)
+Came command taken now held holds (BadLine line column) = IsAllRead command taken now × IsFaulty command taken line column
 Came command taken now held holds Words = ⊥
 Came command taken now held holds _ = Unit {0}
 
 pub record IsRun (command : Command) (left now held holds : Option (List ℕ)) (status : Status) : Type 0 where
   pub taken : List ℕ
   pub took : left ≡ behind taken now
+  pub none : reads (Some command) ≡ false → taken ≡ []
   pub within : IsWithin status taken
   pub came : Came command taken now held holds status

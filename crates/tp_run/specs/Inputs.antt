@@ -1,11 +1,13 @@
 -- What a command makes of its input.
-use Rattle.std.specs.Prelude.{◌≡◌, ℕ, List, Option, None, Some}
+use Rattle.std.specs.Prelude.{◌≡◌, ℕ, Bool, true, false, List, [], Option, None, Some}
 use Rattle.line_grammar.specs.Traces.{IsTraceFault}
+use Rattle.script_generator.specs.Scripts.{generated}
 use Rattle.tp_base.specs.declared.calls.Call.{Call}
 use Rattle.tp_base.specs.declared.ids.Who.{Who}
+use Rattle.tp_edge.specs.Taken.{AreAll}
 use Rattle.tp_lines.specs.Faults.{IsLine}
 use Rattle.tp_run.specs.declared.command.Command.{Command}
-use Rattle.tp_run.specs.declared.command.Command.TheVariants.{Trace, Check}
+use Rattle.tp_run.specs.declared.command.Command.TheVariants.{Trace, Check, Gen}
 use Rattle.tp_run.specs.declared.status.Ending.{Ending}
 use Rattle.tp_run.specs.declared.status.Ending.TheVariants.{Fine, NotLegal}
 use Rattle.tp_base.specs.declared.answers.Entry.{Entry}
@@ -30,14 +32,39 @@ pub record IsChecked (bytes output : List ℕ) (ending : Ending) : Type 0 where
   pub output_is : output ≡ verdict_text told
   pub ending_is : ending ≡ ending_of told
 
+-- whether a command has an input, which is what the source has
+abbrev pub reads : Option Command → Bool
+reads None = false
+reads (Some Trace) = true
+reads (Some Check) = true
+reads (Some (Gen number)) = false
+
+-- the command's input, where the source tells what it has; that of a command which reads nothing is empty
+abbrev pub IsInputIf : Bool → List ℕ → Option (List ℕ) → Type 0
+IsInputIf true bytes left = AreAll bytes left
+IsInputIf false bytes left = bytes ≡ []
+
+abbrev pub IsInput : Option Command → List ℕ → Option (List ℕ) → Type 0
+IsInput command bytes left = IsInputIf (reads command) bytes left
+
+-- the source tells that this is the command's input
+abbrev pub IsToldIf : Bool → List ℕ → Option (List ℕ) → Type 0
+IsToldIf true bytes left = left ≡ Some bytes
+IsToldIf false bytes left = bytes ≡ []
+
+abbrev pub IsTold : Option Command → List ℕ → Option (List ℕ) → Type 0
+IsTold command bytes left = IsToldIf (reads command) bytes left
+
 -- the bytes are in the grammar of the command's input, and these are its output for them and its ending
 abbrev pub Gives : Option Command → List ℕ → List ℕ → Ending → Type 0
 Gives None bytes output ending = ⊥
 Gives (Some Trace) bytes output ending = (calls : List (Who × Call)) × IsTraceOf bytes calls × (output ≡ output_of calls) × (ending ≡ Fine)
 Gives (Some Check) bytes output ending = IsChecked bytes output ending
+Gives (Some (Gen number)) bytes output ending = (output ≡ generated number 64) × (ending ≡ Fine)
 
 -- the bytes are not in the grammar of the command's input, and this is the place of their first fault
 abbrev pub IsFaultyAt : Option Command → List ℕ → ℕ → ℕ → Type 0
 IsFaultyAt None bytes line column = ⊥
 IsFaultyAt (Some Trace) bytes line column = IsTraceFault IsLine bytes line column
 IsFaultyAt (Some Check) bytes line column = IsHistoryFault bytes line column
+IsFaultyAt (Some (Gen number)) bytes line column = ⊥

@@ -2,5 +2,6 @@ pub mod Codes
 pub mod Commands
 pub mod Ends
 pub mod Inputs
+pub mod Numbers
 pub mod Runs
 pub mod Words

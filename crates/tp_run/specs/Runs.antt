@@ -1,7 +1,6 @@
 -- How the program ends.
-use Rattle.std.specs.Prelude.{◌≡◌, ℕ, ◌≤◌, ◌↔◌, List, length, Option}
-use Rattle.tp_edge.specs.Taken.{AreAll}
-use Rattle.tp_run.specs.Inputs.{Gives, IsFaultyAt}
+use Rattle.std.specs.Prelude.{◌≡◌, ℕ, true, ◌≤◌, ◌↔◌, List, length, Option}
+use Rattle.tp_run.specs.Inputs.{Gives, IsFaultyAt, IsInput, reads}
 use Rattle.tp_run.specs.declared.command.Command.{Command}
 use Rattle.tp_run.specs.declared.status.Status.{Status}
 use Rattle.tp_run.specs.declared.status.Status.TheVariants.{Fine, BadLine, WriteFault, TooLong, NotLegal}
@@ -20,31 +19,35 @@ IsUnwritten NotLegal = ⊥
 IsUnwritten WriteFault = ⊥
 IsUnwritten _ = Unit {0}
 
--- the input was read to its end
-abbrev pub IsReadToEnd : Status → Type 0
-IsReadToEnd Fine = Unit {0}
-IsReadToEnd NotLegal = Unit {0}
-IsReadToEnd WriteFault = Unit {0}
-IsReadToEnd (BadLine line column) = Unit {0}
-IsReadToEnd _ = ⊥
+-- the end comes once the input was read to its end
+abbrev pub IsBehindInput : Status → Type 0
+IsBehindInput Fine = Unit {0}
+IsBehindInput NotLegal = Unit {0}
+IsBehindInput WriteFault = Unit {0}
+IsBehindInput (BadLine line column) = Unit {0}
+IsBehindInput _ = ⊥
+
+-- the command has an input, and it was read to its end
+abbrev pub IsReadToEnd : Option Command → Status → Type 0
+IsReadToEnd command status = (reads command ≡ true) × IsBehindInput status
 
 -- one byte more than 16,777,216 is too long, and no more than one are taken
 pub record IsWithin (status : Status) (taken : List ℕ) : Type 0 where
   pub too_long : (status ≡ TooLong) ↔ (length taken ≡ 16777217)
   pub most : length taken ≤ 16777217
 
--- the bytes of the source, and the command's output for them with its ending
+-- the command's input, and its output for that with its ending
 pub record IsAnswered (command : Option Command) (left : Option (List ℕ)) (Q : List ℕ → Ending → Type 0) : Type 0 where
   pub bytes : List ℕ
   pub output : List ℕ
   pub ending : Ending
-  pub all : AreAll bytes left
+  pub is_input : IsInput command bytes left
   pub gives : Gives command bytes output ending
   pub given : Q output ending
 
--- at a bad line the bytes of the source have their first fault there
+-- at a bad line the input has its first fault there
 abbrev pub IsBadLineOf : Option Command → Option (List ℕ) → Status → Type 0
-IsBadLineOf command left (BadLine line column) = (bytes : List ℕ) × AreAll bytes left × IsFaultyAt command bytes line column
+IsBadLineOf command left (BadLine line column) = (bytes : List ℕ) × IsInput command bytes left × IsFaultyAt command bytes line column
 IsBadLineOf command left _ = Unit {0}
 
 abbrev pub IsBadLine : Status → Type 0

@@ -13,6 +13,7 @@
 #![tactic(auto)]
 
 mod command;
+mod number;
 mod status;
 mod top;
 mod words;

@@ -1,13 +1,14 @@
 //! All that the program does, over any machine, any source and any sink.
 
-ghost use Rattle.std.specs.Prelude.{◌≡◌, ◌≢◌, ◌↔◌, ◌≤◌, ◌⊎◌, ℕ, List, IfOk, Some, None, length};
+ghost use Rattle.std.specs.Prelude.{◌≡◌, ◌≢◌, ◌↔◌, ◌≤◌, ◌⊎◌, ℕ, false, List, [], IfOk, Some, None, Err, length};
 ghost use Rattle.tp_edge.specs.Counts.{Rose};
 ghost use Rattle.tp_edge.specs.Given.{with_given, TookFirst};
+ghost use Rattle.tp_edge.specs.Reading.{IsRead};
 ghost use Rattle.tp_edge.specs.Taken.{behind, IsAbove, IsEnded};
 ghost use Rattle.tp_run.specs.Commands.{command_of};
-ghost use Rattle.tp_run.specs.Ends.{IsReply, IsRun, IsTakenTo, status_of};
+ghost use Rattle.tp_run.specs.Ends.{IsAllRead, IsReply, IsRun, IsTakenTo, status_of};
 ghost use Rattle.tp_report.specs.Verdicts.{verdict_text};
-ghost use Rattle.tp_run.specs.Inputs.{ending_of, Gives};
+ghost use Rattle.tp_run.specs.Inputs.{ending_of, Gives, IsTold, reads};
 ghost use Rattle.tp_run.specs.Runs.{IsAnswered, IsBadLine, IsBadLineOf, IsReadToEnd, IsUnwritten, IsWhole, IsWithin};
 ghost use Rattle.tp_run.specs.declared.status.Ending.{Ending};
 
@@ -15,12 +16,16 @@ use crate::command::{Command, command_in};
 use crate::status::{Ending, Status};
 use crate::words::WordList;
 use recorded::Recorded;
+use script_generator::generate;
 use std::alloc::{AllocError, Global};
-use tp_edge::{Sink, Source, WriteFault, give_all, read_all};
+use tp_edge::{ReadFault, Sink, Source, WriteFault, give_all, read_all};
 use tp_report::{Verdict, check, print_verdict, trace};
 
 /// The most bytes that an input may have.
 const INPUT_LIMIT: usize = 16_777_216;
+
+/// How many lines each drawn client has in the script that is written for a number.
+const SCRIPT_LENGTH: u32 = 64;
 
 /// Does what the words ask for on a machine, a `B`: reads the source to its end, and then writes to the
 /// sink.
@@ -36,7 +41,7 @@ pub fn tp_main<B: Recorded, S: Source, K: Sink>(
 ) -> Status
     // The words alone decide whether they are a command; if not, nothing is done.
     ensures words { (result ≡ Status.Words) ↔ (command_of words.now ≡ None) }
-    ensures unread { result ≡ Status.Words → source.new ≡ source.old }
+    ensures unread { reads (command_of words.now) ≡ false → source.new ≡ source.old }
     ensures unwritten { IsUnwritten result → sink.new ≡ sink.old }
     // A fault of a stream has risen in this call.
     ensures read_fault { result ≡ Status.ReadFault → Rose (S.failures source.old) (S.failures source.new) }
@@ -46,23 +51,23 @@ pub fn tp_main<B: Recorded, S: Source, K: Sink>(
     // What was taken from the source.
     ensures taken { (taken : List ℕ) × (S.left source.old ≡ behind taken (S.left source.new)) × IsWithin result taken }
     ensures too_long { result ≡ Status.TooLong → IsAbove INPUT_LIMIT (S.left source.old) }
-    ensures ended { IsReadToEnd result → IsEnded (S.left source.new) }
+    ensures ended { IsReadToEnd (command_of words.now) result → IsEnded (S.left source.new) }
     // A bad line is the first fault of the input, which is then in no grammar of the command.
     ensures bad_line { IsBadLineOf (command_of words.now) (S.left source.old) result }
-    ensures bad_only { (bytes output : List ℕ) (ending : Ending) → S.left source.old ≡ Some bytes → Gives (command_of words.now) bytes output ending →
+    ensures bad_only { (bytes output : List ℕ) (ending : Ending) → IsTold (command_of words.now) bytes (S.left source.old) → Gives (command_of words.now) bytes output ending →
         IsBadLine result → ⊥ }
     // The sink gets the output for the input, once; and there is no other output for it.
     ensures whole { IsWhole result → IsAnswered (command_of words.now) (S.left source.old)
         (λ output ending. (result ≡ status_of ending) × (K.holds sink.new ≡ with_given output (K.holds sink.old))) }
-    ensures whole_only { (bytes output : List ℕ) (ending : Ending) → S.left source.old ≡ Some bytes → Gives (command_of words.now) bytes output ending →
+    ensures whole_only { (bytes output : List ℕ) (ending : Ending) → IsTold (command_of words.now) bytes (S.left source.old) → Gives (command_of words.now) bytes output ending →
         IsWhole result → (result ≡ status_of ending) × (K.holds sink.new ≡ with_given output (K.holds sink.old)) }
     // A sink that has a fault holds the first bytes of the output.
     ensures first { result ≡ Status.WriteFault → IsAnswered (command_of words.now) (S.left source.old)
         (λ output ending. TookFirst (K.holds sink.old) (K.holds sink.new) output) }
-    ensures first_only { (bytes output : List ℕ) (ending : Ending) → S.left source.old ≡ Some bytes → Gives (command_of words.now) bytes output ending →
+    ensures first_only { (bytes output : List ℕ) (ending : Ending) → IsTold (command_of words.now) bytes (S.left source.old) → Gives (command_of words.now) bytes output ending →
         result ≡ Status.WriteFault → TookFirst (K.holds sink.old) (K.holds sink.new) output }
     // Nothing but want of memory keeps an input in the grammar from its output where no stream has a fault.
-    ensures complete { (bytes output : List ℕ) (ending : Ending) → S.left source.old ≡ Some bytes → Gives (command_of words.now) bytes output ending →
+    ensures complete { (bytes output : List ℕ) (ending : Ending) → IsTold (command_of words.now) bytes (S.left source.old) → Gives (command_of words.now) bytes output ending →
         length bytes ≤ INPUT_LIMIT →
         (Rose (S.failures source.old) (S.failures source.new) → ⊥) → (Rose (K.failures sink.old) (K.failures sink.new) → ⊥) →
         (result ≡ status_of ending) ⊎ (result ≡ Status.NoMemory) }
@@ -90,6 +95,7 @@ fn run<B: Recorded, S: Source, K: Sink>(
     sink: &mut K,
 ) -> Status
     ensures run { IsRun command (S.left source.old) (S.left source.new) (K.holds sink.old) (K.holds sink.new) result }
+    ensures unread { reads (Some command) ≡ false → source.new ≡ source.old }
     ensures unwritten { IsUnwritten result → sink.new ≡ sink.old }
     ensures read_fault { result ≡ Status.ReadFault → Rose (S.failures source.old) (S.failures source.new) }
     ensures write_fault { result ≡ Status.WriteFault → Rose (K.failures sink.old) (K.failures sink.new) }
@@ -112,11 +118,31 @@ fn read_output<B: Recorded, S: Source>(
     source: &mut S,
 ) -> Result<Output, Status>
     ensures taken { IsTakenTo command (S.left source.old) (S.left source.new) result }
+    ensures unread { reads (Some command) ≡ false → source.new ≡ source.old }
     ensures read_fault { result ≡ Err Status.ReadFault → Rose (S.failures source.old) (S.failures source.new) }
     ensures never_falls { S.failures source.old ≤ S.failures source.new }
 {
-    let bytes = read_all(alloc, source, INPUT_LIMIT)?;
+    let bytes = read_input(alloc, command, source)?;
     reply::<B>(alloc, command, &bytes)
+}
+
+// All that the source has, or nothing where the command has no input.
+fn read_input<S: Source>(
+    alloc: Global,
+    command: Command,
+    source: &mut S,
+) -> Result<Vec<u8>, ReadFault>
+    ensures all { IfOk result (λ bytes. IsAllRead command bytes.items (S.left source.new)) }
+    ensures unread { reads (Some command) ≡ false → source.new ≡ source.old }
+    ensures taken { (taken : List ℕ) × (S.left source.old ≡ behind taken (S.left source.new)) × IsRead result INPUT_LIMIT taken × (reads (Some command) ≡ false → taken ≡ []) }
+    ensures failed { result ≡ Err ReadFault.Failed → Rose (S.failures source.old) (S.failures source.new) }
+    ensures never_falls { S.failures source.old ≤ S.failures source.new }
+{
+    if command.reads() {
+        read_all(alloc, source, INPUT_LIMIT)
+    } else {
+        Ok(Vec::new(alloc))
+    }
 }
 
 // The command's output for its whole input.
@@ -135,6 +161,13 @@ fn reply<B: Recorded>(alloc: Global, command: Command, bytes: &[u8]) -> Result<O
         Command::Check => {
             let verdict = check::<B>(alloc, bytes)?;
             Ok(output_of(alloc, &verdict)?)
+        }
+        Command::Gen { number } => {
+            let text = generate(alloc, number, SCRIPT_LENGTH)?;
+            Ok(Output {
+                text,
+                ending: Ending::Fine,
+            })
         }
     }
 }

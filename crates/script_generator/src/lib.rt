@@ -1,0 +1,202 @@
+//! Scripts that are drawn from a number.
+//!
+//! `generate` writes the script that stands for a number: a pool, a group, a timer and a few work
+//! objects, and four clients that submit, wait, let time pass and close the group at the end. The same
+//! number gives the same script, byte for byte. What is drawn, and what is written with it, is
+//! `generated` of `specs/Scripts`.
+//!
+//! ```text
+//! generate(alloc, 7, 64)?     // b"pool p max 3 min 0\ngroup g\n.."
+//! ```
+
+#![tactic(auto)]
+
+ghost use Rattle.std.specs.Prelude.{◌≡◌, ◌≤◌, IfOk, string_bytes};
+ghost use Rattle.script_generator.specs.Scripts.{client_line, generated, last_client, most_of, pool_line, priority_word, work_line};
+
+use std::alloc::{AllocError, Global};
+use std::marker::Model;
+
+/// How many clients are drawn.
+const DRAWN_CLIENTS: u32 = 3;
+
+/// The script of a number. Each of its three drawn clients has `length` lines, from 1 to 10,000.
+///
+/// `AllocError` comes where memory was refused.
+#[tactic(auto, unfolding(crate::specs::Scripts::generated))]
+pub fn generate(alloc: Global, number: u64, length: u32) -> Result<Vec<u8>, AllocError>
+    requires { (1 ≤ length) × (length ≤ 10000) }
+    ensures { IfOk result (λ text. text.items ≡ generated number length) }
+{
+    let mut script = Generator::new(alloc, number);
+    script.head(alloc)?;
+    script.body(alloc, length)?;
+    Ok(script.text)
+}
+
+/// A script that is being written.
+#[derive(Drop)]
+struct Generator {
+    state: u64,
+    text: Vec<u8>,
+}
+
+impl Model for Generator {
+    ghost use Rattle.script_generator.specs.Scripts.{Generated};
+
+    ghost Value = { Generated };
+
+    ghost view = { λ g. record { state = g.state; text = g.text.items } };
+}
+
+impl Generator {
+    ghost use Rattle.std.specs.Prelude.{◌≡◌, ◌<◌, ◌≤◌, [], OnOk};
+    ghost use Rattle.script_generator.specs.Scripts.{draw_of, drawn, with_body, with_client, with_head, with_line, with_text, with_work};
+
+    // Nothing is drawn and nothing is written.
+    fn new(alloc: Global, number: u64) -> Self
+        ensures { result ≡ record { state = number; text = [] } }
+    {
+        Generator {
+            state: number,
+            text: Vec::new(alloc),
+        }
+    }
+
+    // Draws a number below this one.
+    fn draw(&mut self, below: u64) -> u64
+        requires { 0 < below }
+        ensures state { self.new ≡ record self.old { state = drawn self.old.state } }
+        ensures value { result ≡ draw_of (drawn self.old.state) below }
+        ensures below { result < below }
+    {
+        self.state = self
+            .state
+            .wrapping_mul(6_364_136_223_846_793_005)
+            .wrapping_add(1_442_695_040_888_963_407);
+        (self.state >> 33) % below
+    }
+
+    // Writes a text.
+    fn put(&mut self, text: &str) -> Result<(), AllocError>
+        ensures { OnOk result (self.new ≡ with_text text.now self.old) }
+    {
+        self.text.extend_from_slice(text.as_bytes())
+    }
+
+    // Writes the pool, the group and the timer.
+    fn head(&mut self, alloc: Global) -> Result<(), AllocError>
+        ensures { OnOk result (self.new ≡ with_head self.old) }
+    {
+        let most = 1 + self.draw(4);
+        let line = pool_text(alloc, most)?;
+        self.put(line.as_str())?;
+        self.put("group g\ntimer t tick in p group g cancel gone\n")
+    }
+
+    // Writes all that stands behind them.
+    fn body(&mut self, alloc: Global, length: u32) -> Result<(), AllocError>
+        ensures { OnOk result (self.new ≡ with_body length self.old) }
+    {
+        let works = 4 + self.draw(5);
+        for index in 0..works {
+            self.work(alloc, index + 1)?;
+        }
+        self.put("routine body\ndone\nroutine tick\ndone\nroutine gone\ndone\n")?;
+        for _ in 0..DRAWN_CLIENTS {
+            self.client(alloc, works, length)?;
+        }
+        let last = last_text(alloc, length)?;
+        self.put(last.as_str())
+    }
+
+    // Writes a work object.
+    fn work(&mut self, alloc: Global, number: u64) -> Result<(), AllocError>
+        ensures { OnOk result (self.new ≡ with_work number self.old) }
+    {
+        let priority = priority(self.draw(3));
+        let line = work_text(alloc, number, priority)?;
+        self.put(line.as_str())
+    }
+
+    // Writes a client of so many lines.
+    fn client(&mut self, alloc: Global, works: u64, length: u32) -> Result<(), AllocError>
+        requires { (0 < works) × (works ≤ 8) }
+        ensures { OnOk result (self.new ≡ with_client works length self.old) }
+    {
+        self.put("client\n")?;
+        for _ in 0..length {
+            self.line(alloc, works)?;
+        }
+        self.put("done\n")
+    }
+
+    // Writes a line of a client.
+    fn line(&mut self, alloc: Global, works: u64) -> Result<(), AllocError>
+        requires { (0 < works) × (works ≤ 8) }
+        ensures { OnOk result (self.new ≡ with_line works self.old) }
+    {
+        let kind = self.draw(8);
+        let number = 1 + self.draw(most(works, kind));
+        let text = client_text(alloc, kind, number)?;
+        self.put(text.as_str())
+    }
+}
+
+// The word of a drawn priority.
+fn priority(draw: u64) -> &'static str
+    ensures { result.now ≡ priority_word draw }
+{
+    if draw == 0 {
+        "high"
+    } else if draw == 1 {
+        "normal"
+    } else {
+        "low"
+    }
+}
+
+// What the number of a client's line is drawn below.
+fn most(works: u64, kind: u64) -> u64
+    ensures { result ≡ most_of works kind }
+{
+    if kind < 7 { works } else { 1000 }
+}
+
+// A line of a client, by what was drawn for it.
+fn client_text(alloc: Global, kind: u64, number: u64) -> Result<String, AllocError>
+    ensures { IfOk result (λ text. string_bytes text ≡ client_line kind number) }
+{
+    if kind < 5 {
+        format!(in alloc; "submit w{number}\n")
+    } else if kind == 5 {
+        format!(in alloc; "wait w{number} keep\n")
+    } else if kind == 6 {
+        format!(in alloc; "wait w{number} cancel\n")
+    } else {
+        format!(in alloc; "advance {number}\n")
+    }
+}
+
+// The line of the pool.
+fn pool_text(alloc: Global, most: u64) -> Result<String, AllocError>
+    ensures { IfOk result (λ text. string_bytes text ≡ pool_line most) }
+{
+    format!(in alloc; "pool p max {most} min 0\n")
+}
+
+// The line of a work object.
+fn work_text(alloc: Global, number: u64, priority: &str) -> Result<String, AllocError>
+    ensures { IfOk result (λ text. string_bytes text ≡ work_line number priority.now) }
+{
+    format!(in alloc; "work w{number} body in p priority {priority} group g cancel gone\n")
+}
+
+// The last client.
+fn last_text(alloc: Global, length: u32) -> Result<String, AllocError>
+    ensures { IfOk result (λ text. string_bytes text ≡ last_client length) }
+{
+    format!(in alloc;
+        "client\nset-timer t -500 1 0\ntimes {length} advance 1\nclose-members g cancel 7\ndone\n"
+    )
+}
