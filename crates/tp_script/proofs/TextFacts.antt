@@ -1,9 +1,9 @@
 -- The lines of a text, and the words of a line.
-use Rattle.std.proofs.Common.{◌≡◌, ℕ, suc, ◌+◌, ◌<◌, Bool, true, false, IsTrue, List, [], ◌∷◌, ◌++◌, length, nat_eq, refl, sym, ap, ◌∙◌, subst, arith, if◌then◌else◌}
+use Rattle.std.proofs.Common.{◌≡◌, ℕ, suc, ◌+◌, Bool, true, false, IsTrue, List, [], ◌∷◌, ◌++◌, length, nat_eq, refl, sym, ap, ◌∙◌, subst, arith, if◌then◌else◌}
 use Rattle.std.proofs.lemmas.Bool.{true≢false}
 use Rattle.line_grammar.specs.Parts.{Opens}
 use Rattle.line_grammar.specs.Words.{lacks}
-use Rattle.tp_script.specs.Texts.{Spot, begins_with_space, ends_word, lengthened, lines_of, push_first, without_first, words_from}
+use Rattle.tp_script.specs.Texts.{begins_with_space, ends_word, lengthened, lines_of, push_first, without_first, words_from}
 
 -- the first line, and the lines behind it
 pub first_line : (line rest : List ℕ) → IsTrue (lacks 10 line) → Opens 10 rest → (line ++ rest ≡ [] → ⊥) → lines_of (line ++ rest) ≡ line ∷ lines_of (without_first rest)

@@ -1,11 +1,9 @@
 -- What a word says in its field.
-use Rattle.std.proofs.Common.{◌≡◌, ℕ, ℤ, ◌<◌, ◌≤◌, ◌^◌, List, ◌∷◌, Option, Some, None, MatchOption, codes, length, refl, sym, ap, ◌∙◌, subst, arith}
-use Rattle.line_grammar.specs.Language.{AnyOf, IsReadTo, IsStuck}
+use Rattle.std.proofs.Common.{◌≡◌, ℕ, ℤ, ◌<◌, ◌^◌, List, Option, Some, None, MatchOption, codes, sym, arith}
+use Rattle.line_grammar.specs.Language.{AnyOf}
 use Rattle.line_grammar.specs.Numbers.{Numbers, Signed}
-use Rattle.line_grammar.proofs.NumberFacts.{numbers_part, signed_first, signed_unique}
-use Rattle.line_grammar.proofs.Readings.{longer_text, stuck_text, whole_text}
+use Rattle.line_grammar.proofs.NumberFacts.{numbers_part, signed_first}
 use Rattle.tp_script.specs.declared.line.Token.{Token}
-use Rattle.tp_script.specs.declared.line.Token.TheVariants as token
 use Rattle.tp_script.specs.Tokens.{IsDueToken, IsNumberToken}
 
 -- what a function found is all that is found

@@ -1,8 +1,7 @@
 -- A text is one script at most, has one first fault at most, and not both.
-use Rattle.std.proofs.Common.{◌≡◌, ℕ, ◌+◌, ◌<◌, ◌^◌, Bool, true, false, List, [], ◌∷◌, Option, Some, None, Err, length, refl, sym, ap, ◌∙◌, subst, arith, rules, ◌⊎◌, inl, inr, decimal}
+use Rattle.std.proofs.Common.{◌≡◌, ℕ, ◌+◌, ◌<◌, ◌^◌, true, false, List, [], ◌∷◌, Option, Some, None, Err, length, sym, ap, ◌∙◌, subst, arith, inl, inr}
 use Rattle.std.proofs.lemmas.Bool.{true≢false}
-use Rattle.line_grammar.specs.Numbers.{Numbers, Signed}
-use Rattle.line_grammar.specs.Words.{Optional}
+use Rattle.line_grammar.specs.Numbers.{Signed}
 use Rattle.line_grammar.proofs.NumberFacts.{numbers_part, signed_unique}
 use Rattle.tp_script.specs.declared.judge.Known.{Known}
 use Rattle.tp_script.specs.declared.fault.ScriptFault.{ScriptFault}
@@ -17,11 +16,11 @@ use Rattle.tp_script.specs.declared.line.Token.TheVariants as token
 use Rattle.tp_script.specs.declared.words.Field.{Field}
 use Rattle.tp_script.specs.declared.words.Field.TheVariants as field
 use Rattle.tp_script.specs.Lines.{form_of, may_end}
-use Rattle.tp_script.specs.Readings.{Fails, Goes, IsLineRead, Steps, StepsBy, Trail, first_trail, moved}
+use Rattle.tp_script.specs.Readings.{Fails, Goes, IsLineRead, StepsBy, Trail, first_trail, moved}
 use Rattle.tp_script.specs.Scripts.{Faults, IsFaultIn, IsScript, Reads, first_known, known_after, words_of}
 use Rattle.tp_script.specs.States.{is_inside}
-use Rattle.tp_script.specs.Texts.{Spot, is_blank, lines_of}
-use Rattle.tp_script.specs.Tokens.{Fits, FitsForm, IsDueToken}
+use Rattle.tp_script.specs.Texts.{Spot, lines_of}
+use Rattle.tp_script.specs.Tokens.{FitsForm, IsDueToken}
 use Rattle.tp_script.proofs.TokenFacts.{due_apart}
 
 -- numbers of a form are of 64 bits

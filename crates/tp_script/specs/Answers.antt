@@ -1,5 +1,5 @@
 -- What the reading of a script answers.
-use Rattle.std.specs.Prelude.{◌≡◌, ℕ, ◌+◌, true, false, List, [], ◌∷◌, ◌++◌, Result, Ok, Err, ◌⊎◌}
+use Rattle.std.specs.Prelude.{◌≡◌, ℕ, true, false, List, [], ◌∷◌, ◌++◌, Result, Ok, Err, ◌⊎◌}
 use Rattle.tp_script.specs.declared.judge.Known.{Known}
 use Rattle.tp_script.specs.declared.line.Line.{Line}
 use Rattle.tp_script.specs.declared.fault.ScriptFault.{ScriptFault}

@@ -1,5 +1,5 @@
 -- The calls that the lines of a script make.
-use Rattle.std.specs.Prelude.{ℕ, ◌+◌, ◌-◌, Bool, true, false, List, [], ◌∷◌, Option, Some, None, min, nat_eq, nat_le, nat_lt, slice_index, ◌&&◌, if◌then◌else◌}
+use Rattle.std.specs.Prelude.{ℕ, ◌+◌, ◌-◌, Bool, true, false, List, Option, Some, None, nat_eq, nat_le, nat_lt, slice_index, ◌&&◌, if◌then◌else◌}
 use Rattle.tp_base.specs.Ranges.{count_most}
 use Rattle.tp_base.specs.Timers.{clock_end}
 use Rattle.tp_base.specs.declared.answers.ActionKind.{ActionKind}

@@ -1,5 +1,5 @@
 -- The calls of a script's parts, one after another.
-use Rattle.std.specs.Prelude.{◌≡◌, ℕ, ◌+◌, ◌-◌, Bool, true, false, List, [], ◌∷◌, ◌++◌, Option, Some, None, fold, length, nat_eq, nat_le, nat_lt, option_and_then, replicate, slice_get, slice_set, ◌&&◌, if◌then◌else◌}
+use Rattle.std.specs.Prelude.{ℕ, ◌+◌, ◌-◌, Bool, true, false, List, [], ◌∷◌, ◌++◌, Option, Some, None, fold, length, nat_eq, nat_le, nat_lt, option_and_then, replicate, slice_get, slice_set, ◌&&◌, if◌then◌else◌}
 use Rattle.tp_base.specs.declared.answers.Answer.{Answer}
 use Rattle.tp_base.specs.declared.answers.Answer.TheVariants as answer
 use Rattle.tp_base.specs.declared.calls.Call.{Call}

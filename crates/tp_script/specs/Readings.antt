@@ -1,5 +1,5 @@
 -- How the words of a line are read one after another, and the first that may not stand where it stands.
-use Rattle.std.specs.Prelude.{◌≡◌, ℕ, ◌+◌, Bool, true, false, List, [], ◌∷◌, length, ◌⊎◌}
+use Rattle.std.specs.Prelude.{◌≡◌, ℕ, ◌+◌, true, false, List, [], ◌∷◌, length, ◌⊎◌}
 use Rattle.tp_script.specs.declared.judge.Known.{Known}
 use Rattle.tp_script.specs.declared.fault.ScriptKind.{ScriptKind}
 use Rattle.tp_script.specs.declared.fault.ScriptKind.TheVariants.{Unexpected}

@@ -9,7 +9,6 @@ use Rattle.tp_script.specs.declared.fault.ScriptKind.TheVariants.{Unexpected, Un
 use Rattle.tp_script.specs.declared.line.Form.{Form}
 use Rattle.tp_script.specs.declared.line.Form.TheVariants as form
 use Rattle.tp_script.specs.declared.line.Line.{Line}
-use Rattle.tp_script.specs.declared.line.Meaning.{Meaning}
 use Rattle.tp_script.specs.declared.line.Token.{Token}
 use Rattle.tp_script.specs.declared.line.Token.TheVariants as token
 use Rattle.tp_script.specs.declared.state.Place.{Place}

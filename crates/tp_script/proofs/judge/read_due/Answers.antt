@@ -1,12 +1,10 @@
-use Rattle.std.proofs.Common.{◌≡◌, ◌<◌, ◌≤◌, ℤ, Some, None, codes, length, refl, sym, ap, subst, arith, rules, take, w64, ◌∙◌}
+use Rattle.std.proofs.Common.{Some, None, refl, sym, subst, arith, ◌∙◌}
 use Rattle.std.proofs.lemmas.Bool.{true≢false}
 use Rattle.std.proofs.lemmas.Int.{ints, to_z-of_z}
 use Rattle.std.proofs.lemmas.List.{take_all}
 use Rattle.std.proofs.lemmas.Slice.Eq.{bytes_eq-Decides}
 use Rattle.line_grammar.specs.Numbers.{Signed}
 use Rattle.line_grammar.proofs.Readings.{longer_text, stuck_text}
-use Rattle.tp_script.specs.declared.line.Token.{Token}
-use Rattle.tp_script.specs.declared.line.Token.TheVariants as token
 use Rattle.tp_script.proofs.TokenFacts.{no_due}
 use Rattle.tp_script.proofs.judge.read_due.Goals as goal
 

@@ -1,4 +1,4 @@
-use Rattle.std.proofs.Common.{◌≡◌, ◌<◌, ◌≤◌, length, refl, sym, subst, arith, take}
+use Rattle.std.proofs.Common.{refl, subst, arith}
 use Rattle.std.proofs.lemmas.List.{take_all}
 use Rattle.line_grammar.specs.Numbers.{Numbers}
 use Rattle.line_grammar.proofs.Readings.{longer_text, stuck_text}

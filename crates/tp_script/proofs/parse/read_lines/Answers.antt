@@ -1,4 +1,4 @@
-use Rattle.std.proofs.Common.{ℕ, List, [], ◌∷◌, refl, sym, subst, ◌∙◌, arith}
+use Rattle.std.proofs.Common.{ℕ, List, [], refl, sym, subst, ◌∙◌, arith}
 use Rattle.std.proofs.lemmas.List.{append-nil}
 use Rattle.tp_script.specs.declared.line.Line.{Line}
 use Rattle.tp_script.specs.Scripts.{Faults, Reads, first_known}

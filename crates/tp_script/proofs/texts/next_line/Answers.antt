@@ -1,7 +1,6 @@
-use Rattle.std.proofs.Common.{◌≡◌, ◌++◌, [], ◌∷◌, List, ℕ, take, drop, length, sym, ap, ◌∙◌, subst, arith}
+use Rattle.std.proofs.Common.{◌≡◌, [], ◌∷◌, List, ℕ, take, drop, length, sym, ap, ◌∙◌}
 use Rattle.std.proofs.lemmas.Bool.{eqb-false}
 use Rattle.std.proofs.lemmas.List.{take-append-drop}
-use Rattle.line_grammar.specs.Parts.{Opens}
 use Rattle.tp_script.specs.Texts.{lines_of, without_first}
 use Rattle.tp_script.proofs.TextFacts.{first_line}
 use Rattle.tp_script.proofs.texts.next_line.Goals as goal
