@@ -1,4 +1,4 @@
-//! Tests of the crates that need no machine: of `tp_lines` and what it stands on, of the crates under the live
+//! Tests of the crates that need no machine: of `tp_lines` and what it stands on, of `tp_script`, of the crates under the live
 //! world and of those beside it. They have a crate of their own, since a crate that has tests is proved again
 //! for them.
 //!
@@ -41,6 +41,8 @@ mod operations;
 mod pools;
 #[cfg(test)]
 mod queues;
+#[cfg(test)]
+mod scripts;
 #[cfg(test)]
 mod table;
 #[cfg(test)]

@@ -1,0 +1,299 @@
+//! Scripts: which texts are one, the place and kind of the first fault of the others, and the calls of their parts.
+
+use crate::checks::{expect_eq, expect_ok};
+use std::alloc::{AllocError, Global};
+use std::process::Abort;
+use tp_base::answers::Entry;
+use tp_base::ids::RoutineId;
+use tp_lines::parse::parse_entry;
+use tp_lines::print::print_entry;
+use tp_script::{Part, Progress, Routines, Script, ScriptFault, parse_script};
+
+// What is told of a text stands before it, with `--` between each two: one text, which costs the check the same however
+// long it is.
+const TEXTS: &str = "2 clients
+
+# nothing but a comment, a line of spaces and a client
+   \n
+  client \n  done
+--
+2 6 NameTwice
+pool p
+pool p
+--
+1 clients
+pool aaaaaaaaaaaaaaaaaaaaaaaaaaaaaaaa
+--
+1 6 Unexpected
+pool aaaaaaaaaaaaaaaaaaaaaaaaaaaaaaaaa
+--
+2 1 Unclosed
+client
+--
+31 1 TooMany
+client
+done
+client
+done
+client
+done
+client
+done
+client
+done
+client
+done
+client
+done
+client
+done
+client
+done
+client
+done
+client
+done
+client
+done
+client
+done
+client
+done
+client
+done
+client
+done
+--
+5 7 Unexpected
+work w r
+routine r
+done
+client
+times 10001 submit w
+done
+--
+5 7 Unexpected
+work w r
+routine r
+done
+client
+wait w
+done
+--
+5 8 WrongName
+work w r
+routine r
+done
+client
+submit r
+done
+--
+5 1 Unexpected
+work w r
+routine r
+done
+client
+may-run-long
+done
+--
+1 8 UnknownName
+work w nothere
+--
+1 8 UnknownName
+work w w
+--
+1 24 Unexpected
+work w r priority high in p
+routine r
+done
+--
+2 9 NameTwice
+event r manual clear
+routine r
+done
+--
+1 15 Unexpected
+semaphore s 2 1
+--
+8 11 UnknownName
+event e auto set
+routine r
+let a work r
+submit a
+done
+routine s
+ set-event e
+  submit  a
+done
+--
+4 17 Unexpected
+mutex m
+semaphore s 0 1
+routine r
+  on-return m   1
+done
+--
+6 12 WrongName
+pool p
+group g
+routine r
+done
+client
+close-pool g
+done
+--
+2 6 Unexpected
+routine r
+done x
+--
+1 6 Unexpected
+pool none
+--
+3 5 NameTwice
+routine r
+let w work r
+let w work r
+done
+--
+3 19 Unexpected
+group g
+routine r
+let w work r long context 1
+done
+--
+2 12 Unexpected
+pool p max 1 min 0
+pool q max 4294967296";
+
+#[test]
+fn faults_stand_at_the_first_word_that_may_not(rt: HostRuntime) {
+    for case in TEXTS.split("\n--\n") {
+        let (wanted, text) = expect_ok(&rt, case.split_once('\n').ok_or(case));
+        expect_told(&rt, rt.alloc(), wanted, text);
+    }
+}
+
+fn expect_told(rt: &impl Abort, alloc: Global, wanted: &str, text: &str) {
+    let told = expect_ok(rt, told_of(alloc, text));
+    expect_eq(rt, (text, told.as_str()), (text, wanted));
+}
+
+// How many clients the script has, or the place and kind of its first fault.
+fn told_of(alloc: Global, text: &str) -> Result<String, AllocError> {
+    if text.len() > 1_000 {
+        return format!(in alloc; "too long");
+    }
+    match parse_script(alloc, text.as_bytes()) {
+        Ok(script) => format!(in alloc; "{} clients", script.clients()),
+        Err(ScriptFault::NoMemory) => format!(in alloc; "no memory"),
+        Err(ScriptFault::At { line, column, kind }) => {
+            format!(in alloc; "{line} {column} {kind:?}")
+        }
+    }
+}
+
+// A server that stops, and then what its parts make: each call with an answer that the machine may give.
+const SERVER: &str = "# a server that stops
+pool p max 3 min 1
+group g
+event stop manual clear
+work request serve in p group g cancel dropped
+timer beat tick in p priority high group g cancel dropped
+wait halt stopped in p group g cancel dropped
+routine serve
+  may-run-long
+  let more work dropped context 9 long
+  submit more
+  on-return stop
+done
+routine tick
+done
+routine stopped
+done
+routine dropped
+done
+client
+  times 2 submit request
+done
+client
+  set-timer beat -100000 10 0
+  set-wait halt stop none
+  times 2 advance 50000
+  set-event stop
+  acquire stop
+  wait halt keep
+  close-members g cancel 1
+  close-group g
+  close-pool p
+done
+";
+
+const SET_UP: &str = "c1 create-pool -> made 1
+c1 set-maximum 1 3 -> ok
+c1 set-minimum 1 1 -> ok
+c1 create-group -> made 1
+c1 create-event manual clear -> made 1
+c1 create work r1 x0 p1 normal short g1 q4 -> made 1
+c1 create timer r2 x0 p1 high short g1 q4 -> made 2
+c1 create wait r3 x0 p1 normal short g1 q4 -> made 3";
+
+const REQUESTS: &str = "c2 submit 1 -> queued 1 1
+c2 submit 1 -> refused released";
+
+const STOP: &str = "c3 set-timer 2 -100000 10 0 -> was no 0 0
+c3 set-wait 3 1 none -> queued 0 0
+c3 advance 50000 -> advanced 50000 0 0
+c3 advance 50000 -> advanced 100000 3 1
+c3 set-event 1 -> queued 4 1
+c3 acquire 1 -> ok
+c3 end -> ended
+c3 wait wait 3 keep -> refused released
+c3 close-members 1 cancel y1 -> closing 1 1 1
+c3 end -> notice o1 r4 x0 y1
+c3 end -> exhausted
+c3 close-group 1 -> ok
+c3 close-pool 1 -> freed";
+
+const SERVE: &str = "w1 may-run-long -> flag yes
+w1 create work r4 x9 p0 normal long g0 q0 -> made 4
+w1 submit 4 -> queued 5 1
+w1 on-return event 1 1 -> ok";
+
+#[test]
+fn parts_make_the_calls_of_their_lines(rt: HostRuntime) {
+    let script = expect_ok(&rt, parse_script(rt.alloc(), SERVER.as_bytes()));
+    expect_eq(&rt, script.clients(), 3);
+    expect_part(&rt, rt.alloc(), &script, Part::Client(1), SET_UP);
+    expect_part(&rt, rt.alloc(), &script, Part::Client(2), REQUESTS);
+    expect_part(&rt, rt.alloc(), &script, Part::Client(3), STOP);
+    expect_part(&rt, rt.alloc(), &script, Part::Client(4), "");
+    expect_part(&rt, rt.alloc(), &script, Part::Routine(RoutineId(1)), SERVE);
+    expect_part(&rt, rt.alloc(), &script, Part::Routine(RoutineId(4)), "");
+}
+
+// Behind the answers of these entries the part makes their calls, and no further one.
+fn expect_part(rt: &impl Abort, alloc: Global, script: &Script, part: Part, entries: &str) {
+    let mut at = Progress::first();
+    for line in entries.split('\n') {
+        if !line.is_empty() {
+            expect_entry(rt, alloc, script, part, &mut at, line);
+        }
+    }
+    expect_eq(rt, script.next(part, &at).is_none(), true);
+}
+
+fn expect_entry(
+    rt: &impl Abort,
+    alloc: Global,
+    script: &Script,
+    part: Part,
+    at: &mut Progress,
+    line: &str,
+) {
+    let Entry { who, answer, .. } = expect_ok(rt, parse_entry(line.as_bytes()));
+    let call = expect_ok(rt, script.next(part, at).ok_or(line));
+    let mut out = Vec::new(alloc);
+    expect_ok(rt, print_entry(&Entry { who, call, answer }, &mut out));
+    expect_eq(rt, out.as_slice(), line.as_bytes());
+    script.after(part, at, answer);
+}

@@ -1,0 +1,6 @@
+mod NameFacts
+mod Parsing
+mod Places
+mod TextFacts
+mod TokenFacts
+mod Unique

@@ -1,0 +1,11 @@
+use Rattle.std.proofs.Common.{sym, subst}
+use Rattle.tp_script.specs.Scripts.{IsScript}
+use Rattle.tp_script.proofs.Unique.{one_script, only_fault}
+use Rattle.tp_script.proofs.script.parse_script.Goals as goal
+
+pub returns-in-Err-clause-only : goal.returns-in-Err-clause-only
+returns-in-Err-clause-only c = only_fault c.args.bytes.now c.in-Err.fault c.in-Err.ensures.place
+
+pub returns-in-Ok-new-clause-only : goal.returns-in-Ok-new-clause-only
+returns-in-Ok-new-clause-only c lines script =
+    one_script c.args.bytes.now c.in-Ok-new.script lines (subst (IsScript c.args.bytes.now) (sym c.in-Ok-new.ensures) c.in-Ok.ensures.place) script

@@ -1,0 +1,31 @@
+-- What the reading of a script answers.
+use Rattle.std.specs.Prelude.{◌≡◌, ℕ, true, false, List, [], ◌∷◌, ◌++◌, Result, Ok, Err, ◌⊎◌}
+use Rattle.tp_script.specs.declared.judge.Known.{Known}
+use Rattle.tp_script.specs.declared.line.Line.{Line}
+use Rattle.tp_script.specs.declared.fault.ScriptFault.{ScriptFault}
+use Rattle.tp_script.specs.declared.fault.ScriptFault.TheVariants.{NoMemory, At}
+use Rattle.tp_script.specs.Readings.{IsLineFault, IsLineRead}
+use Rattle.tp_script.specs.Scripts.{IsFaultIn, known_after, words_of}
+use Rattle.tp_script.specs.Texts.{is_blank}
+
+-- the fault is that of the text, or memory was refused
+abbrev pub IsScriptFault : List ℕ → ScriptFault → Type 0
+IsScriptFault text NoMemory = Unit {0}
+IsScriptFault text (At line column kind) = IsFaultIn text line column kind
+
+-- the answer is the script of these lines, or memory was refused
+abbrev pub IsThat : List Line → Result (List Line) ScriptFault → Type 0
+IsThat lines (Ok script) = script ≡ lines
+IsThat lines (Err NoMemory) = Unit {0}
+IsThat lines (Err (At line column kind)) = ⊥
+
+-- one more text was read: it is blank, or a line
+abbrev pub IsAdded : Known → List Line → List ℕ → Known → List Line → Type 0
+IsAdded known lines text next more =
+    ((is_blank (words_of text) ≡ true) × (more ≡ lines) × (next ≡ known))
+    ⊎ ((is_blank (words_of text) ≡ false) × ((line : Line) × (name : List ℕ) × IsLineRead known (words_of text) line name × (more ≡ lines ++ line ∷ []) × (next ≡ known_after known line name)))
+
+-- one more text is no line in its place, or memory was refused
+abbrev pub IsLineFaultAt : Known → ℕ → List ℕ → ScriptFault → Type 0
+IsLineFaultAt known number text NoMemory = Unit {0}
+IsLineFaultAt known number text (At line column kind) = (line ≡ number) × (is_blank (words_of text) ≡ false) × IsLineFault known (words_of text) column kind

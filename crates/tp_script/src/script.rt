@@ -1,0 +1,314 @@
+//! A script, whose parts are read from its lines.
+
+ghost use Rattle.std.specs.Prelude.{◌≡◌, ◌+◌, ◌<◌, ◌≤◌, ◌^◌, ◌++◌, ◌∷◌, [], IfOk, IfSome, ℕ, List, IfErr, OnOk, if◌then◌else◌, length, vec_len};
+ghost use Rattle.tp_script.specs.declared.fault.ScriptKind.{ScriptKind};
+ghost use Rattle.tp_script.specs.declared.line.Line.{Line};
+ghost use Rattle.tp_script.specs.Answers.{IsScriptFault, IsThat};
+ghost use Rattle.tp_script.specs.Scripts.{IsFaultIn, IsScript, is_local};
+ghost use Rattle.tp_base.specs.Ranges.{IsCallInRange};
+ghost use Rattle.tp_script.specs.Calls.{IsOfPart};
+ghost use Rattle.tp_script.specs.Nexts.{acting, call_at, clients_of, is_end, is_refusal, line_after, line_at, noted, number_in, numbered_place, opens, place_of, places_behind, stepped, waited, with_local};
+
+use crate::calls::{acts, begins_wait, call_of, calls_in};
+use crate::fault::ScriptFault;
+use crate::line::Line;
+use crate::parse::{is_local, read_lines};
+use crate::routines::{Part, Progress, Routines};
+use crate::words::Word;
+use std::alloc::{AllocError, Global};
+use std::marker::Model;
+use tp_base::answers::Answer;
+use tp_base::calls::Call;
+
+/// What a part of a script begins with.
+#[derive(Clone, Copy)]
+pub enum Opening {
+    Client,
+    Routine,
+}
+
+/// A script: its lines, and where its clients and routines begin.
+#[derive(Drop)]
+pub struct Script {
+    lines: Vec<Line>,
+    clients: Vec<u32>,
+    routines: Vec<u32>,
+}
+
+impl Model for Script {
+    ghost use Rattle.std.specs.Prelude.{List};
+    ghost use Rattle.tp_script.specs.declared.line.Line.{Line};
+
+    ghost Value = { List Line };
+
+    ghost use Rattle.tp_script.specs.Kept.{IsKept};
+
+    ghost view = { λ script. script.lines.items };
+
+    ghost invariant = { λ script. IsKept script.lines.items script.clients.items script.routines.items };
+}
+
+impl Script {
+    /// The script of these lines.
+    ///
+    /// An `AllocError` comes where memory is refused.
+    pub(crate) fn new(alloc: Global, lines: Vec<Line>) -> Result<Script, AllocError>
+        requires { vec_len lines + 1 < 2 ^ 32 }
+        ensures { IfOk result (λ script. script ≡ lines.items) }
+    {
+        let mut first = Vec::new(alloc);
+        first.push(0)?;
+        let clients = add_places(first, &lines, Opening::Client)?;
+        let routines = add_places(Vec::new(alloc), &lines, Opening::Routine)?;
+        Ok(Script {
+            lines,
+            clients,
+            routines,
+        })
+    }
+
+    /// How many clients there are, with the one that makes the declarations: client 1.
+    pub fn clients(&self) -> u32
+        ensures { result ≡ clients_of self.now }
+    {
+        self.clients.len() as u32
+    }
+
+    // The line of a part that is so many lines behind its first, if it makes a call.
+    fn line_at(&self, part: Part, op: u32) -> Option<Line>
+        ensures value { result ≡ line_at self.now part op }
+        ensures small { IfSome result (λ _. op + 1 < 2 ^ 32) }
+    {
+        let place = self.place_of(part)?;
+        let line = self.lines.get(place as usize + op as usize).copied()?;
+        acting(line)
+    }
+
+    fn place_of(&self, part: Part) -> Option<u32>
+        ensures { result ≡ place_of self.now part }
+    {
+        match part {
+            Part::Client(number) => numbered_place(&self.clients, number),
+            Part::Routine(routine) => numbered_place(&self.routines, routine.0),
+        }
+    }
+}
+
+/// Reads a text as a script.
+///
+/// The text is a script exactly where its lines can be read (`IsScript`), and is then the script of these lines. `At` tells
+/// the first fault of any other: its line, the column of the first word that no line here goes on by, or where a word is
+/// lacking, and why. `NoMemory` comes where memory is refused.
+pub fn parse_script(alloc: Global, bytes: &[u8]) -> Result<Script, ScriptFault>
+    requires { length bytes.now + 1 < 2 ^ 32 }
+    ensures ok { IfOk result (IsScript bytes.now) }
+    ensures err { IfErr result (IsScriptFault bytes.now) }
+    ensures only { (lines : List Line) → IsScript bytes.now lines → IsThat lines result }
+{
+    let lines = match read_lines(alloc, bytes) {
+        Ok(lines) => lines,
+        Err(fault) => return Err(fault),
+    };
+    match Script::new(alloc, lines) {
+        Ok(script) => Ok(script),
+        Err(_) => Err(ScriptFault::NoMemory),
+    }
+}
+
+/// A text is one script at most.
+pub fn one_script_a_text()
+    ensures { (text : List ℕ) (lines other : List Line) → IsScript text lines → IsScript text other → lines ≡ other }
+{}
+
+/// A text has one first fault at most.
+pub fn one_fault_a_text()
+    ensures { (text : List ℕ) (line other column place : ℕ) (kind why : ScriptKind) → IsFaultIn text line column kind → IsFaultIn text other place why →
+        (line ≡ other) × (column ≡ place) × (kind ≡ why) }
+{}
+
+/// A script has no fault.
+pub fn no_fault_in_a_script()
+    ensures { (text : List ℕ) (lines : List Line) (line column : ℕ) (kind : ScriptKind) → IsScript text lines → IsFaultIn text line column kind → ⊥ }
+{}
+
+impl Routines for Script {
+    ghost use Rattle.tp_script.specs.Nexts.{next_at, progress_after};
+
+    ghost next_of = { next_at };
+
+    ghost after_of = { progress_after };
+
+    fn next(&self, part: Part, at: &Progress) -> Option<Call> {
+        let line = self.line_at(part, at.op)?;
+        call_at(line, at)
+    }
+
+    fn after(&self, part: Part, at: &mut Progress, answer: Answer) {
+        if let Some(line) = self.line_at(part, at.op) {
+            *at = line_after(line, *at, answer);
+        }
+    }
+}
+
+impl Opening {
+    fn opens(self, head: Word) -> bool
+        ensures { result ≡ opens self head }
+    {
+        match self {
+            Opening::Client => matches!(head, Word::Client),
+            Opening::Routine => matches!(head, Word::Routine),
+        }
+    }
+}
+
+// Adds the places behind the lines that begin such a part.
+fn add_places(
+    mut places: Vec<u32>,
+    lines: &[Line],
+    opening: Opening,
+) -> Result<Vec<u32>, AllocError>
+    requires { length lines.now + 1 < 2 ^ 32 }
+    ensures { IfOk result (λ all. all.items ≡ places.items ++ places_behind opening 0 lines.now) }
+{
+    for (index, line) in lines.iter().enumerate() {
+        add_place(&mut places, index as u32 + 1, opening.opens(line.head))?;
+    }
+    Ok(places)
+}
+
+fn add_place(places: &mut Vec<u32>, place: u32, opens: bool) -> Result<(), AllocError>
+    ensures { OnOk result (places.new.items ≡ places.old.items ++ (if opens then place ∷ [] else [])) }
+{
+    if opens {
+        places.push(place)?;
+    }
+    Ok(())
+}
+
+// The place with this number, counted from 1.
+fn numbered_place(places: &[u32], number: u32) -> Option<u32>
+    ensures { result ≡ numbered_place places.now number }
+{
+    if number == 0 {
+        return None;
+    }
+    places.get(number as usize - 1).copied()
+}
+
+fn acting(line: Line) -> Option<Line>
+    ensures { result ≡ acting line }
+{
+    if acts(line.head) { Some(line) } else { None }
+}
+
+// The end of a wait that was begun, or the next call of the line.
+fn call_at(line: Line, at: &Progress) -> Option<Call>
+    ensures value { result ≡ call_at line at.now }
+    ensures in_range { IfSome result IsCallInRange }
+    ensures of_part { IfSome result IsOfPart }
+{
+    if at.ending {
+        Some(Call::End)
+    } else {
+        call_of(line, at.done, &at.locals)
+    }
+}
+
+// Behind the answer to the line's call.
+fn line_after(line: Line, at: Progress, answer: Answer) -> Progress
+    requires { at.op + 1 < 2 ^ 32 }
+    ensures { result ≡ line_after line at answer }
+{
+    if begins_wait(line.head) {
+        waited(calls_in(line), at, answer)
+    } else {
+        stepped(calls_in(line), noted(line, at, answer))
+    }
+}
+
+// Behind a call that begins a wait, and behind each end that was looked for.
+fn waited(calls: u32, at: Progress, answer: Answer) -> Progress
+    requires { at.op + 1 < 2 ^ 32 }
+    ensures { result ≡ waited calls at answer }
+{
+    if at.ending {
+        if is_end(answer) {
+            stepped(
+                calls,
+                Progress {
+                    ending: false,
+                    ..at
+                },
+            )
+        } else {
+            at
+        }
+    } else if is_refusal(answer) {
+        stepped(calls, at)
+    } else {
+        Progress { ending: true, ..at }
+    }
+}
+
+// Behind one call of a line, which it makes so often.
+fn stepped(calls: u32, at: Progress) -> Progress
+    requires { at.op + 1 < 2 ^ 32 }
+    ensures { result ≡ stepped calls at }
+{
+    if u64::from(at.done) + 1 < u64::from(calls) {
+        Progress {
+            done: at.done + 1,
+            ..at
+        }
+    } else {
+        Progress {
+            op: at.op + 1,
+            done: 0,
+            ..at
+        }
+    }
+}
+
+// A name that the line makes stands for the number in the answer.
+fn noted(line: Line, at: Progress, answer: Answer) -> Progress
+    ensures value { result ≡ noted line at answer }
+    ensures op { result.op ≡ at.op }
+{
+    if is_local(line.head) {
+        let locals = with_local(at.locals, line.made, number_in(answer));
+        Progress { locals, ..at }
+    } else {
+        at
+    }
+}
+
+fn with_local(mut locals: [u64; 32], made: u16, number: u64) -> [u64; 32]
+    ensures { result ≡ with_local locals made number }
+{
+    if 1 <= made && made <= 32 {
+        locals[usize::from(made - 1)] = number;
+    }
+    locals
+}
+
+fn number_in(answer: Answer) -> u64
+    ensures { result ≡ number_in answer }
+{
+    match answer {
+        Answer::Made { number } => u64::from(number),
+        Answer::Operation { callback } => callback,
+        _ => 0,
+    }
+}
+
+fn is_end(answer: Answer) -> bool
+    ensures { result ≡ is_end answer }
+{
+    matches!(answer, Answer::Ended | Answer::Exhausted | Answer::Stalled)
+}
+
+fn is_refusal(answer: Answer) -> bool
+    ensures { result ≡ is_refusal answer }
+{
+    matches!(answer, Answer::Refused(_))
+}
