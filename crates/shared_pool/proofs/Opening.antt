@@ -1,9 +1,9 @@
 -- The seats of a new pool.
-use Rattle.std.proofs.Common.{◌≡◌, ℕ, zero, suc, ◌+◌, ◌-◌, ◌<◌, ◌≤◌, List, [], ◌∷◌, length, get_or, All, Any, refl, sym, ap, ◌∙◌, subst, arith}
+use Rattle.std.proofs.Common.{◌≡◌, ℕ, zero, suc, ◌+◌, ◌-◌, ◌<◌, ◌≤◌, List, [], ◌∷◌, length, get_or, All, Any, refl, sym, ap, ◌∙◌, arith}
 use Rattle.turn_lock.specs.declared.locks.TurnLock.{TurnLock}
 use Rattle.turn_lock.specs.declared.seats.Seat.{Seat}
-use Rattle.turn_lock.specs.Locks.{name_of, setup_of, AreDealt, IsOf}
-use Rattle.turn_lock.specs.Seats.{number_of, IsNew}
+use Rattle.turn_lock.specs.Locks.{setup_of, AreDealt}
+use Rattle.turn_lock.specs.Seats.{number_of}
 use Rattle.shared_pool.specs.declared.pool.SharedPool.{SharedPool}
 use Rattle.shared_pool.specs.Pools.{lock_in, IsPlayer}
 
