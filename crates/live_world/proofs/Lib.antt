@@ -48,3 +48,5 @@ pub mod Due
 pub mod PoolsMade
 pub mod NewRow
 pub mod Operations
+pub mod Over
+pub mod LeftAfter

@@ -1,11 +1,18 @@
--- What of a pool is outstanding.
-use Rattle.std.specs.Prelude.{ℕ, Bool, false, ◌==◌}
+-- What of a pool is outstanding, and whether any of it goes on.
+use Rattle.std.specs.Prelude.{ℕ, Bool, false, ◌&&◌, ◌||◌, ◌==◌}
 use Rattle.handle_table.specs.declared.Found.{Found}
 use Rattle.handle_table.specs.declared.Found.TheVariants.{Absent, Live, Released}
 use Rattle.live_world.specs.declared.objects.Object.{Object}
+use Rattle.tp_model.specs.Counts.{pending, running}
+use Rattle.tp_model.specs.Over.{lacks_room_to_run}
+use Rattle.tp_model.specs.World.{World}
 
 -- an object that isn't released is bound to the pool
 abbrev pub is_bound : ℕ → Found Object → Bool
 is_bound pool Absent = false
 is_bound pool (Live object) = object.now.env.pool.0 == pool
 is_bound pool (Released object) = false
+
+-- none of the pool's callbacks runs, and those that are pending never will
+abbrev pub is_pool_over : World → ℕ → ℕ → Bool
+is_pool_over w room pool = (running w pool == 0) && ((pending w pool == 0) || lacks_room_to_run w room pool)

@@ -1,14 +1,17 @@
 //! Callbacks: a new one, and those that wait for a worker.
 
-ghost use Rattle.std.specs.Prelude.{◌≡◌, ◌+◌, ◌^◌, ◌<◌, find, nat_lt};
+ghost use Rattle.std.specs.Prelude.{◌≡◌, ◌+◌, ◌^◌, ◌<◌, find, if◌then◌else◌, nat_lt, option_map, None, Some};
 ghost use Rattle.tp_model.specs.Counts.{next};
 ghost use Rattle.tp_model.specs.Conditions.{lacks_slots_for};
+ghost use Rattle.tp_model.specs.Laws.Once.{is_left};
+ghost use Rattle.tp_model.specs.Over.{left_after, row_of, status_of};
 ghost use Rattle.tp_model.specs.Sources.{new_callback as new_callback_of};
 
 use crate::LiveWorld;
 use tp_base::answers::TakeResult;
 use tp_base::ids::{ObjectId, PoolId};
 use tp_base::rows::{CallbackRow, ObjectRow, Status};
+use tp_model::Left;
 
 /// A callback of an object, as the object's environment was when the object was made. It waits for a
 /// worker.
@@ -26,6 +29,18 @@ pub fn new_callback(number: u64, object: ObjectId, row: &ObjectRow, told: TakeRe
         long: row.env.long,
         result: told,
         status: Status::Pending,
+    }
+}
+
+// How far a callback has come that may still run.
+fn left(status: Status) -> Option<Left>
+    ensures { option_map status_of result ≡ (if is_left status then Some status else None) }
+{
+    match status {
+        Status::Expected => Some(Left::Expected),
+        Status::Issued => Some(Left::Issued),
+        Status::Pending => Some(Left::Pending),
+        Status::Running { .. } | Status::Returned | Status::Cancelled => None,
     }
 }
 
@@ -48,6 +63,22 @@ impl LiveWorld {
         ensures { result ≡ find (λ c. nat_lt number c.number) self.now.world.callbacks }
     {
         self.callbacks.after(number)
+    }
+
+    /// The number, the object and the status of the callback of least number above this one that may
+    /// still run, if there is one. Walks the callbacks that run before it.
+    pub fn left_after(&self, number: u64) -> Option<(u64, ObjectId, Left)>
+        ensures { option_map row_of result ≡ left_after self.now.world number }
+    {
+        self.is_reachable();
+        let mut next = self.callback_after(number);
+        while let Some(callback) = next {
+            if let Some(left) = left(callback.status) {
+                return Some((callback.number, callback.object, left));
+            }
+            next = self.callback_after(callback.number);
+        }
+        None
     }
 
     /// The number that the next callback gets.

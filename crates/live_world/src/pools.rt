@@ -1,14 +1,15 @@
 //! Pools: what is counted of each, and which of them needs a worker.
 
 ghost use Rattle.std.specs.Prelude.{◌≡◌, ◌||◌, ◌&&◌, ◌==◌, not, nat_le, nat_lt, length};
-ghost use Rattle.std.specs.List.{list_any};
+ghost use Rattle.std.specs.List.{list_all, list_any, range_with_len};
 ghost use Rattle.tp_model.specs.Counts.{is_live, running, maximum, is_in_need, is_below_minimum, least_pool};
 ghost use Rattle.tp_model.specs.Conditions.{is_pool, is_closed_pool};
 ghost use Rattle.tp_model.specs.Calls.Pools.{is_used};
 ghost use Rattle.tp_model.specs.Calls.Workers.{pool_to_join, may_leave};
 ghost use Rattle.tp_model.specs.Calls.InCallback.{has_spare};
 ghost use Rattle.live_world.specs.Tally.{tally_shown as tally_shown_of};
-ghost use Rattle.live_world.specs.Uses.{is_bound};
+ghost use Rattle.live_world.specs.Uses.{is_bound, is_pool_over};
+ghost use Rattle.tp_model.specs.Over.{is_over};
 
 use crate::LiveWorld;
 use crate::objects::Object;
@@ -225,5 +226,37 @@ impl LiveWorld {
         ensures { result ≡ is_used self.now.world pool.0 }
     {
         self.has_object(pool) || self.has_callback(pool)
+    }
+    // Whether nothing of the pool runs, and what of it is pending can't be run any more.
+    fn is_pool_over(&self, pool: PoolId, room: u64) -> bool
+        ensures { result ≡ is_pool_over self.now.world room pool.0 }
+    {
+        let tally = self.tally(pool);
+        let lacks_room = room < 2 || (room < 4 && tally.idle == 0);
+        tally.running == 0 && (tally.pending == 0 || lacks_room)
+    }
+
+    // Whether no callback runs, and none that is pending can be run any more.
+    fn are_pools_over(&self, room: u64) -> bool
+        ensures { result ≡ list_all (is_pool_over self.now.world room) (range_with_len 0 (length self.now.world.pools)) }
+    {
+        (0..self.pools.pools()).all(|pool| self.is_pool_over(PoolId(pool), room))
+    }
+
+    // Whether every client has finished.
+    fn have_clients_finished(&self) -> bool
+        ensures { result ≡ list_all (λ client. client.finished) self.now.world.clients }
+    {
+        self.clients.iter().all(|client| client.finished)
+    }
+
+    /// Whether every client has finished, no callback runs, and the history, which has this room
+    /// left, has none for a pending one to be run. Walks the clients and the pools.
+    #[tactic(auto, using(crate::proofs::Over::over_by_pools))]
+    pub fn is_over(&self, room: u64) -> bool
+        ensures { result ≡ is_over self.now.world room }
+    {
+        self.is_reachable();
+        self.have_clients_finished() && self.are_pools_over(room)
     }
 }

@@ -20,25 +20,13 @@ use Rattle.tp_model.specs.Support.Sound.{IsSound}
 use Rattle.tp_model.specs.Step.{Step, entries_of, is_accepted, outcome_of, world_after}
 use Rattle.tp_model.specs.Table.{step}
 use Rattle.tp_model.specs.World.{World, opening, unattached, unfinished}
+use Rattle.tp_model.proofs.Fitting.{opening_owes, step_enters}
 use Rattle.tp_model.proofs.Laws.{keeps_laws}
 use Rattle.pool_book.specs.Kept.{IsBook}
 use Rattle.recorded.specs.Recordings.{Recording, entries_told, outcome_behind, recorded, room_of, IsFirstOf}
-use Rattle.pool_book.proofs.Histories.{after_push, legal_push, stays, step_enters}
+use Rattle.pool_book.proofs.Histories.{after_push, legal_push, stays}
 
 -- ---- at the beginning
-
-none_of : {X : Type 0} (p : X → Bool) (x : X) → p x ≡ false → (n : ℕ) → length (filter p (replicate n x)) ≡ 0
-none_of p x out zero = refl
-none_of p x out (suc n) = ap (λ b. length (cond b (x ∷ filter p (replicate n x)) (filter p (replicate n x)))) out ∙ none_of p x out n
-
-all_of : {X : Type 0} (p : X → Bool) (x : X) → p x ≡ true → (n : ℕ) → length (filter p (replicate n x)) ≡ n
-all_of p x here zero = refl
-all_of p x here (suc n) = ap (λ b. length (cond b (x ∷ filter p (replicate n x)) (filter p (replicate n x)))) here ∙ ap suc (all_of p x here n)
-
--- each client has to finish
-opening_owes : (limits : Limits) → owed (opening limits) ≡ limits.clients
-opening_owes limits =
-    omega (arith, none_of (λ (r : WorkerRow). is_some r.pool) unattached refl limits.workers, all_of (λ (r : ClientRow). not r.finished) unfinished refl limits.clients)
 
 pub opened : (engine : Remembered) (limits : Limits) (capacity len : ℕ) (history : List Entry) → AreLimitsInRange limits → StandsFor engine (opening limits) → engine.age ≡ 0 → len ≡ 0 → history ≡ []
     → IsBook engine limits capacity len history

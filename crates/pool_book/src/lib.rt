@@ -25,8 +25,9 @@ use std::alloc::{AllocError, Global};
 use std::marker::Model;
 use tp_base::answers::Outcome;
 use tp_base::calls::Call;
-use tp_base::ids::Who;
+use tp_base::ids::{ObjectId, Who};
 use tp_base::limits::Limits;
+use tp_model::Left;
 
 mod past;
 
@@ -96,6 +97,14 @@ impl Recorded for Book {
 
     fn room(&self) -> u64 {
         u64::from(self.capacity.saturating_sub(self.len)).saturating_sub(self.engine.owed())
+    }
+
+    fn is_over(&self) -> bool {
+        self.engine.is_over(self.room())
+    }
+
+    fn left_after(&self, number: u64) -> Option<(u64, ObjectId, Left)> {
+        self.engine.left_after(number)
     }
 
     fn limits(&self) -> Limits {

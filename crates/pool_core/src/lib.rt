@@ -34,10 +34,11 @@
 //! | `Advance`, `Finish` | none: time passes, and a client has no more to do |
 //!
 //! `open` takes all memory; `step` makes a call of an actor; `owed` is the number of entries for
-//! which the history must keep room; `age` is the number of steps that were accepted. What an
-//! engine remembers is a world without the callbacks that are over (`Remembered` of `tp_model`):
-//! where it stands for a world, its outcome is that of the machine's step there, and then it stands
-//! for the world after the step.
+//! which the history must keep room; `is_over` says whether nothing more is to be done, and
+//! `left_after` goes along the callbacks that may still run; `age` is the number of steps that were
+//! accepted. What an engine remembers is a world without the callbacks that are over (`Remembered`
+//! of `tp_model`): where it stands for a world, its outcome is that of the machine's step there, and
+//! then it stands for the world after the step.
 //!
 //! Each call is one function that only reads: it gives the call's plan, which is a refusal, a look,
 //! or an answer with the change that goes with it. `step` alone asks whether the history has room
@@ -45,12 +46,13 @@
 
 #![tactic(auto)]
 
-ghost use Rattle.std.specs.Prelude.{◌≡◌, ◌+◌, ◌^◌, ◌<◌, IfOk, nat_lt};
+ghost use Rattle.std.specs.Prelude.{◌≡◌, ◌+◌, ◌^◌, ◌<◌, IfOk, nat_lt, option_map};
 ghost use Rattle.pool_core.specs.Entered.{outcome_of_entry};
 ghost use Rattle.tp_base.specs.Ranges.{AreLimitsInRange, IsCallInRange, IsAnswerInRange, IsOutcomeInRange, IsRefusalInRange};
 ghost use Rattle.tp_model.specs.World.{World, opening};
 ghost use Rattle.tp_model.specs.Counts.{owed};
 ghost use Rattle.tp_model.specs.Changes.{changed};
+ghost use Rattle.tp_model.specs.Over.{is_over, left_after, row_of};
 ghost use Rattle.tp_model.specs.Support.Allowed.{IsAllowed, price as price_of};
 ghost use Rattle.tp_model.specs.Support.Ranged.{IsChangeInRange};
 ghost use Rattle.tp_model.specs.Table.{step};
@@ -63,9 +65,10 @@ use std::alloc::{AllocError, Global};
 use std::marker::Model;
 use tp_base::answers::{Answer, Outcome, Refusal};
 use tp_base::calls::Call;
-use tp_base::ids::Who;
+use tp_base::ids::{ObjectId, Who};
 use tp_base::limits::Limits;
 use tp_base::plans::Change;
+use tp_model::Left;
 
 mod clients;
 mod decisions;
@@ -183,6 +186,23 @@ impl Engine {
         ensures { (w : World) → StandsFor self.now w → result ≡ owed w }
     {
         self.owed
+    }
+
+    /// Whether all is over: every client has finished, no callback runs, and the history, which has
+    /// `room` entries left besides those that are owed, has no room for a pending one to be run. That
+    /// takes 2, and 4 where no worker of its pool is idle. It takes no memory.
+    pub fn is_over(&self, room: u64) -> bool
+        ensures { (w : World) → StandsFor self.now w → result ≡ is_over w room }
+    {
+        self.live.is_over(room)
+    }
+
+    /// Of the callbacks that may still run the one of least number above this one, if there is one: its
+    /// number, its object (0 for a simple callback) and how far it has come. It takes no memory.
+    pub fn left_after(&self, number: u64) -> Option<(u64, ObjectId, Left)>
+        ensures { (w : World) → StandsFor self.now w → option_map row_of result ≡ left_after w number }
+    {
+        self.live.left_after(number)
     }
 
     /// The number of steps that were accepted since the engine was opened.

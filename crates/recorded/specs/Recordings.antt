@@ -1,12 +1,15 @@
 -- A history with the limits of its machine and its capacity, and what a call comes to behind it.
-use Rattle.std.specs.Prelude.{◌≡◌, ℕ, List, [], ◌∷◌, ◌++◌, length}
+use Rattle.std.specs.Prelude.{◌≡◌, ℕ, Bool, List, [], ◌∷◌, ◌++◌, length, Option}
 use Rattle.tp_base.specs.declared.answers.Entry.{Entry}
 use Rattle.tp_base.specs.declared.answers.Outcome.{Outcome}
 use Rattle.tp_base.specs.declared.answers.Outcome.TheVariants.{Done, Look, Full}
 use Rattle.tp_base.specs.declared.calls.Call.{Call}
+use Rattle.tp_base.specs.declared.ids.ObjectId.{ObjectId}
 use Rattle.tp_base.specs.declared.ids.Who.{Who}
 use Rattle.tp_base.specs.declared.limits.Limits.{Limits}
+use Rattle.tp_base.specs.declared.rows.Status.{Status}
 use Rattle.tp_model.specs.History.{after, play_from, room}
+use Rattle.tp_model.specs.Over.{is_over, left_after}
 use Rattle.tp_model.specs.Step.{outcome_of}
 use Rattle.tp_model.specs.Table.{step}
 use Rattle.tp_model.specs.World.{World}
@@ -23,6 +26,15 @@ world_behind r = after r.limits r.history
 -- the capacity, less the entries, less those that are owed
 abbrev pub room_of : Recording → ℕ
 room_of r = room r.capacity (world_behind r) (length r.history)
+
+-- nothing more is to be done behind the history: every client has finished, no callback runs, and there is no room for
+-- another one to be run
+abbrev pub is_over_behind : Recording → Bool
+is_over_behind r = is_over (world_behind r) (room_of r)
+
+-- of the callbacks that may still run behind the history the least one above a number
+abbrev pub left_behind : Recording → ℕ → Option (ℕ × ObjectId × Status)
+left_behind r number = left_after (world_behind r) number
 
 -- the machine's outcome of a call behind the history
 abbrev pub outcome_behind : Recording → Who → Call → Outcome

@@ -6,8 +6,8 @@
 //! capacity, less its entries, less those that are owed.
 //!
 //! What plays, judges or shares histories is written and proved over this trait, and knows no engine.
-//! A machine's part is `open`, `step_into`, `len`, `room`, `limits` and `capacity`; their contracts
-//! stand here, so an `impl` gives no clauses of its own.
+//! A machine's part is `open`, `step_into`, `len`, `room`, `is_over`, `left_after`, `limits` and
+//! `capacity`; their contracts stand here, so an `impl` gives no clauses of its own.
 //!
 //! ```text
 //! fn attach_first<B: Recorded>(alloc: Global) -> Result<u64, AllocError> {
@@ -20,18 +20,20 @@
 
 #![tactic(auto)]
 
-ghost use Rattle.std.specs.Prelude.{◌≡◌, ◌≤◌, [], length, IfOk};
+ghost use Rattle.std.specs.Prelude.{◌≡◌, ◌≤◌, [], length, option_map, IfOk};
 ghost use Rattle.tp_base.specs.Ranges.{AreLimitsInRange, IsCallInRange, IsOutcomeInRange};
 ghost use Rattle.tp_model.specs.History.{IsLegal};
 ghost use Rattle.tp_model.specs.Laws.{KeepsLaws};
+ghost use Rattle.tp_model.specs.Over.{row_of};
 ghost use Rattle.recorded.specs.ProgramLimits.{limits_with};
-ghost use Rattle.recorded.specs.Recordings.{outcome_behind, recorded, room_of, IsFirstOf, Recording};
+ghost use Rattle.recorded.specs.Recordings.{is_over_behind, left_behind, outcome_behind, recorded, room_of, IsFirstOf, Recording};
 
 use std::alloc::{AllocError, Global};
 use tp_base::answers::{Look, Outcome};
 use tp_base::calls::Call;
-use tp_base::ids::Who;
+use tp_base::ids::{ObjectId, Who};
 use tp_base::limits::Limits;
+use tp_model::Left;
 
 /// A machine, and the history of the calls that were made on it.
 pub trait Recorded: Drop {
@@ -89,6 +91,22 @@ pub trait Recorded: Drop {
     /// How many more entries the history has room for, less those that are owed; 0 where more are owed.
     fn room(&self) -> u64
         ensures { result ≡ room_of (recording self.now) };
+
+    /// Whether nothing more is to be done: every client has finished, no callback runs, and there is no
+    /// room for a pending one to be run. That takes a room of 2, and of 4 where no worker of its pool is
+    /// idle, which then attaches and detaches.
+    ///
+    /// A player of workers stops where this holds. It takes no memory.
+    fn is_over(&self) -> bool
+        ensures { result ≡ is_over_behind (recording self.now) };
+
+    /// Of the callbacks that may still run the one of least number above this one, if there is one: its
+    /// number, its object (0 for a simple callback) and how far it has come.
+    ///
+    /// From 0 on, and then from each number that it gave, it goes along all that the history has left:
+    /// those that no worker has taken and none of the calls has cancelled. It takes no memory.
+    fn left_after(&self, number: u64) -> Option<(u64, ObjectId, Left)>
+        ensures { option_map row_of result ≡ left_behind (recording self.now) number };
 
     /// The limits of the machine.
     fn limits(&self) -> Limits

@@ -16,6 +16,7 @@ pub mod Entries
 mod Examples
 pub mod Fates
 pub mod Firing
+pub mod Fitting
 pub mod First
 pub mod Forgetting
 mod GroupExamples
@@ -31,6 +32,8 @@ pub mod Members
 pub mod Moves
 pub mod Notices
 pub mod Once
+pub mod Over
+mod OverExamples
 pub mod Performing
 pub mod Places
 pub mod Ranged

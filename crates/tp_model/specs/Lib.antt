@@ -8,6 +8,7 @@ pub mod History
 pub mod Kernels
 pub mod Laws
 pub mod Next
+pub mod Over
 pub mod Refusing
 pub mod Sources
 pub mod Step

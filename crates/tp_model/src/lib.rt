@@ -11,19 +11,36 @@
 
 #![tactic(auto)]
 
-ghost use Rattle.std.specs.Prelude.{ℕ, List};
+ghost use Rattle.std.specs.Prelude.{ℕ, ◌+◌, ◌≤◌, List, length};
 ghost use Rattle.tp_base.specs.declared.answers.Entry.{Entry};
 ghost use Rattle.tp_base.specs.declared.limits.Limits.{Limits};
-ghost use Rattle.tp_model.specs.Counts.{next};
+ghost use Rattle.tp_model.specs.Counts.{next, owed};
 ghost use Rattle.tp_model.specs.History.{after, IsLegal};
 ghost use Rattle.tp_model.specs.Laws.{KeepsLaws};
 ghost use Rattle.tp_model.specs.Next.{IsNextOrNone};
+
+/// How far a callback has come that is left after a history: it may still run.
+#[derive(Clone, Copy)]
+pub enum Left {
+    /// Its operation was announced (`StartThreadpoolIo`) and not issued yet.
+    Expected,
+    /// Its operation is under way.
+    Issued,
+    /// It waits for a worker.
+    Pending,
+}
 
 /// Every legal history keeps the laws, with any limits and any capacity. It does nothing: who calls
 /// it knows this.
 #[tactic(auto, using(crate::proofs::Laws::keeps_laws))]
 pub fn legal_keeps_laws()
     ensures laws { (limits : Limits) (capacity : ℕ) (history : List Entry) → IsLegal limits capacity history → KeepsLaws limits history }
+{}
+
+/// A legal history and the entries that are owed behind it are no more than its capacity, unless more
+/// clients have to finish than that. It does nothing: who calls it knows this.
+pub fn legal_fits()
+    ensures { (limits : Limits) (capacity most : ℕ) (history : List Entry) → capacity ≤ most → limits.clients ≤ most → IsLegal limits capacity history → length history + owed (after limits history) ≤ most }
 {}
 
 /// The callback that a pool's worker takes next is pending there, and of those that are it is of the
