@@ -1,5 +1,5 @@
 -- What a call on a shared pool comes to, and what its seat then knows.
-use Rattle.std.specs.Prelude.{◌≡◌, ℕ, List, [], ◌∷◌, ◌++◌}
+use Rattle.std.specs.Prelude.{◌≡◌, ℕ, Bool, true, false, List, [], ◌∷◌, ◌++◌}
 use Rattle.tp_base.specs.declared.answers.Answer.{Answer}
 use Rattle.tp_base.specs.declared.answers.Entry.{Entry}
 use Rattle.tp_base.specs.declared.answers.Outcome.{Outcome}
@@ -8,11 +8,13 @@ use Rattle.tp_base.specs.declared.calls.Call.{Call}
 use Rattle.tp_base.specs.Ranges.{IsOutcomeInRange}
 use Rattle.tp_model.specs.History.{IsLegal}
 use Rattle.tp_model.specs.Laws.{KeepsLaws}
-use Rattle.recorded.specs.Recordings.{outcome_behind}
+use Rattle.recorded.specs.Recordings.{is_over_behind, outcome_behind}
 use Rattle.turn_lock.specs.declared.seats.Seat.{Seat}
 use Rattle.turn_lock.specs.Histories.{own, StartsWith}
-use Rattle.turn_lock.specs.Seats.{seen_of, mine_of, met_of, setup_in, actor_in, HasMet, IsIdle, Same}
+use Rattle.turn_lock.specs.Seats.{seen_of, mine_of, met_of, setup_in, actor_in, HasLooked, HasMet, IsIdle, Same}
 use Rattle.turn_lock.specs.Views.{recording_of}
+use Rattle.shared_pool.specs.declared.pool.Over.{Over}
+use Rattle.shared_pool.specs.declared.pool.Over.TheVariants as over
 use Rattle.shared_pool.specs.declared.pool.Tried.{Tried}
 use Rattle.shared_pool.specs.declared.pool.Tried.TheVariants as tried
 
@@ -73,3 +75,14 @@ module _ {B : Type 0} where
     pub seen : seen_of b ≡ seen_of a
     pub mine : mine_of b ≡ mine_of a
     pub met : HasMetMore a b
+
+  -- it has looked, and whether all is over behind the history that is seen now
+  pub record IsOverAs (is_over : Bool) (a b : Seat B) : Type 0 where
+    pub looked : HasLooked a b
+    pub is : is_over_behind (recording_of (setup_in b) (seen_of b)) ≡ is_over
+
+  -- after a question whether all is over: an answer, or a holder was met
+  abbrev pub HasAsked : Over → Seat B → Seat B → Type 0
+  HasAsked over.Yes a b = IsOverAs true a b
+  HasAsked over.No a b = IsOverAs false a b
+  HasAsked (over.Busy holder) a b = HasMet holder a b

@@ -23,4 +23,4 @@
 mod pool;
 mod win32;
 
-pub use pool::{SharedPool, Tried};
+pub use pool::{Over, SharedPool, Tried};

@@ -6,7 +6,7 @@ ghost use Rattle.tp_base.specs.Ranges.{AreLimitsInRange, IsCallInRange};
 ghost use Rattle.turn_lock.specs.Locks.{setup_of};
 ghost use Rattle.turn_lock.specs.Histories.{actor_of, StartsWith};
 ghost use Rattle.turn_lock.specs.Seats.{number_of, seen_of, HasLooked, IsCopy, IsLast};
-ghost use Rattle.shared_pool.specs.Calls.{HasEnded, HasMetMore, HasTried};
+ghost use Rattle.shared_pool.specs.Calls.{HasAsked, HasEnded, HasMetMore, HasTried};
 
 use crossbeam_utils::Backoff;
 use recorded::Recorded;
@@ -36,6 +36,15 @@ pub enum Tried {
     /// The history has no room for what the call costs. Nothing happened.
     Full { room: u64, cost: u64 },
     /// The seat of this number has the turn. Nothing happened, and nothing was looked at.
+    Busy { holder: u32 },
+}
+
+/// Whether all is over on a pool.
+#[derive(Clone, Copy)]
+pub enum Over {
+    Yes,
+    No,
+    /// The seat of this number has the turn, and nothing was looked at.
     Busy { holder: u32 },
 }
 
@@ -126,6 +135,24 @@ impl<B: Recorded> SharedPool<B> {
             }
         }
         unreachable!()
+    }
+
+    /// Asks whether nothing more is to be done behind the history so far: every client has finished, no
+    /// callback runs, and there is no room for a pending one to be run. It doesn't wait, and makes no
+    /// call. `Busy` comes only where another seat has the turn.
+    pub fn try_over(&self, seat: &mut Seat<B>) -> Over
+        requires player { IsPlayer self.now seat.old }
+        ensures player { IsPlayer self.now seat.new }
+        ensures asked { HasAsked result seat.old seat.new }
+    {
+        match seat.try_enter(&self.lock) {
+            Entered::Busy { holder } => Over::Busy { holder },
+            Entered::Held(mut turn) => {
+                let is_over = turn.book().is_over();
+                turn.leave();
+                if is_over { Over::Yes } else { Over::No }
+            }
+        }
     }
 
     /// Looks at the history, and answers its length.
