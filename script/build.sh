@@ -47,12 +47,12 @@ tell_unproved() {
     say "$why, so the sources run as they are, in about a minute; ./tpool prove proves and builds them, in up to $(count_minutes "$(count_at_once)") minutes"
 }
 
-# Runs the sources with the program's one word, by what rt offers for that. It keeps nothing, and has bounds:
+# Runs the sources with the program's words, by what rt offers for that. It keeps nothing, and has bounds:
 # where it gives no answer, that and why is said. It writes nothing then.
 run_sources() {
     local said status why
     {
-        said=$(cd "$home/crates/$program" && rt try -- "$1" 2>&1 >&3 3>&-)
+        said=$(cd "$home/crates/$program" && rt try -- "$@" 2>&1 >&3 3>&-)
         status=$?
     } 3>&1
     if [[ $said == *$'run=ended status='* ]]; then

@@ -2,12 +2,31 @@
 # shellcheck shell=bash
 
 input=
-for words in '' 'foo' 'trac' 'traced' 'tra ce' 'gen 07' 'trace trace' 'trace --json' 'Trace' ''$'\xff'; do
+for words in '' 'foo' 'trac' 'traced' 'tra ce' 'trace trace' 'Trace' ''$'\xff' 'run' 'big 7' '-h' '--help' '--version' \
+    'gen' 'gen 07' 'gen +7' 'gen -- -7' 'gen 7 7' 'gen 18446744073709551616' 'trace 7' 'check 7' 'trace -' \
+    'trace --workers' 'trace --workers=' 'trace --workers 0' 'trace --workers 65' 'trace --workers 04' 'trace --workers -4' \
+    'trace --workers -- 4' 'trace --worker 4' 'trace --workers 4 --workers=4' 'trace --threads 17' 'gen 7 --threads=0' \
+    'trace --events 15' 'trace --events=131073' 'trace --json --json' 'trace --json=1' '-- --json trace' 'trace -- --'; do
     # shellcheck disable=SC2086
     try "bad words: '$words'" 1 '' $'tpool: bad words\n' "$program" $words
 done
 try 'an empty word is none' 1 '' $'tpool: bad words\n' "$program" ''
 try 'an empty trace' 0 '' '' "$program" trace
+for words in 'trace --json' '--json trace' 'trace --' '-- trace' '--workers 4 trace --events=16 --threads 1' 'trace --threads=16 --workers 64 --events 131072'; do
+    # shellcheck disable=SC2086
+    try "good words: '$words'" 0 '' '' "$program" $words
+done
+first_line() { "$@" | head -n 1; }
+for words in 'gen 7' 'gen -- 7' '--workers=1 gen 7 --json'; do
+    # shellcheck disable=SC2086
+    try "good words: '$words'" 0 $'pool p max 3 min 0\n' '' first_line "$program" $words
+done
+input=$'w5 attach\n'
+try 'a worker too many' 0 $'refused no-such\n' '' "$program" trace
+try 'a machine of five workers' 0 $'look no-need\n' '' "$program" trace --workers 5
+input=$'c16 submit 1\n'
+try 'a machine with room for 16 entries' 0 $'full 0 1\n' '' "$program" trace --events 16
+try 'a machine with room for 17 entries' 0 $'refused no-such\n' '' "$program" trace --events=17
 
 input=$'c1 submit 1\nw1 attach\n'
 try 'a trace' 0 $'refused no-such\nlook no-need\n' '' "$program" trace
@@ -47,6 +66,9 @@ try 'no line of a fault can be written' 1 '' '' errors_to /dev/full "$program"
 without_output() { "$@" >&-; }
 without_errors() { "$@" 2>&-; }
 try 'standard input is closed' 3 '' $'tpool: read fault\n' without_input "$program" trace
+script_is_whole() { without_input "$program" gen 18446744073709551615 | tail -n 1; }
+try 'a script is written without an input' 0 $'done\n' '' script_is_whole
+try 'nothing can be written of a script' 4 '' $'tpool: write fault\n' to /dev/full "$program" gen 0
 try 'standard output is closed' 4 '' $'tpool: write fault\n' without_output "$program" trace
 try 'standard error is closed' 1 '' '' without_errors "$program"
 

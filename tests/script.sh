@@ -30,7 +30,9 @@ refuses 'there is no command foo' foo
 refuses 'there is no option -x' -x
 refuses 'there is no option --json' --json
 refuses 'there is no option -x' show -x
-refuses 'there is no option --json' check --json a
+refuses 'there is no option --jsn' check --jsn a
+refuses '--events wants a number' show --events
+refuses 'one word too many: b' trace --workers 4 a b
 refuses 'one word too many: b' trace a b
 refuses 'one word too many: me' help me
 refuses 'one word too many: all' prove all
@@ -194,5 +196,18 @@ for command in trace show history; do
 done
 full_history() { "$tpool" history "$room/long" 2>/dev/null | "$tpool" check; }
 try 'the history of a trace that fills it is legal' 0 $'legal 65535\n' '' full_history
+# The options of the machine's size, and the script of a number.
+of_sixteen() { echo 'c16 submit 1' | "$tpool" trace --events 16; }
+input=$'c2 submit 1\nw5 attach\n'
+try 'a machine of another size' 0 $'refused no-such\nlook no-need\n' '' "$tpool" trace --workers 5
+try 'the history of one' 0 $'history 1 clients 2 workers 5 events 100\nc2 submit 1 -> refused no-such\nend 1\n' '' "$tpool" history --workers=5 --events 100
+try 'one is shown' 0 $'1  1  c2 submit 1  refused no-such (object 1)\n2     w5 attach    look no-need\n' '' "$tpool" show --events 100 --workers 5
+try 'a small one is full' 0 $'full 0 1\n' $'~tpool: 1 of the calls are full: *\n' of_sixteen
+for words in '--workers 65' '--events=15' '--workers 4 --workers 4' '--json --json'; do
+    # shellcheck disable=SC2086
+    try "bad words: '$words'" 1 '' $'~tpool: bad words\ntpool: an option is there once, *\n' "$tpool" trace $words
+done
+try 'the script of a number' 0 $'pool p max 3 min 0\n' '' first_line "$tpool" gen 7
+try 'the script of no number' 1 '' $'~tpool: bad words\ntpool: gen wants a number, *\n' "$tpool" gen seven
 pools_history() { "$tpool" history "$here/examples/pools.trace" | "$tpool" check; }
 try 'the history of the pools is legal' 0 $'legal 18\n' '' pools_history

@@ -16,6 +16,7 @@ use Rattle.tp_lines.specs.Calls.{CallLines, IsWhoInRange}
 use Rattle.tp_lines.specs.Faults.{IsLine}
 use Rattle.tp_model.specs.History.{play}
 use Rattle.tp_report.specs.Playing.{IsPlayed, IsPlayedOf}
+use Rattle.tp_report.specs.declared.playing.MachineSize.{MachineSize}
 use Rattle.tp_report.specs.Readings.{Ended}
 use Rattle.tp_report.specs.Traces.{line_of, HasLine, IsTraceOf, answers_text, client_number, clients_in}
 use Rattle.tp_report.specs.declared.playing.Played.{Played}
@@ -124,20 +125,20 @@ number_most (Worker number) h = omega arith
 
 -- the calls that were read were played on the book, and what they came to was printed; what further calls come to goes on
 -- from there
-pub record IsPlayedTo (clients : ℕ) (bytes : List ℕ) (book : Recording) (text : List ℕ) (greatest lines : ℕ) (rest : List ℕ) : Type 0 where
+pub record IsPlayedTo (machine : MachineSize) (clients : ℕ) (bytes : List ℕ) (book : Recording) (text : List ℕ) (greatest lines : ℕ) (rest : List ℕ) : Type 0 where
   pub calls : List (Who × Call)
   pub read : IsReadTo bytes calls rest
   pub counts : lines ≡ length calls
-  pub told : (more : List (Who × Call)) → text ++ answers_text (outcomes_behind book more) ≡ answers_text (play (limits_with clients 4) 65536 (calls ++ more))
+  pub told : (more : List (Who × Call)) → text ++ answers_text (outcomes_behind book more) ≡ answers_text (play (limits_with clients machine.workers) machine.events (calls ++ more))
   pub greatest_is : greatest ≡ clients_in calls
   pub most : greatest ≤ 16
 
-pub played_none : (clients : ℕ) (bytes : List ℕ) (book : Recording) (text : List ℕ) → book.limits ≡ limits_with clients 4 → book.capacity ≡ 65536 → book.history ≡ [] → text ≡ []
-    → IsPlayedTo clients bytes book text 0 0 bytes
-played_none clients bytes book text limits capacity empty none =
-    let machine = limits_with clients 4 in
-    let opened : book ≡ record { limits = machine; capacity = 65536; history = [] }
-    = ap₂ (λ l n. record book { limits = l; capacity = n }) limits capacity ∙ ap (λ h. record { limits = machine; capacity = 65536; history = h }) empty in
+pub played_none : (machine : MachineSize) (clients : ℕ) (bytes : List ℕ) (book : Recording) (text : List ℕ) → book.limits ≡ limits_with clients machine.workers → book.capacity ≡ machine.events → book.history ≡ [] → text ≡ []
+    → IsPlayedTo machine clients bytes book text 0 0 bytes
+played_none machine clients bytes book text limits capacity empty none =
+    let limits_are = limits_with clients machine.workers in
+    let opened : book ≡ record { limits = limits_are; capacity = machine.events; history = [] }
+    = ap₂ (λ l n. record book { limits = l; capacity = n }) limits capacity ∙ ap (λ h. record { limits = limits_are; capacity = machine.events; history = h }) empty in
     record {
       calls = [];
       read = read_none bytes;
@@ -152,12 +153,12 @@ clients_push : (calls : List (Who × Call)) (made : Who × Call) (least : ℕ)
 clients_push [] made least = refl
 clients_push (m ∷ calls) made least = clients_push calls made (max least (client_number m.0))
 
-module _ (clients : ℕ) (bytes : List ℕ) (book : Recording) (text : List ℕ) (greatest lines : ℕ) (rest : List ℕ) (p : IsPlayedTo clients bytes book text greatest lines rest) where
+module _ (machine : MachineSize) (clients : ℕ) (bytes : List ℕ) (book : Recording) (text : List ℕ) (greatest lines : ℕ) (rest : List ℕ) (p : IsPlayedTo machine clients bytes book text greatest lines rest) where
   pub played_few : lines + length rest ≤ length bytes
   played_few = omega (arith, p.counts, read_count bytes p.calls rest p.read)
 
   pub played_next : (new : Recording) (made : Who × Call) (size next : ℕ) (outcome : Outcome) (longer : List ℕ) → IsReadAs (Ended CallLines) rest made size → IsFirstOf book new made.0 made.1 outcome
-      → longer ≡ text ++ (text_of_outcome outcome ++ 10 ∷ []) → next ≡ max greatest (client_number made.0) → IsPlayedTo clients bytes new longer next (lines + 1) (drop size rest)
+      → longer ≡ text ++ (text_of_outcome outcome ++ 10 ∷ []) → next ≡ max greatest (client_number made.0) → IsPlayedTo machine clients bytes new longer next (lines + 1) (drop size rest)
   played_next new made size next outcome longer read first line is = record {
     calls = p.calls ++ made ∷ [];
     read = read_next bytes p.calls rest p.read made size read;
@@ -168,7 +169,7 @@ module _ (clients : ℕ) (bytes : List ℕ) (book : Recording) (text : List ℕ)
         ∙ append_assoc text (text_of_outcome outcome ++ 10 ∷ []) behind
         ∙ ap (λ t. text ++ t) (append_assoc (text_of_outcome outcome) (10 ∷ []) behind ∙ ap (λ os. answers_text os) (sym (first more)))
         ∙ p.told (made ∷ more)
-        ∙ ap (λ cs. answers_text (play (limits_with clients 4) 65536 cs)) (sym (append_assoc p.calls (made ∷ []) more));
+        ∙ ap (λ cs. answers_text (play (limits_with clients machine.workers) machine.events cs)) (sym (append_assoc p.calls (made ∷ []) more));
     greatest_is = is ∙ ap (λ n. max n (client_number made.0)) p.greatest_is ∙ sym (clients_push p.calls made 0);
     most = omega (arith, is, p.most, number_most made.0 read.text_of.is_line.who_in_range);
   }
@@ -179,17 +180,17 @@ module _ (clients : ℕ) (bytes : List ℕ) (book : Recording) (text : List ℕ)
   pub played_no : (place : ℕ) → 0 < length rest → IsStuck (Ended CallLines) rest place → (all : List (Who × Call)) → IsTraceOf bytes all → ⊥
   played_no = read_no bytes p.calls rest p.read
 
-  text_is : text ≡ answers_text (play (limits_with clients 4) 65536 p.calls)
-  text_is = sym (append-nil text) ∙ p.told [] ∙ ap (λ cs. answers_text (play (limits_with clients 4) 65536 cs)) (append-nil p.calls)
+  text_is : text ≡ answers_text (play (limits_with clients machine.workers) machine.events p.calls)
+  text_is = sym (append-nil text) ∙ p.told [] ∙ ap (λ cs. answers_text (play (limits_with clients machine.workers) machine.events cs)) (append-nil p.calls)
 
-  pub played_all : (played : Played) → played.text.items ≡ text → played.clients ≡ greatest → length rest ≡ 0 → IsPlayed clients bytes played
+  pub played_all : (played : Played) → played.text.items ≡ text → played.clients ≡ greatest → length rest ≡ 0 → IsPlayed machine clients bytes played
   played_all played all count none = record {
     calls = p.calls;
     is_trace = read_all bytes p.calls rest p.read none;
     is_played = record { text_is = all ∙ text_is; greatest = count ∙ p.greatest_is };
   }
 
-  pub played_only : (played : Played) → played.text.items ≡ text → played.clients ≡ greatest → length rest ≡ 0 → (all : List (Who × Call)) → IsTraceOf bytes all → IsPlayedOf clients all played
+  pub played_only : (played : Played) → played.text.items ≡ text → played.clients ≡ greatest → length rest ≡ 0 → (all : List (Who × Call)) → IsTraceOf bytes all → IsPlayedOf machine clients all played
   played_only played same count none all trace =
-      subst (λ cs. IsPlayedOf clients cs played) (read_only bytes p.calls rest p.read none all trace)
+      subst (λ cs. IsPlayedOf machine clients cs played) (read_only bytes p.calls rest p.read none all trace)
       (record { text_is = same ∙ text_is; greatest = count ∙ p.greatest_is })

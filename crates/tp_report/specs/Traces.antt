@@ -1,5 +1,5 @@
 -- Traces of calls, and what they come to.
-use Rattle.std.specs.Prelude.{◌≡◌, ℕ, List, map, fold, max, All}
+use Rattle.std.specs.Prelude.{◌≡◌, ℕ, ◌≤◌, List, map, fold, max, All}
 use Rattle.std.specs.Global.{Vec}
 use Rattle.line_grammar.specs.Traces.{trace_text}
 use Rattle.recorded.specs.ProgramLimits.{limits_with}
@@ -11,6 +11,14 @@ use Rattle.tp_base.specs.declared.limits.Limits.{Limits}
 use Rattle.tp_lines.specs.Answers.{text_of_outcome}
 use Rattle.tp_lines.specs.Calls.{IsCallLine, line_of_call}
 use Rattle.tp_model.specs.History.{play}
+use Rattle.tp_report.specs.declared.playing.MachineSize.{MachineSize}
+
+-- a machine of a trace has from 1 to 64 workers, and room for 16 to 131,072 entries
+pub record IsMachineSize (machine : MachineSize) : Type 0 where
+  pub some_workers : 1 ≤ machine.workers
+  pub most_workers : machine.workers ≤ 64
+  pub least_events : 16 ≤ machine.events
+  pub most_events : machine.events ≤ 131072
 
 abbrev pub line_of : (Who × Call) → List ℕ
 line_of made = line_of_call made.0 made.1
@@ -36,19 +44,19 @@ client_number (Worker number) = 0
 abbrev pub clients_in : List (Who × Call) → ℕ
 clients_in calls = fold (λ greatest (made : Who × Call). max greatest (client_number made.0)) 0 calls
 
--- the program's limits for calls of these clients
-abbrev pub limits_of : List (Who × Call) → Limits
-limits_of calls = limits_with (clients_in calls) 4
+-- the limits of a machine of this size for calls of these clients
+abbrev pub limits_of : MachineSize → List (Who × Call) → Limits
+limits_of machine calls = limits_with (clients_in calls) machine.workers
 
--- what each call of the trace comes to on a machine that has made no step
-abbrev pub output_of : List (Who × Call) → List ℕ
-output_of calls = answers_text (play (limits_of calls) 65536 calls)
+-- what each call of the trace comes to on a machine of this size that has made no step
+abbrev pub output_of : MachineSize → List (Who × Call) → List ℕ
+output_of machine calls = answers_text (play (limits_of machine calls) machine.events calls)
 
-abbrev pub IsOutputOf : List (Who × Call) → Vec ℕ → Type 0
-IsOutputOf calls text = text.items ≡ output_of calls
+abbrev pub IsOutputOf : MachineSize → List (Who × Call) → Vec ℕ → Type 0
+IsOutputOf machine calls text = text.items ≡ output_of machine calls
 
--- the bytes are a trace, and this is what it comes to
-pub record IsOutput (bytes output : List ℕ) : Type 0 where
+-- the bytes are a trace, and this is what it comes to on a machine of this size
+pub record IsOutput (machine : MachineSize) (bytes output : List ℕ) : Type 0 where
   pub calls : List (Who × Call)
   pub is_trace : IsTraceOf bytes calls
-  pub output_is : output ≡ output_of calls
+  pub output_is : output ≡ output_of machine calls

@@ -10,8 +10,9 @@
 //! of the first fault of a text that isn't in the grammar.
 //!
 //! ```text
-//! trace::<Book>(alloc, b"c1 create-pool\nc1 finish\n")     // Ok("made 1\nok\n")
-//! trace::<Book>(alloc, b"c1 create-pool\nc1 finsh\n")      // Err(TextFault::At { line: 2, column: 7 })
+//! let size = MachineSize { workers: 4, events: 65_536 };
+//! trace::<Book>(alloc, b"c1 create-pool\nc1 finish\n", size)     // Ok("made 1\nok\n")
+//! trace::<Book>(alloc, b"c1 create-pool\nc1 finsh\n", size)      // Err(TextFault::At { line: 2, column: 7 })
 //! ```
 
 #![tactic(auto)]
@@ -25,5 +26,5 @@ mod verdict;
 
 pub use checking::check;
 pub use faults::{CheckFault, TextFault};
-pub use playing::trace;
+pub use playing::{MachineSize, trace};
 pub use verdict::{Verdict, print_verdict};

@@ -10,7 +10,7 @@ ghost use Rattle.tp_lines.specs.Answers.{text_of_outcome};
 ghost use Rattle.tp_lines.specs.Faults.{IsLine};
 ghost use Rattle.tp_report.specs.Faults.{IsOrNoMemory, IsPlace};
 ghost use Rattle.tp_report.specs.Playing.{IsPlayed, IsPlayedOf};
-ghost use Rattle.tp_report.specs.Traces.{client_number, IsOutput, IsOutputOf, IsTraceOf};
+ghost use Rattle.tp_report.specs.Traces.{client_number, IsMachineSize, IsOutput, IsOutputOf, IsTraceOf};
 
 use crate::faults::{TextFault, fault_behind};
 use crate::lines::read_call;
@@ -21,34 +21,42 @@ use tp_base::calls::Call;
 use tp_base::ids::Who;
 use tp_lines::print::Lines;
 
-/// How many entries the history of a trace has room for.
-const CAPACITY: u32 = 65_536;
-
-/// How many workers the machine of a trace has.
-const WORKERS: u32 = 4;
-
 /// Where the greatest client of a trace is looked for first.
 const FRONT: usize = 65_536;
 
-/// Plays the calls of a text in their order, on a machine, a `B`, that has made no step, and answers the
-/// line of what each comes to. The text, of which there are fewer than 2^32 - 1 bytes, is the lines of the calls;
-/// the machine has as many clients as the greatest number of one that makes a call.
+/// How large the machine of a trace is. Its clients are told by the trace.
+#[derive(Clone, Copy)]
+pub struct MachineSize {
+    /// How many workers it has, from 1 to 64.
+    pub workers: u32,
+    /// How many entries its history has room for, from 16 to 131,072.
+    pub events: u32,
+}
+
+/// Plays the calls of a text in their order, on a machine, a `B`, of this size that has made no step, and
+/// answers the line of what each comes to. The text, of which there are fewer than 2^32 - 1 bytes, is the lines of
+/// the calls; the machine has as many clients as the greatest number of one that makes a call.
 ///
 /// `At` comes exactly where the bytes are no lines of calls, and `NoMemory` where memory was refused.
-pub fn trace<B: Recorded>(alloc: Global, bytes: &[u8]) -> Result<Vec<u8>, TextFault>
-    requires { length bytes.now < 2 ^ 32 - 1 }
-    ensures ok { IfOk result (λ text. IsOutput bytes.now text.items) }
-    ensures only { (calls : List (Actor × Made)) → IsTraceOf bytes.now calls → IsOrNoMemory (IsOutputOf calls) result }
+pub fn trace<B: Recorded>(
+    alloc: Global,
+    bytes: &[u8],
+    machine: MachineSize,
+) -> Result<Vec<u8>, TextFault>
+    requires few { length bytes.now < 2 ^ 32 - 1 }
+    requires size { IsMachineSize machine }
+    ensures ok { IfOk result (λ text. IsOutput machine bytes.now text.items) }
+    ensures only { (calls : List (Actor × Made)) → IsTraceOf bytes.now calls → IsOrNoMemory (IsOutputOf machine calls) result }
     ensures err { IfErr result (λ fault. IsPlace (IsTraceFault IsLine bytes.now) fault) }
 {
     let guess = guess_clients(bytes);
-    let played = play::<B>(alloc, bytes, guess)?;
+    let played = play::<B>(alloc, bytes, machine, guess)?;
     let clients = played.clients;
     if clients == guess {
         return Ok(played.text);
     }
     drop(played);
-    let again = play::<B>(alloc, bytes, clients)?;
+    let again = play::<B>(alloc, bytes, machine, clients)?;
     Ok(again.text)
 }
 
@@ -61,16 +69,26 @@ pub struct Played {
     pub clients: u32,
 }
 
-// Plays the calls of a trace on a machine of so many clients, each as its line is read.
-fn play<B: Recorded>(alloc: Global, bytes: &[u8], clients: u32) -> Result<Played, TextFault>
+// Plays the calls of a trace on a machine of this size with so many clients, each as its line is read.
+fn play<B: Recorded>(
+    alloc: Global,
+    bytes: &[u8],
+    machine: MachineSize,
+    clients: u32,
+) -> Result<Played, TextFault>
     requires few { length bytes.now < 2 ^ 32 - 1 }
+    requires size { IsMachineSize machine }
     requires clients { clients ≤ 16 }
-    ensures ok { IfOk result (λ played. IsPlayed clients bytes.now played) }
+    ensures ok { IfOk result (λ played. IsPlayed machine clients bytes.now played) }
     ensures most { IfOk result (λ played. played.clients ≤ 16) }
-    ensures only { (calls : List (Actor × Made)) → IsTraceOf bytes.now calls → IsOrNoMemory (IsPlayedOf clients calls) result }
+    ensures only { (calls : List (Actor × Made)) → IsTraceOf bytes.now calls → IsOrNoMemory (IsPlayedOf machine clients calls) result }
     ensures err { IfErr result (λ fault. IsPlace (IsTraceFault IsLine bytes.now) fault) }
 {
-    let mut book = B::open(alloc, program_limits(clients, WORKERS), CAPACITY)?;
+    let mut book = B::open(
+        alloc,
+        program_limits(clients, machine.workers),
+        machine.events,
+    )?;
     let mut text = Lines::new(alloc);
     let mut greatest = 0;
     let mut lines = 0;

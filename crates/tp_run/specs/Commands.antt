@@ -1,21 +1,30 @@
--- Which words are a command.
-use Rattle.std.specs.Prelude.{ℕ, List, [], ◌∷◌, codes, if◌then◌else◌, None, Some, Option, option_map}
-use Rattle.std.specs.Str.{bytes_eq}
-use Rattle.tp_run.specs.Numbers.{number_in}
+-- Which lists of words are a command.
+use Rattle.std.specs.Prelude.{ℕ, List, is_some, if◌then◌else◌, None, Some, Option, option_and_then, option_map}
+use Rattle.tp_report.specs.declared.playing.MachineSize.{MachineSize}
+use Rattle.tp_run.specs.Said.{bounded, nothing, said_by}
 use Rattle.tp_run.specs.declared.command.Command.{Command}
 use Rattle.tp_run.specs.declared.command.Command.TheVariants.{Trace, Check, Gen}
+use Rattle.tp_run.specs.declared.said.Name.{Name}
+use Rattle.tp_run.specs.declared.said.Name.TheVariants as name
+use Rattle.tp_run.specs.declared.said.Said.{Said}
 
--- the command that one word is
-abbrev pub named : List ℕ → Option Command
-named word = if bytes_eq word (codes "trace") then Some Trace else if bytes_eq word (codes "check") then Some Check else None
+-- the command of a name, with a machine of this size and with the number that was said
+abbrev pub command_named : Option Name → MachineSize → Option ℕ → Option Command
+command_named None machine number = None
+command_named (Some name.Trace) machine number = Some (Trace machine)
+command_named (Some name.Check) machine number = Some Check
+command_named (Some name.Gen) machine number = option_map (λ n. Gen n) number
 
--- the command that a word and a number are
-abbrev pub numbered : List ℕ → List ℕ → Option Command
-numbered word text = if bytes_eq word (codes "gen") then option_map (λ number. Gen number) (number_in text) else None
+-- each value is in its range, and no value is missing
+abbrev pub command_said : Said → Option Command
+command_said said = if is_some said.awaited then None else
+    option_and_then (λ threads.
+    option_and_then (λ workers.
+    option_and_then (λ events. command_named said.command (record { workers = workers; events = events }) said.number)
+    (bounded 16 131072 65536 said.events))
+    (bounded 1 64 4 said.workers))
+    (bounded 1 16 1 said.threads)
 
--- the one word `trace`, the one word `check`, and the word `gen` with a number are commands, and there are no others
+-- the command that the words are, if they are one
 abbrev pub command_of : List (List ℕ) → Option Command
-command_of [] = None
-command_of (word ∷ []) = named word
-command_of (word ∷ text ∷ []) = numbered word text
-command_of (word ∷ text ∷ next ∷ words) = None
+command_of words = option_and_then command_said (said_by (Some nothing) words)

@@ -12,7 +12,7 @@ use Rattle.tp_run.specs.declared.status.Ending.{Ending}
 use Rattle.tp_run.specs.declared.status.Ending.TheVariants.{Fine, NotLegal}
 use Rattle.tp_base.specs.declared.answers.Entry.{Entry}
 use Rattle.tp_report.specs.Histories.{IsHistory, IsHistoryFault}
-use Rattle.tp_report.specs.Traces.{IsTraceOf, output_of}
+use Rattle.tp_report.specs.Traces.{IsMachineSize, IsTraceOf, output_of}
 use Rattle.tp_report.specs.Verdicts.{IsVerdict, limits_of, verdict_text}
 use Rattle.tp_report.specs.declared.headers.Header.{Header}
 use Rattle.tp_report.specs.declared.verdict.Verdict.{Verdict}
@@ -32,10 +32,16 @@ pub record IsChecked (bytes output : List ℕ) (ending : Ending) : Type 0 where
   pub output_is : output ≡ verdict_text told
   pub ending_is : ending ≡ ending_of told
 
+-- the machine of a trace is of a size that there is
+abbrev pub IsPlayable : Command → Type 0
+IsPlayable (Trace machine) = IsMachineSize machine
+IsPlayable Check = Unit {0}
+IsPlayable (Gen number) = Unit {0}
+
 -- whether a command has an input, which is what the source has
 abbrev pub reads : Option Command → Bool
 reads None = false
-reads (Some Trace) = true
+reads (Some (Trace machine)) = true
 reads (Some Check) = true
 reads (Some (Gen number)) = false
 
@@ -58,13 +64,13 @@ IsTold command bytes left = IsToldIf (reads command) bytes left
 -- the bytes are in the grammar of the command's input, and these are its output for them and its ending
 abbrev pub Gives : Option Command → List ℕ → List ℕ → Ending → Type 0
 Gives None bytes output ending = ⊥
-Gives (Some Trace) bytes output ending = (calls : List (Who × Call)) × IsTraceOf bytes calls × (output ≡ output_of calls) × (ending ≡ Fine)
+Gives (Some (Trace machine)) bytes output ending = (calls : List (Who × Call)) × IsTraceOf bytes calls × (output ≡ output_of machine calls) × (ending ≡ Fine)
 Gives (Some Check) bytes output ending = IsChecked bytes output ending
 Gives (Some (Gen number)) bytes output ending = (output ≡ generated number 64) × (ending ≡ Fine)
 
 -- the bytes are not in the grammar of the command's input, and this is the place of their first fault
 abbrev pub IsFaultyAt : Option Command → List ℕ → ℕ → ℕ → Type 0
 IsFaultyAt None bytes line column = ⊥
-IsFaultyAt (Some Trace) bytes line column = IsTraceFault IsLine bytes line column
+IsFaultyAt (Some (Trace machine)) bytes line column = IsTraceFault IsLine bytes line column
 IsFaultyAt (Some Check) bytes line column = IsHistoryFault bytes line column
 IsFaultyAt (Some (Gen number)) bytes line column = ⊥

@@ -4,4 +4,5 @@ pub mod Ends
 pub mod Inputs
 pub mod Numbers
 pub mod Runs
+pub mod Said
 pub mod Words

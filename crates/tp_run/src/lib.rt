@@ -14,6 +14,7 @@
 
 mod command;
 mod number;
+mod said;
 mod status;
 mod top;
 mod words;

@@ -8,7 +8,7 @@ ghost use Rattle.tp_edge.specs.Taken.{behind, IsAbove, IsEnded};
 ghost use Rattle.tp_run.specs.Commands.{command_of};
 ghost use Rattle.tp_run.specs.Ends.{IsAllRead, IsReply, IsRun, IsTakenTo, status_of};
 ghost use Rattle.tp_report.specs.Verdicts.{verdict_text};
-ghost use Rattle.tp_run.specs.Inputs.{ending_of, Gives, IsTold, reads};
+ghost use Rattle.tp_run.specs.Inputs.{ending_of, Gives, IsPlayable, IsTold, reads};
 ghost use Rattle.tp_run.specs.Runs.{IsAnswered, IsBadLine, IsBadLineOf, IsReadToEnd, IsUnwritten, IsWhole, IsWithin};
 ghost use Rattle.tp_run.specs.declared.status.Ending.{Ending};
 
@@ -94,6 +94,7 @@ fn run<B: Recorded, S: Source, K: Sink>(
     source: &mut S,
     sink: &mut K,
 ) -> Status
+    requires { IsPlayable command }
     ensures run { IsRun command (S.left source.old) (S.left source.new) (K.holds sink.old) (K.holds sink.new) result }
     ensures unread { reads (Some command) ≡ false → source.new ≡ source.old }
     ensures unwritten { IsUnwritten result → sink.new ≡ sink.old }
@@ -117,6 +118,7 @@ fn read_output<B: Recorded, S: Source>(
     command: Command,
     source: &mut S,
 ) -> Result<Output, Status>
+    requires { IsPlayable command }
     ensures taken { IsTakenTo command (S.left source.old) (S.left source.new) result }
     ensures unread { reads (Some command) ≡ false → source.new ≡ source.old }
     ensures read_fault { result ≡ Err Status.ReadFault → Rose (S.failures source.old) (S.failures source.new) }
@@ -147,12 +149,13 @@ fn read_input<S: Source>(
 
 // The command's output for its whole input.
 fn reply<B: Recorded>(alloc: Global, command: Command, bytes: &[u8]) -> Result<Output, Status>
-    requires { length bytes.now ≤ INPUT_LIMIT }
+    requires few { length bytes.now ≤ INPUT_LIMIT }
+    requires playable { IsPlayable command }
     ensures { IsReply command bytes.now result }
 {
     match command {
-        Command::Trace => {
-            let text = trace::<B>(alloc, bytes)?;
+        Command::Trace { machine } => {
+            let text = trace::<B>(alloc, bytes, machine)?;
             Ok(Output {
                 text,
                 ending: Ending::Fine,

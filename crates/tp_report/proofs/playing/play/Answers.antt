@@ -11,51 +11,51 @@ use Rattle.tp_report.proofs.playing.play.Goals as goal
 
 pub loop-rest-init : goal.loop-rest-init
 loop-rest-init g c =
-    played_none c.args.clients c.args.bytes.now (g.B.Recorded.recording c.in_ok-book.book) c.new-text.result (c.in_ok-book.ensures.limits ∙ c.program_limits.ensures.value) c.in_ok-book.ensures.capacity c.in_ok-book.ensures.empty
+    played_none c.args.machine c.args.clients c.args.bytes.now (g.B.Recorded.recording c.in_ok-book.book) c.new-text.result (c.in_ok-book.ensures.limits ∙ c.program_limits.ensures.value) c.in_ok-book.ensures.capacity c.in_ok-book.ensures.empty
     c.new-text.ensures
 
 pub fault_behind-requires-clause-lines : goal.fault_behind-requires-clause-lines
 fault_behind-requires-clause-lines g c =
-    let l = c.loop-rest in omega (arith, c.requires.few, played_few c.args.clients c.args.bytes.now (g.B.Recorded.recording l.book) l.text l.greatest l.lines l.rest.now l.invariant)
+    let l = c.loop-rest in omega (arith, c.requires.few, played_few c.args.machine c.args.clients c.args.bytes.now (g.B.Recorded.recording l.book) l.text l.greatest l.lines l.rest.now l.invariant)
 
 pub overflow_add-lines : goal.overflow_add-lines
-overflow_add-lines g c = let l = c.loop-rest in omega (arith, c.requires.few, played_few c.args.clients c.args.bytes.now (g.B.Recorded.recording l.book) l.text l.greatest l.lines l.rest.now l.invariant)
+overflow_add-lines g c = let l = c.loop-rest in omega (arith, c.requires.few, played_few c.args.machine c.args.clients c.args.bytes.now (g.B.Recorded.recording l.book) l.text l.greatest l.lines l.rest.now l.invariant)
 
 pub returns-in-Err-clause-only : goal.returns-in-Err-clause-only
 returns-in-Err-clause-only g c = λ all trace.
     let l = c.loop-rest in
     let some : 0 < length l.rest.now = omega (arith, eqb-false (length l.rest.now) 0 (sym c.is_empty.ensures ∙ c.loop-rest-test.true)) in
-    absurd (played_no c.args.clients c.args.bytes.now (g.B.Recorded.recording l.book) l.text l.greatest l.lines l.rest.now l.invariant c.in-Err.place some c.in-Err.ensures all trace)
+    absurd (played_no c.args.machine c.args.clients c.args.bytes.now (g.B.Recorded.recording l.book) l.text l.greatest l.lines l.rest.now l.invariant c.in-Err.place some c.in-Err.ensures all trace)
 
 pub returns-in-Err-clause-err : goal.returns-in-Err-clause-err
 returns-in-Err-clause-err g c =
     let l = c.loop-rest in
     let some : 0 < length l.rest.now = omega (arith, eqb-false (length l.rest.now) 0 (sym c.is_empty.ensures ∙ c.loop-rest-test.true)) in
     subst (λ f. IsPlace (IsTraceFault IsLine c.args.bytes.now) f) (sym c.fault_behind.ensures)
-    (played_fault c.args.clients c.args.bytes.now (g.B.Recorded.recording l.book) l.text l.greatest l.lines l.rest.now l.invariant c.in-Err.place some c.in-Err.ensures)
+    (played_fault c.args.machine c.args.clients c.args.bytes.now (g.B.Recorded.recording l.book) l.text l.greatest l.lines l.rest.now l.invariant c.in-Err.place some c.in-Err.ensures)
 
 pub loop-rest-preserved : goal.loop-rest-preserved
 loop-rest-preserved g c =
     let l = c.loop-rest in
     rw c.split_at.ensures.back
-    (played_next c.args.clients c.args.bytes.now (g.B.Recorded.recording l.book) l.text l.greatest l.lines l.rest.now l.invariant (g.B.Recorded.recording c.play_call.new.book) (c.in-Ok.who, c.in-Ok.call) c.in-Ok.size c.greater_client-greatest.result (outcome_behind (g.B.Recorded.recording l.book) c.in-Ok.who c.in-Ok.call)
+    (played_next c.args.machine c.args.clients c.args.bytes.now (g.B.Recorded.recording l.book) l.text l.greatest l.lines l.rest.now l.invariant (g.B.Recorded.recording c.play_call.new.book) (c.in-Ok.who, c.in-Ok.call) c.in-Ok.size c.greater_client-greatest.result (outcome_behind (g.B.Recorded.recording l.book) c.in-Ok.who c.in-Ok.call)
     c.play_call.new.lines c.in-Ok.ensures c.play_call.ensures.first c.in_ok-play_call-in-Ok.ensures.printed c.greater_client-greatest.ensures)
 
 pub returns-clause-ok : goal.returns-clause-ok
 returns-clause-ok g c =
     let l = c.loop-rest in
     let none : length l.rest.now ≡ 0 = eqb-true (length l.rest.now) 0 (sym c.is_empty.ensures ∙ c.loop-rest-test.false) in
-    played_all c.args.clients c.args.bytes.now (g.B.Recorded.recording l.book) l.text l.greatest l.lines l.rest.now l.invariant (record { text = c.into_text.result; clients = l.greatest }) c.into_text.ensures refl none
+    played_all c.args.machine c.args.clients c.args.bytes.now (g.B.Recorded.recording l.book) l.text l.greatest l.lines l.rest.now l.invariant (record { text = c.into_text.result; clients = l.greatest }) c.into_text.ensures refl none
 
 pub returns-clause-only : goal.returns-clause-only
 returns-clause-only g c =
     let l = c.loop-rest in
     let none : length l.rest.now ≡ 0 = eqb-true (length l.rest.now) 0 (sym c.is_empty.ensures ∙ c.loop-rest-test.false) in
-    played_only c.args.clients c.args.bytes.now (g.B.Recorded.recording l.book) l.text l.greatest l.lines l.rest.now l.invariant (record { text = c.into_text.result; clients = l.greatest }) c.into_text.ensures refl none
+    played_only c.args.machine c.args.clients c.args.bytes.now (g.B.Recorded.recording l.book) l.text l.greatest l.lines l.rest.now l.invariant (record { text = c.into_text.result; clients = l.greatest }) c.into_text.ensures refl none
 
 pub returns-in_err-play_call-in-Ok-clause-only : goal.returns-in_err-play_call-in-Ok-clause-only
 returns-in_err-play_call-in-Ok-clause-only g c = λ all trace.
-    let told = c.from_residual-in_err-play_call-in-Ok in or_no_memory (IsPlayedOf c.args.clients all) told.result told.ensures.1
+    let told = c.from_residual-in_err-play_call-in-Ok in or_no_memory (IsPlayedOf c.args.machine c.args.clients all) told.result told.ensures.1
 
 pub returns-in_err-play_call-in-Ok-clause-err : goal.returns-in_err-play_call-in-Ok-clause-err
 returns-in_err-play_call-in-Ok-clause-err g c = let told = c.from_residual-in_err-play_call-in-Ok in no_place (IsTraceFault IsLine c.args.bytes.now) told.result told.ensures.1
