@@ -8,4 +8,6 @@ mod books;
 #[cfg(test)]
 mod expect;
 #[cfg(test)]
+mod sharing;
+#[cfg(test)]
 mod streams;
