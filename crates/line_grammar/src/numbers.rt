@@ -8,6 +8,7 @@ ghost use Rattle.line_grammar.specs.Parts.{Led};
 use crate::words::{behind, further};
 
 /// Reads a number from `least` to `most` at the front of the text.
+#[inline(always)]
 pub fn read_number(text: &[u8], least: u64, most: u64) -> Result<(u64, usize), usize>
     requires least_most { least ≤ most }
     requires least_low { 1 < least → (least ≤ 19) × (199 ≤ most) }

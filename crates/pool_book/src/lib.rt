@@ -84,9 +84,9 @@ impl Recorded for Book {
     fn step_into(&mut self, who: Who, call: Call, outcome: &mut Outcome) {
         let room = self.room();
         let made = self.engine.step(who, call, room);
-        if let Outcome::Done(answer) = &made {
+        if let Outcome::Done(answer) = made {
             self.len += 1;
-            self.past = self.past.with(&who, &call, answer);
+            self.past = self.past.with(&who, &call, &answer);
         }
         *outcome = made;
     }
