@@ -29,6 +29,7 @@ pub mod Laws
 pub mod Lists
 pub mod Maximum
 pub mod Members
+pub mod Moved
 pub mod Moves
 pub mod Notices
 pub mod Once
