@@ -14,6 +14,7 @@ pub mod Covered
 pub mod Due
 pub mod Entries
 mod Examples
+pub mod Facts
 pub mod Fates
 pub mod Firing
 pub mod Fitting
@@ -44,6 +45,7 @@ pub mod Releasing
 pub mod Remembered
 pub mod Running
 pub mod Sound
+pub mod Standing
 pub mod Steps
 pub mod Takings
 pub mod Tied

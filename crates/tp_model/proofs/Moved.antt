@@ -70,10 +70,10 @@ routine_of c = c.routine
 
 module _ (w : World) where
   -- what is found has its routine still
-  abbrev KeepsRoutines : List CallbackRow → Type 0
+  abbrev pub KeepsRoutines : List CallbackRow → Type 0
   KeepsRoutines now = (n : ℕ) (c : CallbackRow) → find (has_number n) w.callbacks ≡ Some c → routine_at now n ≡ Some c.routine
 
-  same_routines : KeepsRoutines w.callbacks
+  pub same_routines : KeepsRoutines w.callbacks
   same_routines n c found = ap (option_map (λ (x : CallbackRow). x.routine)) found
 
   more_routines : (now new : List CallbackRow) → KeepsRoutines now → KeepsRoutines (now ++ new)
