@@ -6,6 +6,7 @@ use Rattle.tp_base.specs.Actors.{is_same_actor}
 use Rattle.tp_base.specs.Kernels.{may_take}
 use Rattle.tp_base.specs.declared.answers.Answer.{Answer}
 use Rattle.tp_base.specs.declared.answers.Answer.TheVariants as answer
+use Rattle.tp_base.specs.declared.answers.Entry.{Entry}
 use Rattle.tp_base.specs.declared.answers.Look.{Look}
 use Rattle.tp_base.specs.declared.answers.Look.TheVariants as look
 use Rattle.tp_base.specs.declared.answers.Outcome.TheVariants as outcome
@@ -29,14 +30,15 @@ use Rattle.tp_base.specs.declared.plans.Stage.TheVariants as stage
 use Rattle.tp_base.specs.declared.plans.WaitEnd.TheVariants as how
 use Rattle.tp_base.specs.declared.rows.CallbackRow.{CallbackRow}
 use Rattle.tp_base.specs.declared.rows.ClientRow.{ClientRow}
+use Rattle.tp_base.specs.declared.rows.Status.{Status}
 use Rattle.tp_base.specs.declared.rows.WaitTarget.{WaitTarget}
 use Rattle.tp_base.specs.declared.rows.WaitTarget.TheVariants.{Group, Kernel, Object}
 use Rattle.tp_base.specs.declared.rows.WorkerRow.{WorkerRow}
 use Rattle.tp_model.specs.Calls.Clients.{finish, finish_plan}
 use Rattle.tp_model.specs.Calls.Waits.{end_for, end_held, end_notices, end_plan, end_wait, holds_starved, notice_of}
-use Rattle.tp_model.specs.Calls.Workers.{attach_plan, attach_to, detach, detach_plan, may_leave, pool_to_join, return, return_plan, take, take_callback, take_plan}
+use Rattle.tp_model.specs.Calls.Workers.{attach_plan, attach_to, detach, detach_plan, idle_refusals, may_leave, pool_to_join, return, return_plan, take, take_callback, take_plan}
 use Rattle.tp_model.specs.Changes.{changed}
-use Rattle.tp_model.specs.Conditions.{busy_of, busy_row, idle_of, is_actor, is_attached, is_finished, is_in_wait, is_without_callback, is_worker, runs_callback}
+use Rattle.tp_model.specs.Conditions.{busy_in, busy_of, idle_in, idle_of, is_actor, is_attached, is_finished, is_in_wait, is_without_callback, is_worker, runs_callback}
 use Rattle.tp_model.specs.Counts.{callback_of, has_number, is_running, maximum, next, numbered, running}
 use Rattle.tp_model.specs.History.{IsLegal, after}
 use Rattle.tp_model.specs.Kernels.{is_kernel_that}
@@ -118,13 +120,10 @@ module _ (w : World) (waits : Bool) where
         finished = refl;
         attached = attached_row number _ is;
         runs = runs_row number _ is;
-        idle = λ h. record { by = record { worker = number; pool = pool }; is = ap (λ (o : Option WorkerRow). idle_found number o) is };
+        idle = λ h. record { by = record { worker = number; pool = pool }; is = ap (λ (o : Option WorkerRow). idle_in number o) is };
         busy = λ routine h. absurd cc;
         wait = wait;
       })
-    where
-      abbrev idle_found : ℕ → Option WorkerRow → Option Idle
-      idle_found = Rattle.tp_model.specs.Conditions.idle_in
   worker_at_stage number (Some pool) (Some n) at is e wait = of_row (find (has_number n) w.callbacks) refl e
     where
       of_row : (o : Option CallbackRow) → callback_of w n ≡ o → option_map (λ (routine : RoutineId). stage.Busy routine) (option_map (λ (c : CallbackRow). c.routine) o) ≡ Some at → IsAtStage w (Worker number) at waits
@@ -141,7 +140,7 @@ module _ (w : World) (waits : Bool) where
             busy = λ routine g.
                 record {
                   by = record { worker = number; pool = pool; callback = c };
-                  is = ap (λ (o : Option WorkerRow). Rattle.tp_model.specs.Conditions.busy_in w number o) is ∙ ap (option_map (λ (x : CallbackRow). record { worker = number; pool = pool; callback = x })) there;
+                  is = ap (λ (o : Option WorkerRow). busy_in w number o) is ∙ ap (option_map (λ (x : CallbackRow). record { worker = number; pool = pool; callback = x })) there;
                   routine_is = cc;
                 };
             wait = wait;
@@ -262,7 +261,7 @@ attach_is w number actor runs free =
     ∙ ap (λ b. unless_refused (cond b (Some AlreadyAttached) None) rest) free
 
 idle_is : (w : World) (number : ℕ) (rest : Plan) → is_actor w (Worker number) ≡ true → runs_callback w (Worker number) ≡ false → is_attached w (Worker number) ≡ true
-    → unless_refused (first_refusal (Rattle.tp_model.specs.Calls.Workers.idle_refusals w (Worker number))) rest ≡ rest
+    → unless_refused (first_refusal (idle_refusals w (Worker number))) rest ≡ rest
 idle_is w number rest actor runs attached =
     ap (λ b. unless_refused (cond (not b) (Some NoSuch) (cond (runs_callback w (Worker number)) (Some StillRunning) (cond (not (is_attached w (Worker number))) (Some NotAttached) None))) rest) actor
     ∙ ap (λ b. unless_refused (cond b (Some StillRunning) (cond (not (is_attached w (Worker number))) (Some NotAttached) None)) rest) runs
@@ -284,3 +283,185 @@ end_is w left who actor finished without waits =
     ∙ ap (λ b. unless_refused (cond b (Some Released) (cond (is_without_callback w who) (Some NotRunning) (cond (is_none (wait_of w who)) (Some NoWaitBegun) None))) rest) finished
     ∙ ap (λ b. unless_refused (cond b (Some NotRunning) (cond (is_none (wait_of w who)) (Some NoWaitBegun) None)) rest) without
     ∙ ap (λ b. unless_refused (cond b (Some NoWaitBegun) None) rest) waits
+
+-- ---- behind a world in which actors stand
+
+found_wait : (w : World) (who : Who) → is_in_wait w who ≡ true → (b : BegunWait) × (wait_of w who ≡ Some b)
+found_wait w who e = among w.waits e
+  where
+    among : (bs : List BegunWait) → list_any (λ (b : BegunWait). is_same_actor b.actor who) bs ≡ true → (b : BegunWait) × (find (λ (x : BegunWait). is_same_actor x.actor who) bs ≡ Some b)
+    among [] h = absurd (false_true h)
+    among (b ∷ bs) h = one (is_same_actor b.actor who) refl (λ g. among bs g) h
+      where
+        one : (t : Bool) → is_same_actor b.actor who ≡ t → (list_any (λ (x : BegunWait). is_same_actor x.actor who) bs ≡ true → (d : BegunWait) × (find (λ (x : BegunWait). is_same_actor x.actor who) bs ≡ Some d))
+            → (is_same_actor b.actor who || list_any (λ (x : BegunWait). is_same_actor x.actor who) bs) ≡ true → (d : BegunWait) × (find (λ (x : BegunWait). is_same_actor x.actor who) (b ∷ bs) ≡ Some d)
+        one true is later g = (b, ap (λ t. cond t (Some b) (find (λ (x : BegunWait). is_same_actor x.actor who) bs)) is)
+        one false is later g =
+            let rest = later (sym (ap (λ t. t || list_any (λ (x : BegunWait). is_same_actor x.actor who) bs) is) ∙ g) in
+            (rest.0, ap (λ t. cond t (Some b) (find (λ (x : BegunWait). is_same_actor x.actor who) bs)) is ∙ rest.1)
+
+-- who plays or is in a callback has not finished, and as a worker runs one
+part_ready : (w : World) (who : Who) (at : Stage) → stage_in w who ≡ Some at → is_in_part at ≡ true → (is_finished w who ≡ false) × (is_without_callback w who ≡ false)
+part_ready w (Client number) at is part = (of_row (numbered w.clients number) is, refl)
+  where
+    of_stage : (f : Bool) → cond f stage.Over stage.Playing ≡ at → f ≡ false
+    of_stage true e = absurd (false_true (ap is_in_part e ∙ part))
+    of_stage false e = refl
+
+    of_row : (o : Option ClientRow) → option_map client_stage o ≡ Some at → option_map_or (λ (r : ClientRow). r.finished) o false ≡ false
+    of_row None e = refl
+    of_row (Some r) e = of_stage r.finished (cc)
+part_ready w (Worker number) at is part = (refl, of_row (numbered w.workers number) is)
+  where
+    of_parts : (pool : Option PoolId) (callback : Option ℕ) → worker_stage w.callbacks pool callback ≡ Some at → is_none callback ≡ false
+    of_parts pool (Some n) e = refl
+    of_parts None None e = let same : stage.Away ≡ at = cc in absurd (false_true (ap is_in_part same ∙ part))
+    of_parts (Some pool) None e = let same : stage.Idle ≡ at = cc in absurd (false_true (ap is_in_part same ∙ part))
+
+    of_row : (o : Option WorkerRow) → stage_at w.callbacks o ≡ Some at → option_map_or (λ (r : WorkerRow). is_none r.callback) o false ≡ false
+    of_row None e = refl
+    of_row (Some row) e = of_parts row.pool row.callback e
+
+-- a wait that is begun gives a notice, ends or looks
+end_waits : (w : World) (left : ℕ) (who : Who) (s : IsSound (next_number_in w) w) (b : BegunWait) → IsWaitPlan w left who End s (end_wait w left who (Some b))
+end_waits w left who s b = of_target b.target
+  where
+    of_notices : (os : List ObjectId) → IsWaitPlan w left who End s (end_notices w who b.cleanup os)
+    of_notices [] = (refl, refl)
+    of_notices (o ∷ os) = (refl, refl)
+
+    of_held : (numbers : List ℕ) → IsWaitPlan w left who End s (end_held w left who b numbers)
+    of_held [] = of_notices b.notices
+    of_held (n ∷ ns) =
+        elim (holds_starved w left (n ∷ ns)) as (λ t. IsWaitPlan w left who End s (cond t (plans.Does answer.Exhausted (change.EndWait who how.Exhausted)) (plans.Looked (look.NotYet n)))) [ true ↦ (refl, refl) | false ↦ refl ]
+
+    of_target : (t : WaitTarget) → IsWaitPlan w left who End s (end_for w left who b t)
+    of_target (Object object) = of_held (held w b)
+    of_target (Group group) = of_held (held w b)
+    of_target (Kernel kernel) =
+        elim (is_kernel_that (may_take who) w kernel.0) as (λ t. IsWaitPlan w left who End s (cond t (plans.Does answer.Ended (change.EndWait who how.Free)) (plans.Looked (look.NotYetKernel kernel)))) [ true ↦ (refl, refl) | false ↦ refl ]
+
+all_numbered : {X : Type 0} (test : X → Bool) (rows : List X) (number : ℕ) (row : X) → list_all test rows ≡ true → numbered rows number ≡ Some row → test row ≡ true
+all_numbered {X} test rows number row all is = at_place rows (number - 1) all (numbered_some rows number row is).0
+  where
+    at_place : (xs : List X) (i : ℕ) → list_all test xs ≡ true → slice_get xs i ≡ Some row → test row ≡ true
+    at_place [] i h e = absurd cc
+    at_place (x ∷ xs) zero h e = let same : x ≡ row = cc in ap test (sym same) ∙ (both (test x) (list_all test xs) h).0
+    at_place (x ∷ xs) (suc i) h e = at_place xs i (both (test x) (list_all test xs) h).1 e
+
+module _ (limits : Limits) (history : List Entry) (p : AreStanding limits history (after limits history)) where
+  -- the world behind the history
+  abbrev w : World
+  w = after limits history
+
+  here : (who : Who) → IsActor limits who → IsAtStage w who (stage_of who history) (waits_of who history)
+  here who actor = at_stage w (waits_of who history) who (stage_of who history) (p.stages who actor) (p.waits who)
+
+  finishes : (who : Who) → IsActor limits who → stage_of who history ≡ stage.Playing → waits_of who history ≡ false → (left : ℕ) → outcome_of (step w left who Finish) ≡ outcome.Done answer.Done
+  finishes (Client number) actor at waits left =
+      let h = here (Client number) actor in
+      free_done w left (Client number) Finish p.sound (plans.Does answer.Done (change.Finish number)) answer.Done (change.Finish number)
+      (finish_is w number h.actor (h.finished ∙ ap is_over_stage at) (h.wait ∙ waits)) refl refl
+  finishes (Worker number) actor at waits left = absurd ((worker_stages w number (stage_of (Worker number) history) (p.stages (Worker number) actor)).0 at)
+
+  returns : (who : Who) (routine : RoutineId) → IsActor limits who → stage_of who history ≡ stage.Busy routine → waits_of who history ≡ false → (left : ℕ) → is_return (outcome_of (step w left who Return)) ≡ true
+  returns (Client number) routine actor at waits left = absurd (false_true (sym (ap is_client_stage at) ∙ client_stages w number (stage_of (Client number) history) (p.stages (Client number) actor)))
+  returns (Worker number) routine actor at waits left =
+      let h = here (Worker number) actor in
+      let b = h.busy routine at in
+      let is : return_plan w (next_number_in w) (Worker number) ≡ return w (next_number_in w) (Worker number) (Some b.by) =
+      return_is w (next_number_in w) number h.actor (h.runs ∙ ap is_busy_stage at) (h.wait ∙ waits) ∙ ap (return w (next_number_in w) (Worker number)) b.is in
+      ap is_return (free_done w left (Worker number) Return p.sound (return w (next_number_in w) (Worker number) (Some b.by)) _ _ is refl refl)
+
+  ends : (who : Who) → IsActor limits who → waits_of who history ≡ true → (left : ℕ) → is_wait_outcome (outcome_of (step w left who End)) ≡ true
+  ends who actor waits left =
+      let ready = part_ready w who (stage_of who history) (p.stages who actor) (p.calm who actor waits) in
+      let wait = found_wait w who (p.waits who ∙ waits) in
+      waited w left who End p.sound (end_wait w left who (Some wait.0))
+      (end_is w left who (here who actor).actor ready.0 ready.1 (ap is_none wait.1) ∙ ap (end_wait w left who) wait.1) (end_waits w left who p.sound wait.0)
+
+  attaches : (who : Who) → IsActor limits who → stage_of who history ≡ stage.Away → (left : ℕ) (told : Answer) → outcome_of (step w left who Attach) ≡ outcome.Done told → is_some (attached_by told) ≡ true
+  attaches (Client number) actor at left told e = absurd (false_true (sym (ap is_client_stage at) ∙ client_stages w number (stage_of (Client number) history) (p.stages (Client number) actor)))
+  attaches (Worker number) actor at left told e =
+      let h = here (Worker number) actor in
+      telling w left (Worker number) Attach p.sound (λ a. is_some (attached_by a) ≡ true) (attach_to (Worker number) (pool_to_join w)) told
+      (attach_is w number h.actor (h.runs ∙ ap is_busy_stage at) (h.attached ∙ ap is_at_pool at)) (of_pool (pool_to_join w)) e
+    where
+      of_pool : (pool : Option ℕ) → IsTelling w left (Worker number) Attach p.sound (λ a. is_some (attached_by a) ≡ true) (attach_to (Worker number) pool)
+      of_pool None = tt
+      of_pool (Some pool) = refl
+
+  takes : (who : Who) → IsActor limits who → stage_of who history ≡ stage.Idle → (left : ℕ) (told : Answer) → outcome_of (step w left who Take) ≡ outcome.Done told → is_some (taken_by told) ≡ true
+  takes (Client number) actor at left told e = absurd (false_true (sym (ap is_client_stage at) ∙ client_stages w number (stage_of (Client number) history) (p.stages (Client number) actor)))
+  takes (Worker number) actor at left told e =
+      let h = here (Worker number) actor in
+      let i = h.idle at in
+      telling w left (Worker number) Take p.sound (λ a. is_some (taken_by a) ≡ true) (take_callback w i.by (next w i.by.pool.0)) told
+      (take_is w number h.actor (h.runs ∙ ap is_busy_stage at) (h.attached ∙ ap is_at_pool at) ∙ ap (take w) i.is) (of_next i.by (next w i.by.pool.0)) e
+    where
+      of_next : (by : Idle) (c : Option CallbackRow) → IsTelling w left (Worker number) Take p.sound (λ a. is_some (taken_by a) ≡ true) (take_callback w by c)
+      of_next by None = tt
+      of_next by (Some c) =
+          elim (nat_le (maximum w by.pool.0) (running w by.pool.0))
+          as (λ b. IsTelling w left (Worker number) Take p.sound (λ a. is_some (taken_by a) ≡ true) (cond b (plans.Looked (look.AtMaximum (running w by.pool.0))) (plans.Does (answer.Taken c.number c.object c.routine c.context c.result) (change.Take by c)))) [
+            | true ↦ tt
+            | false ↦ refl
+          ]
+
+  leaves : (who : Who) → IsActor limits who → stage_of who history ≡ stage.Idle → (left : ℕ) (told : Answer) → outcome_of (step w left who Detach) ≡ outcome.Done told → told ≡ answer.Done
+  leaves (Client number) actor at left told e = absurd (false_true (sym (ap is_client_stage at) ∙ client_stages w number (stage_of (Client number) history) (p.stages (Client number) actor)))
+  leaves (Worker number) actor at left told e =
+      let h = here (Worker number) actor in
+      let i = h.idle at in
+      telling w left (Worker number) Detach p.sound (λ a. a ≡ answer.Done) (detach w (Some i.by)) told
+      (detach_is w number h.actor (h.runs ∙ ap is_busy_stage at) (h.attached ∙ ap is_at_pool at) ∙ ap (detach w) i.is) (of_pool i.by) e
+    where
+      of_pool : (by : Idle) → IsTelling w left (Worker number) Detach p.sound (λ a. a ≡ answer.Done) (detach w (Some by))
+      of_pool by = elim (may_leave w by.pool.0) as (λ b. IsTelling w left (Worker number) Detach p.sound (λ a. a ≡ answer.Done) (cond b (plans.Does answer.Done (change.Detach by)) (plans.Looked look.Stay))) [ true ↦ refl | false ↦ tt ]
+
+  over_clients : (left : ℕ) → is_over w left ≡ true → (number : ℕ) → IsActor limits (Client number) → stage_of (Client number) history ≡ stage.Over
+  over_clients left over number actor = of_row (numbered w.clients number) refl (p.stages (Client number) actor)
+    where
+      all : list_all (λ (r : ClientRow). r.finished) w.clients ≡ true
+      all = (both (list_all (λ (r : ClientRow). r.finished) w.clients) (not (list_any (goes_on w left) w.callbacks)) over).0
+
+      of_row : (o : Option ClientRow) → numbered w.clients number ≡ o → option_map client_stage o ≡ Some (stage_of (Client number) history) → stage_of (Client number) history ≡ stage.Over
+      of_row None is e = absurd cc
+      of_row (Some r) is e =
+          let same : client_stage r ≡ stage_of (Client number) history = cc in
+          sym same ∙ ap (λ f. cond f stage.Over stage.Playing) (all_numbered (λ (x : ClientRow). x.finished) w.clients number r all is)
+
+  over_workers : (left : ℕ) → is_over w left ≡ true → (number : ℕ) → IsActor limits (Worker number) → is_busy_stage (stage_of (Worker number) history) ≡ false
+  over_workers left over number actor = of_row (numbered w.workers number) refl (p.stages (Worker number) actor)
+    where
+      none : list_any (goes_on w left) w.callbacks ≡ false
+      none = not_true_false (list_any (goes_on w left) w.callbacks) (both (list_all (λ (r : ClientRow). r.finished) w.clients) (not (list_any (goes_on w left) w.callbacks)) over).1
+
+      of_parts : (pool : Option PoolId) (callback : Option ℕ) (worker : ℕ) → IsWorkerSound w.callbacks worker pool callback → worker_stage w.callbacks pool callback ≡ Some (stage_of (Worker number) history) → is_busy_stage (stage_of (Worker number) history) ≡ false
+      of_parts None None worker sound e = let same : stage.Away ≡ stage_of (Worker number) history = cc in ap is_busy_stage (sym same)
+      of_parts None (Some n) worker sound e = absurd cc
+      of_parts (Some pool) None worker sound e = let same : stage.Idle ≡ stage_of (Worker number) history = cc in ap is_busy_stage (sym same)
+      of_parts (Some pool) (Some n) worker sound e =
+          absurd (false_true (sym none ∙ any_found (goes_on w left) n sound.callback w.callbacks sound.found (ap (λ (t : Status). goes_on w left (record sound.callback { status = t })) sound.runs)))
+
+      of_row : (o : Option WorkerRow) → numbered w.workers number ≡ o → stage_at w.callbacks o ≡ Some (stage_of (Worker number) history) → is_busy_stage (stage_of (Worker number) history) ≡ false
+      of_row None is e = absurd cc
+      of_row (Some row) is e = of_parts row.pool row.callback (1 + (number - 1)) (worker_at w.callbacks 1 (number - 1) w.workers row p.sound.workers (numbered_some w.workers number row is).0) e
+
+  facts : MachineFacts limits history
+  facts =
+      record {
+        stands = here;
+        calm = p.calm;
+        finishes = finishes;
+        returns = returns;
+        ends = ends;
+        attaches = attaches;
+        takes = takes;
+        leaves = leaves;
+        over_clients = over_clients;
+        over_workers = over_workers;
+      }
+
+pub machine_facts : (limits : Limits) (capacity : ℕ) (history : List Entry) → IsLegal limits capacity history → MachineFacts limits history
+machine_facts limits capacity history legal = facts limits history (standing limits capacity history legal)
