@@ -45,6 +45,7 @@ pub mod Releasing
 pub mod Remembered
 pub mod Running
 pub mod Sound
+mod StageExamples
 pub mod Standing
 pub mod Steps
 pub mod Takings
