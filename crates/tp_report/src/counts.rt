@@ -6,7 +6,8 @@ ghost use Rattle.tp_model.specs.Laws.Entries.{made_by, queued_by};
 ghost use Rattle.tp_report.specs.Counting.{AreCounts, IsCounted};
 ghost use Rattle.tp_report.specs.Summaries.{is_refused};
 
-use kept_book::Keeps;
+use kept_book::Kept;
+use recorded::Recorded;
 use tp_base::answers::{Answer, Entry};
 use tp_base::calls::Call;
 
@@ -22,8 +23,8 @@ pub struct Counts {
 }
 
 /// Counts over all entries of a book.
-pub fn count_entries<B: Keeps>(book: &B) -> Counts
-    ensures { AreCounts (B.recording book.now).history result }
+pub fn count_entries<B: Recorded>(book: &Kept<B>) -> Counts
+    ensures { AreCounts book.now.history result }
 {
     let len = book.len();
     let mut counts = Counts {

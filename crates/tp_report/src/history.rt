@@ -3,19 +3,20 @@
 ghost use Rattle.std.specs.Prelude.{◌≡◌, ◌++◌, ◌∷◌, [], OnErr, OnOk, length, take};
 ghost use Rattle.tp_report.specs.Histories.{end_line, header_line, header_of, history_told};
 
-use kept_book::Keeps;
+use kept_book::Kept;
+use recorded::Recorded;
 use std::alloc::{AllocError, Global};
 use tp_base::limits::Limits;
 use tp_lines::print::print_entry;
 
 /// Appends the history of a book as a text, which `check` can read: its first line, a line for each entry,
 /// and the end line with their number. On want of memory nothing is appended.
-pub fn print_history<B: Keeps>(
+pub fn print_history<B: Recorded>(
     alloc: Global,
-    book: &B,
+    book: &Kept<B>,
     out: &mut Vec<u8>,
 ) -> Result<(), AllocError>
-    ensures ok { OnOk result (out.new.items ≡ out.old.items ++ history_told (B.recording book.now)) }
+    ensures ok { OnOk result (out.new.items ≡ out.old.items ++ history_told book.now) }
     ensures err { OnErr result (out.new.items ≡ out.old.items) }
 {
     let before = out.len();
@@ -27,12 +28,12 @@ pub fn print_history<B: Keeps>(
 }
 
 // The same, but on want of memory some of it may stand there.
-fn append_history<B: Keeps>(
+fn append_history<B: Recorded>(
     alloc: Global,
-    book: &B,
+    book: &Kept<B>,
     out: &mut Vec<u8>,
 ) -> Result<(), AllocError>
-    ensures ok { OnOk result (out.new.items ≡ out.old.items ++ history_told (B.recording book.now)) }
+    ensures ok { OnOk result (out.new.items ≡ out.old.items ++ history_told book.now) }
     ensures kept { take (length out.old.items) out.new.items ≡ out.old.items }
 {
     append_header(alloc, book.limits(), book.capacity(), out)?;

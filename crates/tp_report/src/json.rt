@@ -10,14 +10,15 @@ ghost use Rattle.tp_report.specs.Summing.{totals_told};
 
 use crate::left::LeftRow;
 use crate::summary::{Summary, summarize};
-use kept_book::Keeps;
+use kept_book::Kept;
+use recorded::Recorded;
 use serde_json::{Value, json};
 use std::alloc::{AllocError, Global};
 
 /// Appends the summary of a book's history as one line, an object of JSON with its counts and the
 /// numbers of the callbacks that are left. On want of memory nothing is appended.
-pub fn print_json<B: Keeps>(alloc: Global, book: &B, out: &mut Vec<u8>) -> Result<(), AllocError>
-    ensures ok { OnOk result (out.new.items ≡ out.old.items ++ json_line (totals_behind (B.recording book.now))) }
+pub fn print_json<B: Recorded>(alloc: Global, book: &Kept<B>, out: &mut Vec<u8>) -> Result<(), AllocError>
+    ensures ok { OnOk result (out.new.items ≡ out.old.items ++ json_line (totals_behind book.now)) }
     ensures err { OnErr result (out.new.items ≡ out.old.items) }
 {
     let summary = summarize(alloc, book)?;

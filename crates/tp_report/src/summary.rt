@@ -8,7 +8,8 @@ ghost use Rattle.tp_report.specs.Summing.{totals_told};
 
 use crate::counts::count_entries;
 use crate::left::{LeftRow, left_callbacks};
-use kept_book::Keeps;
+use kept_book::Kept;
+use recorded::Recorded;
 use std::alloc::{AllocError, Global};
 use tp_model::Left;
 
@@ -32,15 +33,15 @@ pub struct Summary {
 /// Appends the summary of a book's history: how many entries it has, how many callbacks were made, taken
 /// and cancelled, how many are left, a line for each that is left, and how many calls were refused. On
 /// want of memory nothing is appended.
-pub fn print_summary<B: Keeps>(
+pub fn print_summary<B: Recorded>(
     alloc: Global,
-    book: &B,
+    book: &Kept<B>,
     out: &mut Vec<u8>,
 ) -> Result<(), AllocError>
-    ensures ok { OnOk result (out.new.items ≡ out.old.items ++ text_of_totals (totals_behind (B.recording book.now))) }
+    ensures ok { OnOk result (out.new.items ≡ out.old.items ++ text_of_totals (totals_behind book.now)) }
     ensures err { OnErr result (out.new.items ≡ out.old.items) }
     // Each callback that was made was taken or cancelled, or is left.
-    ensures none_lost { IsNoneLost (totals_behind (B.recording book.now)) }
+    ensures none_lost { IsNoneLost (totals_behind book.now) }
 {
     let summary = summarize(alloc, book);
     let text = summary_lines(alloc, &summary?)?;
@@ -49,9 +50,9 @@ pub fn print_summary<B: Keeps>(
 }
 
 /// Counts what a book's history tells.
-pub fn summarize<B: Keeps>(alloc: Global, book: &B) -> Result<Summary, AllocError>
-    ensures ok { IfOk result (λ summary. totals_told summary ≡ totals_behind (B.recording book.now)) }
-    ensures none_lost { IsNoneLost (totals_behind (B.recording book.now)) }
+pub fn summarize<B: Recorded>(alloc: Global, book: &Kept<B>) -> Result<Summary, AllocError>
+    ensures ok { IfOk result (λ summary. totals_told summary ≡ totals_behind book.now) }
+    ensures none_lost { IsNoneLost (totals_behind book.now) }
 {
     let entries = book.len();
     let counts = count_entries(book);

@@ -8,11 +8,11 @@ use Rattle.tp_report.proofs.Summed.{same_totals}
 use Rattle.tp_report.proofs.summary.summarize.Goals as goal
 
 pub returns-in_err-left-clause-none_lost : goal.returns-in_err-left-clause-none_lost
-returns-in_err-left-clause-none_lost g c = let r = g.B.Recorded.recording c.args.book.now in none_lost r.limits r.capacity r.history c.len-entries.ensures.legal
+returns-in_err-left-clause-none_lost g c = let r = c.args.book.now in none_lost r.limits r.capacity r.history c.len-entries.ensures.legal
 
 pub overflow_sub-result : goal.overflow_sub-result
 overflow_sub-result g c =
-    let r = g.B.Recorded.recording c.args.book.now in
+    let r = c.args.book.now in
     omega (
       arith,
       c.from.ensures,
@@ -24,7 +24,7 @@ overflow_sub-result g c =
 
 pub overflow_sub-result-2 : goal.overflow_sub-result-2
 overflow_sub-result-2 g c =
-    let r = g.B.Recorded.recording c.args.book.now in
+    let r = c.args.book.now in
     omega (
       arith,
       c.from.ensures,
@@ -39,7 +39,7 @@ overflow_sub-result-2 g c =
 
 pub returns-clause-ok : goal.returns-clause-ok
 returns-clause-ok g c =
-    let r = g.B.Recorded.recording c.args.book.now in
+    let r = c.args.book.now in
     let told = c.count_entries-counts in
     let size : c.len.result ≡ length (map row_of c.in_ok-left.left.items) = omega (arith, c.len.ensures, length-map c.in_ok-left.left.items row_of) in
     same_totals c.len-entries.result told.result.made told.result.taken (told.result.made - c.from.result - c.len.result) (map row_of c.in_ok-left.left.items) told.result.refused (totals_behind r)
@@ -47,4 +47,4 @@ returns-clause-ok g c =
     (ap₂ (λ t n. told.result.made - t - n) c.from.ensures size) c.in_ok-left.ensures told.ensures.refused
 
 pub returns-clause-none_lost : goal.returns-clause-none_lost
-returns-clause-none_lost g c = let r = g.B.Recorded.recording c.args.book.now in none_lost r.limits r.capacity r.history c.len-entries.ensures.legal
+returns-clause-none_lost g c = let r = c.args.book.now in none_lost r.limits r.capacity r.history c.len-entries.ensures.legal
