@@ -8,6 +8,8 @@ mod books;
 #[cfg(test)]
 mod expect;
 #[cfg(test)]
+mod reports;
+#[cfg(test)]
 mod sharing;
 #[cfg(test)]
 mod streams;

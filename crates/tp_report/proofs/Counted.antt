@@ -1,17 +1,17 @@
 -- What the entries of a legal history tell of its callbacks, and the world after it.
-use Rattle.std.proofs.Common.{◌≡◌, ℕ, suc, ◌+◌, Bool, true, false, cond, List, [], ◌∷◌, ◌++◌, length, Option, Some, None, refl, sym, ap, ◌∙◌, arith, filter, subst}
+use Rattle.std.proofs.Common.{◌≡◌, ℕ, suc, ◌+◌, Bool, cond, List, [], ◌∷◌, length, Option, Some, None, refl, ap, ◌∙◌, arith, filter}
 use Rattle.std.specs.Prelude.{is_some}
-use Rattle.std.specs.List.{filter_map, cons_option}
+use Rattle.std.specs.List.{cons_option}
 use Rattle.std.proofs.lemmas.List.FromFn.{length-range_with_len}
 use Rattle.tp_base.specs.declared.answers.Entry.{Entry}
 use Rattle.tp_base.specs.declared.limits.Limits.{Limits}
 use Rattle.tp_base.specs.declared.rows.CallbackRow.{CallbackRow}
 use Rattle.tp_base.specs.declared.rows.Status.{Status}
-use Rattle.tp_base.specs.declared.rows.Status.TheVariants.{Expected, Issued, Pending, Running, Returned, Cancelled}
+use Rattle.tp_base.specs.declared.rows.Status.TheVariants.{Cancelled}
 use Rattle.tp_model.specs.History.{IsLegal, after, led_to}
 use Rattle.tp_model.specs.Laws.Entries.{is_taken, numbers_made, numbers_taken, numbers_cancelled, count_cancelled, taken_by}
 use Rattle.tp_model.specs.Laws.Once.{is_left, left}
-use Rattle.tp_model.specs.Support.Sound.{IsSound, IsRising}
+use Rattle.tp_model.specs.Support.Sound.{IsSound}
 use Rattle.tp_model.specs.World.{World, opening}
 use Rattle.tp_model.proofs.Callbacks.{rising_filter}
 use Rattle.tp_model.proofs.Entries.{IsKept, entry_leads, kept_to_end, next_number_in}

@@ -2,6 +2,7 @@ pub mod Alike
 pub mod Counted
 pub mod Deciding
 pub mod EndedFacts
+mod Examples
 pub mod Feeds
 pub mod Floatless
 pub mod FreeLines

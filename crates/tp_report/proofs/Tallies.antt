@@ -1,12 +1,12 @@
 -- What is counted while the entries of a history are gone through.
-use Rattle.std.proofs.Common.{◌≡◌, ℕ, zero, suc, ◌+◌, ◌*◌, ◌<◌, ◌≤◌, Bool, true, false, cond, List, [], ◌∷◌, ◌++◌, length, take, Some, None, refl, sym, ap, ◌∙◌, arith, filter, get_or, length-append, subst}
+use Rattle.std.proofs.Common.{◌≡◌, ℕ, zero, suc, ◌+◌, ◌*◌, ◌≤◌, Bool, true, false, cond, List, [], ◌∷◌, ◌++◌, length, take, Some, None, sym, ap, ◌∙◌, arith, filter, length-append, subst}
 use Rattle.std.specs.List.{range_with_len, slice_get}
 use Rattle.std.proofs.Math.Seq.{take-length}
 use Rattle.std.proofs.lemmas.Grind.{flat_map-append}
 use Rattle.std.proofs.lemmas.List.{append-nil, length-take-le}
 use Rattle.std.proofs.lemmas.List.Filters.{length-filter_more}
 use Rattle.std.proofs.lemmas.List.FromFn.{length-range_with_len}
-use Rattle.std.proofs.lemmas.Option.{slice_get_within, get_or_from_slice_get, slice_get-get_or}
+use Rattle.std.proofs.lemmas.Option.{slice_get_within, get_or_from_slice_get}
 use Rattle.tp_base.specs.declared.answers.Entry.{Entry}
 use Rattle.tp_model.specs.Laws.Entries.{is_taken, made_by, numbers_made}
 use Rattle.tp_report.specs.Counting.{AreCounts, IsCounted, one_if}
@@ -51,7 +51,7 @@ module _ (history : List Entry) (index : ℕ) (counts : Counts) (within : index 
       let longer : length (take (index + 1) history) ≡ length (take index history) + 1 = ap length (take_next history index entry is) ∙ length-append (take index history) (entry ∷ []) in
       let made : length (numbers_made (take (index + 1) history)) ≡ length (numbers_made (take index history)) + length (made_by entry)
       = ap (λ es. length (numbers_made es)) (take_next history index entry is) ∙ ap length (flat_map-append made_by (take index history) (entry ∷ []))
-          ∙ length-append (numbers_made (take index history)) (made_by entry ++ []) ∙ ap (λ n. length (numbers_made (take index history)) + length n) (append-nil (made_by entry)) in
+      ∙ length-append (numbers_made (take index history)) (made_by entry ++ []) ∙ ap (λ n. length (numbers_made (take index history)) + length n) (append-nil (made_by entry)) in
       record {
         made = omega (arith, counted.made, a.made, made);
         taken = counted.taken ∙ ap (λ n. n + one_if (is_taken entry)) a.taken ∙ ap (λ e. length (filter is_taken (take index history)) + one_if (is_taken e)) (sym here) ∙ sym (length-filter_more is_taken history index entry inside);

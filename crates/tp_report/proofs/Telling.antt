@@ -1,6 +1,6 @@
 -- How far a history's text is written.
-use Rattle.std.proofs.Common.{◌≡◌, ℕ, suc, ◌+◌, ◌<◌, List, [], ◌∷◌, ◌++◌, length, take, get_or, refl, sym, ap, ◌∙◌, append_assoc, arith}
-use Rattle.std.specs.Prelude.{map, Some, codes}
+use Rattle.std.proofs.Common.{◌≡◌, ℕ, suc, ◌+◌, List, [], ◌∷◌, ◌++◌, length, take, refl, sym, ap, ◌∙◌, append_assoc, arith}
+use Rattle.std.specs.Prelude.{Some}
 use Rattle.std.specs.List.{slice_get}
 use Rattle.std.proofs.Math.Seq.{take-suc}
 use Rattle.std.proofs.lemmas.List.{map-append}
@@ -9,7 +9,7 @@ use Rattle.line_grammar.specs.Traces.{trace_text}
 use Rattle.recorded.specs.Recordings.{Recording}
 use Rattle.tp_base.specs.declared.answers.Entry.{Entry}
 use Rattle.tp_lines.specs.Answers.{line_of_entry}
-use Rattle.tp_report.specs.Histories.{end_line, header_of, history_told, lines_of}
+use Rattle.tp_report.specs.Histories.{IsReadBack, end_line, header_of, history_told, lines_of}
 
 pub take_next : {X : Type 0} (xs : List X) (i : ℕ) (x : X) → slice_get xs i ≡ Some x → take (i + 1) xs ≡ take i xs ++ x ∷ []
 take_next xs i x is =
@@ -49,3 +49,13 @@ line_next lines line before after e f = f ∙ ap (λ t. t ++ (line ++ 10 ∷ [])
 
 pub lines_next : (lines more : List (List ℕ)) (before after : List ℕ) → before ≡ trace_text lines → after ≡ before ++ trace_text more → after ≡ trace_text (lines ++ more)
 lines_next lines more before after e f = f ∙ ap (λ t. t ++ trace_text more) e ∙ sym (trace_text-append lines more)
+
+pub read_back : (r : Recording) → IsReadBack r
+read_back r has =
+    record {
+      has_header_line = has.header;
+      have_lines = has.have_lines;
+      few = has.few;
+      rest = [];
+      split = trace_text-append (lines_of (header_of r.limits r.capacity) r.history) (end_line (length r.history) ∷ []);
+    }

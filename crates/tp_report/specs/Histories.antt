@@ -90,3 +90,13 @@ pub record IsHistoryFault (bytes : List ℕ) (line column : ℕ) : Type 0 where
   pub reaches : Reaches (EndedLine (LinesBelow above)) front back
   pub line_of : line ≡ length (lines_above above) + 1
   pub column_of : column ≡ length front + 1
+
+-- the first line and those of the entries are in the grammar, and there are no more entries than the history has room for
+pub record HasText (r : Recording) : Type 0 where
+  pub header : HasHeaderLine (header_of r.limits r.capacity)
+  pub have_lines : All HasLine r.history
+  pub few : length r.history ≤ r.capacity
+
+-- where a history has a text, that is read as this history
+abbrev pub IsReadBack : Recording → Type 0
+IsReadBack r = HasText r → IsHistory (history_told r) (header_of r.limits r.capacity) r.history

@@ -1,6 +1,6 @@
 -- The summary of a history as one line of JSON.
 use Rattle.std.specs.Prelude.{ℕ, List, [], ◌∷◌, ◌++◌, length, map, codes}
-use Rattle.serde_json.specs.Data.{Data, number, unsigned, array, object, Members, member, no_members}
+use Rattle.serde_json.specs.Data.{Data, number, unsigned, array, object, member, no_members}
 use Rattle.serde_json.specs.View.{items_of}
 use Rattle.serde_json.specs.Written.{compact_text}
 use Rattle.tp_base.specs.declared.answers.Entry.{Entry}

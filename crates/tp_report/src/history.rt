@@ -1,7 +1,7 @@
 //! Texts of histories.
 
 ghost use Rattle.std.specs.Prelude.{◌≡◌, ◌++◌, ◌∷◌, [], OnErr, OnOk, length, take};
-ghost use Rattle.tp_report.specs.Histories.{end_line, header_line, header_of, history_told};
+ghost use Rattle.tp_report.specs.Histories.{end_line, header_line, header_of, history_told, IsReadBack};
 
 use kept_book::Kept;
 use recorded::Recorded;
@@ -18,6 +18,7 @@ pub fn print_history<B: Recorded>(
 ) -> Result<(), AllocError>
     ensures ok { OnOk result (out.new.items ≡ out.old.items ++ history_told book.now) }
     ensures err { OnErr result (out.new.items ≡ out.old.items) }
+    ensures read_back { IsReadBack book.now }
 {
     let before = out.len();
     let printed = append_history(alloc, book, out);
@@ -58,7 +59,9 @@ fn append_header(
     ensures err { OnErr result (out.new.items ≡ out.old.items) }
 {
     let (clients, workers) = (limits.clients, limits.workers);
-    let line = format!(in alloc; "history 1 clients {clients} workers {workers} events {events}\n")?;
+    let line = format!(in alloc;
+        "history 1 clients {clients} workers {workers} events {events}\n"
+    )?;
     out.extend_from_slice(line.as_bytes())?;
     Ok(())
 }

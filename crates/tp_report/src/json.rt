@@ -17,7 +17,11 @@ use std::alloc::{AllocError, Global};
 
 /// Appends the summary of a book's history as one line, an object of JSON with its counts and the
 /// numbers of the callbacks that are left. On want of memory nothing is appended.
-pub fn print_json<B: Recorded>(alloc: Global, book: &Kept<B>, out: &mut Vec<u8>) -> Result<(), AllocError>
+pub fn print_json<B: Recorded>(
+    alloc: Global,
+    book: &Kept<B>,
+    out: &mut Vec<u8>,
+) -> Result<(), AllocError>
     ensures ok { OnOk result (out.new.items ≡ out.old.items ++ json_line (totals_behind book.now)) }
     ensures err { OnErr result (out.new.items ≡ out.old.items) }
 {

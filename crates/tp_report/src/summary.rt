@@ -43,8 +43,8 @@ pub fn print_summary<B: Recorded>(
     // Each callback that was made was taken or cancelled, or is left.
     ensures none_lost { IsNoneLost (totals_behind book.now) }
 {
-    let summary = summarize(alloc, book);
-    let text = summary_lines(alloc, &summary?)?;
+    let summary = summarize(alloc, book)?;
+    let text = summary_lines(alloc, &summary)?;
     out.extend_from_slice(&text)?;
     Ok(())
 }
@@ -84,12 +84,7 @@ fn summary_lines(alloc: Global, summary: &Summary) -> Result<Vec<u8>, AllocError
 }
 
 // Appends a line of a name and a number.
-fn append_count(
-    alloc: Global,
-    name: &str,
-    count: u64,
-    text: &mut Vec<u8>,
-) -> Result<(), AllocError>
+fn append_count(alloc: Global, name: &str, count: u64, text: &mut Vec<u8>) -> Result<(), AllocError>
     ensures { OnOk result (text.new.items ≡ text.old.items ++ (count_line name.now count ++ 10 ∷ [])) }
 {
     let line = format!(in alloc; "{name} {count}\n")?;

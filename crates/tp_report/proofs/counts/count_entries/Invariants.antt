@@ -1,4 +1,4 @@
-use Rattle.std.proofs.Common.{◌≡◌, ◌-◌, ◌≤◌, take}
+use Rattle.std.proofs.Common.{◌-◌, ◌≤◌, take}
 use Rattle.tp_report.specs.Counting.{AreCounts}
 use Rattle.tp_report.proofs.counts.count_entries.Given as goal
 
