@@ -25,6 +25,7 @@ use tp_base::limits::Limits;
 use tp_model::{Left, legal_fits};
 
 /// A machine, and the entries of its history.
+#[derive(Drop)]
 pub struct Kept<B: Recorded> {
     book: B,
     entries: Vec<Entry>,
@@ -40,14 +41,6 @@ impl<B: Recorded> Model for Kept<B> {
     ghost view = { λ a. B.recording a.book };
 
     ghost invariant = { λ a. IsKept (B.recording a.book) a.entries.items (vec_capacity a.entries) };
-}
-
-impl<B: Recorded> Drop for Kept<B> {
-    fn drop(self) {
-        let Kept { book, entries } = self;
-        drop(book);
-        drop(entries);
-    }
 }
 
 impl<B: Recorded> Kept<B> {

@@ -8,6 +8,8 @@ mod books;
 #[cfg(test)]
 mod expect;
 #[cfg(test)]
+mod kept;
+#[cfg(test)]
 mod reports;
 #[cfg(test)]
 mod sharing;
