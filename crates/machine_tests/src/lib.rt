@@ -10,6 +10,8 @@ mod expect;
 #[cfg(test)]
 mod kept;
 #[cfg(test)]
+mod reports;
+#[cfg(test)]
 mod sharing;
 #[cfg(test)]
 mod streams;
