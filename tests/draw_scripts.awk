@@ -146,6 +146,6 @@ function any_name() {
 }
 
 function with_byte(line, at, kind,    byte) {
-    byte = substr(" \t\r-_0199azAZ#\200", 1 + draw(16), 1)
+    byte = substr(" \t\r-_0199azAZ#~", 1 + draw(16), 1)
     return substr(line, 1, at - 1) (kind == 8 ? "" : byte) substr(line, at + (kind != 10))
 }
