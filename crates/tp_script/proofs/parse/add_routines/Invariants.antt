@@ -1,4 +1,4 @@
-use Rattle.std.proofs.Common.{◌≡◌, ◌+◌, ◌≤◌, [], length}
+use Rattle.std.proofs.Common.{◌≡◌, ◌+◌, ◌≤◌, length}
 use Rattle.tp_script.specs.Scripts.{with_routines}
 use Rattle.tp_script.specs.Texts.{lines_of}
 use Rattle.tp_script.proofs.parse.add_routines.Given as goal
