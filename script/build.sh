@@ -27,14 +27,16 @@ read_crates() {
     list_crates "$program"
 }
 
-# Whether something in a crate that the program stands on is newer than the program.
-is_below_newer() {
+# Finds the folders of the crates that the program stands on, and keeps their list beside the program, where
+# it can be written.
+keep_folders() {
+    local name list=$binary.folders
     read_crates
-    local name folders=()
+    folders=()
     for name in "${crates[@]}"; do
-        folders+=("$home/crates/$name"/{src,specs,proofs})
+        folders+=("$name"/{src,specs,proofs})
     done
-    [[ -n $(find "${folders[@]}" -newer "$binary" -print -quit 2>/dev/null) ]]
+    { printf '%s\n' "${folders[@]}" >"$list.$$" && mv -f -- "$list.$$" "$list"; } 2>/dev/null
 }
 
 # --- Unproved

@@ -9,7 +9,7 @@ answers=$'made 1\nqueued 1 1\nattached 0\ntaken 1 o1 r1 x7 plain\nreturned - - -
 # A folder with the commands that the script uses, and without rt.
 tools=$room/tools
 mkdir "$tools"
-for tool in bash env cat head tail tr cut sed awk od find mktemp rm readlink dirname date touch nproc tee git sleep cp mkdir; do
+for tool in bash env cat head tail tr cut sed awk od find mktemp rm readlink dirname date touch nproc tee git sleep cp mkdir mv; do
     ! path=$(type -P "$tool") || ln -s "$path" "$tools/$tool"
 done
 without_rt() { PATH=$tools "$@"; }

@@ -1,6 +1,7 @@
 -- What calls come to on a machine of some size and number of clients.
 use Rattle.std.specs.Prelude.{◌≡◌, ℕ, List}
 use Rattle.recorded.specs.ProgramLimits.{limits_with}
+use Rattle.recorded.specs.Recordings.{Recording}
 use Rattle.tp_base.specs.declared.calls.Call.{Call}
 use Rattle.tp_base.specs.declared.ids.Who.{Who}
 use Rattle.tp_model.specs.History.{play}
@@ -16,3 +17,7 @@ pub record IsPlayed (machine : MachineSize) (clients : ℕ) (bytes : List ℕ) (
   pub calls : List (Who × Call)
   pub is_trace : IsTraceOf bytes calls
   pub is_played : IsPlayedOf machine clients calls played
+
+-- how large the machine of a recording is
+abbrev pub size_of : Recording → MachineSize
+size_of recording = record { workers = recording.limits.workers; events = recording.capacity }

@@ -2,6 +2,7 @@
 
 ghost use Rattle.std.specs.Prelude.{◌≡◌, ◌≤◌, ◌<◌, ◌-◌, ◌^◌, ◌++◌, ◌∷◌, [], List, IfErr, IfOk, OnOk, length, max};
 ghost use Rattle.line_grammar.specs.Traces.{IsTraceFault};
+ghost use Rattle.recorded.specs.ProgramLimits.{limits_with};
 ghost use Rattle.recorded.specs.Recordings.{IsFirstOf, outcome_behind};
 ghost use Rattle.tp_base.specs.declared.calls.Call.{Call as Made};
 ghost use Rattle.tp_base.specs.Ranges.{IsCallInRange};
@@ -9,7 +10,7 @@ ghost use Rattle.tp_base.specs.declared.ids.Who.{Who as Actor};
 ghost use Rattle.tp_lines.specs.Answers.{text_of_outcome};
 ghost use Rattle.tp_lines.specs.Faults.{IsLine};
 ghost use Rattle.tp_report.specs.Faults.{IsOrNoMemory, IsPlace};
-ghost use Rattle.tp_report.specs.Playing.{IsPlayed, IsPlayedOf};
+ghost use Rattle.tp_report.specs.Playing.{IsPlayed, IsPlayedOf, size_of};
 ghost use Rattle.tp_report.specs.Traces.{client_number, IsMachineSize, IsOutput, IsOutputOf, IsTraceOf};
 
 use crate::faults::{TextFault, fault_behind};
@@ -89,6 +90,24 @@ fn play<B: Recorded>(
         program_limits(clients, machine.workers),
         machine.events,
     )?;
+    play_calls(alloc, &mut book, bytes)
+}
+
+// The same on a book without entries.
+fn play_calls<B: Recorded>(
+    alloc: Global,
+    book: &mut B,
+    bytes: &[u8],
+) -> Result<Played, TextFault>
+    requires few { length bytes.now < 2 ^ 32 - 1 }
+    requires limits { (B.recording book.old).limits ≡ limits_with (B.recording book.old).limits.clients (B.recording book.old).limits.workers }
+    requires clients { (B.recording book.old).limits.clients ≤ 16 }
+    requires empty { (B.recording book.old).history ≡ [] }
+    ensures ok { IfOk result (λ played. IsPlayed (size_of (B.recording book.old)) (B.recording book.old).limits.clients bytes.now played) }
+    ensures most { IfOk result (λ played. played.clients ≤ 16) }
+    ensures only { (calls : List (Actor × Made)) → IsTraceOf bytes.now calls → IsOrNoMemory (IsPlayedOf (size_of (B.recording book.old)) (B.recording book.old).limits.clients calls) result }
+    ensures err { IfErr result (λ fault. IsPlace (IsTraceFault IsLine bytes.now) fault) }
+{
     let mut text = Lines::new(alloc);
     let mut greatest = 0;
     let mut lines = 0;
@@ -97,7 +116,7 @@ fn play<B: Recorded>(
         match read_call(rest) {
             Err(place) => return Err(fault_behind(lines, place)),
             Ok(((who, call), size)) => {
-                play_call(&mut book, who, call, &mut text)?;
+                play_call(book, who, call, &mut text)?;
                 greatest = greater_client(greatest, who);
                 lines += 1;
                 (_, rest) = rest.split_at(size);

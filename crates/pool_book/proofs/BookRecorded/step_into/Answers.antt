@@ -1,4 +1,7 @@
-use Rattle.pool_book.proofs.Making.{entered, looked}
+use Rattle.std.proofs.Common.{subst}
+use Rattle.tp_base.specs.declared.answers.Outcome.{Outcome}
+use Rattle.recorded.specs.Recordings.{IsFirstOf}
+use Rattle.pool_book.proofs.Making.{there, entered, looked}
 use Rattle.pool_book.proofs.BookRecorded.step_into.Goals as goal
 
 pub invariant_of-self : goal.invariant_of-self
@@ -10,6 +13,7 @@ invariant_of-self c =
 pub returns-in-Done-clause-first : goal.returns-in-Done-clause-first
 returns-in-Done-clause-first c =
     let a = c.self.inside in
+    subst (λ (o : Outcome). IsFirstOf c.args.self.now (there a.limits a.capacity c.with-self-inside.result.entries) c.args.who c.args.call o) c.in-Done.is
     (entered a.engine c.step-made.new.self a.limits a.capacity a.len c.room-room.result a.past.entries c.args.self.now c.args.who c.args.call c.step-made.result
     c.self.invariant c.self.view_is c.room-room.ensures c.step-made.ensures.meets c.in-Done.answer c.with-self-inside.result.entries c.in-Done.is c.with-self-inside.ensures).first
 

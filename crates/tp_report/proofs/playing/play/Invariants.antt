@@ -1,9 +1,0 @@
-use Rattle.std.proofs.Common.{length}
-use Rattle.tp_report.proofs.Traced.{IsPlayedTo}
-use Rattle.tp_report.proofs.playing.play.Given as goal
-
-abbrev pub invariant-loop-rest : goal.invariant-loop-rest
-invariant-loop-rest g l = IsPlayedTo l.fn.machine l.fn.clients l.bytes (g.B.Recorded.recording l.book) l.text l.greatest l.lines l.rest
-
-abbrev pub decreases-loop-rest : goal.decreases-loop-rest
-decreases-loop-rest g l = length l.rest
