@@ -101,6 +101,7 @@ function known_name(list,    each, all) {
 # --- Faults
 
 function draw_fault(    at, other, said, kind) {
+    if (!length_of) return
     at = 1 + draw(length_of)
     other = 1 + draw(length_of)
     kind = draw(16)
