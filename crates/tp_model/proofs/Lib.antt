@@ -15,6 +15,7 @@ pub mod Due
 pub mod Entries
 mod Examples
 pub mod Fates
+pub mod Few
 pub mod Firing
 pub mod Fitting
 pub mod First
