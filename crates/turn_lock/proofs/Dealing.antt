@@ -1,5 +1,5 @@
 -- The seats of a new lock, dealt one by one.
-use Rattle.std.proofs.Common.{◌≡◌, ℕ, zero, suc, ◌+◌, ◌<◌, ◌≤◌, false, List, [], ◌∷◌, ◌++◌, length, get_or, refl, sym, ap, ◌∙◌, subst, arith, length-append}
+use Rattle.std.proofs.Common.{◌≡◌, ℕ, zero, suc, ◌+◌, ◌<◌, false, List, [], ◌∷◌, ◌++◌, length, get_or, refl, sym, ap, ◌∙◌, subst, arith, length-append}
 use Rattle.atomic_table.specs.Table.{Splits}
 use Rattle.atomic_table.specs.Seated.{TableId}
 use Rattle.atomic_table.specs.declared.shared.Seat.{Seat as Raw}
@@ -63,15 +63,14 @@ module _ {B : Type 0} (lock : TableId) (setup : Setup) where
   each_push P (x ∷ seats) last all here zero d inside = all zero d (omega arith)
   each_push P (x ∷ seats) last all here (suc k) d inside = each_push (λ j. P (suc j)) seats last (λ j e i. all (suc j) e (omega arith)) here k d (omega arith)
 
-  new_seat : (place : ℕ) (v : View) (new : Raw B View) → place < setup.seats → new.table_id ≡ lock → new.me ≡ (dealt v, []) → v.setup ≡ setup → v.seen ≡ [] → v.spent ≡ false → (dealt v).parts ≡ part (place + 1) [] ∷ [] → IsNew lock setup (place + 1) (record { number = place + 1; raw = new })
-  new_seat place v new inside of is setup_same unseen there parts =
+  new_seat : (place : ℕ) (v : View) (new : Raw B View) → new.table_id ≡ lock → new.me ≡ (dealt v, []) → v.setup ≡ setup → v.seen ≡ [] → v.spent ≡ false → (dealt v).parts ≡ part (place + 1) [] ∷ [] → IsNew lock setup (place + 1) (record { number = place + 1; raw = new })
+  new_seat place v new of is setup_same unseen there parts =
       let View_of : View × List (ℕ × B) → View = λ m. m.0 in
       let e : new.me.0 ≡ dealt v = ap View_of is in
       let has : new.me.0.parts ≡ part (place + 1) [] ∷ [] = ap (λ (x : View). x.parts) e ∙ parts in
       let none_yet : mine_in new.me.0.parts ≡ [] = ap mine_in has in
       let nothing : new.me.0.seen ≡ [] = ap (λ (x : View). x.seen) e ∙ unseen in
       let new_informed : IsInformed (record { number = place + 1; raw = new }) = record {
-        dealt = λ _. subst (λ (s : Setup). place + 1 ≤ s.seats) (sym (ap (λ (x : View). x.setup) e ∙ setup_same)) (omega (arith, inside));
         legal = subst (IsLegal new.me.0.setup.limits new.me.0.setup.capacity) (sym nothing) tt;
         own_is = λ _. none_yet ∙ ap (own (actor_of new.me.0.setup.limits (place + 1))) (sym nothing);
       } in
@@ -95,7 +94,7 @@ module _ {B : Type 0} (lock : TableId) (setup : Setup) where
       let p = parts_at setup place d.more raw.me.0 inside d.more_is d.parts in
       let e : next.me.0 ≡ undealt raw.me.0 = ap (λ (m : View × List (ℕ × B)). m.0) next_is in
       let seat : Seat B = record { number = place + 1; raw = new } in
-      let fresh : IsNew lock setup (place + 1) seat = new_seat place raw.me.0 new inside (new_of ∙ d.of) new_is d.setup_is d.seen d.there p.0 in
+      let fresh : IsNew lock setup (place + 1) seat = new_seat place raw.me.0 new (new_of ∙ d.of) new_is d.setup_is d.seen d.there p.0 in
       let count : length seats ≡ place = d.count in
       record {
         of = next_of ∙ d.of;

@@ -1,5 +1,5 @@
 -- What a step tells of the seat, in the words of contracts.
-use Rattle.std.proofs.Common.{◌≡◌, ℕ, zero, suc, ◌<◌, ◌≤◌, List, [], ◌∷◌, ◌++◌, map, get_or, All, refl, sym, ap, ◌∙◌, subst, append-nil, arith}
+use Rattle.std.proofs.Common.{◌≡◌, ℕ, zero, suc, ◌<◌, List, [], ◌∷◌, ◌++◌, map, get_or, All, refl, sym, ap, ◌∙◌, subst, append-nil, arith}
 use Rattle.std.proofs.lemmas.List.Elements.{All-head}
 use Rattle.atomic_table.specs.Table.{rest}
 use Rattle.atomic_table.specs.declared.shared.Seat.{Seat as Raw}
@@ -22,13 +22,6 @@ own_of_whole setup history zero parts whole some_number all = absurd (omega arit
 own_of_whole setup history (suc n) parts whole some_number all =
     let stands = All-head (Stands setup history) (part (suc n) (mine_in parts)) [] (subst (All (Stands setup history)) whole all) in
     stands.mine
-
--- a number for which a seat stands is one of those that were dealt
-pub dealt_whole : (setup : Setup) (history : List Entry) (number : ℕ) (parts : List Part) → parts ≡ parts_of number (mine_in parts) → 0 < number → All (Stands setup history) parts → number ≤ setup.seats
-dealt_whole setup history zero parts whole some_number all = absurd (omega arith)
-dealt_whole setup history (suc n) parts whole some_number all =
-    let stands = All-head (Stands setup history) (part (suc n) (mine_in parts)) [] (subst (All (Stands setup history)) whole all) in
-    stands.most
 
 pub whole_numbered : (number : ℕ) (parts : List Part) → parts ≡ parts_of number (mine_in parts) → 0 < number → parts ≡ part number (mine_in parts) ∷ []
 whole_numbered zero parts whole some_number = absurd (omega arith)
@@ -54,7 +47,6 @@ module _ {B : Type 0} where
 
   still_informed : (a : Seat B) (raw : Raw B View) → IsInformed a → raw.me.0.setup ≡ a.raw.me.0.setup → raw.me.0.parts ≡ a.raw.me.0.parts → raw.me.0.seen ≡ a.raw.me.0.seen → IsInformed (seat_with a raw)
   still_informed a raw informed setup same seen = record {
-    dealt = λ some_number. subst (λ (s : Setup). a.number ≤ s.seats) (sym setup) (informed.dealt some_number);
     legal = subst (λ (x : Setup × List Entry). IsLegal x.0.limits x.0.capacity x.1) (λ i. (sym setup i, sym seen i)) informed.legal;
     own_is = λ some_number. ap mine_in same ∙ (informed.own_is some_number ∙ (λ i. own (actor_of (sym setup i).limits a.number) (sym seen i)));
   }
@@ -69,7 +61,6 @@ module _ {B : Type 0} where
 
   told : (a : Seat B) (raw : Raw B View) → IsWhole a → raw.me.0.setup ≡ a.raw.me.0.setup → raw.me.0.parts ≡ a.raw.me.0.parts → Informs a.raw.me.0 raw.me.0.seen → IsInformed (seat_with a raw)
   told a raw whole setup same informs = record {
-    dealt = λ some_number. subst (λ (s : Setup). a.number ≤ s.seats) (sym setup) (dealt_whole a.raw.me.0.setup raw.me.0.seen a.number a.raw.me.0.parts whole.parts some_number informs.parts);
     legal = subst (λ (s : Setup). IsLegal s.limits s.capacity raw.me.0.seen) (sym setup) informs.legal;
     own_is = λ some_number. ap mine_in same ∙ (own_of_whole a.raw.me.0.setup raw.me.0.seen a.number a.raw.me.0.parts whole.parts some_number informs.parts ∙ ap (λ (s : Setup). own (actor_of s.limits a.number) raw.me.0.seen) (sym setup));
   }
@@ -166,7 +157,6 @@ module _ {B : Type 0} where
             parts = parts ∙ (ap (λ (l : List Entry). part a.number l ∷ []) (sym mine) ∙ whole_part a.number (mine_in raw.me.0.parts) some_number);
             there = ap (λ (x : View). x.spent) e ∙ whole.there;
             informed = record {
-              dealt = λ some. subst (λ (s : Setup). a.number ≤ s.seats) (sym setup) (whole.informed.dealt some);
               legal = subst (λ (r : Recording). IsLegal r.limits r.capacity r.history) (w.recorded ∙ (λ i. recording_of (sym setup i) (sym seen i))) legal;
               own_is = λ _. mine ∙ (λ i. own (actor_of (sym setup i).limits a.number) (sym seen i));
             };
@@ -193,7 +183,7 @@ module _ {B : Type 0} where
           whole = record {
             parts = parts;
             there = ap (λ (v : View). v.spent) e ∙ idle.whole.there;
-            informed = record { dealt = λ some_number. absurd (omega arith); legal = subst (λ (x : Setup × List Entry). IsLegal x.0.limits x.0.capacity x.1) (λ i. (sym setup i, sym seen i)) idle.whole.informed.legal; own_is = λ some_number. absurd (omega arith) };
+            informed = record { legal = subst (λ (x : Setup × List Entry). IsLegal x.0.limits x.0.capacity x.1) (λ i. (sym setup i, sym seen i)) idle.whole.informed.legal; own_is = λ some_number. absurd (omega arith) };
           };
           carries = λ i. (is i).1;
           holds = ap (λ (v : View). v.holds) e;

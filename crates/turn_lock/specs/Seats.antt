@@ -1,5 +1,5 @@
 -- What contracts say of seats.
-use Rattle.std.specs.Prelude.{◌≡◌, ℕ, zero, suc, ◌<◌, ◌≤◌, true, false, List, [], ◌∷◌, ◌++◌, All, Contains}
+use Rattle.std.specs.Prelude.{◌≡◌, ℕ, zero, suc, ◌<◌, true, false, List, [], ◌∷◌, ◌++◌, All, Contains}
 use Rattle.atomic_table.specs.Seated.{TableId}
 use Rattle.atomic_table.specs.declared.shared.Seat.{Seat as Raw}
 use Rattle.tp_base.specs.declared.answers.Entry.{Entry}
@@ -51,9 +51,8 @@ module _ {B : Type 0} where
   abbrev pub actor_in : Seat B → Who
   actor_in seat = actor_of (setup_in seat).limits seat.number
 
-  -- its number is one of the lock's; what it has seen is legal, and has of its actor the entries that were made by it
+  -- what it has seen is legal, and has of its actor the entries that were made by it
   pub record IsInformed (seat : Seat B) : Type 0 where
-    pub dealt : 0 < seat.number → seat.number ≤ (setup_in seat).seats
     pub legal : IsLegal (setup_in seat).limits (setup_in seat).capacity (seen_of seat)
     pub own_is : 0 < seat.number → mine_of seat ≡ own (actor_in seat) (seen_of seat)
 
