@@ -78,6 +78,12 @@ stage_by at _ = at
 abbrev pub stage_after : Stage → Call → Answer → Stage
 stage_after at made told = stage_by at (stage_step told made)
 
+-- the call that a client or a routine ends with
+abbrev pub is_last_call : Call → Bool
+is_last_call Finish = true
+is_last_call Return = true
+is_last_call _ = false
+
 -- after an actor's entries
 abbrev pub stage_from : Stage → List Entry → Stage
 stage_from at entries = fold (λ (s : Stage) (entry : Entry). stage_after s entry.call entry.answer) at entries
