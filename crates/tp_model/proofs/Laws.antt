@@ -20,7 +20,7 @@ use Rattle.tp_base.specs.declared.answers.Entry.{Entry}
 use Rattle.tp_base.specs.declared.limits.Limits.{Limits}
 use Rattle.tp_base.specs.declared.answers.Answer.TheVariants as answer
 use Rattle.tp_base.specs.declared.rows.WaitTarget.TheVariants.{Object, Group, Kernel}
-use Rattle.tp_model.specs.World.{World, opening, BegunWait}
+use Rattle.tp_model.specs.World.{World, opening, unattached, unfinished, BegunWait}
 use Rattle.tp_model.specs.History.{IsLegal, after, led_to}
 use Rattle.tp_model.specs.Support.Sound.{IsSound, IsCallbackSound}
 use Rattle.tp_model.specs.Laws.{KeepsLaws}
@@ -39,14 +39,16 @@ use Rattle.tp_model.proofs.Armed.{ArmedAfter, opening_armed, armed_more, are_arm
 use Rattle.tp_model.proofs.Maximum.{IsStaffed, is_staffed_on, takes_below, opening_staffed}
 use Rattle.tp_base.specs.declared.rows.WaitTarget.{WaitTarget}
 use Rattle.tp_base.specs.declared.ids.GroupId.{GroupId}
-use Rattle.tp_model.specs.Conditions.{is_in_wait}
-use Rattle.tp_model.proofs.Few.{AreFew, few_more}
+use Rattle.tp_model.specs.Conditions.{is_actor, is_in_wait}
+use Rattle.tp_model.specs.Stages.{IsActor}
+use Rattle.tp_model.proofs.Few.{AreFew, few_actor, few_more, rows_same}
 use Rattle.tp_model.specs.Laws.Notices.{numbers_created, IsClosing, AreNoticed, IsFront, IsSettled, given, given_by, notices_due, due_to}
 use Rattle.tp_model.proofs.Notices.{IsNoticing, AreDue, AreNumbered, AreNoticing, AreClosings, due_more, numbered_more, noticing_more, closings_more, AreClosedMade, closed_more}
 use Rattle.tp_model.proofs.Tied.{IsTied, tied_more}
 use Rattle.tp_model.specs.Support.Moves.{left_notices, GivesNotice, WaitsMove, End, Keep, Begin, Notify}
 use Rattle.tp_model.specs.Support.Told.{notice_at}
 use Rattle.std.proofs.lemmas.List.FromFn.{length-range_with_len}
+use Rattle.std.proofs.lemmas.List.{length-replicate}
 use Rattle.tp_base.specs.Actors.{is_same_actor}
 use Rattle.tp_model.proofs.Lists.{find_all}
 
@@ -96,7 +98,7 @@ opening_holds limits =
       acting = λ before between taken split. absurd (no_place before taken between split);
       armed = opening_armed limits;
       on_their_way = λ n. refl;
-      few = record { limits_same = refl; objects = omega arith };
+      few = record { limits_same = refl; objects = omega arith; clients = length-replicate limits.clients unfinished; workers = length-replicate limits.workers unattached };
     }
 
 keeps : (limits : Limits) → IsKept (Holds limits)
@@ -119,7 +121,7 @@ keeps limits before w left entry h told =
       acting = are_acting_more (next_number_in w) before w entry (led_to w entry) on.leads.moves h.acting;
       armed = armed_more before w entry (led_to w entry) h.sound on.sound h.agrees h.armed on.leads;
       on_their_way = on_their_way_more before w entry (led_to w entry) h.sound.numbers h.on_their_way on.leads.moves;
-      few = few_more limits w left entry (led_to w entry) on.leads h.few told;
+      few = few_more limits w left entry (led_to w entry) on.leads (rows_same w left entry h.sound told) h.few told;
     }
 
 module _ (limits : Limits) (capacity : ℕ) (history : List Entry) (legal : IsLegal limits capacity history) where
@@ -399,6 +401,10 @@ module _ (limits : Limits) (capacity : ℕ) (history : List Entry) (legal : IsLe
             | true ↦ λ _. refl
             | false ↦ λ h. there waits h
           ] found
+
+  -- an actor of the world is one of the limits
+  pub actors : (who : Who) → is_actor (after limits history) who ≡ true → IsActor limits who
+  actors who is = few_actor limits (after limits history) at_end.few who is
 
   -- and no more objects were made than the limits allow
   pub few_created : length (numbers_created history) ≤ limits.objects
