@@ -12,7 +12,7 @@ use Rattle.tp_model.specs.Laws.{KeepsLaws}
 use Rattle.tp_model.specs.Laws.Covered.{IsCovered}
 use Rattle.tp_model.specs.Laws.Entries.{Begins, begins_by, Notice}
 use Rattle.tp_model.specs.Laws.Notices.{notices_due}
-use Rattle.tp_model.specs.Stages.{waits_from, waits_step}
+use Rattle.tp_model.specs.Stages.{waits_from, waits_step, IsActor}
 use Rattle.turn_lock.specs.declared.seats.Seat.{Seat}
 use Rattle.turn_lock.specs.Histories.{own, StartsWith}
 use Rattle.turn_lock.specs.Seats.{seen_of, mine_of, setup_in, actor_in, IsIdle, Same}
@@ -46,15 +46,24 @@ module _ {B : Type 0} where
   abbrev pub notice_entry : Seat B → Told → Entry
   notice_entry seat t = entry_of seat End (answer.Notice t.object t.routine t.context t.cleanup)
 
-  -- the actor has a wait begun, as its own entries tell
-  abbrev pub IsInWait : Seat B → Type 0
-  IsInWait seat = waits_from false (mine_of seat) ≡ true
+  -- the seat's actor is one of the machine's, and has a wait begun, as its own entries tell
+  pub record IsInWait (seat : Seat B) : Type 0 where
+    pub actor : IsActor (setup_in seat).limits (actor_in seat)
+    pub begun : waits_from false (mine_of seat) ≡ true
+
+  -- it has looked, as often as it may be, and has made nothing
+  pub record HasStayed (a b : Seat B) : Type 0 where
+    pub same : Same a b
+    pub idle : IsIdle b
+    pub seen : StartsWith (seen_of b) (seen_of a)
+    pub mine : mine_of b ≡ mine_of a
 
   -- the call has begun a wait, behind a history that begins with what had been seen; the wait has given these notices and
   -- goes on
   pub record IsWaiting (begin : Call) (told : List Told) (a b : Seat B) : Type 0 where
     pub same : Same a b
     pub idle : IsIdle b
+    pub in_wait : IsInWait b
     pub before : List Entry
     pub since : StartsWith before (seen_of a)
     pub begun : Answer
@@ -65,6 +74,7 @@ module _ {B : Type 0} where
     pub own_before : mine_of a ≡ own (actor_in b) before
     pub own_between : own (actor_in b) between ≡ map (notice_entry b) told
     pub mine : mine_of b ≡ mine_of a ++ entry_of b begin begun ∷ map (notice_entry b) told
+    pub laws : KeepsLaws (setup_in b).limits (seen_of b)
 
   -- the same, and its last End has this answer: that is the last entry that is seen, and the seat's last one
   pub record IsAnswered (begin : Call) (told : List Told) (last : Answer) (a b : Seat B) : Type 0 where

@@ -4,11 +4,6 @@ ghost use Rattle.std.specs.Prelude.{◌≡◌, ◌≤◌, [], true, IfErr, OnOk}
 ghost use Rattle.tp_base.specs.declared.calls.Call.TheVariants.{BeginAcquire, BeginClose, BeginWait, End};
 ghost use Rattle.tp_base.specs.Ranges.{IsCallInRange};
 ghost use Rattle.tp_model.specs.Stages.{is_wait_answer};
-ghost use Rattle.std.specs.Prelude.{ℕ, List};
-ghost use Rattle.tp_base.specs.declared.answers.Entry.{Entry};
-ghost use Rattle.tp_base.specs.declared.limits.Limits.{Limits};
-ghost use Rattle.tp_model.specs.History.{IsLegal};
-ghost use Rattle.tp_model.specs.Stages.{MachineFacts};
 ghost use Rattle.shared_pool.specs.Calls.{HasCalled, HasMetMore};
 ghost use Rattle.shared_pool.specs.Waits.{is_accepted, is_begin, HasClosed, HasWaitedFor, IsInWait, IsUnbegun, IsWaiting};
 
@@ -20,13 +15,8 @@ use std::sync::Wait;
 use tp_base::answers::{Answer, Outcome};
 use tp_base::calls::{Call, Kind};
 use tp_base::ids::{GroupId, KernelId, ObjectId};
-use tp_model::{legal_bounds_closes, legal_keeps_laws};
+use tp_model::{legal_bounds_closes, legal_gives_facts, legal_keeps_laws};
 use turn_lock::Seat;
-
-// STANDIN
-fn legal_gives_facts()
-    ensures { (limits : Limits) (capacity : ℕ) (history : List Entry) → IsLegal limits capacity history → MachineFacts limits history }
-{}
 
 // Whether a call was accepted.
 fn accepted(told: Outcome) -> bool
@@ -165,6 +155,7 @@ impl<B: Recorded> SharedPool<B> {
         ensures unbegun { IfErr result (λ told. IsUnbegun call told seat.old seat.new) }
         ensures met { HasMetMore seat.old seat.new }
     {
+        legal_bounds_closes();
         let told = self.call(rt, seat, call);
         if accepted(told) { Ok(()) } else { Err(told) }
     }
