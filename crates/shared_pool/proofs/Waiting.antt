@@ -1,5 +1,5 @@
 -- What the calls that wait come to, from what their Begin call and their Ends came to.
-use Rattle.std.proofs.Common.{◌≡◌, ℕ, ◌+◌, ◌<◌, ◌≤◌, Bool, true, false, cond, ◌&&◌, ◌||◌, List, [], ◌∷◌, ◌++◌, length, map, find, filter, Option, Some, None, option_map, refl, sym, ap, ◌∙◌, subst, arith, append_assoc, append-nil, eq-eqb, length-append}
+use Rattle.std.proofs.Common.{◌≡◌, ℕ, ◌+◌, ◌<◌, ◌≤◌, Bool, true, false, cond, ◌&&◌, ◌||◌, List, [], ◌∷◌, ◌++◌, length, map, find, filter, is_some, Option, Some, None, ◌⊎◌, inl, inr, option_map, refl, sym, ap, ◌∙◌, subst, arith, append_assoc, append-nil, eq-eqb, length-append}
 use Rattle.std.specs.List.{filter_map, cons_option, fold, list_any}
 use Rattle.std.specs.Option.{unwrap_or}
 use Rattle.std.proofs.lemmas.List.{append_cancel_left, length-map, map-append}
@@ -15,28 +15,30 @@ use Rattle.tp_base.specs.declared.calls.Call.{Call}
 use Rattle.tp_base.specs.declared.calls.Call.TheVariants.{BeginAcquire, BeginClose, BeginWait, End}
 use Rattle.tp_base.specs.declared.calls.Kind.{Kind}
 use Rattle.tp_base.specs.declared.ids.GroupId.{GroupId}
+use Rattle.tp_base.specs.declared.ids.KernelId.{KernelId}
 use Rattle.tp_base.specs.declared.ids.ObjectId.{ObjectId}
 use Rattle.tp_base.specs.declared.ids.Who.{Who}
 use Rattle.tp_base.specs.declared.ids.Who.TheVariants.{Client, Worker}
 use Rattle.tp_base.specs.declared.limits.Limits.{Limits}
 use Rattle.tp_base.specs.declared.rows.WaitTarget.{WaitTarget}
 use Rattle.tp_base.specs.declared.rows.WaitTarget.TheVariants.{Object, Group, Kernel}
-use Rattle.tp_model.specs.Conditions.{is_actor}
+use Rattle.tp_model.specs.Conditions.{is_actor, is_in_wait}
 use Rattle.tp_model.specs.History.{is_refusal, after, IsLegal}
 use Rattle.tp_model.specs.Laws.{KeepsLaws}
 use Rattle.tp_model.specs.Waits.{is_group_target, is_object_target}
 use Rattle.tp_model.specs.Laws.Covered.{ends, end_in, IsCovered}
 use Rattle.tp_model.specs.Laws.Entries.{Begins, begins_by, begins_call, is_ending, Notice, notice_by, Creation, created_by}
-use Rattle.tp_model.specs.Laws.Notices.{given, given_by, notices_due, due_among, due_of, due_to, is_due_behind, numbers_created, created_number, notice_for, IsFront}
+use Rattle.tp_model.specs.Laws.Notices.{given, given_by, notices_due, due_among, due_of, due_to, is_due_behind, numbers_created, created_number, notice_for, IsClosing, IsFront}
 use Rattle.tp_model.specs.Stages.{is_wait_answer, is_wait_outcome, waits_after, waits_from, waits_step, IsActor, MachineFacts}
-use Rattle.recorded.specs.Recordings.{room_of, world_behind}
+use Rattle.recorded.specs.Recordings.{outcome_behind, room_of, world_behind}
 use Rattle.turn_lock.specs.declared.seats.Seat.{Seat}
+use Rattle.turn_lock.specs.declared.views.Setup.{Setup}
 use Rattle.turn_lock.specs.Histories.{actor_of, own, StartsWith}
 use Rattle.turn_lock.specs.Seats.{seen_of, mine_of, met_of, setup_in, actor_in, IsIdle, Same}
 use Rattle.turn_lock.specs.Views.{recording_of}
 use Rattle.shared_pool.specs.declared.notices.Told.{Told}
 use Rattle.shared_pool.specs.Calls.{comes_to, entry_of, HasCalled, HasEnded, HasLookedFor, HasMetMore}
-use Rattle.shared_pool.specs.Waits.{is_accepted, is_begin, notice_entry, notice_told, HasStayed, HasWaitedFor, IsAnswered, IsFreed, IsInWait, IsUnbegun, IsWaiting, IsWaitOver}
+use Rattle.shared_pool.specs.Waits.{is_accepted, is_begin, notice_entry, notice_told, with_told, HasClosed, HasStayed, HasWaitedFor, IsAnswered, IsFreed, IsInWait, IsTelling, IsUnbegun, IsWaiting, IsWaitOver}
 use Rattle.shared_pool.proofs.Begins.{beginning, IsBeginning}
 
 same_self : (who : Who) → is_same_actor who who ≡ true
@@ -112,6 +114,81 @@ GivesFacts = (limits : Limits) (capacity : ℕ) (history : List Entry) → IsLeg
 through : (history front first : List Entry) → StartsWith history front → StartsWith front first → StartsWith history first
 through history front first s t = record { rest = t.rest ++ s.rest; is = s.is ∙ (ap (λ (h : List Entry). h ++ s.rest) t.is ∙ append_assoc first t.rest s.rest) }
 
+told_none : (was : Option (List Told)) → was ≡ with_told [] was
+told_none None = refl
+told_none (Some held) = ap (λ l. Some l) (sym (append-nil held))
+
+told_more : (was : Option (List Told)) (told : List Told) (t : Told) → with_told (t ∷ []) (with_told told was) ≡ with_told (told ++ t ∷ []) was
+told_more None told t = refl
+told_more (Some held) told t = ap (λ l. Some l) (append_assoc held told (t ∷ []))
+
+and_off : (b : Bool) → (b && false) ≡ false
+and_off true = refl
+and_off false = refl
+
+-- a close that goes on behind more entries, of which none begins one, goes on behind the first ones
+abbrev begins_of : Who → Entry → Bool
+begins_of who e = is_same_actor e.who who && is_some (begins_by e)
+
+place_of : (h more xs : List Entry) (e : Entry) (ys : List Entry) → xs ++ e ∷ ys ≡ h ++ more → ((rest : List Entry) × (ys ≡ rest ++ more) × (xs ++ e ∷ rest ≡ h)) ⊎ ((zs : List Entry) × (more ≡ zs ++ e ∷ ys))
+place_of [] more xs e ys is = inr (xs, sym is)
+place_of (y ∷ h) more [] e ys is =
+    let head : e ≡ y = cc in
+    let back : ys ≡ h ++ more = cc in
+    inl (h, back, ap (λ x. x ∷ h) head)
+place_of (y ∷ h) more (x ∷ xs) e ys is =
+    let head : x ≡ y = cc in
+    let back : xs ++ e ∷ ys ≡ h ++ more = cc in
+    longer head (place_of h more xs e ys back)
+  where
+    longer : x ≡ y → ((rest : List Entry) × (ys ≡ rest ++ more) × (xs ++ e ∷ rest ≡ h)) ⊎ ((zs : List Entry) × (more ≡ zs ++ e ∷ ys)) → ((rest : List Entry) × (ys ≡ rest ++ more) × ((x ∷ xs) ++ e ∷ rest ≡ y ∷ h)) ⊎ ((zs : List Entry) × (more ≡ zs ++ e ∷ ys))
+    longer head (inl found) = inl (found.0, found.1, (λ i. head i ∷ found.2 i))
+    longer head (inr found) = inr found
+
+none_of : (p : Entry → Bool) (zs : List Entry) (e : Entry) (ys : List Entry) → p e ≡ true → list_any p (zs ++ e ∷ ys) ≡ false → ⊥
+none_of p [] e ys is off = let both : true ≡ false = ap (λ t. t || list_any p ys) (sym is) ∙ off in cc
+none_of p (z ∷ zs) e ys is off =
+    elim (p z) as (λ t. (t || list_any p (zs ++ e ∷ ys)) ≡ false → ⊥) [
+      | true ↦ λ h. let no : true ≡ false = h in cc
+      | false ↦ λ h. none_of p zs e ys is h
+    ] off
+
+none_found : (p : Entry → Bool) (xs ys : List Entry) → find p (xs ++ ys) ≡ None → find p xs ≡ None
+none_found p [] ys e = refl
+none_found p (x ∷ xs) ys e =
+    elim (p x) as (λ t. cond t (Some x) (find p (xs ++ ys)) ≡ None → cond t (Some x) (find p xs) ≡ None) [
+      | true ↦ λ h. absurd cc
+      | false ↦ λ h. none_found p xs ys h
+    ] e
+
+closing_first : (who : Who) (h more : List Entry) → IsClosing (h ++ more) who → list_any (begins_of who) more ≡ false → IsClosing h who
+closing_first who h more c off = of_place (place_of h more c.before c.begin c.between c.place)
+  where
+    of_place : ((rest : List Entry) × (c.between ≡ rest ++ more) × (c.before ++ c.begin ∷ rest ≡ h)) ⊎ ((zs : List Entry) × (more ≡ zs ++ c.begin ∷ c.between)) → IsClosing h who
+    of_place (inl found) = record {
+      before = c.before;
+      begin = c.begin;
+      between = found.0;
+      b = c.b;
+      place = found.2;
+      begins = c.begins;
+      by = c.by;
+      group = c.group;
+      cancels = c.cancels;
+      unended = none_found (ends who) found.0 more (ap (find (ends who)) (sym found.1) ∙ c.unended);
+    }
+    of_place (inr found) =
+        absurd (none_of (begins_of who) found.0 c.begin c.between ((λ i. c.by i && is_some (c.begins i))) (ap (list_any (begins_of who)) (sym found.1) ∙ off))
+
+-- an actor that has no entries begins nothing
+begins_none : (who : Who) (entries : List Entry) → own who entries ≡ [] → list_any (begins_of who) entries ≡ false
+begins_none who [] none = refl
+begins_none who (e ∷ es) none =
+    elim (is_same_actor e.who who) as (λ t. cond t (e ∷ own who es) (own who es) ≡ [] → ((t && is_some (begins_by e)) || list_any (begins_of who) es) ≡ false) [
+      | true ↦ λ h. absurd cc
+      | false ↦ λ h. begins_none who es h
+    ] none
+
 abbrev target_of : Option Begins → WaitTarget
 target_of None = Kernel (record { 0 = 0 })
 target_of (Some b) = b.target
@@ -141,7 +218,9 @@ module _ {B : Type 0} where
         };
         before = h.before;
         since = h.since;
+        legal_before = h.legal_before;
         begun = x;
+        came = h.came;
         begins = begins;
         accepted = accepted;
         between = [];
@@ -234,7 +313,9 @@ module _ {B : Type 0} where
         idle = h.idle;
         before = w.before;
         since = w.since;
+        legal_before = subst (λ (s : Setup). IsLegal s.limits s.capacity w.before) (sym h.same.setup) w.legal_before;
         begun = w.begun;
+        came = ap (λ (p : Setup × Who). outcome_behind (recording_of p.0 w.before) p.1 begin) (λ i. (h.same.setup i, who i)) ∙ w.came;
         begins = w.begins;
         accepted = w.accepted;
         between = w.between ++ rest;
@@ -264,7 +345,9 @@ module _ {B : Type 0} where
         };
         before = w.before;
         since = w.since;
+        legal_before = w.legal_before;
         begun = w.begun;
+        came = w.came;
         begins = w.begins;
         accepted = w.accepted;
         between = w.between ++ last ∷ [];
@@ -358,3 +441,86 @@ module _ {B : Type 0} where
         covered = covered is begins by;
         noticed = sym all ∙ w.laws.noticed.all w.before w.between [] first final begins (sym w.seen) by none (ends_it is) is;
       }
+
+  -- ---- what a close tells
+
+  pub tells_nothing : (begin : Call) (was : Option (List Told)) (spare : ℕ) (a m : Seat B) → IsWaiting begin [] a m → IsTelling begin was was spare spare a m
+  tells_nothing begin was spare a m w = record { told = []; waiting = w; heard = told_none was; spare = omega arith }
+
+  noticed : (begin : Call) (told : List Told) (t : Told) (a m b : Seat B) → 0 < m.number → IsWaiting begin told a m → HasCalled End (answer.Notice t.object t.routine t.context t.cleanup) m b → IsWaiting begin (told ++ t ∷ []) a b
+  noticed begin told t a m b some_number w h = goes_on begin told t a b (still_actor m b h.same w.in_wait.actor) (answered begin told (answer.Notice t.object t.routine t.context t.cleanup) a m b some_number w h)
+
+  pub tells_on : (begin : Call) (t : Told) (was now next : Option (List Told)) (spare_was spare_now spare_next : ℕ) (a m b : Seat B) → 0 < m.number → IsTelling begin was now spare_was spare_now a m
+      → HasCalled End (answer.Notice t.object t.routine t.context t.cleanup) m b → next ≡ with_told (t ∷ []) now → spare_next + 1 ≡ spare_now → IsTelling begin was next spare_was spare_next a b
+  tells_on begin t was now next spare_was spare_now spare_next a m b some_number w h hears lowers = record {
+    told = w.told ++ t ∷ [];
+    waiting = noticed begin w.told t a m b some_number w.waiting h;
+    heard = hears ∙ (ap (with_told (t ∷ [])) w.heard ∙ told_more was w.told t);
+    spare = omega (arith, lowers, w.spare, length-append w.told (t ∷ []));
+  }
+
+  pub has_room : (group : GroupId) (cancel : Bool) (context : ℕ) (t : Told) (was now : Option (List Told)) (spare_was spare_now : ℕ) (a m b : Seat B) → 0 < m.number
+      → ((limits : Limits) (capacity : ℕ) (history : List Entry) → IsLegal limits capacity history → length (numbers_created history) ≤ limits.objects)
+      → (setup_in b).limits.objects ≤ spare_was → IsTelling (BeginClose group cancel context) was now spare_was spare_now a m → HasCalled End (answer.Notice t.object t.routine t.context t.cleanup) m b → 0 < spare_now
+  has_room group cancel context t was now spare_was spare_now a m b some_number few spare w h =
+      omega (arith, within_limit group cancel context (w.told ++ t ∷ []) a b few (noticed (BeginClose group cancel context) w.told t a m b some_number w.waiting h), length-append w.told (t ∷ []), w.spare, spare)
+
+  -- the answer of a last End
+  last_as : (begin : Call) (told : List Told) (x : Answer) (a b : Seat B) → is_wait_answer x ≡ true → ((t : Told) → x ≡ answer.Notice t.object t.routine t.context t.cleanup → ⊥) → IsWaitOver begin told x a b → HasWaitedFor begin told (outcome.Done x) a b
+  last_as begin told answer.Ended a b of_wait apart w = w
+  last_as begin told answer.Exhausted a b of_wait apart w = w
+  last_as begin told (answer.Notice object routine context cleanup) a b of_wait apart w = absurd (apart (record { object = object; routine = routine; context = context; cleanup = cleanup }) refl)
+  last_as begin told _ a b of_wait apart w = absurd cc
+
+  pub has_closed : ((limits : Limits) (capacity : ℕ) (history : List Entry) → IsLegal limits capacity history → KeepsLaws limits history)
+      → (begin : Call) (x : Answer) (was now : Option (List Told)) (spare_was spare_now : ℕ) (a m b : Seat B) → 0 < m.number → IsTelling begin was now spare_was spare_now a m
+      → HasCalled End x m b → is_wait_answer x ≡ true → ((t : Told) → x ≡ answer.Notice t.object t.routine t.context t.cleanup → ⊥) → HasClosed begin (outcome.Done x) was now spare_was spare_now a b
+  has_closed keeps begin x was now spare_was spare_now a m b some_number w h of_wait apart = record {
+    told = w.told;
+    waited = last_as begin w.told x a b of_wait apart (over keeps begin w.told x a b (answered begin w.told x a m b some_number w.waiting h));
+    heard = w.heard;
+    spare = w.spare;
+  }
+
+  -- where no wait was begun
+  pub not_begun : (begin : Call) (came : Outcome) (a m : Seat B) → IsUnbegun begin came a m → HasWaitedFor begin [] came a m
+  not_begun begin (outcome.Done (answer.Refused refusal)) a m h = (h, refl)
+  not_begun begin (outcome.Full room cost) a m h = (h, refl)
+  not_begun begin (outcome.Look look) a m h = absurd h
+  not_begun begin (outcome.Done _) a m h = absurd h
+
+  pub closed_nothing : (begin : Call) (came : Outcome) (was : Option (List Told)) (spare : ℕ) (a m : Seat B) → IsUnbegun begin came a m → HasClosed begin came was was spare spare a m
+  closed_nothing begin came was spare a m h = record { told = []; waited = not_begun begin came a m h; heard = told_none was; spare = omega arith }
+
+  -- a wait for the callbacks of an object
+  pub has_waited : ((limits : Limits) (capacity : ℕ) (history : List Entry) → IsLegal limits capacity history → KeepsLaws limits history)
+      → (kind : Kind) (object : ObjectId) (cancel : Bool) (x : Answer) (a m b : Seat B) → 0 < m.number → IsWaiting (BeginWait kind object cancel) [] a m → HasCalled End x m b → is_wait_answer x ≡ true
+      → HasWaitedFor (BeginWait kind object cancel) [] (outcome.Done x) a b
+  has_waited keeps kind object cancel x a m b some_number w h of_wait =
+      last_as (BeginWait kind object cancel) [] x a b of_wait
+      (λ t is. no_notice kind object cancel t a b (noticed (BeginWait kind object cancel) [] t a m b some_number w (subst (λ y. HasCalled End y m b) is h)))
+      (over keeps (BeginWait kind object cancel) [] x a b (answered (BeginWait kind object cancel) [] x a m b some_number w h))
+
+  -- a wait for a kernel object gives no notice
+  pub has_acquired : ((limits : Limits) (capacity : ℕ) (history : List Entry) → IsLegal limits capacity history → KeepsLaws limits history)
+      → ((limits : Limits) (capacity : ℕ) (history : List Entry) → IsLegal limits capacity history → (who : Who) → IsClosing history who → is_in_wait (after limits history) who ≡ true)
+      → (kernel : KernelId) (x : Answer) (a m b : Seat B) → 0 < m.number → IsWaiting (BeginAcquire kernel) [] a m → HasCalled End x m b → is_wait_answer x ≡ true
+      → HasWaitedFor (BeginAcquire kernel) [] (outcome.Done x) a b
+  has_acquired keeps closes kernel x a m b some_number w h of_wait =
+      last_as (BeginAcquire kernel) [] x a b of_wait (λ t is. noisy t is (answered (BeginAcquire kernel) [] x a m b some_number w h))
+      (over keeps (BeginAcquire kernel) [] x a b (answered (BeginAcquire kernel) [] x a m b some_number w h))
+    where
+      noisy : (t : Told) → x ≡ answer.Notice t.object t.routine t.context t.cleanup → IsAnswered (BeginAcquire kernel) [] x a b → ⊥
+      noisy t is n =
+          let who : Who = actor_in b in
+          let first : Entry = entry_of b (BeginAcquire kernel) n.begun in
+          let place : (n.before ++ first ∷ n.between) ++ entry_of b End x ∷ [] ≡ seen_of b = sym n.seen in
+          let closing : IsClosing (n.before ++ first ∷ n.between) who = n.laws.noticed.no_other (n.before ++ first ∷ n.between) [] (entry_of b End x) (notice_told t) place (ap notice_by is) in
+          let none : list_any (begins_of who) (first ∷ n.between) ≡ false =
+              ap (λ o. (is_same_actor who who && is_some o) || list_any (begins_of who) n.between) (ap (λ r. cond r None (begins_call (BeginAcquire kernel))) n.accepted)
+              ∙ (ap (λ l. l || list_any (begins_of who) n.between) (and_off (is_same_actor who who)) ∙ begins_none who n.between n.own_between) in
+          let inside : is_in_wait (after (setup_in b).limits n.before) who ≡ true = closes (setup_in b).limits (setup_in b).capacity n.before n.legal_before who (closing_first who n.before (first ∷ n.between) closing none) in
+          let outside : is_in_wait (after (setup_in b).limits n.before) who ≡ false =
+              (beginning (after (setup_in b).limits n.before) (room_of (recording_of (setup_in b) n.before)) who (BeginAcquire kernel) refl).free kernel refl n.begun n.came n.accepted in
+          let both : true ≡ false = sym inside ∙ outside in
+          cc

@@ -17,7 +17,7 @@ use Rattle.turn_lock.specs.declared.seats.Seat.{Seat}
 use Rattle.turn_lock.specs.Histories.{own, StartsWith}
 use Rattle.turn_lock.specs.Seats.{seen_of, mine_of, setup_in, actor_in, IsIdle, Same}
 use Rattle.shared_pool.specs.declared.notices.Told.{Told}
-use Rattle.shared_pool.specs.Calls.{entry_of, HasCalled, HasLookedFor}
+use Rattle.shared_pool.specs.Calls.{comes_to, entry_of, HasCalled, HasLookedFor}
 
 -- what was told of an object is a notice of the machine
 abbrev pub notice_told : Told → Notice
@@ -66,7 +66,9 @@ module _ {B : Type 0} where
     pub in_wait : IsInWait b
     pub before : List Entry
     pub since : StartsWith before (seen_of a)
+    pub legal_before : IsLegal (setup_in b).limits (setup_in b).capacity before
     pub begun : Answer
+    pub came : comes_to b before begin ≡ outcome.Done begun
     pub begins : waits_step begun begin ≡ Some true
     pub accepted : is_refusal begun ≡ false
     pub between : List Entry
@@ -82,7 +84,9 @@ module _ {B : Type 0} where
     pub idle : IsIdle b
     pub before : List Entry
     pub since : StartsWith before (seen_of a)
+    pub legal_before : IsLegal (setup_in b).limits (setup_in b).capacity before
     pub begun : Answer
+    pub came : comes_to b before begin ≡ outcome.Done begun
     pub begins : waits_step begun begin ≡ Some true
     pub accepted : is_refusal begun ≡ false
     pub between : List Entry
@@ -121,5 +125,12 @@ module _ {B : Type 0} where
   pub record HasClosed (begin : Call) (came : Outcome) (was now : Option (List Told)) (spare_was spare_now : ℕ) (a b : Seat B) : Type 0 where
     pub told : List Told
     pub waited : HasWaitedFor begin told came a b
+    pub heard : now ≡ with_told told was
+    pub spare : spare_now + length told ≡ spare_was
+
+  -- a wait that goes on, and what has been told of its notices
+  pub record IsTelling (begin : Call) (was now : Option (List Told)) (spare_was spare_now : ℕ) (a b : Seat B) : Type 0 where
+    pub told : List Told
+    pub waiting : IsWaiting begin told a b
     pub heard : now ≡ with_told told was
     pub spare : spare_now + length told ≡ spare_was
