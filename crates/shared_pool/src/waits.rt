@@ -83,6 +83,7 @@ impl<B: Recorded> SharedPool<B> {
         ensures waited { HasWaitedFor (BeginAcquire kernel) [] result seat.old seat.new }
         ensures met { HasMetMore seat.old seat.new }
     {
+        legal_keeps_laws();
         legal_bounds_closes();
         match self.begin(rt, seat, Call::BeginAcquire { kernel }) {
             Ok(()) => Outcome::Done(self.end(rt, seat)),
