@@ -20,7 +20,10 @@
 
 #![tactic(auto)]
 
+mod notices;
 mod pool;
+mod waits;
 mod win32;
 
+pub use notices::{NoticeList, Notices, Told};
 pub use pool::{Over, SharedPool, Tried};
