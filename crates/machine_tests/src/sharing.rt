@@ -335,8 +335,7 @@ fn notices_told(rt: HostRuntime) {
     let limits = program_limits(1, 1);
     let mut notices = expect_ok(&rt, NoticeList::open(rt.alloc(), limits.objects));
     let (pool, mut seats) = expect_ok(&rt, SharedPool::<Book>::open(rt.alloc(), limits, 64));
-    let worker = pop(&rt, &pool, &mut seats);
-    let client = pop(&rt, &pool, &mut seats);
+    let (client, worker) = take_two(&rt, &pool, &mut seats);
     expect_eq(&rt, close_two(&rt, &pool, client, &mut notices), true);
     expect_eq(&rt, notices.get(0), told_of(1, 5));
     expect_eq(&rt, notices.get(1), told_of(2, 6));
