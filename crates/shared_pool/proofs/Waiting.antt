@@ -1,5 +1,5 @@
 -- What the calls that wait come to, from what their Begin call and their Ends came to.
-use Rattle.std.proofs.Common.{◌≡◌, ℕ, ◌+◌, ◌<◌, ◌≤◌, Bool, true, false, cond, ◌&&◌, ◌||◌, List, [], ◌∷◌, ◌++◌, length, map, find, filter, is_some, Option, Some, None, ◌⊎◌, inl, inr, option_map, refl, sym, ap, ◌∙◌, subst, arith, append_assoc, append-nil, eq-eqb, length-append}
+use Rattle.std.proofs.Common.{◌≡◌, ℕ, ◌+◌, ◌<◌, ◌≤◌, Bool, true, false, cond, ◌&&◌, ◌||◌, List, [], ◌∷◌, ◌++◌, length, map, find, is_some, Option, Some, None, ◌⊎◌, inl, inr, option_map, refl, sym, ap, ◌∙◌, subst, arith, append_assoc, append-nil, eq-eqb, length-append}
 use Rattle.std.specs.List.{filter_map, cons_option, fold, list_any}
 use Rattle.std.specs.Option.{unwrap_or}
 use Rattle.std.proofs.lemmas.List.{append_cancel_left, length-map, map-append}
@@ -28,9 +28,9 @@ use Rattle.tp_model.specs.Laws.{KeepsLaws}
 use Rattle.tp_model.specs.Waits.{is_group_target, is_object_target}
 use Rattle.tp_model.specs.Laws.Covered.{ends, end_in, IsCovered}
 use Rattle.tp_model.specs.Laws.Entries.{Begins, begins_by, begins_call, is_ending, Notice, notice_by, Creation, created_by}
-use Rattle.tp_model.specs.Laws.Notices.{given, given_by, notices_due, due_among, due_of, due_to, is_due_behind, numbers_created, created_number, notice_for, IsClosing, IsFront}
+use Rattle.tp_model.specs.Laws.Notices.{given, notices_due, due_among, due_of, due_to, is_due_behind, numbers_created, created_number, notice_for, IsClosing, IsFront}
 use Rattle.tp_model.specs.Stages.{is_wait_answer, is_wait_outcome, waits_after, waits_from, waits_step, IsActor, MachineFacts}
-use Rattle.recorded.specs.Recordings.{outcome_behind, room_of, world_behind}
+use Rattle.recorded.specs.Recordings.{outcome_behind, room_of}
 use Rattle.turn_lock.specs.declared.seats.Seat.{Seat}
 use Rattle.turn_lock.specs.declared.views.Setup.{Setup}
 use Rattle.turn_lock.specs.Histories.{actor_of, own, StartsWith}

@@ -1,6 +1,5 @@
-use Rattle.std.proofs.Common.{ap, sym, ◌∙◌, ◌≤◌, subst}
+use Rattle.std.proofs.Common.{sym, ◌≤◌, subst}
 use Rattle.tp_base.specs.declared.calls.Call.TheVariants.{BeginClose}
-use Rattle.tp_base.specs.declared.limits.Limits.{Limits}
 use Rattle.turn_lock.specs.declared.views.Setup.{Setup}
 use Rattle.shared_pool.specs.declared.notices.Told.{Told}
 use Rattle.shared_pool.proofs.Waiting.{has_closed, has_room, met_through, tells_nothing, tells_on}
