@@ -259,8 +259,8 @@ module _ {B : Type 0} where
   never_full facts room cost m b some_number w h =
       let f : MachineFacts (setup_in b).limits (seen_of b) = facts (setup_in b).limits (setup_in b).capacity (seen_of b) h.idle.whole.informed.legal in
       let ended : false ≡ true =
-          sym (ap is_wait_outcome h.came)
-          ∙ f.ends (actor_in b) (still_actor m b h.same w.actor) (ap (waits_from false) (sym (h.idle.whole.informed.own_is some_number) ∙ h.mine) ∙ w.begun) (room_of (recording_of (setup_in b) (seen_of b)))
+      sym (ap is_wait_outcome h.came)
+      ∙ f.ends (actor_in b) (still_actor m b h.same w.actor) (ap (waits_from false) (sym (h.idle.whole.informed.own_is some_number) ∙ h.mine) ∙ w.begun) (room_of (recording_of (setup_in b) (seen_of b)))
       in cc
 
   pub stays_itself : (a : Seat B) → IsIdle a → HasStayed a a
@@ -303,10 +303,10 @@ module _ {B : Type 0} where
       let first : entry_of m begin w.begun ≡ entry_of b begin w.begun = ap (λ (v : Who). record { who = v; call = begin; answer = w.begun }) (sym who) in
       let notices : map (notice_entry m) told ≡ map (notice_entry b) told = ap (λ (v : Who). map (notice_by_who v) told) (sym who) in
       let before : h.before ≡ w.before ++ entry_of b begin w.begun ∷ (w.between ++ rest) =
-          h.since.is ∙ (ap (λ l. l ++ rest) w.seen ∙ (append_assoc w.before (entry_of m begin w.begun ∷ w.between) rest ∙ ap (λ e. w.before ++ e ∷ (w.between ++ rest)) first)) in
+      h.since.is ∙ (ap (λ l. l ++ rest) w.seen ∙ (append_assoc w.before (entry_of m begin w.begun ∷ w.between) rest ∙ ap (λ e. w.before ++ e ∷ (w.between ++ rest)) first)) in
       let own_seen : mine_of m ≡ own (actor_in b) (seen_of m) = w.idle.whole.informed.own_is some_number ∙ ap (λ v. own v (seen_of m)) (sym who) in
       let own_more : own (actor_in b) (seen_of m) ++ [] ≡ own (actor_in b) (seen_of m) ++ own (actor_in b) rest =
-          append-nil (own (actor_in b) (seen_of m)) ∙ (sym own_seen ∙ (h.own_before ∙ (ap (own (actor_in b)) h.since.is ∙ filter-append (λ (e : Entry). is_same_actor e.who (actor_in b)) (seen_of m) rest))) in
+      append-nil (own (actor_in b) (seen_of m)) ∙ (sym own_seen ∙ (h.own_before ∙ (ap (own (actor_in b)) h.since.is ∙ filter-append (λ (e : Entry). is_same_actor e.who (actor_in b)) (seen_of m) rest))) in
       let own_rest : [] ≡ own (actor_in b) rest = append_cancel_left (own (actor_in b) (seen_of m)) [] (own (actor_in b) rest) own_more in
       record {
         same = same_through a m b w.same h.same;
@@ -390,10 +390,18 @@ module _ {B : Type 0} where
       let begins : Begins = record { target = Group group; cancel = cancel; cleanup = context } in
       let front : IsFront (map notice_told told) (notices_due begins w.before) = given_first (BeginClose group cancel context) told a b w begins (begins_as (BeginClose group cancel context) w.begun b w.accepted) in
       let made : numbers_created (seen_of b) ≡ numbers_created w.before ++ numbers_created (entry_of b (BeginClose group cancel context) w.begun ∷ w.between) =
-          ap numbers_created w.seen ∙ filter_map-append created_number w.before (entry_of b (BeginClose group cancel context) w.begun ∷ w.between) in
+      ap numbers_created w.seen ∙ filter_map-append created_number w.before (entry_of b (BeginClose group cancel context) w.begun ∷ w.between) in
       let legal : IsLegal (setup_in b).limits (setup_in b).capacity (seen_of b) = w.idle.whole.informed.legal in
-      omega (arith, length-map told notice_told, ap length front.split, length-append (map notice_told told) front.rest, notices_few begins w.before,
-        ap length made, length-append (numbers_created w.before) (numbers_created (entry_of b (BeginClose group cancel context) w.begun ∷ w.between)), few (setup_in b).limits (setup_in b).capacity (seen_of b) legal)
+      omega (
+        arith,
+        length-map told notice_told,
+        ap length front.split,
+        length-append (map notice_told told) front.rest,
+        notices_few begins w.before,
+        ap length made,
+        length-append (numbers_created w.before) (numbers_created (entry_of b (BeginClose group cancel context) w.begun ∷ w.between)),
+        few (setup_in b).limits (setup_in b).capacity (seen_of b) legal,
+      )
 
   -- ---- where the wait is over
 
@@ -517,10 +525,10 @@ module _ {B : Type 0} where
           let place : (n.before ++ first ∷ n.between) ++ entry_of b End x ∷ [] ≡ seen_of b = sym n.seen in
           let closing : IsClosing (n.before ++ first ∷ n.between) who = n.laws.noticed.no_other (n.before ++ first ∷ n.between) [] (entry_of b End x) (notice_told t) place (ap notice_by is) in
           let none : list_any (begins_of who) (first ∷ n.between) ≡ false =
-              ap (λ o. (is_same_actor who who && is_some o) || list_any (begins_of who) n.between) (ap (λ r. cond r None (begins_call (BeginAcquire kernel))) n.accepted)
-              ∙ (ap (λ l. l || list_any (begins_of who) n.between) (and_off (is_same_actor who who)) ∙ begins_none who n.between n.own_between) in
+          ap (λ o. (is_same_actor who who && is_some o) || list_any (begins_of who) n.between) (ap (λ r. cond r None (begins_call (BeginAcquire kernel))) n.accepted)
+          ∙ (ap (λ l. l || list_any (begins_of who) n.between) (and_off (is_same_actor who who)) ∙ begins_none who n.between n.own_between) in
           let inside : is_in_wait (after (setup_in b).limits n.before) who ≡ true = closes (setup_in b).limits (setup_in b).capacity n.before n.legal_before who (closing_first who n.before (first ∷ n.between) closing none) in
           let outside : is_in_wait (after (setup_in b).limits n.before) who ≡ false =
-              (beginning (after (setup_in b).limits n.before) (room_of (recording_of (setup_in b) n.before)) who (BeginAcquire kernel) refl).free kernel refl n.begun n.came n.accepted in
+          (beginning (after (setup_in b).limits n.before) (room_of (recording_of (setup_in b) n.before)) who (BeginAcquire kernel) refl).free kernel refl n.begun n.came n.accepted in
           let both : true ≡ false = sym inside ∙ outside in
           cc

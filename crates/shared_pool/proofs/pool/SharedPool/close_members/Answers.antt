@@ -22,11 +22,14 @@ notice-requires g c =
 
 pub loop-preserved : goal.loop-preserved
 loop-preserved g c =
-    let t : Told = record { object = c.in-Notice.object; routine = c.in-Notice.routine; context = c.in-Notice.context; cleanup = c.in-Notice.cleanup } in
-    (tt, tt, c.end.ensures.player,
+    let t : Told = record { object = c.in-Notice.object; routine = c.in-Notice.routine; context = c.in-Notice.context; cleanup = c.in-Notice.cleanup } in (
+      tt,
+      tt,
+      c.end.ensures.player,
       tells_on (BeginClose c.args.group c.args.cancel c.args.context) t (g.N.Notices.told c.args.notices.now) (g.N.Notices.told c.loop.notices) (g.N.Notices.told c.notice.new.self)
-      (g.N.Notices.room c.args.notices.now) (g.N.Notices.room c.loop.notices) (g.N.Notices.room c.notice.new.self) c.args.seat.now c.loop.seat c.end.new.seat c.loop.invariant.2.numbered c.loop.invariant.3 c.in-Notice.ensures.ended c.notice.ensures.told c.notice.ensures.room,
-      met_through c.args.seat.now c.loop.seat c.end.new.seat c.loop.invariant.4 c.end.ensures.met)
+          (g.N.Notices.room c.args.notices.now) (g.N.Notices.room c.loop.notices) (g.N.Notices.room c.notice.new.self) c.args.seat.now c.loop.seat c.end.new.seat c.loop.invariant.2.numbered c.loop.invariant.3 c.in-Notice.ensures.ended c.notice.ensures.told c.notice.ensures.room,
+      met_through c.args.seat.now c.loop.seat c.end.new.seat c.loop.invariant.4 c.end.ensures.met,
+    )
 
 pub returns-in_default-end : goal.returns-in_default-end
 returns-in_default-end g c = record {
