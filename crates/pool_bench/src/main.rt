@@ -54,8 +54,11 @@ fn share<B: Recorded + Send, Rt: Threads + Wait + Sync>(
 ) -> Result<(), AllocError>
     requires { threads ≤ 16 }
 {
-    let opened = SharedPool::<B>::open(alloc, program_limits(threads, 1), CAPACITY)?;
-    let (pool, mut seats) = opened;
+    // There is room for each client.
+    let Ok((pool, mut seats)) = SharedPool::<B>::open(alloc, program_limits(threads, 1), CAPACITY)
+    else {
+        return Err(AllocError);
+    };
     // The last seat is the worker's.
     seats.pop();
     let pool = &pool;
