@@ -1,7 +1,7 @@
 //! What a call comes to, as data: a refusal, a look, or an answer with the change that goes with it.
 
 use crate::answers::{ActionKind, Answer, Look, Refusal, SlotWord};
-use crate::ids::{GroupId, KernelId, ObjectId, PoolId, Who};
+use crate::ids::{GroupId, KernelId, ObjectId, PoolId, RoutineId, Who};
 use crate::rows::{Action, CallbackRow, KernelState, ObjectRow, WaitTarget};
 
 /// A worker that is attached to a pool and runs nothing.
@@ -17,6 +17,22 @@ pub struct Busy {
     pub worker: u32,
     pub pool: PoolId,
     pub callback: CallbackRow,
+}
+
+/// Where an actor stands between two of its calls: one of two stages for a client, of three for a
+/// worker. Its own calls and their answers tell it.
+#[derive(Clone, Copy)]
+pub enum Stage {
+    /// A client that hasn't finished.
+    Playing,
+    /// A client that has finished.
+    Over,
+    /// A worker that is attached to no pool.
+    Away,
+    /// A worker that is attached to a pool and runs nothing.
+    Idle,
+    /// A worker that runs a callback, which has this routine.
+    Busy { routine: RoutineId },
 }
 
 /// How the row of a pool changes.

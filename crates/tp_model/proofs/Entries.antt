@@ -132,38 +132,58 @@ told_change w left who End a ch is = told_end w left who a ch is
 told_change w left who CreatePool a ch is = ap change_of is
 told_change w left who _ a ch is = ap change_of is
 
--- an entry of a legal history leads on
-pub entry_leads : (w : World) (left : ℕ) (entry : Entry) → IsSound (next_number_in w) w → outcome_of (step w left entry.who entry.call) ≡ outcome.Done entry.answer → LeadsOn w entry (led_to w entry)
-entry_leads w left entry s answers = of_plan (plan w left entry.who entry.call) refl answers
-  where
-    of_change : (a : Answer) (ch : Change) → a ≡ entry.answer → plan w left entry.who entry.call ≡ plans.Does a ch → LeadsOn w entry (led_to w entry)
-    of_change a ch same is =
-        let safe : IsSafeChange (next_number_in w) w entry.who entry.call a ch = plan_allowed (next_number_in w) left w entry.who entry.call a ch s is in
-        let makes : change_told w entry.who entry.call entry.answer ≡ Some ch = ap (change_told w entry.who entry.call) (sym same) ∙ told_change w left entry.who entry.call a ch is in
-        let there : led_to w entry ≡ changed w ch = ap (λ b. cond b w (led_by w (change_told w entry.who entry.call entry.answer))) (ap is_refusal (sym same) ∙ safe.accepted) ∙ ap (led_by w) makes in
-        let tells : told_by entry ≡ told_by_change (next_number_in w) w ch = ap (λ (x : Answer). told_by (record { who = entry.who; call = entry.call; answer = x })) (sym same) ∙ safe.tells in
-        subst (LeadsOn w entry) (sym there)
-        (record {
-          leads = change_leads (next_number_in w) w entry ch s safe.allowed safe.made_by tells;
-          sound = subst (λ n. IsSound n (changed w ch)) (omega (arith, grows (next_number_in w) w ch safe.allowed)) (changed_sound (next_number_in w) w ch s safe.allowed);
-        })
+-- the entry of a call that is accepted: the change of its plan is allowed and told, and leads where the entry does
+pub record IsAccepted (w : World) (left : ℕ) (entry : Entry) : Type 0 where
+  pub change : Change
+  pub plan_is : plan w left entry.who entry.call ≡ plans.Does entry.answer change
+  pub safe : IsSafeChange (next_number_in w) w entry.who entry.call entry.answer change
+  pub leads : led_to w entry ≡ changed w change
 
-    of_plan : (p : Plan) → plan w left entry.who entry.call ≡ p → outcome_of (within w left (stepped w p)) ≡ outcome.Done entry.answer → LeadsOn w entry (led_to w entry)
+-- an entry of a legal history is that of a call that is accepted, or of one that is refused and changes nothing
+pub data Entered (w : World) (left : ℕ) (entry : Entry) : Type 0 where
+  Accepts : IsAccepted w left entry → Entered w left entry
+  Refuses : (refusal : Refusal) → entry.answer ≡ answer.Refused refusal → led_to w entry ≡ w → Entered w left entry
+
+pub entered : (w : World) (left : ℕ) (entry : Entry) → IsSound (next_number_in w) w → outcome_of (step w left entry.who entry.call) ≡ outcome.Done entry.answer → Entered w left entry
+entered w left entry s answers = of_plan (plan w left entry.who entry.call) refl answers
+  where
+    of_change : (a : Answer) (ch : Change) → a ≡ entry.answer → plan w left entry.who entry.call ≡ plans.Does a ch → Entered w left entry
+    of_change a ch same is =
+        let here : plan w left entry.who entry.call ≡ plans.Does entry.answer ch = is ∙ ap (λ b. plans.Does b ch) same in
+        let safe : IsSafeChange (next_number_in w) w entry.who entry.call entry.answer ch = plan_allowed (next_number_in w) left w entry.who entry.call entry.answer ch s here in
+        let makes : change_told w entry.who entry.call entry.answer ≡ Some ch = told_change w left entry.who entry.call entry.answer ch here in
+        let there : led_to w entry ≡ changed w ch = ap (λ b. cond b w (led_by w (change_told w entry.who entry.call entry.answer))) safe.accepted ∙ ap (led_by w) makes in
+        Accepts (record { change = ch; plan_is = here; safe = safe; leads = there })
+
+    of_plan : (p : Plan) → plan w left entry.who entry.call ≡ p → outcome_of (within w left (stepped w p)) ≡ outcome.Done entry.answer → Entered w left entry
     of_plan (plans.Does a ch) is says =
-        elim (nat_lt left (cost w (changed w ch))) as (λ b. outcome_of (cond b (Full left (cost w (changed w ch))) (Accepted a (changed w ch))) ≡ outcome.Done entry.answer → LeadsOn w entry (led_to w entry)) [
+        elim (nat_lt left (cost w (changed w ch))) as (λ b. outcome_of (cond b (Full left (cost w (changed w ch))) (Accepted a (changed w ch))) ≡ outcome.Done entry.answer → Entered w left entry) [
           | true ↦ λ e. absurd cc
           | false ↦ λ e. of_change a ch (cc) is
         ] says
     of_plan (plans.Refused refusal) is says =
-        elim (nat_lt left 1) as (λ b. outcome_of (cond b (Full left 1) (Refused refusal)) ≡ outcome.Done entry.answer → LeadsOn w entry (led_to w entry)) [
+        elim (nat_lt left 1) as (λ b. outcome_of (cond b (Full left 1) (Refused refusal)) ≡ outcome.Done entry.answer → Entered w left entry) [
           | true ↦ λ e. absurd cc
           | false ↦ λ e.
               let same : answer.Refused refusal ≡ entry.answer = cc in
-              let stays : led_to w entry ≡ w = ap (λ a. cond (is_refusal a) w (led_by w (change_told w entry.who entry.call a))) (sym same) in
-              subst (LeadsOn w entry) (sym stays)
-              (record { leads = subst (λ (a : Answer). Leads (next_number_in w) w (record { who = entry.who; call = entry.call; answer = a }) w) same (refused_leads w entry.who entry.call refusal); sound = s })
+              Refuses refusal (sym same) (ap (λ a. cond (is_refusal a) w (led_by w (change_told w entry.who entry.call a))) (sym same))
         ] says
     of_plan (plans.Looked look) is says = absurd cc
+
+-- it leads on
+pub entry_leads : (w : World) (left : ℕ) (entry : Entry) → IsSound (next_number_in w) w → outcome_of (step w left entry.who entry.call) ≡ outcome.Done entry.answer → LeadsOn w entry (led_to w entry)
+entry_leads w left entry s answers = of_entry (entered w left entry s answers)
+  where
+    of_entry : Entered w left entry → LeadsOn w entry (led_to w entry)
+    of_entry (Accepts e) =
+        subst (LeadsOn w entry) (sym e.leads)
+        (record {
+          leads = change_leads (next_number_in w) w entry e.change s e.safe.allowed e.safe.made_by e.safe.tells;
+          sound = subst (λ n. IsSound n (changed w e.change)) (omega (arith, grows (next_number_in w) w e.change e.safe.allowed)) (changed_sound (next_number_in w) w e.change s e.safe.allowed);
+        })
+    of_entry (Refuses refusal same stays) =
+        subst (LeadsOn w entry) (sym stays)
+        (record { leads = subst (λ (a : Answer). Leads (next_number_in w) w (record { who = entry.who; call = entry.call; answer = a }) w) (sym same) (refused_leads w entry.who entry.call refusal); sound = s })
 
 -- ---- along a history
 

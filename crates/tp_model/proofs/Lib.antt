@@ -14,6 +14,7 @@ pub mod Covered
 pub mod Due
 pub mod Entries
 mod Examples
+pub mod Facts
 pub mod Fates
 pub mod Firing
 pub mod Fitting
@@ -29,6 +30,7 @@ pub mod Laws
 pub mod Lists
 pub mod Maximum
 pub mod Members
+pub mod Moved
 pub mod Moves
 pub mod Notices
 pub mod Once
@@ -43,6 +45,8 @@ pub mod Releasing
 pub mod Remembered
 pub mod Running
 pub mod Sound
+mod StageExamples
+pub mod Standing
 pub mod Steps
 pub mod Takings
 pub mod Tied

@@ -473,7 +473,10 @@ module _ (next_number : ℕ) (w : World) (entry : Entry) where
       (Stay (record { tells = ap (λ (t : Told). t.deed) tells; callbacks = refl; workers = refl }))
   change_moves (change.EndWait who how) s a by tells =
       unmade (end_wait w who how) (ap (λ (t : Told). t.made) tells) (ap (λ (t : Told). t.queued) tells) (same_armed (end_wait w who how) (ap (λ (t : Told). t.sets) tells) refl) (Stay (record { tells = ap (λ (t : Told). t.deed) tells; callbacks = refl; workers = refl }))
-  change_moves (change.Finish client) s a by tells = still (changed w (change.Finish client)) tells refl refl refl
+  change_moves (change.Finish client) s a by tells =
+      let after : World = changed w (change.Finish client) in
+      unmade after (ap (λ (t : Told). t.made) tells) (ap (λ (t : Told). t.queued) tells) (same_armed after (ap (λ (t : Told). t.sets) tells) refl)
+      (Stay (record { tells = ap (λ (t : Told). t.deed) tells; callbacks = refl; workers = refl }))
 
   -- ---- wait objects
 

@@ -58,8 +58,8 @@ that_kept test gone objects after rel n stays =
     of_row None = refl
     of_row (Some o) = refl
 
--- the rows of other objects stay where one is put in another's place
-pub numbered_set_other : (objects : List ObjectRow) (m n : ℕ) (row : ObjectRow) → 1 ≤ m → (n == m) ≡ false → numbered (slice_set objects (m - 1) row) n ≡ numbered objects n
+-- the rows of other numbers stay where one is put in another's place
+pub numbered_set_other : {X : Type 0} (objects : List X) (m n : ℕ) (row : X) → 1 ≤ m → (n == m) ≡ false → numbered (slice_set objects (m - 1) row) n ≡ numbered objects n
 numbered_set_other objects m n row from_one apart =
     elim (n == 0) as (λ b. (n == 0) ≡ b → cond b None (slice_get (slice_set objects (m - 1) row) (n - 1)) ≡ cond b None (slice_get objects (n - 1))) [
       | true ↦ λ _. refl

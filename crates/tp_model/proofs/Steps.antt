@@ -20,7 +20,7 @@ use Rattle.tp_model.specs.Support.Remembered.{Remembered, Goes, step_of, remembe
 use Rattle.tp_model.proofs.Costs.{paid}
 use Rattle.tp_model.proofs.Calls.{plan_safe}
 
-not_full : (room cost : ℕ) (s : Step) → cost ≤ room → unless_full room cost s ≡ s
+pub not_full : (room cost : ℕ) (s : Step) → cost ≤ room → unless_full room cost s ≡ s
 not_full room cost s fits = ap (λ b. cond b (Full room cost) s) (le-ltb room cost fits)
 
 is_full : (room cost : ℕ) (s : Step) → room < cost → unless_full room cost s ≡ Full room cost

@@ -11,6 +11,7 @@ pub mod Next
 pub mod Over
 pub mod Refusing
 pub mod Sources
+pub mod Stages
 pub mod Step
 pub mod Support
 pub mod Table

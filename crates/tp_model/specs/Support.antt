@@ -6,4 +6,5 @@ pub mod Ranged
 pub mod Remembered
 pub mod Safe
 pub mod Sound
+pub mod Standing
 pub mod Told

@@ -125,7 +125,7 @@ begin_acquire_safe next_number w who kernel =
       allowed = record { actor = not_false (is_actor w who) there.0; none = none.1.1.1.0; object = tt; made = not_false (is_kernel w kernel.0) there.1 };
       made_by = refl;
       accepted = refl;
-      tells = ap (λ n. record silent { deed = record nothing { count = n } }) (sym (none_cancelled (Kernel kernel) w.callbacks));
+      tells = ap (λ n. record silent { deed = record nothing { count = n }; waiting = Some true; begins = true }) (sym (none_cancelled (Kernel kernel) w.callbacks));
     })
 
 pub begin_acquire_forget : (w : World) (who : Who) (kernel : KernelId) → begin_acquire_plan (forget w) who kernel ≡ begin_acquire_plan w who kernel

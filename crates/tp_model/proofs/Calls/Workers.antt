@@ -21,6 +21,7 @@ use Rattle.tp_model.specs.Refusing.{first_refusal, unless_refused}
 use Rattle.tp_model.specs.Calls.Workers.{attach_refusals, attach_to, attach_plan, pool_to_join, idle_refusals, may_leave, detach, detach_plan, take_callback, take, take_plan, return_refusals, return, return_plan, another_in_need}
 use Rattle.tp_base.specs.declared.plans.ActionWords.{ActionWords}
 use Rattle.tp_model.specs.Actions.{slots_of, words_of, returning}
+use Rattle.tp_model.specs.Stages.{Returns}
 use Rattle.tp_model.specs.Support.Told.{silent, nothing}
 use Rattle.tp_model.proofs.Performing.{returning_within}
 use Rattle.tp_model.proofs.Calls.Timers.{told_range, first_within}
@@ -192,7 +193,7 @@ return_safe next_number w who s = in_callback_safe next_number w who Return (ret
       allowed = record { runs = b.runs; told = ap₂ (λ a s. words_of w a (slots_of s)) b.actor b.runs.running; number = refl; counted = refl };
       made_by = b.actor;
       accepted = refl;
-      tells = ap (λ ns. record silent { deed = record nothing { returned = true; words = Some (words_of w who (slots_of by.callback.status)) }; made = ns; queued = ns })
+      tells = ap (λ ns. record silent { deed = record nothing { returned = true; words = Some (words_of w who (slots_of by.callback.status)) }; made = ns; queued = ns; stage = Returns })
           (told_range next_number (length (returning w (words_of w who (slots_of by.callback.status)) (slots_of by.callback.status)).jobs));
     })
 

@@ -1,6 +1,10 @@
 -- What an entry tells of callbacks, workers and pools, and what a change has to tell.
-use Rattle.std.specs.Prelude.{ℕ, ◌+◌, is_some, Bool, true, false, max, List, [], ◌∷◌, length, ◌==◌, if◌then◌else◌, Option, None, Some}
+use Rattle.std.specs.Prelude.{ℕ, ◌+◌, is_some, Bool, true, false, not, ◌&&◌, max, List, [], ◌∷◌, length, ◌==◌, if◌then◌else◌, Option, None, Some}
 use Rattle.tp_base.specs.declared.answers.Entry.{Entry}
+use Rattle.tp_base.specs.declared.calls.Call.{Call}
+use Rattle.tp_base.specs.declared.calls.Call.TheVariants as calls
+use Rattle.tp_model.specs.History.{is_refusal}
+use Rattle.tp_model.specs.Stages.{StageStep, Same, Finishes, Joins, Leaves, Starts, Returns, stage_step, waits_step}
 use Rattle.std.specs.List.{filter, range_with_len}
 use Rattle.tp_base.specs.declared.plans.Mark.TheVariants.{Loose, Asks}
 use Rattle.tp_base.specs.declared.answers.ActionKind.{ActionKind}
@@ -75,8 +79,22 @@ pub record Told : Type 0 where
   pub closed : Option ObjectId
   pub simple : Option GroupId
   pub notice : Option Notice
+  -- what becomes of the actor's stage, and whether it has a wait begun from then on; and whether the call begins one
+  pub stage : StageStep
+  pub waiting : Option Bool
+  pub begins : Bool
   -- the maximum of each pool after the entry, by what it was before
   pub maxima : ℕ → ℕ → ℕ
+
+-- a call that begins a wait
+abbrev pub is_begin_call : Call → Bool
+is_begin_call (calls.BeginWait kind object cancel) = true
+is_begin_call (calls.BeginClose group cancel context) = true
+is_begin_call (calls.BeginAcquire kernel) = true
+is_begin_call _ = false
+
+abbrev pub is_beginning : Entry → Bool
+is_beginning entry = not (is_refusal entry.answer) && is_begin_call entry.call
 
 abbrev pub told_by : Entry → Told
 told_by entry = record {
@@ -93,11 +111,14 @@ told_by entry = record {
   closed = closed_by entry;
   simple = simple_by entry;
   notice = notice_by entry.answer;
+  stage = stage_step entry.answer entry.call;
+  waiting = waits_step entry.answer entry.call;
+  begins = is_beginning entry;
   maxima = λ pool maximum. maximum_after pool maximum entry;
 }
 
 abbrev pub silent : Told
-silent = record { made = []; queued = []; started = []; deed = nothing; begun = None; ending = false; freeing = false; wait = None; sets = None; created = None; closed = None; simple = None; notice = None; maxima = λ pool maximum. maximum }
+silent = record { made = []; queued = []; started = []; deed = nothing; begun = None; ending = false; freeing = false; wait = None; sets = None; created = None; closed = None; simple = None; notice = None; stage = Same; waiting = None; begins = false; maxima = λ pool maximum. maximum }
 
 abbrev pub maxima_by : ℕ → PoolChange → ℕ → ℕ → ℕ
 maxima_by pool Close other maximum = maximum
@@ -162,17 +183,19 @@ told_by_change next_number w (change.QueueCallback callback) = record silent { m
 told_by_change next_number w (change.ExpectCallback callback) = record silent { made = next_number ∷ []; started = next_number ∷ [] }
 told_by_change next_number w (change.Operate callback how) = record silent { deed = deed_of callback.number how }
 told_by_change next_number w (change.Fire trigger first count) = record silent { made = range_with_len first count; queued = range_with_len first count; sets = sets_of trigger }
-told_by_change next_number w (change.Attach worker pool) = record silent { deed = record nothing { attached = Some pool.0 } }
+told_by_change next_number w (change.Attach worker pool) = record silent { deed = record nothing { attached = Some pool.0 }; stage = Joins }
+told_by_change next_number w (change.Detach by) = record silent { stage = Leaves }
 told_by_change next_number w (change.Take by callback) =
-    record silent { deed = record nothing { taken = Some callback.number; run = Some (record { number = callback.number; object = callback.object }); event = event callback.number (Taking callback.result) } }
+    record silent { deed = record nothing { taken = Some callback.number; run = Some (record { number = callback.number; object = callback.object }); event = event callback.number (Taking callback.result) }; stage = Starts callback.routine }
 told_by_change next_number w (change.Mark by Loose) = record silent { deed = record nothing { loosened = true } }
 told_by_change next_number w (change.Mark by (Asks kind action)) = record silent { deed = record nothing { asked = Some kind } }
 told_by_change next_number w (change.BeginWait who target cancel) =
-    record silent { deed = record nothing { count = length (filter (is_cancelled_by target cancel) w.callbacks) }; begun = begins_of target cancel }
+    record silent { deed = record nothing { count = length (filter (is_cancelled_by target cancel) w.callbacks) }; begun = begins_of target cancel; waiting = Some true; begins = true }
 told_by_change next_number w (change.BeginClose who group cancel context notices) =
-    record silent { deed = record nothing { count = length (filter (is_cancelled_by (Group group) cancel) w.callbacks) }; begun = Some (record { target = Group group; cancel = cancel; cleanup = context }) }
+    record silent { deed = record nothing { count = length (filter (is_cancelled_by (Group group) cancel) w.callbacks) }; begun = Some (record { target = Group group; cancel = cancel; cleanup = context }); waiting = Some true; begins = true }
 told_by_change next_number w (change.GiveNotice who) = record silent { notice = next_notice w.objects (wait_of w who) }
-told_by_change next_number w (change.EndWait who how) = record silent { ending = true; freeing = is_free how }
+told_by_change next_number w (change.EndWait who how) = record silent { ending = true; freeing = is_free how; waiting = Some false }
 told_by_change next_number w (change.Return by words first count) =
-    record silent { deed = record nothing { returned = true; words = Some words }; made = range_with_len first count; queued = range_with_len first count }
+    record silent { deed = record nothing { returned = true; words = Some words }; made = range_with_len first count; queued = range_with_len first count; stage = Returns }
+told_by_change next_number w (change.Finish client) = record silent { stage = Finishes }
 told_by_change next_number w _ = silent
