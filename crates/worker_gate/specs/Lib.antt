@@ -1,0 +1,4 @@
+pub mod Places
+pub mod Roles
+pub mod Runs
+pub mod Walks
