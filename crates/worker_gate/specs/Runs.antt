@@ -29,9 +29,12 @@ pub record ComesFirst (history : List Entry) : Type 0 where
   pub first : All (λ (entry : Entry). is_same_actor entry.who (Client 1) ≡ true) front
   pub others : All (λ (entry : Entry). is_same_actor entry.who (Client 1) ≡ false) rest
 
+-- the entries are of clients and workers of the machine
+abbrev pub AreKnown : Limits → List Entry → Type 0
+AreKnown limits history = All (λ (entry : Entry). IsActor limits entry.who) history
+
 pub record Runs (g : Given) (limits : Limits) (capacity : ℕ) (history : List Entry) : Type 0 where
-  -- the entries are of clients and workers of the machine
-  pub known : All (λ (entry : Entry). IsActor limits entry.who) history
+  pub known : AreKnown limits history
   -- those of each are its calls, up to the last
   pub each : (who : Who) → IsActor limits who → Whole g limits capacity history who (own who history)
   pub first : ComesFirst history

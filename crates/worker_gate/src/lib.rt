@@ -22,18 +22,18 @@
 
 #![tactic(auto)]
 
-//TMP mod actor;
-//TMP mod closing;
-//TMP mod crew;
+mod actor;
+mod closing;
+mod crew;
 mod place;
 mod role;
-//TMP mod rounds;
-//TMP mod telling;
+mod rounds;
+mod telling;
 
-//TMP pub use actor::Actor;
-//TMP pub use closing::close_run;
-//TMP pub use crew::{play_crew, play_crews};
+pub use actor::Actor;
+pub use closing::close_run;
+pub use crew::{play_crew, play_crews};
 pub use place::Place;
 pub use role::{Gate, Role, Turn};
-//TMP pub use rounds::{play_alone, set_up};
-//TMP pub use telling::{finish, tell_all};
+pub use rounds::{play_alone, set_up};
+pub use telling::{finish, tell_all};
