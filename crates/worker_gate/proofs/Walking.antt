@@ -48,7 +48,7 @@ module _ (g : Given) (limits : Limits) (capacity : ℕ) (history later : List En
 module _ (g : Given) (limits : Limits) (capacity : ℕ) (history : List Entry) (who : Who) where
   -- one entry more
   pub leads_snoc : (before : List Entry) (p : Place) (entries : List Entry) (e : Entry) → Leads g limits capacity history who before p entries
-    → FollowsAt g limits capacity history who (before ++ entries) (place_from g who p entries) (place_from g who p entries).stage e → Leads g limits capacity history who before p (entries ++ e ∷ [])
+      → FollowsAt g limits capacity history who (before ++ entries) (place_from g who p entries) (place_from g who p entries).stage e → Leads g limits capacity history who before p (entries ++ e ∷ [])
   leads_snoc before p [] e leads follows = (subst (λ (x : List Entry). FollowsAt g limits capacity history who x p p.stage e) (append-nil before) follows, tt)
   leads_snoc before p (x ∷ rest) e leads follows =
       let next : Place = place_after g who p x.call x.answer in

@@ -48,7 +48,6 @@ pub fn tell_all<B: Recorded>(first: &mut Actor<B>, pool: &SharedPool<B>, others:
     ensures told { HasTold first.old first.new }
     ensures heard { HaveHeard first.old others.old.items others.new.items }
 {
-    pool.front(&mut first.seat);
     for place in 0..others.len() {
         first.tell(pool, &mut others[place]);
     }
