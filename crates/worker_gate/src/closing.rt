@@ -19,6 +19,16 @@ use std::sync::Wait;
 use tp_script::Routines;
 use turn_lock::Seat;
 
+/// A machine on which routines were played to their end.
+#[derive(Drop)]
+pub struct Run<B> {
+    /// The machine, with the history.
+    pub book: B,
+    /// Whether the calls of a client or of a callback were cut short, since the history had no room for
+    /// the next one.
+    pub cut: bool,
+}
+
 /// Closes a pool whose actors have all come back, plays what they still have to do, and gives the
 /// machine: its history is a run of these routines.
 ///
@@ -32,15 +42,21 @@ pub fn close_run<Rt: Wait, B: Recorded, R: Routines, G: Gate>(
     actors: Vec<Actor<B>>,
     routines: &R,
     gate: &G,
-) -> Result<B, AllocError>
+) -> Result<Run<B>, AllocError>
     requires back { AllBack (given R.next_of R.after_of routines.now) pool actors.items }
     requires first { FirstTold (setup_at pool).limits actors.items }
-    ensures { IfOk result (λ book. Runs (given R.next_of R.after_of routines.now) (B.recording book).limits (B.recording book).capacity (B.recording book).history) }
+    ensures { IfOk result (λ run. Runs (given R.next_of R.after_of routines.now) (B.recording run.book).limits (B.recording run.book).capacity (B.recording run.book).history) }
 {
     let (seats, mut roles) = apart(alloc, actors)?;
     let mut book = pool.close(seats);
     end_run(rt, &mut book, &mut roles, routines, gate);
-    Ok(book)
+    let cut = any_cut(&roles);
+    Ok(Run { book, cut })
+}
+
+// Whether one of them is cut.
+pub(crate) fn any_cut(roles: &Vec<Role>) -> bool {
+    roles.iter().any(Role::is_cut)
 }
 
 // The seats and the roles of actors, in their order.

@@ -72,6 +72,13 @@ impl Role {
         }
     }
 
+    /// Whether it has ended a part before the part's last call, since the history had no room for that.
+    pub fn is_cut(&self) -> bool
+        ensures { result ≡ self.now.place.cut }
+    {
+        self.place.cut
+    }
+
     /// Plays one turn on a machine.
     ///
     /// A client that has finished, and a worker that runs nothing where all is over, has ended. Every

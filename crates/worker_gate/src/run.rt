@@ -7,7 +7,7 @@ ghost use Rattle.worker_gate.specs.Rounds.{IsAlone};
 ghost use Rattle.worker_gate.specs.Runs.{IsCutShort, Runs};
 
 use crate::actor::Actor;
-use crate::closing::close_run;
+use crate::closing::{Run, any_cut, close_run};
 use crate::crew::play_crews;
 use crate::role::{Gate, Role};
 use crate::rounds::{play_alone, set_up};
@@ -20,16 +20,6 @@ use std::thread::Threads;
 use tp_base::limits::Limits;
 use tp_script::Routines;
 use turn_lock::Seat;
-
-/// A machine on which routines were played to their end.
-#[derive(Drop)]
-pub struct Run<B> {
-    /// The machine, with the history.
-    pub book: B,
-    /// Whether the calls of a client or of a callback were cut short, since the history had no room for the
-    /// next one.
-    pub cut: bool,
-}
 
 /// Opens a machine of these limits, whose history has room for `capacity` entries, and plays the calls of
 /// all its clients and workers on it to their end: those of client 1 before all others, and then, on so
@@ -84,7 +74,7 @@ fn play_on_one<Rt: Wait, B: Recorded, R: Routines, G: Gate>(
     set_up(&mut book, &mut first, routines, gate);
     let mut roles = other_roles(alloc, limits)?;
     play_alone(rt, &mut book, &mut roles, routines, gate);
-    let cut = first.is_cut() || roles.iter().any(Role::is_cut);
+    let cut = first.is_cut() || any_cut(&roles);
     Ok(Run { book, cut })
 }
 
