@@ -1,3 +1,4 @@
 pub mod Acting
+pub mod Crews
 pub mod Turning
 pub mod Walking

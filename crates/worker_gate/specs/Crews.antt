@@ -1,5 +1,6 @@
 -- Actors that one thread plays.
-use Rattle.std.specs.Prelude.{◌≡◌, ℕ, ◌-◌, ◌<◌, ◌≤◌, Bool, true, List, [], ◌∷◌, ◌⊎◌, map, sum, All}
+use Rattle.std.specs.Prelude.{◌≡◌, ℕ, ◌-◌, ◌<◌, ◌≤◌, Bool, true, List, [], ◌∷◌, ◌⊎◌, All}
+use Rattle.std.specs.List.{sum_by}
 use Rattle.shared_pool.specs.declared.pool.SharedPool.{SharedPool}
 use Rattle.worker_gate.specs.declared.actor.Actor.{Actor}
 use Rattle.worker_gate.specs.declared.role.Turn.{Turn}
@@ -13,7 +14,7 @@ module _ {B : Type 0} where
   left_of a = most_of a - made_by a
 
   abbrev pub spare : List (Actor B) → ℕ
-  spare crew = sum (map left_of crew)
+  spare crew = sum_by left_of crew
 
   abbrev pub AllReady : Given → SharedPool B → List (Actor B) → Type 0
   AllReady g pool crew = All (IsReady g pool) crew
