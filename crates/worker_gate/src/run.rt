@@ -1,16 +1,19 @@
 //! Routines that are played to their end on a machine that is opened for them.
 
-ghost use Rattle.std.specs.Prelude.{◌≡◌, ◌≤◌, ◌↔◌, true, IfOk};
+ghost use Rattle.std.specs.Prelude.{◌≡◌, ◌≤◌, ◌↔◌, true, ◌∷◌, vec_items, IfOk, IsPermutation};
+ghost use Rattle.std.specs.List.{flat_map};
 ghost use Rattle.tp_base.specs.Ranges.{AreLimitsInRange};
+ghost use Rattle.tp_script.specs.Nexts.{first_progress};
+ghost use Rattle.worker_gate.specs.Closing.{AreNew, AreSeated};
 ghost use Rattle.worker_gate.specs.Places.{given};
-ghost use Rattle.worker_gate.specs.Rounds.{IsAlone};
+ghost use Rattle.worker_gate.specs.Rounds.{others_of, IsAlone, NeverWaits};
 ghost use Rattle.worker_gate.specs.Runs.{IsCutShort, Runs};
 
 use crate::actor::Actor;
-use crate::closing::{Run, any_cut, close_run};
+use crate::closing::{Run, close_run, end_run};
 use crate::crew::play_crews;
 use crate::role::{Gate, Role};
-use crate::rounds::{play_alone, set_up};
+use crate::rounds::set_up;
 use crate::telling::{finish, tell_all};
 use recorded::Recorded;
 use shared_pool::SharedPool;
@@ -18,7 +21,7 @@ use std::alloc::{AllocError, Global};
 use std::sync::Wait;
 use std::thread::Threads;
 use tp_base::limits::Limits;
-use tp_script::Routines;
+use tp_script::{Part, Routines};
 use turn_lock::Seat;
 
 /// Opens a machine of these limits, whose history has room for `capacity` entries, and plays the calls of
@@ -47,6 +50,7 @@ pub fn play_routines<
     requires client { 1 ≤ limits.clients }
     requires worker { 1 ≤ limits.workers }
     requires thread { 1 ≤ threads }
+    requires calm { NeverWaits (given R.next_of R.after_of routines.now) (Part.Client 1) first_progress }
     ensures limits { IfOk result (λ run. (B.recording run.book).limits ≡ limits) }
     ensures capacity { IfOk result (λ run. (B.recording run.book).capacity ≡ capacity) }
     ensures runs { IfOk result (λ run. Runs (given R.next_of R.after_of routines.now) limits capacity (B.recording run.book).history) }
@@ -68,24 +72,34 @@ fn play_on_one<Rt: Wait, B: Recorded, R: Routines, G: Gate>(
     limits: Limits,
     capacity: u32,
     gate: &G,
-) -> Result<Run<B>, AllocError> {
+) -> Result<Run<B>, AllocError>
+    requires in_range { AreLimitsInRange limits }
+    requires client { 1 ≤ limits.clients }
+    requires worker { 1 ≤ limits.workers }
+    requires calm { NeverWaits (given R.next_of R.after_of routines.now) (Part.Client 1) first_progress }
+    ensures limits { IfOk result (λ run. (B.recording run.book).limits ≡ limits) }
+    ensures capacity { IfOk result (λ run. (B.recording run.book).capacity ≡ capacity) }
+    ensures runs { IfOk result (λ run. Runs (given R.next_of R.after_of routines.now) limits capacity (B.recording run.book).history) }
+    ensures alone { IfOk result (λ run. IsAlone (given R.next_of R.after_of routines.now) limits capacity (B.recording run.book).history) }
+    ensures cut { IfOk result (λ run. (run.cut ≡ true) ↔ IsCutShort (given R.next_of R.after_of routines.now) limits (B.recording run.book).history) }
+{
     let mut book = B::open(alloc, limits, capacity)?;
     let mut first = Role::client(1);
     set_up(&mut book, &mut first, routines, gate);
-    let mut roles = other_roles(alloc, limits)?;
-    play_alone(rt, &mut book, &mut roles, routines, gate);
-    let cut = first.is_cut() || any_cut(&roles);
+    let mut roles = with_others(alloc, limits, first)?;
+    let cut = end_run(rt, &mut book, &mut roles, routines, gate);
     Ok(Run { book, cut })
 }
 
-// A role for each client but the first, and for each worker.
-fn other_roles(alloc: Global, limits: Limits) -> Result<Vec<Role>, AllocError> {
+// A role, and a new one for each actor but client 1.
+fn with_others(alloc: Global, limits: Limits, first: Role) -> Result<Vec<Role>, AllocError>
+    requires in_range { AreLimitsInRange limits }
+    ensures { IfOk result (λ roles. roles.items ≡ first ∷ others_of limits) }
+{
     let mut roles = Vec::new(alloc);
-    for number in 1..limits.clients {
-        roles.push(Role::client(number + 1))?;
-    }
-    for number in 0..limits.workers {
-        roles.push(Role::worker(number + 1))?;
+    roles.push(first)?;
+    for before in 1..limits.clients + limits.workers {
+        roles.push(Role::numbered(limits, before + 1))?;
     }
     Ok(roles)
 }
@@ -104,7 +118,16 @@ fn play_on_several<
     capacity: u32,
     threads: u32,
     gate: &G,
-) -> Result<Run<B>, AllocError> {
+) -> Result<Run<B>, AllocError>
+    requires in_range { AreLimitsInRange limits }
+    requires client { 1 ≤ limits.clients }
+    requires worker { 1 ≤ limits.workers }
+    requires thread { 1 ≤ threads }
+    ensures limits { IfOk result (λ run. (B.recording run.book).limits ≡ limits) }
+    ensures capacity { IfOk result (λ run. (B.recording run.book).capacity ≡ capacity) }
+    ensures runs { IfOk result (λ run. Runs (given R.next_of R.after_of routines.now) limits capacity (B.recording run.book).history) }
+    ensures cut { IfOk result (λ run. (run.cut ≡ true) ↔ IsCutShort (given R.next_of R.after_of routines.now) limits (B.recording run.book).history) }
+{
     let (pool, seats) = SharedPool::open(alloc, limits, capacity)?;
     let mut others = seat_actors(alloc, limits, seats)?;
     let mut first = others.remove(0);
@@ -121,15 +144,13 @@ fn seat_actors<B: Recorded>(
     alloc: Global,
     limits: Limits,
     seats: Vec<Seat<B>>,
-) -> Result<Vec<Actor<B>>, AllocError> {
+) -> Result<Vec<Actor<B>>, AllocError>
+    requires new { AreNew limits seats.items }
+    ensures { IfOk result (λ actors. AreSeated limits seats.items actors.items) }
+{
     let mut actors = Vec::new(alloc);
     for seat in seats {
-        let number = seat.number();
-        let role = if number <= limits.clients {
-            Role::client(number)
-        } else {
-            Role::worker(number - limits.clients)
-        };
+        let role = Role::numbered(limits, seat.number());
         actors.push(Actor::new(seat, role))?;
     }
     Ok(actors)
@@ -140,7 +161,10 @@ fn deal<B>(
     alloc: Global,
     actors: Vec<Actor<B>>,
     threads: u32,
-) -> Result<Vec<Vec<Actor<B>>>, AllocError> {
+) -> Result<Vec<Vec<Actor<B>>>, AllocError>
+    requires { 1 ≤ threads }
+    ensures { IfOk result (λ crews. IsPermutation actors.items (flat_map vec_items crews.items)) }
+{
     let mut crews = Vec::new(alloc);
     for _ in 0..threads {
         crews.push(Vec::new(alloc))?;
@@ -158,7 +182,9 @@ fn gather<B>(
     alloc: Global,
     first: Actor<B>,
     crews: Vec<Vec<Actor<B>>>,
-) -> Result<Vec<Actor<B>>, AllocError> {
+) -> Result<Vec<Actor<B>>, AllocError>
+    ensures { IfOk result (λ actors. actors.items ≡ first ∷ flat_map vec_items crews.items) }
+{
     let mut actors = Vec::new(alloc);
     actors.push(first)?;
     for crew in crews {
