@@ -9,7 +9,7 @@ use Rattle.tp_base.specs.declared.ids.Who.{Who}
 use Rattle.tp_base.specs.declared.ids.Who.TheVariants.{Client, Worker}
 use Rattle.tp_base.specs.declared.limits.Limits.{Limits}
 use Rattle.tp_base.specs.declared.plans.Stage.TheVariants as stage
-use Rattle.tp_model.specs.Stages.{stage_of, IsActor}
+use Rattle.tp_model.specs.Stages.{IsActor}
 use Rattle.tp_script.specs.declared.routines.Part.{Part}
 use Rattle.tp_script.specs.declared.routines.Part.TheVariants as part
 use Rattle.tp_script.specs.declared.routines.Progress.{Progress}
@@ -69,12 +69,7 @@ HaveEnded roles = All (λ (r : Role). r.ended ≡ true) roles
 abbrev pub HasRole : List Role → Who → Type 0
 HasRole roles who = Any (λ (r : Role). r.who ≡ who) roles
 
--- there is a role of each worker, and of each client that hasn't finished
-pub record Covers (limits : Limits) (history : List Entry) (roles : List Role) : Type 0 where
-  pub workers : (number : ℕ) → IsActor limits (Worker number) → HasRole roles (Worker number)
-  pub clients : (number : ℕ) → IsActor limits (Client number) → stage_of (Client number) history ≡ stage.Playing → HasRole roles (Client number)
-
--- and of each actor of the machine
+-- there is a role of each actor of the machine
 abbrev pub HaveAllRoles : Limits → List Role → Type 0
 HaveAllRoles limits roles = (who : Who) → IsActor limits who → HasRole roles who
 

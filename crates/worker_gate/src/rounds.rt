@@ -1,16 +1,17 @@
 //! Rounds of roles on a machine of their own.
 
-ghost use Rattle.std.specs.Prelude.{◌≡◌, ◌≤◌, true, [], ◌∷◌, map, IsTrue};
+ghost use Rattle.std.specs.Prelude.{◌≡◌, true, [], ◌∷◌, map, IsTrue};
 ghost use Rattle.recorded.specs.Recordings.{is_over_behind};
 ghost use Rattle.tp_model.specs.History.{IsLegal};
 ghost use Rattle.turn_lock.specs.Histories.{own};
 ghost use Rattle.worker_gate.specs.Places.{given};
 ghost use Rattle.worker_gate.specs.Roles.{IsOf};
-ghost use Rattle.worker_gate.specs.Rounds.{awake, round_of, scene, AllOf, ArePlayed, Covers, EndedWell, HasPlayed, HaveEnded, IsSameMachine, PlaysAlone};
+ghost use Rattle.worker_gate.specs.Rounds.{awake, round_of, scene, AllOf, ArePlayed, EndedWell, HasPlayed, HasRole, HaveEnded, IsSameMachine, PlaysAlone};
 
 use crate::role::{Gate, Role, Turn};
 use recorded::Recorded;
 use std::sync::Wait;
+use tp_base::ids::Who;
 use tp_script::Routines;
 
 /// Plays the role of a client to its end on a machine of its own, as one whose part waits for nothing.
@@ -49,9 +50,8 @@ pub fn play_alone<Rt: Wait, B: Recorded, R: Routines, G: Gate>(
     gate: &G,
 )
     requires all { AllOf (given R.next_of R.after_of routines.now) (B.recording book.old).limits (B.recording book.old).capacity (B.recording book.old).history roles.old.items }
-    requires covers { Covers (B.recording book.old).limits (B.recording book.old).history roles.old.items }
     requires legal { IsLegal (B.recording book.old).limits (B.recording book.old).capacity (B.recording book.old).history }
-    requires worker { 1 ≤ (B.recording book.old).limits.workers }
+    requires worker { HasRole roles.old.items (Who.Worker 1) }
     ensures same { IsSameMachine (B.recording book.old) (B.recording book.new) }
     ensures played { HasPlayed (given R.next_of R.after_of routines.now) (B.recording book.old).limits (B.recording book.old).capacity (B.recording book.old).history roles.old.items (B.recording book.new).history roles.new.items }
     ensures all { AllOf (given R.next_of R.after_of routines.now) (B.recording book.new).limits (B.recording book.new).capacity (B.recording book.new).history roles.new.items }
