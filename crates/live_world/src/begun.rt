@@ -43,6 +43,9 @@ impl Model for BegunWaits {
     ghost also_owns = { λ _. ftrue };
 }
 
+// It owns nothing.
+unsafe impl Send for BegunWaits {}
+
 impl BegunWaits {
     #[inline(always)]
     pub fn none() -> BegunWaits
