@@ -1,2 +1,3 @@
+mod Stepping
 pub mod Turning
 pub mod Walking
