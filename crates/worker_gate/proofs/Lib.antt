@@ -1,3 +1,4 @@
+pub mod RoleFacts
 mod Stepping
 pub mod Turning
 pub mod Walking
