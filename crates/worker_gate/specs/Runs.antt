@@ -40,3 +40,7 @@ pub record Runs (g : Given) (limits : Limits) (capacity : ℕ) (history : List E
   pub first : ComesFirst history
   -- and nothing more is to be done
   pub over : is_over_in limits capacity history ≡ true
+
+-- some actor's calls of a part were cut, since the history had no room for the next one
+abbrev pub IsCutShort : Given → Limits → List Entry → Type 0
+IsCutShort g limits history = (who : Who) × IsActor limits who × ((place_from g who (opening who) (own who history)).cut ≡ true)
