@@ -10,6 +10,10 @@ mod books;
 #[cfg(test)]
 mod expect;
 #[cfg(test)]
+mod kept;
+#[cfg(test)]
+mod reports;
+#[cfg(test)]
 mod sharing;
 #[cfg(test)]
 mod streams;

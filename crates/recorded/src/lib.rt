@@ -20,11 +20,12 @@
 
 #![tactic(auto)]
 
-ghost use Rattle.std.specs.Prelude.{◌≡◌, ◌≤◌, [], length, option_map, IfOk};
+ghost use Rattle.std.specs.Prelude.{◌≡◌, ◌<◌, ◌≤◌, [], length, option_map, Err, IfErr, IfOk};
 ghost use Rattle.tp_base.specs.Ranges.{AreLimitsInRange, IsCallInRange, IsOutcomeInRange};
 ghost use Rattle.tp_model.specs.History.{IsLegal};
 ghost use Rattle.tp_model.specs.Laws.{KeepsLaws};
 ghost use Rattle.tp_model.specs.Over.{row_of};
+ghost use Rattle.recorded.specs.declared.OpenFault.TheVariants.{NoMemory, TooSmall};
 ghost use Rattle.recorded.specs.ProgramLimits.{limits_with};
 ghost use Rattle.recorded.specs.Recordings.{is_over_behind, left_behind, outcome_behind, recorded, room_of, IsFirstOf, Recording};
 
@@ -34,6 +35,23 @@ use tp_base::calls::Call;
 use tp_base::ids::{ObjectId, Who};
 use tp_base::limits::Limits;
 use tp_model::Left;
+
+/// Why a history isn't opened.
+#[derive(Clone, Copy)]
+pub enum OpenFault {
+    /// The memory that the machine will need isn't there.
+    NoMemory,
+    /// The history would have no room for the finish of each client.
+    TooSmall { capacity: u32, clients: u32 },
+}
+
+impl From<AllocError> for OpenFault {
+    ghost from_gives = { λ _ fault. fault ≡ NoMemory };
+
+    fn from(_error: AllocError) -> OpenFault {
+        OpenFault::NoMemory
+    }
+}
 
 /// A machine, and the history of the calls that were made on it.
 pub trait Recorded: Drop {
@@ -51,6 +69,27 @@ pub trait Recorded: Drop {
         ensures limits { IfOk result (λ book. (recording book).limits ≡ limits) }
         ensures capacity { IfOk result (λ book. (recording book).capacity ≡ capacity) }
         ensures empty { IfOk result (λ book. (recording book).history ≡ []) };
+
+    /// The same, but for a history that has room for the finish of each client.
+    ///
+    /// `TooSmall` comes exactly where the capacity is below the number of clients, and tells both numbers.
+    /// `NoMemory` comes where `open` gives an `AllocError`.
+    fn try_open(alloc: Global, limits: Limits, capacity: u32) -> Result<Self, OpenFault>
+    where
+        Self: Sized,
+        requires { AreLimitsInRange limits }
+        ensures limits { IfOk result (λ book. (recording book).limits ≡ limits) }
+        ensures capacity { IfOk result (λ book. (recording book).capacity ≡ capacity) }
+        ensures empty { IfOk result (λ book. (recording book).history ≡ []) }
+        ensures too_small { capacity < limits.clients → result ≡ Err (TooSmall capacity limits.clients) }
+        ensures no_memory { limits.clients ≤ capacity → IfErr result (λ fault. fault ≡ NoMemory) }
+    {
+        let clients = limits.clients;
+        if capacity < clients {
+            return Err(OpenFault::TooSmall { capacity, clients });
+        }
+        Ok(Self::open(alloc, limits, capacity)?)
+    }
 
     /// Makes a call of an actor, and puts its outcome where it is wanted, in place of what is there.
     ///

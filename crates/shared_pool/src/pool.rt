@@ -1,16 +1,17 @@
 //! A pool that several threads share.
 
-ghost use Rattle.std.specs.Prelude.{◌≡◌, ◌<◌, length, All, IfOk};
+ghost use Rattle.std.specs.Prelude.{◌≡◌, ◌+◌, ◌<◌, ◌≤◌, length, All, Err, IfErr, IfOk};
 ghost use Rattle.tp_base.specs.declared.limits.Limits.{Limits as Bounds};
 ghost use Rattle.tp_base.specs.Ranges.{AreLimitsInRange, IsCallInRange};
+ghost use Rattle.recorded.specs.declared.OpenFault.TheVariants.{NoMemory, TooSmall};
 ghost use Rattle.turn_lock.specs.Locks.{setup_of};
 ghost use Rattle.turn_lock.specs.Histories.{actor_of, StartsWith};
 ghost use Rattle.turn_lock.specs.Seats.{number_of, seen_of, HasLooked, IsCopy, IsLast};
 ghost use Rattle.shared_pool.specs.Calls.{HasAsked, HasEnded, HasMetMore, HasTried};
 
 use crossbeam_utils::Backoff;
-use recorded::Recorded;
-use std::alloc::{AllocError, Global};
+use recorded::{OpenFault, Recorded};
+use std::alloc::Global;
 use std::sync::Wait;
 use tp_base::answers::{Answer, Look, Outcome};
 use tp_base::calls::Call;
@@ -68,20 +69,22 @@ impl<B: Recorded> SharedPool<B> {
     /// actor: first the clients, then the workers. The history will have room for `capacity` entries,
     /// those that are owed among them.
     ///
-    /// It takes all the memory that the pool will ever need; an `AllocError` comes where that isn't
-    /// there.
+    /// It takes all the memory that the pool will ever need; `NoMemory` comes where that isn't there.
+    /// `TooSmall` comes exactly where the capacity is below the number of clients, and tells both numbers.
     pub fn open(
         alloc: Global,
         limits: Limits,
         capacity: u32,
-    ) -> Result<(SharedPool<B>, Vec<Seat<B>>), AllocError>
+    ) -> Result<(SharedPool<B>, Vec<Seat<B>>), OpenFault>
         requires { AreLimitsInRange limits }
         ensures setup { IfOk result (λ made. setup_at made.0 ≡ pool_setup limits capacity) }
         ensures dealt { IfOk result (λ made. AreDealt (lock_in made.0) made.1.items) }
         ensures players { IfOk result (λ made. All (IsPlayer made.0) made.1.items) }
         ensures all { IfOk result (λ made. HaveAll made.0 made.1.items) }
+        ensures too_small { capacity < limits.clients → result ≡ Err (TooSmall capacity limits.clients) }
+        ensures no_memory { limits.clients ≤ capacity → IfErr result (λ fault. fault ≡ NoMemory) }
     {
-        let book = B::open(alloc, limits, capacity)?;
+        let book = B::try_open(alloc, limits, capacity)?;
         let (lock, seats) = TurnLock::new(alloc, book, limits.clients + limits.workers)?;
         Ok((SharedPool { lock, limits }, seats))
     }

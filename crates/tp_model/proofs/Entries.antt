@@ -30,7 +30,7 @@ use Rattle.tp_model.specs.Calls.Waits.{end_refusals, end_for, end_held, end_wait
 use Rattle.tp_base.specs.declared.answers.Look.TheVariants as look
 use Rattle.tp_base.specs.declared.plans.WaitEnd.TheVariants as how
 use Rattle.tp_base.specs.declared.plans.Change.TheVariants as changes
-use Rattle.tp_model.specs.Support.Told.{deed_by, nothing, told_by_change, told_by}
+use Rattle.tp_model.specs.Support.Told.{deed_by, nothing}
 use Rattle.tp_model.specs.Support.Moves.{Stay, Keep, Leads}
 use Rattle.tp_model.proofs.Growing.{grows}
 use Rattle.tp_model.proofs.Sound.{changed_sound}

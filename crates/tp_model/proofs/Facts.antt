@@ -1,5 +1,5 @@
 -- What the machine gives each actor behind a legal history.
-use Rattle.std.proofs.Common.{◌≡◌, ℕ, suc, zero, ◌+◌, ◌-◌, ◌≤◌, Bool, true, false, cond, not, ◌&&◌, ◌||◌, List, [], ◌∷◌, length, slice_get, nat_le, nat_lt, Option, Some, None, option_map, is_none, is_some, refl, sym, ap, ap₂, ◌∙◌, subst, arith, find}
+use Rattle.std.proofs.Common.{◌≡◌, ℕ, suc, zero, ◌+◌, ◌-◌, Bool, true, false, cond, not, ◌||◌, List, [], ◌∷◌, slice_get, nat_le, nat_lt, Option, Some, None, option_map, is_none, is_some, refl, sym, ap, ◌∙◌, subst, arith, find}
 use Rattle.std.specs.List.{list_all, list_any}
 use Rattle.std.specs.Option.{option_map_or}
 use Rattle.tp_base.specs.Actors.{is_same_actor}
@@ -7,11 +7,9 @@ use Rattle.tp_base.specs.Kernels.{may_take}
 use Rattle.tp_base.specs.declared.answers.Answer.{Answer}
 use Rattle.tp_base.specs.declared.answers.Answer.TheVariants as answer
 use Rattle.tp_base.specs.declared.answers.Entry.{Entry}
-use Rattle.tp_base.specs.declared.answers.Look.{Look}
 use Rattle.tp_base.specs.declared.answers.Look.TheVariants as look
 use Rattle.tp_base.specs.declared.answers.Outcome.TheVariants as outcome
-use Rattle.tp_base.specs.declared.answers.Refusal.{Refusal}
-use Rattle.tp_base.specs.declared.answers.Refusal.TheVariants.{AlreadyAttached, InWait, NoSuch, NoWaitBegun, NotAttached, NotRunning, NotWorker, Released, StillRunning, WrongKind}
+use Rattle.tp_base.specs.declared.answers.Refusal.TheVariants.{AlreadyAttached, InWait, NoSuch, NoWaitBegun, NotAttached, NotRunning, Released, StillRunning}
 use Rattle.tp_base.specs.declared.calls.Call.{Call}
 use Rattle.tp_base.specs.declared.calls.Call.TheVariants.{Attach, Detach, End, Finish, Return, Take}
 use Rattle.tp_base.specs.declared.ids.ObjectId.{ObjectId}
@@ -35,16 +33,16 @@ use Rattle.tp_base.specs.declared.rows.WaitTarget.{WaitTarget}
 use Rattle.tp_base.specs.declared.rows.WaitTarget.TheVariants.{Group, Kernel, Object}
 use Rattle.tp_base.specs.declared.rows.WorkerRow.{WorkerRow}
 use Rattle.tp_model.specs.Calls.Clients.{finish, finish_plan}
-use Rattle.tp_model.specs.Calls.Waits.{end_for, end_held, end_notices, end_plan, end_wait, holds_starved, notice_of}
+use Rattle.tp_model.specs.Calls.Waits.{end_for, end_held, end_notices, end_plan, end_wait, holds_starved}
 use Rattle.tp_model.specs.Calls.Workers.{attach_plan, attach_to, detach, detach_plan, idle_refusals, may_leave, pool_to_join, return, return_plan, take, take_callback, take_plan}
 use Rattle.tp_model.specs.Changes.{changed}
-use Rattle.tp_model.specs.Conditions.{busy_in, busy_of, idle_in, idle_of, is_actor, is_attached, is_finished, is_in_wait, is_without_callback, is_worker, runs_callback}
-use Rattle.tp_model.specs.Counts.{callback_of, has_number, is_running, maximum, next, numbered, running}
+use Rattle.tp_model.specs.Conditions.{busy_in, busy_of, idle_in, idle_of, is_actor, is_attached, is_finished, is_in_wait, is_without_callback, runs_callback}
+use Rattle.tp_model.specs.Counts.{callback_of, has_number, maximum, next, numbered, running}
 use Rattle.tp_model.specs.History.{IsLegal, after}
 use Rattle.tp_model.specs.Kernels.{is_kernel_that}
 use Rattle.tp_model.specs.Over.{goes_on, is_over}
 use Rattle.tp_model.specs.Refusing.{first_refusal, unless_refused}
-use Rattle.tp_model.specs.Stages.{IsActor, IsAtStage, IsBusyWith, IsIdleIn, MachineFacts, is_at_pool, is_busy_stage, is_in_part, is_over_stage, is_return, is_wait_answer, is_wait_look, is_wait_outcome, stage_of, waits_of}
+use Rattle.tp_model.specs.Stages.{IsActor, IsAtStage, MachineFacts, is_at_pool, is_busy_stage, is_in_part, is_over_stage, is_return, is_wait_answer, is_wait_look, is_wait_outcome, stage_of, waits_of}
 use Rattle.tp_model.specs.Laws.Entries.{attached_by, taken_by}
 use Rattle.tp_model.specs.Step.{Accepted, Full, outcome_of, cost, stepped, within}
 use Rattle.tp_model.specs.Support.Allowed.{price}
@@ -233,9 +231,6 @@ module _ (w : World) (left : ℕ) (who : Who) (made : Call) (s : IsSound (next_n
   waited (plans.Does a ch) is h = ap is_wait_outcome (free_done (plans.Does a ch) a ch is refl h.1) ∙ h.0
 
 -- ---- plans without a refusal
-
-not_true : (b : Bool) → b ≡ true → not b ≡ false
-not_true b e = ap not e
 
 finish_is : (w : World) (number : ℕ) → is_actor w (Client number) ≡ true → is_finished w (Client number) ≡ false → is_in_wait w (Client number) ≡ false → finish_plan w (Client number) ≡ plans.Does answer.Done (change.Finish number)
 unfolding finish_plan

@@ -1,7 +1,6 @@
 -- Each change moves its actor as its entry tells: the stage that the rows give it, and its wait.
-use Rattle.std.proofs.Common.{◌≡◌, ℕ, suc, zero, ◌+◌, ◌-◌, ◌≤◌, Bool, true, false, cond, not, ◌||◌, ◌==◌, List, [], ◌∷◌, ◌++◌, map, slice_get, slice_set, Option, Some, None, option_map, refl, sym, ap, ◌∙◌, subst, arith, filter, find, eqb-true, eq-eqb}
+use Rattle.std.proofs.Common.{◌≡◌, ℕ, ◌+◌, ◌-◌, Bool, true, false, cond, not, ◌||◌, ◌==◌, List, [], ◌∷◌, ◌++◌, slice_get, slice_set, Option, Some, None, option_map, refl, sym, ap, ◌∙◌, subst, filter, find, eqb-true, eq-eqb}
 use Rattle.std.specs.List.{list_any}
-use Rattle.std.proofs.lemmas.Iterator.Adapters.{option_map_id}
 use Rattle.std.proofs.lemmas.List.Folds.{list_any-append}
 use Rattle.tp_base.specs.Actors.{is_same_actor}
 use Rattle.tp_base.specs.declared.ids.PoolId.{PoolId}
@@ -10,16 +9,13 @@ use Rattle.tp_base.specs.declared.ids.Who.{Who}
 use Rattle.tp_base.specs.declared.ids.Who.TheVariants.{Client, Worker}
 use Rattle.tp_base.specs.declared.plans.Change.{Change}
 use Rattle.tp_base.specs.declared.plans.Change.TheVariants as change
-use Rattle.tp_base.specs.declared.plans.Mark.{Mark}
 use Rattle.tp_base.specs.declared.plans.Mark.TheVariants.{Long, Loose, Asks}
-use Rattle.tp_base.specs.declared.plans.PoolChange.{PoolChange}
 use Rattle.tp_base.specs.declared.plans.Stage.{Stage}
 use Rattle.tp_base.specs.declared.plans.Stage.TheVariants as stage
 use Rattle.tp_base.specs.declared.rows.CallbackRow.{CallbackRow}
 use Rattle.tp_base.specs.declared.rows.ClientRow.{ClientRow}
 use Rattle.tp_base.specs.declared.rows.ObjectRow.{ObjectRow}
 use Rattle.tp_base.specs.declared.rows.PoolRow.{PoolRow}
-use Rattle.tp_base.specs.declared.rows.WaitTarget.{WaitTarget}
 use Rattle.tp_base.specs.declared.rows.WaitTarget.TheVariants.{Group}
 use Rattle.tp_base.specs.declared.rows.WorkerRow.{WorkerRow}
 use Rattle.tp_model.specs.Actions.{returning, slots_of}
@@ -35,7 +31,7 @@ use Rattle.tp_model.specs.Support.Told.{told_by_change}
 use Rattle.tp_model.specs.Waits.{cancel_where, cancelled, is_cancelled_by}
 use Rattle.tp_model.specs.World.{BegunWait, World, unattached, unfinished}
 use Rattle.tp_model.proofs.Callbacks.{find_replaced, find_replaced_other}
-use Rattle.tp_model.proofs.Cancelling.{cancelled_found, cancelled_if, find_cancelled}
+use Rattle.tp_model.proofs.Cancelling.{cancelled_found, find_cancelled}
 use Rattle.tp_model.proofs.Lists.{find_more, get_set}
 use Rattle.tp_model.proofs.Refusals.{false_true, is_own_actor, numbered_at, numbered_some, or_false, or_true, same_actor_is}
 use Rattle.tp_model.proofs.Releasing.{numbered_set_other}
@@ -64,9 +60,6 @@ wait_stays true waits = refl
 wait_stays false waits = refl
 
 -- ---- the routines of callbacks
-
-routine_of : CallbackRow → RoutineId
-routine_of c = c.routine
 
 module _ (w : World) where
   -- what is found has its routine still
@@ -99,16 +92,6 @@ module _ (w : World) where
   cancelled_routines test n c found =
       ap (option_map (λ (x : CallbackRow). x.routine)) (find_cancelled test w.callbacks n ∙ ap (cancelled_found test) found)
       ∙ elim (test c) as (λ b. ◌≡◌ {A = Option RoutineId} (Some (cond b (cancelled c) c).routine) (Some c.routine)) [ true ↦ refl | false ↦ refl ]
-
-  marked_routine : (mark : Mark) (c : CallbackRow) → (marked mark c).routine ≡ c.routine
-  marked_routine Long c = refl
-  marked_routine Loose c = refl
-  marked_routine (Asks kind action) c = refl
-
-  marked_number : (mark : Mark) (c : CallbackRow) → (marked mark c).number ≡ c.number
-  marked_number Long c = refl
-  marked_number Loose c = refl
-  marked_number (Asks kind action) c = refl
 
   -- ---- stages
 

@@ -1,5 +1,5 @@
 -- Along a legal history each actor stands where its own entries say.
-use Rattle.std.proofs.Common.{◌≡◌, ℕ, suc, zero, ◌+◌, ◌-◌, ◌<◌, ◌≤◌, Bool, true, false, cond, not, ◌&&◌, ◌||◌, List, [], ◌∷◌, ◌++◌, replicate, slice_get, Option, Some, None, option_map, is_none, is_some, refl, sym, ap, ◌∙◌, subst, arith, filter}
+use Rattle.std.proofs.Common.{◌≡◌, ℕ, suc, zero, ◌-◌, ◌<◌, ◌≤◌, Bool, true, false, cond, not, List, [], ◌∷◌, ◌++◌, replicate, slice_get, Option, Some, None, option_map, is_none, refl, sym, ap, ◌∙◌, subst, arith}
 use Rattle.std.specs.List.{fold}
 use Rattle.std.specs.Option.{option_map_or, unwrap_or}
 use Rattle.std.proofs.lemmas.List.Elements.{filter-append}
@@ -8,7 +8,6 @@ use Rattle.tp_base.specs.Actors.{is_same_actor}
 use Rattle.tp_base.specs.declared.answers.Answer.{Answer}
 use Rattle.tp_base.specs.declared.answers.Answer.TheVariants as answer
 use Rattle.tp_base.specs.declared.answers.Entry.{Entry}
-use Rattle.tp_base.specs.declared.answers.Outcome.TheVariants as outcome
 use Rattle.tp_base.specs.declared.answers.Refusal.{Refusal}
 use Rattle.tp_base.specs.declared.calls.Call.{Call}
 use Rattle.tp_base.specs.declared.calls.Call.TheVariants.{Attach, BeginAcquire, BeginClose, BeginWait, Detach, Finish, Return, Take}
@@ -24,7 +23,6 @@ use Rattle.tp_base.specs.declared.plans.Stage.{Stage}
 use Rattle.tp_base.specs.declared.plans.Stage.TheVariants as stage
 use Rattle.tp_base.specs.declared.ids.PoolId.{PoolId}
 use Rattle.tp_base.specs.declared.ids.RoutineId.{RoutineId}
-use Rattle.tp_base.specs.declared.rows.CallbackRow.{CallbackRow}
 use Rattle.tp_base.specs.declared.rows.ClientRow.{ClientRow}
 use Rattle.tp_base.specs.declared.rows.WorkerRow.{WorkerRow}
 use Rattle.tp_model.specs.Calls.Clients.{finish, finish_plan, finish_refusals}
@@ -37,13 +35,12 @@ use Rattle.tp_model.specs.Counts.{numbered}
 use Rattle.tp_model.specs.History.{IsLegal, after, is_refusal, led_to}
 use Rattle.tp_model.specs.Refusing.{first_refusal, unless_refused}
 use Rattle.tp_model.specs.Stages.{Finishes, IsActor, Joins, Leaves, Returns, Same, StageStep, Starts, first_stage, is_in_part, is_last_call, own, stage_after, stage_by, stage_of, stage_step, waits_after, waits_of, waits_step}
-use Rattle.tp_model.specs.Step.{outcome_of}
 use Rattle.tp_model.specs.Support.Sound.{IsSound}
 use Rattle.tp_model.specs.Support.Standing.{AreStanding, Moved, client_stage, moved_stage, moved_wait, routine_at, stage_at, stage_in, worker_stage}
 use Rattle.tp_model.specs.Support.Told.{Told, is_begin_call, told_by, told_by_change}
-use Rattle.tp_model.specs.Table.{plan, step}
+use Rattle.tp_model.specs.Table.{plan}
 use Rattle.tp_model.specs.World.{World, opening, unattached, unfinished}
-use Rattle.tp_model.proofs.Entries.{Accepts, Entered, IsAccepted, IsKept, Refuses, entered, entry_leads, kept_to_end, next_number_in}
+use Rattle.tp_model.proofs.Entries.{Accepts, Entered, IsKept, Refuses, entered, entry_leads, kept_to_end, next_number_in}
 use Rattle.tp_model.proofs.Moved.{change_moved, kept, same_routines}
 use Rattle.tp_model.proofs.Refusals.{NoneHolds, both, false_true, neither, none_holds, numbered_at, same_actor_is}
 use Rattle.tp_model.proofs.Sound.{opening_sound}

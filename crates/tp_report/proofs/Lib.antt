@@ -1,12 +1,19 @@
 pub mod Alike
+pub mod Counted
 pub mod Deciding
 pub mod EndedFacts
+mod Examples
 pub mod Feeds
+pub mod Floatless
 pub mod FreeLines
 pub mod HeaderFacts
 pub mod Judging
 pub mod Keys
 pub mod Places
 pub mod SoFar
+pub mod Summed
+pub mod Tallies
+pub mod Telling
 pub mod Traced
 pub mod Unanswered
+pub mod Walks

@@ -2,7 +2,9 @@
 use Rattle.std.specs.Prelude.{◌≡◌, ℕ, ◌+◌, ◌<◌, ◌≤◌, List, [], ◌∷◌, ◌++◌, length, map, All, codes, decimal, Option, None, Some}
 use Rattle.line_grammar.specs.Language.{AnyOf, Reaches}
 use Rattle.line_grammar.specs.Traces.{EndedLine, trace_text}
+use Rattle.recorded.specs.Recordings.{Recording}
 use Rattle.tp_base.specs.declared.answers.Entry.{Entry}
+use Rattle.tp_base.specs.declared.limits.Limits.{Limits}
 use Rattle.tp_lines.specs.Answers.{IsEntryLine, line_of_entry}
 use Rattle.tp_report.specs.declared.headers.Header.{Header}
 
@@ -43,6 +45,17 @@ NextLines events len None text = text ≡ end_line len
 abbrev pub lines_of : Header → List Entry → List (List ℕ)
 lines_of header entries = header_line header ∷ map line_of_entry entries
 
+-- the numbers of the first line of such a machine's history
+abbrev pub header_of : Limits → ℕ → Header
+header_of limits events = record { clients = limits.clients; workers = limits.workers; events = events }
+
+-- the text of a history: the first line, the lines of its entries and the end line
+abbrev pub history_text : Limits → ℕ → List Entry → List ℕ
+history_text limits events history = trace_text (lines_of (header_of limits events) history ++ end_line (length history) ∷ [])
+
+abbrev pub history_told : Recording → List ℕ
+history_told r = history_text r.limits r.capacity r.history
+
 -- the bytes are the header's line, the entries' lines and the end, each with its line feed, and anything behind them
 pub record IsHistory (bytes : List ℕ) (header : Header) (entries : List Entry) : Type 0 where
   pub has_header_line : HasHeaderLine header
@@ -77,3 +90,13 @@ pub record IsHistoryFault (bytes : List ℕ) (line column : ℕ) : Type 0 where
   pub reaches : Reaches (EndedLine (LinesBelow above)) front back
   pub line_of : line ≡ length (lines_above above) + 1
   pub column_of : column ≡ length front + 1
+
+-- the first line and those of the entries are in the grammar, and there are no more entries than the history has room for
+pub record HasText (r : Recording) : Type 0 where
+  pub header : HasHeaderLine (header_of r.limits r.capacity)
+  pub have_lines : All HasLine r.history
+  pub few : length r.history ≤ r.capacity
+
+-- where a history has a text, that is read as this history
+abbrev pub IsReadBack : Recording → Type 0
+IsReadBack r = HasText r → IsHistory (history_told r) (header_of r.limits r.capacity) r.history

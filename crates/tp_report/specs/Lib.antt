@@ -1,7 +1,11 @@
+pub mod Counting
 pub mod Faults
 pub mod Histories
+pub mod Json
 pub mod Judging
 pub mod Playing
 pub mod Readings
+pub mod Summaries
+pub mod Summing
 pub mod Traces
 pub mod Verdicts

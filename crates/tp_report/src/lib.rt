@@ -18,13 +18,21 @@
 #![tactic(auto)]
 
 mod checking;
+mod counts;
 mod faults;
 mod headers;
+mod history;
+mod json;
+mod left;
 mod lines;
 mod playing;
+mod summary;
 mod verdict;
 
 pub use checking::check;
 pub use faults::{CheckFault, TextFault};
+pub use history::print_history;
+pub use json::print_json;
 pub use playing::{MachineSize, trace};
+pub use summary::print_summary;
 pub use verdict::{Verdict, print_verdict};

@@ -94,11 +94,7 @@ fn play<B: Recorded>(
 }
 
 // The same on a book without entries.
-fn play_calls<B: Recorded>(
-    alloc: Global,
-    book: &mut B,
-    bytes: &[u8],
-) -> Result<Played, TextFault>
+fn play_calls<B: Recorded>(alloc: Global, book: &mut B, bytes: &[u8]) -> Result<Played, TextFault>
     requires few { length bytes.now < 2 ^ 32 - 1 }
     requires limits { (B.recording book.old).limits ≡ limits_with (B.recording book.old).limits.clients (B.recording book.old).limits.workers }
     requires clients { (B.recording book.old).limits.clients ≤ 16 }

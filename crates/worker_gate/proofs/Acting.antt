@@ -9,6 +9,8 @@ use Rattle.tp_base.specs.declared.answers.Outcome.TheVariants as outcome
 use Rattle.tp_base.specs.declared.calls.Call.{Call}
 use Rattle.tp_base.specs.declared.ids.Who.{Who}
 use Rattle.tp_base.specs.declared.limits.Limits.{Limits}
+use Rattle.tp_base.specs.declared.plans.Stage.{Stage}
+use Rattle.tp_base.specs.declared.plans.Stage.TheVariants as stage
 use Rattle.tp_base.specs.Actors.{is_same_actor}
 use Rattle.tp_model.specs.History.{IsLegal}
 use Rattle.tp_model.specs.Stages.{is_in_part, is_over_stage}
@@ -32,7 +34,7 @@ use Rattle.worker_gate.specs.Roles.{due_of, took, IsOf}
 use Rattle.worker_gate.specs.Walks.{comes_to}
 use Rattle.worker_gate.specs.declared.actor.Actor.{Actor}
 use Rattle.worker_gate.specs.declared.role.Turn.{Turn}
-use Rattle.worker_gate.specs.Acting.{due_by, is_held_up, GoesOn, HasMoved, HasSeenMore, HasWaited, IsReady, MayPlay, Said}
+use Rattle.worker_gate.specs.Acting.{due_by, is_held_up, GoesOn, HasMoved, HasSeenMore, HasWaited, IsReady, MayPlay, NeedsNoTurn, Said}
 use Rattle.worker_gate.specs.Roles.{turn_by}
 use Rattle.worker_gate.proofs.Turning.{StepKeeps}
 use Rattle.worker_gate.proofs.Walking.{is_cut_grows, leads_grow}
@@ -64,6 +66,13 @@ took_who : (g : Given) (r : Role) (made : Call) (told : Outcome) → (took g r m
 took_who g r made (outcome.Done answer) = refl
 took_who g r made (outcome.Look look) = refl
 took_who g r made (outcome.Full room cost) = refl
+
+over_rests : (at : Stage) → is_over_stage at ≡ true → is_in_part at ≡ false
+over_rests stage.Playing is = absurd (cc)
+over_rests stage.Over is = refl
+over_rests stage.Away is = refl
+over_rests stage.Idle is = refl
+over_rests (stage.Busy routine) is = absurd (cc)
 
 module _ {B : Type 0} where
   abbrev pub IsOfSeat : Given → Seat B → Role → Type 0
@@ -175,16 +184,19 @@ module _ {B : Type 0} where
 
     said_by : (t : Outcome) → b.role ≡ took g a.role made t → HasEnded made t a.seat b.seat → Said g a b (turn_by t)
     said_by (outcome.Done answer) role h = record {
+      may = may;
       answer = answer;
       mine = h.mine ∙ ap (λ (e : Entry). mine_of a.seat ++ e ∷ []) (ap (λ (w : Who). record { who = w; call = made; answer = answer }) (same_actor_in a.seat b.seat h.same) ∙ ap (λ (x : Call). record { who = actor_in a.seat; call = x; answer = answer }) is_due);
       within = within_most b.seat h.idle player.numbered;
     }
     said_by (outcome.Look look) role h = record {
+      may = may;
       mine = h.mine;
       place = ap (λ (r : Role). r.place) role;
       cause = inr (ap is_held_up (ap (seat_comes_to b.seat (seen_of b.seat)) (sym is_due) ∙ h.came));
     }
     said_by (outcome.Full room cost) role h = record {
+      may = may;
       mine = h.mine;
       place = ap (λ (r : Role). r.place) role;
       cause = inr (ap is_held_up (ap (seat_comes_to b.seat (seen_of b.seat)) (sym is_due) ∙ h.came));
@@ -201,18 +213,19 @@ module _ {B : Type 0} where
     of = subst (λ (r : Role). IsOfSeat g b.seat r) (sym role) (of_seat g a.seat b.seat a.role more.same more.starts more.mine ready.of);
   }
 
-  ended_rests : (a : Actor B) (g : Given) (pool : SharedPool B) → IsReady g pool a → (a.role.ended ≡ true) ⊎ (is_in_part a.role.place.stage ≡ false) → is_in_part a.role.place.stage ≡ false
-  ended_rests a g pool ready (inl ended) = ready.of.rests ended
-  ended_rests a g pool ready (inr rests) = rests
+  needs_rests : (g : Given) (pool : SharedPool B) (a b : Actor B) → IsReady g pool a → NeedsNoTurn a b → is_in_part a.role.place.stage ≡ false
+  needs_rests g pool a b ready (inl ended) = ready.of.rests ended
+  needs_rests g pool a b ready (inr (inl over)) = over_rests a.role.place.stage over
+  needs_rests g pool a b ready (inr (inr rests)) = rests.0
 
   -- and makes none from here on
   of_done : (g : Given) (seat : Seat B) (r : Role) → IsOfSeat g seat r → is_in_part r.place.stage ≡ false → IsOfSeat g seat (record r { ended = true })
   of_done g seat r of rests = record { actor = of.actor; leads = of.leads; place_is = of.place_is; calm = of.calm; sorted = of.sorted; cut = of.cut; rests = λ ended. rests }
 
   module _ (g : Given) (pool : SharedPool B) (a b d : Actor B) (ready : IsReady g pool a) (player : IsPlayer pool b.seat) (role : b.role ≡ a.role) (more : HasSeenMore a b)
-      (why : (a.role.ended ≡ true) ⊎ (is_in_part a.role.place.stage ≡ false)) (seat_is : d.seat ≡ b.seat) (role_is : d.role ≡ record b.role { ended = true }) where
+      (why : NeedsNoTurn a b) (seat_is : d.seat ≡ b.seat) (role_is : d.role ≡ record b.role { ended = true }) where
     b_rests : is_in_part b.role.place.stage ≡ false
-    b_rests = ap (λ (r : Role). is_in_part r.place.stage) role ∙ ended_rests a g pool ready why
+    b_rests = ap (λ (r : Role). is_in_part r.place.stage) role ∙ needs_rests g pool a b ready why
 
     pub done_ready : IsReady g pool d
     done_ready =

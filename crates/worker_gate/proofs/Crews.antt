@@ -1,8 +1,9 @@
 -- Rounds of actors that one thread plays.
-use Rattle.std.proofs.Common.{◌≡◌, ℕ, suc, ◌+◌, ◌-◌, ◌*◌, ◌<◌, ◌≤◌, Bool, true, false, List, [], ◌∷◌, ◌++◌, ◌⊎◌, inl, inr, length, max, take, drop, set, get_or, refl, sym, ap, subst, ◌∙◌, append-nil, arith, All}
+use Rattle.std.proofs.Common.{◌≡◌, ℕ, suc, ◌+◌, ◌-◌, ◌*◌, ◌<◌, ◌≤◌, Bool, true, false, List, [], ◌∷◌, ◌++◌, ◌⊎◌, inl, inr, length, max, take, drop, set, get_or, refl, sym, ap, subst, ◌∙◌, append-nil, arith, map, All, IfOk, Result, Ok, Err}
 use Rattle.std.proofs.Math.Seq.{drop-cons, take-length}
-use Rattle.std.proofs.lemmas.List.{length-append, drop-set-lt, length-set, take_more, take_more_set}
-use Rattle.std.proofs.lemmas.List.Elements.{All-append, All-cons, All-nil, All-set, recursion_from_All}
+use Rattle.std.proofs.Math.ListN.{get_or-map}
+use Rattle.std.proofs.lemmas.List.{length-append, length-map, drop-set-lt, length-set, take_more, take_more_set}
+use Rattle.std.proofs.lemmas.List.Elements.{All-append, All-cons, All-map, All-nil, All-set, recursion_from_All}
 use Rattle.std.proofs.lemmas.List.Sums.{sum_by-append}
 use Rattle.std.specs.List.{AllByRecursion}
 use Rattle.tp_base.specs.declared.answers.Entry.{Entry}
@@ -17,7 +18,7 @@ use Rattle.worker_gate.specs.declared.place.Place.{Place}
 use Rattle.worker_gate.specs.declared.role.Turn.{Turn}
 use Rattle.worker_gate.specs.declared.role.Turn.TheVariants.{Moved, Waiting, Ended}
 use Rattle.worker_gate.specs.Acting.{due_by, has_ended, holds_up, made_by, most_of, GoesOn, HasEnded, HasMet, HasMoved, HasWaited, IsReady, Said}
-use Rattle.worker_gate.specs.Crews.{both, left_of, spare, AllReady, AreHandedBack, GoOn, HasCause, HasPlayedRound, HaveCauses, RoundSaid}
+use Rattle.worker_gate.specs.Crews.{both, left_of, spare, AllReady, AreCrewsBack, AreHandedBack, GoOn, HasCause, HasPlayedRound, HaveCauses, RoundSaid}
 use Rattle.worker_gate.specs.Places.{Given}
 use Rattle.worker_gate.specs.Roles.{due_of}
 
@@ -208,3 +209,30 @@ module _ {B : Type 0} where
 
   pub crew_idle : (g : Given) (pool : SharedPool B) (crew later : List (Actor B)) (idle : ℕ) → 0 < idle → CrewSoFar g pool crew later idle → AreHandedBack g crew later
   crew_idle g pool crew later idle some so = record { go_on = so.go_on; causes = so.causes some }
+
+  -- ---- crews, each with a list of its own
+
+  module _ (g : Given) (pool : SharedPool B) {V : Type 0} (crew_of : V → List (Actor B)) where
+    pub crew_ready : (crews : List V) (i : ℕ) (crew : V) → i < length crews → crew ≡ get_or crews i crew → All (AllReady g pool) (map crew_of crews) → AllReady g pool (crew_of crew)
+    crew_ready crews i crew below at ready =
+        subst (AllReady g pool) (get_or-map crew_of crews i crew ∙ ap crew_of (sym at)) (ready i (crew_of crew) (let n = length-map crews crew_of in omega (arith, n, below)))
+
+    pub crews_ready : (crews laters : List V) → length laters ≡ length crews → ((i : ℕ) (d : V) → i < length crews → AllReady g pool (crew_of (get_or laters i d))) → All (AllReady g pool) (map crew_of laters)
+    crews_ready crews laters count each = All-map (AllReady g pool) crew_of laters (λ i d below. each i d (omega (arith, count, below)))
+
+    back_to : (crew job : V) (later : List (Actor B)) → crew ≡ job → AreHandedBack g (crew_of job) later → AreHandedBack g (crew_of crew) later
+    back_to crew job later is back = subst (λ (v : V). AreHandedBack g (crew_of v) later) (sym is) back
+
+    pub crews_back : (crews laters : List V) → length laters ≡ length crews
+        → ((i : ℕ) (d e : V) → i < length crews → (job : V) × (get_or crews i d ≡ job) × AreHandedBack g (crew_of job) (crew_of (get_or laters i e))) → AreCrewsBack g (map crew_of crews) (map crew_of laters)
+    crews_back [] [] count each = tt
+    crews_back (x ∷ crews) (y ∷ laters) count each =
+        let first = each 0 x y (omega arith) in
+        (back_to x first.0 (crew_of y) first.1 first.2, crews_back crews laters (omega (arith, count)) (λ i d e below. each (suc i) d e (omega (arith, below))))
+    crews_back [] (y ∷ laters) count each = absurd (omega (arith, count))
+    crews_back (x ∷ crews) [] count each = absurd (omega (arith, count))
+
+-- what both hold of an answer
+pub if_both : {X E : Type 0} (r : Result X E) (P Q R : X → Type 0) → IfOk r P → IfOk r Q → ((x : X) → P x → Q x → R x) → IfOk r R
+if_both (Ok x) P Q R p q f = f x p q
+if_both (Err e) P Q R p q f = tt

@@ -31,7 +31,7 @@ module _ (g : Given) (limits : Limits) (capacity : ℕ) (history later : List En
   closes_grow entries p (inl whole) = inl whole
   closes_grow entries p (inr cut) = inr (is_cut_grows entries p cut)
 
-  follows_grow : (entries : List Entry) (p : Place) (at : Stage) (e : Entry) → FollowsAt g limits capacity history who entries p at e → FollowsAt g limits capacity later who entries p at e
+  pub follows_grow : (entries : List Entry) (p : Place) (at : Stage) (e : Entry) → FollowsAt g limits capacity history who entries p at e → FollowsAt g limits capacity later who entries p at e
   follows_grow entries p Playing e (inl last) = inl (last.0, last.1, closes_grow entries p last.2)
   follows_grow entries p Playing e (inr next) = inr next
   follows_grow entries p (Busy routine) e (inl last) = inl (last.0, last.1, closes_grow entries p last.2)

@@ -7,9 +7,11 @@ use Rattle.tp_base.specs.declared.answers.Outcome.TheVariants as outcome
 use Rattle.tp_base.specs.declared.calls.Call.{Call}
 use Rattle.tp_base.specs.declared.ids.Who.{Who}
 use Rattle.tp_model.specs.Stages.{is_in_part, is_over_stage}
+use Rattle.recorded.specs.Recordings.{is_over_behind}
 use Rattle.turn_lock.specs.declared.seats.Seat.{Seat}
 use Rattle.turn_lock.specs.Histories.{StartsWith}
 use Rattle.turn_lock.specs.Seats.{met_of, mine_of, seen_of, setup_in, Same}
+use Rattle.turn_lock.specs.Views.{recording_of}
 use Rattle.shared_pool.specs.declared.pool.Over.{Over}
 use Rattle.shared_pool.specs.declared.pool.Over.TheVariants as over
 use Rattle.shared_pool.specs.declared.pool.SharedPool.{SharedPool}
@@ -79,20 +81,27 @@ module _ {B : Type 0} where
     pub starts : StartsWith (seen_of b.seat) (seen_of a.seat)
     pub mine : mine_of b.seat ≡ mine_of a.seat
 
+  -- why it makes no further call: it was known to make none, it is a client that has finished, or it runs nothing and all
+  -- is over behind what `b` has seen
+  abbrev pub NeedsNoTurn : Actor B → Actor B → Type 0
+  NeedsNoTurn a b = (a.role.ended ≡ true) ⊎ ((is_over_stage a.role.place.stage ≡ true) ⊎ ((is_in_part a.role.place.stage ≡ false) × (is_over_behind (recording_of (setup_in b.seat) (seen_of b.seat)) ≡ true)))
+
   -- it makes none; it may make one; or another seat had the turn
   abbrev pub HasAskedOver : Over → Actor B → Actor B → Type 0
-  HasAskedOver over.Yes a b = HasSeenMore a b × (met_of b.seat ≡ met_of a.seat) × ((a.role.ended ≡ true) ⊎ (is_in_part a.role.place.stage ≡ false))
+  HasAskedOver over.Yes a b = HasSeenMore a b × (met_of b.seat ≡ met_of a.seat) × NeedsNoTurn a b
   HasAskedOver over.No a b = HasSeenMore a b × (met_of b.seat ≡ met_of a.seat) × MayPlay a
-  HasAskedOver (over.Busy holder) a b = HasSeenMore a b × HasMet a b
+  HasAskedOver (over.Busy holder) a b = HasSeenMore a b × HasMet a b × MayPlay a
 
   -- the due call became an entry
   pub record HasMoved (g : Given) (a b : Actor B) : Type 0 where
+    pub may : MayPlay a
     pub answer : Answer
     pub mine : mine_of b.seat ≡ mine_of a.seat ++ entry_of a.seat (due_by g a a.role.marked) answer ∷ []
     pub within : made_by b ≤ most_of b
 
   -- another seat had the turn, or nothing came of the due call yet
   pub record HasWaited (g : Given) (a b : Actor B) : Type 0 where
+    pub may : MayPlay a
     pub mine : mine_of b.seat ≡ mine_of a.seat
     pub place : b.role.place ≡ a.role.place
     pub cause : HasMet a b ⊎ (holds_up b (due_by g a a.role.marked) ≡ true)
@@ -102,6 +111,7 @@ module _ {B : Type 0} where
     pub mine : mine_of b.seat ≡ mine_of a.seat
     pub ended : b.role.ended ≡ true
     pub rests : is_in_part b.role.place.stage ≡ false
+    pub why : NeedsNoTurn a b
 
   abbrev pub Said : Given → Actor B → Actor B → Turn → Type 0
   Said g a b Moved = HasMoved g a b

@@ -1,0 +1,153 @@
+//! What is told of histories that were made on the machine.
+
+use crate::expect::{expect_eq, expect_ok};
+use kept_book::Kept;
+use pool_book::Book;
+use recorded::{Recorded, program_limits};
+use std::alloc::Global;
+use std::process::Abort;
+use tp_lines::parse::parse_call;
+use tp_report::{Verdict, check, print_history, print_json, print_summary};
+
+/// A client waits for one callback of a work object that another client made.
+const ONE_WAIT: [&[u8]; 9] = [
+    b"c1 create work r1 x0 p0 normal short g0 q0",
+    b"c1 finish",
+    b"c2 submit 1",
+    b"w1 attach",
+    b"c2 wait work 1 keep",
+    b"w1 take",
+    b"w1 return",
+    b"c2 end",
+    b"c2 finish",
+];
+
+/// Of the I/O object's callbacks one is given up, one completes and is taken, one is under way and one is
+/// announced. A work callback and a simple one wait for a worker. Two calls are refused, and one is a look.
+const SOME_LEFT: [&[u8]; 18] = [
+    b"c1 create io r1 x0 p0 normal short g0 q0",
+    b"c1 create work r1 x0 p0 normal short g0 q0",
+    b"c1 start-io 1",
+    b"c1 start-io 1",
+    b"c1 cancel-io 1",
+    b"c1 issue-io 1",
+    b"c1 complete-io 2 0 512",
+    b"c1 start-io 1",
+    b"c1 issue-io 1",
+    b"c1 submit 2",
+    b"c1 submit-simple r1 x0 p0 normal short g0 q0",
+    b"c1 start-io 1",
+    b"c1 submit 1",
+    b"w1 attach",
+    b"w1 take",
+    b"w2 take",
+    b"c1 wait work 2 keep",
+    b"c1 end",
+];
+
+// A book on which these calls were made.
+fn played(rt: &impl Abort, alloc: Global, workers: u32, lines: &[&[u8]]) -> Kept<Book> {
+    assert!(rt; workers == 1 || workers == 2);
+    let limits = program_limits(2, workers);
+    let mut book = expect_ok(rt, Kept::<Book>::open(alloc, limits, 65_536));
+    for line in lines {
+        make_call(rt, &mut book, line);
+    }
+    book
+}
+
+fn make_call(rt: &impl Abort, book: &mut Kept<Book>, line: &[u8]) {
+    let (who, call) = expect_ok(rt, parse_call(line));
+    assert!(rt; call.in_range());
+    book.step(who, call);
+}
+
+fn expect_text(rt: &impl Abort, told: &[u8], wanted: &str) {
+    assert!(rt; told == wanted.as_bytes());
+}
+
+/// The history is told entry by entry, and `check` reads it back.
+#[test]
+fn a_history_is_told(rt: HostRuntime) {
+    let alloc = rt.alloc();
+    let book = played(&rt, alloc, 1, &ONE_WAIT);
+    let mut text = Vec::new(alloc);
+    expect_ok(&rt, print_history(alloc, &book, &mut text));
+    expect_text(
+        &rt,
+        &text,
+        "history 1 clients 2 workers 1 events 65536
+c1 create work r1 x0 p0 normal short g0 q0 -> made 1
+c1 finish -> ok
+c2 submit 1 -> queued 1 1
+w1 attach -> attached 0
+c2 wait work 1 keep -> begun 1 0
+w1 take -> taken 1 o1 r1 x0 plain
+w1 return -> returned - - - - 0 0
+c2 end -> ended
+c2 finish -> ok
+end 9
+",
+    );
+    let verdict = expect_ok(&rt, check::<Book>(alloc, &text));
+    expect_eq(&rt, legal_len(verdict), Some(9));
+    drop(book);
+}
+
+fn legal_len(verdict: Verdict) -> Option<u32> {
+    match verdict {
+        Verdict::Legal { len } => Some(len),
+        Verdict::NotLegal { .. } => None,
+    }
+}
+
+/// What is told stands behind what was there before.
+#[test]
+fn a_summary_is_told(rt: HostRuntime) {
+    let alloc = rt.alloc();
+    let book = played(&rt, alloc, 1, &ONE_WAIT);
+    let mut text = expect_ok(&rt, Vec::from_slice(alloc, b"end 9\n"));
+    expect_ok(&rt, print_summary(alloc, &book, &mut text));
+    expect_ok(&rt, print_json(alloc, &book, &mut text));
+    expect_text(
+        &rt,
+        &text,
+        "end 9
+entries 9
+callbacks 1
+taken 1
+cancelled 0
+left 0
+refused 0
+{\"callbacks\":1,\"cancelled\":0,\"entries\":9,\"left\":0,\"left_callbacks\":[],\"refused\":0,\"taken\":1}
+",
+    );
+    drop(book);
+}
+
+/// Each callback that may still run is told, with how far it has come.
+#[test]
+fn callbacks_that_are_left_are_told(rt: HostRuntime) {
+    let alloc = rt.alloc();
+    let book = played(&rt, alloc, 2, &SOME_LEFT);
+    let mut text = Vec::new(alloc);
+    expect_ok(&rt, print_summary(alloc, &book, &mut text));
+    expect_ok(&rt, print_json(alloc, &book, &mut text));
+    expect_text(
+        &rt,
+        &text,
+        "entries 17
+callbacks 6
+taken 1
+cancelled 1
+left 4
+left-callback 3 o1 issued
+left-callback 4 o2 pending
+left-callback 5 o0 pending
+left-callback 6 o1 expected
+refused 2
+{\"callbacks\":6,\"cancelled\":1,\"entries\":17,\"left\":4,\"left_callbacks\":[3,4,5,6],\"refused\":2,\"taken\":1}
+",
+    );
+    drop(book);
+}
