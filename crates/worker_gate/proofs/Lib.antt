@@ -5,3 +5,4 @@ mod Stepping
 pub mod Turning
 pub mod Walking
 pub mod Playing
+pub mod Tellings

@@ -61,9 +61,10 @@ pub fn play_alone<Rt: Wait, B: Recorded, R: Routines, G: Gate>(
     wake_all(roles);
     for _ in rt.forever() {
         if play_one(book, roles, routines, gate) {
-            break;
+            return;
         }
     }
+    unreachable!()
 }
 
 // A worker that had ended asks again whether all is over.

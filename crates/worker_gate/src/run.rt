@@ -15,7 +15,7 @@ use crate::crew::play_crews;
 use crate::role::{Gate, Role};
 use crate::rounds::set_up;
 use crate::telling::{finish, tell_all};
-use recorded::Recorded;
+use recorded::{OpenFault, Recorded};
 use shared_pool::SharedPool;
 use std::alloc::{AllocError, Global};
 use std::sync::Wait;
@@ -49,6 +49,7 @@ pub fn play_routines<
     requires in_range { AreLimitsInRange limits }
     requires client { 1 ≤ limits.clients }
     requires worker { 1 ≤ limits.workers }
+    requires room { limits.clients ≤ capacity }
     requires thread { 1 ≤ threads }
     requires calm { NeverWaits (given R.next_of R.after_of routines.now) (Part.Client 1) first_progress }
     ensures limits { IfOk result (λ run. (B.recording run.book).limits ≡ limits) }
@@ -122,13 +123,18 @@ fn play_on_several<
     requires in_range { AreLimitsInRange limits }
     requires client { 1 ≤ limits.clients }
     requires worker { 1 ≤ limits.workers }
+    requires room { limits.clients ≤ capacity }
     requires thread { 1 ≤ threads }
     ensures limits { IfOk result (λ run. (B.recording run.book).limits ≡ limits) }
     ensures capacity { IfOk result (λ run. (B.recording run.book).capacity ≡ capacity) }
     ensures runs { IfOk result (λ run. Runs (given R.next_of R.after_of routines.now) limits capacity (B.recording run.book).history) }
     ensures cut { IfOk result (λ run. (run.cut ≡ true) ↔ IsCutShort (given R.next_of R.after_of routines.now) limits (B.recording run.book).history) }
 {
-    let (pool, seats) = SharedPool::open(alloc, limits, capacity)?;
+    let (pool, seats) = match SharedPool::open(alloc, limits, capacity) {
+        Ok(opened) => opened,
+        Err(OpenFault::NoMemory) => return Err(AllocError),
+        Err(OpenFault::TooSmall { .. }) => unreachable!(),
+    };
     let mut others = seat_actors(alloc, limits, seats)?;
     let mut first = others.remove(0);
     finish(rt, &mut first, &pool, routines, gate);

@@ -34,9 +34,10 @@ pub fn finish<Rt: Wait, B: Recorded, R: Routines, G: Gate>(
         match actor.turn(pool, routines, gate) {
             Turn::Moved => {}
             Turn::Waiting => thread::yield_now(),
-            Turn::Ended => break,
+            Turn::Ended => return,
         }
     }
+    unreachable!()
 }
 
 /// Tells all others what an actor has seen of the history: each of them has then seen that too.
