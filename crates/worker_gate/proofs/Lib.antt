@@ -6,3 +6,5 @@ pub mod Turning
 pub mod Walking
 pub mod Playing
 pub mod Tellings
+pub mod Ending
+pub mod Back

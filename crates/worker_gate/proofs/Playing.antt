@@ -205,7 +205,7 @@ mapped_at : {X Y : Type 0} → (f : X → Y) (o : Option X) (y : Y) → option_m
 mapped_at f None y is = absurd (cc)
 mapped_at f (Some x) y is = (x, refl, cc)
 
-at_place : {X Y : Type 0} → (f : X → Y) (xs : List X) (i : ℕ) (y : Y) → slice_get (map f xs) i ≡ Some y → (x : X) × (slice_get xs i ≡ Some x) × (f x ≡ y)
+pub at_place : {X Y : Type 0} → (f : X → Y) (xs : List X) (i : ℕ) (y : Y) → slice_get (map f xs) i ≡ Some y → (x : X) × (slice_get xs i ≡ Some x) × (f x ≡ y)
 at_place f xs i y is = mapped_at f (slice_get xs i) y (sym (slice_get-map f xs i) ∙ is)
 
 who_at : (xs ys : List Role) (i : ℕ) (r : Role) → map who_of ys ≡ map who_of xs → slice_get ys i ≡ Some r → (q : Role) × (slice_get xs i ≡ Some q) × (q.who ≡ r.who)

@@ -89,6 +89,7 @@ pub(crate) fn end_run<Rt: Wait, B: Recorded, R: Routines, G: Gate>(
     requires all { AllOf (given R.next_of R.after_of routines.now) (B.recording book.old).limits (B.recording book.old).capacity (B.recording book.old).history roles.old.items }
     requires covers { HaveAllRoles (B.recording book.old).limits roles.old.items }
     requires legal { IsLegal (B.recording book.old).limits (B.recording book.old).capacity (B.recording book.old).history }
+    requires client { 1 ≤ (B.recording book.old).limits.clients }
     requires worker { 1 ≤ (B.recording book.old).limits.workers }
     requires known { AreKnown (B.recording book.old).limits (B.recording book.old).history }
     requires first { IsFirstPlayed (B.recording book.old).limits (B.recording book.old).history roles.old.items }

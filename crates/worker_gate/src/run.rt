@@ -1,6 +1,6 @@
 //! Routines that are played to their end on a machine that is opened for them.
 
-ghost use Rattle.std.specs.Prelude.{◌≡◌, ◌≤◌, ◌↔◌, true, ◌∷◌, vec_items, IfOk, IsPermutation};
+ghost use Rattle.std.specs.Prelude.{◌≡◌, ◌≤◌, ◌↔◌, true, ◌∷◌, ◌++◌, vec_items, IfOk, IsPermutation};
 ghost use Rattle.std.specs.List.{flat_map};
 ghost use Rattle.tp_base.specs.Ranges.{AreLimitsInRange};
 ghost use Rattle.tp_script.specs.Nexts.{first_progress};
@@ -95,6 +95,7 @@ fn play_on_one<Rt: Wait, B: Recorded, R: Routines, G: Gate>(
 // A role, and a new one for each actor but client 1.
 fn with_others(alloc: Global, limits: Limits, first: Role) -> Result<Vec<Role>, AllocError>
     requires in_range { AreLimitsInRange limits }
+    requires client { 1 ≤ limits.clients }
     ensures { IfOk result (λ roles. roles.items ≡ first ∷ others_of limits) }
 {
     let mut roles = Vec::new(alloc);
@@ -194,9 +195,16 @@ fn gather<B>(
     let mut actors = Vec::new(alloc);
     actors.push(first)?;
     for crew in crews {
-        for actor in crew {
-            actors.push(actor)?;
-        }
+        add_all(&mut actors, crew)?;
     }
     Ok(actors)
+}
+
+fn add_all<B>(actors: &mut Vec<Actor<B>>, crew: Vec<Actor<B>>) -> Result<(), AllocError>
+    ensures { IfOk result (λ _. actors.new.items ≡ actors.old.items ++ crew.items) }
+{
+    for actor in crew {
+        actors.push(actor)?;
+    }
+    Ok(())
 }
