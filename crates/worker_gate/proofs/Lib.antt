@@ -8,3 +8,4 @@ pub mod Playing
 pub mod Tellings
 pub mod Ending
 pub mod Back
+pub mod Crewing
