@@ -9,3 +9,6 @@ pub mod Tellings
 pub mod Ending
 pub mod Back
 pub mod Crewing
+pub mod Opened
+pub mod Alone
+pub mod SettingUp
