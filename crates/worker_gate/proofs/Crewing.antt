@@ -16,6 +16,10 @@ use Rattle.worker_gate.specs.Closing.{AreSeated}
 use Rattle.worker_gate.specs.Roles.{new_role}
 use Rattle.worker_gate.specs.Rounds.{others_to}
 
+-- one of the list has had its turn
+pub one_less : {X : Type 0} → (all done left rest : List X) (x : X) → all ≡ done ++ left → left ≡ x ∷ rest → all ≡ (done ++ x ∷ []) ++ rest
+one_less all done left rest x is next = is ∙ (ap (λ (l : List _). done ++ l) next ∙ sym (append_assoc done (x ∷ []) rest))
+
 module _ {V A : Type 0} (items : V → List A) where
   -- one more in one of the lists
   flat_set : (vs : List V) (k : ℕ) (v w : V) (a : A) → k < length vs → v ≡ get_or vs k v → items w ≡ items v ++ a ∷ [] → IsPermutation (a ∷ flat_map items vs) (flat_map items (set vs k w))
@@ -46,6 +50,11 @@ others_more limits before some =
     let one : before + 1 - 1 ≡ suc (before - 1) = omega (arith, some) in
     let two : before - 1 + 2 ≡ before + 1 = omega (arith, some) in
     ap (others_to limits) one ∙ ap (λ (n : ℕ). others_to limits (before - 1) ++ new_role (actor_of limits n) ∷ []) two
+
+pub more_others : (limits : Limits) (before : ℕ) (first next : Role) (roles later : List Role) → 1 ≤ before → roles ≡ first ∷ others_to limits (before - 1) → next ≡ new_role (actor_of limits (before + 1)) → later ≡ roles ++ next ∷ []
+    → later ≡ first ∷ others_to limits (before + 1 - 1)
+more_others limits before first next roles later some so is more =
+    more ∙ (ap (λ (l : List Role). l ++ next ∷ []) so ∙ (ap (λ (r : Role). first ∷ (others_to limits (before - 1) ++ r ∷ [])) is ∙ ap (λ (l : List Role). first ∷ l) (sym (others_more limits before some))))
 
 module _ {B : Type 0} where
   -- a seat more, with the role of its actor
