@@ -1,0 +1,14 @@
+pub mod Acting
+pub mod Crews
+pub mod RoleFacts
+mod Stepping
+pub mod Turning
+pub mod Walking
+pub mod Playing
+pub mod Tellings
+pub mod Ending
+pub mod Back
+pub mod Crewing
+pub mod Opened
+pub mod Alone
+pub mod SettingUp

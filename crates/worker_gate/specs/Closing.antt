@@ -1,0 +1,95 @@
+-- The end of a run: all actors have come back.
+use Rattle.std.specs.Prelude.{◌≡◌, ℕ, ◌<◌, Bool, true, false, List, [], ◌∷◌, ◌++◌, map, slice_get, Some, All}
+use Rattle.tp_base.specs.declared.answers.Entry.{Entry}
+use Rattle.tp_base.specs.declared.ids.Who.{Who}
+use Rattle.tp_base.specs.declared.ids.Who.TheVariants.{Client}
+use Rattle.tp_base.specs.declared.limits.Limits.{Limits}
+use Rattle.tp_model.specs.Stages.{is_in_part, IsActor}
+use Rattle.turn_lock.specs.declared.seats.Seat.{Seat}
+use Rattle.turn_lock.specs.Histories.{actor_of, own, StartsWith}
+use Rattle.turn_lock.specs.Seats.{actor_in, mine_of, number_of, seen_of, setup_in, Same}
+use Rattle.shared_pool.specs.declared.pool.SharedPool.{SharedPool}
+use Rattle.shared_pool.specs.Pools.{pool_setup, setup_at, HaveAll}
+use Rattle.worker_gate.specs.declared.actor.Actor.{Actor}
+use Rattle.worker_gate.specs.declared.role.Role.{Role}
+use Rattle.worker_gate.specs.Acting.{role_in, seat_in, GoesOn, IsReady}
+use Rattle.worker_gate.specs.Places.{Given}
+use Rattle.worker_gate.specs.Roles.{new_role}
+
+module _ {B : Type 0} where
+  -- ---- the actors of a new pool
+
+  -- each seat is one of a machine of these limits, and has made no call
+  pub record IsUnplayed (limits : Limits) (seat : Seat B) : Type 0 where
+    pub limits_are : (setup_in seat).limits ≡ limits
+    pub numbered : 0 < number_of seat
+    pub mine : mine_of seat ≡ []
+
+  abbrev pub AreNew : Limits → List (Seat B) → Type 0
+  AreNew limits seats = All (IsUnplayed limits) seats
+
+  -- the seats in their order, each with the role of its actor, which has made no call
+  pub record AreSeated (limits : Limits) (seats : List (Seat B)) (actors : List (Actor B)) : Type 0 where
+    pub seats_are : map seat_in actors ≡ seats
+    pub roles_are : map role_in actors ≡ map (λ (seat : Seat B). new_role (actor_of limits (number_of seat))) seats
+
+  -- ---- what client 1 has told the others
+
+  -- another actor has seen all that the first one had, and knows its own entries of that
+  pub record HasHeard (first a b : Actor B) : Type 0 where
+    pub goes_on : GoesOn a b
+    pub role_is : b.role ≡ a.role
+    pub mine : mine_of b.seat ≡ mine_of a.seat
+    pub told : StartsWith (seen_of b.seat) (seen_of first.seat)
+    pub own_is : mine_of b.seat ≡ own b.role.who (seen_of b.seat)
+
+  abbrev pub HaveHeard : Actor B → List (Actor B) → List (Actor B) → Type 0
+  HaveHeard first [] [] = Unit {0}
+  HaveHeard first (a ∷ others) (b ∷ later) = HasHeard first a b × HaveHeard first others later
+  HaveHeard first _ _ = ⊥
+
+  -- one has looked, and nothing else of it has changed
+  pub record HasTold (a b : Actor B) : Type 0 where
+    pub goes_on : GoesOn a b
+    pub role_is : b.role ≡ a.role
+    pub mine : mine_of b.seat ≡ mine_of a.seat
+    pub own_is : mine_of b.seat ≡ own b.role.who (seen_of b.seat)
+
+  -- ---- all are back
+
+  -- client 1 has finished, when no other had made an entry: `front` is the history of that time
+  pub record FirstTold (limits : Limits) (actors : List (Actor B)) : Type 0 where
+    pub at : ℕ
+    pub first : Actor B
+    pub is_there : slice_get actors at ≡ Some first
+    pub is_first : first.role.who ≡ Client 1
+    pub ended : is_in_part first.role.place.stage ≡ false
+    pub front : List Entry
+    pub seen : StartsWith (seen_of first.seat) front
+    pub mine : mine_of first.seat ≡ own (Client 1) front
+    pub alone : (who : Who) → IsActor limits who → (who ≡ Client 1 → ⊥) → own who front ≡ []
+
+  -- the pool has a seat for each actor, and the actors of all of them are here, each once
+  pub record AllBack (g : Given) (pool : SharedPool B) (actors : List (Actor B)) : Type 0 where
+    pub setup_is : setup_at pool ≡ pool_setup (setup_at pool).limits (setup_at pool).capacity
+    pub some_client : 0 < (setup_at pool).limits.clients
+    pub some_worker : 0 < (setup_at pool).limits.workers
+    pub ready : All (IsReady g pool) actors
+    pub all : HaveAll pool (map seat_in actors)
+    pub once : (i j : ℕ) (a b : Actor B) → slice_get actors i ≡ Some a → slice_get actors j ≡ Some b → a.role.who ≡ b.role.who → i ≡ j
+
+-- a part of the role was cut
+abbrev pub IsCutIn : Role → Type 0
+IsCutIn r = r.place.cut ≡ true
+
+-- the same of the history and the roles
+pub record IsFirstPlayed (limits : Limits) (history : List Entry) (roles : List Role) : Type 0 where
+  pub at : ℕ
+  pub first : Role
+  pub is_there : slice_get roles at ≡ Some first
+  pub is_first : first.who ≡ Client 1
+  pub ended : is_in_part first.place.stage ≡ false
+  pub front : List Entry
+  pub starts : StartsWith history front
+  pub mine : own (Client 1) history ≡ own (Client 1) front
+  pub alone : (who : Who) → IsActor limits who → (who ≡ Client 1 → ⊥) → own who front ≡ []

@@ -1,0 +1,41 @@
+//! Clients and workers as actors, each of which makes its calls one after another.
+//!
+//! A `Role` is what one actor does next: a client makes the calls of its part and finishes; a worker
+//! attaches, takes callbacks, makes the calls of their routines and returns from them. The calls are
+//! those of a `Routines`, a script for one. A role plays on a machine of its own (`Role::turn`,
+//! `set_up`, `play_alone`), or with a seat of a shared pool, as an `Actor` (`Actor::turn`,
+//! `play_crew`, `finish`), so that several threads can play side by side.
+//!
+//! What an actor may do next is told by its own entries of the history. A contract says of each call
+//! here that these stay calls of the routines that it was given, each part whole, or cut where the
+//! history had no room for its next call. `close_run` gathers all actors of a pool, plays what is
+//! left, and promises of the whole history that it is a run of these routines.
+//!
+//! ```text
+//! let (pool, seats) = SharedPool::<Book>::open(alloc, program_limits(1, 2), 1_000)?;
+//! let mut first = Actor::new(client_seat, Role::client(1));
+//! finish(&rt, &mut first, &pool, &script, &gate);     // client 1 plays to its end
+//! tell_all(&mut first, &pool, &mut workers);          // and tells the others
+//! let workers = play_crew(workers, &pool, &script, &gate);
+//! let book = close_run(&rt, alloc, pool, all_actors, &script, &gate)?;
+//! ```
+
+#![tactic(auto)]
+
+mod actor;
+mod closing;
+mod crew;
+mod place;
+mod role;
+mod rounds;
+mod run;
+mod telling;
+
+pub use actor::Actor;
+pub use closing::{Run, close_run};
+pub use crew::{play_crew, play_crews};
+pub use place::Place;
+pub use role::{Gate, Role, Turn};
+pub use rounds::{play_alone, set_up};
+pub use run::play_routines;
+pub use telling::{finish, tell_all};

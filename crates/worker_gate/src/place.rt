@@ -1,0 +1,170 @@
+//! Where an actor is in its work.
+
+ghost use Rattle.std.specs.Prelude.{◌≡◌, IfSome, is_some};
+ghost use Rattle.tp_base.specs.Ranges.{IsCallInRange};
+ghost use Rattle.tp_model.specs.Stages.{first_stage, stage_after, waits_after};
+ghost use Rattle.tp_script.specs.Calls.{IsOfPart};
+ghost use Rattle.worker_gate.specs.Places.{given, is_last, is_taken, next_call, next_in, opening, part_in, place_after, progress_after, told_in};
+
+use tp_base::answers::Answer;
+use tp_base::calls::Call;
+use tp_base::ids::Who;
+use tp_base::plans::Stage;
+use tp_script::{Part, Progress, Routines};
+
+/// Where an actor is in its work, which its own entries tell.
+#[derive(Clone, Copy)]
+pub struct Place {
+    pub stage: Stage,
+    /// A wait of it is begun.
+    pub waits: bool,
+    /// How far it has come in its part, where it plays one.
+    pub at: Progress,
+    /// It has ended a part before the part's last call.
+    pub cut: bool,
+}
+
+impl Place {
+    /// Before the first call of an actor.
+    pub fn opening(who: Who) -> Place
+        ensures { result ≡ opening who }
+    {
+        Place {
+            stage: first_stage(who),
+            waits: false,
+            at: Progress::first(),
+            cut: false,
+        }
+    }
+
+    // The next call of the actor's part: while a wait is begun its end.
+    pub(crate) fn next_call<R: Routines>(&self, who: Who, routines: &R) -> Option<Call>
+        ensures value { result ≡ next_call (given R.next_of R.after_of routines.now) who self.now }
+        ensures in_range { IfSome result IsCallInRange }
+        ensures of_part { IfSome result IsOfPart }
+    {
+        if self.waits {
+            Some(Call::End)
+        } else {
+            self.next_in(who, routines)
+        }
+    }
+
+    fn next_in<R: Routines>(&self, who: Who, routines: &R) -> Option<Call>
+        ensures value { result ≡ next_in (given R.next_of R.after_of routines.now) (part_in self.now.stage who) self.now.at }
+        ensures in_range { IfSome result IsCallInRange }
+        ensures of_part { IfSome result IsOfPart }
+    {
+        match part_in(self.stage, who) {
+            Some(part) => routines.next(part, &self.at),
+            None => None,
+        }
+    }
+
+    // Behind a call of the actor and its answer.
+    pub(crate) fn after<R: Routines>(
+        &self,
+        who: Who,
+        routines: &R,
+        call: Call,
+        answer: Answer,
+    ) -> Place
+        ensures { result ≡ place_after (given R.next_of R.after_of routines.now) who self.now call answer }
+    {
+        Place {
+            stage: stage_after(self.stage, call, answer),
+            waits: waits_after(self.waits, call, answer),
+            at: self.progress_after(who, routines, call, answer),
+            cut: self.cut || (is_last(call) && self.next_call(who, routines).is_some()),
+        }
+    }
+
+    fn progress_after<R: Routines>(
+        &self,
+        who: Who,
+        routines: &R,
+        call: Call,
+        answer: Answer,
+    ) -> Progress
+        ensures { result ≡ progress_after (given R.next_of R.after_of routines.now) who self.now call answer }
+    {
+        if is_taken(answer) {
+            Progress::first()
+        } else if is_last(call) {
+            self.at
+        } else {
+            self.told_in(who, routines, answer)
+        }
+    }
+
+    fn told_in<R: Routines>(&self, who: Who, routines: &R, answer: Answer) -> Progress
+        ensures { result ≡ told_in (given R.next_of R.after_of routines.now) (part_in self.now.stage who) self.now.at answer }
+    {
+        let mut at = self.at;
+        if let Some(part) = part_in(self.stage, who) {
+            routines.after(part, &mut at, answer);
+        }
+        at
+    }
+}
+
+fn first_stage(who: Who) -> Stage
+    ensures { result ≡ first_stage who }
+{
+    match who {
+        Who::Client(_) => Stage::Playing,
+        Who::Worker(_) => Stage::Away,
+    }
+}
+
+// Whose calls an actor makes at a stage.
+fn part_in(stage: Stage, who: Who) -> Option<Part>
+    ensures { result ≡ part_in stage who }
+{
+    match stage {
+        Stage::Playing => match who {
+            Who::Client(number) => Some(Part::Client(number)),
+            Who::Worker(_) => None,
+        },
+        Stage::Busy { routine } => Some(Part::Routine(routine)),
+        Stage::Over | Stage::Away | Stage::Idle => None,
+    }
+}
+
+fn stage_after(stage: Stage, call: Call, answer: Answer) -> Stage
+    ensures { result ≡ stage_after stage call answer }
+{
+    match (stage, call, answer) {
+        (Stage::Playing, Call::Finish, Answer::Done) => Stage::Over,
+        (Stage::Away, Call::Attach, Answer::Attached { .. }) => Stage::Idle,
+        (Stage::Idle, Call::Detach, Answer::Done) => Stage::Away,
+        (Stage::Idle, Call::Take, Answer::Taken { routine, .. }) => Stage::Busy { routine },
+        (Stage::Busy { .. }, Call::Return, Answer::Returned { .. }) => Stage::Idle,
+        _ => stage,
+    }
+}
+
+// Whether a wait is begun behind a call, by whether one was before it.
+fn waits_after(waits: bool, call: Call, answer: Answer) -> bool
+    ensures { result ≡ waits_after waits call answer }
+{
+    match answer {
+        Answer::Begun { .. } | Answer::Closing { .. } => true,
+        Answer::Done => waits || matches!(call, Call::BeginAcquire { .. }),
+        Answer::Ended | Answer::Exhausted | Answer::Stalled => false,
+        _ => waits,
+    }
+}
+
+// Whether a call ends a part.
+fn is_last(call: Call) -> bool
+    ensures { result ≡ is_last call }
+{
+    matches!(call, Call::Finish | Call::Return)
+}
+
+fn is_taken(answer: Answer) -> bool
+    ensures { result ≡ is_taken answer }
+{
+    matches!(answer, Answer::Taken { .. })
+}

@@ -1,0 +1,231 @@
+//! What one actor does next, on a machine of its own.
+
+ghost use Rattle.std.specs.Prelude.{◌≡◌, ℕ, ◌≤◌, Bool, false, IfSome, [], List, length};
+ghost use Rattle.tp_base.specs.Ranges.{IsCallInRange};
+ghost use Rattle.tp_script.specs.Calls.{IsOfPart};
+ghost use Rattle.recorded.specs.Recordings.{is_over_behind};
+ghost use Rattle.turn_lock.specs.Histories.{actor_of, own};
+ghost use Rattle.worker_gate.specs.Places.{given, next_call};
+ghost use Rattle.worker_gate.specs.Roles.{due_at, due_of, due_or, ends, ends_at, is_idle_take, is_last_turn, new_role, took, turn_by, turned, who_of, IsOf};
+
+use crate::place::Place;
+use recorded::Recorded;
+use tp_base::answers::{Answer, Outcome};
+use tp_base::calls::Call;
+use tp_base::ids::Who;
+use tp_base::limits::Limits;
+use tp_base::plans::Stage;
+use tp_script::Routines;
+
+/// What stands before each callback of a worker.
+pub trait Gate {
+    /// Is called once for a callback, behind its `Take` and before the first call of its routine, with
+    /// the number of the worker and that of the callback, both from 1.
+    fn before(&self, worker: u32, callback: u64);
+}
+
+/// What a turn comes to.
+#[derive(Clone, Copy)]
+pub enum Turn {
+    /// A call was made, and accepted or refused.
+    Moved,
+    /// Nothing happened: the call came to a look or Full, or another seat had the turn.
+    Waiting,
+    /// The actor makes no further call.
+    Ended,
+}
+
+impl Turn {
+    // Whether the actor has ended.
+    pub(crate) fn is_last(self) -> bool
+        ensures { result ≡ is_last_turn self }
+    {
+        matches!(self, Turn::Ended)
+    }
+}
+
+/// What one actor does next. It stands for the entries that its actor has made.
+#[derive(Clone, Copy)]
+pub struct Role {
+    pub(crate) who: Who,
+    pub(crate) place: Place,
+    // Its last call came to Full, or to a look from Take.
+    pub(crate) marked: bool,
+    pub(crate) ended: bool,
+}
+
+impl Role {
+    /// The role of a client, from 1, that has made no call.
+    pub fn client(number: u32) -> Role
+        requires { 1 ≤ number }
+        ensures { result ≡ new_role (Who.Client number) }
+    {
+        Role::new(Who::Client(number))
+    }
+
+    /// The role of a worker, from 1, that has made no call.
+    pub fn worker(number: u32) -> Role
+        requires { 1 ≤ number }
+        ensures { result ≡ new_role (Who.Worker number) }
+    {
+        Role::new(Who::Worker(number))
+    }
+
+    // The role of the actor of a number: first come the clients, then the workers.
+    pub(crate) fn numbered(limits: Limits, number: u32) -> Role
+        requires { 1 ≤ number }
+        ensures { result ≡ new_role (actor_of limits number) }
+    {
+        if number <= limits.clients {
+            Role::client(number)
+        } else {
+            Role::worker(number - limits.clients)
+        }
+    }
+
+    fn new(who: Who) -> Role
+        ensures { result ≡ new_role who }
+    {
+        Role {
+            who,
+            place: Place::opening(who),
+            marked: false,
+            ended: false,
+        }
+    }
+
+    /// Whether it has ended a part before the part's last call, since the history had no room for that.
+    pub fn is_cut(&self) -> bool
+        ensures { result ≡ self.now.place.cut }
+    {
+        self.place.cut
+    }
+
+    /// Plays one turn on a machine.
+    ///
+    /// A client that has finished, and a worker that runs nothing where all is over, has ended. Every
+    /// other role makes its due call: the end of a wait that is begun; else for a client, and for a
+    /// worker in a callback, the next call of its part, or Finish or Return where there is none or
+    /// the last one came to Full; else Attach for a worker without a pool, and Take for one with a
+    /// pool, or Detach where that came to nothing before.
+    ///
+    /// The calls are those of `routines`, and `gate` is asked before each callback.
+    pub fn turn<B: Recorded, R: Routines, G: Gate>(
+        &mut self,
+        book: &mut B,
+        routines: &R,
+        gate: &G,
+    ) -> Turn
+        requires of { IsOf (given R.next_of R.after_of routines.now) (B.recording book.old).limits (B.recording book.old).capacity (B.recording book.old).history (own (who_of self.old) (B.recording book.old).history) self.old }
+        ensures role { self.new ≡ (turned (given R.next_of R.after_of routines.now) (B.recording book.old).limits (B.recording book.old).capacity (B.recording book.old).history self.old).role }
+        ensures book { B.recording book.new ≡ record (B.recording book.old) { history = (turned (given R.next_of R.after_of routines.now) (B.recording book.old).limits (B.recording book.old).capacity (B.recording book.old).history self.old).history } }
+        ensures turn { result ≡ (turned (given R.next_of R.after_of routines.now) (B.recording book.old).limits (B.recording book.old).capacity (B.recording book.old).history self.old).turn }
+        ensures of { IsOf (given R.next_of R.after_of routines.now) (B.recording book.new).limits (B.recording book.new).capacity (B.recording book.new).history (own (who_of self.new) (B.recording book.new).history) self.new }
+    {
+        if self.ends(book) {
+            self.ended = true;
+            return Turn::Ended;
+        }
+        let call = self.due(routines);
+        let outcome = book.step(self.who, call);
+        self.hears(routines, gate, call, outcome)
+    }
+
+    // Whether it makes no further call on a machine as that is now.
+    fn ends<B: Recorded>(&self, book: &B) -> bool
+        ensures { result ≡ ends (B.recording book.now).limits (B.recording book.now).capacity (B.recording book.now).history self.now }
+    {
+        self.ended
+            || match self.place.stage {
+                Stage::Over => true,
+                Stage::Playing | Stage::Busy { .. } => false,
+                Stage::Away | Stage::Idle => book.is_over(),
+            }
+    }
+
+    // The call that it is to make.
+    pub(crate) fn due<R: Routines>(&self, routines: &R) -> Call
+        ensures value { result ≡ due_of (given R.next_of R.after_of routines.now) self.now.who self.now.place self.now.marked }
+        ensures in_range { IsCallInRange result }
+        ensures of_part { IfSome (next_call (given R.next_of R.after_of routines.now) self.now.who self.now.place) IsOfPart }
+    {
+        let next = self.place.next_call(self.who, routines);
+        if self.place.waits {
+            Call::End
+        } else {
+            self.due_at(next)
+        }
+    }
+
+    // The same while no wait is begun, by the next call of its part.
+    fn due_at(&self, next: Option<Call>) -> Call
+        requires { IfSome next IsCallInRange }
+        ensures value { result ≡ due_at self.now.place.stage self.now.marked next }
+        ensures in_range { IsCallInRange result }
+    {
+        match self.place.stage {
+            Stage::Playing => self.due_or(Call::Finish, next),
+            Stage::Busy { .. } => self.due_or(Call::Return, next),
+            Stage::Over => Call::Finish,
+            Stage::Away => Call::Attach,
+            Stage::Idle if self.marked => Call::Detach,
+            Stage::Idle => Call::Take,
+        }
+    }
+
+    // The next call, or the last one where there is none or it came to Full.
+    fn due_or(&self, last: Call, next: Option<Call>) -> Call
+        requires last { IsCallInRange last }
+        requires next { IfSome next IsCallInRange }
+        ensures value { result ≡ due_or last self.now.marked next }
+        ensures in_range { IsCallInRange result }
+    {
+        match next {
+            Some(call) if !self.marked => call,
+            Some(_) | None => last,
+        }
+    }
+
+    // Takes note of what its call came to.
+    pub(crate) fn hears<R: Routines, G: Gate>(
+        &mut self,
+        routines: &R,
+        gate: &G,
+        call: Call,
+        outcome: Outcome,
+    ) -> Turn
+        ensures role { self.new ≡ took (given R.next_of R.after_of routines.now) self.old call outcome }
+        ensures turn { result ≡ turn_by outcome }
+    {
+        match outcome {
+            Outcome::Done(answer) => {
+                self.place = self.place.after(self.who, routines, call, answer);
+                self.marked = false;
+                self.stops_at(gate, answer);
+                Turn::Moved
+            }
+            Outcome::Look(_) => {
+                self.marked = is_idle_take(self.place.stage, call);
+                Turn::Waiting
+            }
+            Outcome::Full { .. } => {
+                self.marked = true;
+                Turn::Waiting
+            }
+        }
+    }
+
+    // Before the callback that it has taken, if it has.
+    fn stops_at<G: Gate>(&self, gate: &G, answer: Answer) {
+        if let (Who::Worker(worker), Answer::Taken { callback, .. }) = (self.who, answer) {
+            gate.before(worker, callback);
+        }
+    }
+}
+
+// Whether a worker that runs nothing takes a callback.
+fn is_idle_take(stage: Stage, call: Call) -> bool
+    ensures { result ≡ is_idle_take stage call }
+{
+    matches!((stage, call), (Stage::Idle, Call::Take))
+}
