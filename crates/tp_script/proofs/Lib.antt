@@ -1,3 +1,6 @@
+pub mod ClientFacts
+pub mod DeclarationFacts
+mod HeadFacts
 mod NameFacts
 mod Parsing
 mod Places

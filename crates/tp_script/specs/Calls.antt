@@ -159,6 +159,13 @@ begins_wait word.CloseMembers = true
 begins_wait word.Acquire = true
 begins_wait _ = false
 
+-- whether the call begins a wait
+abbrev pub begins_wait_call : Call → Bool
+begins_wait_call (call.BeginWait kind object cancel) = true
+begins_wait_call (call.BeginAcquire kernel) = true
+begins_wait_call (call.BeginClose group cancel context) = true
+begins_wait_call _ = false
+
 -- whether a part goes on with the line: one that begins a routine or a client or ends it makes no call
 abbrev pub acts : Word → Bool
 acts word.Routine = false

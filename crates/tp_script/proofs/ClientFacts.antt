@@ -1,0 +1,63 @@
+-- How many clients a script has.
+use Rattle.std.proofs.Common.{◌≡◌, ℕ, ◌+◌, ◌≤◌, Bool, true, false, List, [], ◌∷◌, length, nat_lt, if◌then◌else◌, refl, sym, subst, arith, inl, inr, length-append, ltb-true}
+use Rattle.tp_script.specs.declared.judge.Known.{Known}
+use Rattle.tp_script.specs.declared.line.Line.{Line}
+use Rattle.tp_script.specs.declared.script.Opening.TheVariants as opening
+use Rattle.tp_script.specs.declared.state.State.{State}
+use Rattle.tp_script.specs.declared.words.Word.{Word}
+use Rattle.tp_script.specs.declared.words.Word.TheVariants as word
+use Rattle.tp_script.specs.Nexts.{clients_of, opens, places_behind}
+use Rattle.tp_script.specs.Scripts.{IsScript, Reads, first_known, known_after, words_of}
+use Rattle.tp_script.specs.States.{state_after}
+use Rattle.tp_script.specs.Texts.{lines_of}
+use Rattle.tp_script.proofs.HeadFacts.{MayHead, line_head}
+
+with_one : Bool → ℕ → ℕ
+with_one true count = count + 1
+with_one false count = count
+
+-- a line that begins a client is counted, and no other
+counted : (state : State) (head : Word) → MayHead state head → (state_after state head).clients ≡ with_one (opens opening.Client head) state.clients
+unfolding with_one
+counted state word.Client (inl e) = let no_such : ⊥ = cc in absurd no_such
+counted state word.Client (inr (room, may)) = by (nat_lt state.clients 15) room
+  where
+    by : (b : Bool) → b ≡ true → (if b then state.clients + 1 else state.clients) ≡ state.clients + 1
+    by true e = refl
+    by false e = let no_such : ⊥ = cc in absurd no_such
+counted state _ may = refl
+
+-- and there is room for it
+kept_few : (state : State) (head : Word) → MayHead state head → state.clients ≤ 15 → with_one (opens opening.Client head) state.clients ≤ 15
+unfolding with_one
+kept_few state word.Client (inl e) few = let no_such : ⊥ = cc in absurd no_such
+kept_few state word.Client (inr (room, may)) few = omega (arith, ltb-true state.clients 15 room)
+kept_few state _ may few = few
+
+one_place : (b : Bool) (place count : ℕ) → count + length (if b then place ∷ [] else []) ≡ with_one b count
+unfolding with_one
+one_place true place count = omega arith
+one_place false place count = omega arith
+
+few_behind : (texts : List (List ℕ)) (known end : Known) (lines : List Line) (at : ℕ) → Reads known texts lines end → known.state.clients ≤ 15
+    → known.state.clients + length (places_behind opening.Client at lines) ≤ 15
+few_behind [] known end lines at (none, e) few = subst (λ (ls : List Line). known.state.clients + length (places_behind opening.Client at ls) ≤ 15) (sym none) (omega (arith, few))
+few_behind (text ∷ texts) known end lines at (inl (blank, reads)) few = few_behind texts known end lines at reads few
+few_behind (text ∷ texts) known end lines at (inr (solid, (line, name, more, read, e, reads))) few =
+    let may = line_head known (words_of text) line name read in
+    let same = counted known.state line.head may in
+    let behind = few_behind texts (known_after known line name) end more (at + 1) reads (subst (λ n. n ≤ 15) (sym same) (kept_few known.state line.head may few)) in
+    subst (λ (ls : List Line). known.state.clients + length (places_behind opening.Client at ls) ≤ 15) (sym e)
+    (omega (
+      arith,
+      behind,
+      same,
+      one_place (opens opening.Client line.head) (at + 1) known.state.clients,
+      length-append (if opens opening.Client line.head then (at + 1) ∷ [] else []) (places_behind opening.Client (at + 1) more),
+    ))
+
+-- a script has at most 15 clients besides the one that makes the declarations
+pub few_clients : (text : List ℕ) (lines : List Line) → IsScript text lines → (1 ≤ clients_of lines) × (clients_of lines ≤ 16)
+few_clients text lines script =
+    let few = few_behind (lines_of text) (first_known (lines_of text)) script.end lines 0 script.reads (omega arith) in
+    (omega arith, omega (arith, few))

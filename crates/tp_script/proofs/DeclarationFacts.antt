@@ -1,0 +1,168 @@
+-- What client 1 does: it makes the declarations, and waits for nothing.
+use Rattle.std.proofs.Common.{◌≡◌, ℕ, zero, suc, ◌+◌, Bool, true, false, List, [], ◌∷◌, Option, Some, None, IfSome, ◌⊎◌, ◌&&◌, fold, nat_eq, nat_lt, option_and_then, slice_get, if◌then◌else◌, refl, sym, ap, ◌∙◌, subst, arith, inl, inr}
+use Rattle.tp_base.specs.declared.answers.Answer.{Answer}
+use Rattle.tp_base.specs.declared.calls.Call.TheVariants as call
+use Rattle.tp_script.specs.declared.judge.Known.{Known}
+use Rattle.tp_script.specs.declared.line.Line.{Line}
+use Rattle.tp_script.specs.declared.routines.Part.TheVariants.{Client}
+use Rattle.tp_script.specs.declared.routines.Progress.{Progress}
+use Rattle.tp_script.specs.declared.state.Place.{Place}
+use Rattle.tp_script.specs.declared.state.Place.TheVariants.{Declarations}
+use Rattle.tp_script.specs.declared.state.State.{State}
+use Rattle.tp_script.specs.declared.words.Class.{Class}
+use Rattle.tp_script.specs.declared.words.Class.TheVariants as class
+use Rattle.tp_script.specs.declared.words.Word.{Word}
+use Rattle.tp_script.specs.declared.words.Word.TheVariants as word
+use Rattle.tp_script.specs.Calls.{acts, begins_wait, begins_wait_call, call_by, calls_in, maximum_of, small_of}
+use Rattle.tp_script.specs.Nexts.{acting, after_at, call_at, first_progress, line_after, line_at, next_at, noted, number_in, progress_after, stepped, waited, with_local}
+use Rattle.tp_script.specs.Scripts.{IsScript, Reads, first_known, is_local, known_after, words_of}
+use Rattle.tp_script.specs.Shapes.{class_of}
+use Rattle.tp_script.specs.States.{state_after}
+use Rattle.tp_script.specs.Texts.{lines_of}
+use Rattle.tp_script.specs.Tokens.{is_head, is_repeated}
+use Rattle.tp_script.proofs.HeadFacts.{MayHead, line_head}
+
+-- no call of such a line begins a wait
+record IsCalm (head : Word) : Type 0 where
+  of_line : begins_wait head ≡ false
+  of_calls : (line : Line) (done : ℕ) (locals : List ℕ) → IfSome (call_by line done locals head) (λ made. begins_wait_call made ≡ false)
+
+-- words that may begin a line among the declarations
+is_front : Class → Bool
+is_front class.Declaration = true
+is_front class.Routine = true
+is_front class.Client = true
+is_front _ = false
+
+front_class : (of : Class) → (is_head Declarations of ≡ true) ⊎ (is_repeated Declarations of ≡ true) → is_front of ≡ true
+unfolding is_front
+front_class class.Declaration may = refl
+front_class class.Routine may = refl
+front_class class.Client may = refl
+front_class _ (inl e) = let no_such : ⊥ = cc in absurd no_such
+front_class _ (inr e) = let no_such : ⊥ = cc in absurd no_such
+
+pool_calm : (line : Line) (done : ℕ) (first second : Bool) → begins_wait_call (if first then call.CreatePool else (if second then call.SetMaximum (record { 0 = line.made }) (maximum_of line) else call.SetMinimum (record { 0 = line.made }) (small_of line.number))) ≡ false
+pool_calm line done true second = refl
+pool_calm line done false true = refl
+pool_calm line done false false = refl
+
+front_calm : (head : Word) → acts head ≡ true → is_front (class_of head) ≡ true → IsCalm head
+unfolding is_front
+front_calm word.Pool acting front =
+    record { of_line = refl; of_calls = λ line done locals. pool_calm line done (nat_eq done 0) (nat_eq done 1 && line.maximum) }
+front_calm word.Group acting front = record { of_line = refl; of_calls = λ line done locals. refl }
+front_calm word.Event acting front = record { of_line = refl; of_calls = λ line done locals. refl }
+front_calm word.Semaphore acting front = record { of_line = refl; of_calls = λ line done locals. refl }
+front_calm word.Mutex acting front = record { of_line = refl; of_calls = λ line done locals. refl }
+front_calm word.Section acting front = record { of_line = refl; of_calls = λ line done locals. refl }
+front_calm (word.Object kind) acting front = record { of_line = refl; of_calls = λ line done locals. refl }
+front_calm word.Routine acting front = let no_such : ⊥ = cc in absurd no_such
+front_calm word.Client acting front = let no_such : ⊥ = cc in absurd no_such
+front_calm _ acting front = let no_such : ⊥ = cc in absurd no_such
+
+declared_calm : (state : State) (head : Word) → state.place ≡ Declarations → MayHead state head → acts head ≡ true → IsCalm head
+declared_calm state head declaring (inl e) acting = let no_such : ⊥ = (let inactive : acts head ≡ false = ap acts e in cc) in absurd no_such
+declared_calm state head declaring (inr (room, may)) acting =
+    front_calm head acting (front_class (class_of head) (subst (λ (p : Place). (is_head p (class_of head) ≡ true) ⊎ (is_repeated p (class_of head) ≡ true)) declaring may))
+
+-- a line that makes a call leaves the place as it is
+same_place : (state : State) (head : Word) → acts head ≡ true → (state_after state head).place ≡ state.place
+same_place state word.Routine acting = let no_such : ⊥ = cc in absurd no_such
+same_place state word.Client acting = let no_such : ⊥ = cc in absurd no_such
+same_place state word.Done acting = let no_such : ⊥ = cc in absurd no_such
+same_place state _ acting = refl
+
+-- the lines in front that make a call, up to the first that makes none, begin no wait
+IsFront : List Line → Type 0
+IsFront [] = Unit {0}
+IsFront (line ∷ lines) = acts line.head ≡ true → IsCalm line.head × IsFront lines
+
+front_of : (texts : List (List ℕ)) (known end : Known) (lines : List Line) → Reads known texts lines end → known.state.place ≡ Declarations → IsFront lines
+unfolding IsFront
+front_of [] known end lines (none, e) declaring = subst IsFront (sym none) tt
+front_of (text ∷ texts) known end lines (inl (blank, reads)) declaring = front_of texts known end lines reads declaring
+front_of (text ∷ texts) known end lines (inr (solid, (line, name, more, read, e, reads))) declaring =
+    subst IsFront (sym e)
+    (λ acting. (
+      declared_calm known.state line.head declaring (line_head known (words_of text) line name read) acting,
+      front_of texts (known_after known line name) end more reads (same_place known.state line.head acting ∙ declaring),
+    ))
+
+-- so many lines in front make calls
+AreActing : ℕ → List Line → Type 0
+AreActing zero lines = Unit {0}
+AreActing (suc op) [] = ⊥
+AreActing (suc op) (line ∷ lines) = (acts line.head ≡ true) × AreActing op lines
+
+front_at : (lines : List Line) (op : ℕ) (line : Line) → IsFront lines → AreActing op lines → option_and_then acting (slice_get lines op) ≡ Some line → IsCalm line.head × AreActing (suc op) lines
+unfolding IsFront AreActing
+front_at [] op line front behind e = let no_such : ⊥ = cc in absurd no_such
+front_at (first ∷ lines) zero line front behind e = by (acts first.head) refl e
+  where
+    by : (b : Bool) → acts first.head ≡ b → (if b then Some first else None) ≡ Some line → IsCalm line.head × ((acts first.head ≡ true) × Unit {0})
+    by true acting h = (subst (λ (l : Line). IsCalm l.head) (let same : first ≡ line = cc in same) (front acting).0, (acting, tt))
+    by false none h = let no_such : ⊥ = cc in absurd no_such
+front_at (first ∷ lines) (suc op) line front behind e =
+    let there = front_at lines op line (front behind.0).1 behind.1 e in
+    (there.0, (behind.0, there.1))
+
+-- the line of client 1 at such a place is that of the script
+line_of_first : (lines : List Line) (op : ℕ) → line_at lines (Client 1) op ≡ option_and_then acting (slice_get lines op)
+line_of_first lines op = ap (λ n. option_and_then acting (slice_get lines n)) (let same : 0 + op ≡ op = omega arith in same)
+
+-- client 1 hasn't come further than behind the declarations, and has begun no wait
+record Declares (lines : List Line) (at : Progress) : Type 0 where
+  ending : at.ending ≡ false
+  behind : AreActing at.op lines
+
+module _ (lines : List Line) (front : IsFront lines) where
+  at_front : (at : Progress) (line : Line) → Declares lines at → line_at lines (Client 1) at.op ≡ Some line → IsCalm line.head × AreActing (suc at.op) lines
+  at_front at line stands e = front_at lines at.op line front stands.behind (sym (line_of_first lines at.op) ∙ e)
+
+  after_step : (calls : ℕ) (at : Progress) → Declares lines at → AreActing (suc at.op) lines → Declares lines (stepped calls at)
+  after_step calls at stands further = by (nat_lt (at.done + 1) calls)
+    where
+      by : (b : Bool) → Declares lines (if b then record at { done = at.done + 1 } else record at { op = at.op + 1; done = 0 })
+      by true = record { ending = stands.ending; behind = stands.behind }
+      by false = record { ending = stands.ending; behind = subst (λ n. AreActing n lines) (let next : suc at.op ≡ at.op + 1 = omega arith in next) further }
+
+  after_noted : (line : Line) (at : Progress) (answer : Answer) → Declares lines at → AreActing (suc at.op) lines → Declares lines (stepped (calls_in line) (noted line at answer))
+  after_noted line at answer stands further = by (is_local line.head)
+    where
+      by : (b : Bool) → Declares lines (stepped (calls_in line) (if b then record at { locals = with_local at.locals line.made (number_in answer) } else at))
+      by true = after_step (calls_in line) (record at { locals = with_local at.locals line.made (number_in answer) }) (record { ending = stands.ending; behind = stands.behind }) further
+      by false = after_step (calls_in line) at stands further
+
+  after_line : (line : Line) (at : Progress) (answer : Answer) → IsCalm line.head → Declares lines at → AreActing (suc at.op) lines → Declares lines (line_after line at answer)
+  after_line line at answer calm stands further =
+      subst (λ (waits : Bool). Declares lines (if waits then waited (calls_in line) at answer else stepped (calls_in line) (noted line at answer))) (sym calm.of_line)
+      (after_noted line at answer stands further)
+
+  after_answer : (at : Progress) (answer : Answer) → Declares lines at → Declares lines (progress_after lines (Client 1) at answer)
+  after_answer at answer stands = by (line_at lines (Client 1) at.op) refl
+    where
+      by : (found : Option Line) → line_at lines (Client 1) at.op ≡ found → Declares lines (after_at found at answer)
+      by None e = stands
+      by (Some line) e = let there = at_front at line stands e in after_line line at answer there.0 stands there.1
+
+  after_answers : (answers : List Answer) (at : Progress) → Declares lines at → Declares lines (fold (progress_after lines (Client 1)) at answers)
+  after_answers [] at stands = stands
+  after_answers (answer ∷ answers) at stands = after_answers answers (progress_after lines (Client 1) at answer) (after_answer at answer stands)
+
+  next_calm : (at : Progress) → Declares lines at → IfSome (next_at lines (Client 1) at) (λ made. begins_wait_call made ≡ false)
+  next_calm at stands = by (line_at lines (Client 1) at.op) refl
+    where
+      by : (found : Option Line) → line_at lines (Client 1) at.op ≡ found → IfSome (option_and_then (λ line. call_at line at) found) (λ made. begins_wait_call made ≡ false)
+      by None e = tt
+      by (Some line) e =
+          subst (λ (ends : Bool). IfSome (if ends then Some call.End else call_by line at.done at.locals line.head) (λ made. begins_wait_call made ≡ false)) (sym stands.ending)
+          ((at_front at line stands e).0.of_calls line at.done at.locals)
+
+-- client 1 of a script begins no wait, whatever the answers are
+pub first_never_waits : (text : List ℕ) (lines : List Line) → IsScript text lines → (answers : List Answer)
+    → IfSome (next_at lines (Client 1) (fold (progress_after lines (Client 1)) first_progress answers)) (λ made. begins_wait_call made ≡ false)
+unfolding AreActing
+first_never_waits text lines script answers =
+    let front = front_of (lines_of text) (first_known (lines_of text)) script.end lines script.reads refl in
+    next_calm lines front (fold (progress_after lines (Client 1)) first_progress answers) (after_answers lines front answers first_progress (record { ending = refl; behind = tt }))
