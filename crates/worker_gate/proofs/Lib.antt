@@ -8,3 +8,5 @@ pub mod Playing
 pub mod Tellings
 pub mod Ending
 pub mod Back
+mod Quiet
+mod Alone

@@ -8,7 +8,7 @@ ghost use Rattle.worker_gate.specs.Places.{given};
 ghost use Rattle.worker_gate.specs.Roles.{IsOf};
 ghost use Rattle.worker_gate.specs.Rounds.{awake, round_of, scene, AllOf, ArePlayed, EndedWell, HasPlayed, HasRole, HaveEnded, IsSameMachine, PlaysAlone};
 
-use crate::role::{Gate, Role, Turn};
+use crate::role::{Gate, Role};
 use recorded::Recorded;
 use std::sync::Wait;
 use tp_base::ids::Who;
@@ -31,9 +31,8 @@ pub fn set_up<B: Recorded, R: Routines, G: Gate>(
     ensures ended { role.new.ended ≡ true }
 {
     loop {
-        match role.turn(book, routines, gate) {
-            Turn::Moved | Turn::Waiting => {}
-            Turn::Ended => return,
+        if role.turn(book, routines, gate).is_last() {
+            return;
         }
     }
 }
