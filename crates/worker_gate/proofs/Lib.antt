@@ -9,4 +9,4 @@ pub mod Tellings
 pub mod Ending
 pub mod Back
 mod Quiet
-mod Alone
+mod SettingUp

@@ -1,6 +1,6 @@
 use Rattle.std.proofs.Common.{◌≡◌, ◌∙◌, sym}
 use Rattle.worker_gate.specs.Places.{given}
-use Rattle.worker_gate.proofs.Alone.{alone_goes_on, alone_less, alone_played}
+use Rattle.worker_gate.proofs.SettingUp.{alone_goes_on, alone_less, alone_played}
 use Rattle.worker_gate.proofs.rounds.set_up.Goals as goal
 
 pub loop-smaller : goal.loop-smaller

@@ -1,5 +1,5 @@
 use Rattle.worker_gate.specs.Places.{given}
-use Rattle.worker_gate.proofs.Alone.{spare_of, AloneSoFar}
+use Rattle.worker_gate.proofs.SettingUp.{spare_of, AloneSoFar}
 use Rattle.worker_gate.proofs.rounds.set_up.Given as goal
 
 abbrev pub invariant-loop : goal.invariant-loop
