@@ -33,7 +33,7 @@ use Rattle.worker_gate.proofs.Playing.{at_place}
 
 -- ---- numbers and actors
 
-le_on : (a b : ℕ) → a ≤ b → nat_le a b ≡ true
+pub le_on : (a b : ℕ) → a ≤ b → nat_le a b ≡ true
 le_on a b le = grind (arith, nat_tests)
 
 le_off : (a b : ℕ) → b < a → nat_le a b ≡ false

@@ -29,61 +29,61 @@ use Rattle.worker_gate.proofs.Walking.{own_append}
 
 -- ---- what rounds add to a history
 
-by_actor : (limits : Limits) (who : Who) (more : List Entry) → IsActor limits who → AllByRecursion (λ (e : Entry). e.who ≡ who) more → AllByRecursion (λ (e : Entry). IsActor limits e.who) more
-by_actor limits who [] actor by = tt
-by_actor limits who (e ∷ more) actor by = (subst (IsActor limits) (sym by.0) actor, by_actor limits who more actor by.1)
+by_actor : (P : Who → Type 0) (who : Who) (more : List Entry) → P who → AllByRecursion (λ (e : Entry). e.who ≡ who) more → AllByRecursion (λ (e : Entry). P e.who) more
+by_actor P who [] actor by = tt
+by_actor P who (e ∷ more) actor by = (subst P (sym by.0) actor, by_actor P who more actor by.1)
 
--- a history that goes on by entries of actors
-pub record Follows (limits : Limits) (history later : List Entry) : Type 0 where
+-- a history that goes on by entries of such actors
+pub record Follows (P : Who → Type 0) (history later : List Entry) : Type 0 where
   pub more : List Entry
   pub is : later ≡ history ++ more
-  pub known : AllByRecursion (λ (e : Entry). IsActor limits e.who) more
+  pub known : AllByRecursion (λ (e : Entry). P e.who) more
 
-follows_itself : (limits : Limits) (history : List Entry) → Follows limits history history
-follows_itself limits history = record { more = []; is = sym (append-nil history); known = tt }
+follows_itself : (P : Who → Type 0) (history : List Entry) → Follows P history history
+follows_itself P history = record { more = []; is = sym (append-nil history); known = tt }
 
-known_both : (limits : Limits) (xs ys : List Entry) → AllByRecursion (λ (e : Entry). IsActor limits e.who) xs → AllByRecursion (λ (e : Entry). IsActor limits e.who) ys → AllByRecursion (λ (e : Entry). IsActor limits e.who) (xs ++ ys)
-known_both limits [] ys first next = next
-known_both limits (x ∷ xs) ys first next = (first.0, known_both limits xs ys first.1 next)
+known_both : (P : Who → Type 0) (xs ys : List Entry) → AllByRecursion (λ (e : Entry). P e.who) xs → AllByRecursion (λ (e : Entry). P e.who) ys → AllByRecursion (λ (e : Entry). P e.who) (xs ++ ys)
+known_both P [] ys first next = next
+known_both P (x ∷ xs) ys first next = (first.0, known_both P xs ys first.1 next)
 
-follows_through : (limits : Limits) (history mid later : List Entry) → Follows limits history mid → Follows limits mid later → Follows limits history later
-follows_through limits history mid later first next = record {
+follows_through : (P : Who → Type 0) (history mid later : List Entry) → Follows P history mid → Follows P mid later → Follows P history later
+follows_through P history mid later first next = record {
   more = first.more ++ next.more;
   is = next.is ∙ (ap (λ (h : List Entry). h ++ next.more) first.is ∙ append_assoc history first.more next.more);
-  known = known_both limits first.more next.more first.known next.known;
+  known = known_both P first.more next.more first.known next.known;
 }
 
-abbrev pub AreActors : Limits → List Role → Type 0
-AreActors limits roles = AllByRecursion (λ (r : Role). IsActor limits r.who) roles
+abbrev pub AreBy : (Who → Type 0) → List Role → Type 0
+AreBy P roles = AllByRecursion (λ (r : Role). P r.who) roles
 
-same_actors : (limits : Limits) (xs ys : List Role) → map who_of ys ≡ map who_of xs → AreActors limits xs → AreActors limits ys
-same_actors limits [] [] same actors = tt
-same_actors limits (x ∷ xs) (y ∷ ys) same actors =
+same_actors : (P : Who → Type 0) (xs ys : List Role) → map who_of ys ≡ map who_of xs → AreBy P xs → AreBy P ys
+same_actors P [] [] same actors = tt
+same_actors P (x ∷ xs) (y ∷ ys) same actors =
     let head : who_of y ≡ who_of x = cc in
     let tail : map who_of ys ≡ map who_of xs = cc in
-    (subst (IsActor limits) (sym head) actors.0, same_actors limits xs ys tail actors.1)
-same_actors limits [] (y ∷ ys) same actors = absurd (cc)
-same_actors limits (x ∷ xs) [] same actors = absurd (cc)
+    (subst P (sym head) actors.0, same_actors P xs ys tail actors.1)
+same_actors P [] (y ∷ ys) same actors = absurd (cc)
+same_actors P (x ∷ xs) [] same actors = absurd (cc)
 
-module _ (g : Given) (limits : Limits) (capacity : ℕ) where
-  round_follows : (history : List Entry) (roles : List Role) → AreActors limits roles → Follows limits history (round_of g limits capacity history roles).history
-  round_follows history [] actors = follows_itself limits history
+module _ (P : Who → Type 0) (g : Given) (limits : Limits) (capacity : ℕ) where
+  round_follows : (history : List Entry) (roles : List Role) → AreBy P roles → Follows P history (round_of g limits capacity history roles).history
+  round_follows history [] actors = follows_itself P history
   round_follows history (r ∷ roles) actors =
       let t = turned g limits capacity history r in
       let adds = turned_adds g limits capacity history r in
-      follows_through limits history t.history (round_of g limits capacity t.history roles).history
-          (record { more = adds.more; is = adds.is; known = by_actor limits r.who adds.more actors.0 adds.by })
+      follows_through P history t.history (round_of g limits capacity t.history roles).history
+          (record { more = adds.more; is = adds.is; known = by_actor P r.who adds.more actors.0 adds.by })
           (round_follows t.history roles actors.1)
 
-  rounds_follow : (n : ℕ) (s : Scene) → AreActors limits s.roles → Follows limits s.history (rounds g limits capacity n s).history
-  rounds_follow zero s actors = follows_itself limits s.history
+  rounds_follow : (n : ℕ) (s : Scene) → AreBy P s.roles → Follows P s.history (rounds g limits capacity n s).history
+  rounds_follow zero s actors = follows_itself P s.history
   rounds_follow (suc n) s actors =
       let t = rounds g limits capacity n s in
-      follows_through limits s.history t.history (round_of g limits capacity t.history t.roles).history (rounds_follow n s actors)
-          (round_follows t.history t.roles (same_actors limits s.roles t.roles (played_whos g limits capacity s t (n, refl)) actors))
+      follows_through P s.history t.history (round_of g limits capacity t.history t.roles).history (rounds_follow n s actors)
+          (round_follows t.history t.roles (same_actors P s.roles t.roles (played_whos g limits capacity s t (n, refl)) actors))
 
-  played_follows : (s t : Scene) → AreActors limits s.roles → ArePlayed g limits capacity s t → Follows limits s.history t.history
-  played_follows s t actors played = subst (λ (x : Scene). Follows limits s.history x.history) played.1 (rounds_follow played.0 s actors)
+  pub played_follows : (s t : Scene) → AreBy P s.roles → ArePlayed g limits capacity s t → Follows P s.history t.history
+  played_follows s t actors played = subst (λ (x : Scene). Follows P s.history x.history) played.1 (rounds_follow played.0 s actors)
 
 -- ---- client 1 comes first
 
@@ -133,7 +133,7 @@ module _ (g : Given) (limits : Limits) (capacity : ℕ) (history : List Entry) (
   no_more before p [] over leads = refl
   no_more before p (y ∷ ys) over leads = absurd (subst (λ (at : Stage). FollowsAt g limits capacity history who before p at y) over leads.0)
 
-client_over : (number : ℕ) (at : Stage) → is_stage_of (Client number) at ≡ true → is_in_part at ≡ false → at ≡ Over
+pub client_over : (number : ℕ) (at : Stage) → is_stage_of (Client number) at ≡ true → is_in_part at ≡ false → at ≡ Over
 client_over number Playing sorted rests = absurd (cc)
 client_over number Over sorted rests = refl
 client_over number Away sorted rests = absurd (cc)
@@ -144,7 +144,7 @@ finished_client : (number : ℕ) (who : Who) (at : Stage) → who ≡ Client num
 finished_client number who at is sorted rests = client_over number at (sym (ap (λ (w : Who). is_stage_of w at) is) ∙ sorted) rests
 
 module _ (g : Given) (limits : Limits) (capacity : ℕ) (history later : List Entry) (roles : List Role) (of : AllOf g limits capacity history roles) (first : IsFirstPlayed limits history roles)
-    (known : AreKnown limits history) (more : Follows limits history later) (walk : Leads g limits capacity later (Client 1) [] (opening (Client 1)) (own (Client 1) later)) where
+    (known : AreKnown limits history) (more : Follows (IsActor limits) history later) (walk : Leads g limits capacity later (Client 1) [] (opening (Client 1)) (own (Client 1) later)) where
   first_of : IsOf g limits capacity history (own first.first.who history) first.first
   first_of = subst (λ (r : Role). IsOf g limits capacity history (own r.who history) r) (get_or_from_slice_get roles first.at first.first first.first first.is_there)
       (of.of first.at first.first (slice_get_within roles first.at first.first first.is_there))
@@ -207,13 +207,13 @@ module _ (g : Given) (start : Recording) (limits : Limits) (capacity : ℕ) (lat
   pub has_after : HaveAllRoles start.limits after
   has_after who actor = role_kept roles after who whos (has who actor)
 
-  actors : (xs : List Role) → AllByRecursion (λ (r : Role). IsOf g start.limits start.capacity start.history (own r.who start.history) r) xs → AreActors start.limits xs
+  actors : (xs : List Role) → AllByRecursion (λ (r : Role). IsOf g start.limits start.capacity start.history (own r.who start.history) r) xs → AreBy (IsActor start.limits) xs
   actors [] of = tt
   actors (r ∷ xs) of = (of.0.actor, actors xs of.1)
 
-  more : Follows start.limits start.history later
-  more = played_follows g start.limits start.capacity (scene start.history (map awake roles)) (scene later after)
-      (same_actors start.limits roles (map awake roles) (same_whos roles) (actors roles (recursion_from_All (λ (r : Role). IsOf g start.limits start.capacity start.history (own r.who start.history) r) roles all_before.of))) played
+  more : Follows (IsActor start.limits) start.history later
+  more = played_follows (IsActor start.limits) g start.limits start.capacity (scene start.history (map awake roles)) (scene later after)
+      (same_actors (IsActor start.limits) roles (map awake roles) (same_whos roles) (actors roles (recursion_from_All (λ (r : Role). IsOf g start.limits start.capacity start.history (own r.who start.history) r) roles all_before.of))) played
 
   whole : (who : Who) → IsActor start.limits who → Whole g start.limits start.capacity later who (own who later)
   whole who actor = whole_by g start.limits start.capacity later after who all_there ended (has_after who actor)

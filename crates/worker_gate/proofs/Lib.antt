@@ -8,5 +8,8 @@ pub mod Playing
 pub mod Tellings
 pub mod Ending
 pub mod Back
+pub mod Crewing
+pub mod Opened
 mod Quiet
-mod SettingUp
+pub mod Alone
+pub mod SettingUp

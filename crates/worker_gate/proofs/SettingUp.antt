@@ -31,7 +31,7 @@ use Rattle.worker_gate.specs.Roles.{due_of, due_or, ended_turn, ends, is_last_tu
 use Rattle.worker_gate.specs.Rounds.{begins_wait, scene, ArePlayed, IsSameMachine, NeverWaits, PlaysAlone}
 use Rattle.worker_gate.specs.Runs.{is_over_in}
 use Rattle.worker_gate.specs.Walks.{comes_to}
-use Rattle.worker_gate.proofs.Playing.{played_more, turned_is}
+use Rattle.worker_gate.proofs.Playing.{legal_turned, played_more, turned_is, turned_who}
 use Rattle.worker_gate.proofs.Quiet.{is_quiet, step_quiet, waits_quiet, IsQuiet}
 use Rattle.worker_gate.proofs.Turning.{legal_front, still_going}
 use Rattle.worker_gate.proofs.Walking.{stage_is, waits_is}
@@ -160,9 +160,11 @@ module _ (g : Given) where
     pub played : ArePlayed g start.limits start.capacity (scene start.history (first ∷ [])) (scene now.history (r ∷ []))
     pub of : IsOf g now.limits now.capacity now.history (own r.who now.history) r
     pub alone : PlaysAlone g r
+    pub legal : IsLegal start.limits start.capacity start.history → IsLegal now.limits now.capacity now.history
+    pub who : r.who ≡ first.who
 
   pub alone_begins : (start : Recording) (r : Role) → IsOf g start.limits start.capacity start.history (own r.who start.history) r → PlaysAlone g r → AloneSoFar start start r r
-  alone_begins start r of alone = record { same = record { limits = refl; capacity = refl }; played = (0, refl); of = of; alone = alone }
+  alone_begins start r of alone = record { same = record { limits = refl; capacity = refl }; played = (0, refl); of = of; alone = alone; legal = λ legal. legal; who = refl }
 
   module _ (start now last : Recording) (first r q : Role) (so : AloneSoFar start now first r) (role_is : q ≡ (turned g now.limits now.capacity now.history r).role)
       (book_is : last ≡ record now { history = (turned g now.limits now.capacity now.history r).history }) where
@@ -177,12 +179,18 @@ module _ (g : Given) where
             (next ∙ (ap (λ (l : Limits). let t = turned g l now.capacity now.history r in scene t.history (t.role ∷ [])) so.same.limits
             ∙ ap (λ (n : ℕ). let t = turned g start.limits n now.history r in scene t.history (t.role ∷ [])) so.same.capacity))
 
+    pub alone_legal : IsLegal start.limits start.capacity start.history → IsLegal last.limits last.capacity last.history
+    alone_legal legal = subst (λ (n : Recording). IsLegal n.limits n.capacity n.history) (sym book_is) (legal_turned g now.limits now.capacity now.history r (so.legal legal))
+
+    pub alone_who : q.who ≡ first.who
+    alone_who = ap (λ (x : Role). x.who) role_is ∙ (turned_who g now.limits now.capacity now.history r ∙ so.who)
+
     module _ (turn : Turn) (turn_is : turn ≡ (turned g now.limits now.capacity now.history r).turn) (more : is_last_turn turn ≡ false) (legal : IsLegal last.limits last.capacity last.history) where
       less : LeavesLess g now.limits now.capacity now.history r (turned g now.limits now.capacity now.history r).history (turned g now.limits now.capacity now.history r).role
       less = alone_turned g now.limits now.capacity now.history r so.of so.alone (sym (ap is_last_turn turn_is) ∙ more) (subst (λ (n : Recording). IsLegal n.limits n.capacity n.history) book_is legal)
 
       pub alone_goes_on : IsOf g last.limits last.capacity last.history (own q.who last.history) q → AloneSoFar start last first q
-      alone_goes_on of = record { same = alone_same; played = alone_played; of = of; alone = subst (PlaysAlone g) (sym role_is) less.0 }
+      alone_goes_on of = record { same = alone_same; played = alone_played; of = of; alone = subst (PlaysAlone g) (sym role_is) less.0; legal = alone_legal; who = alone_who }
 
       pub alone_less : spare_of last q < spare_of now r
       alone_less =

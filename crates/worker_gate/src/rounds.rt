@@ -28,6 +28,8 @@ pub fn set_up<B: Recorded, R: Routines, G: Gate>(
     ensures same { IsSameMachine (B.recording book.old) (B.recording book.new) }
     ensures played { ArePlayed (given R.next_of R.after_of routines.now) (B.recording book.old).limits (B.recording book.old).capacity (scene (B.recording book.old).history (role.old ∷ [])) (scene (B.recording book.new).history (role.new ∷ [])) }
     ensures of { IsOf (given R.next_of R.after_of routines.now) (B.recording book.new).limits (B.recording book.new).capacity (B.recording book.new).history (own role.new.who (B.recording book.new).history) role.new }
+    ensures legal { IsLegal (B.recording book.old).limits (B.recording book.old).capacity (B.recording book.old).history → IsLegal (B.recording book.new).limits (B.recording book.new).capacity (B.recording book.new).history }
+    ensures who { role.new.who ≡ role.old.who }
     ensures ended { role.new.ended ≡ true }
 {
     loop {
