@@ -13,3 +13,4 @@ pub mod Opened
 mod Quiet
 pub mod Alone
 pub mod SettingUp
+pub mod OnOne
