@@ -10,5 +10,7 @@ pub mod Ending
 pub mod Back
 pub mod Crewing
 pub mod Opened
+mod Quiet
 pub mod Alone
 pub mod SettingUp
+pub mod OnOne

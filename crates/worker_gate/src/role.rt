@@ -2,6 +2,7 @@
 
 ghost use Rattle.std.specs.Prelude.{◌≡◌, ℕ, ◌≤◌, Bool, false, IfSome, [], List, length};
 ghost use Rattle.tp_base.specs.Ranges.{IsCallInRange};
+ghost use Rattle.tp_model.specs.History.{IsLegal};
 ghost use Rattle.tp_script.specs.Calls.{IsOfPart};
 ghost use Rattle.recorded.specs.Recordings.{is_over_behind};
 ghost use Rattle.turn_lock.specs.Histories.{actor_of, own};
@@ -121,6 +122,7 @@ impl Role {
         ensures book { B.recording book.new ≡ record (B.recording book.old) { history = (turned (given R.next_of R.after_of routines.now) (B.recording book.old).limits (B.recording book.old).capacity (B.recording book.old).history self.old).history } }
         ensures turn { result ≡ (turned (given R.next_of R.after_of routines.now) (B.recording book.old).limits (B.recording book.old).capacity (B.recording book.old).history self.old).turn }
         ensures of { IsOf (given R.next_of R.after_of routines.now) (B.recording book.new).limits (B.recording book.new).capacity (B.recording book.new).history (own (who_of self.new) (B.recording book.new).history) self.new }
+        ensures legal { is_last_turn result ≡ false → IsLegal (B.recording book.new).limits (B.recording book.new).capacity (B.recording book.new).history }
     {
         if self.ends(book) {
             self.ended = true;

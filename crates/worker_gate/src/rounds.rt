@@ -8,7 +8,7 @@ ghost use Rattle.worker_gate.specs.Places.{given};
 ghost use Rattle.worker_gate.specs.Roles.{IsOf};
 ghost use Rattle.worker_gate.specs.Rounds.{awake, round_of, scene, AllOf, ArePlayed, EndedWell, HasPlayed, HasRole, HaveEnded, IsSameMachine, PlaysAlone};
 
-use crate::role::{Gate, Role, Turn};
+use crate::role::{Gate, Role};
 use recorded::Recorded;
 use std::sync::Wait;
 use tp_base::ids::Who;
@@ -24,19 +24,17 @@ pub fn set_up<B: Recorded, R: Routines, G: Gate>(
     gate: &G,
 )
     requires of { IsOf (given R.next_of R.after_of routines.now) (B.recording book.old).limits (B.recording book.old).capacity (B.recording book.old).history (own role.old.who (B.recording book.old).history) role.old }
-    requires legal { IsLegal (B.recording book.old).limits (B.recording book.old).capacity (B.recording book.old).history }
     requires alone { PlaysAlone (given R.next_of R.after_of routines.now) role.old }
     ensures same { IsSameMachine (B.recording book.old) (B.recording book.new) }
     ensures played { ArePlayed (given R.next_of R.after_of routines.now) (B.recording book.old).limits (B.recording book.old).capacity (scene (B.recording book.old).history (role.old ∷ [])) (scene (B.recording book.new).history (role.new ∷ [])) }
     ensures of { IsOf (given R.next_of R.after_of routines.now) (B.recording book.new).limits (B.recording book.new).capacity (B.recording book.new).history (own role.new.who (B.recording book.new).history) role.new }
-    ensures legal { IsLegal (B.recording book.new).limits (B.recording book.new).capacity (B.recording book.new).history }
+    ensures legal { IsLegal (B.recording book.old).limits (B.recording book.old).capacity (B.recording book.old).history → IsLegal (B.recording book.new).limits (B.recording book.new).capacity (B.recording book.new).history }
     ensures who { role.new.who ≡ role.old.who }
     ensures ended { role.new.ended ≡ true }
 {
     loop {
-        match role.turn(book, routines, gate) {
-            Turn::Moved | Turn::Waiting => {}
-            Turn::Ended => return,
+        if role.turn(book, routines, gate).is_last() {
+            return;
         }
     }
 }
