@@ -9,7 +9,9 @@ use std::alloc::Global;
 use std::process::Abort;
 use std::sync::atomic::{AtomicU64, Ordering};
 use tp_script::{Script, parse_script};
-use worker_gate::{Actor, Gate, Role, close_run, finish, play_alone, play_crews, set_up, tell_all};
+use worker_gate::{
+    Actor, Gate, Role, close_run, finish, play_alone, play_crews, play_routines, set_up, tell_all,
+};
 
 const SCRIPT: &[u8; 78] = b"work w r
 routine r
@@ -52,7 +54,12 @@ fn roles_play_to_their_end(rt: HostRuntime) {
         &rt,
         Vec::from_array(
             rt.alloc(),
-            [Role::client(2), Role::client(3), Role::worker(1), Role::worker(2)],
+            [
+                Role::client(2),
+                Role::client(3),
+                Role::worker(1),
+                Role::worker(2),
+            ],
         ),
     );
     play_alone(&rt, &mut book, &mut roles, &script, &gate);
@@ -99,14 +106,57 @@ fn crews_play_to_their_end(rt: HostRuntime) {
             expect_ok(&rt, actors.push(actor));
         }
     }
-    let book = expect_ok(
+    let run = expect_ok(
         &rt,
         close_run(&rt, rt.alloc(), pool, actors, &script, &gate),
     );
+    let book = run.book;
     expect_eq(
         &rt,
         (book.is_over(), gate.callbacks.load(Ordering::SeqCst)),
         (true, 2),
     );
     expect_eq(&rt, book.len() >= 13, true);
+}
+
+#[test]
+fn routines_play_to_their_end(rt: HostRuntime) {
+    let script = script(&rt, rt.alloc());
+    for threads in [1, 3] {
+        let gate = Counted {
+            callbacks: AtomicU64::new(0),
+        };
+        let run = expect_ok(
+            &rt,
+            play_routines::<_, Book, _, _>(
+                &rt,
+                rt.alloc(),
+                &script,
+                program_limits(3, 2),
+                64,
+                threads,
+                &gate,
+            ),
+        );
+        expect_eq(
+            &rt,
+            (run.book.is_over(), gate.callbacks.load(Ordering::SeqCst)),
+            (true, 2),
+        );
+        expect_eq(&rt, run.cut, false);
+        // With room for three entries no part is played whole.
+        let short = expect_ok(
+            &rt,
+            play_routines::<_, Book, _, _>(
+                &rt,
+                rt.alloc(),
+                &script,
+                program_limits(3, 2),
+                3,
+                threads,
+                &gate,
+            ),
+        );
+        expect_eq(&rt, (short.book.is_over(), short.cut), (true, true));
+    }
 }

@@ -122,7 +122,7 @@ module _ {B : Type 0} where
     of_stayed : (told : Outcome) (numbered : 0 < b.number) → HasLookedFor due told a b → IsAt g (setup_in b) (seen_of b ++ []) (mine_of a ++ []) (took g r due told) → IsOfSeat g b (took g r due told)
     of_stayed told numbered h kept =
         subst (λ (s : List Entry). IsAt g (setup_in b) s (mine_of b) (took g r due told)) (append-nil (seen_of b)) (
-          subst (λ (m : List Entry). IsAt g (setup_in b) (seen_of b ++ []) m (took g r due told)) (append-nil (mine_of a) ∙ sym h.mine) kept)
+        subst (λ (m : List Entry). IsAt g (setup_in b) (seen_of b ++ []) m (took g r due told)) (append-nil (mine_of a) ∙ sym h.mine) kept)
 
     -- and so, whatever it came to
     pub of_ended : (told : Outcome) (numbered : 0 < b.number) → HasEnded due told a b → IsOfSeat g b (took g r due told)

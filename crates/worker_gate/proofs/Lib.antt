@@ -4,3 +4,4 @@ pub mod RoleFacts
 mod Stepping
 pub mod Turning
 pub mod Walking
+pub mod Playing

@@ -5,16 +5,34 @@ use Rattle.tp_base.specs.declared.ids.Who.{Who}
 use Rattle.tp_base.specs.declared.ids.Who.TheVariants.{Client}
 use Rattle.tp_base.specs.declared.limits.Limits.{Limits}
 use Rattle.tp_model.specs.Stages.{is_in_part, IsActor}
-use Rattle.turn_lock.specs.Histories.{own, StartsWith}
-use Rattle.turn_lock.specs.Seats.{actor_in, mine_of, seen_of, setup_in, Same}
+use Rattle.turn_lock.specs.declared.seats.Seat.{Seat}
+use Rattle.turn_lock.specs.Histories.{actor_of, own, StartsWith}
+use Rattle.turn_lock.specs.Seats.{actor_in, mine_of, number_of, seen_of, setup_in, Same}
 use Rattle.shared_pool.specs.declared.pool.SharedPool.{SharedPool}
 use Rattle.shared_pool.specs.Pools.{pool_setup, setup_at, HaveAll}
 use Rattle.worker_gate.specs.declared.actor.Actor.{Actor}
 use Rattle.worker_gate.specs.declared.role.Role.{Role}
-use Rattle.worker_gate.specs.Acting.{seat_in, GoesOn, IsReady}
+use Rattle.worker_gate.specs.Acting.{role_in, seat_in, GoesOn, IsReady}
 use Rattle.worker_gate.specs.Places.{Given}
+use Rattle.worker_gate.specs.Roles.{new_role}
 
 module _ {B : Type 0} where
+  -- ---- the actors of a new pool
+
+  -- each seat is one of a machine of these limits, and has made no call
+  pub record IsUnplayed (limits : Limits) (seat : Seat B) : Type 0 where
+    pub limits_are : (setup_in seat).limits ≡ limits
+    pub numbered : 0 < number_of seat
+    pub mine : mine_of seat ≡ []
+
+  abbrev pub AreNew : Limits → List (Seat B) → Type 0
+  AreNew limits seats = All (IsUnplayed limits) seats
+
+  -- the seats in their order, each with the role of its actor, which has made no call
+  pub record AreSeated (limits : Limits) (seats : List (Seat B)) (actors : List (Actor B)) : Type 0 where
+    pub seats_are : map seat_in actors ≡ seats
+    pub roles_are : map role_in actors ≡ map (λ (seat : Seat B). new_role (actor_of limits (number_of seat))) seats
+
   -- ---- what client 1 has told the others
 
   -- another actor has seen all that the first one had, and knows its own entries of that
@@ -59,6 +77,10 @@ module _ {B : Type 0} where
     pub ready : All (IsReady g pool) actors
     pub all : HaveAll pool (map seat_in actors)
     pub once : (i j : ℕ) (a b : Actor B) → slice_get actors i ≡ Some a → slice_get actors j ≡ Some b → a.role.who ≡ b.role.who → i ≡ j
+
+-- a part of the role was cut
+abbrev pub IsCutIn : Role → Type 0
+IsCutIn r = r.place.cut ≡ true
 
 -- the same of the history and the roles
 pub record IsFirstPlayed (limits : Limits) (history : List Entry) (roles : List Role) : Type 0 where

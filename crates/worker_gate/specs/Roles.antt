@@ -99,6 +99,10 @@ turn_by (outcome.Done answer) = Moved
 turn_by (outcome.Look look) = Waiting
 turn_by (outcome.Full room cost) = Waiting
 
+abbrev pub is_last_turn : Turn → Bool
+is_last_turn Ended = true
+is_last_turn _ = false
+
 -- whether an actor at a stage ends: a client that has finished, and a worker that runs nothing where all is over
 abbrev pub ends_at : Stage → Bool → Bool
 ends_at stage.Playing is_over = false

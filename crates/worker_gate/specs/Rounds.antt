@@ -1,5 +1,5 @@
 -- Rounds: turns of roles, one after another, on a machine of their own.
-use Rattle.std.specs.Prelude.{◌≡◌, ℕ, zero, suc, ◌<◌, Bool, true, false, List, [], ◌∷◌, ◌⊎◌, map, length, slice_get, Some, Option, IfSome, All, Any}
+use Rattle.std.specs.Prelude.{◌≡◌, ℕ, zero, suc, ◌+◌, ◌-◌, ◌<◌, Bool, true, false, List, [], ◌∷◌, ◌++◌, ◌⊎◌, map, length, slice_get, Some, Option, IfSome, All, Any}
 use Rattle.std.specs.List.{fold}
 use Rattle.tp_base.specs.declared.answers.Answer.{Answer}
 use Rattle.tp_base.specs.declared.answers.Entry.{Entry}
@@ -9,15 +9,15 @@ use Rattle.tp_base.specs.declared.ids.Who.{Who}
 use Rattle.tp_base.specs.declared.ids.Who.TheVariants.{Client, Worker}
 use Rattle.tp_base.specs.declared.limits.Limits.{Limits}
 use Rattle.tp_base.specs.declared.plans.Stage.TheVariants as stage
-use Rattle.tp_model.specs.Stages.{stage_of, IsActor}
+use Rattle.tp_model.specs.Stages.{IsActor}
 use Rattle.tp_script.specs.declared.routines.Part.{Part}
 use Rattle.tp_script.specs.declared.routines.Part.TheVariants as part
 use Rattle.tp_script.specs.declared.routines.Progress.{Progress}
 use Rattle.recorded.specs.Recordings.{Recording}
-use Rattle.turn_lock.specs.Histories.{own}
+use Rattle.turn_lock.specs.Histories.{actor_of, own}
 use Rattle.worker_gate.specs.declared.role.Role.{Role}
 use Rattle.worker_gate.specs.Places.{Given}
-use Rattle.worker_gate.specs.Roles.{turned, IsOf}
+use Rattle.worker_gate.specs.Roles.{new_role, turned, IsOf}
 use Rattle.worker_gate.specs.Runs.{is_over_in}
 
 pub record Scene : Type 0 where
@@ -69,12 +69,7 @@ HaveEnded roles = All (λ (r : Role). r.ended ≡ true) roles
 abbrev pub HasRole : List Role → Who → Type 0
 HasRole roles who = Any (λ (r : Role). r.who ≡ who) roles
 
--- there is a role of each worker, and of each client that hasn't finished
-pub record Covers (limits : Limits) (history : List Entry) (roles : List Role) : Type 0 where
-  pub workers : (number : ℕ) → IsActor limits (Worker number) → HasRole roles (Worker number)
-  pub clients : (number : ℕ) → IsActor limits (Client number) → stage_of (Client number) history ≡ stage.Playing → HasRole roles (Client number)
-
--- and of each actor of the machine
+-- there is a role of each actor of the machine
 abbrev pub HaveAllRoles : Limits → List Role → Type 0
 HaveAllRoles limits roles = (who : Who) → IsActor limits who → HasRole roles who
 
@@ -82,6 +77,27 @@ HaveAllRoles limits roles = (who : Who) → IsActor limits who → HasRole roles
 pub record IsSameMachine (old new : Recording) : Type 0 where
   pub limits : new.limits ≡ old.limits
   pub capacity : new.capacity ≡ old.capacity
+
+-- ---- all on one thread
+
+-- so many new roles, of the actors from number 2 on
+abbrev pub others_to : Limits → ℕ → List Role
+others_to limits zero = []
+others_to limits (suc n) = others_to limits n ++ new_role (actor_of limits (n + 2)) ∷ []
+
+-- those of all actors but client 1: first the clients, then the workers
+abbrev pub others_of : Limits → List Role
+others_of limits = others_to limits (limits.clients + limits.workers - 1)
+
+-- client 1 has turns until it has ended, and then each of the others has one in each round, until all have ended
+pub record IsAlone (g : Given) (limits : Limits) (capacity : ℕ) (history : List Entry) : Type 0 where
+  pub first : Role
+  pub front : List Entry
+  pub begins : ArePlayed g limits capacity (scene [] (new_role (Client 1) ∷ [])) (scene front (first ∷ []))
+  pub first_ended : first.ended ≡ true
+  pub roles : List Role
+  pub goes_on : ArePlayed g limits capacity (scene front (others_of limits)) (scene history roles)
+  pub all_ended : HaveEnded roles
 
 -- ---- a part without waits
 

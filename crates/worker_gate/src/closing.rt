@@ -1,12 +1,12 @@
 //! All actors come back, and what is left is played.
 
-ghost use Rattle.std.specs.Prelude.{◌≡◌, map, IfOk};
-ghost use Rattle.turn_lock.specs.Histories.{own};
+ghost use Rattle.std.specs.Prelude.{◌≡◌, ◌≤◌, ◌↔◌, true, map, Any, IfOk};
 ghost use Rattle.worker_gate.specs.Acting.{role_in, seat_in};
-ghost use Rattle.worker_gate.specs.Closing.{AllBack, FirstTold, IsFirstPlayed};
+ghost use Rattle.worker_gate.specs.Closing.{AllBack, FirstTold, IsCutIn, IsFirstPlayed};
 ghost use Rattle.worker_gate.specs.Places.{given};
-ghost use Rattle.worker_gate.specs.Rounds.{AllOf, HaveAllRoles};
-ghost use Rattle.worker_gate.specs.Runs.{AreKnown, Runs};
+ghost use Rattle.worker_gate.specs.Rounds.{AllOf, HasPlayed, HaveAllRoles, HaveEnded, IsSameMachine};
+ghost use Rattle.worker_gate.specs.Runs.{AreKnown, IsCutShort, Runs};
+ghost use Rattle.tp_model.specs.History.{IsLegal};
 ghost use Rattle.shared_pool.specs.Pools.{setup_at};
 
 use crate::actor::Actor;
@@ -18,6 +18,16 @@ use std::alloc::{AllocError, Global};
 use std::sync::Wait;
 use tp_script::Routines;
 use turn_lock::Seat;
+
+/// A machine on which routines were played to their end.
+#[derive(Drop)]
+pub struct Run<B> {
+    /// The machine, with the history.
+    pub book: B,
+    /// Whether the calls of a client or of a callback were cut short, since the history had no room for
+    /// the next one.
+    pub cut: bool,
+}
 
 /// Closes a pool whose actors have all come back, plays what they still have to do, and gives the
 /// machine: its history is a run of these routines.
@@ -32,15 +42,25 @@ pub fn close_run<Rt: Wait, B: Recorded, R: Routines, G: Gate>(
     actors: Vec<Actor<B>>,
     routines: &R,
     gate: &G,
-) -> Result<B, AllocError>
+) -> Result<Run<B>, AllocError>
     requires back { AllBack (given R.next_of R.after_of routines.now) pool actors.items }
     requires first { FirstTold (setup_at pool).limits actors.items }
-    ensures { IfOk result (λ book. Runs (given R.next_of R.after_of routines.now) (B.recording book).limits (B.recording book).capacity (B.recording book).history) }
+    ensures limits { IfOk result (λ run. (B.recording run.book).limits ≡ (setup_at pool).limits) }
+    ensures capacity { IfOk result (λ run. (B.recording run.book).capacity ≡ (setup_at pool).capacity) }
+    ensures runs { IfOk result (λ run. Runs (given R.next_of R.after_of routines.now) (B.recording run.book).limits (B.recording run.book).capacity (B.recording run.book).history) }
+    ensures cut { IfOk result (λ run. (run.cut ≡ true) ↔ IsCutShort (given R.next_of R.after_of routines.now) (B.recording run.book).limits (B.recording run.book).history) }
 {
     let (seats, mut roles) = apart(alloc, actors)?;
     let mut book = pool.close(seats);
-    end_run(rt, &mut book, &mut roles, routines, gate);
-    Ok(book)
+    let cut = end_run(rt, &mut book, &mut roles, routines, gate);
+    Ok(Run { book, cut })
+}
+
+// Whether one of them is cut.
+fn any_cut(roles: &Vec<Role>) -> bool
+    ensures { (result ≡ true) ↔ Any IsCutIn roles.now.items }
+{
+    roles.iter().any(Role::is_cut)
 }
 
 // The seats and the roles of actors, in their order.
@@ -58,19 +78,26 @@ fn apart<B>(alloc: Global, actors: Vec<Actor<B>>) -> Result<(Vec<Seat<B>>, Vec<R
     Ok((seats, roles))
 }
 
-// Plays what is left to do on the machine, until all is over.
-fn end_run<Rt: Wait, B: Recorded, R: Routines, G: Gate>(
+// Plays what is left to do on the machine, until all is over. Whether a role is cut then.
+pub(crate) fn end_run<Rt: Wait, B: Recorded, R: Routines, G: Gate>(
     rt: &Rt,
     book: &mut B,
     roles: &mut Vec<Role>,
     routines: &R,
     gate: &G,
-)
+) -> bool
     requires all { AllOf (given R.next_of R.after_of routines.now) (B.recording book.old).limits (B.recording book.old).capacity (B.recording book.old).history roles.old.items }
     requires covers { HaveAllRoles (B.recording book.old).limits roles.old.items }
+    requires legal { IsLegal (B.recording book.old).limits (B.recording book.old).capacity (B.recording book.old).history }
+    requires worker { 1 ≤ (B.recording book.old).limits.workers }
     requires known { AreKnown (B.recording book.old).limits (B.recording book.old).history }
     requires first { IsFirstPlayed (B.recording book.old).limits (B.recording book.old).history roles.old.items }
-    ensures { Runs (given R.next_of R.after_of routines.now) (B.recording book.new).limits (B.recording book.new).capacity (B.recording book.new).history }
+    ensures same { IsSameMachine (B.recording book.old) (B.recording book.new) }
+    ensures played { HasPlayed (given R.next_of R.after_of routines.now) (B.recording book.old).limits (B.recording book.old).capacity (B.recording book.old).history roles.old.items (B.recording book.new).history roles.new.items }
+    ensures ended { HaveEnded roles.new.items }
+    ensures runs { Runs (given R.next_of R.after_of routines.now) (B.recording book.new).limits (B.recording book.new).capacity (B.recording book.new).history }
+    ensures cut { (result ≡ true) ↔ IsCutShort (given R.next_of R.after_of routines.now) (B.recording book.new).limits (B.recording book.new).history }
 {
     play_alone(rt, book, roles, routines, gate);
+    any_cut(roles)
 }

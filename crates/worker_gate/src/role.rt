@@ -4,15 +4,16 @@ ghost use Rattle.std.specs.Prelude.{◌≡◌, ℕ, ◌≤◌, Bool, false, IfSo
 ghost use Rattle.tp_base.specs.Ranges.{IsCallInRange};
 ghost use Rattle.tp_script.specs.Calls.{IsOfPart};
 ghost use Rattle.recorded.specs.Recordings.{is_over_behind};
-ghost use Rattle.turn_lock.specs.Histories.{own};
+ghost use Rattle.turn_lock.specs.Histories.{actor_of, own};
 ghost use Rattle.worker_gate.specs.Places.{given, next_call};
-ghost use Rattle.worker_gate.specs.Roles.{due_at, due_of, due_or, ends, ends_at, is_idle_take, new_role, took, turn_by, turned, who_of, IsOf};
+ghost use Rattle.worker_gate.specs.Roles.{due_at, due_of, due_or, ends, ends_at, is_idle_take, is_last_turn, new_role, took, turn_by, turned, who_of, IsOf};
 
 use crate::place::Place;
 use recorded::Recorded;
 use tp_base::answers::{Answer, Outcome};
 use tp_base::calls::Call;
 use tp_base::ids::Who;
+use tp_base::limits::Limits;
 use tp_base::plans::Stage;
 use tp_script::Routines;
 
@@ -32,6 +33,15 @@ pub enum Turn {
     Waiting,
     /// The actor makes no further call.
     Ended,
+}
+
+impl Turn {
+    // Whether the actor has ended.
+    pub(crate) fn is_last(self) -> bool
+        ensures { result ≡ is_last_turn self }
+    {
+        matches!(self, Turn::Ended)
+    }
 }
 
 /// What one actor does next. It stands for the entries that its actor has made.
@@ -61,6 +71,18 @@ impl Role {
         Role::new(Who::Worker(number))
     }
 
+    // The role of the actor of a number: first come the clients, then the workers.
+    pub(crate) fn numbered(limits: Limits, number: u32) -> Role
+        requires { 1 ≤ number }
+        ensures { result ≡ new_role (actor_of limits number) }
+    {
+        if number <= limits.clients {
+            Role::client(number)
+        } else {
+            Role::worker(number - limits.clients)
+        }
+    }
+
     fn new(who: Who) -> Role
         ensures { result ≡ new_role who }
     {
@@ -70,6 +92,13 @@ impl Role {
             marked: false,
             ended: false,
         }
+    }
+
+    /// Whether it has ended a part before the part's last call, since the history had no room for that.
+    pub fn is_cut(&self) -> bool
+        ensures { result ≡ self.now.place.cut }
+    {
+        self.place.cut
     }
 
     /// Plays one turn on a machine.

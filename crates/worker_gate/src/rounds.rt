@@ -2,14 +2,16 @@
 
 ghost use Rattle.std.specs.Prelude.{◌≡◌, true, [], ◌∷◌, map, IsTrue};
 ghost use Rattle.recorded.specs.Recordings.{is_over_behind};
+ghost use Rattle.tp_model.specs.History.{IsLegal};
 ghost use Rattle.turn_lock.specs.Histories.{own};
 ghost use Rattle.worker_gate.specs.Places.{given};
 ghost use Rattle.worker_gate.specs.Roles.{IsOf};
-ghost use Rattle.worker_gate.specs.Rounds.{awake, round_of, scene, AllOf, ArePlayed, Covers, EndedWell, HasPlayed, HaveEnded, IsSameMachine, PlaysAlone};
+ghost use Rattle.worker_gate.specs.Rounds.{awake, round_of, scene, AllOf, ArePlayed, EndedWell, HasPlayed, HasRole, HaveEnded, IsSameMachine, PlaysAlone};
 
 use crate::role::{Gate, Role, Turn};
 use recorded::Recorded;
 use std::sync::Wait;
+use tp_base::ids::Who;
 use tp_script::Routines;
 
 /// Plays the role of a client to its end on a machine of its own, as one whose part waits for nothing.
@@ -48,7 +50,8 @@ pub fn play_alone<Rt: Wait, B: Recorded, R: Routines, G: Gate>(
     gate: &G,
 )
     requires all { AllOf (given R.next_of R.after_of routines.now) (B.recording book.old).limits (B.recording book.old).capacity (B.recording book.old).history roles.old.items }
-    requires covers { Covers (B.recording book.old).limits (B.recording book.old).history roles.old.items }
+    requires legal { IsLegal (B.recording book.old).limits (B.recording book.old).capacity (B.recording book.old).history }
+    requires worker { HasRole roles.old.items (Who.Worker 1) }
     ensures same { IsSameMachine (B.recording book.old) (B.recording book.new) }
     ensures played { HasPlayed (given R.next_of R.after_of routines.now) (B.recording book.old).limits (B.recording book.old).capacity (B.recording book.old).history roles.old.items (B.recording book.new).history roles.new.items }
     ensures all { AllOf (given R.next_of R.after_of routines.now) (B.recording book.new).limits (B.recording book.new).capacity (B.recording book.new).history roles.new.items }
@@ -80,19 +83,19 @@ fn play_one<B: Recorded, R: Routines, G: Gate>(
     gate: &G,
 ) -> bool
     requires all { AllOf (given R.next_of R.after_of routines.now) (B.recording book.old).limits (B.recording book.old).capacity (B.recording book.old).history roles.old.items }
+    requires legal { IsLegal (B.recording book.old).limits (B.recording book.old).capacity (B.recording book.old).history }
     requires ended { EndedWell (B.recording book.old).limits (B.recording book.old).capacity (B.recording book.old).history roles.old.items }
     ensures same { IsSameMachine (B.recording book.old) (B.recording book.new) }
     ensures played { scene (B.recording book.new).history roles.new.items ≡ round_of (given R.next_of R.after_of routines.now) (B.recording book.old).limits (B.recording book.old).capacity (B.recording book.old).history roles.old.items }
     ensures all { AllOf (given R.next_of R.after_of routines.now) (B.recording book.new).limits (B.recording book.new).capacity (B.recording book.new).history roles.new.items }
+    ensures legal { IsLegal (B.recording book.new).limits (B.recording book.new).capacity (B.recording book.new).history }
     ensures ended { EndedWell (B.recording book.new).limits (B.recording book.new).capacity (B.recording book.new).history roles.new.items }
     ensures over { IsTrue result → HaveEnded roles.new.items }
 {
     let mut all_ended = true;
     for place in 0..roles.len() {
-        match roles[place].turn(book, routines, gate) {
-            Turn::Moved | Turn::Waiting => all_ended = false,
-            Turn::Ended => {}
-        }
+        let turn = roles[place].turn(book, routines, gate);
+        all_ended = all_ended && turn.is_last();
     }
     all_ended
 }

@@ -9,7 +9,7 @@ use Rattle.worker_gate.proofs.actor.Actor.plays.Goals as goal
 pub returns-clause-ready : goal.returns-clause-ready
 returns-clause-ready g c =
     let tells : Tells c.try_call.result c.match-try_call.outcome = elim c.match-try_call.branch [
-        in-Done w ↦ subst (λ (t : Tried). Tells t c.match-try_call.outcome) (sym w.in-Done.is) w.outcome-is
+      | in-Done w ↦ subst (λ (t : Tried). Tells t c.match-try_call.outcome) (sym w.in-Done.is) w.outcome-is
       | in-Look w ↦ subst (λ (t : Tried). Tells t c.match-try_call.outcome) (sym w.in-Look.is) w.outcome-is
       | in-Full w ↦ subst (λ (t : Tried). Tells t c.match-try_call.outcome) (sym w.in-Full.is) w.outcome-is
     ] in
@@ -19,7 +19,7 @@ returns-clause-ready g c =
 pub returns-clause-goes_on : goal.returns-clause-goes_on
 returns-clause-goes_on g c =
     let tells : Tells c.try_call.result c.match-try_call.outcome = elim c.match-try_call.branch [
-        in-Done w ↦ subst (λ (t : Tried). Tells t c.match-try_call.outcome) (sym w.in-Done.is) w.outcome-is
+      | in-Done w ↦ subst (λ (t : Tried). Tells t c.match-try_call.outcome) (sym w.in-Done.is) w.outcome-is
       | in-Look w ↦ subst (λ (t : Tried). Tells t c.match-try_call.outcome) (sym w.in-Look.is) w.outcome-is
       | in-Full w ↦ subst (λ (t : Tried). Tells t c.match-try_call.outcome) (sym w.in-Full.is) w.outcome-is
     ] in
@@ -29,7 +29,7 @@ returns-clause-goes_on g c =
 pub returns-clause-said : goal.returns-clause-said
 returns-clause-said g c =
     let tells : Tells c.try_call.result c.match-try_call.outcome = elim c.match-try_call.branch [
-        in-Done w ↦ subst (λ (t : Tried). Tells t c.match-try_call.outcome) (sym w.in-Done.is) w.outcome-is
+      | in-Done w ↦ subst (λ (t : Tried). Tells t c.match-try_call.outcome) (sym w.in-Done.is) w.outcome-is
       | in-Look w ↦ subst (λ (t : Tried). Tells t c.match-try_call.outcome) (sym w.in-Look.is) w.outcome-is
       | in-Full w ↦ subst (λ (t : Tried). Tells t c.match-try_call.outcome) (sym w.in-Full.is) w.outcome-is
     ] in
