@@ -27,6 +27,7 @@ find_cause() {
     local line=$1 column=$2 byte before rest cause
     rest=$(rest_of_line "$line" "$column" 60)
     case $command:$line:$column:$rest in
+    run:*) cause=$(find_in_script "$line" "$column") ;;
     trace:1:1:'history '*) cause='this is a history: ./tpool check reads it' ;;
     check:1:1:[cw][0-9]*) cause='this is a trace: ./tpool trace reads it, and ./tpool history makes a history of it' ;;
     *:*:*:[#\;]* | *:*:*:\ [#\;]* | *:*:*:'//'* | *:*:*:' //'* | *:*:*:'--'* | *:*:*:' --'*) cause='there are no comments' ;;
@@ -44,7 +45,12 @@ find_cause() {
 
 # The word that is meant by one that is none, if one is near.
 find_meant() {
-    rest_of_line "$1" 1 $(($2 + 99)) | LC_ALL=C awk -v column="$2" -f "$home/script/headings.awk" -f "$home/script/meant.awk" - "$pages" 2>/dev/null
+    rest_of_line "$1" 1 $(($2 + 99)) | LC_ALL=C awk -v column="$2" -f "$home/script/headings.awk" -f "$home/script/distance.awk" -f "$home/script/meant.awk" - "$pages" 2>/dev/null
+}
+
+# A likely cause of a fault in a script, from all of its lines.
+find_in_script() {
+    tail -c +$((start + 1)) /dev/stdin 2>/dev/null | LC_ALL=C awk -v line="$1" -v column="$2" -f "$home/script/distance.awk" -f "$home/script/scripts.awk"
 }
 
 # What a byte at a fault's place may mean, with the one before it and those from it on.

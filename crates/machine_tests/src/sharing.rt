@@ -1,13 +1,13 @@
 //! A pool that several threads share.
 
-ghost use Rattle.std.specs.Prelude.{◌≡◌, ◌∷◌, All};
-ghost use Rattle.shared_pool.specs.Pools.{HaveAll, IsPlayer, IsSeatOf};
+ghost use Rattle.std.specs.Prelude.{◌≡◌, ◌≤◌, ◌∷◌, All};
+ghost use Rattle.shared_pool.specs.Pools.{setup_at, HaveAll, IsPlayer, IsSeatOf};
 ghost use Rattle.turn_lock.specs.Seats.{number_of};
 
 use crate::expect::{expect_eq, expect_ok};
 use pool_book::Book;
 use recorded::{Recorded, program_limits};
-use shared_pool::{Over, SharedPool, Tried};
+use shared_pool::{NoticeList, Over, SharedPool, Told, Tried};
 use std::alloc::Global;
 use std::process::Abort;
 use std::snapshot::Snapshot;
@@ -15,8 +15,8 @@ use std::sync::Wait;
 use std::thread;
 use std::thread::{Promise, Threads};
 use tp_base::answers::{Answer, Outcome, Refusal};
-use tp_base::calls::Call;
-use tp_base::ids::GroupId;
+use tp_base::calls::{Call, Environ, Priority};
+use tp_base::ids::{GroupId, ObjectId, PoolId, RoutineId};
 use turn_lock::Seat;
 
 // How many calls each thread makes.
@@ -291,4 +291,56 @@ fn tell_and_read<B: Recorded + Send, Rt: Abort + Threads + Wait + Sync>(
 fn reads_back(rt: HostRuntime) {
     let read = tell_and_read::<Book, _>(&rt, rt.alloc());
     expect_eq(&rt, read, (1, true, false));
+}
+
+// Makes group 1 and two work objects in it, with contexts 5 and 6 and cancel routine 9, and closes the
+// group's members with context 7: whether the close has ended freely.
+fn close_two<B: Recorded, Rt: Wait>(
+    rt: &Rt,
+    pool: &SharedPool<B>,
+    seat: Seat<B>,
+    notices: &mut NoticeList,
+) -> bool
+    requires player { IsPlayer pool.now seat }
+    requires room { (setup_at pool.now).limits.objects ≤ notices.old.spare }
+{
+    let mut seat = seat;
+    let env = Environ {
+        pool: PoolId(0),
+        group: GroupId(1),
+        cancel: RoutineId(9),
+        priority: Priority::Normal,
+        long: false,
+    };
+    pool.create_group(&mut seat);
+    pool.create_work(&mut seat, RoutineId(1), 5, env);
+    pool.create_work(&mut seat, RoutineId(1), 6, env);
+    let closed = pool.close_members(rt, &mut seat, GroupId(1), true, 7, notices);
+    matches!(closed, Outcome::Done(Answer::Ended))
+}
+
+// What is told of an object that `close_two` makes.
+fn told_of(object: u32, context: u64) -> Option<Told> {
+    Some(Told {
+        object: ObjectId(object),
+        routine: RoutineId(9),
+        context,
+        cleanup: 7,
+    })
+}
+
+/// A close of a group's members tells of each member that has a cancel routine, in order, and once.
+#[test]
+fn notices_told(rt: HostRuntime) {
+    let limits = program_limits(1, 1);
+    let mut notices = expect_ok(&rt, NoticeList::open(rt.alloc(), limits.objects));
+    let (pool, mut seats) = expect_ok(&rt, SharedPool::<Book>::open(rt.alloc(), limits, 64));
+    let (client, worker) = take_two(&rt, &pool, &mut seats);
+    expect_eq(&rt, close_two(&rt, &pool, client, &mut notices), true);
+    expect_eq(&rt, notices.get(0), told_of(1, 5));
+    expect_eq(&rt, notices.get(1), told_of(2, 6));
+    expect_eq(&rt, notices.get(2), None);
+    drop(worker);
+    drop(seats);
+    drop(pool);
 }

@@ -18,6 +18,8 @@ mod checks;
 #[cfg(test)]
 mod columns;
 #[cfg(test)]
+mod drawn_scripts;
+#[cfg(test)]
 mod edge;
 #[cfg(test)]
 mod environments;

@@ -1,6 +1,7 @@
 //! Scripts: which texts are one, the place and kind of the first fault of the others, and the calls of their parts.
 
 use crate::checks::{expect_eq, expect_ok};
+use crate::drawn_scripts::DRAWN_SCRIPTS;
 use std::alloc::{AllocError, Global};
 use std::process::Abort;
 use tp_base::answers::Entry;
@@ -163,13 +164,112 @@ done
 --
 2 12 Unexpected
 pool p max 1 min 0
-pool q max 4294967296";
+pool q max 4294967296
+--
+1 clients
+
+--
+2 clients
+event e manual clear
+client
+acquire e
+done
+--
+1 6 Unexpected
+pool p\r
+--
+1 1 Unexpected
+pool\tp
+--
+2 1 Unexpected
+client
+\t
+--
+2 14 Unexpected
+group g
+pool p min 1 max 2
+--
+1 15 Unexpected
+work w r long long
+routine r
+done
+--
+1 6 Unexpected
+work none r
+--
+1 14 UnknownName
+timer t r in p
+pool p
+routine r
+done
+--
+2 17 UnknownName
+routine r
+let w work r in w
+done
+--
+2 9 Unexpected
+routine r
+times 2 let w work r
+done
+--
+3 9 Unexpected
+io i r
+routine r
+times 3 issue-io i o
+done
+--
+2 9 Unexpected
+client
+times 2 times 2 advance 1
+done
+--
+2 7 Unexpected
+client
+times 0 advance 1
+done
+--
+5 13 UnknownName
+io i r
+routine r
+done
+client
+complete-io o 0 0
+done
+--
+3 12 NameTwice
+io i r
+routine r
+issue-io i i
+done
+--
+5 9 NameTwice
+io i r
+routine r
+issue-io i o
+done
+routine o
+done
+--
+2 1 Unexpected
+client
+routine r
+done";
 
 #[test]
 fn faults_stand_at_the_first_word_that_may_not(rt: HostRuntime) {
-    for case in TEXTS.split("\n--\n") {
-        let (wanted, text) = expect_ok(&rt, case.split_once('\n').ok_or(case));
-        expect_told(&rt, rt.alloc(), wanted, text);
+    expect_all_told(&rt, rt.alloc(), TEXTS);
+}
+
+#[test]
+fn faults_of_drawn_scripts(rt: HostRuntime) {
+    expect_all_told(&rt, rt.alloc(), DRAWN_SCRIPTS);
+}
+
+fn expect_all_told(rt: &impl Abort, alloc: Global, cases: &str) {
+    for case in cases.split("\n--\n") {
+        let (wanted, text) = expect_ok(rt, case.split_once('\n').ok_or(case));
+        expect_told(rt, alloc, wanted, text);
     }
 }
 
@@ -180,7 +280,7 @@ fn expect_told(rt: &impl Abort, alloc: Global, wanted: &str, text: &str) {
 
 // How many clients the script has, or the place and kind of its first fault.
 fn told_of(alloc: Global, text: &str) -> Result<String, AllocError> {
-    if text.len() > 1_000 {
+    if text.len() > 1_000_000_000 {
         return format!(in alloc; "too long");
     }
     match parse_script(alloc, text.as_bytes()) {
@@ -190,6 +290,77 @@ fn told_of(alloc: Global, text: &str) -> Result<String, AllocError> {
             format!(in alloc; "{line} {column} {kind:?}")
         }
     }
+}
+
+// Names that are made by lines of one kind: how many there may be, the lines around each name and around all of them, and
+// what is told of one more.
+const LIMITS: [(u32, &str, &str, &str, &str, &str); 5] = [
+    (63, "", "pool p", "\n", "", "64 6 TooMany"),
+    (255, "", "group g", "\n", "", "256 7 TooMany"),
+    (
+        4_095,
+        "",
+        "timer t",
+        " r\n",
+        "routine r\ndone\n",
+        "4096 7 TooMany",
+    ),
+    (1_024, "", "section s", "\n", "", "1025 9 TooMany"),
+    (
+        32,
+        "routine r\n",
+        "let w",
+        " work r\n",
+        "done\n",
+        "34 5 TooMany",
+    ),
+];
+
+#[test]
+fn one_name_too_many(rt: HostRuntime) {
+    for (limit, front, before, behind, back, told) in LIMITS {
+        let alloc = rt.alloc();
+        let good = expect_ok(&rt, repeated(alloc, limit, front, before, behind, back));
+        expect_told(&rt, alloc, "1 clients", good.as_str());
+        let bad = expect_ok(&rt, repeated(alloc, limit + 1, front, before, behind, back));
+        expect_told(&rt, alloc, told, bad.as_str());
+    }
+}
+
+const ROUTINES: [(u32, &str, &str); 2] = [
+    (65_535, "work w r65534\n", "1 clients"),
+    (65_536, "work w r65535\n", "131072 9 TooMany"),
+];
+
+// The name of a routine that is one too many is known from the first line on, as those of the others.
+#[test]
+fn one_routine_too_many(rt: HostRuntime) {
+    let alloc = rt.alloc();
+    for (count, front, told) in ROUTINES {
+        let text = expect_ok(
+            &rt,
+            repeated(alloc, count, front, "routine r", "\ndone\n", ""),
+        );
+        expect_told(&rt, alloc, told, text.as_str());
+    }
+}
+
+// Texts around so many numbers, with a text in front of all and one behind.
+fn repeated(
+    alloc: Global,
+    count: u32,
+    front: &str,
+    before: &str,
+    behind: &str,
+    back: &str,
+) -> Result<String, AllocError> {
+    let mut text = format!(in alloc; "{front}")?;
+    for number in 0..count {
+        let line = format!(in alloc; "{before}{number}{behind}")?;
+        text.push_str(line.as_str())?;
+    }
+    text.push_str(back)?;
+    Ok(text)
 }
 
 // A server that stops, and then what its parts make: each call with an answer that the machine may give.

@@ -1,24 +1,14 @@
 -- Histories, one entry longer.
-use Rattle.std.proofs.Common.{◌≡◌, ℕ, suc, ◌+◌, ◌≤◌, List, [], ◌∷◌, ◌++◌, length, refl, sym, ap, ◌∙◌, arith, Bool, true, false, add-zero}
-use Rattle.std.specs.Prelude.{nat_lt, if◌then◌else◌, Option, Some}
-use Rattle.std.proofs.lemmas.Bool.{ltb-false}
+use Rattle.std.proofs.Common.{◌≡◌, ℕ, suc, ◌+◌, List, [], ◌∷◌, ◌++◌, length, refl, sym, ap, ◌∙◌, arith, false, add-zero}
 use Rattle.tp_base.specs.declared.answers.Answer.{Answer}
 use Rattle.tp_base.specs.declared.answers.Answer.TheVariants as answer
 use Rattle.tp_base.specs.declared.answers.Entry.{Entry}
 use Rattle.tp_base.specs.declared.answers.Outcome.{Outcome}
 use Rattle.tp_base.specs.declared.answers.Outcome.TheVariants as outcome
-use Rattle.tp_base.specs.declared.plans.Change.{Change}
-use Rattle.tp_base.specs.declared.plans.Plan.{Plan}
-use Rattle.tp_base.specs.declared.plans.Plan.TheVariants as plans
-use Rattle.tp_model.specs.Counts.{owed}
-use Rattle.tp_model.specs.Changes.{changed}
-use Rattle.tp_model.specs.History.{IsLegalFrom, after_from, change_told, is_refusal, led_by, led_to, room}
-use Rattle.tp_model.specs.Support.Sound.{IsSound}
-use Rattle.tp_model.specs.Step.{Step, Accepted, Refused, Looked, Full, cost, entries_of, is_accepted, outcome_of, stepped, within, world_after}
-use Rattle.tp_model.specs.Table.{plan, step}
+use Rattle.tp_model.specs.History.{IsLegalFrom, after_from, led_to, room}
+use Rattle.tp_model.specs.Step.{Step, Accepted, Refused, Looked, Full, entries_of, is_accepted, outcome_of, world_after}
+use Rattle.tp_model.specs.Table.{step}
 use Rattle.tp_model.specs.World.{World}
-use Rattle.tp_model.proofs.Entries.{told_change}
-use Rattle.tp_model.proofs.Steps.{plan_allowed}
 
 -- ---- what is no entry
 

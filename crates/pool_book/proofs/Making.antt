@@ -1,5 +1,5 @@
 -- How a book goes on with a call.
-use Rattle.std.proofs.Common.{◌≡◌, ℕ, suc, zero, ◌+◌, ◌≤◌, List, [], ◌∷◌, ◌++◌, length, not, replicate, refl, sym, ap, ◌∙◌, subst, arith, Bool, true, false, cond, filter, is_some, length-append}
+use Rattle.std.proofs.Common.{◌≡◌, ℕ, ◌+◌, ◌≤◌, List, [], ◌∷◌, ◌++◌, length, refl, sym, ap, ◌∙◌, subst, arith, Bool, true, false, length-append}
 use Rattle.std.specs.Prelude.{if◌then◌else◌}
 use Rattle.std.proofs.lemmas.List.{append-nil}
 use Rattle.tp_base.specs.declared.answers.Answer.{Answer}
@@ -9,8 +9,6 @@ use Rattle.tp_base.specs.declared.answers.Outcome.TheVariants.{Done, Look, Full}
 use Rattle.tp_base.specs.declared.calls.Call.{Call}
 use Rattle.tp_base.specs.declared.ids.Who.{Who}
 use Rattle.tp_base.specs.declared.limits.Limits.{Limits}
-use Rattle.tp_base.specs.declared.rows.ClientRow.{ClientRow}
-use Rattle.tp_base.specs.declared.rows.WorkerRow.{WorkerRow}
 use Rattle.tp_base.specs.Ranges.{AreLimitsInRange}
 use Rattle.tp_model.specs.Counts.{owed}
 use Rattle.tp_model.specs.History.{IsLegal, after, play_from, room}
@@ -19,7 +17,7 @@ use Rattle.tp_model.specs.Support.Remembered.{Remembered, StandsFor, Meets}
 use Rattle.tp_model.specs.Support.Sound.{IsSound}
 use Rattle.tp_model.specs.Step.{Step, entries_of, is_accepted, outcome_of, world_after}
 use Rattle.tp_model.specs.Table.{step}
-use Rattle.tp_model.specs.World.{World, opening, unattached, unfinished}
+use Rattle.tp_model.specs.World.{World, opening}
 use Rattle.tp_model.proofs.Fitting.{opening_owes, step_enters}
 use Rattle.tp_model.proofs.Laws.{keeps_laws}
 use Rattle.pool_book.specs.Kept.{IsBook}

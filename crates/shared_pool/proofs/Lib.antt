@@ -1,1 +1,3 @@
+pub mod Begins
 pub mod Opening
+pub mod Waiting

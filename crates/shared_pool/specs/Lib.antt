@@ -1,3 +1,5 @@
 pub mod Calls
+pub mod Notices
 pub mod Pools
 pub mod Tries
+pub mod Waits

@@ -4,7 +4,8 @@
 //! A seat stands for a client or a worker. `try_call` makes a call of it, or says that another seat
 //! has the turn; `call` tries until it has been made. What comes of the call is the machine's behind
 //! the history so far, and the seat then knows that history: it begins with all that the seat had
-//! seen before, and ends with the call's entry, where the call became one. `front` looks without
+//! seen before, and ends with the call's entry, where the call became one. `wait_callbacks`,
+//! `close_members` and `acquire` begin a wait and come back when it is over. `front` looks without
 //! making a call, and by `split` and `join` one thread tells another what it has seen.
 //!
 //! It is written over any machine whose history is written down (`Recorded`); the Win32 pool is
@@ -20,7 +21,10 @@
 
 #![tactic(auto)]
 
+mod notices;
 mod pool;
+mod waits;
 mod win32;
 
+pub use notices::{NoticeList, Notices, Told};
 pub use pool::{Over, SharedPool, Tried};

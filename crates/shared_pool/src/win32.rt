@@ -2,8 +2,8 @@
 //!
 //! Each method is `try_call` with the call of that function, and promises what that does: the answer,
 //! a look, Full, or Busy where another seat has the turn. The kind of an object or of an action is
-//! told by the method's name. A function that waits is two calls, one that begins the wait and `End`,
-//! and has no method here.
+//! told by the method's name. A function that waits is two calls, one that begins the wait and `End`;
+//! `wait_callbacks`, `close_members` and `acquire` make both.
 //!
 //! The numbers of pools, groups, objects, kernel objects and cancel routines are at most 65,535, those
 //! of the routines that are called are 1 to 65,535, and an environment without a group has no cancel

@@ -1,10 +1,11 @@
 -- Every legal history keeps the laws.
-use Rattle.std.proofs.Common.{◌≡◌, ℕ, List, [], ◌∷◌, ◌++◌, refl, sym, subst, find, Some, true, cond, Bool, false, None, ap₂, ◌∙◌, ◌||◌, ap, append_assoc, append-nil, ◌≤◌, map, length}
+use Rattle.std.proofs.Common.{◌≡◌, ℕ, List, [], ◌∷◌, ◌++◌, refl, sym, subst, find, Some, true, cond, Bool, false, None, ap₂, ◌∙◌, ◌||◌, ap, append_assoc, append-nil, ◌≤◌, map, length, arith}
 use Rattle.tp_model.proofs.First.{next_first}
 use Rattle.tp_model.specs.Next.{IsNextOrNone}
 use Rattle.tp_model.specs.Waits.{is_held_for, wait_of, held}
 use Rattle.std.specs.List.{list_any, range_with_len}
 use Rattle.tp_base.specs.declared.ids.ObjectId.{ObjectId}
+use Rattle.tp_base.specs.declared.ids.Who.{Who}
 use Rattle.tp_model.proofs.Refusals.{both, false_true, same_actor_is}
 use Rattle.tp_model.proofs.Fates.{taken_from, pending_held, pending_left}
 use Rattle.tp_model.specs.Counts.{has_number, is_pending, next}
@@ -19,7 +20,7 @@ use Rattle.tp_base.specs.declared.answers.Entry.{Entry}
 use Rattle.tp_base.specs.declared.limits.Limits.{Limits}
 use Rattle.tp_base.specs.declared.answers.Answer.TheVariants as answer
 use Rattle.tp_base.specs.declared.rows.WaitTarget.TheVariants.{Object, Group, Kernel}
-use Rattle.tp_model.specs.World.{World, opening, BegunWait}
+use Rattle.tp_model.specs.World.{World, opening, unattached, unfinished, BegunWait}
 use Rattle.tp_model.specs.History.{IsLegal, after, led_to}
 use Rattle.tp_model.specs.Support.Sound.{IsSound, IsCallbackSound}
 use Rattle.tp_model.specs.Laws.{KeepsLaws}
@@ -38,12 +39,16 @@ use Rattle.tp_model.proofs.Armed.{ArmedAfter, opening_armed, armed_more, are_arm
 use Rattle.tp_model.proofs.Maximum.{IsStaffed, is_staffed_on, takes_below, opening_staffed}
 use Rattle.tp_base.specs.declared.rows.WaitTarget.{WaitTarget}
 use Rattle.tp_base.specs.declared.ids.GroupId.{GroupId}
-use Rattle.tp_model.specs.Laws.Notices.{AreNoticed, IsFront, IsSettled, given, given_by, notices_due, due_to}
+use Rattle.tp_model.specs.Conditions.{is_actor, is_in_wait}
+use Rattle.tp_model.specs.Stages.{IsActor}
+use Rattle.tp_model.proofs.Few.{AreFew, few_actor, few_more, rows_same}
+use Rattle.tp_model.specs.Laws.Notices.{numbers_created, IsClosing, AreNoticed, IsFront, IsSettled, given, given_by, notices_due, due_to}
 use Rattle.tp_model.proofs.Notices.{IsNoticing, AreDue, AreNumbered, AreNoticing, AreClosings, due_more, numbered_more, noticing_more, closings_more, AreClosedMade, closed_more}
 use Rattle.tp_model.proofs.Tied.{IsTied, tied_more}
 use Rattle.tp_model.specs.Support.Moves.{left_notices, GivesNotice, WaitsMove, End, Keep, Begin, Notify}
 use Rattle.tp_model.specs.Support.Told.{notice_at}
 use Rattle.std.proofs.lemmas.List.FromFn.{length-range_with_len}
+use Rattle.std.proofs.lemmas.List.{length-replicate}
 use Rattle.tp_base.specs.Actors.{is_same_actor}
 use Rattle.tp_model.proofs.Lists.{find_all}
 
@@ -64,6 +69,7 @@ pub record Holds (limits : Limits) (history : List Entry) (w : World) : Type 0 w
   pub acting : AreActing history w
   pub armed : ArmedAfter history w
   pub on_their_way : AreOnTheirWay history w
+  pub few : AreFew limits w
 
 -- before an entry that takes a callback, the callback is pending
 record TakesPending (limits : Limits) (before : List Entry) (entry : Entry) (run : Run) : Type 0 where
@@ -92,6 +98,7 @@ opening_holds limits =
       acting = λ before between taken split. absurd (no_place before taken between split);
       armed = opening_armed limits;
       on_their_way = λ n. refl;
+      few = record { limits_same = refl; objects = omega arith; clients = length-replicate limits.clients unfinished; workers = length-replicate limits.workers unattached };
     }
 
 keeps : (limits : Limits) → IsKept (Holds limits)
@@ -114,6 +121,7 @@ keeps limits before w left entry h told =
       acting = are_acting_more (next_number_in w) before w entry (led_to w entry) on.leads.moves h.acting;
       armed = armed_more before w entry (led_to w entry) h.sound on.sound h.agrees h.armed on.leads;
       on_their_way = on_their_way_more before w entry (led_to w entry) h.sound.numbers h.on_their_way on.leads.moves;
+      few = few_more limits w left entry (led_to w entry) on.leads (rows_same w left entry h.sound told) h.few told;
     }
 
 module _ (limits : Limits) (capacity : ℕ) (history : List Entry) (legal : IsLegal limits capacity history) where
@@ -378,6 +386,29 @@ module _ (limits : Limits) (capacity : ℕ) (history : List Entry) (legal : IsLe
 
   pub keeps_laws : KeepsLaws limits history
   keeps_laws = record { once = are_once; maximum = is_within_maximum; covered = are_covered; closed = are_closed; noticed = are_noticed; actions = are_actions; armed = are_armed; operated = are_operated }
+
+  -- who has begun a close with cancel and not ended it is in a wait
+  pub closing_waits : (who : Who) → IsClosing history who → is_in_wait (after limits history) who ≡ true
+  closing_waits who c =
+      let by : c.begin.who ≡ who = same_actor_is c.begin.who who c.by in
+      let goes_on : IsNoticing c.b c.before c.between c.begin.who (after limits history) = at_end.noticing c.before c.between c.begin c.b c.place c.begins (subst (λ a. end_in a c.between ≡ None) (sym by) c.unended) in
+      there (after limits history).waits (ap (wait_of (after limits history)) (sym by) ∙ goes_on.found)
+    where
+      there : {wait : BegunWait} (waits : List BegunWait) → find (λ (d : BegunWait). is_same_actor d.actor who) waits ≡ Some wait → list_any (λ (d : BegunWait). is_same_actor d.actor who) waits ≡ true
+      there [] found = absurd cc
+      there {wait} (d ∷ waits) found =
+          elim (is_same_actor d.actor who) as (λ t. cond t (Some d) (find (λ (e : BegunWait). is_same_actor e.actor who) waits) ≡ Some wait → (t || list_any (λ (e : BegunWait). is_same_actor e.actor who) waits) ≡ true) [
+            | true ↦ λ _. refl
+            | false ↦ λ h. there waits h
+          ] found
+
+  -- an actor of the world is one of the limits
+  pub actors : (who : Who) → is_actor (after limits history) who ≡ true → IsActor limits who
+  actors who is = few_actor limits (after limits history) at_end.few who is
+
+  -- and no more objects were made than the limits allow
+  pub few_created : length (numbers_created history) ≤ limits.objects
+  few_created = omega (arith, ap length at_end.numbered ∙ length-range_with_len 1 (length (after limits history).objects), at_end.few.objects)
 
   -- what a pool's worker takes next comes first of what is pending there
   pub next_is_first : (pool : ℕ) → IsNextOrNone (after limits history) pool (next (after limits history) pool)

@@ -16,6 +16,7 @@ pub mod Entries
 mod Examples
 pub mod Facts
 pub mod Fates
+pub mod Few
 pub mod Firing
 pub mod Fitting
 pub mod First

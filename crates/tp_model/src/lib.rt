@@ -11,13 +11,17 @@
 
 #![tactic(auto)]
 
-ghost use Rattle.std.specs.Prelude.{ℕ, ◌+◌, ◌≤◌, List, length};
+ghost use Rattle.std.specs.Prelude.{◌≡◌, ℕ, ◌+◌, ◌≤◌, true, List, length};
 ghost use Rattle.tp_base.specs.declared.answers.Entry.{Entry};
+ghost use Rattle.tp_base.specs.declared.ids.Who.{Who};
 ghost use Rattle.tp_base.specs.declared.limits.Limits.{Limits};
+ghost use Rattle.tp_model.specs.Conditions.{is_actor, is_in_wait};
 ghost use Rattle.tp_model.specs.Counts.{next, owed};
 ghost use Rattle.tp_model.specs.History.{after, IsLegal};
 ghost use Rattle.tp_model.specs.Laws.{KeepsLaws};
+ghost use Rattle.tp_model.specs.Laws.Notices.{numbers_created, IsClosing};
 ghost use Rattle.tp_model.specs.Next.{IsNextOrNone};
+ghost use Rattle.tp_model.specs.Stages.{IsActor, MachineFacts};
 
 /// How far a callback has come that is left after a history: it may still run.
 #[derive(Clone, Copy)]
@@ -48,4 +52,21 @@ pub fn legal_fits()
 #[tactic(auto, using(crate::proofs::Laws::next_is_first))]
 pub fn next_comes_first()
     ensures { (limits : Limits) (capacity : ℕ) (history : List Entry) → IsLegal limits capacity history → (pool : ℕ) → IsNextOrNone (after limits history) pool (next (after limits history) pool) }
+{}
+
+/// Of a legal history: who has begun a close of a group with cancel and not ended it is in a wait, its
+/// actors are those of the limits, and no more objects were made than these allow. It does nothing: who
+/// calls it knows this.
+#[tactic(auto, using(crate::proofs::Laws::closing_waits, crate::proofs::Laws::actors, crate::proofs::Laws::few_created))]
+pub fn legal_bounds_closes()
+    ensures in_wait { (limits : Limits) (capacity : ℕ) (history : List Entry) → IsLegal limits capacity history → (who : Who) → IsClosing history who → is_in_wait (after limits history) who ≡ true }
+    ensures actors { (limits : Limits) (capacity : ℕ) (history : List Entry) → IsLegal limits capacity history → (who : Who) → is_actor (after limits history) who ≡ true → IsActor limits who }
+    ensures few { (limits : Limits) (capacity : ℕ) (history : List Entry) → IsLegal limits capacity history → length (numbers_created history) ≤ limits.objects }
+{}
+
+/// What a legal history tells of where its actors stand, and what the machine then gives them. It does
+/// nothing: who calls it knows this.
+#[tactic(auto, using(crate::proofs::Facts::machine_facts))]
+pub fn legal_gives_facts()
+    ensures { (limits : Limits) (capacity : ℕ) (history : List Entry) → IsLegal limits capacity history → MachineFacts limits history }
 {}

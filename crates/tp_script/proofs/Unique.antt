@@ -1,5 +1,5 @@
 -- A text is one script at most, has one first fault at most, and not both.
-use Rattle.std.proofs.Common.{◌≡◌, ℕ, ◌+◌, ◌<◌, ◌^◌, true, false, List, [], ◌∷◌, Option, Some, None, Err, length, sym, ap, ◌∙◌, subst, arith, inl, inr}
+use Rattle.std.proofs.Common.{◌≡◌, ℕ, ◌+◌, ◌<◌, ◌^◌, true, false, List, [], ◌∷◌, ◌++◌, Option, Some, None, Err, length, sym, ap, ◌∙◌, subst, arith, inl, inr}
 use Rattle.std.proofs.lemmas.Bool.{true≢false}
 use Rattle.line_grammar.specs.Numbers.{Signed}
 use Rattle.line_grammar.proofs.NumberFacts.{numbers_part, signed_unique}
@@ -16,7 +16,7 @@ use Rattle.tp_script.specs.declared.line.Token.TheVariants as token
 use Rattle.tp_script.specs.declared.words.Field.{Field}
 use Rattle.tp_script.specs.declared.words.Field.TheVariants as field
 use Rattle.tp_script.specs.Lines.{form_of, may_end}
-use Rattle.tp_script.specs.Readings.{Fails, Goes, IsLineRead, StepsBy, Trail, first_trail, moved}
+use Rattle.tp_script.specs.Readings.{Fails, Goes, IsLineRead, Steps, StepsBy, Trail, first_trail, moved}
 use Rattle.tp_script.specs.Scripts.{Faults, IsFaultIn, IsScript, Reads, first_known, known_after, words_of}
 use Rattle.tp_script.specs.States.{is_inside}
 use Rattle.tp_script.specs.Texts.{Spot, lines_of}
@@ -80,6 +80,13 @@ module _ (known : Known) where
       let same = one_step trail trail.left spot.word n m s t in
       good_line spots (spot.column + length spot.word) n end column kind g whole
       (subst (λ (next : Trail). Fails known (spot.column + length spot.word) next spots column kind) (sym same) fails)
+
+  -- behind words that lead to where a word may not stand, it stands in no line
+  pub no_way : (front more : List Spot) (spot : Spot) (from trail end : Trail) → Goes known from front trail → ((next : Trail) → Steps known trail spot.word next → ⊥) → Goes known from (front ++ spot ∷ more) end → ⊥
+  no_way [] more spot from trail end e stuck (next, s, g) = stuck next (subst (λ (t : Trail). Steps known t spot.word next) (sym e) s)
+  no_way (word ∷ front) more spot from trail end (n, s, g) stuck (m, t, h) =
+      let same = one_step from from.left word.word n m s t in
+      no_way front more spot n trail end g stuck (subst (λ (next : Trail). Goes known next (front ++ spot ∷ more) end) (sym same) h)
 
   one_line_fault : (spots : List Spot) (behind : ℕ) (trail : Trail) (c d : ℕ) (k l : ScriptKind) → Fails known behind trail spots c k → Fails known behind trail spots d l → (c ≡ d) × (k ≡ l)
   one_line_fault [] behind trail c d k l (o, at, of) (p, here, as_is) = (at ∙ sym here, of ∙ sym as_is)

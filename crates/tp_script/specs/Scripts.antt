@@ -23,18 +23,26 @@ use Rattle.tp_script.specs.Texts.{Spot, is_blank, is_name, lines_of, words_from}
 abbrev pub words_of : List ℕ → List Spot
 words_of text = words_from 1 text
 
+-- A script has at most 65,535 routines. In a text with more, those that are too many share the last number.
+abbrev pub routine_number : ℕ → ℕ
+routine_number others = if nat_lt others 65535 then others + 1 else 65535
+
 -- The routines of a script are known from its first line on: each name behind the word `routine` at the front of a line, by its
 -- order, the first of two that are the same.
 abbrev pub with_routine_name : Names → List ℕ → Names
 with_routine_name routines name =
-    if is_name name && not (is_some (lookup (bytes_eq name) routines)) && nat_lt (length routines) 65535
-    then insert_entry bytes_eq routines name (record { meaning = record { sort = sort.Routine; local = false; number = length routines + 1 }; section = 0 })
+    if is_name name && not (is_some (lookup (bytes_eq name) routines))
+    then insert_entry bytes_eq routines name (record { meaning = record { sort = sort.Routine; local = false; number = routine_number (length routines) }; section = 0 })
     else routines
+
+-- the words stand behind the word `routine`
+abbrev pub with_routine_behind : Names → List Spot → Names
+with_routine_behind routines [] = routines
+with_routine_behind routines (name ∷ spots) = with_routine_name routines name.word
 
 abbrev pub with_routine : Names → List Spot → Names
 with_routine routines [] = routines
-with_routine routines (head ∷ []) = routines
-with_routine routines (head ∷ name ∷ spots) = if bytes_eq head.word (codes "routine") then with_routine_name routines name.word else routines
+with_routine routines (head ∷ spots) = if bytes_eq head.word (codes "routine") then with_routine_behind routines spots else routines
 
 abbrev pub with_routines : Names → List (List ℕ) → Names
 with_routines routines [] = routines

@@ -97,7 +97,7 @@ may_stand place field.Signal class = is_signal class
 may_stand place _ class = false
 
 abbrev pub is_at : Place → Field → List ℕ → Word → Bool
-is_at place field text word = may_stand place field (class_of word) && bytes_eq (text_of_word word) text
+is_at place field text word = bytes_eq (text_of_word word) text && may_stand place field (class_of word)
 
 -- the word with this text that may stand in the field
 abbrev pub word_at : Place → Field → List ℕ → Option Word

@@ -1,6 +1,8 @@
 //! One word of a line: what it says in its field, or why it may not stand there.
 
-ghost use Rattle.std.specs.Prelude.{◌≡◌, MatchOption};
+ghost use Rattle.std.specs.Prelude.{◌≡◌, ◌∷◌, ℕ, List, MatchOption, find};
+ghost use Rattle.tp_script.specs.declared.state.Place.{Place};
+ghost use Rattle.tp_script.specs.declared.words.Field.{Field};
 ghost use Rattle.tp_script.specs.declared.line.Token.{Token};
 ghost use Rattle.tp_script.specs.Known.{found_in, is_known, is_standing, within_section};
 ghost use Rattle.tp_script.specs.Tokens.{Fits, IsDueToken, IsNumberToken, armed_of, choice_of, fresh_kind, fresh_of, has_room, head_kind, is_at, is_head, is_option, is_pool_option, is_repeated, kind_of_field, may_stand, name_kind, name_of, numbered, routine_of, suits, token_of_word, word_at};
@@ -12,6 +14,7 @@ use crate::state::{Place, State, limit_of};
 use crate::texts::is_name;
 use crate::words::{Class, Field, Sort, Tally, WORDS, Want, Word, class_of, word_text};
 use line_grammar::numbers::{read_number, read_signed};
+use tp_base::calls::{Kind, Priority};
 
 /// What is known of a script so far.
 #[derive(Drop)]
@@ -101,16 +104,97 @@ fn choice_of(state: State, field: Field, word: &[u8]) -> Option<Token>
 fn word_at(place: Place, field: Field, word: &[u8]) -> Option<Word>
     ensures { result ≡ word_at place field word.now }
 {
-    WORDS
+    first_at(place, field, word, words_like(word))
+}
+
+fn first_at(place: Place, field: Field, word: &[u8], words: &[Word]) -> Option<Word>
+    ensures { result ≡ find (is_at place field word.now) words.now }
+{
+    words
         .iter()
         .copied()
         .find(|known| is_at(place, field, word, *known))
 }
 
+// The words of the table among which a word is, if it is one.
+fn words_like(word: &[u8]) -> &'static [Word]
+    ensures { (place : Place) (field : Field) → find (is_at place field word.now) result.now ≡ word_at place field word.now }
+{
+    match word {
+        [letter, ..] => words_with(*letter),
+        [] => &WORDS,
+    }
+}
+
+// The words of the table that begin with a letter, in their order there; or all of them.
+fn words_with(letter: u8) -> &'static [Word]
+    ensures { (place : Place) (field : Field) (rest : List ℕ) → find (is_at place field (letter ∷ rest)) result.now ≡ word_at place field (letter ∷ rest) }
+{
+    match letter {
+        b'a' => &[Word::Acquire, Word::Advance, Word::Reset(false)],
+        b'c' => &[
+            Word::Client,
+            Word::CancelIo,
+            Word::CompleteIo,
+            Word::Close,
+            Word::CloseMembers,
+            Word::CloseGroup,
+            Word::ClosePool,
+            Word::Context,
+            Word::CancelBy,
+            Word::How(true),
+            Word::Signal(false),
+        ],
+        b'd' => &[Word::Done, Word::Disassociate],
+        b'g' => &[Word::Group, Word::InGroup],
+        b'i' => &[
+            Word::Object(Kind::Io),
+            Word::IsTimerSet,
+            Word::IssueIo,
+            Word::In,
+            Word::Kind(Kind::Io),
+        ],
+        b'l' => &[Word::Let, Word::Long, Word::Priority(Priority::Low)],
+        b'r' => &[
+            Word::Routine,
+            Word::ResetEvent,
+            Word::ReleaseSemaphore,
+            Word::Release,
+        ],
+        b's' => &[
+            Word::Semaphore,
+            Word::Section,
+            Word::Submit,
+            Word::Simple,
+            Word::SetTimer,
+            Word::SetTimerEx,
+            Word::SetWait,
+            Word::StartIo,
+            Word::SetMaximum,
+            Word::SetMinimum,
+            Word::SetEvent,
+            Word::Signal(true),
+        ],
+        b't' => &[
+            Word::Object(Kind::Timer),
+            Word::Times,
+            Word::Kind(Kind::Timer),
+        ],
+        b'w' => &[
+            Word::Object(Kind::Work),
+            Word::Object(Kind::Wait),
+            Word::BeginWait,
+            Word::Kind(Kind::Work),
+            Word::Kind(Kind::Wait),
+        ],
+        _ => &WORDS,
+    }
+}
+
 fn is_at(place: Place, field: Field, text: &[u8], word: Word) -> bool
     ensures { result ≡ is_at place field text.now word }
 {
-    may_stand(place, field, class_of(word)) && word_text(word) == text
+    word_text(word) == text && may_stand(place, field, class_of(word))
 }
 
 // Whether there may be one more of what the word begins.

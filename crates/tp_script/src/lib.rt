@@ -35,4 +35,7 @@ mod words;
 
 pub use fault::{ScriptFault, ScriptKind};
 pub use routines::{Part, Progress, Routines};
-pub use script::{Script, no_fault_in_a_script, one_fault_a_text, one_script_a_text, parse_script};
+pub use script::{
+    Script, no_fault_in_a_script, no_line_begins_so, one_fault_a_text, one_script_a_text,
+    parse_script,
+};

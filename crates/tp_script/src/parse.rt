@@ -2,7 +2,7 @@
 
 ghost use Rattle.std.specs.Prelude.{◌≡◌, ◌+◌, ◌≤◌, ◌<◌, ◌^◌, [], IfErr, IfOk, MatchResult, OnOk, length, vec_len};
 ghost use Rattle.tp_script.specs.Answers.{IsAdded, IsLineFaultAt, IsScriptFault};
-ghost use Rattle.tp_script.specs.Scripts.{IsScript, is_local, known_after, named_by, section_of, sort_made, sort_of_kind, with_routine, with_routine_name, with_routines};
+ghost use Rattle.tp_script.specs.Scripts.{IsScript, is_local, known_after, named_by, routine_number, section_of, sort_made, sort_of_kind, with_routine, with_routine_behind, with_routine_name, with_routines};
 ghost use Rattle.tp_script.specs.Texts.{lines_of, words_from};
 
 use crate::fault::{ScriptFault, ScriptKind};
@@ -22,10 +22,11 @@ pub fn read_lines(alloc: Global, bytes: &[u8]) -> Result<Vec<Line>, ScriptFault>
     ensures place { MatchResult result (λ lines. IsScript bytes.now lines.items) (IsScriptFault bytes.now) }
     ensures few { IfOk result (λ lines. vec_len lines ≤ length bytes.now) }
 {
-    let Ok(routines) = routines_in(alloc, bytes) else {
+    let mut routines = Table::new(alloc);
+    let Ok(count) = add_routines(&mut routines, bytes) else {
         return Err(ScriptFault::NoMemory);
     };
-    let Ok(mut lines) = Vec::with_capacity(alloc, count_lines(bytes)) else {
+    let Ok(mut lines) = Vec::with_capacity(alloc, count) else {
         return Err(ScriptFault::NoMemory);
     };
     let mut known = Known {
@@ -99,43 +100,61 @@ fn note<'a>(known: &mut Known<'a>, line: Line, name: &'a [u8]) -> Result<(), All
     Ok(())
 }
 
-// The names of the routines of a script, which may be used before they are declared.
-fn routines_in<'a>(alloc: Global, bytes: &'a [u8]) -> Result<Table<'a>, AllocError>
+// The first pass over a script: adds the names of its routines, which may be used before they are declared. The answer
+// is how many lines are not blank.
+fn add_routines<'a>(routines: &mut Table<'a>, bytes: &'a [u8]) -> Result<usize, AllocError>
     requires { length bytes.now + 1 < 2 ^ 32 }
-    ensures { IfOk result (λ routines. routines ≡ with_routines [] (lines_of bytes.now)) }
+    ensures added { OnOk result (routines.new ≡ with_routines routines.old (lines_of bytes.now)) }
+    ensures few { IfOk result (λ lines. lines ≤ length bytes.now) }
 {
-    let mut routines = Table::new(alloc);
+    let mut lines: usize = 0;
     let mut rest = bytes;
     while let Some((text, behind)) = next_line(rest) {
-        add_routine(&mut routines, text)?;
+        lines += add_routine(routines, text)?;
         rest = behind;
     }
-    Ok(routines)
+    Ok(lines)
 }
 
-// Adds the routine of a line, if it begins one.
-fn add_routine<'a>(routines: &mut Table<'a>, text: &'a [u8]) -> Result<(), AllocError>
+// Adds the routine of a line, if it begins one. The answer is 1 for a line that isn't blank, and 0 for another.
+fn add_routine<'a>(routines: &mut Table<'a>, text: &'a [u8]) -> Result<usize, AllocError>
     requires { length text.now + 1 < 2 ^ 32 }
-    ensures { OnOk result (routines.new ≡ with_routine routines.old (words_from 1 text.now)) }
+    ensures added { OnOk result (routines.new ≡ with_routine routines.old (words_from 1 text.now)) }
+    ensures few { IfOk result (λ lines. lines ≤ 1) }
 {
     let Some(head) = next_word(1, text) else {
-        return Ok(());
-    };
-    let Some(name) = next_word(head.column + head.word.len() as u32, head.rest) else {
-        return Ok(());
+        return Ok(0);
     };
     if head.word == b"routine".as_slice() {
-        add_routine_name(routines, name.word)
-    } else {
-        Ok(())
+        add_routine_behind(routines, head.column + head.word.len() as u32, head.rest)?;
+        return Ok(1);
+    }
+    match head.word {
+        [b'#', ..] => Ok(0),
+        _ => Ok(1),
+    }
+}
+
+// Adds the routine whose name is the first word of what stands behind the word `routine`.
+fn add_routine_behind<'a>(
+    routines: &mut Table<'a>,
+    column: u32,
+    behind: &'a [u8],
+) -> Result<(), AllocError>
+    requires { column + length behind.now < 2 ^ 32 }
+    ensures { OnOk result (routines.new ≡ with_routine_behind routines.old (words_from column behind.now)) }
+{
+    match next_word(column, behind) {
+        Some(name) => add_routine_name(routines, name.word),
+        None => Ok(()),
     }
 }
 
 fn add_routine_name<'a>(routines: &mut Table<'a>, name: &'a [u8]) -> Result<(), AllocError>
     ensures { OnOk result (routines.new ≡ with_routine_name routines.old name.now) }
 {
-    if is_name(name) && routines.find(name).is_none() && routines.len() < 65_535 {
-        let number = routines.len() as u16 + 1;
+    if is_name(name) && routines.find(name).is_none() {
+        let number = routine_number(routines.len());
         routines.add(
             name,
             Named {
@@ -152,20 +171,15 @@ fn add_routine_name<'a>(routines: &mut Table<'a>, name: &'a [u8]) -> Result<(), 
     }
 }
 
-// How many lines of a text are not blank.
-fn count_lines(bytes: &[u8]) -> usize
-    requires { length bytes.now + 1 < 2 ^ 32 }
-    ensures { result ≤ length bytes.now }
+// The number of a routine behind so many others.
+fn routine_number(others: usize) -> u16
+    ensures { result ≡ routine_number others }
 {
-    let mut rest = bytes;
-    let mut count: usize = 0;
-    while let Some((text, behind)) = next_line(rest) {
-        if !is_blank(text) {
-            count += 1;
-        }
-        rest = behind;
+    if others < 65_535 {
+        others as u16 + 1
+    } else {
+        65_535
     }
-    count
 }
 
 // The sort of an object of this kind.

@@ -2,9 +2,12 @@
 
 ghost use Rattle.std.specs.Prelude.{◌≡◌, ◌+◌, ◌<◌, ◌≤◌, ◌^◌, ◌++◌, ◌∷◌, [], IfOk, IfSome, ℕ, List, IfErr, OnOk, if◌then◌else◌, length, vec_len};
 ghost use Rattle.tp_script.specs.declared.fault.ScriptKind.{ScriptKind};
+ghost use Rattle.tp_script.specs.declared.judge.Known.{Known};
 ghost use Rattle.tp_script.specs.declared.line.Line.{Line};
 ghost use Rattle.tp_script.specs.Answers.{IsScriptFault, IsThat};
+ghost use Rattle.tp_script.specs.Readings.{Goes, IsLineRead, Steps, Trail, first_trail};
 ghost use Rattle.tp_script.specs.Scripts.{IsFaultIn, IsScript, is_local};
+ghost use Rattle.tp_script.specs.Texts.{Spot};
 ghost use Rattle.tp_base.specs.Ranges.{IsCallInRange};
 ghost use Rattle.tp_script.specs.Calls.{IsOfPart};
 ghost use Rattle.tp_script.specs.Nexts.{acting, call_at, clients_of, is_end, is_refusal, line_after, line_at, noted, number_in, numbered_place, opens, place_of, places_behind, stepped, waited, with_local};
@@ -129,6 +132,12 @@ pub fn one_fault_a_text()
 /// A script has no fault.
 pub fn no_fault_in_a_script()
     ensures { (text : List ℕ) (lines : List Line) (line column : ℕ) (kind : ScriptKind) → IsScript text lines → IsFaultIn text line column kind → ⊥ }
+{}
+
+/// Where a word may not stand behind words that may, no line begins with these and it.
+pub fn no_line_begins_so()
+    ensures { (known : Known) (front more : List Spot) (spot : Spot) (trail : Trail) → Goes known first_trail front trail → ((next : Trail) → Steps known trail spot.word next → ⊥) →
+        (line : Line) (name : List ℕ) → IsLineRead known (front ++ spot ∷ more) line name → ⊥ }
 {}
 
 impl Routines for Script {
