@@ -1,3 +1,5 @@
+pub mod Clients
+mod Heads
 mod NameFacts
 mod Parsing
 mod Places
