@@ -1,19 +1,19 @@
-//! Actors that play a script: alone on a machine of their own, and with seats of a shared pool in several
-//! threads.
+//! Scripts that are played to their end, by one thread and by several.
+
+ghost use Rattle.std.specs.Prelude.{◌+◌, ◌<◌, ◌≤◌, length};
 
 use crate::expect::{expect_eq, expect_ok};
 use pool_book::Book;
 use recorded::{Recorded, program_limits};
-use shared_pool::SharedPool;
 use std::alloc::Global;
 use std::process::Abort;
-use std::sync::atomic::{AtomicU64, Ordering};
-use tp_script::{Script, parse_script};
-use worker_gate::{
-    Actor, Gate, Role, close_run, finish, play_alone, play_crews, play_routines, set_up, tell_all,
-};
+use std::sync::Wait;
+use std::sync::atomic::{AtomicBool, AtomicU64, Ordering};
+use std::thread::Threads;
+use tp_script::parse_script;
+use worker_gate::{Gate, Run, play_routines};
 
-const SCRIPT: &[u8; 78] = b"work w r
+const THREE_CLIENTS: &[u8; 78] = b"work w r
 routine r
 done
 client
@@ -24,6 +24,19 @@ done
 client
 done
 ";
+
+const TWO_CALLBACKS: &[u8; 54] = b"work w r
+routine r
+done
+client
+submit w
+submit w
+done
+";
+
+// So often the first callback looks whether a second one was taken. It is enough for another thread to
+// come, and ends the test soon where there is none.
+const MOST_LOOKS: u32 = 20_000_000;
 
 // How many callbacks were taken.
 #[derive(Drop)]
@@ -37,126 +50,99 @@ impl Gate for Counted {
     }
 }
 
-fn script(rt: &impl Abort, alloc: Global) -> Script {
-    expect_ok(rt, parse_script(alloc, SCRIPT.as_slice()))
+// Holds the first callback until a second one is taken, but not for ever.
+#[derive(Drop)]
+struct Meeting {
+    callbacks: AtomicU64,
+    met: AtomicBool,
 }
 
-#[test]
-fn roles_play_to_their_end(rt: HostRuntime) {
-    let script = script(&rt, rt.alloc());
-    let gate = Counted {
-        callbacks: AtomicU64::new(0),
-    };
-    let mut book = expect_ok(&rt, Book::open(rt.alloc(), program_limits(3, 2), 64));
-    let mut first = Role::client(1);
-    set_up(&mut book, &mut first, &script, &gate);
-    let mut roles = expect_ok(
-        &rt,
-        Vec::from_array(
-            rt.alloc(),
-            [
-                Role::client(2),
-                Role::client(3),
-                Role::worker(1),
-                Role::worker(2),
-            ],
-        ),
-    );
-    play_alone(&rt, &mut book, &mut roles, &script, &gate);
-    expect_eq(
-        &rt,
-        (book.is_over(), gate.callbacks.load(Ordering::SeqCst)),
-        (true, 2),
-    );
-    expect_eq(&rt, book.len() >= 13, true);
+impl Meeting {
+    // Whether a second callback was taken.
+    fn has_second(&self) -> bool {
+        self.callbacks.load(Ordering::SeqCst) > 1
+    }
 }
 
-#[test]
-fn crews_play_to_their_end(rt: HostRuntime) {
-    let script = script(&rt, rt.alloc());
-    let gate = Counted {
-        callbacks: AtomicU64::new(0),
-    };
-    let (pool, mut seats) = expect_ok(
-        &rt,
-        SharedPool::<Book>::open(rt.alloc(), program_limits(3, 2), 64),
-    );
-    let second_worker = Actor::new(seats.pop().expect(&rt, "seat"), Role::worker(2));
-    let first_worker = Actor::new(seats.pop().expect(&rt, "seat"), Role::worker(1));
-    let third = Actor::new(seats.pop().expect(&rt, "seat"), Role::client(3));
-    let second = Actor::new(seats.pop().expect(&rt, "seat"), Role::client(2));
-    let mut first = Actor::new(seats.pop().expect(&rt, "seat"), Role::client(1));
-    let mut others = Vec::new(rt.alloc());
-    expect_ok(&rt, others.push(second));
-    expect_ok(&rt, others.push(first_worker));
-    let mut more = Vec::new(rt.alloc());
-    expect_ok(&rt, more.push(third));
-    expect_ok(&rt, more.push(second_worker));
-    finish(&rt, &mut first, &pool, &script, &gate);
-    tell_all(&mut first, &pool, &mut others);
-    tell_all(&mut first, &pool, &mut more);
-    let mut crews = Vec::new(rt.alloc());
-    expect_ok(&rt, crews.push(others));
-    expect_ok(&rt, crews.push(more));
-    let crews = expect_ok(&rt, play_crews(&rt, crews, &pool, &script, &gate));
-    let mut actors = Vec::new(rt.alloc());
-    expect_ok(&rt, actors.push(first));
-    for crew in crews {
-        for actor in crew {
-            expect_ok(&rt, actors.push(actor));
+impl Gate for Meeting {
+    fn before(&self, _worker: u32, _callback: u64) {
+        if self.callbacks.fetch_add(1, Ordering::SeqCst) == 0 {
+            for _ in 0..MOST_LOOKS {
+                if self.has_second() {
+                    self.met.store(true, Ordering::SeqCst);
+                    break;
+                }
+            }
         }
     }
-    let run = expect_ok(
-        &rt,
-        close_run(&rt, rt.alloc(), pool, actors, &script, &gate),
-    );
-    let book = run.book;
-    expect_eq(
-        &rt,
-        (book.is_over(), gate.callbacks.load(Ordering::SeqCst)),
-        (true, 2),
-    );
-    expect_eq(&rt, book.len() >= 13, true);
 }
 
+// Plays a script of so many clients with two workers.
+fn play<Rt: Threads + Wait + Abort + Sync, B: Recorded + Send, G: Gate + Sync>(
+    rt: &Rt,
+    alloc: Global,
+    text: &[u8],
+    clients: u32,
+    threads: u32,
+    gate: &G,
+) -> Run<B>
+    requires text { length text.now + 1 < 2 ^ 32 }
+    requires clients { (1 ≤ clients) × (clients ≤ 64) }
+    requires threads { 1 ≤ threads }
+{
+    let script = expect_ok(rt, parse_script(alloc, text));
+    let limits = program_limits(clients, 2);
+    expect_ok(
+        rt,
+        play_routines(rt, alloc, &script, limits, 64, threads, gate),
+    )
+}
+
+// Plays the script of two callbacks with two threads, and says whether these ran at once.
+fn callbacks_meet<Rt: Threads + Wait + Abort + Sync, B: Recorded + Send>(
+    rt: &Rt,
+    alloc: Global,
+) -> bool {
+    let gate = Meeting {
+        callbacks: AtomicU64::new(0),
+        met: AtomicBool::new(false),
+    };
+    let run: Run<B> = play(rt, alloc, TWO_CALLBACKS.as_slice(), 2, 2, &gate);
+    drop(run);
+    gate.met.load(Ordering::SeqCst)
+}
+
+/// By one thread and by two all clients finish, and both callbacks are taken.
 #[test]
 fn routines_play_to_their_end(rt: HostRuntime) {
-    let script = script(&rt, rt.alloc());
-    for threads in [1, 3] {
+    for threads in 1..3 {
         let gate = Counted {
             callbacks: AtomicU64::new(0),
         };
-        let run = expect_ok(
-            &rt,
-            play_routines::<_, Book, _, _>(
-                &rt,
-                rt.alloc(),
-                &script,
-                program_limits(3, 2),
-                64,
-                threads,
-                &gate,
-            ),
-        );
+        let run: Run<Book> = play(&rt, rt.alloc(), THREE_CLIENTS.as_slice(), 3, threads, &gate);
         expect_eq(
             &rt,
-            (run.book.is_over(), gate.callbacks.load(Ordering::SeqCst)),
-            (true, 2),
-        );
-        expect_eq(&rt, run.cut, false);
-        // With room for three entries no part is played whole.
-        let short = expect_ok(
-            &rt,
-            play_routines::<_, Book, _, _>(
-                &rt,
-                rt.alloc(),
-                &script,
-                program_limits(3, 2),
-                3,
-                threads,
-                &gate,
+            (
+                run.book.is_over(),
+                run.cut,
+                run.book.len() >= 13,
+                gate.callbacks.load(Ordering::SeqCst),
             ),
+            (true, false, true, 2),
         );
-        expect_eq(&rt, (short.book.is_over(), short.cut), (true, true));
     }
+}
+
+/// Two callbacks run at once, on two threads. One attempt may fail: a thread that finds nothing to do for
+/// a while leaves its crew.
+#[test]
+fn gate_two_callbacks(rt: HostRuntime) {
+    let mut met = false;
+    for _ in 0..10 {
+        met = callbacks_meet::<_, Book>(&rt, rt.alloc());
+        if met {
+            break;
+        }
+    }
+    expect_eq(&rt, met, true);
 }
