@@ -4,8 +4,6 @@
 #![tactic(auto)]
 
 #[cfg(test)]
-mod actors;
-#[cfg(test)]
 mod books;
 #[cfg(test)]
 mod expect;

@@ -1,5 +1,5 @@
 -- A turn of an actor with a seat keeps what it is.
-use Rattle.std.proofs.Common.{◌≡◌, ℕ, ◌+◌, ◌<◌, ◌≤◌, Bool, true, false, List, [], ◌∷◌, ◌++◌, ◌⊎◌, inl, inr, IfSome, length, max, not, refl, sym, ap, subst, ◌∙◌, append-nil, arith}
+use Rattle.std.proofs.Common.{◌≡◌, ℕ, ◌<◌, ◌≤◌, true, false, List, [], ◌∷◌, ◌++◌, inl, inr, IfSome, length, max, not, refl, sym, ap, subst, ◌∙◌, append-nil, arith}
 use Rattle.std.proofs.Math.Nat.{le-max_left, le-max_right}
 use Rattle.std.proofs.lemmas.List.Filters.{length-filter_both}
 use Rattle.tp_base.specs.declared.answers.Answer.{Answer}
@@ -12,7 +12,6 @@ use Rattle.tp_base.specs.declared.limits.Limits.{Limits}
 use Rattle.tp_base.specs.declared.plans.Stage.{Stage}
 use Rattle.tp_base.specs.declared.plans.Stage.TheVariants as stage
 use Rattle.tp_base.specs.Actors.{is_same_actor}
-use Rattle.tp_model.specs.History.{IsLegal}
 use Rattle.tp_model.specs.Stages.{is_in_part, is_over_stage}
 use Rattle.tp_model.proofs.Facts.{machine_facts}
 use Rattle.tp_model.proofs.Fitting.{legal_fits}
@@ -34,7 +33,7 @@ use Rattle.worker_gate.specs.Roles.{due_of, took, IsOf}
 use Rattle.worker_gate.specs.Walks.{comes_to}
 use Rattle.worker_gate.specs.declared.actor.Actor.{Actor}
 use Rattle.worker_gate.specs.declared.role.Turn.{Turn}
-use Rattle.worker_gate.specs.Acting.{due_by, is_held_up, GoesOn, HasMoved, HasSeenMore, HasWaited, IsReady, MayPlay, NeedsNoTurn, Said}
+use Rattle.worker_gate.specs.Acting.{due_by, is_held_up, GoesOn, HasSeenMore, IsReady, MayPlay, NeedsNoTurn, Said}
 use Rattle.worker_gate.specs.Roles.{turn_by}
 use Rattle.worker_gate.proofs.Turning.{StepKeeps}
 use Rattle.worker_gate.proofs.Walking.{is_cut_grows, leads_grow}

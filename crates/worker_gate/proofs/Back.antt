@@ -82,7 +82,6 @@ pub mapped : {X Y : Type 0} → (f : X → Y) (xs : List X) (k : ℕ) (x : X) �
 mapped f xs k x is = slice_get-map f xs k ∙ ap (option_map f) is
 
 module _ {B : Type 0} where
-
   -- an actor that is back has a seat of its pool
   pub seats_of : (g : Given) (pool : SharedPool B) (actors : List (Actor B)) → All (IsReady g pool) actors → All (IsSeatOf pool) (map seat_in actors)
   seats_of g pool actors ready = All-map (IsSeatOf pool) seat_in actors (λ k d inside. record { of = (ready k d inside).player.of; idle = (ready k d inside).player.idle })
@@ -149,8 +148,8 @@ module _ {B : Type 0} where
         let mine : mine_of a.seat ≡ own a.role.who last.history = l.mine r.player.numbered ∙ ap (λ (w : Who). own w last.history) (sym a.is_its) in
         let grown = of_grows g (setup_in a.seat).limits (setup_in a.seat).capacity (seen_of a.seat) last.history (mine_of a.seat) a.role l.seen r.of in
         subst (λ (x : Limits). IsOf g x last.capacity last.history (own a.role.who last.history) a.role) (sym l.limits) (
-          subst (λ (n : ℕ). IsOf g (setup_in a.seat).limits n last.history (own a.role.who last.history) a.role) (sym l.capacity) (
-            subst (λ (m : List Entry). IsOf g (setup_in a.seat).limits (setup_in a.seat).capacity last.history m a.role) mine grown))
+        subst (λ (n : ℕ). IsOf g (setup_in a.seat).limits n last.history (own a.role.who last.history) a.role) (sym l.capacity) (
+        subst (λ (m : List Entry). IsOf g (setup_in a.seat).limits (setup_in a.seat).capacity last.history m a.role) mine grown))
 
     once_last : (i j : ℕ) (r q : Role) → slice_get (map role_in actors) i ≡ Some r → slice_get (map role_in actors) j ≡ Some q → r.who ≡ q.who → i ≡ j
     once_last i j r q at_i at_j same =

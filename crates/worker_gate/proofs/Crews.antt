@@ -1,23 +1,21 @@
 -- Rounds of actors that one thread plays.
-use Rattle.std.proofs.Common.{◌≡◌, ℕ, suc, ◌+◌, ◌-◌, ◌*◌, ◌<◌, ◌≤◌, Bool, true, false, List, [], ◌∷◌, ◌++◌, ◌⊎◌, inl, inr, length, max, take, drop, set, get_or, refl, sym, ap, subst, ◌∙◌, append-nil, arith, map, All, IfOk, Result, Ok, Err}
+use Rattle.std.proofs.Common.{◌≡◌, ℕ, suc, ◌+◌, ◌<◌, ◌≤◌, true, List, [], ◌∷◌, ◌++◌, ◌⊎◌, inl, inr, length, max, take, drop, set, get_or, refl, sym, ap, subst, ◌∙◌, arith, map, All, IfOk, Result, Ok, Err}
 use Rattle.std.proofs.Math.Seq.{drop-cons, take-length}
 use Rattle.std.proofs.Math.ListN.{get_or-map}
 use Rattle.std.proofs.lemmas.List.{length-append, length-map, drop-set-lt, length-set, take_more, take_more_set}
 use Rattle.std.proofs.lemmas.List.Elements.{All-append, All-cons, All-map, All-nil, All-set, recursion_from_All}
 use Rattle.std.proofs.lemmas.List.Sums.{sum_by-append}
 use Rattle.std.specs.List.{AllByRecursion}
-use Rattle.tp_base.specs.declared.answers.Entry.{Entry}
 use Rattle.tp_base.specs.declared.ids.Who.{Who}
 use Rattle.turn_lock.specs.declared.views.Setup.{Setup}
-use Rattle.turn_lock.specs.Histories.{StartsWith}
-use Rattle.turn_lock.specs.Seats.{met_of, mine_of, seen_of, setup_in, Same}
+use Rattle.turn_lock.specs.Seats.{mine_of, seen_of}
 use Rattle.turn_lock.proofs.Beginnings.{starts_itself, starts_through}
 use Rattle.shared_pool.specs.declared.pool.SharedPool.{SharedPool}
 use Rattle.worker_gate.specs.declared.actor.Actor.{Actor}
 use Rattle.worker_gate.specs.declared.place.Place.{Place}
 use Rattle.worker_gate.specs.declared.role.Turn.{Turn}
 use Rattle.worker_gate.specs.declared.role.Turn.TheVariants.{Moved, Waiting, Ended}
-use Rattle.worker_gate.specs.Acting.{due_by, has_ended, holds_up, made_by, most_of, GoesOn, HasEnded, HasMet, HasMoved, HasWaited, IsReady, Said}
+use Rattle.worker_gate.specs.Acting.{due_by, has_ended, holds_up, made_by, most_of, GoesOn, HasMet, HasMoved, HasWaited, IsReady, Said}
 use Rattle.worker_gate.specs.Crews.{both, left_of, spare, AllReady, AreCrewsBack, AreHandedBack, GoOn, HasCause, HasPlayedRound, HaveCauses, RoundSaid}
 use Rattle.worker_gate.specs.Places.{Given}
 use Rattle.worker_gate.specs.Roles.{due_of}

@@ -72,15 +72,15 @@ module _ (P : Who → Type 0) (g : Given) (limits : Limits) (capacity : ℕ) whe
       let t = turned g limits capacity history r in
       let adds = turned_adds g limits capacity history r in
       follows_through P history t.history (round_of g limits capacity t.history roles).history
-          (record { more = adds.more; is = adds.is; known = by_actor P r.who adds.more actors.0 adds.by })
-          (round_follows t.history roles actors.1)
+      (record { more = adds.more; is = adds.is; known = by_actor P r.who adds.more actors.0 adds.by })
+      (round_follows t.history roles actors.1)
 
   rounds_follow : (n : ℕ) (s : Scene) → AreBy P s.roles → Follows P s.history (rounds g limits capacity n s).history
   rounds_follow zero s actors = follows_itself P s.history
   rounds_follow (suc n) s actors =
       let t = rounds g limits capacity n s in
       follows_through P s.history t.history (round_of g limits capacity t.history t.roles).history (rounds_follow n s actors)
-          (round_follows t.history t.roles (same_actors P s.roles t.roles (played_whos g limits capacity s t (n, refl)) actors))
+      (round_follows t.history t.roles (same_actors P s.roles t.roles (played_whos g limits capacity s t (n, refl)) actors))
 
   pub played_follows : (s t : Scene) → AreBy P s.roles → ArePlayed g limits capacity s t → Follows P s.history t.history
   played_follows s t actors played = subst (λ (x : Scene). Follows P s.history x.history) played.1 (rounds_follow played.0 s actors)
@@ -165,8 +165,8 @@ module _ (g : Given) (limits : Limits) (capacity : ℕ) (history later : List En
       let walk' = subst (Leads g limits capacity later (Client 1) [] (opening (Client 1))) split walk in
       let over : first.first.place.stage ≡ Over = finished_client 1 first.first.who first.first.place.stage first.is_first first_of.sorted first.ended in
       no_more g limits capacity later (Client 1) (own (Client 1) first.front) (place_from g (Client 1) (opening (Client 1)) (own (Client 1) first.front)) (own (Client 1) first_rest)
-          (ap (λ (p : Place). p.stage) first_place ∙ over)
-          (leads_rest g limits capacity later (Client 1) [] (opening (Client 1)) (own (Client 1) first.front) (own (Client 1) first_rest) walk')
+      (ap (λ (p : Place). p.stage) first_place ∙ over)
+      (leads_rest g limits capacity later (Client 1) [] (opening (Client 1)) (own (Client 1) first.front) (own (Client 1) first_rest) walk')
 
   pub comes_first : ComesFirst later
   comes_first =

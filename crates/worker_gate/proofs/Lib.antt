@@ -8,9 +8,5 @@ pub mod Playing
 pub mod Tellings
 pub mod Ending
 pub mod Back
-pub mod Crewing
-pub mod Opened
 mod Quiet
-pub mod Alone
 pub mod SettingUp
-pub mod OnOne

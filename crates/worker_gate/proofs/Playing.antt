@@ -189,7 +189,7 @@ module _ (g : Given) (limits : Limits) (capacity : ℕ) where
   well_turned : (history : List Entry) (r : Role) → WellAt history r → WellAt (turn_in history r).history (turn_in history r).role
   well_turned history r well =
       turned_is (λ (t : Turned). WellAt t.history t.role) history r (λ ends _. well_by r.ended r.place.stage _ well ends)
-          (λ on ended. absurd (on_off r.ended (sym (took_ended g r (due_in r) (told_to history r)) ∙ ended) (or_off r.ended _ on)))
+      (λ on ended. absurd (on_off r.ended (sym (took_ended g r (due_in r) (told_to history r)) ∙ ended) (or_off r.ended _ on)))
 
   well_kept : (history : List Entry) (r q : Role) → IsLegal limits capacity history → IsOf g limits capacity history (own r.who history) r → (q.place.stage ≡ Over) ⊎ (is_over_in limits capacity history ≡ true)
       → (q.place.stage ≡ Over) ⊎ (is_over_in limits capacity (turn_in history r).history ≡ true)
@@ -245,12 +245,13 @@ wakes_next roles later place r there so at =
     let count : length done ≡ place = length-map (take place roles) awake ∙ length-take-le place roles (omega (arith, inside)) in
     let is : later ≡ done ++ x ∷ drop (suc place) roles = so.1 ∙ ap (λ (l : List Role). done ++ l) (drop-cons roles place r inside) in
     let same : r ≡ x = at ∙ (ap (λ (l : List Role). get_or l place r) is ∙ (ap (λ (n : ℕ). get_or (done ++ x ∷ drop (suc place) roles) n r) (sym count) ∙ get_or-append_seam done x (drop (suc place) roles) r)) in
-    let front : map awake (take (place + 1) roles) ≡ done ++ awake x ∷ [] = ap (map awake) (take_more roles place r inside) ∙ map-append awake (take place roles) (x ∷ []) in
-    (length-set later place (awake r) ∙ so.0,
+    let front : map awake (take (place + 1) roles) ≡ done ++ awake x ∷ [] = ap (map awake) (take_more roles place r inside) ∙ map-append awake (take place roles) (x ∷ []) in (
+      length-set later place (awake r) ∙ so.0,
       ap (λ (l : List Role). set l place (awake r)) is ∙ (set_at done x (drop (suc place) roles) (awake r) place count
-        ∙ (ap (λ (q : Role). done ++ awake q ∷ drop (suc place) roles) same
+          ∙ (ap (λ (q : Role). done ++ awake q ∷ drop (suc place) roles) same
           ∙ (sym (append_assoc done (awake x ∷ []) (drop (suc place) roles))
-            ∙ (ap (λ (l : List Role). l ++ drop (suc place) roles) (sym front) ∙ ap (λ (n : ℕ). map awake (take (place + 1) roles) ++ drop n roles) (sym one))))))
+          ∙ (ap (λ (l : List Role). l ++ drop (suc place) roles) (sym front) ∙ ap (λ (n : ℕ). map awake (take (place + 1) roles) ++ drop n roles) (sym one))))),
+    )
 
 pub wakes_all : (roles later : List Role) (place : ℕ) → place ≡ length later → (length later ≡ length roles) × (later ≡ map awake (take place roles) ++ drop place roles) → later ≡ map awake roles
 wakes_all roles later place end so =
@@ -353,20 +354,20 @@ module _ (g : Given) where
           well = all_put (WellAt g now.limits now.capacity next.history) later place next.role there (well_turned g now.limits now.capacity now.history r well_it)
               (λ k d inside apart. well_grows g now.limits now.capacity now.history r (get_or later k d) so.legal of_it (so.well k d inside));
           ended = λ both.
-            let parts = and_parts all_ended (is_last_turn next.turn) both in
-            subst HaveEnded (sym front) (All-append (λ (q : Role). q.ended ≡ true) (take place later) (next.role ∷ []) (so.ended parts.0)
-                (All-cons (λ (q : Role). q.ended ≡ true) next.role [] (ended_turned g now.limits now.capacity now.history r parts.1) (All-nil (λ (q : Role). q.ended ≡ true))));
+              let parts = and_parts all_ended (is_last_turn next.turn) both in
+              subst HaveEnded (sym front) (All-append (λ (q : Role). q.ended ≡ true) (take place later) (next.role ∷ []) (so.ended parts.0)
+              (All-cons (λ (q : Role). q.ended ≡ true) next.role [] (ended_turned g now.limits now.capacity now.history r parts.1) (All-nil (λ (q : Role). q.ended ≡ true))));
         }
 
     pub round_goes_on : (new : Recording) (turn : Turn) (b : Role) (still : Bool) → b ≡ next.role → new ≡ turned_to → turn ≡ next.turn → still ≡ (if all_ended then is_last_turn turn else false)
         → IsOf g new.limits new.capacity new.history (own b.who new.history) b → RoundSoFar start new roles (set later place b) (place + 1) still
     round_goes_on new turn b still role_is new_is turn_is still_is of =
         let of_then : IsOf g now.limits now.capacity next.history (own next.role.who next.history) next.role =
-            subst (λ (q : Role). IsOf g now.limits now.capacity next.history (own q.who next.history) q) role_is (subst (λ (x : Recording). IsOf g x.limits x.capacity x.history (own b.who x.history) b) new_is of) in
+        subst (λ (q : Role). IsOf g now.limits now.capacity next.history (own q.who next.history) q) role_is (subst (λ (x : Recording). IsOf g x.limits x.capacity x.history (own b.who x.history) b) new_is of) in
         let ended : still ≡ (if all_ended then is_last_turn next.turn else false) = still_is ∙ ap (λ (t : Turn). if all_ended then is_last_turn t else false) turn_is in
         subst (λ (x : Bool). RoundSoFar start new roles (set later place b) (place + 1) x) (sym ended) (
-          subst (λ (x : Recording). RoundSoFar start x roles (set later place b) (place + 1) (if all_ended then is_last_turn next.turn else false)) (sym new_is) (
-            subst (λ (q : Role). RoundSoFar start turned_to roles (set later place q) (place + 1) (if all_ended then is_last_turn next.turn else false)) (sym role_is) (goes_on of_then)))
+        subst (λ (x : Recording). RoundSoFar start x roles (set later place b) (place + 1) (if all_ended then is_last_turn next.turn else false)) (sym new_is) (
+        subst (λ (q : Role). RoundSoFar start turned_to roles (set later place q) (place + 1) (if all_ended then is_last_turn next.turn else false)) (sym role_is) (goes_on of_then)))
 
   pub record RoundPlayed (start now : Recording) (roles later : List Role) (all_ended : Bool) : Type 0 where
     pub same : IsSameMachine start now
@@ -381,7 +382,7 @@ module _ (g : Given) where
       let front : take place later ≡ later = ap (λ (n : ℕ). take n later) end ∙ take-length later in
       let behind : drop place later ≡ [] = ap (λ (n : ℕ). drop n later) end ∙ drop-length later in
       let played : round_of g now.limits now.capacity start.history roles ≡ scene now.history later =
-          so.played ∙ (ap (join now.limits now.capacity now.history (take place later)) behind ∙ ap (scene now.history) (append-nil (take place later) ∙ front)) in
+      so.played ∙ (ap (join now.limits now.capacity now.history (take place later)) behind ∙ ap (scene now.history) (append-nil (take place later) ∙ front)) in
       record {
         same = so.same;
         legal = so.legal;

@@ -107,15 +107,17 @@ module _ (g : Given) (limits : Limits) (capacity : ℕ) (history : List Entry) w
     goes_by made (outcome.Done told) calm last quiet came legal =
         let e : Entry = record { who = Client number; call = made; answer = told } in
         let fits = legal_fits limits capacity most (history ++ e ∷ []) (omega arith) (omega arith) legal in
-        let one : length (history ++ e ∷ []) ≡ length history + 1 = length-append history (e ∷ []) in
-        (record { number = number; client = refl; calm = waits_quiet told made quiet calm; never = never_after made told quiet },
-        fewer most (length history) (length (history ++ e ∷ [])) marked one (omega (arith, fits)))
+        let one : length (history ++ e ∷ []) ≡ length history + 1 = length-append history (e ∷ []) in (
+          record { number = number; client = refl; calm = waits_quiet told made quiet calm; never = never_after made told quiet },
+          fewer most (length history) (length (history ++ e ∷ [])) marked one (omega (arith, fits)),
+        )
     goes_by made (outcome.Look look) calm last quiet came legal = absurd quiet
     goes_by made (outcome.Full room cost) calm last quiet came legal =
         let same : length (history ++ []) ≡ length history = ap length (append-nil history) in
-        let unmarked : marked ≡ false = marks marked made room cost refl last came in
-        (record { number = number; client = refl; calm = refl; never = never },
-        subst (λ (b : Bool). (most - length (history ++ [])) * 2 + 0 < (most - length history) * 2 + (if b then 0 else 1)) (sym unmarked) (omega (arith, same)))
+        let unmarked : marked ≡ false = marks marked made room cost refl last came in (
+          record { number = number; client = refl; calm = refl; never = never },
+          subst (λ (b : Bool). (most - length (history ++ [])) * 2 + 0 < (most - length history) * 2 + (if b then 0 else 1)) (sym unmarked) (omega (arith, same)),
+        )
 
     goes : GoesBy client (due_of g (Client number) client.place marked) (comes_to limits capacity history (Client number) (due_of g (Client number) client.place marked))
     goes =
@@ -148,9 +150,9 @@ module _ (g : Given) (limits : Limits) (capacity : ℕ) (history : List Entry) w
         let sorted : is_of_client r.place.stage ≡ true = subst (λ (w : Who). is_stage_of w r.place.stage ≡ true) alone.client of.sorted in
         let facts = machine_facts limits capacity history (legal_front limits capacity history (entries_told r.who (due_of g r.who r.place r.marked) (comes_to limits capacity history r.who (due_of g r.who r.place r.marked))) legal) in
         goes_as alone.number r.who r.place.stage r.place.waits r.place.at r.place.cut r.marked r.ended facts of.actor
-            (ap (λ (p : Place). p.stage) of.place_is ∙ stage_is g r.who (opening r.who) (own r.who history))
-            (ap (λ (p : Place). p.waits) of.place_is ∙ waits_is g r.who (opening r.who) (own r.who history))
-            alone.never alone.client (plays_on r.place.stage sorted going.1) alone.calm refl legal)
+        (ap (λ (p : Place). p.stage) of.place_is ∙ stage_is g r.who (opening r.who) (own r.who history))
+        (ap (λ (p : Place). p.waits) of.place_is ∙ waits_is g r.who (opening r.who) (own r.who history))
+        alone.never alone.client (plays_on r.place.stage sorted going.1) alone.calm refl legal)
 
 -- ---- turn by turn
 
@@ -174,10 +176,10 @@ module _ (g : Given) where
     pub alone_played : ArePlayed g start.limits start.capacity (scene start.history (first ∷ [])) (scene last.history (q ∷ []))
     alone_played =
         let next : scene last.history (q ∷ []) ≡ scene (turned g now.limits now.capacity now.history r).history ((turned g now.limits now.capacity now.history r).role ∷ []) =
-            ap (λ (h : List Entry). scene h (q ∷ [])) (ap (λ (n : Recording). n.history) book_is) ∙ ap (λ (x : Role). scene (turned g now.limits now.capacity now.history r).history (x ∷ [])) role_is in
+        ap (λ (h : List Entry). scene h (q ∷ [])) (ap (λ (n : Recording). n.history) book_is) ∙ ap (λ (x : Role). scene (turned g now.limits now.capacity now.history r).history (x ∷ [])) role_is in
         played_more g start.limits start.capacity (scene start.history (first ∷ [])) (scene now.history (r ∷ [])) (scene last.history (q ∷ [])) so.played
-            (next ∙ (ap (λ (l : Limits). let t = turned g l now.capacity now.history r in scene t.history (t.role ∷ [])) so.same.limits
-            ∙ ap (λ (n : ℕ). let t = turned g start.limits n now.history r in scene t.history (t.role ∷ [])) so.same.capacity))
+        (next ∙ (ap (λ (l : Limits). let t = turned g l now.capacity now.history r in scene t.history (t.role ∷ [])) so.same.limits
+        ∙ ap (λ (n : ℕ). let t = turned g start.limits n now.history r in scene t.history (t.role ∷ [])) so.same.capacity))
 
     pub alone_legal : IsLegal start.limits start.capacity start.history → IsLegal last.limits last.capacity last.history
     alone_legal legal = subst (λ (n : Recording). IsLegal n.limits n.capacity n.history) (sym book_is) (legal_turned g now.limits now.capacity now.history r (so.legal legal))

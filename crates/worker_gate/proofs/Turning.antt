@@ -66,7 +66,7 @@ module _ (g : Given) (limits : Limits) (capacity : ℕ) (history entries : List 
       record {
         actor = of.actor;
         leads = leads_snoc g limits capacity later r.who [] (opening r.who) entries e (leads_grow g limits capacity history later more r.who [] (opening r.who) entries of.leads)
-                (subst (λ (p : Place). FollowsAt g limits capacity later r.who entries p p.stage e) of.place_is follows);
+            (subst (λ (p : Place). FollowsAt g limits capacity later r.who entries p p.stage e) of.place_is follows);
         place_is = ap (λ (p : Place). place_after g r.who p due told) of.place_is ∙ sym (from_snoc g r.who (opening r.who) entries e);
         calm = goes.calm;
         sorted = goes.sorted;

@@ -17,22 +17,6 @@ use Rattle.worker_gate.specs.Places.{Given}
 use Rattle.worker_gate.specs.Roles.{new_role}
 
 module _ {B : Type 0} where
-  -- ---- the actors of a new pool
-
-  -- each seat is one of a machine of these limits, and has made no call
-  pub record IsUnplayed (limits : Limits) (seat : Seat B) : Type 0 where
-    pub limits_are : (setup_in seat).limits ≡ limits
-    pub numbered : 0 < number_of seat
-    pub mine : mine_of seat ≡ []
-
-  abbrev pub AreNew : Limits → List (Seat B) → Type 0
-  AreNew limits seats = All (IsUnplayed limits) seats
-
-  -- the seats in their order, each with the role of its actor, which has made no call
-  pub record AreSeated (limits : Limits) (seats : List (Seat B)) (actors : List (Actor B)) : Type 0 where
-    pub seats_are : map seat_in actors ≡ seats
-    pub roles_are : map role_in actors ≡ map (λ (seat : Seat B). new_role (actor_of limits (number_of seat))) seats
-
   -- ---- what client 1 has told the others
 
   -- another actor has seen all that the first one had, and knows its own entries of that

@@ -78,27 +78,6 @@ pub record IsSameMachine (old new : Recording) : Type 0 where
   pub limits : new.limits ≡ old.limits
   pub capacity : new.capacity ≡ old.capacity
 
--- ---- all on one thread
-
--- so many new roles, of the actors from number 2 on
-abbrev pub others_to : Limits → ℕ → List Role
-others_to limits zero = []
-others_to limits (suc n) = others_to limits n ++ new_role (actor_of limits (n + 2)) ∷ []
-
--- those of all actors but client 1: first the clients, then the workers
-abbrev pub others_of : Limits → List Role
-others_of limits = others_to limits (limits.clients + limits.workers - 1)
-
--- client 1 has turns until it has ended, and then each of the others has one in each round, until all have ended
-pub record IsAlone (g : Given) (limits : Limits) (capacity : ℕ) (history : List Entry) : Type 0 where
-  pub first : Role
-  pub front : List Entry
-  pub begins : ArePlayed g limits capacity (scene [] (new_role (Client 1) ∷ [])) (scene front (first ∷ []))
-  pub first_ended : first.ended ≡ true
-  pub roles : List Role
-  pub goes_on : ArePlayed g limits capacity (scene front (others_of limits)) (scene history roles)
-  pub all_ended : HaveEnded roles
-
 -- ---- a part without waits
 
 abbrev pub begins_wait : Call → Bool

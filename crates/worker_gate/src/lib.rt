@@ -28,7 +28,6 @@ mod crew;
 mod place;
 mod role;
 mod rounds;
-mod run;
 mod telling;
 
 pub use actor::Actor;
@@ -37,5 +36,4 @@ pub use crew::{play_crew, play_crews};
 pub use place::Place;
 pub use role::{Gate, Role, Turn};
 pub use rounds::{play_alone, set_up};
-pub use run::play_routines;
 pub use telling::{finish, tell_all};

@@ -5,7 +5,7 @@ ghost use Rattle.tp_base.specs.Ranges.{IsCallInRange};
 ghost use Rattle.tp_model.specs.History.{IsLegal};
 ghost use Rattle.tp_script.specs.Calls.{IsOfPart};
 ghost use Rattle.recorded.specs.Recordings.{is_over_behind};
-ghost use Rattle.turn_lock.specs.Histories.{actor_of, own};
+ghost use Rattle.turn_lock.specs.Histories.{own};
 ghost use Rattle.worker_gate.specs.Places.{given, next_call};
 ghost use Rattle.worker_gate.specs.Roles.{due_at, due_of, due_or, ends, ends_at, is_idle_take, is_last_turn, new_role, took, turn_by, turned, who_of, IsOf};
 
@@ -14,7 +14,6 @@ use recorded::Recorded;
 use tp_base::answers::{Answer, Outcome};
 use tp_base::calls::Call;
 use tp_base::ids::Who;
-use tp_base::limits::Limits;
 use tp_base::plans::Stage;
 use tp_script::Routines;
 
@@ -70,18 +69,6 @@ impl Role {
         ensures { result ≡ new_role (Who.Worker number) }
     {
         Role::new(Who::Worker(number))
-    }
-
-    // The role of the actor of a number: first come the clients, then the workers.
-    pub(crate) fn numbered(limits: Limits, number: u32) -> Role
-        requires { 1 ≤ number }
-        ensures { result ≡ new_role (actor_of limits number) }
-    {
-        if number <= limits.clients {
-            Role::client(number)
-        } else {
-            Role::worker(number - limits.clients)
-        }
     }
 
     fn new(who: Who) -> Role

@@ -7,11 +7,11 @@ returns-clause-runs g c =
     let p = c.play_alone.ensures in
     let now = g.B.Recorded.recording c.play_alone.new.book in
     run_of (given g.R.Routines.next_of g.R.Routines.after_of c.args.routines.now) (g.B.Recorded.recording c.args.book.now) now.limits now.capacity now.history c.args.roles.now.items c.play_alone.new.roles.items
-        c.requires.all c.requires.covers c.requires.known c.requires.first c.requires.client p.same.limits p.same.capacity p.played p.all p.ended p.over
+    c.requires.all c.requires.covers c.requires.known c.requires.first c.requires.client p.same.limits p.same.capacity p.played p.all p.ended p.over
 
 pub returns-clause-cut : goal.returns-clause-cut
 returns-clause-cut g c =
     let p = c.play_alone.ensures in
     let now = g.B.Recorded.recording c.play_alone.new.book in
     cut_of (given g.R.Routines.next_of g.R.Routines.after_of c.args.routines.now) (g.B.Recorded.recording c.args.book.now) now.limits now.capacity now.history c.args.roles.now.items c.play_alone.new.roles.items
-        c.requires.all c.requires.covers c.requires.known c.requires.first c.requires.client p.same.limits p.same.capacity p.played p.all p.ended p.over c.any_cut.result c.any_cut.ensures
+    c.requires.all c.requires.covers c.requires.known c.requires.first c.requires.client p.same.limits p.same.capacity p.played p.all p.ended p.over c.any_cut.result c.any_cut.ensures

@@ -1,4 +1,3 @@
-use Rattle.std.proofs.Common.{◌≡◌, length}
 use Rattle.worker_gate.specs.Places.{given}
 use Rattle.worker_gate.proofs.Crews.{RoundSoFar}
 use Rattle.worker_gate.proofs.crew.play_round.Given as goal

@@ -8,15 +8,18 @@ loop-init g c = (tt, tt, rounds_begin (given g.R.Routines.next_of g.R.Routines.a
 
 pub loop-preserved : goal.loop-preserved
 loop-preserved g c =
-    let p = c.play_one.ensures in
-    (tt, tt, rounds_go_on (given g.R.Routines.next_of g.R.Routines.after_of c.args.routines.now) (g.B.Recorded.recording c.args.book.now) (g.B.Recorded.recording c.loop.book) (g.B.Recorded.recording c.play_one.new.book) c.args.roles.now.items c.loop.roles.items c.play_one.new.roles.items
-        c.loop.invariant.2 p.same p.played p.all p.legal p.ended)
+    let p = c.play_one.ensures in (
+      tt,
+      tt,
+      rounds_go_on (given g.R.Routines.next_of g.R.Routines.after_of c.args.routines.now) (g.B.Recorded.recording c.args.book.now) (g.B.Recorded.recording c.loop.book) (g.B.Recorded.recording c.play_one.new.book) c.args.roles.now.items c.loop.roles.items c.play_one.new.roles.items
+          c.loop.invariant.2 p.same p.played p.all p.legal p.ended,
+    )
 
 pub returns-then-play_one-clause-played : goal.returns-then-play_one-clause-played
 returns-then-play_one-clause-played g c =
     let p = c.play_one.ensures in
     (rounds_go_on (given g.R.Routines.next_of g.R.Routines.after_of c.args.routines.now) (g.B.Recorded.recording c.args.book.now) (g.B.Recorded.recording c.loop.book) (g.B.Recorded.recording c.play_one.new.book) c.args.roles.now.items c.loop.roles.items c.play_one.new.roles.items
-        c.loop.invariant.2 p.same p.played p.all p.legal p.ended).played
+    c.loop.invariant.2 p.same p.played p.all p.legal p.ended).played
 
 pub returns-then-play_one-clause-over : goal.returns-then-play_one-clause-over
 returns-then-play_one-clause-over g c =
@@ -24,5 +27,5 @@ returns-then-play_one-clause-over g c =
     let γ = given g.R.Routines.next_of g.R.Routines.after_of c.args.routines.now in
     let last = g.B.Recorded.recording c.play_one.new.book in
     let so = rounds_go_on γ (g.B.Recorded.recording c.args.book.now) (g.B.Recorded.recording c.loop.book) last c.args.roles.now.items c.loop.roles.items c.play_one.new.roles.items
-        c.loop.invariant.2 p.same p.played p.all p.legal p.ended in
+    c.loop.invariant.2 p.same p.played p.all p.legal p.ended in
     rounds_over γ (g.B.Recorded.recording c.args.book.now) last c.args.roles.now.items c.play_one.new.roles.items c.requires.worker so (p.over c.if-play_one.true)

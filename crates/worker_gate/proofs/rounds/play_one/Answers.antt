@@ -15,4 +15,4 @@ loop-place-preserved g c =
       | else-all_ended w ↦ still_off γ c.loop-place.all_ended c.if-all_ended.all_ended (is_last_turn c.turn-turn.result) w.if-all_ended.false (w.all_ended-is ∙ w.if-all_ended.false)
     ] in
     round_goes_on γ (g.B.Recorded.recording c.args.book.now) (g.B.Recorded.recording c.loop-place.book) c.args.roles.now.items c.loop-place.roles.items c.loop-place.place c.loop-place.all_ended c.index_mut.result.now there so c.index_mut.ensures.value
-        (g.B.Recorded.recording c.turn-turn.new.book) c.turn-turn.result c.turn-turn.new.self c.if-all_ended.all_ended c.turn-turn.ensures.role c.turn-turn.ensures.book c.turn-turn.ensures.turn still c.turn-turn.ensures.of
+    (g.B.Recorded.recording c.turn-turn.new.book) c.turn-turn.result c.turn-turn.new.self c.if-all_ended.all_ended c.turn-turn.ensures.role c.turn-turn.ensures.book c.turn-turn.ensures.turn still c.turn-turn.ensures.of

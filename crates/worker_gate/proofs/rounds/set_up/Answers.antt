@@ -8,32 +8,32 @@ loop-smaller g c =
     let t = c.turn.ensures in
     let more = sym c.is_last.ensures ∙ c.if-is_last.false in
     alone_less (given g.R.Routines.next_of g.R.Routines.after_of c.args.routines.now) (g.B.Recorded.recording c.args.book.now) (g.B.Recorded.recording c.loop.book) (g.B.Recorded.recording c.turn.new.book) c.args.role.now c.loop.role c.turn.new.self
-        c.loop.invariant t.role t.book c.turn.result t.turn more (t.legal more)
+    c.loop.invariant t.role t.book c.turn.result t.turn more (t.legal more)
 
 pub loop-preserved : goal.loop-preserved
 loop-preserved g c =
     let t = c.turn.ensures in
     let more = sym c.is_last.ensures ∙ c.if-is_last.false in
     alone_goes_on (given g.R.Routines.next_of g.R.Routines.after_of c.args.routines.now) (g.B.Recorded.recording c.args.book.now) (g.B.Recorded.recording c.loop.book) (g.B.Recorded.recording c.turn.new.book) c.args.role.now c.loop.role c.turn.new.self
-        c.loop.invariant t.role t.book c.turn.result t.turn more (t.legal more) t.of
+    c.loop.invariant t.role t.book c.turn.result t.turn more (t.legal more) t.of
 
 pub returns-then-is_last-clause-played : goal.returns-then-is_last-clause-played
 returns-then-is_last-clause-played g c =
     let t = c.turn.ensures in
     alone_played (given g.R.Routines.next_of g.R.Routines.after_of c.args.routines.now) (g.B.Recorded.recording c.args.book.now) (g.B.Recorded.recording c.loop.book) (g.B.Recorded.recording c.turn.new.book) c.args.role.now c.loop.role c.turn.new.self
-        c.loop.invariant t.role t.book
+    c.loop.invariant t.role t.book
 
 pub returns-then-is_last-clause-legal : goal.returns-then-is_last-clause-legal
 returns-then-is_last-clause-legal g c =
     let t = c.turn.ensures in
     alone_legal (given g.R.Routines.next_of g.R.Routines.after_of c.args.routines.now) (g.B.Recorded.recording c.args.book.now) (g.B.Recorded.recording c.loop.book) (g.B.Recorded.recording c.turn.new.book) c.args.role.now c.loop.role c.turn.new.self
-        c.loop.invariant t.role t.book
+    c.loop.invariant t.role t.book
 
 pub returns-then-is_last-clause-who : goal.returns-then-is_last-clause-who
 returns-then-is_last-clause-who g c =
     let t = c.turn.ensures in
     alone_who (given g.R.Routines.next_of g.R.Routines.after_of c.args.routines.now) (g.B.Recorded.recording c.args.book.now) (g.B.Recorded.recording c.loop.book) (g.B.Recorded.recording c.turn.new.book) c.args.role.now c.loop.role c.turn.new.self
-        c.loop.invariant t.role t.book
+    c.loop.invariant t.role t.book
 
 pub loop-init : goal.loop-init
 loop-init g c = alone_begins (given g.R.Routines.next_of g.R.Routines.after_of c.args.routines.now) (g.B.Recorded.recording c.args.book.now) c.args.role.now c.requires.of c.requires.alone

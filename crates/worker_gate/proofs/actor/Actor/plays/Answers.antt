@@ -1,5 +1,4 @@
-use Rattle.std.proofs.Common.{◌≡◌, ◌∙◌, ap, sym, subst}
-use Rattle.tp_base.specs.declared.answers.Outcome.{Outcome}
+use Rattle.std.proofs.Common.{sym, subst}
 use Rattle.shared_pool.specs.declared.pool.Tried.{Tried}
 use Rattle.worker_gate.specs.Places.{given}
 use Rattle.worker_gate.proofs.Acting.{played_goes_on, played_ready, played_said, tried_ended, Tells}

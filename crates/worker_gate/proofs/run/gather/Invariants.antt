@@ -1,9 +1,0 @@
-use Rattle.std.proofs.Common.{◌≡◌, ◌∷◌, ◌++◌, vec_items}
-use Rattle.std.specs.List.{flat_map}
-use Rattle.std.specs.Vec.Iter.{into_iter_items}
-use Rattle.worker_gate.proofs.run.gather.Given as goal
-
-abbrev pub invariant-loop-crew : goal.invariant-loop-crew
-invariant-loop-crew g l =
-    (goal.iterator-loop-crew g).can_next l.crew-iterator × (goal.iterator-loop-crew g).is_finite l.crew-iterator
-    × (l.fn.crews.items ≡ l.yielded ++ into_iter_items l.crew-iterator) × (l.actors.items ≡ l.fn.first ∷ flat_map vec_items l.yielded)
