@@ -1,7 +1,6 @@
 -- A pool that is closed, with all its actors: what its history and their roles are.
-use Rattle.std.proofs.Common.{◌≡◌, ℕ, ◌+◌, ◌-◌, ◌<◌, ◌≤◌, Bool, true, false, cond, nat_le, List, [], ◌∷◌, ◌++◌, Option, Some, length, map, get_or, slice_get, refl, sym, ap, subst, ◌∙◌, arith, All}
+use Rattle.std.proofs.Common.{◌≡◌, ℕ, ◌+◌, ◌-◌, ◌<◌, ◌≤◌, Bool, true, false, cond, nat_le, List, Some, map, get_or, slice_get, refl, sym, ap, subst, ◌∙◌, arith, All}
 use Rattle.std.proofs.lemmas.Bool.Decides.{nat_tests}
-use Rattle.std.proofs.lemmas.List.{length-map}
 use Rattle.std.proofs.lemmas.List.Elements.{All-map}
 use Rattle.std.proofs.lemmas.Option.{get_or_from_slice_get, slice_get-get_or, slice_get-map, slice_get_within}
 use Rattle.std.specs.Option.{option_map}
@@ -12,14 +11,13 @@ use Rattle.tp_base.specs.declared.limits.Limits.{Limits}
 use Rattle.tp_model.specs.History.{IsLegal}
 use Rattle.tp_model.specs.Stages.{IsActor}
 use Rattle.recorded.specs.Recordings.{Recording}
-use Rattle.turn_lock.specs.declared.seats.Seat.{Seat}
 use Rattle.turn_lock.specs.declared.views.Setup.{Setup}
-use Rattle.turn_lock.specs.Histories.{actor_of, own, StartsWith}
+use Rattle.turn_lock.specs.Histories.{actor_of, own}
 use Rattle.turn_lock.specs.Rule.{IsSeated}
 use Rattle.turn_lock.specs.Seats.{actor_in, mine_of, number_of, seen_of, setup_in, IsLast}
 use Rattle.turn_lock.proofs.Beginnings.{starts_through}
 use Rattle.shared_pool.specs.declared.pool.SharedPool.{SharedPool}
-use Rattle.shared_pool.specs.Pools.{lock_in, pool_setup, setup_at, HaveAll, IsSeatOf}
+use Rattle.shared_pool.specs.Pools.{setup_at, IsSeatOf}
 use Rattle.worker_gate.specs.declared.actor.Actor.{Actor}
 use Rattle.worker_gate.specs.declared.role.Role.{Role}
 use Rattle.worker_gate.specs.Acting.{role_in, seat_in, IsReady}

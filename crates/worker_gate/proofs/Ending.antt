@@ -1,29 +1,29 @@
 -- What is played to its end is a run.
-use Rattle.std.proofs.Common.{◌≡◌, ℕ, zero, suc, ◌≤◌, Bool, true, false, cond, List, [], ◌∷◌, ◌++◌, Some, length, map, get_or, slice_get, refl, sym, ap, subst, ◌∙◌, append-nil, append_assoc, arith, All}
+use Rattle.std.proofs.Common.{◌≡◌, ℕ, zero, suc, ◌≤◌, Bool, true, false, cond, List, [], ◌∷◌, ◌++◌, map, get_or, refl, sym, ap, subst, ◌∙◌, append-nil, append_assoc, arith}
 use Rattle.std.specs.Prelude.{◌↔◌}
 use Rattle.std.proofs.lemmas.List.Elements.{All-append, All-from_recursion, recursion_from_All}
 use Rattle.std.proofs.lemmas.Option.{get_or_from_slice_get, slice_get_within}
 use Rattle.std.specs.List.{AllByRecursion, Any}
 use Rattle.tp_base.specs.declared.answers.Entry.{Entry}
 use Rattle.tp_base.specs.declared.ids.Who.{Who}
-use Rattle.tp_base.specs.declared.ids.Who.TheVariants.{Client, Worker}
+use Rattle.tp_base.specs.declared.ids.Who.TheVariants.{Client}
 use Rattle.tp_base.specs.declared.limits.Limits.{Limits}
 use Rattle.tp_base.specs.declared.plans.Stage.{Stage}
 use Rattle.tp_base.specs.declared.plans.Stage.TheVariants.{Away, Busy, Idle, Over, Playing}
 use Rattle.tp_base.specs.Actors.{is_same_actor}
 use Rattle.tp_model.specs.Stages.{is_in_part, IsActor}
 use Rattle.recorded.specs.Recordings.{Recording}
-use Rattle.turn_lock.specs.Histories.{own, StartsWith}
-use Rattle.turn_lock.proofs.Beginnings.{actor_itself, same_actor}
+use Rattle.turn_lock.specs.Histories.{own}
+use Rattle.turn_lock.proofs.Beginnings.{actor_itself}
 use Rattle.worker_gate.specs.declared.place.Place.{Place}
 use Rattle.worker_gate.specs.declared.role.Role.{Role}
 use Rattle.worker_gate.specs.Closing.{IsCutIn, IsFirstPlayed}
 use Rattle.worker_gate.specs.Places.{Given, opening, place_after, place_from}
 use Rattle.worker_gate.specs.Roles.{is_stage_of, turned, who_of, IsOf}
-use Rattle.worker_gate.specs.Rounds.{awake, round_of, rounds, scene, AllOf, ArePlayed, HasRole, HaveAllRoles, HaveEnded, IsSameMachine, Scene}
+use Rattle.worker_gate.specs.Rounds.{awake, round_of, rounds, scene, AllOf, ArePlayed, HasRole, HaveAllRoles, HaveEnded, Scene}
 use Rattle.worker_gate.specs.Runs.{is_over_in, AreKnown, ComesFirst, IsCutShort, Runs, Whole}
 use Rattle.worker_gate.specs.Walks.{FollowsAt, Leads}
-use Rattle.worker_gate.proofs.Playing.{played_whos, role_kept, same_whos, turned_adds, turned_who, Adds}
+use Rattle.worker_gate.proofs.Playing.{played_whos, role_kept, same_whos, turned_adds}
 use Rattle.worker_gate.proofs.RoleFacts.{cut_by_roles}
 use Rattle.worker_gate.proofs.Walking.{own_append}
 

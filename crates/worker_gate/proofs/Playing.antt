@@ -15,7 +15,7 @@ use Rattle.tp_base.specs.declared.ids.Who.TheVariants.{Client, Worker}
 use Rattle.tp_base.specs.declared.limits.Limits.{Limits}
 use Rattle.tp_base.specs.declared.plans.Stage.{Stage}
 use Rattle.tp_base.specs.declared.plans.Stage.TheVariants.{Away, Busy, Idle, Over, Playing}
-use Rattle.tp_model.specs.History.{after, after_from, led_to, room, IsLegal, IsLegalFrom}
+use Rattle.tp_model.specs.History.{after_from, led_to, room, IsLegal, IsLegalFrom}
 use Rattle.tp_model.specs.Stages.{is_busy_stage, is_in_part, stage_of, IsActor, MachineFacts}
 use Rattle.tp_model.specs.Step.{outcome_of}
 use Rattle.tp_model.specs.Table.{step}
@@ -27,7 +27,6 @@ use Rattle.turn_lock.proofs.Beginnings.{own_other}
 use Rattle.worker_gate.specs.declared.place.Place.{Place}
 use Rattle.worker_gate.specs.declared.role.Role.{Role}
 use Rattle.worker_gate.specs.declared.role.Turn.{Turn}
-use Rattle.worker_gate.specs.declared.role.Turn.TheVariants.{Ended, Moved, Waiting}
 use Rattle.worker_gate.specs.Places.{Given, opening}
 use Rattle.worker_gate.specs.Roles.{due_of, ended_turn, ends, ends_at, is_last_turn, is_stage_of, played_turn, took, turn_by, turned, who_of, IsOf, Turned}
 use Rattle.worker_gate.specs.Rounds.{awake, round_of, rounds, scene, AllOf, ArePlayed, HasRole, EndedWell, HaveEnded, IsSameMachine, Scene}

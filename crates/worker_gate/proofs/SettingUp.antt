@@ -9,15 +9,14 @@ use Rattle.tp_base.specs.declared.answers.Outcome.TheVariants as outcome
 use Rattle.tp_base.specs.declared.calls.Call.{Call}
 use Rattle.tp_base.specs.declared.calls.Call.TheVariants.{Finish}
 use Rattle.tp_base.specs.declared.ids.Who.{Who}
-use Rattle.tp_base.specs.declared.ids.Who.TheVariants.{Client, Worker}
+use Rattle.tp_base.specs.declared.ids.Who.TheVariants.{Client}
 use Rattle.tp_base.specs.declared.limits.Limits.{Limits}
 use Rattle.tp_base.specs.declared.plans.Stage.{Stage}
 use Rattle.tp_base.specs.declared.plans.Stage.TheVariants.{Away, Busy, Idle, Over, Playing}
 use Rattle.tp_model.specs.History.{after, IsLegal}
-use Rattle.tp_model.specs.Stages.{first_stage, is_over_stage, stage_of, waits_from, waits_of, IsActor, MachineFacts}
+use Rattle.tp_model.specs.Stages.{is_over_stage, stage_of, waits_of, IsActor, MachineFacts}
 use Rattle.tp_model.proofs.Facts.{machine_facts}
 use Rattle.tp_model.proofs.Fitting.{legal_fits}
-use Rattle.tp_script.specs.declared.routines.Part.{Part}
 use Rattle.tp_script.specs.declared.routines.Part.TheVariants as part
 use Rattle.tp_script.specs.declared.routines.Progress.{Progress}
 use Rattle.tp_script.specs.Nexts.{first_progress}
@@ -27,7 +26,7 @@ use Rattle.worker_gate.specs.declared.place.Place.{Place}
 use Rattle.worker_gate.specs.declared.role.Role.{Role}
 use Rattle.worker_gate.specs.declared.role.Turn.{Turn}
 use Rattle.worker_gate.specs.Places.{is_last, is_taken, opening, Given}
-use Rattle.worker_gate.specs.Roles.{due_of, due_or, ended_turn, ends, is_last_turn, is_of_client, is_stage_of, played_turn, took, turned, IsOf, Turned}
+use Rattle.worker_gate.specs.Roles.{due_of, due_or, is_last_turn, is_of_client, is_stage_of, took, turned, IsOf, Turned}
 use Rattle.worker_gate.specs.Rounds.{begins_wait, scene, ArePlayed, IsSameMachine, NeverWaits, PlaysAlone}
 use Rattle.worker_gate.specs.Runs.{is_over_in}
 use Rattle.worker_gate.specs.Walks.{comes_to}

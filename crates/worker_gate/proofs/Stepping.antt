@@ -1,5 +1,5 @@
 -- What the due call of an actor leads to, by its stage, its wait and its mark.
-use Rattle.std.proofs.Common.{◌≡◌, ℕ, Bool, true, false, List, [], ◌∷◌, ◌++◌, ◌⊎◌, inl, inr, Option, None, Some, IfSome, is_some, refl, sym, ap, subst, ◌∙◌, append-nil}
+use Rattle.std.proofs.Common.{◌≡◌, ℕ, Bool, true, false, List, inl, inr, Option, None, Some, IfSome, is_some, refl, sym, ap, subst, ◌∙◌}
 use Rattle.tp_base.specs.declared.answers.Answer.{Answer}
 use Rattle.tp_base.specs.declared.answers.Answer.TheVariants as answer
 use Rattle.tp_base.specs.declared.answers.Entry.{Entry}
@@ -19,12 +19,12 @@ use Rattle.tp_model.proofs.Standing.{busy_stays, playing_stays}
 use Rattle.tp_script.specs.Calls.{IsOfPart}
 use Rattle.tp_script.specs.declared.routines.Progress.{Progress}
 use Rattle.recorded.specs.Recordings.{room_of}
-use Rattle.turn_lock.specs.Histories.{own, StartsWith}
+use Rattle.turn_lock.specs.Histories.{own}
 use Rattle.turn_lock.proofs.Beginnings.{starts_itself}
 use Rattle.worker_gate.specs.declared.place.Place.{Place}
-use Rattle.worker_gate.specs.Places.{client_part, is_last, next_call, next_in, part_in, place_after, Given}
-use Rattle.worker_gate.specs.Roles.{due_at, due_of, due_or, is_idle_take, is_stage_of}
-use Rattle.worker_gate.specs.Walks.{comes_to, is_full, Closes, CutAt, FollowsAt, IsCut}
+use Rattle.worker_gate.specs.Places.{is_last, next_call, Given}
+use Rattle.worker_gate.specs.Roles.{due_of, due_or, is_idle_take, is_stage_of}
+use Rattle.worker_gate.specs.Walks.{comes_to, is_full, Closes, FollowsAt, IsCut}
 
 -- a call of a part is not a last one
 not_last : (made : Call) → IsOfPart made → is_last made ≡ false

@@ -1,13 +1,12 @@
 -- What client 1 has told the others.
-use Rattle.std.proofs.Common.{◌≡◌, ℕ, suc, ◌+◌, ◌<◌, Bool, true, false, List, [], ◌∷◌, ◌++◌, Some, length, take, drop, set, get_or, slice_get, refl, sym, ap, subst, ◌∙◌, append-nil, append_assoc, arith, All}
+use Rattle.std.proofs.Common.{◌≡◌, ℕ, suc, ◌+◌, ◌<◌, List, [], ◌∷◌, ◌++◌, length, take, drop, set, get_or, refl, sym, ap, subst, ◌∙◌, arith, All}
 use Rattle.std.proofs.Math.Seq.{drop-cons, take-length}
 use Rattle.std.proofs.lemmas.List.{drop-set-lt, length-set, take_more, take_more_set}
 use Rattle.std.proofs.lemmas.List.Elements.{All-set}
-use Rattle.tp_base.specs.declared.answers.Entry.{Entry}
 use Rattle.tp_base.specs.declared.ids.Who.{Who}
-use Rattle.turn_lock.specs.Histories.{own, StartsWith}
-use Rattle.turn_lock.specs.Seats.{actor_in, mine_of, seen_of}
-use Rattle.turn_lock.proofs.Beginnings.{starts_itself, starts_through}
+use Rattle.turn_lock.specs.Histories.{own}
+use Rattle.turn_lock.specs.Seats.{mine_of, seen_of}
+use Rattle.turn_lock.proofs.Beginnings.{starts_through}
 use Rattle.shared_pool.specs.declared.pool.SharedPool.{SharedPool}
 use Rattle.shared_pool.specs.Pools.{IsPlayer}
 use Rattle.worker_gate.specs.declared.actor.Actor.{Actor}

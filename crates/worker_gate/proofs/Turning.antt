@@ -2,7 +2,6 @@
 use Rattle.std.proofs.Common.{◌≡◌, ℕ, ◌+◌, Bool, true, false, ◌||◌, List, [], ◌∷◌, ◌++◌, IfSome, refl, sym, ap, subst, ◌∙◌, append-nil}
 use Rattle.tp_base.specs.declared.answers.Answer.{Answer}
 use Rattle.tp_base.specs.declared.answers.Entry.{Entry}
-use Rattle.tp_base.specs.declared.answers.Look.{Look}
 use Rattle.tp_base.specs.declared.answers.Outcome.{Outcome}
 use Rattle.tp_base.specs.declared.answers.Outcome.TheVariants as outcome
 use Rattle.tp_base.specs.declared.calls.Call.{Call}
@@ -21,12 +20,12 @@ use Rattle.turn_lock.specs.Histories.{own, StartsWith}
 use Rattle.turn_lock.proofs.Beginnings.{own_more}
 use Rattle.worker_gate.specs.declared.place.Place.{Place}
 use Rattle.worker_gate.specs.declared.role.Role.{Role}
-use Rattle.worker_gate.specs.Places.{Given, next_call, opening, place_after, place_from}
+use Rattle.worker_gate.specs.Places.{Given, next_call, opening, place_after}
 use Rattle.worker_gate.specs.Roles.{due_of, ends, ends_at, is_idle_take, took, IsOf}
 use Rattle.worker_gate.specs.Runs.{is_over_in}
 use Rattle.worker_gate.specs.Walks.{comes_to, is_full, FollowsAt, IsCut}
 use Rattle.worker_gate.proofs.Stepping.{cut_by, goes_at, in_part_no_take, Goes, Stands}
-use Rattle.worker_gate.proofs.Walking.{follows_grow, from_snoc, is_cut_grows, leads_grow, leads_snoc, stage_is, waits_is}
+use Rattle.worker_gate.proofs.Walking.{follows_grow, from_snoc, leads_grow, leads_snoc, stage_is, waits_is}
 
 -- the due call of a role that hasn't ended, behind a history that has just these entries of its actor: what a turn on a
 -- machine of its own and one on a pool rest on

@@ -1,8 +1,7 @@
 -- Walks that go on, in histories that go on.
-use Rattle.std.proofs.Common.{◌≡◌, ℕ, Bool, true, false, List, [], ◌∷◌, ◌++◌, ◌⊎◌, inl, inr, Option, None, Some, refl, sym, subst, append_assoc, append-nil}
+use Rattle.std.proofs.Common.{◌≡◌, ℕ, List, [], ◌∷◌, ◌++◌, inl, inr, refl, sym, subst, append_assoc, append-nil}
 use Rattle.std.proofs.lemmas.List.Elements.{filter-append}
 use Rattle.std.proofs.lemmas.List.Sums.{fold-append}
-use Rattle.std.specs.List.{fold}
 use Rattle.tp_base.specs.declared.calls.Call.{Call}
 use Rattle.tp_base.specs.declared.answers.Entry.{Entry}
 use Rattle.tp_base.specs.declared.ids.Who.{Who}
@@ -10,12 +9,12 @@ use Rattle.tp_base.specs.declared.limits.Limits.{Limits}
 use Rattle.tp_base.specs.declared.plans.Stage.{Stage}
 use Rattle.tp_base.specs.declared.plans.Stage.TheVariants.{Away, Busy, Idle, Over, Playing}
 use Rattle.tp_base.specs.Actors.{is_same_actor}
-use Rattle.tp_model.specs.Stages.{first_stage, stage_after, stage_from, waits_from}
+use Rattle.tp_model.specs.Stages.{stage_from, waits_from}
 use Rattle.turn_lock.specs.Histories.{own, StartsWith}
 use Rattle.turn_lock.proofs.Beginnings.{starts_through}
 use Rattle.worker_gate.specs.declared.place.Place.{Place}
-use Rattle.worker_gate.specs.Places.{Given, next_call, opening, place_after, place_from}
-use Rattle.worker_gate.specs.Walks.{Closes, CutAt, FollowsAt, GoesOnBy, IsCut, Leads}
+use Rattle.worker_gate.specs.Places.{Given, place_after, place_from}
+use Rattle.worker_gate.specs.Walks.{Closes, CutAt, FollowsAt, IsCut, Leads}
 
 pub own_append : (who : Who) (history more : List Entry) → own who (history ++ more) ≡ own who history ++ own who more
 own_append who history more = filter-append (λ (e : Entry). is_same_actor e.who who) history more

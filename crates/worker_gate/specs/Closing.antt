@@ -1,20 +1,18 @@
 -- The end of a run: all actors have come back.
-use Rattle.std.specs.Prelude.{◌≡◌, ℕ, ◌<◌, Bool, true, false, List, [], ◌∷◌, ◌++◌, map, slice_get, Some, All}
+use Rattle.std.specs.Prelude.{◌≡◌, ℕ, ◌<◌, true, false, List, [], ◌∷◌, map, slice_get, Some, All}
 use Rattle.tp_base.specs.declared.answers.Entry.{Entry}
 use Rattle.tp_base.specs.declared.ids.Who.{Who}
 use Rattle.tp_base.specs.declared.ids.Who.TheVariants.{Client}
 use Rattle.tp_base.specs.declared.limits.Limits.{Limits}
 use Rattle.tp_model.specs.Stages.{is_in_part, IsActor}
-use Rattle.turn_lock.specs.declared.seats.Seat.{Seat}
-use Rattle.turn_lock.specs.Histories.{actor_of, own, StartsWith}
-use Rattle.turn_lock.specs.Seats.{actor_in, mine_of, number_of, seen_of, setup_in, Same}
+use Rattle.turn_lock.specs.Histories.{own, StartsWith}
+use Rattle.turn_lock.specs.Seats.{mine_of, seen_of}
 use Rattle.shared_pool.specs.declared.pool.SharedPool.{SharedPool}
 use Rattle.shared_pool.specs.Pools.{pool_setup, setup_at, HaveAll}
 use Rattle.worker_gate.specs.declared.actor.Actor.{Actor}
 use Rattle.worker_gate.specs.declared.role.Role.{Role}
-use Rattle.worker_gate.specs.Acting.{role_in, seat_in, GoesOn, IsReady}
+use Rattle.worker_gate.specs.Acting.{seat_in, GoesOn, IsReady}
 use Rattle.worker_gate.specs.Places.{Given}
-use Rattle.worker_gate.specs.Roles.{new_role}
 
 module _ {B : Type 0} where
   -- ---- what client 1 has told the others

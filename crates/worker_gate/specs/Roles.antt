@@ -12,7 +12,6 @@ use Rattle.tp_base.specs.declared.plans.Stage.{Stage}
 use Rattle.tp_base.specs.declared.plans.Stage.TheVariants as stage
 use Rattle.tp_model.specs.Stages.{first_stage, is_in_part, stage_from, waits_from, IsActor}
 use Rattle.recorded.specs.Recordings.{entries_told}
-use Rattle.turn_lock.specs.Histories.{own}
 use Rattle.worker_gate.specs.declared.place.Place.{Place}
 use Rattle.worker_gate.specs.declared.role.Role.{Role}
 use Rattle.worker_gate.specs.declared.role.Turn.{Turn}

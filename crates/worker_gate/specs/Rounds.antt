@@ -1,12 +1,12 @@
 -- Rounds: turns of roles, one after another, on a machine of their own.
-use Rattle.std.specs.Prelude.{◌≡◌, ℕ, zero, suc, ◌+◌, ◌-◌, ◌<◌, Bool, true, false, List, [], ◌∷◌, ◌++◌, ◌⊎◌, map, length, slice_get, Some, Option, IfSome, All, Any}
+use Rattle.std.specs.Prelude.{◌≡◌, ℕ, zero, suc, Bool, true, false, List, [], ◌∷◌, ◌⊎◌, map, slice_get, Some, IfSome, All, Any}
 use Rattle.std.specs.List.{fold}
 use Rattle.tp_base.specs.declared.answers.Answer.{Answer}
 use Rattle.tp_base.specs.declared.answers.Entry.{Entry}
 use Rattle.tp_base.specs.declared.calls.Call.{Call}
-use Rattle.tp_base.specs.declared.calls.Call.TheVariants.{BeginAcquire, BeginClose, BeginWait, End}
+use Rattle.tp_base.specs.declared.calls.Call.TheVariants.{BeginAcquire, BeginClose, BeginWait}
 use Rattle.tp_base.specs.declared.ids.Who.{Who}
-use Rattle.tp_base.specs.declared.ids.Who.TheVariants.{Client, Worker}
+use Rattle.tp_base.specs.declared.ids.Who.TheVariants.{Client}
 use Rattle.tp_base.specs.declared.limits.Limits.{Limits}
 use Rattle.tp_base.specs.declared.plans.Stage.TheVariants as stage
 use Rattle.tp_model.specs.Stages.{IsActor}
@@ -14,10 +14,10 @@ use Rattle.tp_script.specs.declared.routines.Part.{Part}
 use Rattle.tp_script.specs.declared.routines.Part.TheVariants as part
 use Rattle.tp_script.specs.declared.routines.Progress.{Progress}
 use Rattle.recorded.specs.Recordings.{Recording}
-use Rattle.turn_lock.specs.Histories.{actor_of, own}
+use Rattle.turn_lock.specs.Histories.{own}
 use Rattle.worker_gate.specs.declared.role.Role.{Role}
 use Rattle.worker_gate.specs.Places.{Given}
-use Rattle.worker_gate.specs.Roles.{new_role, turned, IsOf}
+use Rattle.worker_gate.specs.Roles.{turned, IsOf}
 use Rattle.worker_gate.specs.Runs.{is_over_in}
 
 pub record Scene : Type 0 where

@@ -1,6 +1,5 @@
 -- The calls of an actor, as its parts give them.
-use Rattle.std.specs.Prelude.{◌≡◌, ℕ, Bool, true, false, List, [], ◌∷◌, ◌++◌, ◌⊎◌, Option, None, Some, is_some}
-use Rattle.tp_base.specs.declared.answers.Answer.{Answer}
+use Rattle.std.specs.Prelude.{◌≡◌, ℕ, Bool, true, false, List, [], ◌∷◌, ◌++◌, ◌⊎◌, None, Some, is_some}
 use Rattle.tp_base.specs.declared.answers.Answer.TheVariants.{Done}
 use Rattle.tp_base.specs.declared.answers.Entry.{Entry}
 use Rattle.tp_base.specs.declared.answers.Outcome.{Outcome}

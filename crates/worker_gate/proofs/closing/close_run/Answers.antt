@@ -1,5 +1,4 @@
-use Rattle.std.proofs.Common.{◌≡◌, List, All, map, ap, sym, subst, ◌∙◌}
-use Rattle.tp_base.specs.declared.limits.Limits.{Limits}
+use Rattle.std.proofs.Common.{List, All, map, sym, subst, ◌∙◌}
 use Rattle.turn_lock.specs.declared.seats.Seat.{Seat}
 use Rattle.turn_lock.specs.Seats.{IsLast}
 use Rattle.shared_pool.specs.Pools.{HaveAll, IsSeatOf}

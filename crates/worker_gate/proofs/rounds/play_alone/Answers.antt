@@ -1,4 +1,3 @@
-use Rattle.std.proofs.Common.{◌≡◌}
 use Rattle.worker_gate.specs.Places.{given}
 use Rattle.worker_gate.proofs.Playing.{rounds_begin, rounds_go_on, rounds_over}
 use Rattle.worker_gate.proofs.rounds.play_alone.Goals as goal

@@ -1,4 +1,4 @@
-use Rattle.std.proofs.Common.{◌≡◌, ◌<◌, Bool, if◌then◌else◌, false, length, arith, ◌∙◌}
+use Rattle.std.proofs.Common.{◌≡◌, ◌<◌, if◌then◌else◌, false, length, arith, ◌∙◌}
 use Rattle.worker_gate.specs.Places.{given}
 use Rattle.worker_gate.specs.Roles.{is_last_turn}
 use Rattle.worker_gate.proofs.Playing.{round_goes_on, still_on, still_off}

@@ -1,4 +1,3 @@
-use Rattle.std.proofs.Common.{◌≡◌, length}
 use Rattle.worker_gate.specs.Places.{given}
 use Rattle.worker_gate.proofs.Playing.{RoundSoFar}
 use Rattle.worker_gate.proofs.rounds.play_one.Given as goal

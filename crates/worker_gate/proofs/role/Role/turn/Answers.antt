@@ -1,4 +1,4 @@
-use Rattle.std.proofs.Common.{◌≡◌, ◌∙◌, sym}
+use Rattle.std.proofs.Common.{◌∙◌, sym}
 use Rattle.worker_gate.specs.Places.{given}
 use Rattle.worker_gate.proofs.Turning.{turn_keeps}
 use Rattle.worker_gate.proofs.role.Role.turn.Goals as goal
