@@ -29,7 +29,7 @@ use Rattle.worker_gate.proofs.Walking.{own_append}
 
 -- ---- what rounds add to a history
 
-by_actor : (P : Who → Type 0) (who : Who) (more : List Entry) → P who → AllByRecursion (λ (e : Entry). e.who ≡ who) more → AllByRecursion (λ (e : Entry). P e.who) more
+pub by_actor : (P : Who → Type 0) (who : Who) (more : List Entry) → P who → AllByRecursion (λ (e : Entry). e.who ≡ who) more → AllByRecursion (λ (e : Entry). P e.who) more
 by_actor P who [] actor by = tt
 by_actor P who (e ∷ more) actor by = (subst P (sym by.0) actor, by_actor P who more actor by.1)
 
@@ -140,7 +140,7 @@ client_over number Away sorted rests = absurd (cc)
 client_over number Idle sorted rests = absurd (cc)
 client_over number (Busy routine) sorted rests = absurd (cc)
 
-finished_client : (number : ℕ) (who : Who) (at : Stage) → who ≡ Client number → is_stage_of who at ≡ true → is_in_part at ≡ false → at ≡ Over
+pub finished_client : (number : ℕ) (who : Who) (at : Stage) → who ≡ Client number → is_stage_of who at ≡ true → is_in_part at ≡ false → at ≡ Over
 finished_client number who at is sorted rests = client_over number at (sym (ap (λ (w : Who). is_stage_of w at) is) ∙ sorted) rests
 
 module _ (g : Given) (limits : Limits) (capacity : ℕ) (history later : List Entry) (roles : List Role) (of : AllOf g limits capacity history roles) (first : IsFirstPlayed limits history roles)

@@ -10,3 +10,6 @@ pub mod Ending
 pub mod Back
 mod Quiet
 pub mod SettingUp
+pub mod OneThread
+pub mod OneHistory
+pub mod Crowds

@@ -53,7 +53,7 @@ adds_nothing who history = record { more = []; is = sym (append-nil history); by
 pub adds_starts : (who : Who) (history later : List Entry) → Adds who history later → StartsWith later history
 adds_starts who history later adds = record { rest = adds.more; is = adds.is }
 
-none_of : (who other : Who) (more : List Entry) → (who ≡ other → ⊥) → AllByRecursion (λ (e : Entry). e.who ≡ who) more → own other more ≡ []
+pub none_of : (who other : Who) (more : List Entry) → (who ≡ other → ⊥) → AllByRecursion (λ (e : Entry). e.who ≡ who) more → own other more ≡ []
 none_of who other [] apart by = refl
 none_of who other (e ∷ more) apart by =
     let first : own other (e ∷ []) ≡ [] = own_other other [] e (λ is. apart (sym by.0 ∙ is)) in
@@ -99,15 +99,15 @@ told_on (outcome.Done answer) = refl
 told_on (outcome.Look look) = refl
 told_on (outcome.Full room cost) = refl
 
-or_off : (a b : Bool) → (a || b) ≡ false → a ≡ false
+pub or_off : (a b : Bool) → (a || b) ≡ false → a ≡ false
 or_off true b off = off
 or_off false b off = refl
 
-or_on : (a b : Bool) → b ≡ true → (a || b) ≡ true
+pub or_on : (a b : Bool) → b ≡ true → (a || b) ≡ true
 or_on true b on = refl
 or_on false b on = on
 
-on_off : (b : Bool) → b ≡ true → b ≡ false → ⊥
+pub on_off : (b : Bool) → b ≡ true → b ≡ false → ⊥
 on_off true on off = absurd (cc)
 on_off false on off = absurd (cc)
 

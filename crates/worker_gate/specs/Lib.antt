@@ -1,6 +1,8 @@
 pub mod Acting
+pub mod Alone
 pub mod Closing
 pub mod Crews
+pub mod Crowds
 pub mod Places
 pub mod Roles
 pub mod Rounds

@@ -47,6 +47,7 @@ pub fn close_run<Rt: Wait, B: Recorded, R: Routines, G: Gate>(
     requires first { FirstTold (setup_at pool).limits actors.items }
     ensures limits { IfOk result (λ run. (B.recording run.book).limits ≡ (setup_at pool).limits) }
     ensures capacity { IfOk result (λ run. (B.recording run.book).capacity ≡ (setup_at pool).capacity) }
+    ensures legal { IfOk result (λ run. IsLegal (B.recording run.book).limits (B.recording run.book).capacity (B.recording run.book).history) }
     ensures runs { IfOk result (λ run. Runs (given R.next_of R.after_of routines.now) (B.recording run.book).limits (B.recording run.book).capacity (B.recording run.book).history) }
     ensures cut { IfOk result (λ run. (run.cut ≡ true) ↔ IsCutShort (given R.next_of R.after_of routines.now) (B.recording run.book).limits (B.recording run.book).history) }
 {
@@ -95,6 +96,7 @@ pub(crate) fn end_run<Rt: Wait, B: Recorded, R: Routines, G: Gate>(
     requires first { IsFirstPlayed (B.recording book.old).limits (B.recording book.old).history roles.old.items }
     ensures same { IsSameMachine (B.recording book.old) (B.recording book.new) }
     ensures played { HasPlayed (given R.next_of R.after_of routines.now) (B.recording book.old).limits (B.recording book.old).capacity (B.recording book.old).history roles.old.items (B.recording book.new).history roles.new.items }
+    ensures legal { IsLegal (B.recording book.new).limits (B.recording book.new).capacity (B.recording book.new).history }
     ensures ended { HaveEnded roles.new.items }
     ensures runs { Runs (given R.next_of R.after_of routines.now) (B.recording book.new).limits (B.recording book.new).capacity (B.recording book.new).history }
     ensures cut { (result ≡ true) ↔ IsCutShort (given R.next_of R.after_of routines.now) (B.recording book.new).limits (B.recording book.new).history }

@@ -80,7 +80,8 @@ fn both(round: Turn, turn: Turn) -> Turn
 /// Plays each crew in a thread of its own, as `play_crew` does, and joins them. They come back in their
 /// order.
 ///
-/// An `AllocError` comes where memory, or a thread, can't be had; the actors are lost then.
+/// Where no thread can be made, this one plays that crew. An `AllocError` comes where memory isn't there;
+/// the actors are lost then.
 pub fn play_crews<Rt: Threads + Sync, B: Recorded + Send, R: Routines + Sync, G: Gate + Sync>(
     rt: &Rt,
     crews: Vec<Vec<Actor<B>>>,

@@ -9,15 +9,19 @@
 //! What an actor may do next is told by its own entries of the history. A contract says of each call
 //! here that these stay calls of the routines that it was given, each part whole, or cut where the
 //! history had no room for its next call. `close_run` gathers all actors of a pool, plays what is
-//! left, and promises of the whole history that it is a run of these routines.
+//! left, and promises of the whole history that it is a run of these routines. `play_routines` is all
+//! of that in one call, on so many threads as are wanted.
 //!
 //! ```text
+//! let run = play_routines::<_, Book, _, _>(&rt, alloc, program_limits(2, 4), 65_536, 4, &script, &gate)?;
+//! run.book.len()                                      // so many calls were made
+//!
 //! let (pool, seats) = SharedPool::<Book>::open(alloc, program_limits(1, 2), 1_000)?;
 //! let mut first = Actor::new(client_seat, Role::client(1));
 //! finish(&rt, &mut first, &pool, &script, &gate);     // client 1 plays to its end
 //! tell_all(&mut first, &pool, &mut workers);          // and tells the others
 //! let workers = play_crew(workers, &pool, &script, &gate);
-//! let book = close_run(&rt, alloc, pool, all_actors, &script, &gate)?;
+//! let run = close_run(&rt, alloc, pool, all_actors, &script, &gate)?;
 //! ```
 
 #![tactic(auto)]
@@ -28,6 +32,7 @@ mod crew;
 mod place;
 mod role;
 mod rounds;
+mod run;
 mod telling;
 
 pub use actor::Actor;
@@ -36,4 +41,5 @@ pub use crew::{play_crew, play_crews};
 pub use place::Place;
 pub use role::{Gate, Role, Turn};
 pub use rounds::{play_alone, set_up};
+pub use run::{one_history_alone, play_routines};
 pub use telling::{finish, tell_all};

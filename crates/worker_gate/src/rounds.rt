@@ -56,6 +56,7 @@ pub fn play_alone<Rt: Wait, B: Recorded, R: Routines, G: Gate>(
     ensures same { IsSameMachine (B.recording book.old) (B.recording book.new) }
     ensures played { HasPlayed (given R.next_of R.after_of routines.now) (B.recording book.old).limits (B.recording book.old).capacity (B.recording book.old).history roles.old.items (B.recording book.new).history roles.new.items }
     ensures all { AllOf (given R.next_of R.after_of routines.now) (B.recording book.new).limits (B.recording book.new).capacity (B.recording book.new).history roles.new.items }
+    ensures legal { IsLegal (B.recording book.new).limits (B.recording book.new).capacity (B.recording book.new).history }
     ensures ended { HaveEnded roles.new.items }
     ensures over { is_over_behind (B.recording book.new) ≡ true }
 {
