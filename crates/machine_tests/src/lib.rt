@@ -4,11 +4,15 @@
 #![tactic(auto)]
 
 #[cfg(test)]
+mod actors;
+#[cfg(test)]
 mod books;
 #[cfg(test)]
 mod expect;
 #[cfg(test)]
 mod kept;
+#[cfg(test)]
+mod program;
 #[cfg(test)]
 mod reports;
 #[cfg(test)]

@@ -1,11 +1,12 @@
 //! Whole runs of the program, over streams in memory that fail midway.
 
-use crate::expect::{expect_eq, expect_ok};
-use pool_book::Book;
+use crate::expect::expect_eq;
+use crate::program::{Open, run_program};
 use std::alloc::Global;
 use std::process::Abort;
-use tp_edge::{MemorySink, MemorySource};
-use tp_run::{Status, WordList, tp_main};
+use std::sync::Wait;
+use std::thread::Threads;
+use tp_run::Status;
 
 const TRACE: &str = "c1 create work r1 x7 p0 normal short g0 q0\n\
     c1 submit 1\nw1 attach\nw1 take\nw1 return\n";
@@ -13,42 +14,66 @@ const TRACE: &str = "c1 create work r1 x7 p0 normal short g0 q0\n\
 const ANSWERS: &str = "made 1\nqueued 1 1\nattached 0\ntaken 1 o1 r1 x7 plain\n\
     returned - - - - 0 0\n";
 
-/// The trace comes to this status over streams of which these calls fail, or none where it is 0, and the sink then
-/// holds this. A call takes 16 bytes, and gives 4.
-fn check_run(
-    rt: &impl Abort,
+/// The trace comes to this status where these calls fail, and of its answers so many bytes are written.
+fn check_trace(
+    rt: &(impl Abort + Threads + Wait + Sync),
     alloc: Global,
     failing_take: u32,
     failing_give: u32,
     status: Status,
-    held: &str,
+    written: usize,
 ) {
-    let mut words = WordList::new(alloc);
-    expect_ok(rt, words.push("trace"));
-    let bytes = expect_ok(rt, TRACE.as_bytes().to_vec(alloc));
-    let failing = expect_ok(rt, vec![in alloc; failing_take]);
-    let mut source = expect_ok(rt, MemorySource::new(alloc, bytes, 16, failing));
-    let failing = expect_ok(rt, vec![in alloc; failing_give]);
-    let mut sink = expect_ok(rt, MemorySink::new(alloc, 100, 4, failing));
-    let ended = tp_main::<Book, _, _>(alloc, &words, &mut source, &mut sink);
-    drop(words);
-    drop(source);
-    expect_eq(rt, (ended, sink.bytes()), (status, held.as_bytes()));
-    drop(sink);
+    assert!(rt; written <= ANSWERS.len());
+    let (ended, held) = run_program(rt, alloc, "trace", TRACE, failing_take, failing_give, &Open);
+    expect_eq(
+        rt,
+        (ended, held.as_slice()),
+        (status, &ANSWERS.as_bytes()[..written]),
+    );
 }
 
-/// The input has 83 bytes, 6 pieces of 16, and then its end; the output has 73, 19 pieces of 4.
+/// The input has 83 bytes, 6 pieces of 16, and then its end.
 #[test]
-fn ends_at_the_fault_of_a_stream(rt: HostRuntime) {
-    for (failing_take, failing_give, status, held) in [
-        (0, 0, Status::Fine, ANSWERS),
-        (2, 0, Status::ReadFault, ""),
-        (7, 0, Status::ReadFault, ""),
-        (2, 1, Status::ReadFault, ""),
-        (8, 20, Status::Fine, ANSWERS),
-        (0, 1, Status::WriteFault, ""),
-        (0, 3, Status::WriteFault, "made 1\nq"),
-    ] {
-        check_run(&rt, rt.alloc(), failing_take, failing_give, status, held);
+fn nothing_is_written_where_a_take_fails(rt: HostRuntime) {
+    for failing_take in 1..8 {
+        check_trace(&rt, rt.alloc(), failing_take, 1, Status::ReadFault, 0);
     }
+}
+
+/// The output has 73 bytes, 19 pieces of 4.
+#[test]
+fn a_front_part_is_written_where_a_give_fails(rt: HostRuntime) {
+    for given in 0..19 {
+        check_trace(
+            &rt,
+            rt.alloc(),
+            0,
+            given + 1,
+            Status::WriteFault,
+            4 * given as usize,
+        );
+    }
+    check_trace(&rt, rt.alloc(), 8, 20, Status::Fine, 73);
+}
+
+const NOTHING_PLAYED: &str = "history 1 clients 1 workers 1 events 65536
+c1 finish -> ok
+end 1
+entries 1
+callbacks 0
+taken 0
+cancelled 0
+left 0
+refused 0
+";
+
+#[test]
+fn an_empty_script_is_played(rt: HostRuntime) {
+    let line = "run --threads 1 --workers 1";
+    let (ended, held) = run_program(&rt, rt.alloc(), line, "", 0, 0, &Open);
+    expect_eq(
+        &rt,
+        (ended, held.as_slice()),
+        (Status::Fine, NOTHING_PLAYED.as_bytes()),
+    );
 }

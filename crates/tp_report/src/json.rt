@@ -5,7 +5,7 @@ ghost use Rattle.serde_json.specs.View.{view};
 ghost use Rattle.serde_json.specs.Written.{compact_text};
 ghost use Rattle.tp_model.specs.Over.{row_of};
 ghost use Rattle.tp_report.specs.Json.{json_line, json_of_totals, numbers_of};
-ghost use Rattle.tp_report.specs.Summaries.{totals_behind};
+ghost use Rattle.tp_report.specs.Summaries.{totals_behind, IsNoneLost};
 ghost use Rattle.tp_report.specs.Summing.{totals_told};
 
 use crate::left::LeftRow;
@@ -24,6 +24,7 @@ pub fn print_json<B: Recorded>(
 ) -> Result<(), AllocError>
     ensures ok { OnOk result (out.new.items ≡ out.old.items ++ json_line (totals_behind book.now)) }
     ensures err { OnErr result (out.new.items ≡ out.old.items) }
+    ensures none_lost { IsNoneLost (totals_behind book.now) }
 {
     let summary = summarize(alloc, book)?;
     let mut line = json_text(alloc, &summary)?;

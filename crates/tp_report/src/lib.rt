@@ -33,6 +33,7 @@ pub use checking::check;
 pub use faults::{CheckFault, TextFault};
 pub use history::print_history;
 pub use json::print_json;
+pub use left::{LeftRow, left_callbacks};
 pub use playing::{MachineSize, trace};
 pub use summary::print_summary;
 pub use verdict::{Verdict, print_verdict};

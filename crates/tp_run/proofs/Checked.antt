@@ -24,14 +24,14 @@ reply_of_fault bytes fault (Err status) h place only = subst (λ s. IsReply Chec
   where
     of_fault : (f : TextFault) → IsPlace (IsHistoryFault bytes) f → ((header : Header) (entries : List Entry) → IsHistory bytes header entries → IsOrNoMemory (IsVerdict (limits_of header) header.events entries) (Err f)) → IsReply Check bytes (Err (status_of_text f))
     of_fault NoMemory place only = tt
-    of_fault (At line column) place only = record { at = place; none = λ output ends g. only g.header g.entries g.is_history }
+    of_fault (At line column) place only = record { at = place; none = λ h. only h.0 h.1 h.2 }
 
 pub output_of_verdict : (bytes text : List ℕ) (verdict : Verdict) (ending : Ending) → IsJudged bytes verdict → ((header : Header) (entries : List Entry) → IsHistory bytes header entries → IsOrNoMemory (IsVerdict (limits_of header) header.events entries) (Ok verdict))
     → text ≡ verdict_text verdict → ending ≡ ending_of verdict → IsOutput Check bytes text ending
 output_of_verdict bytes text verdict ending judged only text_is ending_is =
     record {
       gives = record { header = judged.header; entries = judged.entries; told = verdict; is_history = judged.is_history; is_verdict = judged.is_verdict; output_is = text_is; ending_is = ending_is };
-      only = λ other other_end g.
+      only = λ determined other other_end g.
           let same = one_verdict (limits_of g.header) g.header.events g.entries verdict g.told (only g.header g.entries g.is_history) g.is_verdict in
           (text_is ∙ ap verdict_text same ∙ sym g.output_is, ending_is ∙ ap ending_of same ∙ sym g.ending_is);
     }

@@ -6,14 +6,18 @@ use Rattle.tp_edge.specs.declared.reading.ReadFault.{ReadFault as SourceFault}
 use Rattle.tp_edge.specs.declared.reading.ReadFault.TheVariants as source
 use Rattle.tp_report.specs.declared.faults.TextFault.{TextFault}
 use Rattle.tp_report.specs.declared.faults.TextFault.TheVariants as text
-use Rattle.tp_run.specs.Inputs.{Gives, IsFaultyAt, reads}
+use Rattle.tp_run.specs.Inputs.{Gives, IsDetermined, IsFaultyAt, IsInGrammar, IsScriptFaultAt, reads}
 use Rattle.tp_run.specs.Runs.{IsWithin}
 use Rattle.tp_run.specs.declared.command.Command.{Command}
 use Rattle.tp_run.specs.declared.status.Ending.{Ending}
 use Rattle.tp_run.specs.declared.status.Ending.TheVariants as ending
 use Rattle.tp_run.specs.declared.status.Status.{Status}
-use Rattle.tp_run.specs.declared.status.Status.TheVariants.{Fine, Words, BadLine, ReadFault, WriteFault, NoMemory, TooLong, NotLegal}
+use Rattle.tp_run.specs.declared.status.Status.TheVariants.{Fine, Words, BadLine, ReadFault, WriteFault, NoMemory, TooLong, NotLegal, Exhausted}
 use Rattle.tp_run.specs.declared.top.Output.{Output}
+use Rattle.tp_script.specs.Scripts.{IsScript}
+use Rattle.tp_script.specs.declared.line.Line.{Line}
+use Rattle.tp_script.specs.declared.fault.ScriptFault.{ScriptFault}
+use Rattle.tp_script.specs.declared.fault.ScriptFault.TheVariants as script
 
 -- the end that a fault of reading leads to
 abbrev pub status_of_source : SourceFault → Status
@@ -25,20 +29,32 @@ status_of_source source.TooLong = TooLong
 abbrev pub status_of : Ending → Status
 status_of ending.Fine = Fine
 status_of ending.NotLegal = NotLegal
+status_of ending.Exhausted = Exhausted
 
 -- the end that a fault of the input leads to
 abbrev pub status_of_text : TextFault → Status
 status_of_text text.NoMemory = NoMemory
 status_of_text (text.At line column) = BadLine line column
 
--- the output for the input and its ending, and there are no others
+-- an end that a fault of a script leads to
+abbrev pub status_of_script : ScriptFault → Status
+status_of_script script.NoMemory = NoMemory
+status_of_script (script.At line column kind) = BadLine line column
+
+-- an output for the input and its ending; a command that has one output has no others
 pub record IsOutput (command : Command) (bytes output : List ℕ) (ends : Ending) : Type 0 where
   pub gives : Gives (Some command) bytes output ends
-  pub only : (other : List ℕ) (other_end : Ending) → Gives (Some command) bytes other other_end → (output ≡ other) × (ends ≡ other_end)
+  pub only : IsDetermined (Some command) → (other : List ℕ) (other_end : Ending) → Gives (Some command) bytes other other_end → (output ≡ other) × (ends ≡ other_end)
 
 pub record IsFaulty (command : Command) (bytes : List ℕ) (line column : ℕ) : Type 0 where
   pub at : IsFaultyAt (Some command) bytes line column
-  pub none : (output : List ℕ) (ends : Ending) → Gives (Some command) bytes output ends → ⊥
+  pub none : IsInGrammar (Some command) bytes → ⊥
+
+-- how a run ends that isn't played: its text is no script, or memory was refused
+abbrev pub IsScriptEnd : List ℕ → Status → Type 0
+IsScriptEnd bytes (BadLine line column) = IsScriptFaultAt bytes line column × ((lines : List Line) → IsScript bytes lines → ⊥)
+IsScriptEnd bytes NoMemory = Unit {0}
+IsScriptEnd bytes _ = ⊥
 
 -- what a command answers to bytes
 abbrev pub IsReply : Command → List ℕ → Result Output Status → Type 0
@@ -76,6 +92,7 @@ pub record IsTakenTo (command : Command) (left now : Option (List ℕ)) (answer 
 abbrev pub Came : Command → List ℕ → Option (List ℕ) → Option (List ℕ) → Option (List ℕ) → Status → Type 0
 Came command taken now held holds Fine = IsAllRead command taken now × ((output : List ℕ) × IsOutput command taken output ending.Fine × (holds ≡ with_given output held))
 Came command taken now held holds NotLegal = IsAllRead command taken now × ((output : List ℕ) × IsOutput command taken output ending.NotLegal × (holds ≡ with_given output held))
+Came command taken now held holds Exhausted = IsAllRead command taken now × ((output : List ℕ) × IsOutput command taken output ending.Exhausted × (holds ≡ with_given output held))
 Came command taken now held holds WriteFault = IsAllRead command taken now × ((output : List ℕ) × (ends : Ending) × IsOutput command taken output ends × TookFirst held holds output)
 Came command taken now held holds (BadLine line column) = IsAllRead command taken now × IsFaulty command taken line column
 Came command taken now held holds Words = ⊥

@@ -1,5 +1,5 @@
 -- What a command makes of its input.
-use Rattle.std.specs.Prelude.{◌≡◌, ℕ, Bool, true, false, List, [], Option, None, Some}
+use Rattle.std.specs.Prelude.{◌≡◌, ℕ, ◌≤◌, Bool, true, false, List, [], Option, None, Some}
 use Rattle.line_grammar.specs.Traces.{IsTraceFault}
 use Rattle.script_generator.specs.Scripts.{generated}
 use Rattle.tp_base.specs.declared.calls.Call.{Call}
@@ -7,16 +7,22 @@ use Rattle.tp_base.specs.declared.ids.Who.{Who}
 use Rattle.tp_edge.specs.Taken.{AreAll}
 use Rattle.tp_lines.specs.Faults.{IsLine}
 use Rattle.tp_run.specs.declared.command.Command.{Command}
-use Rattle.tp_run.specs.declared.command.Command.TheVariants.{Trace, Check, Gen}
+use Rattle.tp_run.specs.declared.command.Command.TheVariants.{Trace, Check, Gen, Run, Big}
+use Rattle.tp_run.specs.declared.played.Layout.{Layout}
 use Rattle.tp_run.specs.declared.status.Ending.{Ending}
 use Rattle.tp_run.specs.declared.status.Ending.TheVariants.{Fine, NotLegal}
 use Rattle.tp_base.specs.declared.answers.Entry.{Entry}
+use Rattle.tp_run.specs.Played.{IsPlayed, limits_for, long_script}
 use Rattle.tp_report.specs.Histories.{IsHistory, IsHistoryFault}
 use Rattle.tp_report.specs.Traces.{IsMachineSize, IsTraceOf, output_of}
 use Rattle.tp_report.specs.Verdicts.{IsVerdict, limits_of, verdict_text}
 use Rattle.tp_report.specs.declared.headers.Header.{Header}
+use Rattle.tp_report.specs.declared.playing.MachineSize.{MachineSize}
 use Rattle.tp_report.specs.declared.verdict.Verdict.{Verdict}
 use Rattle.tp_report.specs.declared.verdict.Verdict.TheVariants as verdict
+use Rattle.tp_script.specs.Scripts.{IsFaultIn, IsScript}
+use Rattle.tp_script.specs.declared.fault.ScriptKind.{ScriptKind}
+use Rattle.tp_script.specs.declared.line.Line.{Line}
 
 abbrev pub ending_of : Verdict → Ending
 ending_of (verdict.Legal len) = Fine
@@ -32,11 +38,28 @@ pub record IsChecked (bytes output : List ℕ) (ending : Ending) : Type 0 where
   pub output_is : output ≡ verdict_text told
   pub ending_is : ending ≡ ending_of told
 
--- the machine of a trace is of a size that there is
+-- the text is no script, and this is the place of its first fault
+abbrev pub IsScriptFaultAt : List ℕ → ℕ → ℕ → Type 0
+IsScriptFaultAt text line column = (kind : ScriptKind) × IsFaultIn text line column kind
+
+-- the text is a script, and this is written of a run of it, and its ending
+abbrev pub IsPlayedOf : List ℕ → ℕ → MachineSize → Layout → List ℕ → Ending → Type 0
+IsPlayedOf text threads machine layout output ending = (script : List Line) × IsScript text script × IsPlayed script threads (limits_for script machine) machine.events layout output ending
+
+-- what is written of a run besides the summary, which may be JSON: the history, or nothing
+abbrev pub whole_layout : Bool → Layout
+whole_layout json = record { history = true; json = json }
+
+abbrev pub short_layout : Bool → Layout
+short_layout json = record { history = false; json = json }
+
+-- the machine of a trace or a run is of a size that there is, and a run has a thread
 abbrev pub IsPlayable : Command → Type 0
 IsPlayable (Trace machine) = IsMachineSize machine
 IsPlayable Check = Unit {0}
 IsPlayable (Gen number) = Unit {0}
+IsPlayable (Run threads machine json) = (1 ≤ threads) × IsMachineSize machine
+IsPlayable (Big number machine json) = IsMachineSize machine
 
 -- whether a command has an input, which is what the source has
 abbrev pub reads : Option Command → Bool
@@ -44,6 +67,8 @@ reads None = false
 reads (Some (Trace machine)) = true
 reads (Some Check) = true
 reads (Some (Gen number)) = false
+reads (Some (Run threads machine json)) = true
+reads (Some (Big number machine json)) = false
 
 -- the command's input, where the source tells what it has; that of a command which reads nothing is empty
 abbrev pub IsInputIf : Bool → List ℕ → Option (List ℕ) → Type 0
@@ -61,12 +86,28 @@ IsToldIf false bytes left = bytes ≡ []
 abbrev pub IsTold : Option Command → List ℕ → Option (List ℕ) → Type 0
 IsTold command bytes left = IsToldIf (reads command) bytes left
 
--- the bytes are in the grammar of the command's input, and these are its output for them and its ending
+-- the bytes are in the grammar of the command's input, and this is one of its outputs for them, and its ending
 abbrev pub Gives : Option Command → List ℕ → List ℕ → Ending → Type 0
 Gives None bytes output ending = ⊥
 Gives (Some (Trace machine)) bytes output ending = (calls : List (Who × Call)) × IsTraceOf bytes calls × (output ≡ output_of machine calls) × (ending ≡ Fine)
 Gives (Some Check) bytes output ending = IsChecked bytes output ending
 Gives (Some (Gen number)) bytes output ending = (output ≡ generated number 64) × (ending ≡ Fine)
+Gives (Some (Run threads machine json)) bytes output ending = IsPlayedOf bytes threads machine (whole_layout json) output ending
+Gives (Some (Big number machine json)) bytes output ending = IsPlayedOf (long_script number) 1 machine (short_layout json) output ending
+
+-- the command has one output for an input; a run on several threads may have more, by the order in which its actors have turns
+abbrev pub IsDetermined : Option Command → Type 0
+IsDetermined (Some (Run threads machine json)) = threads ≡ 1
+IsDetermined _ = Unit {0}
+
+-- the bytes are in the grammar of the command's input
+abbrev pub IsInGrammar : Option Command → List ℕ → Type 0
+IsInGrammar None bytes = ⊥
+IsInGrammar (Some (Trace machine)) bytes = (calls : List (Who × Call)) × IsTraceOf bytes calls
+IsInGrammar (Some Check) bytes = (header : Header) × (entries : List Entry) × IsHistory bytes header entries
+IsInGrammar (Some (Gen number)) bytes = Unit {0}
+IsInGrammar (Some (Run threads machine json)) bytes = (script : List Line) × IsScript bytes script
+IsInGrammar (Some (Big number machine json)) bytes = Unit {0}
 
 -- the bytes are not in the grammar of the command's input, and this is the place of their first fault
 abbrev pub IsFaultyAt : Option Command → List ℕ → ℕ → ℕ → Type 0
@@ -74,3 +115,5 @@ IsFaultyAt None bytes line column = ⊥
 IsFaultyAt (Some (Trace machine)) bytes line column = IsTraceFault IsLine bytes line column
 IsFaultyAt (Some Check) bytes line column = IsHistoryFault bytes line column
 IsFaultyAt (Some (Gen number)) bytes line column = ⊥
+IsFaultyAt (Some (Run threads machine json)) bytes line column = IsScriptFaultAt bytes line column
+IsFaultyAt (Some (Big number machine json)) bytes line column = ⊥

@@ -3,6 +3,7 @@ pub mod Commands
 pub mod Ends
 pub mod Inputs
 pub mod Numbers
+pub mod Played
 pub mod Runs
 pub mod Said
 pub mod Words

@@ -3,19 +3,21 @@ use Rattle.std.specs.Prelude.{◌≡◌, ℕ, true, ◌≤◌, ◌↔◌, List, 
 use Rattle.tp_run.specs.Inputs.{Gives, IsFaultyAt, IsInput, reads}
 use Rattle.tp_run.specs.declared.command.Command.{Command}
 use Rattle.tp_run.specs.declared.status.Status.{Status}
-use Rattle.tp_run.specs.declared.status.Status.TheVariants.{Fine, BadLine, WriteFault, TooLong, NotLegal}
+use Rattle.tp_run.specs.declared.status.Status.TheVariants.{Fine, BadLine, WriteFault, TooLong, NotLegal, Exhausted}
 use Rattle.tp_run.specs.declared.status.Ending.{Ending}
 
 -- all was written
 abbrev pub IsWhole : Status → Type 0
 IsWhole Fine = Unit {0}
 IsWhole NotLegal = Unit {0}
+IsWhole Exhausted = Unit {0}
 IsWhole _ = ⊥
 
 -- nothing is written at any end but these
 abbrev pub IsUnwritten : Status → Type 0
 IsUnwritten Fine = ⊥
 IsUnwritten NotLegal = ⊥
+IsUnwritten Exhausted = ⊥
 IsUnwritten WriteFault = ⊥
 IsUnwritten _ = Unit {0}
 
@@ -23,6 +25,7 @@ IsUnwritten _ = Unit {0}
 abbrev pub IsBehindInput : Status → Type 0
 IsBehindInput Fine = Unit {0}
 IsBehindInput NotLegal = Unit {0}
+IsBehindInput Exhausted = Unit {0}
 IsBehindInput WriteFault = Unit {0}
 IsBehindInput (BadLine line column) = Unit {0}
 IsBehindInput _ = ⊥

@@ -3,7 +3,7 @@ use Rattle.std.specs.Prelude.{ℕ, ◌&&◌, List, [], ◌∷◌, codes, drop, t
 use Rattle.std.specs.Str.{bytes_eq}
 use Rattle.tp_run.specs.Numbers.{number_in}
 use Rattle.tp_run.specs.declared.said.Name.{Name}
-use Rattle.tp_run.specs.declared.said.Name.TheVariants.{Trace, Check, Gen}
+use Rattle.tp_run.specs.declared.said.Name.TheVariants.{Trace, Check, Gen, Run, Big}
 use Rattle.tp_run.specs.declared.said.Said.{Said}
 use Rattle.tp_run.specs.declared.said.Setting.{Setting}
 use Rattle.tp_run.specs.declared.said.Setting.TheVariants.{Threads, Workers, Events}
@@ -15,7 +15,7 @@ nothing = record { command = None; number = None; threads = None; workers = None
 
 -- the command that a word names
 abbrev pub name_in : List ℕ → Option Name
-name_in word = if bytes_eq word (codes "trace") then Some Trace else if bytes_eq word (codes "check") then Some Check else if bytes_eq word (codes "gen") then Some Gen else None
+name_in word = if bytes_eq word (codes "trace") then Some Trace else if bytes_eq word (codes "check") then Some Check else if bytes_eq word (codes "gen") then Some Gen else if bytes_eq word (codes "run") then Some Run else if bytes_eq word (codes "big") then Some Big else None
 
 -- the option that a word is
 abbrev pub setting_in : List ℕ → Option Setting
@@ -32,7 +32,7 @@ bounded least most usual (Some value) = if nat_le least value && nat_le value mo
 
 -- ---- what is said with one more word, or none where it is refused
 
--- a word that stands alone is the command, and behind `gen` its number; there is no further one
+-- a word that stands alone is the command, and behind `gen` and `big` its number; there is no further one
 abbrev pub with_number : List ℕ → Said → Option Said
 with_number word said = if is_some said.number then None else option_map (λ number. record said { number = Some number }) (number_in word)
 
@@ -41,6 +41,8 @@ alone_behind None word said = option_map (λ name. record said { command = Some 
 alone_behind (Some Trace) word said = None
 alone_behind (Some Check) word said = None
 alone_behind (Some Gen) word said = with_number word said
+alone_behind (Some Run) word said = None
+alone_behind (Some Big) word said = with_number word said
 
 abbrev pub with_alone : List ℕ → Said → Option Said
 with_alone word said = alone_behind said.command word said

@@ -12,11 +12,29 @@ use tp_report::MachineSize;
 #[derive(Clone, Copy)]
 pub enum Command {
     /// Plays the calls of the input on a machine of this size, and writes what each comes to.
-    Trace { machine: MachineSize },
+    Trace {
+        machine: MachineSize,
+    },
     /// Reads a history, and writes whether it is legal.
     Check,
     /// Reads nothing, and writes the script of a number.
-    Gen { number: u64 },
+    Gen {
+        number: u64,
+    },
+    /// Plays the script that is the input on so many threads, from 1 to 16, on a machine of this size, and
+    /// writes the history and its summary, which is JSON if that is wanted.
+    Run {
+        threads: u32,
+        machine: MachineSize,
+        json: bool,
+    },
+    /// Reads nothing, plays the long script of a number on one thread, on a machine of this size, and
+    /// writes the summary of its history, which is JSON if that is wanted.
+    Big {
+        number: u64,
+        machine: MachineSize,
+        json: bool,
+    },
 }
 
 impl Command {
@@ -28,8 +46,8 @@ impl Command {
         ensures { result ≡ reads (Some self) }
     {
         match self {
-            Command::Trace { .. } | Command::Check => true,
-            Command::Gen { .. } => false,
+            Command::Trace { .. } | Command::Check | Command::Run { .. } => true,
+            Command::Gen { .. } | Command::Big { .. } => false,
         }
     }
 }

@@ -1,19 +1,20 @@
-//! All that the program tpool does, over any machine, any source and any sink.
+//! All that the program tpool does, over any machine, any source, any sink and any gate.
 //!
 //! `tp_main` takes the words behind the program's name, reads its source to the end, and writes what
 //! the command makes of it to its sink; it answers how the program ends. The machine is a
-//! `recorded::Recorded` and the streams are those of `tp_edge`, so nothing here depends on an engine or
-//! on the streams of the system: the program `tp_top` gives it both.
+//! `recorded::Recorded`, the streams are those of `tp_edge` and the gate is `worker_gate`'s, so nothing
+//! here depends on an engine or on the streams of the system: the program `tp_top` gives it all three.
 //!
 //! ```text
 //! words.push("trace")?;
-//! tp_main::<Book, _, _>(alloc, &words, &mut source, &mut sink)    // Status::Fine
+//! tp_main::<_, Book, _, _, _>(&rt, alloc, &words, &mut source, &mut sink, &gate)    // Status::Fine
 //! ```
 
 #![tactic(auto)]
 
 mod command;
 mod number;
+mod played;
 mod said;
 mod status;
 mod top;

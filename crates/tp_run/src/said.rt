@@ -14,6 +14,8 @@ pub enum Name {
     Trace,
     Check,
     Gen,
+    Run,
+    Big,
 }
 
 /// An option that has a value.
@@ -92,8 +94,8 @@ impl Said {
                 }),
                 None => None,
             },
-            Some(Name::Gen) => self.with_number(word),
-            Some(Name::Trace | Name::Check) => None,
+            Some(Name::Gen | Name::Big) => self.with_number(word),
+            Some(Name::Trace | Name::Check | Name::Run) => None,
         }
     }
 
@@ -212,17 +214,30 @@ impl Said {
         if self.awaited.is_some() {
             return None;
         }
-        let _threads = bounded(self.threads, 1, 16, 1)?;
+        let threads = bounded(self.threads, 1, 16, 1)?;
         let workers = bounded(self.workers, 1, 64, 4)?;
         let events = bounded(self.events, 16, 131_072, 65_536)?;
+        let machine = MachineSize { workers, events };
+        let json = self.json;
         match self.command? {
-            Name::Trace => Some(Command::Trace {
-                machine: MachineSize { workers, events },
-            }),
+            Name::Trace => Some(Command::Trace { machine }),
             Name::Check => Some(Command::Check),
             Name::Gen => {
                 let number = self.number?;
                 Some(Command::Gen { number })
+            }
+            Name::Run => Some(Command::Run {
+                threads,
+                machine,
+                json,
+            }),
+            Name::Big => {
+                let number = self.number?;
+                Some(Command::Big {
+                    number,
+                    machine,
+                    json,
+                })
             }
         }
     }
@@ -236,6 +251,8 @@ fn name_in(word: &[u8]) -> Option<Name>
         b"trace" => Some(Name::Trace),
         b"check" => Some(Name::Check),
         b"gen" => Some(Name::Gen),
+        b"run" => Some(Name::Run),
+        b"big" => Some(Name::Big),
         _ => None,
     }
 }

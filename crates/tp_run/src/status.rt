@@ -5,6 +5,7 @@ ghost use Rattle.std.specs.Prelude.{◌≡◌};
 use std::alloc::AllocError;
 use tp_edge::ReadFault;
 use tp_report::{TextFault, Verdict};
+use tp_script::ScriptFault;
 
 /// What was found out of an input that is in its grammar.
 #[derive(Clone, Copy)]
@@ -13,6 +14,8 @@ pub enum Ending {
     Fine,
     /// It is a history in which an answer isn't the machine's.
     NotLegal,
+    /// It is a script for whose run the history had too little room.
+    Exhausted,
 }
 
 impl From<&Verdict> for Ending {
@@ -48,6 +51,9 @@ pub enum Status {
     TooLong,
     /// The input, read to its end, is a history that isn't legal. The output is whole.
     NotLegal,
+    /// The history of the run had too little room: calls of a client or of a callback were cut short, a
+    /// wait ended with `exhausted`, or a callback is left pending. The output is whole.
+    Exhausted,
 }
 
 impl Status {
@@ -66,6 +72,7 @@ impl Status {
             Status::NoMemory => 5,
             Status::TooLong => 6,
             Status::NotLegal => 7,
+            Status::Exhausted => 8,
         }
     }
 }
@@ -79,6 +86,7 @@ impl From<Ending> for Status {
         match ending {
             Ending::Fine => Status::Fine,
             Ending::NotLegal => Status::NotLegal,
+            Ending::Exhausted => Status::Exhausted,
         }
     }
 }
@@ -106,6 +114,19 @@ impl From<TextFault> for Status {
         match fault {
             TextFault::NoMemory => Status::NoMemory,
             TextFault::At { line, column } => Status::BadLine { line, column },
+        }
+    }
+}
+
+impl From<ScriptFault> for Status {
+    ghost use Rattle.tp_run.specs.Ends.{status_of_script};
+
+    ghost from_gives = { λ fault status. status ≡ status_of_script fault };
+
+    fn from(fault: ScriptFault) -> Self {
+        match fault {
+            ScriptFault::NoMemory => Status::NoMemory,
+            ScriptFault::At { line, column, .. } => Status::BadLine { line, column },
         }
     }
 }

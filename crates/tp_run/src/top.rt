@@ -1,25 +1,32 @@
-//! All that the program does, over any machine, any source and any sink.
+//! All that the program does, over any machine, any source, any sink and any gate.
 
-ghost use Rattle.std.specs.Prelude.{◌≡◌, ◌≢◌, ◌↔◌, ◌≤◌, ◌⊎◌, ℕ, false, List, [], IfOk, Some, None, Err, length};
+ghost use Rattle.std.specs.Prelude.{◌≡◌, ◌≢◌, ◌↔◌, ◌≤◌, ◌⊎◌, ℕ, false, List, [], IfErr, IfOk, Some, None, Err, length};
 ghost use Rattle.tp_edge.specs.Counts.{Rose};
 ghost use Rattle.tp_edge.specs.Given.{with_given, TookFirst};
 ghost use Rattle.tp_edge.specs.Reading.{IsRead};
 ghost use Rattle.tp_edge.specs.Taken.{behind, IsAbove, IsEnded};
 ghost use Rattle.tp_run.specs.Commands.{command_of};
-ghost use Rattle.tp_run.specs.Ends.{IsAllRead, IsReply, IsRun, IsTakenTo, status_of};
+ghost use Rattle.tp_run.specs.Ends.{IsAllRead, IsReply, IsRun, IsScriptEnd, IsTakenTo, status_of};
+ghost use Rattle.tp_report.specs.Traces.{IsMachineSize};
 ghost use Rattle.tp_report.specs.Verdicts.{verdict_text};
-ghost use Rattle.tp_run.specs.Inputs.{ending_of, Gives, IsPlayable, IsTold, reads};
+ghost use Rattle.tp_run.specs.Inputs.{ending_of, short_layout, whole_layout, Gives, IsDetermined, IsInGrammar, IsPlayable, IsPlayedOf, IsTold, reads};
+ghost use Rattle.tp_run.specs.Played.{long_script};
 ghost use Rattle.tp_run.specs.Runs.{IsAnswered, IsBadLine, IsBadLineOf, IsReadToEnd, IsUnwritten, IsWhole, IsWithin};
 ghost use Rattle.tp_run.specs.declared.status.Ending.{Ending};
 
 use crate::command::{Command, command_in};
+use crate::played::{Layout, play_script};
 use crate::status::{Ending, Status};
 use crate::words::WordList;
 use recorded::Recorded;
 use script_generator::generate;
 use std::alloc::{AllocError, Global};
+use std::sync::Wait;
+use std::thread::Threads;
 use tp_edge::{ReadFault, Sink, Source, WriteFault, give_all, read_all};
-use tp_report::{Verdict, check, print_verdict, trace};
+use tp_report::{MachineSize, Verdict, check, print_verdict, trace};
+use tp_script::{one_script_a_text, parse_script};
+use worker_gate::{Gate, one_history_alone};
 
 /// The most bytes that an input may have.
 const INPUT_LIMIT: usize = 16_777_216;
@@ -27,17 +34,26 @@ const INPUT_LIMIT: usize = 16_777_216;
 /// How many lines each drawn client has in the script that is written for a number.
 const SCRIPT_LENGTH: u32 = 64;
 
+/// The same in the script that is played for a number.
+const LONG_SCRIPT_LENGTH: u32 = 2_000;
+
 /// Does what the words ask for on a machine, a `B`: reads the source to its end, and then writes to the
 /// sink.
 ///
 /// `words` are those behind the program's name. The answer is the first of these that applies:
 /// `Words`; `ReadFault` and `TooLong`, at which reading ends; `NoMemory` of reading; `BadLine`;
-/// `NoMemory`; `WriteFault`; `NotLegal`; `Fine`. All memory is taken before anything is written.
-pub fn tp_main<B: Recorded, S: Source, K: Sink>(
+/// `NoMemory`; `WriteFault`; `NotLegal` and `Exhausted`; `Fine`. All memory is taken before anything is
+/// written.
+///
+/// `run` and `big` play with all clients and workers at the gate. They may wait for ever, where a wait
+/// of the script never ends; `run` takes so many threads as the words say.
+pub fn tp_main<Rt: Threads + Wait + Sync, B: Recorded + Send, S: Source, K: Sink, G: Gate + Sync>(
+    rt: &Rt,
     alloc: Global,
     words: &WordList,
     source: &mut S,
     sink: &mut K,
+    gate: &G,
 ) -> Status
     // The words alone decide whether they are a command; if not, nothing is done.
     ensures words { (result ≡ Status.Words) ↔ (command_of words.now ≡ None) }
@@ -54,27 +70,27 @@ pub fn tp_main<B: Recorded, S: Source, K: Sink>(
     ensures ended { IsReadToEnd (command_of words.now) result → IsEnded (S.left source.new) }
     // A bad line is the first fault of the input, which is then in no grammar of the command.
     ensures bad_line { IsBadLineOf (command_of words.now) (S.left source.old) result }
-    ensures bad_only { (bytes output : List ℕ) (ending : Ending) → IsTold (command_of words.now) bytes (S.left source.old) → Gives (command_of words.now) bytes output ending →
+    ensures bad_only { (bytes : List ℕ) → IsTold (command_of words.now) bytes (S.left source.old) → IsInGrammar (command_of words.now) bytes →
         IsBadLine result → ⊥ }
-    // The sink gets the output for the input, once; and there is no other output for it.
+    // The sink gets an output for the input, once; and where the command has one, there is no other.
     ensures whole { IsWhole result → IsAnswered (command_of words.now) (S.left source.old)
         (λ output ending. (result ≡ status_of ending) × (K.holds sink.new ≡ with_given output (K.holds sink.old))) }
-    ensures whole_only { (bytes output : List ℕ) (ending : Ending) → IsTold (command_of words.now) bytes (S.left source.old) → Gives (command_of words.now) bytes output ending →
+    ensures whole_only { (bytes output : List ℕ) (ending : Ending) → IsDetermined (command_of words.now) → IsTold (command_of words.now) bytes (S.left source.old) → Gives (command_of words.now) bytes output ending →
         IsWhole result → (result ≡ status_of ending) × (K.holds sink.new ≡ with_given output (K.holds sink.old)) }
     // A sink that has a fault holds the first bytes of the output.
     ensures first { result ≡ Status.WriteFault → IsAnswered (command_of words.now) (S.left source.old)
         (λ output ending. TookFirst (K.holds sink.old) (K.holds sink.new) output) }
-    ensures first_only { (bytes output : List ℕ) (ending : Ending) → IsTold (command_of words.now) bytes (S.left source.old) → Gives (command_of words.now) bytes output ending →
+    ensures first_only { (bytes output : List ℕ) (ending : Ending) → IsDetermined (command_of words.now) → IsTold (command_of words.now) bytes (S.left source.old) → Gives (command_of words.now) bytes output ending →
         result ≡ Status.WriteFault → TookFirst (K.holds sink.old) (K.holds sink.new) output }
     // Nothing but want of memory keeps an input in the grammar from its output where no stream has a fault.
-    ensures complete { (bytes output : List ℕ) (ending : Ending) → IsTold (command_of words.now) bytes (S.left source.old) → Gives (command_of words.now) bytes output ending →
+    ensures complete { (bytes : List ℕ) → IsTold (command_of words.now) bytes (S.left source.old) → IsInGrammar (command_of words.now) bytes →
         length bytes ≤ INPUT_LIMIT →
         (Rose (S.failures source.old) (S.failures source.new) → ⊥) → (Rose (K.failures sink.old) (K.failures sink.new) → ⊥) →
-        (result ≡ status_of ending) ⊎ (result ≡ Status.NoMemory) }
+        IsWhole result ⊎ (result ≡ Status.NoMemory) }
 {
     match command_in(words) {
         None => Status::Words,
-        Some(command) => run::<B, _, _>(alloc, command, source, sink),
+        Some(command) => run::<Rt, B, S, K, G>(rt, alloc, command, source, sink, gate),
     }
 }
 
@@ -88,11 +104,13 @@ pub struct Output {
 }
 
 // Reads the command's input, and writes its output.
-fn run<B: Recorded, S: Source, K: Sink>(
+fn run<Rt: Threads + Wait + Sync, B: Recorded + Send, S: Source, K: Sink, G: Gate + Sync>(
+    rt: &Rt,
     alloc: Global,
     command: Command,
     source: &mut S,
     sink: &mut K,
+    gate: &G,
 ) -> Status
     requires { IsPlayable command }
     ensures run { IsRun command (S.left source.old) (S.left source.new) (K.holds sink.old) (K.holds sink.new) result }
@@ -103,7 +121,7 @@ fn run<B: Recorded, S: Source, K: Sink>(
     ensures source_never_falls { S.failures source.old ≤ S.failures source.new }
     ensures sink_never_falls { K.failures sink.old ≤ K.failures sink.new }
 {
-    match read_output::<B, S>(alloc, command, source) {
+    match read_output::<Rt, B, S, G>(rt, alloc, command, source, gate) {
         Err(status) => status,
         Ok(output) => match give_all(sink, &output.text) {
             Ok(()) => output.ending.into(),
@@ -113,10 +131,12 @@ fn run<B: Recorded, S: Source, K: Sink>(
 }
 
 // Reads the command's input to its end, and answers its output.
-fn read_output<B: Recorded, S: Source>(
+fn read_output<Rt: Threads + Wait + Sync, B: Recorded + Send, S: Source, G: Gate + Sync>(
+    rt: &Rt,
     alloc: Global,
     command: Command,
     source: &mut S,
+    gate: &G,
 ) -> Result<Output, Status>
     requires { IsPlayable command }
     ensures taken { IsTakenTo command (S.left source.old) (S.left source.new) result }
@@ -125,7 +145,7 @@ fn read_output<B: Recorded, S: Source>(
     ensures never_falls { S.failures source.old ≤ S.failures source.new }
 {
     let bytes = read_input(alloc, command, source)?;
-    reply::<B>(alloc, command, &bytes)
+    reply::<Rt, B, G>(rt, alloc, command, &bytes, gate)
 }
 
 // All that the source has, or nothing where the command has no input.
@@ -148,7 +168,13 @@ fn read_input<S: Source>(
 }
 
 // The command's output for its whole input.
-fn reply<B: Recorded>(alloc: Global, command: Command, bytes: &[u8]) -> Result<Output, Status>
+fn reply<Rt: Threads + Wait + Sync, B: Recorded + Send, G: Gate + Sync>(
+    rt: &Rt,
+    alloc: Global,
+    command: Command,
+    bytes: &[u8],
+    gate: &G,
+) -> Result<Output, Status>
     requires few { length bytes.now ≤ INPUT_LIMIT }
     requires playable { IsPlayable command }
     ensures { IsReply command bytes.now result }
@@ -172,6 +198,25 @@ fn reply<B: Recorded>(alloc: Global, command: Command, bytes: &[u8]) -> Result<O
                 ending: Ending::Fine,
             })
         }
+        Command::Run {
+            threads,
+            machine,
+            json,
+        } => {
+            one_history_alone();
+            one_script_a_text();
+            play_text::<Rt, B, G>(rt, alloc, bytes, threads, machine, json, gate)
+        }
+        Command::Big {
+            number,
+            machine,
+            json,
+        } => {
+            one_history_alone();
+            one_script_a_text();
+            let output = play_number::<Rt, B, G>(rt, alloc, number, machine, json, gate)?;
+            Ok(output)
+        }
     }
 }
 
@@ -186,4 +231,55 @@ fn output_of(alloc: Global, verdict: &Verdict) -> Result<Output, AllocError>
         text,
         ending: verdict.into(),
     })
+}
+
+// What `run` writes of the script that is its input.
+fn play_text<Rt: Threads + Wait + Sync, B: Recorded + Send, G: Gate + Sync>(
+    rt: &Rt,
+    alloc: Global,
+    bytes: &[u8],
+    threads: u32,
+    machine: MachineSize,
+    json: bool,
+    gate: &G,
+) -> Result<Output, Status>
+    requires few { length bytes.now ≤ INPUT_LIMIT }
+    requires threads { 1 ≤ threads }
+    requires size { IsMachineSize machine }
+    ensures ok { IfOk result (λ output. IsPlayedOf bytes.now threads machine (whole_layout json) output.text.items output.ending) }
+    ensures err { IfErr result (IsScriptEnd bytes.now) }
+{
+    let script = parse_script(alloc, bytes)?;
+    let layout = Layout {
+        history: true,
+        json,
+    };
+    let output = play_script::<Rt, B, G>(rt, alloc, &script, threads, machine, layout, gate)?;
+    Ok(output)
+}
+
+// What `big` writes of the long script of a number.
+fn play_number<Rt: Threads + Wait + Sync, B: Recorded + Send, G: Gate + Sync>(
+    rt: &Rt,
+    alloc: Global,
+    number: u64,
+    machine: MachineSize,
+    json: bool,
+    gate: &G,
+) -> Result<Output, AllocError>
+    requires size { IsMachineSize machine }
+    ensures { IfOk result (λ output. IsPlayedOf (long_script number) 1 machine (short_layout json) output.text.items output.ending) }
+{
+    let text = generate(alloc, number, LONG_SCRIPT_LENGTH)?;
+    if INPUT_LIMIT < text.len() {
+        return Err(AllocError);
+    }
+    let Ok(script) = parse_script(alloc, &text) else {
+        return Err(AllocError);
+    };
+    let layout = Layout {
+        history: false,
+        json,
+    };
+    play_script::<Rt, B, G>(rt, alloc, &script, 1, machine, layout, gate)
 }

@@ -3,6 +3,7 @@ pub mod Calls
 pub mod Kept
 pub mod Known
 pub mod Lines
+pub mod Machines
 pub mod Names
 pub mod Nexts
 pub mod Readings

@@ -10,6 +10,7 @@ ghost use Rattle.tp_script.specs.Scripts.{IsFaultIn, IsScript, is_local};
 ghost use Rattle.tp_script.specs.Texts.{Spot};
 ghost use Rattle.tp_base.specs.Ranges.{IsCallInRange};
 ghost use Rattle.tp_script.specs.Calls.{IsOfPart};
+ghost use Rattle.tp_script.specs.Machines.{HasFewClients, NeverWaitsAtFirst};
 ghost use Rattle.tp_script.specs.Nexts.{acting, call_at, clients_of, is_end, is_refusal, line_after, line_at, noted, number_in, numbered_place, opens, place_of, places_behind, stepped, waited, with_local};
 
 use crate::calls::{acts, begins_wait, call_of, calls_in};
@@ -107,6 +108,9 @@ pub fn parse_script(alloc: Global, bytes: &[u8]) -> Result<Script, ScriptFault>
     ensures ok { IfOk result (IsScript bytes.now) }
     ensures err { IfErr result (IsScriptFault bytes.now) }
     ensures only { (lines : List Line) → IsScript bytes.now lines → IsThat lines result }
+    // What a machine has to know of it: how many clients it has, and that client 1 waits for nothing.
+    ensures clients { IfOk result HasFewClients }
+    ensures calm { IfOk result NeverWaitsAtFirst }
 {
     let lines = match read_lines(alloc, bytes) {
         Ok(lines) => lines,

@@ -1,9 +1,10 @@
 //! The program tpool: the thread pool of Windows as a machine, played from text.
 //!
 //! `tpool trace` reads call lines from standard input and writes what each call comes to, a line
-//! each, to standard output. All of it is `tp_main` of `tp_run`, which is proved over any machine,
-//! any source and any sink; here it meets the machine itself and the real streams. The exit status
-//! is 0, or that of the first thing that went wrong, with a line on standard error.
+//! each, to standard output; `tpool run` plays a script, with as many threads as it is told. All of it
+//! is `tp_main` of `tp_run`, which is proved over any machine, any source and any sink; here it meets
+//! the machine itself, the real streams and a gate that holds nobody up. The exit status is 0, or that
+//! of the first thing that went wrong, with a line on standard error.
 //!
 //! ```text
 //! $ tpool trace
@@ -21,13 +22,21 @@ use std::process::ExitCode;
 use std::{env, io};
 use tp_edge::{ReadEdge, WriteEdge};
 use tp_run::{Status, WordList, tp_main};
+use worker_gate::Gate;
+
+/// A gate that stands open: no callback waits before its first call.
+struct Open;
+
+impl Gate for Open {
+    fn before(&self, _worker: u32, _callback: u64) {}
+}
 
 fn main(rt: HostRuntime) -> ExitCode {
     let status = match read_words(&rt) {
         Ok(words) => {
             let mut source = ReadEdge::new(rt.stdin());
             let mut sink = WriteEdge::new(rt.stdout());
-            tp_main::<Book, _, _>(rt.alloc(), &words, &mut source, &mut sink)
+            tp_main::<_, Book, _, _, _>(&rt, rt.alloc(), &words, &mut source, &mut sink, &Open)
         }
         Err(status) => status,
     };
@@ -66,5 +75,6 @@ fn report(rt: &HostRuntime, status: Status) -> io::Result<()> {
         Status::WriteFault => eprintln!(rt; "tpool: write fault"),
         Status::NoMemory => eprintln!(rt; "tpool: want of memory"),
         Status::TooLong => eprintln!(rt; "tpool: input too long"),
+        Status::Exhausted => eprintln!(rt; "tpool: history exhausted"),
     }
 }

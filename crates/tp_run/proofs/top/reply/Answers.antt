@@ -1,6 +1,7 @@
 use Rattle.std.proofs.Common.{sym, subst}
 use Rattle.tp_run.specs.Ends.{IsOutput, IsReply}
 use Rattle.tp_run.proofs.Checked.{output_of_verdict, reply_of_fault}
+use Rattle.tp_run.proofs.Scripted.{big_output, run_reply}
 use Rattle.tp_run.proofs.top.reply.Goals as goal
 
 pub returns-in_err-verdict-in-Check : goal.returns-in_err-verdict-in-Check
@@ -15,3 +16,16 @@ returns-in_ok-output_of-in-Check g c =
     subst (λ k. IsOutput k c.args.bytes.now output.field-0.text.items output.field-0.ending) (sym c.in-Check.is)
     (output_of_verdict c.args.bytes.now output.field-0.text.items c.in_ok-verdict-in-Check.verdict output.field-0.ending
     c.in_ok-verdict-in-Check.ensures.ok c.in_ok-verdict-in-Check.ensures.only output.ensures.text output.ensures.ending)
+
+pub returns-in-Run : goal.returns-in-Run
+returns-in-Run g c =
+    let made = c.in-Run in
+    subst (λ k. IsReply k c.args.bytes.now c.play_text.result) (sym made.is)
+    (run_reply c.args.bytes.now made.threads made.machine made.json c.play_text.result c.one_history_alone.ensures c.one_script_a_text.ensures c.play_text.ensures.ok c.play_text.ensures.err)
+
+pub returns-in_ok-output-in-Big : goal.returns-in_ok-output-in-Big
+returns-in_ok-output-in-Big g c =
+    let made = c.in-Big in
+    let output = c.in_ok-output-in-Big in
+    subst (λ k. IsOutput k c.args.bytes.now output.output.text.items output.output.ending) (sym made.is)
+    (big_output c.args.bytes.now made.number made.machine made.json output.output c.one_history_alone-in-Big.ensures c.one_script_a_text-in-Big.ensures output.ensures)

@@ -1,0 +1,52 @@
+//! The whole program over streams in memory.
+
+use crate::expect::expect_ok;
+use pool_book::Book;
+use std::alloc::Global;
+use std::process::Abort;
+use std::sync::Wait;
+use std::thread::Threads;
+use tp_edge::{MemorySink, MemorySource};
+use tp_run::{Status, WordList, tp_main};
+use worker_gate::Gate;
+
+/// A gate that stands open.
+#[derive(Drop)]
+pub struct Open;
+
+impl Gate for Open {
+    fn before(&self, _worker: u32, _callback: u64) {}
+}
+
+/// How the program ends by the words of a line, and what the sink then holds. A take from the input has 16 bytes, and a
+/// give 4. The take and the give of these numbers fail, or none where it is 0.
+pub fn run_program<Rt: Abort + Threads + Wait + Sync, G: Gate + Sync>(
+    rt: &Rt,
+    alloc: Global,
+    line: &str,
+    input: &str,
+    failing_take: u32,
+    failing_give: u32,
+    gate: &G,
+) -> (Status, Vec<u8>) {
+    let words = words_of(rt, alloc, line);
+    let bytes = expect_ok(rt, input.as_bytes().to_vec(alloc));
+    let failing = expect_ok(rt, vec![in alloc; failing_take]);
+    let mut source = expect_ok(rt, MemorySource::new(alloc, bytes, 16, failing));
+    let failing = expect_ok(rt, vec![in alloc; failing_give]);
+    let mut sink = expect_ok(rt, MemorySink::new(alloc, 10_000, 4, failing));
+    let status = tp_main::<_, Book, _, _, _>(rt, alloc, &words, &mut source, &mut sink, gate);
+    let held = expect_ok(rt, sink.bytes().to_vec(alloc));
+    drop(words);
+    drop(source);
+    drop(sink);
+    (status, held)
+}
+
+fn words_of(rt: &impl Abort, alloc: Global, line: &str) -> WordList {
+    let mut words = WordList::new(alloc);
+    for word in line.split(' ') {
+        expect_ok(rt, words.push(word));
+    }
+    words
+}

@@ -1,0 +1,43 @@
+-- What the whole program tells, by what its command came to.
+use Rattle.std.proofs.Common.{◌≡◌, ℕ, Bool, true, false, List, ◌++◌, Option, None, Some, refl, sym, ap, ◌∙◌, subst}
+use Rattle.std.proofs.lemmas.List.{append-nil}
+use Rattle.tp_edge.specs.Given.{with_given}
+use Rattle.tp_edge.specs.Taken.{behind, AreAll}
+use Rattle.tp_run.specs.Ends.{status_of, Came, IsAllRead, IsOutput, IsReadIf, IsRun}
+use Rattle.tp_run.specs.Inputs.{reads, IsInput, IsInputIf}
+use Rattle.tp_run.specs.Runs.{IsAnswered, IsBadLineOf, IsWhole}
+use Rattle.tp_run.specs.declared.command.Command.{Command}
+use Rattle.tp_run.specs.declared.status.Ending.{Ending}
+use Rattle.tp_run.specs.declared.status.Ending.TheVariants as ending
+use Rattle.tp_run.specs.declared.status.Status.{Status}
+use Rattle.tp_run.specs.declared.status.Status.TheVariants.{Fine, BadLine, NotLegal, Exhausted}
+
+-- what was read to its end is all that was left
+input_of : (reads_it : Bool) (taken : List ℕ) (left now : Option (List ℕ)) → left ≡ behind taken now → IsReadIf reads_it taken now → IsInputIf reads_it taken left
+input_of true taken left None took read = subst (λ l. AreAll taken l) (sym took) tt
+input_of true taken left (Some rest) took read = subst (λ l. AreAll taken l) (sym took) (ap (λ r. taken ++ r) read ∙ append-nil taken)
+input_of false taken left now took read = read
+
+module _ (command : Command) (left now held holds : Option (List ℕ)) (status : Status) (run : IsRun command left now held holds status) where
+  is_input : IsAllRead command run.taken now → IsInput (Some command) run.taken left
+  is_input read = input_of (reads (Some command)) run.taken left now run.took read
+
+  -- what was written, with its ending
+  written : (s : Status) → IsWhole s → Came command run.taken now held holds s
+      → IsAllRead command run.taken now × ((output : List ℕ) × (ends : Ending) × IsOutput command run.taken output ends × (s ≡ status_of ends) × (holds ≡ with_given output held))
+  written Fine whole came = (came.0, (came.1.0, ending.Fine, came.1.1, refl, came.1.2))
+  written NotLegal whole came = (came.0, (came.1.0, ending.NotLegal, came.1.1, refl, came.1.2))
+  written Exhausted whole came = (came.0, (came.1.0, ending.Exhausted, came.1.1, refl, came.1.2))
+  written _ whole came = absurd whole
+
+  pub whole_run : IsWhole status → IsAnswered (Some command) left (λ output ends. (status ≡ status_of ends) × (holds ≡ with_given output held))
+  whole_run whole =
+      let w = written status whole run.came in
+      record { bytes = run.taken; output = w.1.0; ending = w.1.1; is_input = is_input w.0; gives = w.1.2.gives; given = (w.1.3, w.1.4) }
+
+  bad_line_of : (s : Status) → Came command run.taken now held holds s → IsBadLineOf (Some command) left s
+  bad_line_of (BadLine line column) came = (run.taken, is_input came.0, came.1.at)
+  bad_line_of _ came = tt
+
+  pub bad_line : IsBadLineOf (Some command) left status
+  bad_line = bad_line_of status run.came

@@ -1,0 +1,183 @@
+-- What the program makes of the run of a script.
+use Rattle.std.proofs.Common.{◌≡◌, ℕ, ◌+◌, zero, suc, Bool, true, false, List, [], ◌∷◌, drop, Option, None, Some, Result, Ok, Err, refl, sym, ap, ◌∙◌, subst, arith, inl, inr}
+use Rattle.std.specs.Prelude.{◌↔◌, ◌||◌, slice_get, IfErr, IfOk, IfSome}
+use Rattle.std.specs.Result.{IsErrAnd}
+use Rattle.std.specs.List.{list_any}
+use Rattle.std.proofs.lemmas.Bool.{false≢true}
+use Rattle.std.proofs.lemmas.Option.{get_or_from_slice_get, slice_get_within}
+use Rattle.std.proofs.Math.Seq.{drop-cons}
+use Rattle.tp_base.specs.declared.answers.Entry.{Entry}
+use Rattle.tp_base.specs.declared.calls.Call.{Call}
+use Rattle.tp_base.specs.declared.calls.Call.TheVariants as call
+use Rattle.tp_base.specs.declared.limits.Limits.{Limits}
+use Rattle.tp_model.specs.History.{after, IsLegal}
+use Rattle.tp_model.specs.Laws.Once.{left}
+use Rattle.recorded.specs.Recordings.{Recording}
+use Rattle.tp_model.specs.Laws.{KeepsLaws}
+use Rattle.tp_report.specs.Summaries.{totals_behind, IsNoneLost}
+use Rattle.tp_run.specs.Played.{ending_by, has_exhausted, has_pending, limits_for, long_script, printed, routines_of, EndsRun, IsPlayed, RanOut}
+use Rattle.tp_report.specs.declared.playing.MachineSize.{MachineSize}
+use Rattle.tp_run.specs.Ends.{status_of_script, IsOutput, IsReply, IsScriptEnd}
+use Rattle.tp_run.specs.Inputs.{short_layout, whole_layout, IsPlayedOf}
+use Rattle.tp_run.specs.declared.command.Command.TheVariants.{Run, Big}
+use Rattle.tp_run.specs.declared.played.Layout.{Layout}
+use Rattle.tp_run.specs.declared.status.Status.{Status}
+use Rattle.tp_run.specs.declared.status.Status.TheVariants as end
+use Rattle.tp_run.specs.declared.status.Status.TheVariants.{BadLine}
+use Rattle.tp_run.specs.declared.top.Output.{Output}
+use Rattle.tp_script.specs.Answers.{IsScriptFault, IsThat}
+use Rattle.tp_script.specs.Scripts.{IsScript}
+use Rattle.tp_script.specs.declared.fault.ScriptFault.{ScriptFault}
+use Rattle.tp_script.specs.declared.fault.ScriptFault.TheVariants.{NoMemory, At}
+use Rattle.tp_run.specs.declared.status.Ending.{Ending}
+use Rattle.tp_run.specs.declared.status.Ending.TheVariants.{Fine, NotLegal, Exhausted}
+use Rattle.tp_script.specs.Calls.{begins_wait_call}
+use Rattle.tp_script.specs.Machines.{NeverWaitsAtFirst}
+use Rattle.tp_script.specs.Nexts.{first_progress, next_call}
+use Rattle.tp_script.specs.declared.line.Line.{Line}
+use Rattle.tp_script.specs.declared.routines.Part.TheVariants as part
+use Rattle.worker_gate.specs.Alone.{IsAlone}
+use Rattle.worker_gate.specs.Places.{Given}
+use Rattle.worker_gate.specs.Rounds.{begins_wait, NeverWaits}
+use Rattle.worker_gate.specs.Runs.{IsCutShort, Runs}
+
+-- ---- whether one of a list passes a test, place by place
+
+module _ {X : Type 0} (test : X → Bool) (xs : List X) (i : ℕ) (so_far : list_any test xs ≡ list_any test (drop i xs)) where
+  any_here : (x : X) → slice_get xs i ≡ Some x → list_any test xs ≡ (test x || list_any test (drop (suc i) xs))
+  any_here x is =
+      so_far ∙ ap (λ ys. list_any test ys) (drop-cons xs i x (slice_get_within xs i x is))
+      ∙ ap (λ y. test y || list_any test (drop (suc i) xs)) (get_or_from_slice_get xs i x x is)
+
+  pub any_found : (x : X) → slice_get xs i ≡ Some x → test x ≡ true → list_any test xs ≡ true
+  any_found x is passes = any_here x is ∙ ap (λ b. b || list_any test (drop (suc i) xs)) passes
+
+  pub any_next : (x : X) → slice_get xs i ≡ Some x → test x ≡ false → list_any test xs ≡ list_any test (drop (i + 1) xs)
+  any_next x is fails =
+      let next : suc i ≡ i + 1 = omega arith in
+      any_here x is ∙ ap (λ b. b || list_any test (drop (suc i) xs)) fails ∙ ap (λ n. list_any test (drop n xs)) next
+
+past_end : {X : Type 0} (xs : List X) (i : ℕ) → slice_get xs i ≡ None → drop i xs ≡ []
+past_end [] zero e = refl
+past_end [] (suc i) e = refl
+past_end (x ∷ xs) zero e = absurd cc
+past_end (x ∷ xs) (suc i) e = past_end xs i e
+
+pub any_ends : {X : Type 0} (test : X → Bool) (xs : List X) (i : ℕ) → list_any test xs ≡ list_any test (drop i xs) → slice_get xs i ≡ None → list_any test xs ≡ false
+any_ends test xs i so_far e = so_far ∙ ap (λ ys. list_any test ys) (past_end xs i e)
+
+-- ---- how a run ends
+
+pub run_ends : (g : Given) (limits : Limits) (history : List Entry) (cut exhausted pending : Bool) → (cut ≡ true) ↔ IsCutShort g limits history
+    → exhausted ≡ has_exhausted history → pending ≡ has_pending (left (after limits history)) → EndsRun g limits history (ending_by cut exhausted pending)
+run_ends g limits history true exhausted pending short e p = inl (short.0 refl)
+run_ends g limits history false true pending short e p = inr (inl (sym e))
+run_ends g limits history false false true short e p = inr (inr (sym p))
+run_ends g limits history false false false short e p = none
+  where
+    none : RanOut g limits history → ⊥
+    none (inl cut) = false≢true (short.1 cut)
+    none (inr (inl found)) = false≢true (e ∙ found)
+    none (inr (inr found)) = false≢true (p ∙ found)
+
+-- ---- client 1 waits for nothing
+
+same_waits : (made : Call) → begins_wait made ≡ begins_wait_call made
+same_waits call.CreatePool = refl
+same_waits _ = refl
+
+calm_call : (next : Option Call) → IfSome next (λ made. begins_wait_call made ≡ false) → IfSome next (λ made. begins_wait made ≡ false)
+calm_call None calm = tt
+calm_call (Some made) calm = same_waits made ∙ calm
+
+pub never_waits : (script : List Line) → NeverWaitsAtFirst script → NeverWaits (routines_of script) (part.Client 1) first_progress
+never_waits script calm = λ answers. calm_call (next_call script (part.Client 1) answers) (calm answers)
+
+-- ---- a run that was played
+
+module _ (script : List Line) (threads : ℕ) (layout : Layout) (output : List ℕ) (ending : Ending) where
+  pub run_played : (r : Recording) (limits : Limits) (capacity : ℕ) → r.limits ≡ limits → r.capacity ≡ capacity
+      → IsLegal r.limits r.capacity r.history → KeepsLaws r.limits r.history → Runs (routines_of script) r.limits r.capacity r.history
+      → (threads ≡ 1 → IsAlone (routines_of script) limits capacity r.history) → IsNoneLost (totals_behind r)
+      → output ≡ printed layout r.limits r.capacity r.history → EndsRun (routines_of script) r.limits r.history ending
+      → IsPlayed script threads limits capacity layout output ending
+  run_played r limits capacity same_limits same_capacity legal laws runs alone none_lost text ends =
+      let g = routines_of script in
+      let alone_there : threads ≡ 1 → IsAlone g r.limits r.capacity r.history =
+      λ one. subst (λ (e : ℕ). IsAlone g r.limits e r.history) (sym same_capacity) (subst (λ (l : Limits). IsAlone g l capacity r.history) (sym same_limits) (alone one)) in
+      let there : IsPlayed script threads r.limits r.capacity layout output ending =
+      record {
+        history = r.history;
+        is_run = record { legal = legal; laws = laws; runs = runs; alone = alone_there; none_lost = none_lost };
+        output_is = text;
+        ends = ends;
+      } in
+      subst (λ (e : ℕ). IsPlayed script threads limits e layout output ending) same_capacity
+      (subst (λ (l : Limits). IsPlayed script threads l r.capacity layout output ending) same_limits there)
+
+-- ---- one thread
+
+one_ending : (g : Given) (limits : Limits) (history : List Entry) (a b : Ending) → EndsRun g limits history a → EndsRun g limits history b → a ≡ b
+one_ending g limits history Fine Fine p q = refl
+one_ending g limits history Exhausted Exhausted p q = refl
+one_ending g limits history Fine Exhausted p q = absurd (p q)
+one_ending g limits history Exhausted Fine p q = absurd (q p)
+one_ending g limits history NotLegal b p q = absurd p
+one_ending g limits history Fine NotLegal p q = absurd q
+one_ending g limits history Exhausted NotLegal p q = absurd q
+
+-- a script has one history on one thread
+abbrev pub OneHistory : Type 0
+OneHistory = (g : Given) (limits : Limits) (capacity : ℕ) (history other : List Entry) → IsAlone g limits capacity history → IsAlone g limits capacity other → history ≡ other
+
+one_played : OneHistory → (script : List Line) (threads : ℕ) → threads ≡ 1 → (limits : Limits) (capacity : ℕ) (layout : Layout) (output other : List ℕ) (ending other_end : Ending)
+    → IsPlayed script threads limits capacity layout output ending → IsPlayed script threads limits capacity layout other other_end → (output ≡ other) × (ending ≡ other_end)
+one_played one_history script threads one limits capacity layout output other ending other_end a b =
+    let g = routines_of script in
+    let same = one_history g limits capacity a.history b.history (a.is_run.alone one) (b.is_run.alone one) in (
+      a.output_is ∙ ap (λ h. printed layout limits capacity h) same ∙ sym b.output_is,
+      one_ending g limits b.history ending other_end (subst (λ h. EndsRun g limits h ending) same a.ends) b.ends,
+    )
+
+-- a text is one script
+abbrev pub OneScript : Type 0
+OneScript = (text : List ℕ) (lines other : List Line) → IsScript text lines → IsScript text other → lines ≡ other
+
+one_played_of : OneHistory → OneScript → (text : List ℕ) (threads : ℕ) → threads ≡ 1
+    → (machine : MachineSize) (layout : Layout) (output other : List ℕ) (ending other_end : Ending)
+    → IsPlayedOf text threads machine layout output ending → IsPlayedOf text threads machine layout other other_end → (output ≡ other) × (ending ≡ other_end)
+one_played_of one_history one_script text threads one machine layout output other ending other_end a b =
+    let same = one_script text a.0 b.0 a.1 b.1 in
+    one_played one_history b.0 threads one (limits_for b.0 machine) machine.events layout output other ending other_end
+    (subst (λ script. IsPlayed script threads (limits_for script machine) machine.events layout output ending) same a.2) b.2
+
+-- ---- what becomes of a text that is to be played
+
+pub script_end : (bytes : List ℕ) (fault : ScriptFault) (reply : Result Output Status) → IsErrAnd reply (λ status. status ≡ status_of_script fault) → IsScriptFault bytes fault
+    → ((lines : List Line) → IsScript bytes lines → IsThat lines (Err fault)) → IfErr reply (IsScriptEnd bytes)
+script_end bytes fault (Ok output) h place only = absurd h
+script_end bytes fault (Err status) h place only = subst (λ s. IsScriptEnd bytes s) (sym h) (of_fault fault place only)
+  where
+    of_fault : (f : ScriptFault) → IsScriptFault bytes f → ((lines : List Line) → IsScript bytes lines → IsThat lines (Err f)) → IsScriptEnd bytes (status_of_script f)
+    of_fault NoMemory place only = tt
+    of_fault (At line column kind) place only = ((kind, place), only)
+
+pub run_reply : (bytes : List ℕ) (threads : ℕ) (machine : MachineSize) (json : Bool) (reply : Result Output Status)
+    → OneHistory → OneScript → IfOk reply (λ output. IsPlayedOf bytes threads machine (whole_layout json) output.text.items output.ending) → IfErr reply (IsScriptEnd bytes)
+    → IsReply (Run threads machine json) bytes reply
+run_reply bytes threads machine json (Ok output) one_history one_script ok err = record {
+  gives = ok;
+  only = λ one other other_end g.
+      one_played_of one_history one_script bytes threads one machine (whole_layout json) output.text.items other output.ending other_end ok g;
+}
+run_reply bytes threads machine json (Err (BadLine line column)) one_history one_script ok err = record { at = err.0; none = λ h. err.1 h.0 h.1 }
+run_reply bytes threads machine json (Err end.NoMemory) one_history one_script ok err = tt
+run_reply bytes threads machine json (Err _) one_history one_script ok err = absurd err
+
+pub big_output : (bytes : List ℕ) (number : ℕ) (machine : MachineSize) (json : Bool) (output : Output) → OneHistory → OneScript
+    → IsPlayedOf (long_script number) 1 machine (short_layout json) output.text.items output.ending → IsOutput (Big number machine json) bytes output.text.items output.ending
+big_output bytes number machine json output one_history one_script played = record {
+  gives = played;
+  only = λ determined other other_end g.
+      one_played_of one_history one_script (long_script number) 1 refl machine (short_layout json) output.text.items other output.ending other_end played g;
+}
