@@ -27,16 +27,22 @@ read_crates() {
     list_crates "$program"
 }
 
-# Finds the folders of the crates that the program stands on, and keeps their list beside the program, where
-# it can be written.
-keep_folders() {
-    local name list=$binary.folders
+# Finds the folders of the crates that the program stands on, in two halves of about as many files each, and
+# keeps them beside the program, a half a line, where they can be written.
+keep_halves() {
+    local name folders=() list=$binary.halves
     read_crates
-    folders=()
     for name in "${crates[@]}"; do
         folders+=("$name"/{src,specs,proofs})
     done
-    { printf '%s\n' "${folders[@]}" >"$list.$$" && mv -f -- "$list.$$" "$list"; } 2>/dev/null
+    mapfile -t halves < <(count_files "${folders[@]}" | sort -rn |
+        awk '{ at = files[2] < files[1] ? 2 : 1; files[at] += $1; half[at] = half[at] " " $2 } END { print half[1]; print half[2] }')
+    { printf '%s\n' "${halves[@]}" >"$list.$$" && mv -f -- "$list.$$" "$list"; } 2>/dev/null
+}
+
+# Each of these folders, with a number in front that grows with its files. A folder may be missing.
+count_files() {
+    { printf '%s\n' "$@" && (cd "$home/crates" && find "$@" 2>/dev/null | cut -d / -f 1,2); } | sort | uniq -c
 }
 
 # --- Unproved

@@ -24,15 +24,19 @@ rest_of_line() {
 
 # A likely cause of a fault, where its place shows one.
 find_cause() {
-    local line=$1 column=$2 byte before rest cause
+    local line=$1 column=$2 byte before rest cause=
     rest=$(rest_of_line "$line" "$column" 60)
     case $command:$line:$column:$rest in
-    run:*) cause=$(find_in_script "$line" "$column") ;;
-    trace:1:1:'history '*) cause='this is a history: ./tpool check reads it' ;;
+    trace:1:1:'history '* | run*:1:1:'history '*) cause='this is a history: ./tpool check reads it' ;;
+    run*:1:1:[cw][0-9]*) cause='this is a trace: ./tpool trace plays it' ;;
+    run*) cause=$(find_in_script "$line" "$column") ;;
     check:1:1:[cw][0-9]*) cause='this is a trace: ./tpool trace reads it, and ./tpool history makes a history of it' ;;
-    *:*:*:[#\;]* | *:*:*:\ [#\;]* | *:*:*:'//'* | *:*:*:' //'* | *:*:*:'--'* | *:*:*:' --'*) cause='there are no comments' ;;
+    *:*:*:[#\;]* | *:*:*:\ [#\;]* | *:*:*:'//'* | *:*:*:' //'* | *:*:*:'--'* | *:*:*:' --'*)
+        cause='there are no comments, but in scripts, which ./tpool run plays'
+        ;;
+    *:1:[12]:*) ! is_script || cause='this is a script, it seems: ./tpool run plays it' ;;&
     trace:*:*:' -> '*) cause='an answer stands here, as in a history: ./tpool check reads those' ;;
-    *) cause=$(find_meant "$line" "$column") ;;
+    *) cause=${cause:-$(find_meant "$line" "$column")} ;;
     esac
     if [[ -z $cause ]]; then
         byte=$(line_of_input "$line" | tail -c +"$column" | head -c 1 | od -An -tu1)
@@ -41,6 +45,11 @@ find_cause() {
     fi
     [[ -n $cause || $command:$(rest_of_line "$line" 1 4) != 'check:end ' ]] || cause='the end line has the number of the entries'
     echo "${cause:-no good line goes on like this}"
+}
+
+# Whether the first line begins as one of a script does.
+is_script() {
+    [[ " pool group event semaphore mutex section work timer wait io routine client " == *" $(rest_of_line 1 1 20 | cut -d ' ' -f 1) "* ]]
 }
 
 # The word that is meant by one that is none, if one is near.

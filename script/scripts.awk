@@ -26,6 +26,32 @@ BEGIN {
     want("mutex or section", "release")
     want("kernel object", "acquire on-return")
     want("routine", "simple cancel")
+    # what stands at a place that has no name
+    put("event 3", "`manual` or `auto`")
+    put("event 4", "`set` or `clear`")
+    put("semaphore 3", "the count that it begins with, a number up to 2147483647,")
+    put("semaphore 4", "its maximum, a number from 1 to 2147483647 and not below its count,")
+    put("let 3", "`work`, `timer`, `wait` or `io`")
+    put("wait 3, close-members 3", "`keep` or `cancel`")
+    put("set-timer 3, set-timer-ex 3", "a due time in units of 100 ns, or `none`,")
+    put("set-wait 4", "a timeout in units of 100 ns, or `none`,")
+    put("set-timer 4, set-timer-ex 4", "a period in milliseconds, up to 4294967295,")
+    put("set-timer 5, set-timer-ex 5", "a window in milliseconds, up to 4294967295,")
+    put("advance 2", "a time in units of 100 ns, up to 9223372036854775807,")
+    put("complete-io 3", "an error, a number up to 4294967295,")
+    put("complete-io 4, close-members 4, context", "a number up to 18446744073709551615")
+    put("set-maximum 3, set-minimum 3, max, min", "a number up to 4294967295")
+    put("release-semaphore 3, on-return 3", "a number from 1 to 2147483647")
+    put("times 2", "a number from 1 to 10000")
+    put("priority", "`high`, `normal` or `low`")
+    # how many words there may be
+    most_words(1, "client done may-run-long disassociate")
+    most_words(2, "group mutex section routine submit is-timer-set start-io cancel-io close close-group close-pool set-event reset-event release " \
+        "acquire advance")
+    most_words(3, "issue-io wait set-maximum set-minimum release-semaphore on-return")
+    most_words(4, "event semaphore set-wait complete-io close-members")
+    most_words(5, "set-timer set-timer-ex")
+    most_words(6, "pool")
 }
 
 { count = split_words($0) }
@@ -41,6 +67,14 @@ function has(list, what) {
 
 function want(what, behind,    at, each) {
     for (at = split(behind, each, " "); at; at--) wanted[each[at]] = what
+}
+
+function put(places, what,    at, each) {
+    for (at = split(places, each, ", "); at; at--) stands[each[at]] = what " stands here"
+}
+
+function most_words(many, heads,    at, each) {
+    for (at = split(heads, each, " "); at; at--) size[each[at]] = many
 }
 
 function split_words(text) {
@@ -106,7 +140,21 @@ function cause() {
     if (has(options, word) && has(with_options, head)) return cause_of_option()
     if (head == "pool" && word == "max") return "`max` stands before `min`, and each once"
     if (wanted_here() != "") return cause_of_name(wanted_here())
-    return word ~ /^-?0[0-9]/ ? "a number has no leading zeros" : ""
+    if (word ~ /^-?0[0-9]/) return "a number has no leading zeros"
+    return cause_of_other()
+}
+
+# Why a word that is no name can't stand here, by its place in the line or by the word before it.
+function cause_of_other() {
+    if (head == "on-return" && place == 3 && sort_of(before) != "semaphore") return "only behind a semaphore stands a number"
+    if ((head " " place) in stands && !(head == "wait" && section == "")) return stands[head " " place]
+    if (before in stands && (place > 3 && has(with_options, head) || head == "pool")) return stands[before]
+    if (head in size && !(head == "wait" && section == "")) return place > size[head] ? "a word too many" : head == "pool" ? "`max` and `min` alone may stand here" : ""
+    return has(with_options, head) ? "options alone stand here, in this order: " options : ""
+}
+
+function sort_of(name) {
+    return name in local ? local[name] : sort[name]
 }
 
 # Why a line doesn't begin so, or nothing is repeated so.
@@ -120,16 +168,19 @@ function cause_of_head() {
     }
     if (word == "done") return "no routine and no client is open here"
     if (has(operations, word)) return "an operation stands in a routine or a client, in front of its `done`"
-    return nearest(section == "" ? declarations " routine client" : operations " done")
+    if (repeated) return nearest(operations, "an operation stands here")
+    if (section != "") return nearest(operations " done", "an operation or `done` begins a line here")
+    return nearest(declarations " routine client", "a declaration, `routine` or `client` begins a line here")
 }
 
-function nearest(list,    at, each, far, least_far, meant) {
+# Which word of a list is meant, or else a rule.
+function nearest(list, rule,    at, each, far, least_far, meant) {
     least_far = length(word) < 4 ? 2 : 3
     for (at = split(list, each, " "); at; at--) {
         far = distance(tolower(word), each[at])
         if (far < least_far && far < length(each[at])) { least_far = far; meant = each[at] }
     }
-    return meant == "" ? "" : "`" meant "` is meant, it seems"
+    return meant == "" ? rule : "`" meant "` is meant, it seems"
 }
 
 # Whether a new name stands here.
@@ -150,19 +201,35 @@ function cause_of_option() {
 
 # Whose name stands at this place, if it is a name.
 function wanted_here() {
-    if (place == 3 && has(declarations, head) && section == "" || place == 4 && head == "let") return "routine"
+    if (place == 3 && has("work timer wait io", head) && section == "" || place == 4 && head == "let") return "routine"
     if (place == 3 && head == "set-wait") return "kernel object"
     if (place == 2 && has(operations, head)) return wanted[head]
     return has("in group cancel", before) && has(with_options, head) ? wanted[before] : ""
 }
 
 function cause_of_name(what) {
+    if (word ~ /^[a-z][a-z0-9_]*$/ && word != "none" && !is_name(word)) return "a name is a letter and up to 31 letters, digits and `_` behind it"
     if (!is_name(word)) return "the name of " a(what) "stands here"
     if (word in local || word in sort) return "`" word "` is " a(what_is[word]) "by line " where[word] ", and the name of " a(what) "stands here"
     if (word in routine) return "`" word "` is a routine by line " routine[word] ", and the name of " a(what) "stands here"
     if (word in later) return "`" word "` is declared in line " later[word] ", and a name is known from the line behind its own on"
     if (word in where) return "`" word "` is known in its own section alone, that of line " where[word]
-    return "no " what " is called `" word "`"
+    near = near_name()
+    return "no " what " is called `" word "`" (near == "" ? "" : "; there is " a(near in where ? what_is[near] : "routine") "`" near "`")
+}
+
+# The name that is nearest to the word, if one is near.
+function near_name(    name, far, least_far, found) {
+    least_far = length(word) < 4 ? 2 : 3
+    for (name in where) {
+        far = distance(word, name)
+        if (far < least_far && far < length(name)) { least_far = far; found = name }
+    }
+    for (name in routine) {
+        far = distance(word, name)
+        if (far < least_far && far < length(name)) { least_far = far; found = name }
+    }
+    return found
 }
 
 function a(what) {

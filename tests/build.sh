@@ -23,7 +23,7 @@ version*) sed -n "s/^kit='\(.*\)'/\1/p" "$copy/tpool" ;;
 'run --:'*) mkdir -p out && cp "$real" out/tp_top ;;
 'try --:broken') echo 'run=none proved=no' >&2; exit 1 ;;
 'try --:too-long') printf 'the end of the output:\n| ok\nchecked: no-answer: it wrote too much\nrun=no-answer proved=no\n' >&2; exit 6 ;;
-'try --:'*) "$real" "$3"; status=$?
+'try --:'*) "$real" "${@:3}"; status=$?
     printf 'checked: ended status=%s\nrun=ended status=%s runners=1 proved=no\n' $status $status >&2
     exit $status ;;
 esac
@@ -42,12 +42,14 @@ one_line() { with_rt "$@" 2>&1 >/dev/null | sed '2,$s/^/another line: /'; }
 try 'what is said of it is one line' 0 "$told" '' one_line "$copy/tpool" trace
 try 'unproved, by a pipe' 0 $'refused no-such\n' "$told" by_pipe with_rt "$copy/tpool" trace
 try 'unproved, shown' 0 $'1  1  c1 submit 1  refused no-such (object 1)\n' "$told" with_rt "$copy/tpool" show
+two_runs() { TMPDIR=$room with_rt "$copy/tpool" runs --workers 1 --threads 1 "$here/examples/shutdown.script" 2 | head -n 1; }
+try 'unproved, and played twice' 0 $'2 runs on 1 thread: 1 different history, of 14 entries\n' "$told" two_runs
 try 'unproved, to a full device' 4 '' "$told"$'tpool: write fault\n' to /dev/full with_rt "$copy/tpool" trace
 try 'not proved, and no rt' 127 '' '~tpool: the command rt is missing: nothing is proved on this machine yet*' without_rt "$copy/tpool" trace
 fake=broken
 try 'unproved, and rt does not run it' 126 '' "$told"$'run=none proved=no\ntpool: no answer*./tpool prove*\n' with_rt "$copy/tpool" trace
 fake=too-long
-for command in trace show check; do
+for command in trace show check run runs; do
     try "unproved, and more than rt hands on: $command" 126 '' "$told"$'tpool: no answer: it wrote too much.*./tpool prove*\n' with_rt "$copy/tpool" "$command"
 done
 fake=

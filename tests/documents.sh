@@ -114,6 +114,10 @@ try 'the tables of the README are its examples' 0 '' '' tables_are README.md shu
 try 'the tables of docs/MACHINE.md are its examples' 0 '' '' tables_are docs/MACHINE.md kind-work.trace kind-timer.trace kind-wait.trace kind-io.trace kind-pool.trace kind-group.trace kind-callback.trace kind-kernel.trace kind-actors.trace
 try 'the tables of docs/GUIDE.md are its examples' 0 '' '' tables_are docs/GUIDE.md guide-quiet.trace guide-disassociated.trace guide-late-submit.trace guide-half-mended.trace guide-mended.trace
 
+# The script of the README is that of its example, without the comments.
+script_is() { diff <(tables_of "$here/README.md" '| Script | In a Windows program |' | sed '/^--$/d;s/\t.*//') <(sed '/^#/d' "$here/examples/shutdown.script"); }
+try 'the script of the README is its example' 0 '' '' script_is
+
 names_kit() { awk -v kit="$(sed -n "s/^kit='\(.*\)'/\1/p" "$tpool")" 'index($0, kit) { found = 1 } END { exit !found }' "$here/README.md"; }
 try 'the README names the kit of the script' 0 '' '' names_kit
 

@@ -2,8 +2,9 @@
 # shellcheck shell=bash
 
 input=
-for words in '' 'foo' 'trac' 'traced' 'tra ce' 'trace trace' 'Trace' ''$'\xff' 'run' 'big 7' '-h' '--help' '--version' \
-    'gen' 'gen 07' 'gen +7' 'gen -- -7' 'gen 7 7' 'gen 18446744073709551616' 'trace 7' 'check 7' 'trace -' \
+for words in '' 'foo' 'trac' 'traced' 'tra ce' 'trace trace' 'Trace' ''$'\xff' 'runs' 'run run' 'run 7' '-h' '--help' '--version' \
+    'gen' 'gen 07' 'gen +7' 'gen -- -7' 'gen 7 7' 'gen 18446744073709551616' 'big' 'big 07' 'big 7 7' 'trace 7' 'check 7' 'trace -' \
+    'run --threads 0' 'run --threads 17' 'run --workers 65' 'run --events 15' 'run --threads' 'run --threads 1 --threads 1' 'big 7 --threads 0' \
     'trace --workers' 'trace --workers=' 'trace --workers 0' 'trace --workers 65' 'trace --workers 04' 'trace --workers -4' \
     'trace --workers -- 4' 'trace --worker 4' 'trace --workers 4 --workers=4' 'trace --threads 17' 'gen 7 --threads=0' \
     'trace --events 15' 'trace --events=131073' 'trace --json --json' 'trace --json=1' '-- --json trace' 'trace -- --'; do
@@ -15,6 +16,11 @@ try 'an empty trace' 0 '' '' "$program" trace
 for words in 'trace --json' '--json trace' 'trace --' '-- trace' '--workers 4 trace --events=16 --threads 1' 'trace --threads=16 --workers 64 --events 131072'; do
     # shellcheck disable=SC2086
     try "good words: '$words'" 0 '' '' "$program" $words
+done
+set_up_alone=$'history 1 clients 1 workers 1 events 16\nc1 finish -> ok\nend 1\nentries 1\ncallbacks 0\ntaken 0\ncancelled 0\nleft 0\nrefused 0\n'
+for words in '--workers 1 run --events=16' 'run --threads=16 --workers 1 --events 16' '--workers=1 --events=16 -- run'; do
+    # shellcheck disable=SC2086
+    try "good words: '$words'" 0 "$set_up_alone" '' "$program" $words
 done
 first_line() { "$@" | head -n 1; }
 for words in 'gen 7' 'gen -- 7' '--workers=1 gen 7 --json'; do

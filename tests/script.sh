@@ -9,7 +9,7 @@ answers=$'made 1\nqueued 1 1\nattached 0\ntaken 1 o1 r1 x7 plain\nreturned - - -
 # A folder with the commands that the script uses, and without rt.
 tools=$room/tools
 mkdir "$tools"
-for tool in bash env cat head tail tr cut sed awk od find mktemp rm readlink dirname date touch nproc tee git sleep cp mkdir mv; do
+for tool in bash env cat head tail tr cut sort uniq sha256sum sed awk od find mktemp rm readlink dirname date touch nproc tee git sleep cp mkdir mv; do
     ! path=$(type -P "$tool") || ln -s "$path" "$tools/$tool"
 done
 without_rt() { PATH=$tools "$@"; }
@@ -37,6 +37,10 @@ refuses 'one word too many: b' trace a b
 refuses 'one word too many: me' help me
 refuses 'one word too many: all' prove all
 refuses 'there is no call foo' calls foo
+refuses 'one word too many: b' run a b
+refuses 'a script is played 1 to 9999999 times, and not 0' runs a 0
+refuses 'a script is played 1 to 9999999 times, and not often' runs a often
+refuses 'one word too many: c' runs a 1 c
 
 # --- Calls
 lists() { "$tpool" calls | awk '/^  / { lines++; words[$1] } END { for (word in words) calls++; print lines, calls }'; }
@@ -100,10 +104,12 @@ shows check 2 1 "$end" 'the input ends here, and one more line is missing'
 shows trace 1 1 $'\xef\xbb\xbfw1 attach\n' 'a byte order mark, it seems: the lines are plain ASCII'
 shows trace 1 3 $'w1\tattach\n' 'a tab: one space stands between two words'
 shows trace 2 1 $'w1 attach\n\nw1 take\n' 'an empty line'
-shows trace 1 1 $'# a comment\n' 'there are no comments'
-shows trace 1 10 $'w1 attach # a comment\n' 'there are no comments'
+shows trace 1 1 $'# a comment\n' 'there are no comments, but in scripts, which ./tpool run plays'
+shows trace 1 10 $'w1 attach # a comment\n' 'there are no comments, but in scripts, which ./tpool run plays'
 shows trace 1 1 "$end" 'this is a history: ./tpool check reads it'
 shows check 1 1 $'w1 attach\n' 'this is a trace: ./tpool trace reads it, and ./tpool history makes a history of it'
+shows trace 1 1 $'pool p\n' 'this is a script, it seems: ./tpool run plays it'
+shows check 1 1 $'client\n' 'this is a script, it seems: ./tpool run plays it'
 shows trace 1 10 $'w1 attach -> attached 0\n' 'an answer stands here, as in a history: ./tpool check reads those'
 shows trace 1 4 $'w1  attach\n' 'a space too many'
 shows trace 1 10 $'w1 attach \n' 'a space too many'

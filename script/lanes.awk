@@ -1,0 +1,108 @@
+# Lays out a history: the number of each entry, its actor, the call and the answer, and behind a refusal what it
+# is about. In `columns` columns, where they suffice, each actor has a lane of its own, so that time goes down
+# the page; what an actor did alone before all others stands above the lanes. What stands behind the history, as
+# its summary, is below.
+
+NR == 1 { workers = $6; next }
+over { print (over++ == 1 ? "\n" : "") $0; next }
+/^end / { lay_out(); over = 1; next }
+
+{
+    cut = index($0, " -> ")
+    entry = substr($0, 1, cut - 1)
+    answers[++count] = substr($0, cut + 4)
+    answers[count] = answers[count] about(entry, answers[count])
+    cut = index(entry, " ")
+    by[count] = substr(entry, 1, cut - 1)
+    calls[count] = substr(entry, cut + 1)
+    last[by[count]] = count
+}
+
+function lay_out(    alone) {
+    digits = length(count "")
+    while (by[alone + 1] == by[1] && alone < count) alone++
+    if (last[by[1]] > alone || alone == count) alone = 0
+    if (!make_lanes(alone + 1)) alone = count
+    print_list(1, alone)
+    if (alone == count) return
+    if (alone) print ""
+    print_lanes(alone + 1)
+}
+
+function print_list(from, to,    at, width, form) {
+    for (at = from; at <= to; at++) if (length(calls[at]) > width) width = length(calls[at])
+    form = "%" digits "d  %-3s  %-" width "s  %s\n"
+    for (at = from; at <= to; at++) printf form, at, by[at], calls[at], answers[at]
+}
+
+# --- Lanes
+
+# Finds the lanes of the entries from one on: whether there are columns enough for all. The wider ones are made
+# narrower, as far as that is needed.
+function make_lanes(from,    at, size, widest, most) {
+    lanes = 0
+    split("", width)
+    for (at = from; at <= count; at++) {
+        size = length(calls[at]) + length(answers[at]) + 4
+        if (size > width[by[at]]) width[by[at]] = size
+        if (size > widest) widest = size
+    }
+    add_lanes("c", 16)
+    add_lanes("w", 64)
+    for (most = widest; taken(most) > columns; most--) if (most <= 18) return 0
+    at = digits
+    for (size = 1; size <= lanes; size++) {
+        if (width[lane[size]] > most) width[lane[size]] = most
+        left[lane[size]] = at + 2
+        at += 2 + width[lane[size]]
+    }
+    return 1
+}
+
+function add_lanes(letter, many,    number) {
+    for (number = 1; number <= many; number++) if ((letter number) in width) lane[++lanes] = letter number
+}
+
+# The columns that are taken where no lane is wider than this.
+function taken(most,    at, sum) {
+    sum = digits
+    for (at = 1; at <= lanes; at++) sum += 2 + (width[lane[at]] < most ? width[lane[at]] : most)
+    return sum
+}
+
+# The names of the actors stand above, and again where they may have gone off the screen.
+function print_lanes(from,    at) {
+    for (at = from; at <= count; at++) {
+        if ((at - from) % 40 == 0) print_names()
+        print_in_lane(sprintf("%" digits "d", at), calls[at], "-> " answers[at], left[by[at]], width[by[at]])
+    }
+}
+
+function print_names(    at, line) {
+    for (at = 1; at <= lanes; at++) line = sprintf("%-" left[lane[at]] "s", line) lane[at]
+    print line
+}
+
+# Prints a call and its answer in a lane: on one line, or else each on lines of its own.
+function print_in_lane(number, text, answer, from, most) {
+    if (length(text) + 1 + length(answer) <= most) { print_at(from, number, text " " answer); return }
+    print_words(number, text, from, most)
+    print_words("", "  " answer, from, most)
+}
+
+function print_words(number, text, from, most,    each, words, at, line) {
+    words = split(text, each, " ")
+    line = text ~ /^ / ? "  " each[1] : each[1]
+    for (at = 2; at <= words; at++) {
+        if (length(line) + 1 + length(each[at]) > most) {
+            print_at(from, number, line)
+            number = ""
+            line = "  " each[at]
+        } else line = line " " each[at]
+    }
+    print_at(from, number, line)
+}
+
+function print_at(from, number, text) {
+    printf "%-" from "s%s\n", number, text
+}
