@@ -64,7 +64,7 @@ run_sources() {
         status=$?
     } 3>&1
     if [[ $said == *$'run=ended status='* ]]; then
-        said=$(sed -e '/^checked: ended /d' -e '/^run=ended /d' <<<"$said")
+        said=$(sed -e '/^checked: ended /d' -e '/^races: /d' -e '/^run=ended /d' <<<"$said")
         [[ -z $said ]] || printf '%s\n' "$said" >&2
         return "$status"
     fi

@@ -24,7 +24,7 @@ version*) sed -n "s/^kit='\(.*\)'/\1/p" "$copy/tpool" ;;
 'try --:broken') echo 'run=none proved=no' >&2; exit 1 ;;
 'try --:too-long') printf 'the end of the output:\n| ok\nchecked: no-answer: it wrote too much\nrun=no-answer proved=no\n' >&2; exit 6 ;;
 'try --:'*) "$real" "${@:3}"; status=$?
-    printf 'checked: ended status=%s\nrun=ended status=%s runners=1 proved=no\n' $status $status >&2
+    printf 'checked: ended status=%s\nraces: not looked for\nrun=ended status=%s runners=1 proved=no\n' $status $status >&2
     exit $status ;;
 esac
 END_OF_RT
