@@ -158,7 +158,7 @@ impl Routines for Script {
 
     fn after(&self, part: Part, at: &mut Progress, answer: Answer) {
         if let Some(line) = self.line_at(part, at.op) {
-            *at = line_after(line, *at, answer);
+            line_after(line, at, answer);
         }
     }
 }
@@ -227,81 +227,65 @@ fn call_at(line: Line, at: &Progress) -> Option<Call>
     }
 }
 
-// Behind the answer to the line's call.
-fn line_after(line: Line, at: Progress, answer: Answer) -> Progress
-    requires { at.op + 1 < 2 ^ 32 }
-    ensures { result ≡ line_after line at answer }
+// Goes on behind the answer to the line's call.
+fn line_after(line: Line, at: &mut Progress, answer: Answer)
+    requires { at.old.op + 1 < 2 ^ 32 }
+    ensures { at.new ≡ line_after line at.old answer }
 {
     if begins_wait(line.head) {
-        waited(calls_in(line), at, answer)
+        waited(calls_in(line), at, answer);
     } else {
-        stepped(calls_in(line), noted(line, at, answer))
+        noted(line, at, answer);
+        stepped(calls_in(line), at);
     }
 }
 
 // Behind a call that begins a wait, and behind each end that was looked for.
-fn waited(calls: u32, at: Progress, answer: Answer) -> Progress
-    requires { at.op + 1 < 2 ^ 32 }
-    ensures { result ≡ waited calls at answer }
+fn waited(calls: u32, at: &mut Progress, answer: Answer)
+    requires { at.old.op + 1 < 2 ^ 32 }
+    ensures { at.new ≡ waited calls at.old answer }
 {
     if at.ending {
         if is_end(answer) {
-            stepped(
-                calls,
-                Progress {
-                    ending: false,
-                    ..at
-                },
-            )
-        } else {
-            at
+            at.ending = false;
+            stepped(calls, at);
         }
     } else if is_refusal(answer) {
-        stepped(calls, at)
+        stepped(calls, at);
     } else {
-        Progress { ending: true, ..at }
+        at.ending = true;
     }
 }
 
 // Behind one call of a line, which it makes so often.
-fn stepped(calls: u32, at: Progress) -> Progress
-    requires { at.op + 1 < 2 ^ 32 }
-    ensures { result ≡ stepped calls at }
+fn stepped(calls: u32, at: &mut Progress)
+    requires { at.old.op + 1 < 2 ^ 32 }
+    ensures { at.new ≡ stepped calls at.old }
 {
     if u64::from(at.done) + 1 < u64::from(calls) {
-        Progress {
-            done: at.done + 1,
-            ..at
-        }
+        at.done += 1;
     } else {
-        Progress {
-            op: at.op + 1,
-            done: 0,
-            ..at
-        }
+        at.op += 1;
+        at.done = 0;
     }
 }
 
 // A name that the line makes stands for the number in the answer.
-fn noted(line: Line, at: Progress, answer: Answer) -> Progress
-    ensures value { result ≡ noted line at answer }
-    ensures op { result.op ≡ at.op }
+fn noted(line: Line, at: &mut Progress, answer: Answer)
+    ensures value { at.new ≡ noted line at.old answer }
+    ensures op { at.new.op ≡ at.old.op }
 {
     if is_local(line.head) {
-        let locals = with_local(at.locals, line.made, number_in(answer));
-        Progress { locals, ..at }
-    } else {
-        at
+        with_local(&mut at.locals, line.made, number_in(answer));
     }
 }
 
-fn with_local(mut locals: [u64; 32], made: u16, number: u64) -> [u64; 32]
-    ensures { result ≡ with_local locals made number }
+fn with_local(locals: &mut [u64; 32], made: u16, number: u64)
+    ensures { locals.new ≡ with_local locals.old made number }
 {
     if 1 <= made && made <= 32 {
         locals[usize::from(made - 1)] = number;
     }
-    locals
 }
 
 fn number_in(answer: Answer) -> u64
