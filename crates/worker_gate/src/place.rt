@@ -61,50 +61,40 @@ impl Place {
         }
     }
 
-    // Behind a call of the actor and its answer.
-    pub(crate) fn after<R: Routines>(
-        &self,
+    // Goes on behind a call of the actor and its answer.
+    pub(crate) fn goes_on<R: Routines>(
+        &mut self,
         who: Who,
         routines: &R,
         call: Call,
         answer: Answer,
-    ) -> Place
-        ensures { result ≡ place_after (given R.next_of R.after_of routines.now) who self.now call answer }
+    )
+        ensures { self.new ≡ place_after (given R.next_of R.after_of routines.now) who self.old call answer }
     {
-        Place {
-            stage: stage_after(self.stage, call, answer),
-            waits: waits_after(self.waits, call, answer),
-            at: self.progress_after(who, routines, call, answer),
-            cut: self.cut || (is_last(call) && self.next_call(who, routines).is_some()),
-        }
+        self.cut = self.cut || (is_last(call) && self.next_call(who, routines).is_some());
+        self.progresses(who, routines, call, answer);
+        self.stage = stage_after(self.stage, call, answer);
+        self.waits = waits_after(self.waits, call, answer);
     }
 
-    fn progress_after<R: Routines>(
-        &self,
-        who: Who,
-        routines: &R,
-        call: Call,
-        answer: Answer,
-    ) -> Progress
-        ensures { result ≡ progress_after (given R.next_of R.after_of routines.now) who self.now call answer }
+    // The same for how far it has come in its part alone.
+    fn progresses<R: Routines>(&mut self, who: Who, routines: &R, call: Call, answer: Answer)
+        ensures { self.new ≡ record self.old { at = progress_after (given R.next_of R.after_of routines.now) who self.old call answer } }
     {
         if is_taken(answer) {
-            Progress::first()
-        } else if is_last(call) {
-            self.at
-        } else {
-            self.told_in(who, routines, answer)
+            self.at = Progress::first();
+        } else if !is_last(call) {
+            self.is_told(who, routines, answer);
         }
     }
 
-    fn told_in<R: Routines>(&self, who: Who, routines: &R, answer: Answer) -> Progress
-        ensures { result ≡ told_in (given R.next_of R.after_of routines.now) (part_in self.now.stage who) self.now.at answer }
+    // Takes note of the answer to a call of its part.
+    fn is_told<R: Routines>(&mut self, who: Who, routines: &R, answer: Answer)
+        ensures { self.new ≡ record self.old { at = told_in (given R.next_of R.after_of routines.now) (part_in self.old.stage who) self.old.at answer } }
     {
-        let mut at = self.at;
         if let Some(part) = part_in(self.stage, who) {
-            routines.after(part, &mut at, answer);
+            routines.after(part, &mut self.at, answer);
         }
-        at
     }
 }
 

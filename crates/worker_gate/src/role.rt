@@ -188,7 +188,7 @@ impl Role {
     {
         match outcome {
             Outcome::Done(answer) => {
-                self.place = self.place.after(self.who, routines, call, answer);
+                self.place.goes_on(self.who, routines, call, answer);
                 self.marked = false;
                 self.stops_at(gate, answer);
                 Turn::Moved
