@@ -72,6 +72,8 @@ pub enum WaitEnd {
     Free,
     /// Something that it covers is pending, and the history has no room for it to be run.
     Exhausted,
+    /// No actor of the machine can go on. The notices that the wait still had to give are given up.
+    Stalled,
 }
 
 /// How a kernel object changes.

@@ -21,7 +21,8 @@ use Rattle.tp_model.specs.Calls.WaitObjects.{set_wait_plan}
 use Rattle.tp_model.specs.Calls.Kernels.{create_event_plan, create_semaphore_plan, create_lock_plan, set_event_plan, reset_event_plan, release_semaphore_plan}
 use Rattle.tp_model.specs.Calls.Work.{submit_work_plan}
 use Rattle.tp_model.specs.Calls.Workers.{attach_plan, take_plan, return_plan}
-use Rattle.tp_model.specs.Calls.Waits.{begin_acquire_plan, end_plan}
+use Rattle.tp_model.specs.Calls.Waits.{begin_acquire_plan}
+use Rattle.tp_model.specs.Calls.End.{end_plan}
 use Rattle.tp_model.specs.History.{play, IsLegal}
 use Rattle.tp_model.specs.Laws.Armed.{AreArmed}
 use Rattle.tp_model.proofs.Laws.{keeps_laws}

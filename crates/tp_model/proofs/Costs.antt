@@ -27,9 +27,9 @@ use Rattle.tp_base.specs.declared.ids.ObjectId.{ObjectId}
 use Rattle.tp_model.specs.Sources.{firing, sources_of}
 use Rattle.tp_model.specs.World.{World, BegunWait, unattached, unfinished}
 use Rattle.tp_model.specs.Counts.{numbered, has_number, is_pending, is_running, owed}
-use Rattle.tp_model.specs.Changes.{replaced, with_new_callback, with_callback, with_worker, with_client, change_pool, taken, marked, operated, returned, changed, loosened, release_object, new_wait, without_wait, give_notice, notified, new_close}
+use Rattle.tp_model.specs.Changes.{replaced, with_new_callback, with_callback, with_worker, with_client, change_pool, taken, marked, operated, returned, changed, loosened, release_object, new_wait, give_notice, notified, new_close, end_wait, given_up_after}
 use Rattle.tp_model.specs.Support.Sound.{IsSound, AreApart}
-use Rattle.tp_model.specs.Support.Allowed.{IsAllowed, price}
+use Rattle.tp_model.specs.Support.Allowed.{IsAllowed, price, MayEnd}
 use Rattle.tp_model.proofs.Firing.{running_appended}
 use Rattle.tp_model.proofs.Lists.{length_filter_set}
 use Rattle.tp_model.proofs.Callbacks.{length_filter_replaced, pending_not_running, before_idle, after_idle}
@@ -39,6 +39,8 @@ use Rattle.tp_base.specs.declared.ids.GroupId.{GroupId}
 use Rattle.tp_model.specs.Groups.{notices_of, without_members}
 use Rattle.std.proofs.lemmas.List.{length-map}
 use Rattle.tp_base.specs.declared.rows.WaitTarget.TheVariants.{Group}
+use Rattle.tp_base.specs.declared.plans.WaitEnd.{WaitEnd}
+use Rattle.tp_base.specs.declared.plans.WaitEnd.TheVariants.{Free, Exhausted, Stalled}
 
 abbrev one_if : Bool → ℕ
 one_if b = cond b 1 0
@@ -213,8 +215,12 @@ notices_without who (c ∷ bs) b a e =
           )
     ] refl e
 
-owed_end_wait : (w : World) (who : Who) (b : BegunWait) → AreApart w.waits → wait_of w who ≡ Some b → b.notices ≡ [] → owed (without_wait w who) + 1 ≡ owed w
-owed_end_wait w who b apart begun none = omega (arith, one_wait who w.waits b apart begun, notices_without who w.waits b apart begun, ap length none)
+-- notices that are given up stay owed
+owed_end_wait : (w : World) (who : Who) (how : WaitEnd) (a : MayEnd w who how) → AreApart w.waits → owed (end_wait w who how) + 1 ≡ owed w
+owed_end_wait w who Free a apart = omega (arith, one_wait who w.waits a.wait apart a.begun, notices_without who w.waits a.wait apart a.begun, ap length (a.unnoticed (λ e. absurd cc)))
+owed_end_wait w who Exhausted a apart = omega (arith, one_wait who w.waits a.wait apart a.begun, notices_without who w.waits a.wait apart a.begun, ap length (a.unnoticed (λ e. absurd cc)))
+owed_end_wait w who Stalled a apart =
+    omega (arith, one_wait who w.waits a.wait apart a.begun, notices_without who w.waits a.wait apart a.begun, ap (given_up_after w.given_up Stalled) a.begun)
 
 -- a notice that is given is one fewer
 none_given : (who : Who) (bs : List BegunWait) → list_any (λ (x : BegunWait). is_same_actor x.actor who) bs ≡ false → notices_left (give_notice who bs) ≡ notices_left bs
@@ -291,5 +297,5 @@ paid next_number w change.CreateGroup s a = omega arith
 paid next_number w (change.CloseGroup group) s a = omega arith
 paid next_number w (change.BeginClose who group cancel context notices) s a = omega (arith, owed_begin_close w who group cancel context notices, a.counted)
 paid next_number w (change.GiveNotice who) s a = omega (arith, owed_notified w who a.wait a.object a.rest s.apart a.begun a.left)
-paid next_number w (change.EndWait who how) s a = omega (arith, owed_end_wait w who a.wait s.apart a.begun a.unnoticed)
+paid next_number w (change.EndWait who how) s a = omega (arith, owed_end_wait w who how a s.apart)
 paid next_number w (change.Finish client) s a = omega (arith, owed_finished w client unfinished a refl)

@@ -26,7 +26,9 @@ use Rattle.tp_model.specs.Support.Safe.{IsSafeChange}
 use Rattle.tp_model.specs.Laws.Entries.{is_return_call, is_disassociate_call, is_end_call, is_complete_call}
 use Rattle.tp_model.specs.Refusing.{first_refusal, unless_refused}
 use Rattle.tp_model.specs.Waits.{wait_of, held}
-use Rattle.tp_model.specs.Calls.Waits.{end_refusals, end_for, end_held, end_wait, end_plan, holds_starved, end_notices, notice_of}
+use Rattle.tp_model.specs.Calls.Waits.{end_for, end_held, end_wait, holds_starved, end_notices, notice_of}
+use Rattle.tp_model.specs.Calls.End.{end_plan, end_refusals, end_unless_stalled}
+use Rattle.tp_model.specs.Stalled.{is_stalled}
 use Rattle.tp_base.specs.declared.answers.Look.TheVariants as look
 use Rattle.tp_base.specs.declared.plans.WaitEnd.TheVariants as how
 use Rattle.tp_base.specs.declared.plans.Change.TheVariants as changes
@@ -122,9 +124,18 @@ told_end w left who a ch is = of_refusal (first_refusal (end_refusals w who)) is
               | false ↦ λ g. absurd cc
             ] h
 
-    of_refusal : (r : Option Refusal) → unless_refused r (end_wait w left who (wait_of w who)) ≡ plans.Does a ch → wait_end who a ≡ Some ch
+    of_plan : (p : Plan) → (p ≡ plans.Does a ch → wait_end who a ≡ Some ch) → end_unless_stalled w left who p ≡ plans.Does a ch → wait_end who a ≡ Some ch
+    of_plan (plans.Refused refusal) told e = absurd cc
+    of_plan (plans.Does b c) told e = told e
+    of_plan (plans.Looked seen) told e =
+        elim (is_stalled w left) as (λ t. cond t (plans.Does answer.Stalled (changes.EndWait who how.Stalled)) (plans.Looked seen) ≡ plans.Does a ch → wait_end who a ≡ Some ch) [
+          | true ↦ λ h. told_as answer.Stalled (changes.EndWait who how.Stalled) refl h
+          | false ↦ λ h. absurd cc
+        ] e
+
+    of_refusal : (r : Option Refusal) → unless_refused r (end_unless_stalled w left who (end_wait w left who (wait_of w who))) ≡ plans.Does a ch → wait_end who a ≡ Some ch
     of_refusal (Some refusal) e = absurd cc
-    of_refusal None e = of_wait (wait_of w who) e
+    of_refusal None e = of_plan (end_wait w left who (wait_of w who)) (of_wait (wait_of w who)) e
 
 -- an entry's answer tells the change of its plan
 pub told_change : (w : World) (left : ℕ) (who : Who) (call : Call) (a : Answer) (ch : Change) → plan w left who call ≡ plans.Does a ch → change_told w who call a ≡ Some ch

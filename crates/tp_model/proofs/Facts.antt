@@ -33,7 +33,9 @@ use Rattle.tp_base.specs.declared.rows.WaitTarget.{WaitTarget}
 use Rattle.tp_base.specs.declared.rows.WaitTarget.TheVariants.{Group, Kernel, Object}
 use Rattle.tp_base.specs.declared.rows.WorkerRow.{WorkerRow}
 use Rattle.tp_model.specs.Calls.Clients.{finish, finish_plan}
-use Rattle.tp_model.specs.Calls.Waits.{end_for, end_held, end_notices, end_plan, end_wait, holds_starved}
+use Rattle.tp_model.specs.Calls.Waits.{end_for, end_held, end_notices, end_wait, holds_starved}
+use Rattle.tp_model.specs.Calls.End.{end_plan, end_unless_stalled}
+use Rattle.tp_model.specs.Stalled.{is_stalled}
 use Rattle.tp_model.specs.Calls.Workers.{attach_plan, attach_to, detach, detach_plan, idle_refusals, may_leave, pool_to_join, return, return_plan, take, take_callback, take_plan}
 use Rattle.tp_model.specs.Changes.{changed}
 use Rattle.tp_model.specs.Conditions.{busy_in, busy_of, idle_in, idle_of, is_actor, is_attached, is_finished, is_in_wait, is_without_callback, runs_callback}
@@ -270,10 +272,10 @@ detach_is : (w : World) (number : ℕ) → is_actor w (Worker number) ≡ true �
 unfolding detach_plan
 detach_is w number actor runs attached = idle_is w number (detach w (idle_of w (Worker number))) actor runs attached
 
-end_is : (w : World) (left : ℕ) (who : Who) → is_actor w who ≡ true → is_finished w who ≡ false → is_without_callback w who ≡ false → is_none (wait_of w who) ≡ false → end_plan w left who ≡ end_wait w left who (wait_of w who)
+end_is : (w : World) (left : ℕ) (who : Who) → is_actor w who ≡ true → is_finished w who ≡ false → is_without_callback w who ≡ false → is_none (wait_of w who) ≡ false → end_plan w left who ≡ end_unless_stalled w left who (end_wait w left who (wait_of w who))
 unfolding end_plan
 end_is w left who actor finished without waits =
-    let rest : Plan = end_wait w left who (wait_of w who) in
+    let rest : Plan = end_unless_stalled w left who (end_wait w left who (wait_of w who)) in
     ap (λ b. unless_refused (cond (not b) (Some NoSuch) (cond (is_finished w who) (Some Released) (cond (is_without_callback w who) (Some NotRunning) (cond (is_none (wait_of w who)) (Some NoWaitBegun) None)))) rest) actor
     ∙ ap (λ b. unless_refused (cond b (Some Released) (cond (is_without_callback w who) (Some NotRunning) (cond (is_none (wait_of w who)) (Some NoWaitBegun) None))) rest) finished
     ∙ ap (λ b. unless_refused (cond b (Some NotRunning) (cond (is_none (wait_of w who)) (Some NoWaitBegun) None)) rest) without
@@ -318,9 +320,15 @@ part_ready w (Worker number) at is part = (refl, of_row (numbered w.workers numb
     of_row (Some row) e = of_parts row.pool row.callback e
 
 -- a wait that is begun gives a notice, ends or looks
-end_waits : (w : World) (left : ℕ) (who : Who) (s : IsSound (next_number_in w) w) (b : BegunWait) → IsWaitPlan w left who End s (end_wait w left who (Some b))
-end_waits w left who s b = of_target b.target
+end_waits : (w : World) (left : ℕ) (who : Who) (s : IsSound (next_number_in w) w) (b : BegunWait) → IsWaitPlan w left who End s (end_unless_stalled w left who (end_wait w left who (Some b)))
+end_waits w left who s b = of_plan (end_wait w left who (Some b)) (of_target b.target)
   where
+    of_plan : (p : Plan) → IsWaitPlan w left who End s p → IsWaitPlan w left who End s (end_unless_stalled w left who p)
+    of_plan (plans.Refused refusal) h = h
+    of_plan (plans.Does a ch) h = h
+    of_plan (plans.Looked seen) h =
+        elim (is_stalled w left) as (λ t. IsWaitPlan w left who End s (cond t (plans.Does answer.Stalled (change.EndWait who how.Stalled)) (plans.Looked seen))) [ true ↦ (refl, refl) | false ↦ h ]
+
     of_notices : (os : List ObjectId) → IsWaitPlan w left who End s (end_notices w who b.cleanup os)
     of_notices [] = (refl, refl)
     of_notices (o ∷ os) = (refl, refl)
@@ -372,8 +380,8 @@ module _ (limits : Limits) (history : List Entry) (p : AreStanding limits histor
   ends who actor waits left =
       let ready = part_ready w who (stage_of who history) (p.stages who actor) (p.calm who actor waits) in
       let wait = found_wait w who (p.waits who ∙ waits) in
-      waited w left who End p.sound (end_wait w left who (Some wait.0))
-      (end_is w left who (here who actor).actor ready.0 ready.1 (ap is_none wait.1) ∙ ap (end_wait w left who) wait.1) (end_waits w left who p.sound wait.0)
+      waited w left who End p.sound (end_unless_stalled w left who (end_wait w left who (Some wait.0)))
+      (end_is w left who (here who actor).actor ready.0 ready.1 (ap is_none wait.1) ∙ ap (λ b. end_unless_stalled w left who (end_wait w left who b)) wait.1) (end_waits w left who p.sound wait.0)
 
   attaches : (who : Who) → IsActor limits who → stage_of who history ≡ stage.Away → (left : ℕ) (told : Answer) → outcome_of (step w left who Attach) ≡ outcome.Done told → is_some (attached_by told) ≡ true
   attaches (Client number) actor at left told e = absurd (false_true (sym (ap is_client_stage at) ∙ client_stages w number (stage_of (Client number) history) (p.stages (Client number) actor)))

@@ -30,7 +30,7 @@ use Rattle.tp_model.specs.Conditions.{busy_row, busy_in, busy_of}
 use Rattle.tp_model.specs.Refusing.{first_refusal, unless_refused}
 use Rattle.tp_model.specs.Changes.{with_new_pool, with_object, with_worker, with_client, change_pool, pool_after, with_pool, replaced, taken, marked, operated, returned, finished, changed, release_object, without_wait, end_wait, kernels_taken, kernels_left}
 use Rattle.tp_base.specs.declared.plans.WaitEnd.{WaitEnd}
-use Rattle.tp_base.specs.declared.plans.WaitEnd.TheVariants.{Free, Exhausted}
+use Rattle.tp_base.specs.declared.plans.WaitEnd.TheVariants.{Free, Exhausted, Stalled}
 use Rattle.tp_model.specs.Actions.{slots_of, returning}
 use Rattle.tp_model.specs.Waits.{is_of, is_held_for, is_outstanding_for, count_outstanding, is_cancelled_by, cancelled, cancel_where, is_object_target, is_covered_by, covered_of, wait_of}
 use Rattle.tp_model.specs.Support.Sound.{IsSound, IsWorkerSound, AreWorkersSound, RunsOn, IsRising, IsCallbackSound, is_left_of, is_standing}
@@ -241,6 +241,7 @@ appended_forget w cs =
 
 wait_forget : (w : World) (who : Who) (how : WaitEnd) → forget (end_wait (forget w) who how) ≡ forget (end_wait w who how)
 wait_forget w who Exhausted = live_forgotten (end_wait w who Exhausted)
+wait_forget w who Stalled = live_forgotten (end_wait w who Stalled)
 wait_forget w who Free = of_wait (wait_of w who)
   where
     of_target : (t : WaitTarget) → forget (record (without_wait (forget w) who) { kernels = kernels_taken (forget w) who t }) ≡ forget (record (without_wait w who) { kernels = kernels_taken w who t })

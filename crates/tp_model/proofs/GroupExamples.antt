@@ -18,7 +18,8 @@ use Rattle.tp_model.specs.Calls.Objects.{create_plan, close_object_plan}
 use Rattle.tp_model.specs.Calls.Work.{submit_work_plan, submit_simple_plan}
 use Rattle.tp_model.specs.Calls.Io.{start_io_plan, issue_io_plan, cancel_io_plan, complete_io_plan}
 use Rattle.tp_model.specs.Calls.Workers.{attach_plan, take_plan, return_plan}
-use Rattle.tp_model.specs.Calls.Waits.{begin_wait_plan, end_plan}
+use Rattle.tp_model.specs.Calls.Waits.{begin_wait_plan}
+use Rattle.tp_model.specs.Calls.End.{end_plan}
 use Rattle.tp_model.specs.Calls.InCallback.{disassociate_plan}
 use Rattle.tp_model.specs.Calls.Kernels.{create_event_plan, set_event_plan}
 use Rattle.tp_model.specs.Calls.Timers.{set_timer_plan, advance_plan}

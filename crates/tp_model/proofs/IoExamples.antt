@@ -17,7 +17,8 @@ use Rattle.tp_model.specs.Calls.Objects.{create_plan, close_object_plan}
 use Rattle.tp_model.specs.Calls.Work.{submit_work_plan}
 use Rattle.tp_model.specs.Calls.Io.{start_io_plan, issue_io_plan, cancel_io_plan, complete_io_plan}
 use Rattle.tp_model.specs.Calls.Workers.{attach_plan, take_plan, return_plan}
-use Rattle.tp_model.specs.Calls.Waits.{begin_wait_plan, end_plan}
+use Rattle.tp_model.specs.Calls.Waits.{begin_wait_plan}
+use Rattle.tp_model.specs.Calls.End.{end_plan}
 use Rattle.tp_model.specs.History.{play}
 use Rattle.tp_model.specs.Laws.Entries.{Happening, is_completion, Starts, Issues, GivesUp, Completes, Runs, numbers_made, ready}
 use Rattle.tp_model.proofs.Refusals.{false_true}

@@ -1,5 +1,5 @@
 -- Every legal history keeps the laws.
-use Rattle.std.proofs.Common.{◌≡◌, ℕ, List, [], ◌∷◌, ◌++◌, refl, sym, subst, find, Some, true, cond, Bool, false, None, ap₂, ◌∙◌, ◌||◌, ap, append_assoc, append-nil, ◌≤◌, map, length, arith}
+use Rattle.std.proofs.Common.{◌≡◌, ℕ, List, [], ◌∷◌, ◌++◌, refl, sym, subst, find, Some, true, cond, Bool, false, None, ap₂, ◌∙◌, ◌||◌, ap, append_assoc, append-nil, ◌≤◌, map, length, arith, ◌&&◌}
 use Rattle.tp_model.proofs.First.{next_first}
 use Rattle.tp_model.specs.Next.{IsNextOrNone}
 use Rattle.tp_model.specs.Waits.{is_held_for, wait_of, held}
@@ -15,7 +15,7 @@ use Rattle.tp_model.proofs.Covered.{Promises, promises_more, run_at, NoneHeld, G
 use Rattle.tp_model.specs.Laws.Covered.{AreCovered, AreClosed, is_spoken_for, is_spoken_of, lets_go, end_in, ends, IsCovered, AllLetGo, returns, loosens, NoneTakes}
 use Rattle.tp_model.proofs.Running.{runs_on_more, AreRunning, IsRunning}
 use Rattle.tp_model.proofs.Places.{no_place, any_either, find_behind}
-use Rattle.tp_model.specs.Laws.Entries.{Run, run_by, Begins, is_taken, begins_by, Notice, notice_by, is_ending}
+use Rattle.tp_model.specs.Laws.Entries.{Run, run_by, Begins, is_taken, begins_by, Notice, notice_by, is_ending, is_freeing, is_end_call, is_ended_answer, is_last_answer}
 use Rattle.tp_base.specs.declared.answers.Entry.{Entry}
 use Rattle.tp_base.specs.declared.limits.Limits.{Limits}
 use Rattle.tp_base.specs.declared.answers.Answer.TheVariants as answer
@@ -260,8 +260,8 @@ module _ (limits : Limits) (capacity : ℕ) (history : List Entry) (legal : IsLe
 
   -- where it ends freely, none is left
   all_given : (before between later : List Entry) (begin end : Entry) (b : Begins) → (before ++ begin ∷ between) ++ end ∷ later ≡ history → begins_by begin ≡ Some b
-      → end_in begin.who between ≡ None → ends begin.who end ≡ true → given begin.who between ≡ notices_due b before
-  all_given before between later begin end b split begins none is_end =
+      → end_in begin.who between ≡ None → ends begin.who end ≡ true → end.answer ≡ answer.Ended → given begin.who between ≡ notices_due b before
+  all_given before between later begin end b split begins none is_end ended =
       let r = at_entry (before ++ begin ∷ between) later end split in
       let n = r.holds.noticing before between begin b refl begins none in
       sym (append-nil (given begin.who between)) ∙ ap (λ os. given begin.who between ++ map (notice_at r.world.objects n.wait.cleanup) os) (sym (of_move r n (leads_on (before ++ begin ∷ between) end r).leads.waits)) ∙ n.all
@@ -276,7 +276,10 @@ module _ (limits : Limits) (capacity : ℕ) (history : List Entry) (legal : IsLe
       of_move r n (End m) =
           let both_found : Some m.wait ≡ Some n.wait = sym m.found ∙ ap (wait_of r.world) (same_actor_is end.who begin.who ending.0) ∙ n.found in
           let same : m.wait ≡ n.wait = cc in
-          ap (λ (x : BegunWait). x.notices) (sym same) ∙ m.unnoticed
+          ap (λ (x : BegunWait). x.notices) (sym same) ∙ m.unnoticed freed
+        where
+          freed : is_freeing end ≡ true
+          freed = ap₂ (λ a b. a && b) (both (is_end_call end.call) (is_last_answer end.answer) ending.1).0 (ap is_ended_answer ended)
 
   -- an entry that gives a notice
   gives : (w : World) (entry : Entry) (notice : Notice) → LeadsOn w entry (led_to w entry) → notice_by entry.answer ≡ Some notice → GivesNotice w entry (led_to w entry)
@@ -353,7 +356,7 @@ module _ (limits : Limits) (capacity : ℕ) (history : List Entry) (legal : IsLe
       record {
         in_order = at_end.numbered ∙ ap (range_with_len 1) (sym (length-range_with_len 1 (length (after limits history).objects)) ∙ sym (ap length at_end.numbered));
         first = noticing_at;
-        all = λ before between later begin end b split begins none is_end ended. all_given before between later begin end b split begins none is_end;
+        all = λ before between later begin end b split begins none is_end ended. all_given before between later begin end b split begins none is_end ended;
         settled = settled_at;
         no_other = λ before later entry notice split tells.
             let r = at_entry before later entry split in

@@ -6,6 +6,7 @@ pub mod Allowed
 pub mod Armed
 pub mod Arming
 mod ArmingExamples
+pub mod Barred
 pub mod Callbacks
 pub mod Calls
 pub mod Cancelling
@@ -47,8 +48,11 @@ pub mod Remembered
 pub mod Running
 pub mod Sound
 mod StageExamples
+mod StallExamples
+pub mod Stalling
 pub mod Standing
 pub mod Steps
+pub mod Stuck
 pub mod Takings
 pub mod Tied
 mod TimerExamples

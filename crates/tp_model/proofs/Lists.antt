@@ -1,8 +1,8 @@
 -- What filters, searches and changes of rows leave of each other.
 use Rattle.std.specs.Option.{option_or}
 use Rattle.std.proofs.lemmas.List.Folds.{find-append}
-use Rattle.std.proofs.Common.{◌≡◌, ◌≢◌, ℕ, suc, zero, ◌+◌, ◌<◌, ◌≤◌, Bool, true, false, cond, ◌||◌, List, [], ◌∷◌, ◌++◌, length, map, slice_get, slice_set, Some, refl, sym, ap, ◌∙◌, subst, arith, filter, find}
-use Rattle.std.specs.List.{AllByRecursion, list_any}
+use Rattle.std.proofs.Common.{◌≡◌, ◌≢◌, ℕ, suc, zero, ◌+◌, ◌<◌, ◌≤◌, Bool, true, false, cond, ◌||◌, List, [], ◌∷◌, ◌++◌, length, map, slice_get, slice_set, Some, refl, sym, ap, ◌∙◌, subst, arith, filter, find, ap₂, ◌&&◌}
+use Rattle.std.specs.List.{AllByRecursion, list_any, list_all}
 
 -- a filter by p sees nothing of a filter by what p implies
 pub filter_filter : {X : Type 0} (p q : X → Bool) → ((x : X) → q x ≡ false → p x ≡ false) → (xs : List X) → filter p (filter q xs) ≡ filter p xs
@@ -142,6 +142,10 @@ any_filter {X} test p h (x ∷ xs) =
       | true ↦ λ _. ap (λ t. test x || t) (any_filter test p h xs)
       | false ↦ λ e. any_filter test p h xs ∙ ap (λ b. b || list_any test xs) (sym (h x e))
     ] refl
+
+pub all_agree : {X : Type 0} (p q : X → Bool) → ((x : X) → p x ≡ q x) → (xs : List X) → list_all p xs ≡ list_all q xs
+all_agree p q same [] = refl
+all_agree p q same (x ∷ xs) = ap₂ (λ a b. a && b) (same x) (all_agree p q same xs)
 
 pub filter_agree : {X : Type 0} (p q : X → Bool) → ((x : X) → p x ≡ q x) → (xs : List X) → filter p xs ≡ filter q xs
 filter_agree p q same [] = refl

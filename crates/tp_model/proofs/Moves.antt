@@ -20,7 +20,7 @@ use Rattle.tp_base.specs.declared.plans.Change.TheVariants as change
 use Rattle.tp_base.specs.declared.answers.Entry.{Entry}
 use Rattle.tp_base.specs.declared.ids.Who.{Who}
 use Rattle.tp_base.specs.declared.plans.WaitEnd.{WaitEnd}
-use Rattle.tp_base.specs.declared.plans.WaitEnd.TheVariants.{Free, Exhausted}
+use Rattle.tp_base.specs.declared.plans.WaitEnd.TheVariants.{Free, Exhausted, Stalled}
 use Rattle.tp_base.specs.declared.rows.ObjectRow.{ObjectRow}
 use Rattle.tp_base.specs.declared.rows.WaitTarget.{WaitTarget}
 use Rattle.tp_base.specs.declared.rows.WaitTarget.TheVariants.{Object, Group, Kernel}
@@ -657,7 +657,7 @@ module _ (next_number : ℕ) (w : World) (entry : Entry) where
         begins = ap (λ (t : Told). t.begun) tells;
         ends = ap (λ (t : Told). t.ending) tells;
         quiet = ap (λ (t : Told). t.notice) tells;
-        unnoticed = a.unnoticed;
+        unnoticed = λ freed. a.unnoticed (free_not_stalled how (how_free how (sym (ap (λ (t : Told). t.freeing) tells) ∙ freed)));
         found = ap (wait_of w) by ∙ a.begun;
         free = λ freed. a.free (how_free how (sym (ap (λ (t : Told). t.freeing) tells) ∙ freed));
         waits = ap (λ x. filter (λ (b : BegunWait). not (is_same_actor b.actor x)) w.waits) (sym by);
@@ -666,6 +666,10 @@ module _ (next_number : ℕ) (w : World) (entry : Entry) where
       how_free : (h : WaitEnd) → is_free h ≡ true → h ≡ Free
       how_free Free e = refl
       how_free Exhausted e = absurd (false_true e)
+      how_free Stalled e = absurd (false_true e)
+
+      free_not_stalled : (h : WaitEnd) → h ≡ Free → h ≢ Stalled
+      free_not_stalled h free stalled = let same : Free ≡ Stalled = sym free ∙ stalled in cc
 
   pub change_waits : (ch : Change) → IsSound next_number w → IsAllowed next_number w ch → IsMadeBy w entry.who ch → told_by entry ≡ told_by_change next_number w ch → WaitsMove w entry (changed w ch)
   change_waits (change.BeginWait who target cancel) s a by tells = begin_moves who target cancel s a.none by tells a.object

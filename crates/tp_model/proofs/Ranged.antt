@@ -18,7 +18,7 @@ use Rattle.tp_base.specs.declared.plans.Plan.{Plan}
 use Rattle.tp_base.specs.declared.plans.Plan.TheVariants as plan
 use Rattle.tp_base.specs.declared.answers.Answer.TheVariants as answer
 use Rattle.tp_base.specs.declared.plans.WaitEnd.{WaitEnd}
-use Rattle.tp_base.specs.declared.plans.WaitEnd.TheVariants.{Free, Exhausted}
+use Rattle.tp_base.specs.declared.plans.WaitEnd.TheVariants.{Free, Exhausted, Stalled}
 use Rattle.tp_base.specs.declared.rows.KernelRow.{KernelRow}
 use Rattle.tp_base.specs.declared.rows.WaitTarget.{WaitTarget}
 use Rattle.tp_base.specs.declared.rows.WaitTarget.TheVariants.{Object, Group, Kernel}
@@ -246,6 +246,7 @@ fired_states w (ReleaseSemaphore kernel count) ready all = release_states (lengt
 -- an actor takes what it waits for
 taken_rows : (w : World) (who : Who) (how : WaitEnd) (b : Option BegunWait) → AreRowsInRange w → AllByRecursion (λ (k : KernelRow). IsStateInRange k.state) (kernels_left w who how b)
 taken_rows w who Exhausted b rows = rows.kernels
+taken_rows w who Stalled b rows = rows.kernels
 taken_rows w who Free None rows = rows.kernels
 taken_rows w who Free (Some b) rows = of_target b.target
   where

@@ -44,7 +44,7 @@ use Rattle.tp_model.proofs.Firing.{AreOf, AreJobsOf, AreSourcesIn, IsFiringIn, r
 use Rattle.tp_model.proofs.Arming.{IsApart, IsCounted, firing_counted}
 use Rattle.tp_model.specs.World.{World, BegunWait, opening, unattached, new_pool}
 use Rattle.tp_model.specs.Counts.{numbered, has_number, is_pending, is_running, is_operating}
-use Rattle.tp_model.specs.Changes.{with_new_pool, with_pool, with_object, with_new_callback, with_callback, with_worker, with_client, replaced, change_pool, pool_after, taken, loosened, marked, operated, status_before, returned, finished, release_object, new_wait, begin_wait, without_run, without_wait, end_wait, kernels_left, changed, give_notice, notified, begin_close, new_close}
+use Rattle.tp_model.specs.Changes.{with_new_pool, with_pool, with_object, with_new_callback, with_callback, with_worker, with_client, replaced, change_pool, pool_after, taken, loosened, marked, operated, status_before, returned, finished, release_object, new_wait, begin_wait, without_run, without_wait, end_wait, kernels_left, changed, give_notice, notified, begin_close, new_close, given_up_after}
 use Rattle.tp_base.specs.declared.rows.KernelRow.{KernelRow}
 use Rattle.tp_base.specs.Kernels.{state_after}
 use Rattle.tp_model.specs.Actions.{no_actions, asking, slots_of, returning}
@@ -832,9 +832,9 @@ sound_change_pool : (next_number : ℕ) (w : World) (pool : ℕ) (how : PoolChan
 sound_change_pool next_number w pool how None s = s
 sound_change_pool next_number w pool how (Some row) s = sound_pool next_number w pool (pool_after how row) s
 
--- kernel objects change
-pub sound_kernels : (next_number : ℕ) (w : World) (kernels : List KernelRow) → IsSound next_number w → IsSound next_number (record w { kernels = kernels })
-sound_kernels next_number w kernels s =
+-- kernel objects change, and notices are given up
+sound_beside : (next_number : ℕ) (w : World) (kernels : List KernelRow) (given_up : ℕ) → IsSound next_number w → IsSound next_number (record w { kernels = kernels; given_up = given_up })
+sound_beside next_number w kernels given_up s =
     record {
       numbers = s.numbers;
       workers = s.workers;
@@ -850,6 +850,9 @@ sound_kernels next_number w kernels s =
       operations = s.operations;
       notices = s.notices;
     }
+
+pub sound_kernels : (next_number : ℕ) (w : World) (kernels : List KernelRow) → IsSound next_number w → IsSound next_number (record w { kernels = kernels })
+sound_kernels next_number w kernels s = sound_beside next_number w kernels w.given_up s
 
 -- with the number that the next callback gets, and as many as there are
 renumbered : (v : World) (f : Firing) (next_number first count : ℕ) → first ≡ next_number → count ≡ length f.jobs → IsSound (next_number + length f.jobs) (fired v next_number f) → IsSound (next_number + count) (fired v first f)
@@ -913,7 +916,8 @@ changed_sound next_number w change.CreateGroup s a = none_made next_number (chan
 changed_sound next_number w (change.CloseGroup group) s a = none_made next_number (changed w (change.CloseGroup group)) (sound_groups next_number w (close_row w.groups group.0 (numbered w.groups group.0)) s)
 changed_sound next_number w (change.BeginClose who group cancel context notices) s a = none_made next_number (changed w (change.BeginClose who group cancel context notices)) (sound_begin_close next_number w who group cancel context a.none a.idle s)
 changed_sound next_number w (change.GiveNotice who) s a = none_made next_number (changed w (change.GiveNotice who)) (sound_notified next_number w who s)
-changed_sound next_number w (change.EndWait who how) s a = none_made next_number (end_wait w who how) (sound_kernels next_number (without_wait w who) (kernels_left w who how (wait_of w who)) (sound_end_wait next_number w who s))
+changed_sound next_number w (change.EndWait who how) s a =
+    none_made next_number (end_wait w who how) (sound_beside next_number (without_wait w who) (kernels_left w who how (wait_of w who)) (given_up_after w.given_up how (wait_of w who)) (sound_end_wait next_number w who s))
 changed_sound next_number w (change.Finish client) s a = none_made next_number (changed w (change.Finish client)) (sound_client next_number w client finished s)
 
 -- and it is true of the opening world

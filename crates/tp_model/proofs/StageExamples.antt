@@ -19,7 +19,8 @@ use Rattle.tp_base.specs.declared.plans.Stage.TheVariants as stage
 use Rattle.tp_model.specs.Calls.Clients.{finish_plan}
 use Rattle.tp_model.specs.Calls.Kernels.{create_event_plan, set_event_plan}
 use Rattle.tp_model.specs.Calls.Objects.{create_plan}
-use Rattle.tp_model.specs.Calls.Waits.{begin_acquire_plan, begin_wait_plan, end_plan}
+use Rattle.tp_model.specs.Calls.Waits.{begin_acquire_plan, begin_wait_plan}
+use Rattle.tp_model.specs.Calls.End.{end_plan}
 use Rattle.tp_model.specs.Calls.Work.{submit_work_plan}
 use Rattle.tp_model.specs.Calls.Workers.{attach_plan, detach_plan, return_plan, take_plan}
 use Rattle.tp_model.specs.History.{play}

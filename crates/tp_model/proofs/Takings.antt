@@ -21,7 +21,7 @@ use Rattle.tp_model.specs.Actions.{slots_of, returning}
 use Rattle.tp_model.proofs.Performing.{performed_keeps}
 use Rattle.tp_model.proofs.Kernels.{all_changed}
 use Rattle.tp_base.specs.declared.plans.WaitEnd.{WaitEnd}
-use Rattle.tp_base.specs.declared.plans.WaitEnd.TheVariants.{Free, Exhausted}
+use Rattle.tp_base.specs.declared.plans.WaitEnd.TheVariants.{Free, Exhausted, Stalled}
 use Rattle.tp_base.specs.declared.plans.KernelChange.{KernelChange}
 use Rattle.tp_base.specs.declared.plans.Change.{Change}
 use Rattle.tp_base.specs.declared.plans.Change.TheVariants as change
@@ -69,6 +69,7 @@ row_changed f h most kernels kernel (Some row) is all =
 -- a lock is taken as a wait for it ends
 wait_left : (most : ℕ) (w : World) (who : Who) (how : WaitEnd) (wait : Option BegunWait) → AreTakenAtMost most w → AreAtMost (most + 1) (kernels_left w who how wait)
 wait_left most w who Exhausted wait all = most_raised most (most + 1) (omega arith) w.kernels all
+wait_left most w who Stalled wait all = most_raised most (most + 1) (omega arith) w.kernels all
 wait_left most w who Free None all = most_raised most (most + 1) (omega arith) w.kernels all
 wait_left most w who Free (Some b) all = target b.target
   where

@@ -15,7 +15,8 @@ use Rattle.tp_base.specs.declared.limits.Limits.{Limits}
 use Rattle.tp_model.specs.Calls.Objects.{create_plan, close_object_plan}
 use Rattle.tp_model.specs.Calls.Timers.{set_timer_plan, set_timer_ex_plan, is_timer_set_plan, advance_plan}
 use Rattle.tp_model.specs.Calls.Workers.{attach_plan, take_plan, return_plan}
-use Rattle.tp_model.specs.Calls.Waits.{begin_wait_plan, end_plan}
+use Rattle.tp_model.specs.Calls.Waits.{begin_wait_plan}
+use Rattle.tp_model.specs.Calls.End.{end_plan}
 use Rattle.tp_model.specs.History.{play}
 
 limits : Limits

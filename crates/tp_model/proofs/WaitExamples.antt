@@ -18,7 +18,8 @@ use Rattle.tp_model.specs.Calls.Objects.{create_plan, close_object_plan}
 use Rattle.tp_model.specs.Calls.Work.{submit_work_plan, submit_simple_plan}
 use Rattle.tp_model.specs.Calls.Workers.{attach_plan, detach_plan, take_plan, return_plan}
 use Rattle.tp_model.specs.Calls.InCallback.{may_run_long_plan, disassociate_plan}
-use Rattle.tp_model.specs.Calls.Waits.{begin_wait_plan, end_plan}
+use Rattle.tp_model.specs.Calls.Waits.{begin_wait_plan}
+use Rattle.tp_model.specs.Calls.End.{end_plan}
 use Rattle.tp_model.specs.Calls.Clients.{finish_plan}
 use Rattle.tp_model.specs.History.{play}
 use Rattle.tp_base.specs.declared.rows.WaitTarget.TheVariants.{Object}

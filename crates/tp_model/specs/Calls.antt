@@ -12,3 +12,4 @@ pub mod WaitObjects
 pub mod Io
 pub mod Waits
 pub mod Clients
+pub mod End

@@ -1,5 +1,5 @@
 -- The world after a change.
-use Rattle.std.specs.Prelude.{ℕ, ◌-◌, Bool, true, false, not, min, max, List, [], ◌∷◌, ◌++◌, map, drop, slice_get, slice_set, if◌then◌else◌, Option, None, Some}
+use Rattle.std.specs.Prelude.{ℕ, ◌+◌, ◌-◌, Bool, true, false, not, min, max, List, [], ◌∷◌, ◌++◌, length, map, drop, slice_get, slice_set, if◌then◌else◌, Option, None, Some}
 use Rattle.std.specs.List.{filter}
 use Rattle.tp_base.specs.declared.plans.Change.{Change}
 use Rattle.tp_base.specs.declared.plans.Change.TheVariants as change
@@ -16,7 +16,7 @@ use Rattle.tp_base.specs.declared.plans.IoStep.TheVariants.{Issue, GiveUp, Compl
 use Rattle.tp_base.specs.declared.answers.TakeResult.{TakeResult}
 use Rattle.tp_base.specs.declared.answers.TakeResult.TheVariants.{Io}
 use Rattle.tp_base.specs.declared.plans.WaitEnd.{WaitEnd}
-use Rattle.tp_base.specs.declared.plans.WaitEnd.TheVariants.{Free, Exhausted}
+use Rattle.tp_base.specs.declared.plans.WaitEnd.TheVariants.{Free, Exhausted, Stalled}
 use Rattle.tp_base.specs.declared.rows.KernelRow.{KernelRow}
 use Rattle.tp_base.specs.declared.rows.PoolRow.{PoolRow}
 use Rattle.tp_base.specs.declared.rows.ObjectRow.{ObjectRow}
@@ -170,11 +170,22 @@ kernels_taken w who (Kernel kernel) = kernel_changed (taken_by who) w.kernels ke
 
 abbrev pub kernels_left : World → Who → WaitEnd → Option BegunWait → List KernelRow
 kernels_left w who Exhausted wait = w.kernels
+kernels_left w who Stalled wait = w.kernels
 kernels_left w who Free None = w.kernels
 kernels_left w who Free (Some b) = kernels_taken w who b.target
 
+-- a wait that ends because the machine is stalled never gives the notices that it still has
+abbrev pub given_up_after : ℕ → WaitEnd → Option BegunWait → ℕ
+given_up_after before Free wait = before
+given_up_after before Exhausted wait = before
+given_up_after before Stalled None = before
+given_up_after before Stalled (Some b) = before + length b.notices
+
 abbrev pub end_wait : World → Who → WaitEnd → World
-end_wait w who how = record (without_wait w who) { kernels = kernels_left w who how (wait_of w who) }
+end_wait w who how = record (without_wait w who) {
+  kernels = kernels_left w who how (wait_of w who);
+  given_up = given_up_after w.given_up how (wait_of w who);
+}
 
 -- ---- each change
 

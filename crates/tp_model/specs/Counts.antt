@@ -1,5 +1,5 @@
 -- What is counted in a world. Each count is the length of a filtered list.
-use Rattle.std.specs.Prelude.{ℕ, ◌+◌, ◌-◌, Bool, true, false, not, ◌&&◌, ◌==◌, nat_lt, List, ◌++◌, length, slice_get, is_some, is_none, if◌then◌else◌, None}
+use Rattle.std.specs.Prelude.{ℕ, ◌+◌, ◌-◌, Bool, true, false, not, ◌&&◌, ◌||◌, ◌==◌, nat_lt, List, ◌++◌, length, slice_get, is_some, is_none, if◌then◌else◌, None}
 use Rattle.std.specs.Prelude.{Option}
 use Rattle.std.specs.List.{filter, find, range_with_len}
 use Rattle.std.specs.Option.{option_map_or}
@@ -120,6 +120,11 @@ is_in_need w pool = nat_lt 0 (pending w pool) && (idle w pool == 0) && nat_lt (a
 -- the pool has fewer workers for short callbacks than its minimum, and may have another
 abbrev pub is_below_minimum : World → ℕ → Bool
 is_below_minimum w pool = nat_lt (available w pool) (minimum w pool) && nat_lt (attached w pool) (maximum w pool)
+
+-- the history has no room for a callback of the pool to be run: that takes two entries, and two more where no worker of the
+-- pool is idle, so that one has to attach and to detach
+abbrev pub lacks_room_to_run : World → ℕ → ℕ → Bool
+lacks_room_to_run w room pool = nat_lt room 2 || (nat_lt room 4 && (idle w pool == 0))
 
 -- the pool of least number that passes the test
 abbrev pub least_pool : World → (ℕ → Bool) → Option ℕ

@@ -3,7 +3,7 @@ use Rattle.std.specs.Prelude.{◌≡◌, ℕ, ◌+◌, ◌-◌, Bool, true, fals
 use Rattle.tp_base.specs.declared.ids.Who.{Who}
 use Rattle.tp_base.specs.declared.calls.Call.{Call}
 use Rattle.tp_base.specs.declared.answers.Answer.{Answer}
-use Rattle.tp_base.specs.declared.answers.Answer.TheVariants.{Refused, Ended, Exhausted, Notice}
+use Rattle.tp_base.specs.declared.answers.Answer.TheVariants.{Refused, Ended, Exhausted, Stalled, Notice}
 use Rattle.tp_base.specs.declared.answers.Entry.{Entry}
 use Rattle.tp_base.specs.declared.answers.Outcome.{Outcome}
 use Rattle.tp_base.specs.declared.answers.Outcome.TheVariants.{Done}
@@ -36,6 +36,7 @@ change_of _ = None
 abbrev pub wait_end : Who → Answer → Option Change
 wait_end who Ended = Some (EndWait who how.Free)
 wait_end who Exhausted = Some (EndWait who how.Exhausted)
+wait_end who Stalled = Some (EndWait who how.Stalled)
 wait_end who (Notice object routine context cleanup) = Some (GiveNotice who)
 wait_end who _ = None
 

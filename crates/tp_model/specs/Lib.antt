@@ -12,6 +12,8 @@ pub mod Over
 pub mod Refusing
 pub mod Sources
 pub mod Stages
+pub mod Stalled
+pub mod Stalling
 pub mod Step
 pub mod Support
 pub mod Table

@@ -1,5 +1,5 @@
 -- Whether all is over in a world whose history has some room, and what is left of its callbacks.
-use Rattle.std.specs.Prelude.{ℕ, Bool, not, ◌&&◌, ◌||◌, ◌==◌, nat_lt, Option}
+use Rattle.std.specs.Prelude.{ℕ, Bool, not, ◌&&◌, ◌||◌, nat_lt, Option}
 use Rattle.std.specs.List.{find, list_all, list_any}
 use Rattle.tp_base.specs.declared.ids.ObjectId.{ObjectId}
 use Rattle.tp_base.specs.declared.rows.CallbackRow.{CallbackRow}
@@ -8,14 +8,9 @@ use Rattle.tp_base.specs.declared.rows.Status.{Status}
 use Rattle.tp_base.specs.declared.rows.Status.TheVariants as status
 use Rattle.tp_model.specs.declared.Left.{Left}
 use Rattle.tp_model.specs.declared.Left.TheVariants.{Expected, Issued, Pending}
-use Rattle.tp_model.specs.Counts.{idle, is_pending, is_running}
+use Rattle.tp_model.specs.Counts.{is_pending, is_running, lacks_room_to_run}
 use Rattle.tp_model.specs.Laws.Once.{left}
 use Rattle.tp_model.specs.World.{World}
-
--- the history has no room for a callback of the pool to be run: that takes two entries, and two more where no worker of the
--- pool is idle, so that one has to attach and to detach
-abbrev pub lacks_room_to_run : World → ℕ → ℕ → Bool
-lacks_room_to_run w room pool = nat_lt room 2 || (nat_lt room 4 && (idle w pool == 0))
 
 -- the callback runs, or waits for a worker and can still be run
 abbrev pub goes_on : World → ℕ → CallbackRow → Bool

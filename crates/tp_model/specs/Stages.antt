@@ -187,6 +187,7 @@ abbrev pub is_wait_answer : Answer → Bool
 is_wait_answer (answer.Notice object routine context cleanup) = true
 is_wait_answer answer.Ended = true
 is_wait_answer answer.Exhausted = true
+is_wait_answer answer.Stalled = true
 is_wait_answer _ = false
 
 abbrev pub is_wait_look : Look → Bool

@@ -15,7 +15,8 @@ use Rattle.tp_model.specs.Calls.InCallback.{may_run_long_plan, disassociate_plan
 use Rattle.tp_model.specs.Calls.Timers.{set_timer_plan, set_timer_ex_plan, is_timer_set_plan, advance_plan}
 use Rattle.tp_model.specs.Calls.WaitObjects.{set_wait_plan}
 use Rattle.tp_model.specs.Calls.Io.{start_io_plan, issue_io_plan, cancel_io_plan, complete_io_plan}
-use Rattle.tp_model.specs.Calls.Waits.{begin_wait_plan, begin_acquire_plan, end_plan}
+use Rattle.tp_model.specs.Calls.Waits.{begin_wait_plan, begin_acquire_plan}
+use Rattle.tp_model.specs.Calls.End.{end_plan}
 use Rattle.tp_model.specs.Calls.Kernels.{create_event_plan, create_semaphore_plan, create_lock_plan, set_event_plan, reset_event_plan, release_semaphore_plan, release_lock_plan}
 use Rattle.tp_model.specs.Calls.Clients.{finish_plan}
 

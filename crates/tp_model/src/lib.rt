@@ -11,7 +11,7 @@
 
 #![tactic(auto)]
 
-ghost use Rattle.std.specs.Prelude.{◌≡◌, ℕ, ◌+◌, ◌≤◌, true, List, length};
+ghost use Rattle.std.specs.Prelude.{◌≡◌, ℕ, ◌+◌, ◌≤◌, true, List, ◌++◌, length};
 ghost use Rattle.tp_base.specs.declared.answers.Entry.{Entry};
 ghost use Rattle.tp_base.specs.declared.ids.Who.{Who};
 ghost use Rattle.tp_base.specs.declared.limits.Limits.{Limits};
@@ -22,6 +22,7 @@ ghost use Rattle.tp_model.specs.Laws.{KeepsLaws};
 ghost use Rattle.tp_model.specs.Laws.Notices.{numbers_created, IsClosing};
 ghost use Rattle.tp_model.specs.Next.{IsNextOrNone};
 ghost use Rattle.tp_model.specs.Stages.{IsActor, MachineFacts};
+ghost use Rattle.tp_model.specs.Stalling.{StaysStalled};
 
 /// How far a callback has come that is left after a history: it may still run.
 #[derive(Clone, Copy)]
@@ -69,4 +70,13 @@ pub fn legal_bounds_closes()
 #[tactic(auto, using(crate::proofs::Facts::machine_facts))]
 pub fn legal_gives_facts()
     ensures { (limits : Limits) (capacity : ℕ) (history : List Entry) → IsLegal limits capacity history → MachineFacts limits history }
+{}
+
+/// A stalled machine stays so. Where it would answer some actor's `End` with `Stalled`, look at what is
+/// recorded from there on: until some `End` is answered with `Stalled` or `Exhausted`, every entry is a
+/// refusal, or a worker joins a pool or leaves one. So a stall is answered only where nobody could have
+/// gone on. It does nothing: who calls it knows this.
+#[tactic(auto, using(crate::proofs::Stalling::stays_stalled))]
+pub fn legal_tells_stalls()
+    ensures { (limits : Limits) (capacity : ℕ) (history more : List Entry) → IsLegal limits capacity (history ++ more) → StaysStalled limits capacity history more }
 {}

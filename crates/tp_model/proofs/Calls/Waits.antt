@@ -1,5 +1,5 @@
 -- The facts of waits for callbacks.
-use Rattle.std.proofs.Common.{◌≡◌, ℕ, ◌<◌, Bool, true, false, cond, not, ◌||◌, ◌==◌, List, [], ◌∷◌, length, Option, Some, None, refl, ap, ◌∙◌, arith, eqb-true, ◌&&◌, nat_lt, ap₂, filter, ◌≤◌, ◌^◌, subst, sym, eq-eqb, ltb-true, ◌-◌}
+use Rattle.std.proofs.Common.{◌≡◌, ℕ, ◌<◌, Bool, true, false, cond, not, ◌||◌, ◌==◌, List, [], ◌∷◌, length, Option, Some, None, refl, ap, ◌∙◌, arith, eqb-true, ◌&&◌, nat_lt, ap₂, filter, ◌≤◌, ◌^◌, subst, sym, eq-eqb, ltb-true, ◌-◌, nat_le}
 use Rattle.std.specs.Option.{option_map_or, unwrap_or}
 use Rattle.std.proofs.lemmas.List.{length-map}
 use Rattle.tp_base.specs.declared.ids.Who.{Who}
@@ -23,11 +23,13 @@ use Rattle.tp_base.specs.Actors.{is_same_actor}
 use Rattle.tp_base.specs.Kernels.{may_take}
 use Rattle.tp_model.specs.Kernels.{is_kernel, is_kernel_that}
 use Rattle.tp_model.specs.World.{World, BegunWait}
-use Rattle.tp_model.specs.Counts.{has_number, attached, callback_of, is_pending}
+use Rattle.tp_model.specs.Counts.{has_number, attached, callback_of, is_pending, lacks_room_to_run, maximum}
 use Rattle.tp_base.specs.Actors.{is_same_actor}
-use Rattle.tp_model.specs.Conditions.{is_actor, is_finished, is_object, is_released, is_associated, is_in_wait, is_object_of, is_without_callback}
+use Rattle.tp_model.specs.Conditions.{is_actor, is_finished, is_object, is_released, is_associated, is_in_wait, is_object_of, is_without_callback, runs_callback}
 use Rattle.tp_model.specs.Refusing.{first_refusal, unless_refused}
-use Rattle.tp_model.specs.Calls.Waits.{begin_wait_refusals, begin_wait_plan, begin_acquire_refusals, begin_acquire_plan, end_for, end_refusals, end_held, end_wait, end_plan, holds_starved, count_covered, count_cancelled_by, is_starved, end_notices}
+use Rattle.tp_model.specs.Calls.Waits.{begin_wait_refusals, begin_wait_plan, begin_acquire_refusals, begin_acquire_plan, end_for, end_held, end_wait, holds_starved, count_covered, count_cancelled_by, is_starved, end_notices}
+use Rattle.tp_model.specs.Calls.End.{end_plan, end_refusals, end_unless_stalled}
+use Rattle.tp_model.specs.Stalled.{are_all_busy, is_client_stuck, is_look, is_pool_stuck, is_stalled, is_worker_stuck, waits_on}
 use Rattle.tp_model.specs.Waits.{wait_of, held, is_outstanding_for, is_cancelled_by, cancelled, cancel_where, is_covered_by, covered_of, is_held, is_group_target, is_of, is_held_for}
 use Rattle.tp_model.specs.Support.Sound.{IsSound, IsWaitSound, is_left_of}
 use Rattle.tp_model.specs.Support.Allowed.{IsTakeable}
@@ -35,14 +37,14 @@ use Rattle.tp_model.specs.Support.Told.{silent, nothing, next_notice, first_left
 use Rattle.tp_model.specs.Support.Safe.{IsSafe}
 use Rattle.tp_model.specs.Support.Remembered.{lives, forget}
 use Rattle.tp_model.specs.Support.Ranged.{IsTargetInRange, IsCallbackInRange, IsRanged, IsPlanInRange, IsObjectInRange, IsWaitInRange}
-use Rattle.tp_model.proofs.Lists.{find_all, filter_filter, filter_agree, length_filter_le, find_passes, all_get}
+use Rattle.tp_model.proofs.Lists.{find_all, filter_filter, filter_agree, length_filter_le, find_passes, all_get, all_agree}
 use Rattle.tp_model.proofs.Refusals.{neither, not_false, false_true, numbered_some, both}
 use Rattle.tp_model.proofs.Callbacks.{over_not_pending}
 use Rattle.tp_model.proofs.Cancelling.{cancelled_if}
-use Rattle.tp_model.proofs.Forgetting.{over_not_cancelled, over_not_covered, covered_forget, busy_forget, over_forget, over_not_outstanding}
+use Rattle.tp_model.proofs.Forgetting.{over_not_cancelled, over_not_covered, covered_forget, busy_forget, over_forget, over_not_outstanding, pending_forget, running_forget}
 use Rattle.tp_model.proofs.Allowed.{safe_unless}
 use Rattle.tp_model.proofs.Ranged.{ranged_unless}
-use Rattle.std.specs.List.{AllByRecursion}
+use Rattle.std.specs.List.{AllByRecursion, range_with_len}
 use Rattle.tp_base.specs.declared.rows.ObjectRow.{ObjectRow}
 use Rattle.tp_model.specs.Laws.Entries.{Notice, is_among}
 use Rattle.tp_model.proofs.Fates.{pending_left}
@@ -50,6 +52,8 @@ use Rattle.tp_model.specs.Groups.{is_object_that, has_cancel}
 use Rattle.tp_model.proofs.Releasing.{that_row}
 use Rattle.tp_model.proofs.Firing.{numbered_made}
 use Rattle.tp_model.specs.Sources.{object_row, no_object}
+use Rattle.tp_base.specs.declared.plans.Plan.{Plan}
+use Rattle.tp_base.specs.declared.ids.Who.TheVariants.{Client, Worker}
 
 -- ---- BeginWait
 
@@ -184,7 +188,7 @@ end_safe next_number room w who s = safe_unless next_number w who End (end_refus
     sound_wait b is = find_all (IsWaitSound next_number w.callbacks) (λ (x : BegunWait). is_same_actor x.actor who) b w.waits s.waits is
 
     gives : (b : BegunWait) (os : List ObjectId) → wait_of w who ≡ Some b → IsTakeable w who b.target → held w b ≡ [] → b.notices ≡ os → IsSafe next_number w who End (end_notices w who b.cleanup os)
-    gives b [] is takes free left = record { allowed = record { wait = b; begun = is; unnoticed = left; free = λ _. free; takes = λ _. takes }; made_by = refl; accepted = refl; tells = refl }
+    gives b [] is takes free left = record { allowed = record { wait = b; begun = is; unnoticed = λ _. left; free = λ _. free; takes = λ _. takes }; made_by = refl; accepted = refl; tells = refl }
     gives b (o ∷ os) is takes free left =
         record {
           allowed = record { wait = b; begun = is; object = o; rest = os; left = left; free = free };
@@ -199,7 +203,7 @@ end_safe next_number room w who s = safe_unless next_number w who End (end_refus
         elim (holds_starved w room (n ∷ ns)) as (λ t. holds_starved w room (n ∷ ns) ≡ t → IsSafe next_number w who End (cond t (plan.Does answer.Exhausted (change.EndWait who how.Exhausted)) (plan.Looked (look.NotYet n)))) [
           | true ↦ λ starved.
               record {
-                allowed = record { wait = b; begun = is; unnoticed = starved_unnoticed next_number room w b (sound_wait b is) (ap (holds_starved w room) left ∙ starved); free = λ e. absurd cc; takes = λ e. absurd cc };
+                allowed = record { wait = b; begun = is; unnoticed = λ _. starved_unnoticed next_number room w b (sound_wait b is) (ap (holds_starved w room) left ∙ starved); free = λ e. absurd cc; takes = λ e. absurd cc };
                 made_by = refl;
                 accepted = refl;
                 tells = refl;
@@ -207,10 +211,19 @@ end_safe next_number room w who s = safe_unless next_number w who End (end_refus
           | false ↦ λ _. tt
         ] refl
 
-    ends : (b : Option BegunWait) → wait_of w who ≡ b → IsSafe next_number w who End (end_wait w room who b)
+    ends : (b : Option BegunWait) → wait_of w who ≡ b → IsSafe next_number w who End (end_unless_stalled w room who (end_wait w room who b))
     ends None is = tt
-    ends (Some b) is = of_target b.target refl
+    ends (Some b) is = of_plan (end_wait w room who (Some b)) (of_target b.target refl)
       where
+        of_plan : (p : Plan) → IsSafe next_number w who End p → IsSafe next_number w who End (end_unless_stalled w room who p)
+        of_plan (plan.Refused refusal) safe = safe
+        of_plan (plan.Does told how) safe = safe
+        of_plan (plan.Looked seen) safe =
+            elim (is_stalled w room) as (λ t. IsSafe next_number w who End (cond t (plan.Does answer.Stalled (change.EndWait who how.Stalled)) (plan.Looked seen))) [
+              | true ↦ record { allowed = record { wait = b; begun = is; unnoticed = λ other. absurd (other refl); free = λ e. absurd cc; takes = λ e. absurd cc }; made_by = refl; accepted = refl; tells = refl }
+              | false ↦ tt
+            ]
+
         of_target : (t : WaitTarget) → b.target ≡ t → IsSafe next_number w who End (end_for w room who b t)
         of_target (Object object) at = ends_with b (held w b) is (subst (IsTakeable w who) (sym at) tt) refl
         of_target (Group group) at = ends_with b (held w b) is (subst (IsTakeable w who) (sym at) tt) refl
@@ -219,7 +232,7 @@ end_safe next_number room w who s = safe_unless next_number w who End (end_refus
             acquires : (t : Bool) → is_kernel_that (may_take who) w kernel.0 ≡ t → IsSafe next_number w who End (cond t (plan.Does answer.Ended (change.EndWait who how.Free)) (plan.Looked (look.NotYetKernel kernel)))
             acquires true may =
                 record {
-                  allowed = record { wait = b; begun = is; unnoticed = (sound_wait b is).quiet (ap is_group_target at); free = λ _. none_held w b kernel at; takes = λ _. subst (IsTakeable w who) (sym at) may };
+                  allowed = record { wait = b; begun = is; unnoticed = λ _. (sound_wait b is).quiet (ap is_group_target at); free = λ _. none_held w b kernel at; takes = λ _. subst (IsTakeable w who) (sym at) may };
                   made_by = refl;
                   accepted = refl;
                   tells = refl;
@@ -239,27 +252,56 @@ starved_forget next_number room w (n ∷ ns) s =
     (over_forget (is_starved w room) (λ c e. ap (λ b. b && (nat_lt room 2 || (nat_lt room 4 && (attached w c.pool.0 == 0)))) (over_not_pending c.status e)) 1 next_number n w.callbacks s.numbers)
     (starved_forget next_number room w ns s)
 
-pub end_forget : (next_number room : ℕ) (w : World) (who : Who) → IsSound next_number w → end_plan (forget w) room who ≡ end_plan w room who
-unfolding end_plan
-end_forget next_number room w who s = ap (unless_refused (first_refusal (end_refusals w who))) (ends (wait_of w who))
+end_wait_forget : (next_number room : ℕ) (w : World) (who : Who) (b : Option BegunWait) → IsSound next_number w → end_wait (forget w) room who b ≡ end_wait w room who b
+end_wait_forget next_number room w who None s = refl
+end_wait_forget next_number room w who (Some b) s = of_target b.target
   where
-    gives : (b : BegunWait) (os : List ObjectId) → end_notices (forget w) who b.cleanup os ≡ end_notices w who b.cleanup os
-    gives b [] = refl
-    gives b (o ∷ os) = refl
+    gives : (os : List ObjectId) → end_notices (forget w) who b.cleanup os ≡ end_notices w who b.cleanup os
+    gives [] = refl
+    gives (o ∷ os) = refl
 
-    ends_with : (b : BegunWait) (numbers : List ℕ) → end_held (forget w) room who b numbers ≡ end_held w room who b numbers
-    ends_with b [] = gives b b.notices
-    ends_with b (n ∷ ns) =
+    ends_with : (numbers : List ℕ) → end_held (forget w) room who b numbers ≡ end_held w room who b numbers
+    ends_with [] = gives b.notices
+    ends_with (n ∷ ns) =
         ap (λ b. cond b (plan.Does answer.Exhausted (change.EndWait who how.Exhausted)) (plan.Looked (look.NotYet n))) (starved_forget next_number room w (n ∷ ns) s)
 
-    ends : (b : Option BegunWait) → end_wait (forget w) room who b ≡ end_wait w room who b
-    ends None = refl
-    ends (Some b) = of_target b.target
-      where
-        of_target : (t : WaitTarget) → end_for (forget w) room who b t ≡ end_for w room who b t
-        of_target (Object object) = ap (end_held (forget w) room who b) (all_held_forget next_number w b s) ∙ ends_with b (held w b)
-        of_target (Group group) = ap (end_held (forget w) room who b) (all_held_forget next_number w b s) ∙ ends_with b (held w b)
-        of_target (Kernel kernel) = refl
+    of_target : (t : WaitTarget) → end_for (forget w) room who b t ≡ end_for w room who b t
+    of_target (Object object) = ap (end_held (forget w) room who b) (all_held_forget next_number w b s) ∙ ends_with (held w b)
+    of_target (Group group) = ap (end_held (forget w) room who b) (all_held_forget next_number w b s) ∙ ends_with (held w b)
+    of_target (Kernel kernel) = refl
+
+-- whether the machine is stalled
+pub stalled_forget : (next_number room : ℕ) (w : World) → IsSound next_number w → is_stalled (forget w) room ≡ is_stalled w room
+stalled_forget next_number room w s =
+    ap₂ (λ actors pools. actors && pools)
+    (ap₂ (λ clients workers. clients && workers)
+    (all_agree (is_client_stuck (forget w) room) (is_client_stuck w room) client (range_with_len 1 (length w.clients)))
+    (all_agree (is_worker_stuck (forget w) room) (is_worker_stuck w room) worker (range_with_len 1 (length w.workers))))
+    (all_agree (is_pool_stuck (forget w) room) (is_pool_stuck w room) pool (range_with_len 0 (length w.pools)))
+  where
+    waits : (who : Who) → waits_on (forget w) room who ≡ waits_on w room who
+    waits who = ap is_look (end_wait_forget next_number room w who (wait_of w who) s)
+
+    client : (number : ℕ) → is_client_stuck (forget w) room number ≡ is_client_stuck w room number
+    client number = ap (λ b. is_finished w (Client number) || b) (waits (Client number))
+
+    worker : (number : ℕ) → is_worker_stuck (forget w) room number ≡ is_worker_stuck w room number
+    worker number = ap (λ b. not (runs_callback w (Worker number)) || b) (waits (Worker number))
+
+    pool : (number : ℕ) → is_pool_stuck (forget w) room number ≡ is_pool_stuck w room number
+    pool number =
+        ap₂ (λ (waiting : ℕ) (at_work : ℕ). (waiting == 0) || nat_le (maximum w number) at_work || are_all_busy w || lacks_room_to_run w room number) (pending_forget w number) (running_forget w number)
+
+pub end_forget : (next_number room : ℕ) (w : World) (who : Who) → IsSound next_number w → end_plan (forget w) room who ≡ end_plan w room who
+unfolding end_plan
+end_forget next_number room w who s =
+    ap (unless_refused (first_refusal (end_refusals w who)))
+    (ap (end_unless_stalled (forget w) room who) (end_wait_forget next_number room w who (wait_of w who) s) ∙ of_plan (end_wait w room who (wait_of w who)))
+  where
+    of_plan : (p : Plan) → end_unless_stalled (forget w) room who p ≡ end_unless_stalled w room who p
+    of_plan (plan.Refused refusal) = refl
+    of_plan (plan.Does told how) = refl
+    of_plan (plan.Looked seen) = ap (λ b. cond b (plan.Does answer.Stalled (change.EndWait who how.Stalled)) (plan.Looked seen)) (stalled_forget next_number room w s)
 
 -- the first of those that a wait still waits for is the number of a callback
 held_ranged : (w : World) (b : BegunWait) (number : ℕ) (numbers : List ℕ) → IsRanged w → held w b ≡ number ∷ numbers → number < 2 ^ 64
@@ -281,8 +323,14 @@ held_ranged w b number numbers g e = first (is_held w b.target) (λ k found. of_
 
 pub end_ranged : (next_number room : ℕ) (w : World) (who : Who) → IsSound next_number w → IsRanged w → IsPlanInRange (end_plan w room who)
 unfolding end_plan
-end_ranged next_number room w who s g = ranged_unless (end_refusals w who) _ _ (ends (wait_of w who) refl)
+end_ranged next_number room w who s g = ranged_unless (end_refusals w who) _ _ (of_plan (end_wait w room who (wait_of w who)) (ends (wait_of w who) refl))
   where
+    of_plan : (p : Plan) → IsPlanInRange p → IsPlanInRange (end_unless_stalled w room who p)
+    of_plan (plan.Refused refusal) within = within
+    of_plan (plan.Does told how) within = within
+    of_plan (plan.Looked seen) within =
+        elim (is_stalled w room) as (λ t. IsPlanInRange (cond t (plan.Does answer.Stalled (change.EndWait who how.Stalled)) (plan.Looked seen))) [ true ↦ (tt, tt) | false ↦ within ]
+
     gives : (b : BegunWait) (os : List ObjectId) → IsWaitInRange b → AllByRecursion (λ (o : ObjectId). is_object_that has_cancel w.objects o.0 ≡ true) os → IsPlanInRange (end_notices w who b.cleanup os)
     gives b [] within named = (tt, tt)
     gives b (o ∷ os) within named =

@@ -1,7 +1,7 @@
 -- Waits for callbacks: WaitForThreadpoolWorkCallbacks and its like for the other kinds; and for kernel objects:
 -- WaitForSingleObject and EnterCriticalSection. BeginWait and BeginAcquire are the entry of the function, and End its
--- return.
-use Rattle.std.specs.Prelude.{ℕ, Bool, false, not, ◌||◌, ◌&&◌, ◌==◌, nat_lt, List, [], ◌∷◌, ◌++◌, length, if◌then◌else◌, is_none, Option, None, Some}
+-- return, which also asks whether the machine is stalled.
+use Rattle.std.specs.Prelude.{ℕ, Bool, false, not, ◌||◌, ◌&&◌, ◌==◌, nat_lt, List, [], ◌∷◌, ◌++◌, length, if◌then◌else◌, Option, None, Some}
 use Rattle.std.specs.List.{filter, list_any}
 use Rattle.std.specs.Option.{option_map_or}
 use Rattle.tp_base.specs.declared.ids.Who.{Who}
@@ -26,7 +26,7 @@ use Rattle.tp_model.specs.Counts.{attached, callback_of, is_pending}
 use Rattle.tp_model.specs.Conditions.{is_actor, is_finished, is_without_callback, is_in_wait, runs_own}
 use Rattle.tp_base.specs.Kernels.{may_take}
 use Rattle.tp_model.specs.Kernels.{is_kernel, is_kernel_that}
-use Rattle.tp_model.specs.Waits.{is_cancelled_by, cancel_where, covered_of, wait_of, held}
+use Rattle.tp_model.specs.Waits.{is_cancelled_by, cancel_where, covered_of, held}
 use Rattle.tp_model.specs.Sources.{object_row}
 use Rattle.tp_model.specs.Refusing.{first_refusal, unless_refused, object_refusals}
 
@@ -61,15 +61,7 @@ unfoldable pub begin_acquire_plan : World → Who → KernelId → Plan
 begin_acquire_plan w who kernel =
     unless_refused (first_refusal (begin_acquire_refusals w who kernel.0)) (Does answer.Done (change.BeginWait who (Kernel kernel) false))
 
--- ---- End
-
-abbrev pub end_refusals : World → Who → List (Bool × Refusal)
-end_refusals w who =
-    (not (is_actor w who), NoSuch)
-    ∷ (is_finished w who, Released)
-    ∷ (is_without_callback w who, NotRunning)
-    ∷ (is_none (wait_of w who), NoWaitBegun)
-    ∷ []
+-- ---- End, but for the machine being stalled
 
 -- the callback is pending, and the history has no room for it to be run: for a take and, where no worker is attached to
 -- its pool, for the attach before it
@@ -108,6 +100,3 @@ end_for w room who b (Kernel kernel) = end_acquire w who kernel
 abbrev pub end_wait : World → ℕ → Who → Option BegunWait → Plan
 end_wait w room who None = Refused NoWaitBegun
 end_wait w room who (Some b) = end_for w room who b b.target
-
-unfoldable pub end_plan : World → ℕ → Who → Plan
-end_plan w room who = unless_refused (first_refusal (end_refusals w who)) (end_wait w room who (wait_of w who))

@@ -14,7 +14,7 @@ use Rattle.tp_base.specs.declared.rows.KernelRow.{KernelRow}
 use Rattle.tp_base.specs.declared.plans.KernelChange.{KernelChange}
 use Rattle.tp_base.specs.declared.plans.KernelChange.TheVariants as kernel
 use Rattle.tp_base.specs.declared.ids.KernelId.{KernelId}
-use Rattle.tp_base.specs.declared.plans.WaitEnd.TheVariants.{Free}
+use Rattle.tp_base.specs.declared.plans.WaitEnd.TheVariants.{Free, Stalled}
 use Rattle.tp_base.specs.declared.plans.Idle.{Idle}
 use Rattle.tp_base.specs.declared.plans.ActionWords.{ActionWords}
 use Rattle.tp_base.specs.declared.plans.Mark.{Mark}
@@ -220,12 +220,12 @@ pub record MayNotify (w : World) (who : Who) : Type 0 where
   pub left : wait.notices ≡ object ∷ rest
   pub free : held w wait ≡ []
 
--- the wait that the actor has begun; it ends freely where nothing that it covers is outstanding any more, and the actor
--- may take the kernel object that it is for
+-- the wait that the actor has begun. Notices are left only where the machine is stalled; it ends freely where nothing that it
+-- covers is outstanding any more, and the actor may take the kernel object that it is for
 pub record MayEnd (w : World) (who : Who) (how : WaitEnd) : Type 0 where
   pub wait : BegunWait
   pub begun : wait_of w who ≡ Some wait
-  pub unnoticed : wait.notices ≡ []
+  pub unnoticed : how ≢ Stalled → wait.notices ≡ []
   pub free : how ≡ Free → held w wait ≡ []
   pub takes : how ≡ Free → IsTakeable w who wait.target
 

@@ -334,14 +334,14 @@ pub record BeginsWait (w : World) (entry : Entry) (after : World) : Type 0 where
   pub cuts : begun.cancel ≡ true → (n : ℕ) (c : CallbackRow) → find (has_number n) after.callbacks ≡ Some c → is_of begun.target c ≡ true → is_pending c.status ≡ false
   pub idle : is_group_target begun.target ≡ true → (n : ℕ) (c : CallbackRow) → find (has_number n) after.callbacks ≡ Some c → is_of begun.target c ≡ true → is_operating c.status ≡ false
 
--- the actor's wait ends, and if it does so freely, nothing that it covers is outstanding
+-- the actor's wait ends, and if it does so freely, it has no notice left and nothing that it covers is outstanding
 pub record EndsWait (w : World) (entry : Entry) (after : World) : Type 0 where
   pub wait : BegunWait
   pub begins : begins_by entry ≡ None
   pub ends : is_ending entry ≡ true
   pub found : wait_of w entry.who ≡ Some wait
   pub quiet : notice_by entry.answer ≡ None
-  pub unnoticed : wait.notices ≡ []
+  pub unnoticed : is_freeing entry ≡ true → wait.notices ≡ []
   pub free : is_freeing entry ≡ true → held w wait ≡ []
   pub waits : after.waits ≡ filter (λ (b : BegunWait). not (is_same_actor b.actor entry.who)) w.waits
 

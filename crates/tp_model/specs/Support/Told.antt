@@ -10,7 +10,7 @@ use Rattle.tp_base.specs.declared.plans.Mark.TheVariants.{Loose, Asks}
 use Rattle.tp_base.specs.declared.answers.ActionKind.{ActionKind}
 use Rattle.tp_base.specs.declared.plans.ActionWords.{ActionWords}
 use Rattle.tp_base.specs.declared.plans.WaitEnd.{WaitEnd}
-use Rattle.tp_base.specs.declared.plans.WaitEnd.TheVariants.{Free, Exhausted}
+use Rattle.tp_base.specs.declared.plans.WaitEnd.TheVariants.{Free, Exhausted, Stalled}
 use Rattle.tp_base.specs.declared.rows.WaitTarget.{WaitTarget}
 use Rattle.tp_base.specs.declared.rows.WaitTarget.TheVariants.{Object, Group}
 use Rattle.tp_base.specs.declared.plans.IoStep.{IoStep}
@@ -152,6 +152,7 @@ next_notice objects (Some b) = first_left objects b.cleanup b.notices
 abbrev pub is_free : WaitEnd → Bool
 is_free Free = true
 is_free Exhausted = false
+is_free Stalled = false
 
 abbrev pub sets_of : Trigger → Option Sets
 sets_of (SetWait object kernel timeout) = Some (record { object = object; named = is_some kernel })
