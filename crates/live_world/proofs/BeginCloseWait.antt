@@ -146,9 +146,9 @@ sound_begin_close_wait next_number w who group cancel context n may settled s =
 pub closes_by : (i : Inside) (l : Live) (who : Who) (group : GroupId) (cancel : Bool) (context n place : ℕ) (barriers notices : Covers) (begun : BegunWaits) → shown i ≡ l → IsLiveWorld i
     → MayClose l.world who group cancel n → filter (is_cancelled_by (Group group) cancel) l.world.callbacks ≡ [] → place_of i.limits who ≡ Some place
     → barriers ≡ with_wait i.barriers place (Some (numbers_of_group i.callbacks.rows group)) → notices ≡ with_wait i.notices place (Some (numbers_noticed i.objects group cancel))
-    → begun.waits ≡ i.waits.waits ++ new_close who group cancel context (map object_id (covered_of notices place)) i.callbacks.rows ∷ []
+    → begun ≡ record i.waits { waits = i.waits.waits ++ new_close who group cancel context (map object_id (covered_of notices place)) i.callbacks.rows ∷ [] }
     → Becomes (record i { barriers = barriers; waits = begun; closing = with_item i.closing place (Some (record { group = group; context = context })); notices = notices }) (with_world l (begin_close_wait l.world who group cancel context))
-closes_by i l who group cancel context n place barriers notices begun is k may settled at barriers_now notices_now waits_now =
+closes_by i l who group cancel context n place barriers notices begun is k may settled at barriers_now notices_now begun_now =
     let cs : List CallbackRow = i.callbacks.rows in
     let w : World = (shown i).world in
     let v : World = begin_close_wait w who group cancel context in
@@ -156,14 +156,16 @@ closes_by i l who group cancel context n place barriers notices begun is k may s
     let may_here : MayClose w who group cancel n = subst (λ (x : Live). MayClose x.world who group cancel n) (sym is) may in
     let settled_here = ap (λ (x : Live). filter (is_cancelled_by (Group group) cancel) x.world.callbacks) is ∙ settled in
     let within : place < length i.notices.waits = omega (arith, place_there i.limits who place at, k.closing.notifiers) in
-    let waits_here : begun.waits ≡ i.waits.waits ++ b ∷ [] = waits_now ∙ ap (λ ns. i.waits.waits ++ new_close who group cancel context ns cs ∷ []) (noted i.objects group cancel i.notices notices place within notices_now) in
+    let begun_here : begun ≡ record i.waits { waits = i.waits.waits ++ b ∷ [] }
+    = begun_now ∙ ap (λ ns. record i.waits { waits = i.waits.waits ++ new_close who group cancel context ns cs ∷ [] }) (noted i.objects group cancel i.notices notices place within notices_now) in
+    let waits_here : begun.waits ≡ i.waits.waits ++ b ∷ [] = ap (λ (bs : BegunWaits). bs.waits) begun_here in
     let covers : b.covered ≡ numbers_of_group cs group = covers_group group cancel cs k.alive.live in
     let held : held_among cs b ≡ b.covered = ap (filter (is_held_among cs (Group group))) covers ∙ holds_group (i.made + 1) group cs k.sound.numbers k.alive.live ∙ sym covers in
     let left : notices_left b ≡ numbers_noticed i.objects group cancel = left_noticed i.objects group cancel in
     let r = became_by (record i { barriers = barriers; waits = begun; closing = with_item i.closing place (Some (record { group = group; context = context })); notices = notices }) v
     (sound_begin_close_wait (i.made + 1) w who group cancel context n may_here settled_here k.sound)
     (record {
-      shows = ap₂ (λ ds bs. record w { callbacks = ds; waits = bs }) (sym k.alive.live) waits_here;
+      shows = ap₂ (λ ds (bs : BegunWaits). record w { callbacks = ds; waits = bs.waits; given_up = bs.given_up }) (sym k.alive.live) begun_here;
       sized = k.sized;
       alive = k.alive;
       queued = k.queued;
@@ -219,17 +221,18 @@ without_first n m ns rises is =
     above low (x ∷ xs) lt r = (ap not (ne_eqb x m (λ is_same. omega (arith, is_same, r.0, lt))), above (x + 1) xs (omega (arith, r.0, lt)) r.1)
 
 pub given_by : (i : Inside) (l : Live) (who : Who) (place object : ℕ) (notices : Covers) (begun : BegunWaits) → shown i ≡ l → IsLiveWorld i → IsAllowed (l.made + 1) l.world (change.GiveNotice who) → place_of i.limits who ≡ Some place
-    → Some object ≡ slice_get (covered_of i.notices place) 0 → IsStrictlyIncreasing (covered_of i.notices place) → notices ≡ with_wait i.notices place (option_map (all_but object) (wait_of i.notices place)) → begun.waits ≡ give_notice who i.waits.waits
+    → Some object ≡ slice_get (covered_of i.notices place) 0 → IsStrictlyIncreasing (covered_of i.notices place) → notices ≡ with_wait i.notices place (option_map (all_but object) (wait_of i.notices place)) → begun ≡ record i.waits { waits = give_notice who i.waits.waits }
     → Becomes (record i { waits = begun; notices = notices }) (moved l (change.GiveNotice who))
-given_by i l who place object notices begun is k allowed at least rises notices_now waits_now =
+given_by i l who place object notices begun is k allowed at least rises notices_now begun_now =
     moved_by i (record i { waits = begun; notices = notices }) l (change.GiveNotice who) is k allowed (omega arith) (λ a.
+    let waits_now = ap (λ (bs : BegunWaits). bs.waits) begun_now in
     let h = has_notice i l who is k allowed in
     let first = notice_is_first i who place k at h in
     let gone : all_but object (h.object ∷ h.rest) ≡ h.rest = without_first object h.object h.rest (subst IsStrictlyIncreasing first rises) (least ∙ ap (λ ns. slice_get ns 0) first) in
     let left : option_map (all_but object) (wait_of i.notices place) ≡ notices_by (option_map notified (wait_among i.waits.waits who))
     = ap (option_map (all_but object)) (k.closing.noticed who place at ∙ h.there) ∙ ap (λ ns. Some ns) gone ∙ sym h.given in
     record {
-      shows = ap₂ (λ ds bs. record (shown i).world { callbacks = ds; waits = bs }) (sym k.alive.live) waits_now;
+      shows = ap₂ (λ ds (bs : BegunWaits). record (shown i).world { callbacks = ds; waits = bs.waits; given_up = bs.given_up }) (sym k.alive.live) begun_now;
       sized = k.sized;
       alive = k.alive;
       queued = k.queued;

@@ -154,9 +154,10 @@ all_held next_number object cs rising =
 
 pub begun_by : (i : Inside) (l : Live) (who : Who) (object : ObjectId) (cancel : Bool) (place : ℕ) (barriers notices : Covers) (begun : BegunWaits) → shown i ≡ l → IsLiveWorld i
     → MayBegin l.world who (Object object) → filter (is_cancelled_by (Object object) cancel) l.world.callbacks ≡ [] → place_of i.limits who ≡ Some place
-    → barriers ≡ with_wait i.barriers place (Some (filter (is_covered_among i.callbacks.rows cancel) (numbers_of i.outstanding.entries object.0))) → notices ≡ with_wait i.notices place (Some []) → begun.waits ≡ i.waits.waits ++ new_wait who (Object object) cancel i.callbacks.rows ∷ []
+    → barriers ≡ with_wait i.barriers place (Some (filter (is_covered_among i.callbacks.rows cancel) (numbers_of i.outstanding.entries object.0))) → notices ≡ with_wait i.notices place (Some []) → begun ≡ record i.waits { waits = i.waits.waits ++ new_wait who (Object object) cancel i.callbacks.rows ∷ [] }
     → Becomes (record i { barriers = barriers; waits = begun; notices = notices }) (with_world l (begin_wait l.world who (Object object) cancel l.world.callbacks))
-begun_by i l who object cancel place barriers notices begun is k may settled at barriers_now notices_now waits_now =
+begun_by i l who object cancel place barriers notices begun is k may settled at barriers_now notices_now begun_now =
+    let waits_now = ap (λ (bs : BegunWaits). bs.waits) begun_now in
     let cs : List CallbackRow = i.callbacks.rows in
     let w : World = (shown i).world in
     let v : World = begin_wait w who (Object object) cancel cs in
@@ -172,7 +173,7 @@ begun_by i l who object cancel place barriers notices begun is k may settled at 
     let sound : IsSound (i.made + 1) v = subst (λ ds. IsSound (i.made + 1) (begin_wait w who (Object object) cancel ds)) (none_where cs (is_cancelled_by (Object object) cancel) left) (sound_begin_wait (i.made + 1) w who (Object object) cancel may_here.none may_here.made k.sound) in
     let r = became_by (record i { barriers = barriers; waits = begun; notices = notices }) v sound
     (record {
-      shows = ap₂ (λ ds bs. record w { callbacks = ds; waits = bs }) (sym k.alive.live) waits_now;
+      shows = ap₂ (λ ds (bs : BegunWaits). record w { callbacks = ds; waits = bs.waits; given_up = bs.given_up }) (sym k.alive.live) begun_now;
       sized = k.sized;
       alive = k.alive;
       queued = k.queued;
@@ -241,10 +242,11 @@ none_cancelled kernel cancel (c ∷ cs) = (ap (λ b. cancel && b) (and_false (is
 
 pub acquires : (i : Inside) (l : Live) (who : Who) (kernel : KernelId) (cancel : Bool) (place : ℕ) (barriers notices : Covers) (begun : BegunWaits) → shown i ≡ l → IsLiveWorld i
     → IsAllowed (l.made + 1) l.world (change.BeginWait who (Kernel kernel) cancel) → place_of i.limits who ≡ Some place
-    → barriers ≡ with_wait i.barriers place (Some []) → notices ≡ with_wait i.notices place (Some []) → begun.waits ≡ i.waits.waits ++ new_wait who (Kernel kernel) cancel i.callbacks.rows ∷ []
+    → barriers ≡ with_wait i.barriers place (Some []) → notices ≡ with_wait i.notices place (Some []) → begun ≡ record i.waits { waits = i.waits.waits ++ new_wait who (Kernel kernel) cancel i.callbacks.rows ∷ [] }
     → Becomes (record i { barriers = barriers; waits = begun; wanted = with_item i.wanted place (Some kernel); notices = notices }) (moved l (change.BeginWait who (Kernel kernel) cancel))
-acquires i l who kernel cancel place barriers notices begun is k allowed at barriers_now notices_now waits_now =
+acquires i l who kernel cancel place barriers notices begun is k allowed at barriers_now notices_now begun_now =
     moved_by i (record i { barriers = barriers; waits = begun; wanted = with_item i.wanted place (Some kernel); notices = notices }) l (change.BeginWait who (Kernel kernel) cancel) is k allowed (omega arith) (λ a.
+    let waits_now = ap (λ (bs : BegunWaits). bs.waits) begun_now in
     let cs : List CallbackRow = i.callbacks.rows in
     let w : World = (shown i).world in
     let b : BegunWait = new_wait who (Kernel kernel) cancel cs in
@@ -252,7 +254,7 @@ acquires i l who kernel cancel place barriers notices begun is k allowed at barr
     let covers : b.covered ≡ [] = covers_none kernel cancel cs in
     let held : held_among cs b ≡ b.covered = ap (filter (is_held_among cs (Kernel kernel))) covers ∙ sym covers in
     record {
-      shows = ap₂ (λ ds bs. record w { callbacks = ds; waits = bs }) (sym k.alive.live) waits_now ∙ ap (λ ds. forget (begin_wait w who (Kernel kernel) cancel ds)) (sym kept);
+      shows = ap₂ (λ ds (bs : BegunWaits). record w { callbacks = ds; waits = bs.waits; given_up = bs.given_up }) (sym k.alive.live) begun_now ∙ ap (λ ds. forget (begin_wait w who (Kernel kernel) cancel ds)) (sym kept);
       sized = k.sized;
       alive = k.alive;
       queued = k.queued;

@@ -8,7 +8,7 @@ use Rattle.tp_base.specs.declared.plans.Change.TheVariants as change
 use Rattle.std.specs.Vec.{with_item}
 use Rattle.cancel_wait.specs.Covers.{Covers, wait_of, with_wait}
 use Rattle.kernel_events.specs.Kernels.{Kernels}
-use Rattle.tp_model.specs.Changes.{without_wait, kernels_left}
+use Rattle.tp_model.specs.Changes.{without_wait, given_up_after, kernels_left}
 use Rattle.tp_model.specs.Support.Remembered.{forget}
 use Rattle.tp_model.specs.World.{BegunWait}
 use Rattle.tp_base.specs.Actors.{is_same_actor}
@@ -43,15 +43,20 @@ has_begun i l who how is k allowed =
       noticing = λ place at. ap is_some (k.closing.noticed who place at) ∙ ap (λ o. is_some (notices_by o)) a.begun;
     }
 
+-- what is noted of the waits, without an actor's that ended
+abbrev pub without_ended : BegunWaits → Who → WaitEnd → BegunWaits
+without_ended noted who how = record { waits = filter (λ (b : BegunWait). not (is_same_actor b.actor who)) noted.waits; given_up = given_up_after noted.given_up how (wait_among noted.waits who) }
+
 ended : (i : Inside) (l : Live) (who : Who) (how : WaitEnd) (place : ℕ) (barriers notices : Covers) (waits : BegunWaits) (kernels : Kernels) → shown i ≡ l → IsLiveWorld i → IsAllowed (l.made + 1) l.world (change.EndWait who how)
-    → place_of i.limits who ≡ Some place → barriers ≡ with_wait i.barriers place None → notices ≡ with_wait i.notices place None → waits.waits ≡ filter (λ (b : BegunWait). not (is_same_actor b.actor who)) i.waits.waits
+    → place_of i.limits who ≡ Some place → barriers ≡ with_wait i.barriers place None → notices ≡ with_wait i.notices place None → waits ≡ without_ended i.waits who how
     → kernels ≡ record i.kernels { rows = kernels_left (shown i).world who how (wait_among i.waits.waits who) }
     → Becomes (record i { barriers = barriers; waits = waits; wanted = with_item i.wanted place None; closing = with_item i.closing place None; notices = notices; kernels = kernels }) (moved l (change.EndWait who how))
-ended i l who how place barriers notices waits kernels is k allowed at barriers_now notices_now waits_now kernels_now =
+ended i l who how place barriers notices waits kernels is k allowed at barriers_now notices_now noted_now kernels_now =
     moved_by i (record i { barriers = barriers; waits = waits; wanted = with_item i.wanted place None; closing = with_item i.closing place None; notices = notices; kernels = kernels }) l (change.EndWait who how) is k allowed (omega arith) (λ a.
+    let waits_now = ap (λ (bs : BegunWaits). bs.waits) noted_now in
     record {
-      shows = ap₂ (λ cs bs. record (shown i).world { callbacks = cs; waits = bs; kernels = kernels.rows; armings = kernels.armed }) (sym k.alive.live) waits_now
-          ∙ ap (λ (t : Kernels). record (forget (without_wait (shown i).world who)) { kernels = t.rows; armings = t.armed }) kernels_now;
+      shows = ap₂ (λ cs (bs : BegunWaits). record (shown i).world { callbacks = cs; waits = bs.waits; given_up = bs.given_up; kernels = kernels.rows; armings = kernels.armed }) (sym k.alive.live) noted_now
+          ∙ ap (λ (t : Kernels). record (forget (without_wait (shown i).world who)) { kernels = t.rows; armings = t.armed; given_up = given_up_after i.waits.given_up how (wait_among i.waits.waits who) }) kernels_now;
       sized = k.sized;
       alive = k.alive;
       queued = k.queued;
@@ -78,10 +83,10 @@ ended i l who how place barriers notices waits kernels is k allowed at barriers_
 
 -- as the table tells it, of what is noted at the actor's place
 pub ended_here : (i : Inside) (l : Live) (who : Who) (how : WaitEnd) (place : ℕ) (barriers notices : Covers) (waits : BegunWaits) (kernels : Kernels) (read : Option KernelId) → shown i ≡ l → IsLiveWorld i → IsAllowed (l.made + 1) l.world (change.EndWait who how)
-    → place_of i.limits who ≡ Some place → barriers ≡ with_wait i.barriers place None → notices ≡ with_wait i.notices place None → waits.waits ≡ filter (λ (b : BegunWait). not (is_same_actor b.actor who)) i.waits.waits
+    → place_of i.limits who ≡ Some place → barriers ≡ with_wait i.barriers place None → notices ≡ with_wait i.notices place None → waits ≡ without_ended i.waits who how
     → read ≡ get_or i.wanted.items place read → kernels ≡ record i.kernels { rows = rows_left who how read i.kernels.rows }
     → Becomes (record i { barriers = barriers; waits = waits; wanted = with_item i.wanted place None; closing = with_item i.closing place None; notices = notices; kernels = kernels }) (moved l (change.EndWait who how))
-ended_here i l who how place barriers notices waits kernels read is k allowed at barriers_now notices_now waits_now says kernels_now =
+ended_here i l who how place barriers notices waits kernels read is k allowed at barriers_now notices_now noted_now says kernels_now =
     let wanted : read ≡ wanted_by (wait_among i.waits.waits who) = noted_here i who place read k at says in
-    ended i l who how place barriers notices waits kernels is k allowed at barriers_now notices_now waits_now
+    ended i l who how place barriers notices waits kernels is k allowed at barriers_now notices_now noted_now
     (kernels_now ∙ ap (λ o. record i.kernels { rows = rows_left who how o i.kernels.rows }) wanted ∙ ap (λ rows. record i.kernels { rows = rows }) (left_here (shown i).world who how))

@@ -49,4 +49,5 @@ pub mod PoolsMade
 pub mod NewRow
 pub mod Operations
 pub mod Over
+pub mod Stuck
 pub mod LeftAfter

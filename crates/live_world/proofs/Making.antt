@@ -65,7 +65,7 @@ created i l row objects members timers is k allowed now members_now timers_now =
     subst (λ (t : Table Object). After (record i { objects = t; members = members; timers = timers }) (changed (shown i).world (change.CreateObject row))) (sym now)
     (subst (λ (t : Timers). After (record i { objects = with_row i.objects object; members = members; timers = t }) (changed (shown i).world (change.CreateObject row))) (sym timers_now)
     (record {
-      shows = ap (λ (ss : List TimerSetting). record (world_of i.limits i.pools i.groups (with_row i.objects object) i.callbacks.rows i.kernels i.clients.items i.waits.waits ss i.clock) { settings = ss }) (same_settings i.timers (length i.objects.rows + 1) (is_timed_kind row.kind))
+      shows = ap (λ (ss : List TimerSetting). record (world_of i.limits i.pools i.groups (with_row i.objects object) i.callbacks.rows i.kernels i.clients.items i.waits.waits ss i.clock i.waits.given_up) { settings = ss }) (same_settings i.timers (length i.objects.rows + 1) (is_timed_kind row.kind))
           ∙ ap₂ (λ cs os. record (shown i).world { callbacks = cs; objects = os }) (sym k.alive.live) (map-append shown_object i.objects.rows _ ∙ ap (λ (o : ObjectRow). map shown_object i.objects.rows ++ o ∷ []) marked);
       sized = sized_objects i (with_row i.objects object) refl (omega (arith, longer, fewer)) k;
       alive = k.alive;

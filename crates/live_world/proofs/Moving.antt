@@ -134,11 +134,11 @@ pub slots_here : {callbacks : List CallbackRow} (n most : ℕ) → filter lives 
 slots_here n most living room = omega (arith, ap length living, room)
 
 -- callbacks and workers alone change
-shows_along : (limits : Limits) (pools : Pools) (groups : Table Group) (objects : Table Object) (rows : List CallbackRow) (kernels : Kernels) (clients : List ClientRow) (waits : List BegunWait) (settings : List TimerSetting) (clock : ℕ) (workers : List kept.WorkerRow) (now after : List CallbackRow) (workers_after : List WorkerRow)
+shows_along : (limits : Limits) (pools : Pools) (groups : Table Group) (objects : Table Object) (rows : List CallbackRow) (kernels : Kernels) (clients : List ClientRow) (waits : List BegunWait) (settings : List TimerSetting) (clock given_up : ℕ) (workers : List kept.WorkerRow) (now after : List CallbackRow) (workers_after : List WorkerRow)
     → now ≡ filter lives after → map shown_worker workers ≡ workers_after
-    → world_of limits (record pools { workers = workers }) groups objects now kernels clients waits settings clock ≡ forget (record (world_of limits pools groups objects rows kernels clients waits settings clock) { callbacks = after; workers = workers_after })
-shows_along limits pools groups objects rows kernels clients waits settings clock workers now after workers_after ec ew =
-    ap₂ (λ cs ws. record (world_of limits pools groups objects rows kernels clients waits settings clock) { callbacks = cs; workers = ws }) ec ew
+    → world_of limits (record pools { workers = workers }) groups objects now kernels clients waits settings clock given_up ≡ forget (record (world_of limits pools groups objects rows kernels clients waits settings clock given_up) { callbacks = after; workers = workers_after })
+shows_along limits pools groups objects rows kernels clients waits settings clock given_up workers now after workers_after ec ew =
+    ap₂ (λ cs ws. record (world_of limits pools groups objects rows kernels clients waits settings clock given_up) { callbacks = cs; workers = ws }) ec ew
 
 set_shown : (workers : List kept.WorkerRow) (number : ℕ) (new : kept.WorkerRow) (target : WorkerRow) → shown_worker new ≡ target → map shown_worker (slice_set workers (number - 1) new) ≡ slice_set (map shown_worker workers) (number - 1) target
 set_shown workers number new target shows = map-set shown_worker workers (number - 1) new ∙ ap (λ t. slice_set (map shown_worker workers) (number - 1) t) shows
@@ -168,7 +168,7 @@ free_after : (i : Inside) (number : ℕ) (row new : kept.WorkerRow) (target : Wo
     → After (record i { pools = record i.pools { workers = slice_set i.pools.workers (number - 1) new } }) (record (shown i).world { workers = slice_set (shown i).world.workers (number - 1) target })
 free_after i number row new target k is idle none home shows =
     record {
-      shows = shows_along i.limits i.pools i.groups i.objects i.callbacks.rows i.kernels i.clients.items i.waits.waits i.timers.settings i.clock (slice_set i.pools.workers (number - 1) new) i.callbacks.rows i.callbacks.rows (slice_set (shown i).world.workers (number - 1) target)
+      shows = shows_along i.limits i.pools i.groups i.objects i.callbacks.rows i.kernels i.clients.items i.waits.waits i.timers.settings i.clock i.waits.given_up (slice_set i.pools.workers (number - 1) new) i.callbacks.rows i.callbacks.rows (slice_set (shown i).world.workers (number - 1) target)
           (sym k.alive.live) (set_shown i.pools.workers number new target shows);
       sized = sized_worker i.pools (number - 1) new home k.sized;
       alive = k.alive;
@@ -274,7 +274,7 @@ taken_by i l by c pools callbacks queues is k allowed pools_now rows_now queues_
     (queues_now ∙ ap (λ (p : PoolId). with_queue i.queues p.0 (without_number c.number (queue_of i.queues p.0))) (sym a.home))
     refl refl
     (record {
-      shows = shows_along i.limits i.pools i.groups i.objects i.callbacks.rows i.kernels i.clients.items i.waits.waits i.timers.settings i.clock (slice_set i.pools.workers (by.worker - 1) new) (replaced r i.callbacks.rows) (replaced r i.callbacks.rows) (slice_set (shown i).world.workers (by.worker - 1) target)
+      shows = shows_along i.limits i.pools i.groups i.objects i.callbacks.rows i.kernels i.clients.items i.waits.waits i.timers.settings i.clock i.waits.given_up (slice_set i.pools.workers (by.worker - 1) new) (replaced r i.callbacks.rows) (replaced r i.callbacks.rows) (slice_set (shown i).world.workers (by.worker - 1) target)
           (sym alive_now.live) (set_shown i.pools.workers by.worker new target shows);
       sized = sized_worker i.pools (by.worker - 1) new (same_home i.pools (by.worker - 1) b.row new b.at_place refl k.sized) k.sized;
       alive = alive_now;
@@ -353,7 +353,7 @@ marked_long i l by pools callbacks is k allowed pools_now rows_now =
     (pools_now ∙ worker_changed i.pools by.worker on.row (λ w. record w { long = true }) on.at_place on.from_one)
     rows_now refl refl refl
     (record {
-      shows = shows_along i.limits i.pools i.groups i.objects i.callbacks.rows i.kernels i.clients.items i.waits.waits i.timers.settings i.clock (slice_set i.pools.workers (by.worker - 1) new) (replaced r i.callbacks.rows) (replaced r i.callbacks.rows) (shown i).world.workers
+      shows = shows_along i.limits i.pools i.groups i.objects i.callbacks.rows i.kernels i.clients.items i.waits.waits i.timers.settings i.clock i.waits.given_up (slice_set i.pools.workers (by.worker - 1) new) (replaced r i.callbacks.rows) (replaced r i.callbacks.rows) (shown i).world.workers
           (sym alive_now.live) (shows_same i.pools.workers (by.worker - 1) on.row new on.at_place refl);
       sized = sized_worker i.pools (by.worker - 1) new (same_home i.pools (by.worker - 1) on.row new on.at_place refl k.sized) k.sized;
       alive = alive_now;
@@ -404,7 +404,7 @@ ended_by i l by pools callbacks outstanding barriers is k running pools_now rows
     (pools_now ∙ worker_changed i.pools by.worker on.row (λ w. record w { callback = 0; long = false }) on.at_place on.from_one)
     rows_now refl listed_now left_now
     (record {
-      shows = shows_along i.limits i.pools i.groups i.objects i.callbacks.rows i.kernels i.clients.items i.waits.waits i.timers.settings i.clock (slice_set i.pools.workers (by.worker - 1) new) others (replaced r i.callbacks.rows) (slice_set (shown i).world.workers (by.worker - 1) target)
+      shows = shows_along i.limits i.pools i.groups i.objects i.callbacks.rows i.kernels i.clients.items i.waits.waits i.timers.settings i.clock i.waits.given_up (slice_set i.pools.workers (by.worker - 1) new) others (replaced r i.callbacks.rows) (slice_set (shown i).world.workers (by.worker - 1) target)
           removed (set_shown i.pools.workers by.worker new target shows);
       sized = sized_worker i.pools (by.worker - 1) new (same_home i.pools (by.worker - 1) on.row new on.at_place refl k.sized) k.sized;
       alive = alive_less i.callbacks r refl k.alive;

@@ -12,10 +12,11 @@ use Rattle.prio_queue.specs.Pending.{Entry}
 use Rattle.pool_rows.specs.Pools.{Pools}
 use Rattle.pool_rows.specs.Workers.{runs_in, runs_long_in, unattached as unattached_row}
 use Rattle.tp_model.specs.Counts.{is_expected, is_operating}
-use Rattle.tp_model.specs.World.{World, BegunWait, opening, unattached, unfinished}
+use Rattle.tp_model.specs.World.{World, opening, unattached, unfinished}
 use Rattle.tp_model.specs.Support.Sound.{IsSound}
 use Rattle.tp_model.specs.Support.Remembered.{forget}
 use Rattle.tp_model.proofs.Sound.{opening_sound}
+use Rattle.live_world.specs.declared.begun.BegunWaits.{BegunWaits}
 use Rattle.live_world.specs.declared.objects.Object.{Object}
 use Rattle.live_world.specs.Parts.{world_of, shown_worker, is_tied, is_timed_kind}
 use Rattle.live_world.specs.Invariant.{AreSized, AreLive, AreQueued, AreTallied, AreListed, AreCovered, AreTimed, AreKernels, AreSlotted, AreWanted, AreGrouped, AreMembered, AreClosing, IsHome, IsMarked}
@@ -53,7 +54,7 @@ pub record IsOpened (i : Inside) : Type 0 where
   pub timers : i.timers ≡ opened_timers i.limits
   pub clock : i.clock ≡ 0
   pub clients : i.clients.items ≡ replicate i.limits.clients unfinished
-  pub waits : i.waits.waits ≡ []
+  pub waits : i.waits ≡ record { waits = []; given_up = 0 }
   pub wanted : i.wanted.items ≡ replicate (i.limits.clients + i.limits.workers) None
   pub closing : i.closing.items ≡ replicate (i.limits.clients + i.limits.workers) None
   pub notices : i.notices ≡ opened_notices i.limits
@@ -140,10 +141,10 @@ opened i o =
     let shown_workers : map shown_worker (replicate limits.workers unattached_row) ≡ replicate limits.workers unattached = map_replicate shown_worker unattached_row limits.workers in
     let rows : i.callbacks.rows ≡ [] = ap (λ (c : LiveCallbacks). c.rows) o.callbacks in
     let world_now : (shown i).world ≡ opening limits =
-    ap₂ (λ (p : Pools) (t : Table Object). world_of limits p i.groups t i.callbacks.rows i.kernels i.clients.items i.waits.waits i.timers.settings i.clock) o.pools o.objects
-    ∙ ap (λ (g : Table Group). world_of limits (opened_pools limits) g (opened_objects limits) i.callbacks.rows i.kernels i.clients.items i.waits.waits i.timers.settings i.clock) o.groups
-    ∙ ap₂ (λ (cs : List CallbackRow) (cl : List ClientRow). world_of limits (opened_pools limits) (opened_groups limits) (opened_objects limits) cs i.kernels cl i.waits.waits i.timers.settings i.clock) rows o.clients
-    ∙ ap₂ (λ (bs : List BegunWait) (ws : List WorkerRow). record (opening limits) { kernels = i.kernels.rows; armings = i.kernels.armed; waits = bs; workers = ws; settings = i.timers.settings; now = i.clock }) o.waits shown_workers
+    ap₂ (λ (p : Pools) (t : Table Object). world_of limits p i.groups t i.callbacks.rows i.kernels i.clients.items i.waits.waits i.timers.settings i.clock i.waits.given_up) o.pools o.objects
+    ∙ ap (λ (g : Table Group). world_of limits (opened_pools limits) g (opened_objects limits) i.callbacks.rows i.kernels i.clients.items i.waits.waits i.timers.settings i.clock i.waits.given_up) o.groups
+    ∙ ap₂ (λ (cs : List CallbackRow) (cl : List ClientRow). world_of limits (opened_pools limits) (opened_groups limits) (opened_objects limits) cs i.kernels cl i.waits.waits i.timers.settings i.clock i.waits.given_up) rows o.clients
+    ∙ ap₂ (λ (bs : BegunWaits) (ws : List WorkerRow). record (opening limits) { kernels = i.kernels.rows; armings = i.kernels.armed; waits = bs.waits; given_up = bs.given_up; workers = ws; settings = i.timers.settings; now = i.clock }) o.waits shown_workers
     ∙ ap₂ (λ (t : Timers) (n : ℕ). record (opening limits) { kernels = i.kernels.rows; armings = i.kernels.armed; settings = t.settings; now = n }) o.timers o.clock
     ∙ ap (λ (t : Kernels). record (opening limits) { kernels = t.rows; armings = t.armed }) o.kernels in
     record {
@@ -158,13 +159,13 @@ opened i o =
           operating = both (λ cs k. AreListed limits (λ (c : CallbackRow). is_operating c.status) cs k) rows o.operations (listed_opened limits (λ (c : CallbackRow). is_operating c.status));
         };
         timed = subst (λ n. AreTimed limits i.objects n) (sym o.timers) (subst (λ t. AreTimed limits t (opened_timers limits)) (sym o.objects) (timed_opened limits));
-        covered = both (λ cs b. AreCovered limits cs i.waits.waits b) rows o.barriers (subst (λ bs. AreCovered limits [] bs (opened_barriers limits)) (sym o.waits) (covered_opened limits));
+        covered = both (λ cs b. AreCovered limits cs i.waits.waits b) rows o.barriers (subst (λ (bs : BegunWaits). AreCovered limits [] bs.waits (opened_barriers limits)) (sym o.waits) (covered_opened limits));
         kernels = subst (λ (t : Kernels). AreKernels limits t) (sym o.kernels) (record { kernel_limit = refl; kernels_within = omega arith; armed_limit = refl; once = tt });
         slotted = both (λ cs n. AreSlotted limits cs i.kernels n) rows o.armed (subst (λ (t : Kernels). AreSlotted limits [] t 0) (sym o.kernels) (record { counted = refl; slots = omega arith }));
-        wanted = both (λ bs ks. AreWanted limits bs ks) o.waits o.wanted (wanted_opened limits);
+        wanted = both (λ (bs : BegunWaits) ks. AreWanted limits bs.waits ks) o.waits o.wanted (wanted_opened limits);
         grouped = subst (λ (t : Table Group). AreGrouped limits t) (sym o.groups) (record { group_limit = refl; groups_within = omega arith });
         membered = both (λ t m. AreMembered limits t m) o.objects o.members (record { group_keys = refl; member_slots = refl; membered = refl });
-        closing = both (λ bs ks. AreClosing limits bs ks i.notices) o.waits o.closing (subst (λ (t : Covers). AreClosing limits [] (replicate (limits.clients + limits.workers) None) t) (sym o.notices) (closing_opened limits));
+        closing = both (λ (bs : BegunWaits) ks. AreClosing limits bs.waits ks i.notices) o.waits o.closing (subst (λ (t : Covers). AreClosing limits [] (replicate (limits.clients + limits.workers) None) t) (sym o.notices) (closing_opened limits));
         sound = both (λ w n. IsSound (n + 1) w) world_now o.made (opening_sound limits);
       };
       becomes = ap₂ (λ (w : World) (n : ℕ). record { world = w; made = n }) world_now o.made;

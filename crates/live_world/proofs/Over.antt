@@ -6,7 +6,8 @@ use Rattle.std.proofs.lemmas.List.Folds.{list_all_at}
 use Rattle.std.proofs.lemmas.List.FromFn.{length-range_with_len, get_or-range_with_len}
 use Rattle.tp_base.specs.declared.rows.CallbackRow.{CallbackRow}
 use Rattle.tp_model.specs.Counts.{is_pending, is_running, is_pending_in, is_running_in}
-use Rattle.tp_model.specs.Over.{goes_on, lacks_room_to_run}
+use Rattle.tp_model.specs.Counts.{lacks_room_to_run}
+use Rattle.tp_model.specs.Over.{goes_on}
 use Rattle.tp_model.specs.World.{World}
 use Rattle.live_world.specs.Uses.{is_pool_over}
 

@@ -4,7 +4,7 @@ use Rattle.std.specs.Option.{option_map_or}
 use Rattle.tp_base.specs.declared.ids.Who.{Who}
 use Rattle.tp_base.specs.declared.ids.KernelId.{KernelId}
 use Rattle.tp_base.specs.declared.plans.WaitEnd.{WaitEnd}
-use Rattle.tp_base.specs.declared.plans.WaitEnd.TheVariants.{Free, Exhausted}
+use Rattle.tp_base.specs.declared.plans.WaitEnd.TheVariants.{Free, Exhausted, Stalled}
 use Rattle.tp_base.specs.declared.rows.KernelState.{KernelState}
 use Rattle.tp_base.specs.declared.rows.KernelRow.{KernelRow}
 use Rattle.tp_base.specs.declared.rows.WaitTarget.{WaitTarget}
@@ -58,6 +58,7 @@ free_for w who (Kernel other) kernel is takes most =
 -- there are as many as before
 pub left_length : (w : World) (who : Who) (how : WaitEnd) (wait : Option BegunWait) → length (kernels_left w who how wait) ≡ length w.kernels
 left_length w who Exhausted wait = refl
+left_length w who Stalled wait = refl
 left_length w who Free None = refl
 left_length w who Free (Some b) = of_target b.target
   where
@@ -69,6 +70,7 @@ left_length w who Free (Some b) = of_target b.target
 -- and they are those that the table has
 pub left_here : (w : World) (who : Who) (how : WaitEnd) → rows_left who how (wanted_by (wait_of w who)) w.kernels ≡ kernels_left w who how (wait_of w who)
 left_here w who Exhausted = refl
+left_here w who Stalled = refl
 left_here w who Free = known (wait_of w who)
   where
     of_target : (t : WaitTarget) → rows_left who Free (kernel_in t) w.kernels ≡ kernels_taken w who t

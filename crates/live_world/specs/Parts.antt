@@ -55,8 +55,8 @@ priority_byte Low = 2
 abbrev pub entry_of : CallbackRow → Entry
 entry_of c = entry (priority_byte c.priority) c.number
 
-abbrev pub world_of : Limits → Pools → Table made_group.Group → Table made.Object → List CallbackRow → Kernels → List ClientRow → List BegunWait → List TimerSetting → ℕ → World
-world_of limits pools groups objects callbacks kernels clients waits settings now = record {
+abbrev pub world_of : Limits → Pools → Table made_group.Group → Table made.Object → List CallbackRow → Kernels → List ClientRow → List BegunWait → List TimerSetting → ℕ → ℕ → World
+world_of limits pools groups objects callbacks kernels clients waits settings now given_up = record {
   limits = limits;
   pools = pools.pools;
   groups = map shown_group groups.rows;
@@ -69,7 +69,7 @@ world_of limits pools groups objects callbacks kernels clients waits settings no
   clients = clients;
   waits = waits;
   now = now;
-  given_up = 0;
+  given_up = given_up;
 }
 
 -- an object of this kind may have a setting: a timer has its own, and an armed wait its timeout

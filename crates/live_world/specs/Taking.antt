@@ -3,7 +3,7 @@ use Rattle.std.specs.Prelude.{◌≡◌, ℕ, ◌+◌, ◌<◌, ◌^◌, true, L
 use Rattle.tp_base.specs.declared.ids.Who.{Who}
 use Rattle.tp_base.specs.declared.ids.KernelId.{KernelId}
 use Rattle.tp_base.specs.declared.plans.WaitEnd.{WaitEnd}
-use Rattle.tp_base.specs.declared.plans.WaitEnd.TheVariants.{Free, Exhausted}
+use Rattle.tp_base.specs.declared.plans.WaitEnd.TheVariants.{Free, Exhausted, Stalled}
 use Rattle.tp_base.specs.declared.rows.KernelRow.{KernelRow}
 use Rattle.tp_base.specs.Kernels.{may_take, taken_by, takings_of}
 use Rattle.kernel_events.specs.Kernels.{numbered, rows_with}
@@ -19,3 +19,4 @@ abbrev pub rows_left : Who → WaitEnd → Option KernelId → List KernelRow �
 rows_left who Free None rows = rows
 rows_left who Free (Some kernel) rows = rows_with (taken_by who) rows kernel.0
 rows_left who Exhausted wanted rows = rows
+rows_left who Stalled wanted rows = rows

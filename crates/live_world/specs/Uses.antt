@@ -1,10 +1,9 @@
 -- What of a pool is outstanding, and whether any of it goes on.
-use Rattle.std.specs.Prelude.{ℕ, Bool, false, ◌&&◌, ◌||◌, ◌==◌}
+use Rattle.std.specs.Prelude.{ℕ, Bool, false, ◌&&◌, ◌||◌, ◌==◌, nat_le}
 use Rattle.handle_table.specs.declared.Found.{Found}
 use Rattle.handle_table.specs.declared.Found.TheVariants.{Absent, Live, Released}
 use Rattle.live_world.specs.declared.objects.Object.{Object}
-use Rattle.tp_model.specs.Counts.{pending, running}
-use Rattle.tp_model.specs.Over.{lacks_room_to_run}
+use Rattle.tp_model.specs.Counts.{lacks_room_to_run, maximum, pending, running}
 use Rattle.tp_model.specs.World.{World}
 
 -- an object that isn't released is bound to the pool
@@ -16,3 +15,8 @@ is_bound pool (Released object) = false
 -- none of the pool's callbacks runs, and those that are pending never will
 abbrev pub is_pool_over : World → ℕ → ℕ → Bool
 is_pool_over w room pool = (running w pool == 0) && ((pending w pool == 0) || lacks_room_to_run w room pool)
+
+-- none of the pool's pending callbacks can be taken, even if a worker runs none: there is none, as many run as may, or the
+-- history has no room for it to be run
+abbrev pub is_pool_blocked : World → ℕ → ℕ → Bool
+is_pool_blocked w room pool = (pending w pool == 0) || nat_le (maximum w pool) (running w pool) || lacks_room_to_run w room pool

@@ -8,7 +8,7 @@ use Rattle.live_world.specs.declared.LiveWorld.TheInside.{Inside}
 
 abbrev pub shown : Inside → Live
 shown a = record {
-  world = world_of a.limits a.pools a.groups a.objects a.callbacks.rows a.kernels a.clients.items a.waits.waits a.timers.settings a.clock;
+  world = world_of a.limits a.pools a.groups a.objects a.callbacks.rows a.kernels a.clients.items a.waits.waits a.timers.settings a.clock a.waits.given_up;
   made = a.made;
 }
 

@@ -160,7 +160,7 @@ impl LiveWorld {
     }
 
     // The row of a client, if there is one of this number.
-    fn client(&self, number: u32) -> Option<ClientRow>
+    pub(crate) fn client(&self, number: u32) -> Option<ClientRow>
         ensures { result ≡ numbered self.now.world.clients number }
     {
         if number == 0 {
@@ -170,7 +170,7 @@ impl LiveWorld {
     }
 
     // The row of a worker, if there is one of this number.
-    fn worker(&self, number: u32) -> Option<WorkerRow>
+    pub(crate) fn worker(&self, number: u32) -> Option<WorkerRow>
         ensures { result ≡ numbered self.now.world.workers number }
     {
         match self.pools.worker(number) {

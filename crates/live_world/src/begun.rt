@@ -1,24 +1,28 @@
-// The waits that are begun, each with all that it covered when it began. They exist only in proofs.
+// The waits that are begun, each with all that it covered when it began, and how many notices stalled
+// waits never gave. They exist only in proofs.
 
-ghost use Rattle.std.specs.Prelude.{◌≡◌, List, [], ◌∷◌, ◌++◌, map, not};
+ghost use Rattle.std.specs.Prelude.{◌≡◌, ℕ, List, [], ◌∷◌, ◌++◌, map, not};
 ghost use Rattle.std.specs.List.{filter};
 ghost use Rattle.std.specs.Borrow.{ftrue};
 ghost use Rattle.tp_model.specs.World.{BegunWait};
 ghost use Rattle.tp_base.specs.Actors.{is_same_actor};
-ghost use Rattle.tp_model.specs.Changes.{give_notice, new_close, new_wait};
+ghost use Rattle.tp_model.specs.Changes.{give_notice, given_up_after, new_close, new_wait};
 ghost use Rattle.tp_model.specs.Groups.{object_id};
 ghost use Rattle.cancel_wait.specs.Covers.{covered_of};
+ghost use Rattle.live_world.specs.Parts.{wait_among};
 
 use callback_rows::CallbackRows;
 use cancel_wait::Barriers;
 use std::marker::Model;
 use tp_base::ids::{GroupId, Who};
+use tp_base::plans::WaitEnd;
 use tp_base::rows::WaitTarget;
 
 // It takes no bytes, and its methods do nothing at run time.
 #[derive(Drop)]
 pub struct BegunWaits {
     pub ghost waits: { List BegunWait },
+    pub ghost given_up: { ℕ },
 }
 
 // A wait as an actor begins it.
@@ -49,14 +53,14 @@ unsafe impl Send for BegunWaits {}
 impl BegunWaits {
     #[inline(always)]
     pub fn none() -> BegunWaits
-        ensures { result.waits ≡ [] }
+        ensures { result ≡ record { waits = []; given_up = 0 } }
     {
         BegunWaits {}
     }
 
     #[inline(always)]
     pub fn and(&self, _begins: &Begins, _callbacks: &CallbackRows) -> BegunWaits
-        ensures { result.waits ≡ self.now.waits ++ new_wait _begins.now.who _begins.now.target _begins.now.cancel _callbacks.now.rows ∷ [] }
+        ensures { result ≡ record self.now { waits = self.now.waits ++ new_wait _begins.now.who _begins.now.target _begins.now.cancel _callbacks.now.rows ∷ [] } }
     {
         BegunWaits {}
     }
@@ -68,21 +72,21 @@ impl BegunWaits {
         _callbacks: &CallbackRows,
         _notices: &Barriers,
     ) -> BegunWaits
-        ensures { result.waits ≡ self.now.waits ++ new_close _closes.now.who _closes.now.group _closes.now.cancel _closes.now.context (map object_id (covered_of _notices.now _closes.now.waiter)) _callbacks.now.rows ∷ [] }
+        ensures { result ≡ record self.now { waits = self.now.waits ++ new_close _closes.now.who _closes.now.group _closes.now.cancel _closes.now.context (map object_id (covered_of _notices.now _closes.now.waiter)) _callbacks.now.rows ∷ [] } }
     {
         BegunWaits {}
     }
 
     #[inline(always)]
     pub fn notified(&self, _who: &Who) -> BegunWaits
-        ensures { result.waits ≡ give_notice _who.now self.now.waits }
+        ensures { result ≡ record self.now { waits = give_notice _who.now self.now.waits } }
     {
         BegunWaits {}
     }
 
     #[inline(always)]
-    pub fn without(&self, _who: &Who) -> BegunWaits
-        ensures { result.waits ≡ filter (λ b. not (is_same_actor b.actor _who.now)) self.now.waits }
+    pub fn without(&self, _who: &Who, _how: &WaitEnd) -> BegunWaits
+        ensures { result ≡ record { waits = filter (λ b. not (is_same_actor b.actor _who.now)) self.now.waits; given_up = given_up_after self.now.given_up _how.now (wait_among self.now.waits _who.now) } }
     {
         BegunWaits {}
     }

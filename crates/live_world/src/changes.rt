@@ -507,7 +507,7 @@ impl LiveWorld {
         end_acquire(&mut self.kernels, who, how, self.wanted[waiter as usize]);
         self.wanted[waiter as usize] = None;
         self.closing[waiter as usize] = None;
-        self.waits = self.waits.without(&who);
+        self.waits = self.waits.without(&who, &how);
     }
 
     // Notes that a client makes no further call.

@@ -3,8 +3,8 @@
 //!
 //! `open` takes all memory. The queries (`actor`, `idle`, `busy`, `object`, `next`, ..) answer the
 //! conditions and counts of the model, each by its name there, and ask nothing of the caller;
-//! `wait_counts` and `progress` say what a wait would cover and how far one has come, and `kernel`
-//! and its like what an event, semaphore or lock is at.
+//! `wait_counts` and `progress` say what a wait would cover and how far one has come, `kernel`
+//! and its like what an event, semaphore or lock is at, and `is_stalled` whether nobody can go on.
 //! `apply` makes a change that the world allows, and is the only call that changes anything. The
 //! indexes and counters (queues, tallies, the lists of objects, what waits hold) change in `changes`
 //! alone.
@@ -51,6 +51,7 @@ mod objects;
 mod opened;
 pub mod outstanding;
 mod pools;
+mod stalls;
 pub mod timers;
 mod waiting;
 pub mod waits;

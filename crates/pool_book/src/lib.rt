@@ -15,8 +15,11 @@
 
 #![tactic(auto)]
 
+ghost use Rattle.std.specs.Prelude.{◌≡◌, List, ◌++◌};
+ghost use Rattle.tp_base.specs.declared.answers.Entry.{Entry};
 ghost use Rattle.tp_model.specs.History.{IsLegal};
 ghost use Rattle.tp_model.specs.Laws.{KeepsLaws};
+ghost use Rattle.tp_model.specs.Stalling.{StaysStalled};
 
 use past::Past;
 use pool_core::Engine;
@@ -117,10 +120,13 @@ impl Recorded for Book {
 }
 
 impl Book {
-    /// The history of every book is legal, and keeps the laws. It does nothing: who calls it knows this.
+    /// The history of every book is legal, and keeps the laws. Behind each place of it where the machine
+    /// would answer an `End` with `Stalled`, only workers that join a pool or leave one are accepted, until
+    /// an `End` is answered with `Stalled` or `Exhausted`. It does nothing: who calls it knows this.
     pub fn laws_are_kept(&self)
         ensures legal { IsLegal self.now.limits self.now.capacity self.now.history }
         ensures laws { KeepsLaws self.now.limits self.now.history }
+        ensures stalls { (history more : List Entry) → self.now.history ≡ history ++ more → StaysStalled self.now.limits self.now.capacity history more }
     {
         let _ = &self.len;
     }

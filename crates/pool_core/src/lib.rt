@@ -181,7 +181,7 @@ impl Engine {
 
     /// The number of entries for which the history must keep room: each running callback returns,
     /// each begun wait gives its notices and ends, each attached worker detaches, each client
-    /// finishes.
+    /// finishes. A notice that a wait never gave, since it ended in a stalled machine, keeps its entry.
     pub fn owed(&self) -> u64
         ensures { (w : World) → StandsFor self.now w → result ≡ owed w }
     {

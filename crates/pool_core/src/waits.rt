@@ -1,10 +1,12 @@
 //! Waits for callbacks: `WaitForThreadpoolWorkCallbacks` and its like for the other kinds; and for kernel
 //! objects: `WaitForSingleObject` and `EnterCriticalSection`. BeginWait and BeginAcquire are the entry of
 //! the function, and End its return; a wait that closes a group's members gives its notices before it ends.
+//! A wait that can't end yet ends nevertheless where the machine is stalled, and gives no notice then.
 
 ghost use Rattle.pool_core.specs.Decided.{decided};
 ghost use Rattle.std.specs.Prelude.{◌≡◌};
-ghost use Rattle.tp_model.specs.Calls.Waits.{begin_wait_plan, begin_acquire_plan, end_plan};
+ghost use Rattle.tp_model.specs.Calls.Waits.{begin_wait_plan, begin_acquire_plan};
+ghost use Rattle.tp_model.specs.Calls.End.{end_plan, stall_or_look};
 ghost use Rattle.pool_core.specs.Ending.{end_at as end_at_of};
 
 use crate::decisions::{Decision, accept};
@@ -103,9 +105,39 @@ fn end_freely(who: Who, change: &mut Change) -> Decision
     )
 }
 
+// What End comes to where the actor's wait can't end yet: a look, or the end of the wait where the
+// machine is stalled.
+fn unless_stalled(
+    world: &LiveWorld,
+    who: Who,
+    room: u64,
+    seen: Look,
+    change: &mut Change,
+) -> Decision
+    ensures { decided result change.new ≡ stall_or_look world.now.world room who seen }
+{
+    if !world.is_stalled(room) {
+        return Decision::Looked(seen);
+    }
+    accept(
+        change,
+        Answer::Stalled,
+        Change::EndWait {
+            who,
+            how: WaitEnd::Stalled,
+        },
+    )
+}
+
 // What End comes to, as far as the actor's wait has come.
-fn end_at(world: &LiveWorld, who: Who, progress: Progress, change: &mut Change) -> Decision
-    ensures { decided result change.new ≡ end_at_of world.now.world who progress }
+fn end_at(
+    world: &LiveWorld,
+    who: Who,
+    room: u64,
+    progress: Progress,
+    change: &mut Change,
+) -> Decision
+    ensures { decided result change.new ≡ end_at_of world.now.world room who progress }
 {
     match progress {
         Progress::NotBegun => Decision::Refused(Refusal::NoWaitBegun),
@@ -133,16 +165,21 @@ fn end_at(world: &LiveWorld, who: Who, progress: Progress, change: &mut Change) 
                 how: WaitEnd::Exhausted,
             },
         ),
-        Progress::Holds { callback } => Decision::Looked(Look::NotYet { callback }),
+        Progress::Holds { callback } => {
+            unless_stalled(world, who, room, Look::NotYet { callback }, change)
+        }
         Progress::Acquires { kernel } if world.may_take(who, kernel) => end_freely(who, change),
-        Progress::Acquires { kernel } => Decision::Looked(Look::NotYetKernel { kernel }),
+        Progress::Acquires { kernel } => {
+            unless_stalled(world, who, room, Look::NotYetKernel { kernel }, change)
+        }
     }
 }
 
 /// Ends the wait that the actor has begun, if nothing is left to wait for, or if what is left can't
 /// be run in the room of the history. One for a kernel object ends as soon as the actor may take it,
-/// and one that has notices to give gives the first of them in place of ending.
-#[tactic(auto, using(crate::proofs::Ending::ends_at), unfolding(tp_model::specs::Calls::Waits::end_plan))]
+/// and one that has notices to give gives the first of them in place of ending. A wait that can't end
+/// yet ends as stalled where nobody in the machine can go on.
+#[tactic(auto, using(crate::proofs::Ending::ends_at), unfolding(tp_model::specs::Calls::End::end_plan))]
 pub(crate) fn end(world: &LiveWorld, who: Who, room: u64, change: &mut Change) -> Decision
     ensures { decided result change.new ≡ end_plan world.now.world room who }
 {
@@ -156,5 +193,5 @@ pub(crate) fn end(world: &LiveWorld, who: Who, room: u64, change: &mut Change) -
     if let Some(refusal) = refusal {
         return Decision::Refused(refusal);
     }
-    end_at(world, who, world.progress(who, room), change)
+    end_at(world, who, room, world.progress(who, room), change)
 }

@@ -477,6 +477,7 @@ module _ {B : Type 0} where
   last_as : (begin : Call) (told : List Told) (x : Answer) (a b : Seat B) → is_wait_answer x ≡ true → ((t : Told) → x ≡ answer.Notice t.object t.routine t.context t.cleanup → ⊥) → IsWaitOver begin told x a b → HasWaitedFor begin told (outcome.Done x) a b
   last_as begin told answer.Ended a b of_wait apart w = w
   last_as begin told answer.Exhausted a b of_wait apart w = w
+  last_as begin told answer.Stalled a b of_wait apart w = w
   last_as begin told (answer.Notice object routine context cleanup) a b of_wait apart w = absurd (apart (record { object = object; routine = routine; context = context; cleanup = cleanup }) refl)
   last_as begin told _ a b of_wait apart w = absurd cc
 

@@ -36,11 +36,11 @@ impl<B: Recorded> SharedPool<B> {
     /// cancelled, and it waits for those that run. It may wait for ever.
     ///
     /// `Ended`: those that it was for are over, and none of them runs later. `Exhausted`: one that it
-    /// was for is left pending, since the history has no room for it to be run. Else no wait was begun:
-    /// Full, where the history has no room for it, or a refusal: `NoSuch`, the object was never made;
-    /// `WrongKind`; `Released`, the object, or the client has finished; `NotRunning`, the worker runs no
-    /// callback; `InWait`, the actor has begun a wait that hasn't ended; `OwnCallback`, the actor runs a
-    /// callback of the object.
+    /// was for is left pending, since the history has no room for it to be run. `Stalled`: nobody in the
+    /// machine can go on, and they aren't over. Else no wait was begun: Full, where the history has no
+    /// room for it, or a refusal: `NoSuch`, the object was never made; `WrongKind`; `Released`, the
+    /// object, or the client has finished; `NotRunning`, the worker runs no callback; `InWait`, the
+    /// actor has begun a wait that hasn't ended; `OwnCallback`, the actor runs a callback of the object.
     pub fn wait_callbacks<Rt: Wait>(
         &self,
         rt: &Rt,
@@ -73,9 +73,10 @@ impl<B: Recorded> SharedPool<B> {
     /// Takes a kernel object as soon as the actor may: `WaitForSingleObject`, and for a section
     /// `EnterCriticalSection`. It may wait for ever.
     ///
-    /// `Ended`: it is taken. Else no wait was begun: Full, where the history has no room for it, or a
-    /// refusal: `NoSuch`, the kernel object was never made; `Released`, the client has finished;
-    /// `NotRunning`, the worker runs no callback; `InWait`, the actor has begun a wait that hasn't ended.
+    /// `Ended`: it is taken. `Stalled`: nobody in the machine can go on, and it isn't taken. Else no
+    /// wait was begun: Full, where the history has no room for it, or a refusal: `NoSuch`, the kernel
+    /// object was never made; `Released`, the client has finished; `NotRunning`, the worker runs no
+    /// callback; `InWait`, the actor has begun a wait that hasn't ended.
     pub fn acquire<Rt: Wait>(&self, rt: &Rt, seat: &mut Seat<B>, kernel: KernelId) -> Outcome
         requires player { IsPlayer self.now seat.old }
         requires in_range { IsCallInRange (BeginAcquire kernel) }
@@ -98,10 +99,11 @@ impl<B: Recorded> SharedPool<B> {
     ///
     /// `Ended`: the callbacks of the group that were made before are over, none of them runs later, and
     /// `notices` was told of all. `Exhausted`: one is left pending, since the history has no room for it
-    /// to be run. Else no wait was begun, and `notices` was told nothing: Full, where the history has no
-    /// room for it, or a refusal: `NoSuch`, the group was never made; `Released`, the client has
-    /// finished; `GroupClosed`; `NotRunning`, the worker runs no callback; `InWait`, the actor has begun
-    /// a wait that hasn't ended; `OwnCallback`, the actor runs a callback of the group;
+    /// to be run. `Stalled`: nobody in the machine can go on, and the notices that are left are never
+    /// told. Else no wait was begun, and `notices` was told nothing: Full, where the history has no room
+    /// for it, or a refusal: `NoSuch`, the group was never made; `Released`, the client has finished;
+    /// `GroupClosed`; `NotRunning`, the worker runs no callback; `InWait`, the actor has begun a wait
+    /// that hasn't ended; `OwnCallback`, the actor runs a callback of the group;
     /// `OperationsOutstanding`, an operation of a member is announced or under way.
     pub fn close_members<Rt: Wait, N: Notices>(
         &self,

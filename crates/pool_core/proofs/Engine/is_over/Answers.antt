@@ -1,5 +1,4 @@
 use Rattle.std.proofs.Common.{ap, ◌∙◌}
-use Rattle.live_world.specs.Live.{Live}
 use Rattle.tp_model.proofs.Over.{is_over_forget}
 use Rattle.tp_model.specs.Over.{is_over}
 use Rattle.tp_model.specs.Support.Remembered.{Remembered}

@@ -34,6 +34,7 @@ use Rattle.live_world.specs.contracts.begun.BegunWaits.and_close.Key.{name as ke
 use Rattle.live_world.specs.contracts.begun.BegunWaits.and_close as f
 use Rattle.live_world.proofs.begun.BegunWaits.and_close.Statement as stated
 use Rattle.live_world.proofs.begun.BegunWaits.and_close.Code as code
+use Rattle.live_world.specs.declared.begun.BegunWaits.{BegunWaits}
 use Rattle.live_world.specs.contracts.begun.BegunWaits as begun
 use Rattle.live_world.specs.contracts.begun.Closes as begins
 use Rattle.callback_rows.specs.contracts.CallbackRows as rows
@@ -58,6 +59,9 @@ module _ {M : Type 1} {𝓤 : Ura M} (𝓛 : Logic 𝓤) (mem : Memory → SProp
     abbrev noted : Val
     noted = vptr a.1.1.1.0.ref_ptr.0 a.1.1.1.0.ref_ptr.1
 
+    abbrev closed : BegunWaits
+    closed = record a.0.now { waits = a.0.now.waits ++ new_close a.1.0.now.who a.1.0.now.group a.1.0.now.cancel a.1.0.now.context (map object_id (covered_of a.1.1.1.0.now a.1.0.now.waiter)) a.1.1.0.now.rows ∷ [] }
+
     abbrev bound : (walk_of 𝓛 f.ended stayed (f.clauses 𝓛 mem run)).Ghost
     bound = ((κs, qs, tt, a, (before ∷ [], (written ∷ [], (kept ∷ [], (noted ∷ [], tt))))), tt)
 
@@ -70,8 +74,8 @@ module _ {M : Type 1} {𝓤 : Ura M} (𝓛 : Logic 𝓤) (mem : Memory → SProp
         qed 𝓛 (raw (alive 𝓛 f.signature κs qs) ∷ ‵ passed ∷ []) ∵ enter ! C Λ code.function (before ∷ written ∷ kept ∷ noted ∷ []) _ $
         alloc_all ! (λ l. pass_all ! refl ((tt, tt), ((tt, tt), ((tt, tt), ((tt, tt), tt)))) $ sets ! (agg ! (no_more !)) refl (tt, tt) $
         returns ! (look_at ! 0 refl) $ free_all ! refl $
-        suffices ! _ (ends_at 𝓛 f.ended stayed (f.clauses 𝓛 mem run) bound (vstruct vnil) (record { waits = a.0.now.waits ++ new_close a.1.0.now.who a.1.0.now.group a.1.0.now.cancel a.1.0.now.context (map object_id (covered_of a.1.1.1.0.now a.1.0.now.waiter)) a.1.1.0.now.rows ∷ [] }) (tt, (tt, (tt, (tt, tt)))) (tt, (tt, (tt, (tt, tt))))) $
-        says ! refl $ pure_i ! (begun.the_row.own_val (record { waits = a.0.now.waits ++ new_close a.1.0.now.who a.1.0.now.group a.1.0.now.cancel a.1.0.now.context (map object_id (covered_of a.1.1.1.0.now a.1.0.now.waiter)) a.1.1.0.now.rows ∷ [] }) (vstruct vnil ∷ [])) ((λ vss. (tt, tt)), tt) ((tt, (refl, tt)), tt) $
+        suffices ! _ (ends_at 𝓛 f.ended stayed (f.clauses 𝓛 mem run) bound (vstruct vnil) closed (tt, (tt, (tt, (tt, tt)))) (tt, (tt, (tt, (tt, tt))))) $
+        says ! refl $ pure_i ! (begun.the_row.own_val closed (vstruct vnil ∷ [])) ((λ vss. (tt, tt)), tt) ((tt, (refl, tt)), tt) $
         move ! (1 ∷ 2 ∷ 0 ∷ []) $ done !)
 
   walks : Walks 𝓛 f.ended stayed (WpFn 𝓤 H C Λ code.function) (f.clauses 𝓛 mem run)
