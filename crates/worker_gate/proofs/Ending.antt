@@ -23,7 +23,8 @@ use Rattle.worker_gate.specs.Roles.{is_stage_of, turned, who_of, IsOf}
 use Rattle.worker_gate.specs.Rounds.{awake, round_of, rounds, scene, AllOf, ArePlayed, HasRole, HaveAllRoles, HaveEnded, Scene}
 use Rattle.worker_gate.specs.Runs.{is_over_in, AreKnown, ComesFirst, IsCutShort, Runs, Whole}
 use Rattle.worker_gate.specs.Walks.{FollowsAt, Leads}
-use Rattle.worker_gate.proofs.Playing.{played_whos, role_kept, same_whos, turned_adds}
+use Rattle.worker_gate.proofs.Lasting.{played_whos, role_kept, same_whos}
+use Rattle.worker_gate.proofs.Playing.{turned_adds}
 use Rattle.worker_gate.proofs.RoleFacts.{cut_by_roles}
 use Rattle.worker_gate.proofs.Walking.{own_append}
 

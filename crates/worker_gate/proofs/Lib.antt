@@ -1,9 +1,16 @@
 pub mod Acting
 pub mod Crews
 pub mod RoleFacts
+pub mod Staying
 mod Stepping
+pub mod Together
 pub mod Turning
+pub mod TwoRounds
 pub mod Walking
+pub mod Going
+pub mod Lasting
+pub mod Looking
+pub mod Manned
 pub mod Playing
 pub mod Tellings
 pub mod Ending

@@ -1,10 +1,12 @@
 -- Turns of roles on a machine, and rounds of them.
-use Rattle.std.proofs.Common.{◌≡◌, ℕ, zero, suc, ◌+◌, ◌<◌, Bool, true, false, ◌||◌, if◌then◌else◌, List, [], ◌∷◌, ◌++◌, ◌⊎◌, inl, inr, Option, None, Some, length, length-take-le, map, take, drop, set, get_or, eqb, refl, sym, ap, subst, ◌∙◌, append-nil, append_assoc, arith, All, slice_get, eqb-true, eq-eqb}
+use Rattle.std.proofs.Common.{◌≡◌, ℕ, suc, ◌+◌, ◌<◌, Bool, true, false, ◌&&◌, ◌||◌, if◌then◌else◌, List, [], ◌∷◌, ◌++◌, ◌⊎◌, inl, inr, Option, None, Some, length, length-take-le, map, take, drop, set, get_or, eqb, refl, sym, ap, subst, ◌∙◌, append-nil, append_assoc, arith, All, slice_get, eqb-true, eq-eqb}
 use Rattle.std.proofs.Math.Seq.{drop-cons, get_or-append_seam, map-set_same, take-length, drop-length}
 use Rattle.std.proofs.lemmas.List.{drop-set-lt, length-map, length-set, map-append, set_at, take_more, take_more_set, get_or-set_same, get_or-set_other}
-use Rattle.std.proofs.lemmas.List.Elements.{All-append, All-cons, All-map, All-nil}
-use Rattle.std.proofs.lemmas.Option.{get_or_from_slice_get, slice_get-map, slice_get-get_or, slice_get_within}
-use Rattle.std.specs.List.{AllByRecursion}
+use Rattle.std.proofs.lemmas.List.Folds.{list_all-append}
+use Rattle.std.proofs.lemmas.List.Sums.{AllPass-from_list_all, list_all-from_AllPass}
+use Rattle.std.proofs.lemmas.Option.{slice_get-map, slice_get-get_or}
+use Rattle.std.specs.Prelude.{◌↔◌}
+use Rattle.std.specs.List.{list_all, AllByRecursion}
 use Rattle.std.specs.Option.{option_map}
 use Rattle.tp_base.specs.declared.answers.Entry.{Entry}
 use Rattle.tp_base.specs.declared.answers.Outcome.{Outcome}
@@ -29,7 +31,7 @@ use Rattle.worker_gate.specs.declared.role.Role.{Role}
 use Rattle.worker_gate.specs.declared.role.Turn.{Turn}
 use Rattle.worker_gate.specs.Places.{Given, opening}
 use Rattle.worker_gate.specs.Roles.{due_of, ended_turn, ends, ends_at, is_last_turn, is_stage_of, played_turn, took, turn_by, turned, who_of, IsOf, Turned}
-use Rattle.worker_gate.specs.Rounds.{awake, round_of, rounds, scene, AllOf, ArePlayed, HasRole, EndedWell, HaveEnded, IsSameMachine, Scene}
+use Rattle.worker_gate.specs.Rounds.{awake, round_of, scene, AllOf, EndedWell, HaveEnded, IsSameMachine, Scene}
 use Rattle.worker_gate.specs.Runs.{is_over_in}
 use Rattle.worker_gate.specs.Walks.{comes_to}
 use Rattle.worker_gate.proofs.Acting.{of_grows}
@@ -156,8 +158,10 @@ module _ (g : Given) (limits : Limits) (capacity : ℕ) where
   pub legal_turned : (history : List Entry) (r : Role) → IsLegal limits capacity history → IsLegal limits capacity (turn_in history r).history
   legal_turned history r legal = turned_is (λ (t : Turned). IsLegal limits capacity t.history) history r (λ _. legal) (λ _. legal_told limits capacity history r.who (due_in r) (told_to history r) legal refl)
 
-  pub ended_turned : (history : List Entry) (r : Role) → is_last_turn (turn_in history r).turn ≡ true → (turn_in history r).role.ended ≡ true
-  ended_turned history r = turned_is (λ (t : Turned). is_last_turn t.turn ≡ true → t.role.ended ≡ true) history r (λ _ _. refl) (λ _ last. absurd (on_off (is_last_turn (turn_by (told_to history r))) last (told_on (told_to history r))))
+  pub last_turned : (history : List Entry) (r : Role) → is_last_turn (turn_in history r).turn ≡ (turn_in history r).role.ended
+  last_turned history r =
+      turned_is (λ (t : Turned). is_last_turn t.turn ≡ t.role.ended) history r (λ _. refl)
+      (λ on. told_on (told_to history r) ∙ sym (took_ended g r (due_in r) (told_to history r) ∙ or_off r.ended _ on))
 
   -- ---- where all is over
 
@@ -207,7 +211,7 @@ mapped_at f (Some x) y is = (x, refl, cc)
 pub at_place : {X Y : Type 0} → (f : X → Y) (xs : List X) (i : ℕ) (y : Y) → slice_get (map f xs) i ≡ Some y → (x : X) × (slice_get xs i ≡ Some x) × (f x ≡ y)
 at_place f xs i y is = mapped_at f (slice_get xs i) y (sym (slice_get-map f xs i) ∙ is)
 
-who_at : (xs ys : List Role) (i : ℕ) (r : Role) → map who_of ys ≡ map who_of xs → slice_get ys i ≡ Some r → (q : Role) × (slice_get xs i ≡ Some q) × (q.who ≡ r.who)
+pub who_at : (xs ys : List Role) (i : ℕ) (r : Role) → map who_of ys ≡ map who_of xs → slice_get ys i ≡ Some r → (q : Role) × (slice_get xs i ≡ Some q) × (q.who ≡ r.who)
 who_at xs ys i r same is = at_place who_of xs i r.who (ap (λ (l : List Who). slice_get l i) (sym same) ∙ (slice_get-map who_of ys i ∙ ap (option_map who_of) is))
 
 -- no two are of one actor, where the others were of the same actors
@@ -259,6 +263,9 @@ wakes_all roles later place end so =
 
 -- ---- a round
 
+abbrev has_ended : Role → Bool
+has_ended r = r.ended
+
 module _ (g : Given) where
   -- the round from here on, behind those that have had their turn
   abbrev join : Limits → ℕ → List Entry → List Role → List Role → Scene
@@ -280,7 +287,7 @@ module _ (g : Given) where
     pub played : round_of g now.limits now.capacity start.history roles ≡ join now.limits now.capacity now.history (take place later) (drop place later)
     pub all : AllOf g now.limits now.capacity now.history later
     pub well : EndedWell now.limits now.capacity now.history later
-    pub ended : all_ended ≡ true → HaveEnded (take place later)
+    pub ended : all_ended ≡ list_all has_ended (take place later)
 
   pub round_begins : (start : Recording) (roles : List Role) → IsLegal start.limits start.capacity start.history → AllOf g start.limits start.capacity start.history roles
       → EndedWell start.limits start.capacity start.history roles → RoundSoFar start start roles roles 0 true
@@ -291,7 +298,7 @@ module _ (g : Given) where
     played = refl;
     all = all;
     well = well;
-    ended = λ _. All-nil (λ (r : Role). r.ended ≡ true);
+    ended = refl;
   }
 
   pub still_on : (a still last x : Bool) → a ≡ true → still ≡ last → last ≡ x → still ≡ (if a then x else false)
@@ -302,9 +309,11 @@ module _ (g : Given) where
   still_off true still x off is = absurd (cc)
   still_off false still x off is = is
 
-  and_parts : (a b : Bool) → (if a then b else false) ≡ true → (a ≡ true) × (b ≡ true)
-  and_parts true b is = (refl, is)
-  and_parts false b is = absurd (cc)
+  -- one more has ended where that was its last turn
+  still_is : (a b q : Bool) → b ≡ q → (if a then b else false) ≡ (a && (q && true))
+  still_is true true q is = let e : true ≡ q = is in ap (λ (x : Bool). x && true) e
+  still_is true false q is = let e : false ≡ q = is in ap (λ (x : Bool). x && true) e
+  still_is false b q is = refl
 
   module _ (start now : Recording) (roles later : List Role) (place : ℕ) (all_ended : Bool) (r : Role) (there : place < length later) (so : RoundSoFar start now roles later place all_ended) (at : r ≡ get_or later place r) where
     abbrev next : Turned
@@ -352,10 +361,8 @@ module _ (g : Given) where
           };
           well = all_put (WellAt g now.limits now.capacity next.history) later place next.role there (well_turned g now.limits now.capacity now.history r well_it)
               (λ k d inside apart. well_grows g now.limits now.capacity now.history r (get_or later k d) so.legal of_it (so.well k d inside));
-          ended = λ both.
-              let parts = and_parts all_ended (is_last_turn next.turn) both in
-              subst HaveEnded (sym front) (All-append (λ (q : Role). q.ended ≡ true) (take place later) (next.role ∷ []) (so.ended parts.0)
-              (All-cons (λ (q : Role). q.ended ≡ true) next.role [] (ended_turned g now.limits now.capacity now.history r parts.1) (All-nil (λ (q : Role). q.ended ≡ true))));
+          ended = still_is all_ended (is_last_turn next.turn) next.role.ended (last_turned g now.limits now.capacity now.history r)
+              ∙ (ap (λ (b : Bool). b && (next.role.ended && true)) so.ended ∙ (sym (list_all-append has_ended (take place later) (next.role ∷ [])) ∙ ap (list_all has_ended) (sym front)));
         }
 
     pub round_goes_on : (new : Recording) (turn : Turn) (b : Role) (still : Bool) → b ≡ next.role → new ≡ turned_to → turn ≡ next.turn → still ≡ (if all_ended then is_last_turn turn else false)
@@ -374,7 +381,7 @@ module _ (g : Given) where
     pub played : scene now.history later ≡ round_of g start.limits start.capacity start.history roles
     pub all : AllOf g now.limits now.capacity now.history later
     pub well : EndedWell now.limits now.capacity now.history later
-    pub ended : all_ended ≡ true → HaveEnded later
+    pub ended : (all_ended ≡ true) ↔ HaveEnded later
 
   pub round_ends : (start now : Recording) (roles later : List Role) (place : ℕ) (all_ended : Bool) → place ≡ length later → RoundSoFar start now roles later place all_ended → RoundPlayed start now roles later all_ended
   round_ends start now roles later place all_ended end so =
@@ -388,98 +395,7 @@ module _ (g : Given) where
         played = sym played ∙ (ap (λ (l : Limits). round_of g l now.capacity start.history roles) so.same.limits ∙ ap (λ (n : ℕ). round_of g start.limits n start.history roles) so.same.capacity);
         all = so.all;
         well = so.well;
-        ended = λ both. subst HaveEnded front (so.ended both);
+        ended =
+            let is : all_ended ≡ list_all has_ended later = so.ended ∙ ap (list_all has_ended) front in
+            ((λ both. AllPass-from_list_all has_ended later (sym is ∙ both)), (λ each. is ∙ list_all-from_AllPass has_ended later each));
       }
-
--- ---- rounds
-
-pub same_whos : (roles : List Role) → map who_of (map awake roles) ≡ map who_of roles
-same_whos [] = refl
-same_whos (r ∷ roles) = ap (λ (l : List Who). r.who ∷ l) (same_whos roles)
-
--- who was there is
-pub role_kept : (roles later : List Role) (who : Who) → map who_of later ≡ map who_of roles → HasRole roles who → HasRole later who
-role_kept roles later who same has =
-    let k = has.0 in
-    let r = has.1 in
-    let at : slice_get roles k ≡ Some r = slice_get-get_or roles k r has.2 ∙ ap Some has.3 in
-    let found = who_at later roles k r (sym same) at in
-    (k, found.0, slice_get_within later k found.0 found.1, get_or_from_slice_get later k found.0 found.0 found.1, found.2 ∙ has.4)
-
-module _ (g : Given) (limits : Limits) (capacity : ℕ) where
-  round_whos : (history : List Entry) (roles : List Role) → map who_of (round_of g limits capacity history roles).roles ≡ map who_of roles
-  round_whos history [] = refl
-  round_whos history (r ∷ roles) =
-      let t = turned g limits capacity history r in
-      ap (λ (w : Who). w ∷ map who_of (round_of g limits capacity t.history roles).roles) (turned_who g limits capacity history r) ∙ ap (λ (l : List Who). r.who ∷ l) (round_whos t.history roles)
-
-  rounds_whos : (n : ℕ) (s : Scene) → map who_of (rounds g limits capacity n s).roles ≡ map who_of s.roles
-  rounds_whos zero s = refl
-  rounds_whos (suc n) s =
-      let t = rounds g limits capacity n s in
-      round_whos t.history t.roles ∙ rounds_whos n s
-
-  pub played_whos : (s t : Scene) → ArePlayed g limits capacity s t → map who_of t.roles ≡ map who_of s.roles
-  played_whos s t played = ap (λ (x : Scene). map who_of x.roles) (sym played.1) ∙ rounds_whos played.0 s
-
-  pub played_more : (s t : Scene) (last : Scene) → ArePlayed g limits capacity s t → last ≡ round_of g limits capacity t.history t.roles → ArePlayed g limits capacity s last
-  played_more s t last played is = (suc played.0, ap (λ (x : Scene). round_of g limits capacity x.history x.roles) played.1 ∙ sym is)
-
-  awake_of : (history : List Entry) (r : Role) → IsOf g limits capacity history (own r.who history) r → IsOf g limits capacity history (own r.who history) (awake r)
-  awake_of history r of = record { actor = of.actor; leads = of.leads; place_is = of.place_is; calm = of.calm; sorted = of.sorted; cut = of.cut; rests = λ (ended : false ≡ true). absurd (cc) }
-
-  pub awake_all : (history : List Entry) (roles : List Role) → AllOf g limits capacity history roles → AllOf g limits capacity history (map awake roles)
-  awake_all history roles all = record {
-    of = All-map (λ (r : Role). IsOf g limits capacity history (own r.who history) r) awake roles (λ k d inside. awake_of history (get_or roles k d) (all.of k d inside));
-    once = once_by roles (map awake roles) (same_whos roles) all.once;
-  }
-
-  pub awake_well : (history : List Entry) (roles : List Role) → EndedWell limits capacity history (map awake roles)
-  awake_well history roles = All-map (λ (r : Role). r.ended ≡ true → (r.place.stage ≡ Over) ⊎ (is_over_in limits capacity history ≡ true)) awake roles (λ k d inside (ended : false ≡ true). absurd (cc))
-
-  worker_over : (number : ℕ) (who : Who) (at : Stage) (over : Bool) → who ≡ Worker number → is_stage_of who at ≡ true → (at ≡ Over) ⊎ (over ≡ true) → over ≡ true
-  worker_over number who at over is sorted (inl finished) = let x : is_stage_of (Worker number) Over ≡ true = sym (ap (λ (w : Who). is_stage_of w Over) is) ∙ (sym (ap (is_stage_of who) finished) ∙ sorted) in absurd (cc)
-  worker_over number who at over is sorted (inr all) = all
-
-  -- a worker has ended, so all is over
-  pub over_by : (history : List Entry) (roles : List Role) (number : ℕ) → HasRole roles (Worker number) → AllOf g limits capacity history roles → EndedWell limits capacity history roles → HaveEnded roles → is_over_in limits capacity history ≡ true
-  over_by history roles number has all well ended =
-      let k = has.0 in
-      let r = get_or roles k has.1 in
-      let of = all.of k has.1 has.2 in
-      worker_over number r.who r.place.stage (is_over_in limits capacity history) (ap who_of has.3 ∙ has.4) of.sorted (well k has.1 has.2 (ended k has.1 has.2))
-
-module _ (g : Given) where
-  pub record RoundsSoFar (start now : Recording) (roles later : List Role) : Type 0 where
-    pub same : IsSameMachine start now
-    pub legal : IsLegal now.limits now.capacity now.history
-    pub played : ArePlayed g start.limits start.capacity (scene start.history (map awake roles)) (scene now.history later)
-    pub all : AllOf g now.limits now.capacity now.history later
-    pub well : EndedWell now.limits now.capacity now.history later
-
-  pub rounds_begin : (start : Recording) (roles later : List Role) → IsLegal start.limits start.capacity start.history → AllOf g start.limits start.capacity start.history roles → later ≡ map awake roles → RoundsSoFar start start roles later
-  rounds_begin start roles later legal all is = subst (RoundsSoFar start start roles) (sym is) (record {
-    same = record { limits = refl; capacity = refl };
-    legal = legal;
-    played = (0, refl);
-    all = awake_all g start.limits start.capacity start.history roles all;
-    well = awake_well g start.limits start.capacity start.history roles;
-  })
-
-  module _ (start now last : Recording) (roles later after : List Role) (so : RoundsSoFar start now roles later) (same : IsSameMachine now last)
-      (played : scene last.history after ≡ round_of g now.limits now.capacity now.history later) (all : AllOf g last.limits last.capacity last.history after)
-      (legal : IsLegal last.limits last.capacity last.history) (well : EndedWell last.limits last.capacity last.history after) where
-    pub rounds_go_on : RoundsSoFar start last roles after
-    rounds_go_on = record {
-      same = record { limits = same.limits ∙ so.same.limits; capacity = same.capacity ∙ so.same.capacity };
-      legal = legal;
-      played = played_more g start.limits start.capacity (scene start.history (map awake roles)) (scene now.history later) (scene last.history after) so.played
-          (played ∙ (ap (λ (l : Limits). round_of g l now.capacity now.history later) so.same.limits ∙ ap (λ (n : ℕ). round_of g start.limits n now.history later) so.same.capacity));
-      all = all;
-      well = well;
-    }
-
-  pub rounds_over : (start now : Recording) (roles later : List Role) → HasRole roles (Worker 1) → RoundsSoFar start now roles later → HaveEnded later → is_over_in now.limits now.capacity now.history ≡ true
-  rounds_over start now roles later has so ended =
-      let whos = played_whos g start.limits start.capacity (scene start.history (map awake roles)) (scene now.history later) so.played in
-      over_by g now.limits now.capacity now.history later 1 (role_kept roles later (Worker 1) (whos ∙ same_whos roles) has) so.all so.well ended

@@ -30,7 +30,8 @@ use Rattle.worker_gate.specs.Roles.{due_of, due_or, is_last_turn, is_of_client, 
 use Rattle.worker_gate.specs.Rounds.{begins_wait, scene, ArePlayed, IsSameMachine, NeverWaits, PlaysAlone}
 use Rattle.worker_gate.specs.Runs.{is_over_in}
 use Rattle.worker_gate.specs.Walks.{comes_to}
-use Rattle.worker_gate.proofs.Playing.{legal_turned, played_more, turned_is, turned_who}
+use Rattle.worker_gate.proofs.Lasting.{played_more}
+use Rattle.worker_gate.proofs.Playing.{legal_turned, turned_is, turned_who}
 use Rattle.worker_gate.proofs.Quiet.{is_quiet, step_quiet, waits_quiet, IsQuiet}
 use Rattle.worker_gate.proofs.Turning.{legal_front, still_going}
 use Rattle.worker_gate.proofs.Walking.{stage_is, waits_is}
@@ -123,7 +124,7 @@ module _ (g : Given) (limits : Limits) (capacity : ℕ) (history : List Entry) w
         let next : Option Call = g.next (part.Client number) at in
         let calm : begins_wait (due_or Finish marked next) ≡ false = calm_due marked next (never []) in
         goes_by (due_or Finish marked next) (comes_to limits capacity history (Client number) (due_or Finish marked next)) calm (last_due marked next)
-        (step_quiet (after limits history) left number (due_or Finish marked next) calm ((facts.stands (Client number) actor).wait ∙ free))
+        (step_quiet (after limits history) left (Client number) (due_or Finish marked next) calm ((facts.stands (Client number) actor).wait ∙ free) refl)
 
   abbrev GoesOn : Role → Type 0
   GoesOn r = GoesBy r (due_of g r.who r.place r.marked) (comes_to limits capacity history r.who (due_of g r.who r.place r.marked))

@@ -9,7 +9,7 @@ use Rattle.tp_base.specs.declared.ids.Who.{Who}
 use Rattle.tp_base.specs.declared.ids.Who.TheVariants.{Client}
 use Rattle.tp_base.specs.declared.limits.Limits.{Limits}
 use Rattle.tp_base.specs.declared.plans.Stage.TheVariants as stage
-use Rattle.tp_model.specs.Stages.{IsActor}
+use Rattle.tp_model.specs.Stages.{stage_of, IsActor}
 use Rattle.tp_script.specs.declared.routines.Part.{Part}
 use Rattle.tp_script.specs.declared.routines.Part.TheVariants as part
 use Rattle.tp_script.specs.declared.routines.Progress.{Progress}
@@ -72,6 +72,10 @@ HasRole roles who = Any (λ (r : Role). r.who ≡ who) roles
 -- there is a role of each actor of the machine
 abbrev pub HaveAllRoles : Limits → List Role → Type 0
 HaveAllRoles limits roles = (who : Who) → IsActor limits who → HasRole roles who
+
+-- there is one of each worker, and of each client that hasn't finished
+abbrev pub HaveOpenRoles : Limits → List Entry → List Role → Type 0
+HaveOpenRoles limits history roles = (who : Who) → IsActor limits who → (stage_of who history ≡ stage.Over) ⊎ HasRole roles who
 
 -- the limits and the capacity are as they were
 pub record IsSameMachine (old new : Recording) : Type 0 where

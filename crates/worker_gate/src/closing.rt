@@ -15,7 +15,6 @@ use crate::rounds::play_alone;
 use recorded::Recorded;
 use shared_pool::SharedPool;
 use std::alloc::{AllocError, Global};
-use std::sync::Wait;
 use tp_script::Routines;
 use turn_lock::Seat;
 
@@ -33,10 +32,8 @@ pub struct Run<B> {
 /// machine: its history is a run of these routines.
 ///
 /// Client 1 has to have finished before any other made a call (`finish`, `tell_all`). An `AllocError`
-/// comes where memory for the seats and the roles isn't there; all is lost then. It may wait for ever,
-/// where a wait that is begun never ends.
-pub fn close_run<Rt: Wait, B: Recorded, R: Routines, G: Gate>(
-    rt: &Rt,
+/// comes where memory for the seats and the roles isn't there; all is lost then.
+pub fn close_run<B: Recorded, R: Routines, G: Gate>(
     alloc: Global,
     pool: SharedPool<B>,
     actors: Vec<Actor<B>>,
@@ -53,7 +50,7 @@ pub fn close_run<Rt: Wait, B: Recorded, R: Routines, G: Gate>(
 {
     let (seats, mut roles) = apart(alloc, actors)?;
     let mut book = pool.close(seats);
-    let cut = end_run(rt, &mut book, &mut roles, routines, gate);
+    let cut = end_run(&mut book, &mut roles, routines, gate);
     Ok(Run { book, cut })
 }
 
@@ -80,8 +77,7 @@ fn apart<B>(alloc: Global, actors: Vec<Actor<B>>) -> Result<(Vec<Seat<B>>, Vec<R
 }
 
 // Plays what is left to do on the machine, until all is over. Whether a role is cut then.
-pub(crate) fn end_run<Rt: Wait, B: Recorded, R: Routines, G: Gate>(
-    rt: &Rt,
+pub(crate) fn end_run<B: Recorded, R: Routines, G: Gate>(
     book: &mut B,
     roles: &mut Vec<Role>,
     routines: &R,
@@ -101,6 +97,6 @@ pub(crate) fn end_run<Rt: Wait, B: Recorded, R: Routines, G: Gate>(
     ensures runs { Runs (given R.next_of R.after_of routines.now) (B.recording book.new).limits (B.recording book.new).capacity (B.recording book.new).history }
     ensures cut { (result ≡ true) ↔ IsCutShort (given R.next_of R.after_of routines.now) (B.recording book.new).limits (B.recording book.new).history }
 {
-    play_alone(rt, book, roles, routines, gate);
+    play_alone(book, roles, routines, gate);
     any_cut(roles)
 }

@@ -10,7 +10,8 @@
 //! here that these stay calls of the routines that it was given, each part whole, or cut where the
 //! history had no room for its next call. `close_run` gathers all actors of a pool, plays what is
 //! left, and promises of the whole history that it is a run of these routines. `play_routines` is all
-//! of that in one call, on so many threads as are wanted.
+//! of that in one call, on so many threads as are wanted; `play_routines_alone` plays on one, takes no
+//! handle, and returns.
 //!
 //! ```text
 //! let run = play_routines::<_, Book, _, _>(&rt, alloc, program_limits(2, 4), 65_536, 4, &script, &gate)?;
@@ -21,7 +22,7 @@
 //! finish(&rt, &mut first, &pool, &script, &gate);     // client 1 plays to its end
 //! tell_all(&mut first, &pool, &mut workers);          // and tells the others
 //! let workers = play_crew(workers, &pool, &script, &gate);
-//! let run = close_run(&rt, alloc, pool, all_actors, &script, &gate)?;
+//! let run = close_run(alloc, pool, all_actors, &script, &gate)?;
 //! ```
 
 #![tactic(auto)]
@@ -41,5 +42,5 @@ pub use crew::{play_crew, play_crews};
 pub use place::Place;
 pub use role::{Gate, Role, Turn};
 pub use rounds::{play_alone, set_up};
-pub use run::{one_history_alone, play_routines};
+pub use run::{one_history_alone, play_routines, play_routines_alone};
 pub use telling::{finish, tell_all};

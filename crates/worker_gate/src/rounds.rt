@@ -1,16 +1,16 @@
 //! Rounds of roles on a machine of their own.
 
-ghost use Rattle.std.specs.Prelude.{◌≡◌, true, [], ◌∷◌, map, IsTrue};
+ghost use Rattle.std.specs.Prelude.{◌≡◌, ◌≤◌, ◌↔◌, true, [], ◌∷◌, map};
 ghost use Rattle.recorded.specs.Recordings.{is_over_behind};
 ghost use Rattle.tp_model.specs.History.{IsLegal};
 ghost use Rattle.turn_lock.specs.Histories.{own};
+ghost use Rattle.worker_gate.specs.Lively.{ArePlayedOn};
 ghost use Rattle.worker_gate.specs.Places.{given};
 ghost use Rattle.worker_gate.specs.Roles.{IsOf};
-ghost use Rattle.worker_gate.specs.Rounds.{awake, round_of, scene, AllOf, ArePlayed, EndedWell, HasPlayed, HasRole, HaveEnded, IsSameMachine, PlaysAlone};
+ghost use Rattle.worker_gate.specs.Rounds.{awake, round_of, scene, AllOf, ArePlayed, EndedWell, HasPlayed, HaveEnded, HaveOpenRoles, IsSameMachine, PlaysAlone};
 
 use crate::role::{Gate, Role};
 use recorded::Recorded;
-use std::sync::Wait;
 use tp_base::ids::Who;
 use tp_script::Routines;
 
@@ -42,9 +42,9 @@ pub fn set_up<B: Recorded, R: Routines, G: Gate>(
 /// Plays rounds of roles on a machine of their own until all have ended: in a round each that hasn't
 /// ended gets a turn, in the order of the list. A worker that had ended before is asked again.
 ///
-/// A wait that nothing ends keeps it from returning.
-pub fn play_alone<Rt: Wait, B: Recorded, R: Routines, G: Gate>(
-    rt: &Rt,
+/// The roles are those of all workers, and at least those of all clients that haven't finished. So it
+/// returns: in any two rounds in succession one of them makes an entry, or ends.
+pub fn play_alone<B: Recorded, R: Routines, G: Gate>(
     book: &mut B,
     roles: &mut Vec<Role>,
     routines: &R,
@@ -52,21 +52,22 @@ pub fn play_alone<Rt: Wait, B: Recorded, R: Routines, G: Gate>(
 )
     requires all { AllOf (given R.next_of R.after_of routines.now) (B.recording book.old).limits (B.recording book.old).capacity (B.recording book.old).history roles.old.items }
     requires legal { IsLegal (B.recording book.old).limits (B.recording book.old).capacity (B.recording book.old).history }
-    requires worker { HasRole roles.old.items (Who.Worker 1) }
+    requires open_roles { HaveOpenRoles (B.recording book.old).limits (B.recording book.old).history roles.old.items }
+    requires worker { 1 ≤ (B.recording book.old).limits.workers }
     ensures same { IsSameMachine (B.recording book.old) (B.recording book.new) }
     ensures played { HasPlayed (given R.next_of R.after_of routines.now) (B.recording book.old).limits (B.recording book.old).capacity (B.recording book.old).history roles.old.items (B.recording book.new).history roles.new.items }
+    ensures lively { ArePlayedOn (given R.next_of R.after_of routines.now) (B.recording book.old).limits (B.recording book.old).capacity (scene (B.recording book.old).history (map awake roles.old.items)) (scene (B.recording book.new).history roles.new.items) }
     ensures all { AllOf (given R.next_of R.after_of routines.now) (B.recording book.new).limits (B.recording book.new).capacity (B.recording book.new).history roles.new.items }
     ensures legal { IsLegal (B.recording book.new).limits (B.recording book.new).capacity (B.recording book.new).history }
     ensures ended { HaveEnded roles.new.items }
     ensures over { is_over_behind (B.recording book.new) ≡ true }
 {
     wake_all(roles);
-    for _ in rt.forever() {
+    loop {
         if play_one(book, roles, routines, gate) {
             return;
         }
     }
-    unreachable!()
 }
 
 // A worker that had ended asks again whether all is over.
@@ -93,7 +94,7 @@ fn play_one<B: Recorded, R: Routines, G: Gate>(
     ensures all { AllOf (given R.next_of R.after_of routines.now) (B.recording book.new).limits (B.recording book.new).capacity (B.recording book.new).history roles.new.items }
     ensures legal { IsLegal (B.recording book.new).limits (B.recording book.new).capacity (B.recording book.new).history }
     ensures ended { EndedWell (B.recording book.new).limits (B.recording book.new).capacity (B.recording book.new).history roles.new.items }
-    ensures over { IsTrue result → HaveEnded roles.new.items }
+    ensures over { (result ≡ true) ↔ HaveEnded roles.new.items }
 {
     let mut all_ended = true;
     for place in 0..roles.len() {

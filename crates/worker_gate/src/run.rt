@@ -43,7 +43,8 @@ use turn_lock::Seat;
 /// and what the crews leave is played behind them. `gate` is asked before each callback.
 ///
 /// Where no thread can be made, this one plays that crew. An `AllocError` comes where memory isn't
-/// there; all is lost then. It may wait for ever, where a wait that is begun never ends.
+/// there; all is lost then. On more than one thread it may wait for ever: for the threads, and for
+/// turns. On one it is `play_routines_alone`.
 pub fn play_routines<
     Rt: Threads + Wait + Sync,
     B: Recorded + Send,
@@ -71,7 +72,7 @@ pub fn play_routines<
     ensures cut { IfOk result (λ run. (run.cut ≡ true) ↔ IsCutShort (given R.next_of R.after_of routines.now) (B.recording run.book).limits (B.recording run.book).history) }
 {
     match threads {
-        1 => play_on_one(rt, alloc, limits, capacity, routines, gate),
+        1 => play_routines_alone(alloc, limits, capacity, routines, gate),
         _ => play_on_several(rt, alloc, limits, capacity, threads, routines, gate),
     }
 }
@@ -81,9 +82,8 @@ pub fn one_history_alone()
     ensures { (known : Given) (limits : Bounds) (capacity : ℕ) (history other : List Entry) → IsAlone known limits capacity history → IsAlone known limits capacity other → history ≡ other }
 {}
 
-// On one thread, in rounds.
-fn play_on_one<Rt: Wait, B: Recorded, R: Routines, G: Gate>(
-    rt: &Rt,
+/// The same on this thread alone, in rounds. It waits for nobody, and returns.
+pub fn play_routines_alone<B: Recorded, R: Routines, G: Gate>(
     alloc: Global,
     limits: Limits,
     capacity: u32,
@@ -103,7 +103,7 @@ fn play_on_one<Rt: Wait, B: Recorded, R: Routines, G: Gate>(
     let mut book = B::open(alloc, limits, capacity)?;
     let mut roles = new_roles(alloc, limits)?;
     set_up(&mut book, &mut roles[0], routines, gate);
-    let cut = end_run(rt, &mut book, &mut roles, routines, gate);
+    let cut = end_run(&mut book, &mut roles, routines, gate);
     Ok(Run { book, cut })
 }
 
@@ -164,7 +164,7 @@ fn play_on_several<
     let crews = deal(alloc, others, threads)?;
     let crews = play_crews(rt, crews, &pool, routines, gate)?;
     let actors = gather(alloc, first, crews)?;
-    close_run(rt, alloc, pool, actors, routines, gate)
+    close_run(alloc, pool, actors, routines, gate)
 }
 
 // A pool, and the actors of all its seats, in the order of their numbers.

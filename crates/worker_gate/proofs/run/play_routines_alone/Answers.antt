@@ -1,7 +1,7 @@
 use Rattle.std.proofs.Common.{arith}
 use Rattle.worker_gate.specs.Places.{given}
 use Rattle.worker_gate.proofs.OneThread.{last_alone, last_capacity, last_legal, last_limits, now_all, now_client, now_covers, now_first, now_known, now_legal, now_worker, some_role, start_alone, start_stands}
-use Rattle.worker_gate.proofs.run.play_on_one.Goals as goal
+use Rattle.worker_gate.proofs.run.play_routines_alone.Goals as goal
 
 pub index_mut-requires : goal.index_mut-requires
 index_mut-requires g c =
