@@ -10,7 +10,7 @@ use Rattle.tp_run.specs.declared.command.Command.{Command}
 use Rattle.tp_run.specs.declared.status.Ending.{Ending}
 use Rattle.tp_run.specs.declared.status.Ending.TheVariants as ending
 use Rattle.tp_run.specs.declared.status.Status.{Status}
-use Rattle.tp_run.specs.declared.status.Status.TheVariants.{Fine, BadLine, NotLegal, Exhausted}
+use Rattle.tp_run.specs.declared.status.Status.TheVariants.{Fine, BadLine, NotLegal, Exhausted, Stalled}
 
 -- what was read to its end is all that was left
 input_of : (reads_it : Bool) (taken : List ℕ) (left now : Option (List ℕ)) → left ≡ behind taken now → IsReadIf reads_it taken now → IsInputIf reads_it taken left
@@ -28,6 +28,7 @@ module _ (command : Command) (left now held holds : Option (List ℕ)) (status :
   written Fine whole came = (came.0, (came.1.0, ending.Fine, came.1.1, refl, came.1.2))
   written NotLegal whole came = (came.0, (came.1.0, ending.NotLegal, came.1.1, refl, came.1.2))
   written Exhausted whole came = (came.0, (came.1.0, ending.Exhausted, came.1.1, refl, came.1.2))
+  written Stalled whole came = (came.0, (came.1.0, ending.Stalled, came.1.1, refl, came.1.2))
   written _ whole came = absurd whole
 
   pub whole_run : IsWhole status → IsAnswered (Some command) left (λ output ends. (status ≡ status_of ends) × (holds ≡ with_given output held))

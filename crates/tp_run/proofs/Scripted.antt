@@ -15,11 +15,12 @@ use Rattle.tp_model.specs.Laws.Once.{left}
 use Rattle.recorded.specs.Recordings.{Recording}
 use Rattle.tp_model.specs.Laws.{KeepsLaws}
 use Rattle.tp_report.specs.Summaries.{totals_behind, IsNoneLost}
-use Rattle.tp_run.specs.Played.{ending_by, has_exhausted, has_pending, limits_for, long_script, printed, routines_of, EndsRun, IsPlayed, RanOut}
+use Rattle.tp_run.specs.Played.{ending_by, has_early_end, has_pending, limits_for, long_script, printed, routines_of, EndsRun, IsOutputOf, IsPlayed, RanOut}
 use Rattle.tp_report.specs.declared.playing.MachineSize.{MachineSize}
 use Rattle.tp_run.specs.Ends.{status_of_script, IsOutput, IsReply, IsScriptEnd}
 use Rattle.tp_run.specs.Inputs.{short_layout, whole_layout, IsPlayedOf}
 use Rattle.tp_run.specs.declared.command.Command.TheVariants.{Run, Big}
+use Rattle.tp_run.specs.declared.played.EarlyEnd.TheVariants as early
 use Rattle.tp_run.specs.declared.played.Layout.{Layout}
 use Rattle.tp_run.specs.declared.status.Status.{Status}
 use Rattle.tp_run.specs.declared.status.Status.TheVariants as end
@@ -30,7 +31,7 @@ use Rattle.tp_script.specs.Scripts.{IsScript}
 use Rattle.tp_script.specs.declared.fault.ScriptFault.{ScriptFault}
 use Rattle.tp_script.specs.declared.fault.ScriptFault.TheVariants.{NoMemory, At}
 use Rattle.tp_run.specs.declared.status.Ending.{Ending}
-use Rattle.tp_run.specs.declared.status.Ending.TheVariants.{Fine, NotLegal, Exhausted}
+use Rattle.tp_run.specs.declared.status.Ending.TheVariants.{Fine, NotLegal, Exhausted, Stalled}
 use Rattle.tp_script.specs.Calls.{begins_wait_call}
 use Rattle.tp_script.specs.Machines.{NeverWaitsAtFirst}
 use Rattle.tp_script.specs.Nexts.{first_progress, next_call}
@@ -68,17 +69,19 @@ any_ends test xs i so_far e = so_far ∙ ap (λ ys. list_any test ys) (past_end 
 
 -- ---- how a run ends
 
-pub run_ends : (g : Given) (limits : Limits) (history : List Entry) (cut exhausted pending : Bool) → (cut ≡ true) ↔ IsCutShort g limits history
-    → exhausted ≡ has_exhausted history → pending ≡ has_pending (left (after limits history)) → EndsRun g limits history (ending_by cut exhausted pending)
-run_ends g limits history true exhausted pending short e p = inl (short.0 refl)
-run_ends g limits history false true pending short e p = inr (inl (sym e))
-run_ends g limits history false false true short e p = inr (inr (sym p))
-run_ends g limits history false false false short e p = none
-  where
-    none : RanOut g limits history → ⊥
-    none (inl cut) = false≢true (short.1 cut)
-    none (inr (inl found)) = false≢true (e ∙ found)
-    none (inr (inr found)) = false≢true (p ∙ found)
+module _ (g : Given) (limits : Limits) (history : List Entry) where
+  had_room : (false ≡ true) ↔ IsCutShort g limits history → false ≡ has_early_end early.Exhausted history → false ≡ has_pending (left (after limits history)) → RanOut g limits history → ⊥
+  had_room short e p (inl cut) = false≢true (short.1 cut)
+  had_room short e p (inr (inl found)) = false≢true (e ∙ found)
+  had_room short e p (inr (inr found)) = false≢true (p ∙ found)
+
+  pub run_ends : (cut exhausted pending stalled : Bool) → (cut ≡ true) ↔ IsCutShort g limits history → exhausted ≡ has_early_end early.Exhausted history
+      → pending ≡ has_pending (left (after limits history)) → stalled ≡ has_early_end early.Stalled history → EndsRun g limits history (ending_by cut exhausted pending stalled)
+  run_ends true exhausted pending stalled short e p s = inl (short.0 refl)
+  run_ends false true pending stalled short e p s = inr (inl (sym e))
+  run_ends false false true stalled short e p s = inr (inr (sym p))
+  run_ends false false false true short e p s = (had_room short e p, sym s)
+  run_ends false false false false short e p s = (had_room short e p, sym s)
 
 -- ---- client 1 waits for nothing
 
@@ -115,16 +118,31 @@ module _ (script : List Line) (threads : ℕ) (layout : Layout) (output : List �
       subst (λ (e : ℕ). IsPlayed script threads limits e layout output ending) same_capacity
       (subst (λ (l : Limits). IsPlayed script threads l r.capacity layout output ending) same_limits there)
 
+-- what is made of a run that was played
+pub run_output : {E : Type 0} (script : List Line) (threads : ℕ) (layout : Layout) (r : Recording) (cut : Bool) (limits : Limits) (capacity : ℕ) (result : Result Output E) → r.limits ≡ limits → r.capacity ≡ capacity
+    → Runs (routines_of script) r.limits r.capacity r.history → (threads ≡ 1 → IsAlone (routines_of script) limits capacity r.history) → (cut ≡ true) ↔ IsCutShort (routines_of script) r.limits r.history
+    → IsLegal r.limits r.capacity r.history → KeepsLaws r.limits r.history → IfOk result (λ output. IsOutputOf layout cut r output)
+    → IfOk result (λ output. IsPlayed script threads limits capacity layout output.text.items output.ending)
+run_output script threads layout r cut limits capacity (Err none) same_limits same_capacity runs alone short legal laws told = told
+run_output script threads layout r cut limits capacity (Ok output) same_limits same_capacity runs alone short legal laws told =
+    let g = routines_of script in
+    let ends = subst (λ ending. EndsRun g r.limits r.history ending) (sym told.ending) (run_ends g r.limits r.history cut _ _ _ short refl refl refl) in
+    run_played script threads layout output.text.items output.ending r limits capacity same_limits same_capacity legal laws runs alone told.none_lost told.text ends
+
 -- ---- one thread
 
 one_ending : (g : Given) (limits : Limits) (history : List Entry) (a b : Ending) → EndsRun g limits history a → EndsRun g limits history b → a ≡ b
 one_ending g limits history Fine Fine p q = refl
 one_ending g limits history Exhausted Exhausted p q = refl
-one_ending g limits history Fine Exhausted p q = absurd (p q)
-one_ending g limits history Exhausted Fine p q = absurd (q p)
+one_ending g limits history Stalled Stalled p q = refl
+one_ending g limits history Fine Exhausted p q = absurd (p.0 q)
+one_ending g limits history Stalled Exhausted p q = absurd (p.0 q)
+one_ending g limits history Exhausted Fine p q = absurd (q.0 p)
+one_ending g limits history Exhausted Stalled p q = absurd (q.0 p)
+one_ending g limits history Fine Stalled p q = absurd (false≢true (sym p.1 ∙ q.1))
+one_ending g limits history Stalled Fine p q = absurd (false≢true (sym q.1 ∙ p.1))
 one_ending g limits history NotLegal b p q = absurd p
-one_ending g limits history Fine NotLegal p q = absurd q
-one_ending g limits history Exhausted NotLegal p q = absurd q
+one_ending g limits history a NotLegal p q = absurd q
 
 -- a script has one history on one thread
 abbrev pub OneHistory : Type 0

@@ -12,7 +12,7 @@ use Rattle.tp_run.specs.declared.command.Command.{Command}
 use Rattle.tp_run.specs.declared.status.Ending.{Ending}
 use Rattle.tp_run.specs.declared.status.Ending.TheVariants as ending
 use Rattle.tp_run.specs.declared.status.Status.{Status}
-use Rattle.tp_run.specs.declared.status.Status.TheVariants.{Fine, Words, BadLine, ReadFault, WriteFault, NoMemory, TooLong, NotLegal, Exhausted}
+use Rattle.tp_run.specs.declared.status.Status.TheVariants.{Fine, Words, BadLine, ReadFault, WriteFault, NoMemory, TooLong, NotLegal, Exhausted, Stalled}
 use Rattle.tp_run.specs.declared.top.Output.{Output}
 use Rattle.tp_script.specs.Scripts.{IsScript}
 use Rattle.tp_script.specs.declared.line.Line.{Line}
@@ -30,6 +30,7 @@ abbrev pub status_of : Ending → Status
 status_of ending.Fine = Fine
 status_of ending.NotLegal = NotLegal
 status_of ending.Exhausted = Exhausted
+status_of ending.Stalled = Stalled
 
 -- the end that a fault of the input leads to
 abbrev pub status_of_text : TextFault → Status
@@ -93,6 +94,7 @@ abbrev pub Came : Command → List ℕ → Option (List ℕ) → Option (List �
 Came command taken now held holds Fine = IsAllRead command taken now × ((output : List ℕ) × IsOutput command taken output ending.Fine × (holds ≡ with_given output held))
 Came command taken now held holds NotLegal = IsAllRead command taken now × ((output : List ℕ) × IsOutput command taken output ending.NotLegal × (holds ≡ with_given output held))
 Came command taken now held holds Exhausted = IsAllRead command taken now × ((output : List ℕ) × IsOutput command taken output ending.Exhausted × (holds ≡ with_given output held))
+Came command taken now held holds Stalled = IsAllRead command taken now × ((output : List ℕ) × IsOutput command taken output ending.Stalled × (holds ≡ with_given output held))
 Came command taken now held holds WriteFault = IsAllRead command taken now × ((output : List ℕ) × (ends : Ending) × IsOutput command taken output ends × TookFirst held holds output)
 Came command taken now held holds (BadLine line column) = IsAllRead command taken now × IsFaulty command taken line column
 Came command taken now held holds Words = ⊥

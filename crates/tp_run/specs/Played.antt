@@ -2,6 +2,7 @@
 use Rattle.std.specs.Prelude.{◌≡◌, ℕ, ◌&&◌, Bool, true, false, List, [], ◌++◌, ◌⊎◌}
 use Rattle.std.specs.List.{list_any}
 use Rattle.recorded.specs.ProgramLimits.{limits_with}
+use Rattle.recorded.specs.Recordings.{Recording}
 use Rattle.script_generator.specs.Scripts.{generated}
 use Rattle.tp_base.specs.declared.answers.Answer.{Answer}
 use Rattle.tp_base.specs.declared.answers.Answer.TheVariants as answer
@@ -19,9 +20,12 @@ use Rattle.tp_report.specs.Histories.{history_text}
 use Rattle.tp_report.specs.Json.{json_text}
 use Rattle.tp_report.specs.Summaries.{summary_text, totals_of, IsNoneLost}
 use Rattle.tp_report.specs.declared.playing.MachineSize.{MachineSize}
+use Rattle.tp_run.specs.declared.played.EarlyEnd.{EarlyEnd}
+use Rattle.tp_run.specs.declared.played.EarlyEnd.TheVariants as early
 use Rattle.tp_run.specs.declared.played.Layout.{Layout}
+use Rattle.tp_run.specs.declared.top.Output.{Output}
 use Rattle.tp_run.specs.declared.status.Ending.{Ending}
-use Rattle.tp_run.specs.declared.status.Ending.TheVariants.{Fine, NotLegal, Exhausted}
+use Rattle.tp_run.specs.declared.status.Ending.TheVariants.{Fine, NotLegal, Exhausted, Stalled}
 use Rattle.tp_script.specs.Nexts.{clients_of, next_at, progress_after}
 use Rattle.tp_script.specs.declared.line.Line.{Line}
 use Rattle.worker_gate.specs.Alone.{IsAlone}
@@ -42,22 +46,25 @@ limits_for script machine = limits_with (clients_of script) machine.workers
 abbrev pub long_script : ℕ → List ℕ
 long_script number = generated number 2000
 
--- ---- a history that had too little room
+-- ---- waits that ended early
 
 abbrev pub is_end : Call → Bool
 is_end call.End = true
 is_end _ = false
 
-abbrev pub is_exhausted_answer : Answer → Bool
-is_exhausted_answer answer.Exhausted = true
-is_exhausted_answer _ = false
+abbrev pub is_early_answer : EarlyEnd → Answer → Bool
+is_early_answer early.Exhausted answer.Exhausted = true
+is_early_answer early.Stalled answer.Stalled = true
+is_early_answer _ _ = false
 
 -- the end of a wait was answered so
-abbrev pub is_exhausted : Entry → Bool
-is_exhausted entry = is_end entry.call && is_exhausted_answer entry.answer
+abbrev pub is_early_end : EarlyEnd → Entry → Bool
+is_early_end which entry = is_end entry.call && is_early_answer which entry.answer
 
-abbrev pub has_exhausted : List Entry → Bool
-has_exhausted history = list_any is_exhausted history
+abbrev pub has_early_end : EarlyEnd → List Entry → Bool
+has_early_end which history = list_any (is_early_end which) history
+
+-- ---- a history that had too little room
 
 -- of the callbacks that are left one is pending
 abbrev pub is_pending_row : (ℕ × ObjectId × Status) → Bool
@@ -68,7 +75,7 @@ has_pending rows = list_any is_pending_row rows
 
 -- the calls of a client or of a callback were cut short, a wait ended with `exhausted`, or a callback is left pending
 abbrev pub RanOut : Given → Limits → List Entry → Type 0
-RanOut g limits history = IsCutShort g limits history ⊎ (has_exhausted history ≡ true) ⊎ (has_pending (left (after limits history)) ≡ true)
+RanOut g limits history = IsCutShort g limits history ⊎ (has_early_end early.Exhausted history ≡ true) ⊎ (has_pending (left (after limits history)) ≡ true)
 
 -- ---- runs
 
@@ -85,15 +92,17 @@ pub record IsRunOf (script : List Line) (threads : ℕ) (limits : Limits) (capac
 
 -- how a run ends
 abbrev pub EndsRun : Given → Limits → List Entry → Ending → Type 0
-EndsRun g limits history Fine = RanOut g limits history → ⊥
+EndsRun g limits history Fine = (RanOut g limits history → ⊥) × (has_early_end early.Stalled history ≡ false)
 EndsRun g limits history Exhausted = RanOut g limits history
+EndsRun g limits history Stalled = (RanOut g limits history → ⊥) × (has_early_end early.Stalled history ≡ true)
 EndsRun g limits history NotLegal = ⊥
 
-abbrev pub ending_by : Bool → Bool → Bool → Ending
-ending_by true exhausted pending = Exhausted
-ending_by false true pending = Exhausted
-ending_by false false true = Exhausted
-ending_by false false false = Fine
+abbrev pub ending_by : Bool → Bool → Bool → Bool → Ending
+ending_by true exhausted pending stalled = Exhausted
+ending_by false true pending stalled = Exhausted
+ending_by false false true stalled = Exhausted
+ending_by false false false true = Stalled
+ending_by false false false false = Fine
 
 -- ---- what is written of a run
 
@@ -115,3 +124,9 @@ pub record IsPlayed (script : List Line) (threads : ℕ) (limits : Limits) (capa
   pub is_run : IsRunOf script threads limits capacity history
   pub output_is : output ≡ printed layout limits capacity history
   pub ends : EndsRun (routines_of script) limits history ending
+
+-- of a recording, where a role was cut or none was: the text and the ending, and no callback is lost
+pub record IsOutputOf (layout : Layout) (cut : Bool) (r : Recording) (output : Output) : Type 0 where
+  pub text : output.text.items ≡ printed layout r.limits r.capacity r.history
+  pub none_lost : IsNoneLost (totals_of r.limits r.history)
+  pub ending : output.ending ≡ ending_by cut (has_early_end early.Exhausted r.history) (has_pending (left (after r.limits r.history))) (has_early_end early.Stalled r.history)

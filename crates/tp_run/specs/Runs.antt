@@ -3,7 +3,7 @@ use Rattle.std.specs.Prelude.{◌≡◌, ℕ, true, ◌≤◌, ◌↔◌, List, 
 use Rattle.tp_run.specs.Inputs.{Gives, IsFaultyAt, IsInput, reads}
 use Rattle.tp_run.specs.declared.command.Command.{Command}
 use Rattle.tp_run.specs.declared.status.Status.{Status}
-use Rattle.tp_run.specs.declared.status.Status.TheVariants.{Fine, BadLine, WriteFault, TooLong, NotLegal, Exhausted}
+use Rattle.tp_run.specs.declared.status.Status.TheVariants.{Fine, BadLine, WriteFault, TooLong, NotLegal, Exhausted, Stalled}
 use Rattle.tp_run.specs.declared.status.Ending.{Ending}
 
 -- all was written
@@ -11,6 +11,7 @@ abbrev pub IsWhole : Status → Type 0
 IsWhole Fine = Unit {0}
 IsWhole NotLegal = Unit {0}
 IsWhole Exhausted = Unit {0}
+IsWhole Stalled = Unit {0}
 IsWhole _ = ⊥
 
 -- nothing is written at any end but these
@@ -18,6 +19,7 @@ abbrev pub IsUnwritten : Status → Type 0
 IsUnwritten Fine = ⊥
 IsUnwritten NotLegal = ⊥
 IsUnwritten Exhausted = ⊥
+IsUnwritten Stalled = ⊥
 IsUnwritten WriteFault = ⊥
 IsUnwritten _ = Unit {0}
 
@@ -26,6 +28,7 @@ abbrev pub IsBehindInput : Status → Type 0
 IsBehindInput Fine = Unit {0}
 IsBehindInput NotLegal = Unit {0}
 IsBehindInput Exhausted = Unit {0}
+IsBehindInput Stalled = Unit {0}
 IsBehindInput WriteFault = Unit {0}
 IsBehindInput (BadLine line column) = Unit {0}
 IsBehindInput _ = ⊥

@@ -3,10 +3,11 @@
 ghost use Rattle.std.specs.Prelude.{◌≡◌, ◌≤◌, ◌++◌, ◌↔◌, true, map, IfOk, OnOk};
 ghost use Rattle.recorded.specs.Recordings.{Recording};
 ghost use Rattle.tp_model.specs.History.{IsLegal};
+ghost use Rattle.tp_model.specs.Laws.{KeepsLaws};
 ghost use Rattle.tp_model.specs.Over.{row_of};
 ghost use Rattle.tp_report.specs.Summaries.{totals_behind, IsNoneLost};
 ghost use Rattle.tp_report.specs.Traces.{IsMachineSize};
-ghost use Rattle.tp_run.specs.Played.{ending_by, has_exhausted, has_pending, history_if, is_exhausted, is_pending_row, limits_for, printed, routines_of, totals_text, IsPlayed};
+ghost use Rattle.tp_run.specs.Played.{ending_by, has_early_end, has_pending, history_if, is_early_end, is_pending_row, limits_for, printed, routines_of, totals_text, IsOutputOf, IsPlayed};
 ghost use Rattle.tp_script.specs.Machines.{HasFewClients, NeverWaitsAtFirst};
 
 use crate::status::Ending;
@@ -21,7 +22,7 @@ use tp_base::calls::Call;
 use tp_model::{Left, legal_keeps_laws};
 use tp_report::{LeftRow, MachineSize, left_callbacks, print_history, print_json, print_summary};
 use tp_script::Script;
-use worker_gate::{Gate, play_routines};
+use worker_gate::{Gate, Run, play_routines, play_routines_alone};
 
 /// What is written of a run.
 #[derive(Clone, Copy)]
@@ -32,10 +33,17 @@ pub struct Layout {
     pub json: bool,
 }
 
+/// How a wait ends that doesn't come to what it waits for.
+#[derive(Clone, Copy)]
+pub enum EarlyEnd {
+    Exhausted,
+    Stalled,
+}
+
 /// Plays a script on so many threads, at least 1, on a machine of this size that has made no step, and
 /// answers what is to be written of the run, and how it ends.
 ///
-/// It may wait for ever, where a wait that is begun never ends.
+/// It waits for its threads, of which no clause says that they come back.
 pub fn play_script<Rt: Threads + Wait + Sync, B: Recorded + Send, G: Gate + Sync>(
     rt: &Rt,
     alloc: Global,
@@ -61,11 +69,50 @@ pub fn play_script<Rt: Threads + Wait + Sync, B: Recorded + Send, G: Gate + Sync
         script,
         gate,
     )?;
+    output_of_run(alloc, layout, &played)
+}
+
+/// The same on this thread alone. It waits for nobody, and returns.
+pub fn play_script_alone<B: Recorded, G: Gate>(
+    alloc: Global,
+    script: &Script,
+    machine: MachineSize,
+    layout: Layout,
+    gate: &G,
+) -> Result<Output, AllocError>
+    requires clients { HasFewClients script.now }
+    requires calm { NeverWaitsAtFirst script.now }
+    requires size { IsMachineSize machine }
+    ensures { IfOk result (λ output. IsPlayed script.now 1 (limits_for script.now machine) machine.events layout output.text.items output.ending) }
+{
+    let limits = program_limits(script.clients(), machine.workers);
+    let played = play_routines_alone::<Kept<B>, Script, G>(
+        alloc,
+        limits,
+        machine.events,
+        script,
+        gate,
+    )?;
+    output_of_run(alloc, layout, &played)
+}
+
+// What is to be written of a run, and how it ends.
+fn output_of_run<B: Recorded>(
+    alloc: Global,
+    layout: Layout,
+    played: &Run<Kept<B>>,
+) -> Result<Output, AllocError>
+    ensures legal { IsLegal played.now.book.limits played.now.book.capacity played.now.book.history }
+    ensures laws { KeepsLaws played.now.book.limits played.now.book.history }
+    ensures output { IfOk result (λ output. IsOutputOf layout played.now.cut played.now.book output) }
+{
     legal_keeps_laws();
     let _len = played.book.len();
     let text = print_run(alloc, layout, &played.book)?;
     let left = left_callbacks(alloc, &played.book)?;
-    let ending = ending_by(played.cut, has_exhausted(&played.book), has_pending(&left));
+    let exhausted = has_early_end(&played.book, EarlyEnd::Exhausted);
+    let stalled = has_early_end(&played.book, EarlyEnd::Stalled);
+    let ending = ending_by(played.cut, exhausted, has_pending(&left), stalled);
     Ok(Output { text, ending })
 }
 
@@ -118,24 +165,26 @@ fn append_totals<B: Recorded>(
 }
 
 // How a run ends.
-fn ending_by(cut: bool, exhausted: bool, pending: bool) -> Ending
-    ensures { result ≡ ending_by cut exhausted pending }
+fn ending_by(cut: bool, exhausted: bool, pending: bool, stalled: bool) -> Ending
+    ensures { result ≡ ending_by cut exhausted pending stalled }
 {
     if cut || exhausted || pending {
         Ending::Exhausted
+    } else if stalled {
+        Ending::Stalled
     } else {
         Ending::Fine
     }
 }
 
-// Whether a wait ended with `exhausted`.
-fn has_exhausted<B: Recorded>(book: &Kept<B>) -> bool
-    ensures { result ≡ has_exhausted book.now.history }
+// Whether a wait ended so.
+fn has_early_end<B: Recorded>(book: &Kept<B>, which: EarlyEnd) -> bool
+    ensures { result ≡ has_early_end which book.now.history }
 {
     let len = book.len();
     let mut index = 0;
     while let Some(entry) = book.entry(index) {
-        if is_exhausted(&entry) {
+        if is_early_end(&entry, which) {
             return true;
         }
         index += 1;
@@ -144,10 +193,14 @@ fn has_exhausted<B: Recorded>(book: &Kept<B>) -> bool
 }
 
 // Whether the entry ends a wait so.
-fn is_exhausted(entry: &Entry) -> bool
-    ensures { result ≡ is_exhausted entry.now }
+fn is_early_end(entry: &Entry, which: EarlyEnd) -> bool
+    ensures { result ≡ is_early_end which entry.now }
 {
-    matches!(entry.call, Call::End) && matches!(entry.answer, Answer::Exhausted)
+    matches!(entry.call, Call::End)
+        && match which {
+            EarlyEnd::Exhausted => matches!(entry.answer, Answer::Exhausted),
+            EarlyEnd::Stalled => matches!(entry.answer, Answer::Stalled),
+        }
 }
 
 // Whether one of those that are left is pending.

@@ -16,6 +16,8 @@ pub enum Ending {
     NotLegal,
     /// It is a script for whose run the history had too little room.
     Exhausted,
+    /// It is a script in whose run no actor could go on.
+    Stalled,
 }
 
 impl From<&Verdict> for Ending {
@@ -54,6 +56,8 @@ pub enum Status {
     /// The history of the run had too little room: calls of a client or of a callback were cut short, a
     /// wait ended with `exhausted`, or a callback is left pending. The output is whole.
     Exhausted,
+    /// A wait of the run ended with `stalled`, and the history had room for all. The output is whole.
+    Stalled,
 }
 
 impl Status {
@@ -73,6 +77,7 @@ impl Status {
             Status::TooLong => 6,
             Status::NotLegal => 7,
             Status::Exhausted => 8,
+            Status::Stalled => 9,
         }
     }
 }
@@ -87,6 +92,7 @@ impl From<Ending> for Status {
             Ending::Fine => Status::Fine,
             Ending::NotLegal => Status::NotLegal,
             Ending::Exhausted => Status::Exhausted,
+            Ending::Stalled => Status::Stalled,
         }
     }
 }

@@ -15,7 +15,7 @@ ghost use Rattle.tp_run.specs.Runs.{IsAnswered, IsBadLine, IsBadLineOf, IsReadTo
 ghost use Rattle.tp_run.specs.declared.status.Ending.{Ending};
 
 use crate::command::{Command, command_in};
-use crate::played::{Layout, play_script};
+use crate::played::{Layout, play_script, play_script_alone};
 use crate::status::{Ending, Status};
 use crate::words::WordList;
 use recorded::Recorded;
@@ -42,11 +42,12 @@ const LONG_SCRIPT_LENGTH: u32 = 2_000;
 ///
 /// `words` are those behind the program's name. The answer is the first of these that applies:
 /// `Words`; `ReadFault` and `TooLong`, at which reading ends; `NoMemory` of reading; `BadLine`;
-/// `NoMemory`; `WriteFault`; `NotLegal` and `Exhausted`; `Fine`. All memory is taken before anything is
-/// written.
+/// `NoMemory`; `WriteFault`; `NotLegal` and `Exhausted`; `Stalled`; `Fine`. All memory is taken before
+/// anything is written.
 ///
-/// `run` and `big` play with all clients and workers at the gate. They may wait for ever, where a wait
-/// of the script never ends; `run` takes so many threads as the words say.
+/// `run` and `big` play with all clients and workers at the gate. A wait of theirs that nobody can end is
+/// answered `stalled`, so that the script goes on to its end. `run` with one thread, and `big`, are played
+/// by calls that take no `rt`, as all other commands are; with more threads `run` waits for them.
 pub fn tp_main<Rt: Threads + Wait + Sync, B: Recorded + Send, S: Source, K: Sink, G: Gate + Sync>(
     rt: &Rt,
     alloc: Global,
@@ -205,7 +206,10 @@ fn reply<Rt: Threads + Wait + Sync, B: Recorded + Send, G: Gate + Sync>(
         } => {
             one_history_alone();
             one_script_a_text();
-            play_text::<Rt, B, G>(rt, alloc, bytes, threads, machine, json, gate)
+            match threads {
+                1 => play_text_alone::<B, G>(alloc, bytes, machine, json, gate),
+                _ => play_text::<Rt, B, G>(rt, alloc, bytes, threads, machine, json, gate),
+            }
         }
         Command::Big {
             number,
@@ -214,7 +218,7 @@ fn reply<Rt: Threads + Wait + Sync, B: Recorded + Send, G: Gate + Sync>(
         } => {
             one_history_alone();
             one_script_a_text();
-            let output = play_number::<Rt, B, G>(rt, alloc, number, machine, json, gate)?;
+            let output = play_number::<B, G>(alloc, number, machine, json, gate)?;
             Ok(output)
         }
     }
@@ -258,9 +262,30 @@ fn play_text<Rt: Threads + Wait + Sync, B: Recorded + Send, G: Gate + Sync>(
     Ok(output)
 }
 
+// The same on this thread alone.
+fn play_text_alone<B: Recorded, G: Gate>(
+    alloc: Global,
+    bytes: &[u8],
+    machine: MachineSize,
+    json: bool,
+    gate: &G,
+) -> Result<Output, Status>
+    requires few { length bytes.now ≤ INPUT_LIMIT }
+    requires size { IsMachineSize machine }
+    ensures ok { IfOk result (λ output. IsPlayedOf bytes.now 1 machine (whole_layout json) output.text.items output.ending) }
+    ensures err { IfErr result (IsScriptEnd bytes.now) }
+{
+    let script = parse_script(alloc, bytes)?;
+    let layout = Layout {
+        history: true,
+        json,
+    };
+    let output = play_script_alone::<B, G>(alloc, &script, machine, layout, gate)?;
+    Ok(output)
+}
+
 // What `big` writes of the long script of a number.
-fn play_number<Rt: Threads + Wait + Sync, B: Recorded + Send, G: Gate + Sync>(
-    rt: &Rt,
+fn play_number<B: Recorded, G: Gate>(
     alloc: Global,
     number: u64,
     machine: MachineSize,
@@ -281,5 +306,5 @@ fn play_number<Rt: Threads + Wait + Sync, B: Recorded + Send, G: Gate + Sync>(
         history: false,
         json,
     };
-    play_script::<Rt, B, G>(rt, alloc, &script, 1, machine, layout, gate)
+    play_script_alone::<B, G>(alloc, &script, machine, layout, gate)
 }

@@ -76,5 +76,6 @@ fn report(rt: &HostRuntime, status: Status) -> io::Result<()> {
         Status::NoMemory => eprintln!(rt; "tpool: want of memory"),
         Status::TooLong => eprintln!(rt; "tpool: input too long"),
         Status::Exhausted => eprintln!(rt; "tpool: history exhausted"),
+        Status::Stalled => eprintln!(rt; "tpool: stalled"),
     }
 }
