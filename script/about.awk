@@ -1,4 +1,4 @@
-# What a refusal or a look is about, where the calls and answers so far tell that; nothing else is asked, so
+# What a refusal, a look or a wait that stalled is about, where the calls and answers so far tell that; nothing else is asked, so
 # what they don't tell isn't written. `workers` is how many the machine has. Who lays out answers calls `about`
 # with each call and its answer, in their order.
 
@@ -47,10 +47,11 @@ function read_call(text,    at) {
     }
 }
 
-# --- What a refusal or a look is about
+# --- What an answer is about
 
 function subject() {
     if ($1 == "refused") return of_refusal($2)
+    if ($1 == "stalled") return both(waits_for[actor], actor in takes ? owner_of(takes[actor]) : "")
     if ($1 == "notice") return actor in notices ? (given[actor] + 1) " of " notices[actor] : ""
     if ($1 != "look") return ""
     if ($2 == "not-yet" && $3 == "callback") return both(of_callback($4), stage_of($4))

@@ -1,7 +1,7 @@
-# Lays out a history: the number of each entry, its actor, the call and the answer, and behind a refusal what it
-# is about. In `columns` columns, where they suffice, each actor has a lane of its own, so that time goes down
-# the page; what an actor did alone before all others stands above the lanes. What stands behind the history, as
-# its summary, is below.
+# Lays out a history: the number of each entry, its actor, the call and the answer, and behind a refusal and a wait
+# that stalled what it is about. In `columns` columns, where they suffice, each actor has a lane of its own, so that
+# time goes down the page; what an actor did alone before all others stands above the lanes. What stands behind the
+# history, as its summary, is below.
 
 NR == 1 { workers = $6; next }
 over { print (over++ == 1 ? "\n" : "") $0; next }

@@ -69,7 +69,7 @@ session() {
 
 typed() {
     input=
-    try "$1: $2" '~[0-7]' "$3" '' inside "$here" with_errors bash -c "$2"
+    try "$1: $2" '~[0-9]' "$3" '' inside "$here" with_errors bash -c "$2"
 }
 with_errors() { "$@" 2>&1; }
 

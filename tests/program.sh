@@ -141,6 +141,20 @@ verdict 'a wait for two: room for three' "not legal at 8: $not_yet" 3 2 "${runni
 verdict 'a wait for two: room for two' "not legal at 8: $not_yet" 4 2 "${running[@]}" "$keep" "$later" 'c1 end -> exhausted'
 verdict 'a wait for two: room for one' 'legal 8' 5 2 "${running[@]}" "$keep" "$later" 'c1 end -> exhausted'
 verdict 'a wait for one that runs: room for one' "not legal at 8: $not_yet" 5 2 "${running[@]}" 'c1 wait work 1 cancel -> begun 1 1' "$later" 'c1 end -> exhausted'
+# A wait for an event that nobody but a pending callback could set stalls where there is no room to run that.
+no_event='look not-yet kernel 1'
+event='c1 create-event auto clear -> made 1'
+mapfile -t misuses < <(yes 'c1 submit 9 -> refused no-such' | head -n 7)
+stalls=('c1 acquire 1 -> ok' 'c1 end -> stalled')
+verdict 'an acquire: room for an attach, a take and two returns' "not legal at 11: $no_event" 1 2 "$event" "${pending[@]}" "${misuses[@]:1}" "${stalls[@]}"
+verdict 'an acquire: room for one less' 'legal 12' 1 2 "$event" "${pending[@]}" "${misuses[@]}" "${stalls[@]}"
+verdict 'an acquire with a worker: room for two' "not legal at 12: $no_event" 1 2 "$event" "${with_worker[@]}" "${misuses[@]:1}" "${stalls[@]}"
+verdict 'an acquire with a worker: room for one' 'legal 13' 1 2 "$event" "${with_worker[@]}" "${misuses[@]}" "${stalls[@]}"
+# The places of the notices that a wait gave up as it stalled stay set aside.
+closing=('c1 create-group -> made 1' "$event" "c1 ${create/g0 q0/g1 q2}" "${with_worker[@]:1}" 'w1 take -> taken 1 o1 r1 x0 plain' 'w1 acquire 1 -> ok')
+closing+=('c1 close-members 1 cancel y9 -> closing 1 0 1' 'c1 end -> stalled' 'c1 submit 1 -> refused released' 'c1 submit 1 -> refused released')
+verdict 'a close that stalls: room for two' 'legal 11' 1 1 "${closing[@]}"
+verdict 'a close that stalls: room for no third' 'not legal at 12: full 0 1' 1 1 "${closing[@]}" 'c1 submit 1 -> refused released'
 
 input=$'history 1 clients 0 workers 1 events 16\nend 0\nand more'
 try 'what stands behind the end line is ignored' 0 $'legal 0\n' '' "$program" check

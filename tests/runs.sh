@@ -45,6 +45,64 @@ try 'it is legal all the same' 0 '~legal *' '~*' run_and check --events 16
 try 'it is shown' 0 '~*refused *' '~*' run_and show --events 16
 printf '%s' "$input" >"$room/full.script"
 
+# --- A run in which nobody can go on
+input=$'event e manual clear\nclient\nacquire e\ndone\n'
+stalled_run='history 1 clients 2 workers 1 events 65536
+c1 create-event manual clear -> made 1
+c1 finish -> ok
+c2 acquire 1 -> ok
+c2 end -> stalled
+c2 finish -> ok
+end 5
+entries 5
+callbacks 0
+taken 0
+cancelled 0
+left 0
+refused 0
+'
+try 'a wait that stalls' 9 "$stalled_run" $'tpool: stalled\n' "$program" run --threads 1 --workers 1
+try 'the same from the script' 9 "$stalled_run" $'tpool: stalled\n' "$tpool" run --workers 1
+try 'it is legal' 0 $'legal 5\n' '' run_and check --workers 1
+input=$'event e manual clear\nwork w r\nroutine r\nacquire e\ndone\nclient\nsubmit w\nwait w keep\ndone\n'
+stalled_worker='history 1 clients 2 workers 1 events 65536
+c1 create-event manual clear -> made 1
+c1 create work r1 x0 p0 normal short g0 q0 -> made 1
+c1 finish -> ok
+c2 submit 1 -> queued 1 1
+w1 attach -> attached 0
+c2 wait work 1 keep -> begun 1 0
+w1 take -> taken 1 o1 r1 x0 plain
+w1 acquire 1 -> ok
+c2 end -> stalled
+c2 finish -> ok
+w1 end -> stalled
+w1 return -> returned - - - - 0 0
+end 12
+entries 12
+callbacks 1
+taken 1
+cancelled 0
+left 0
+refused 0
+'
+try 'a callback that stalls' 9 "$stalled_worker" $'tpool: stalled\n' "$program" run --threads 1 --workers 1
+try 'it is legal too' 0 $'legal 12\n' '' run_and check --workers 1
+try 'it is shown what they waited for' 0 $'~*  c2   end * stalled (its wait for object 1)\n*  w1   end * stalled (its wait for kernel object 1)\n*' '' run_and show --workers 1
+stalled_totals='{"callbacks":1,"cancelled":0,"entries":12,"left":0,"left_callbacks":[],"refused":0,"taken":1}'
+try 'its summary as JSON' 9 "~*$stalled_totals"$'\n' $'tpool: stalled\n' "$program" run --json --workers 1
+# Want of room is told before a wait that stalled.
+input=$'event e manual clear\nwork w r\nroutine r\ndone\nclient\nacquire e\ntimes 40 submit w\ndone\n'
+try 'a wait that stalls, and calls without room behind it' 8 $'~*c2 end -> stalled\n*' $'tpool: history exhausted\n' "$program" run --workers 1 --events 16
+
+# --- A deadlock
+deadlock=$here/examples/deadlock.script
+try 'two threads and their callbacks wait for each other' 9 $'~*w2 acquire 1 -> ok\nc2 end -> stalled\nc2 release-lock mutex 1 -> ok\nw2 end -> ended\n*left 0\nrefused 0\n' $'tpool: stalled\n' "$tpool" run "$deadlock"
+mended() { sed -E '/^  wait /{N;s/(.*)\n(.*)/\2\n\1/}' "$deadlock" | "$program" run "$@"; }
+try 'each gives its lock back before it waits' 0 $'~*left 0\nrefused 0\n' '' mended
+stalls_or_not() { timeout 60 "$program" run --threads 4 <"$deadlock" >"$room/deadlock" 2>/dev/null; echo $?; "$program" check <"$room/deadlock"; }
+try 'the same on four threads' 0 $'~[09]\nlegal *' '' stalls_or_not
+
 # --- More threads
 counts_of_run() {
     "$program" run "$@" <"$server" | awk '/^end / { ended = $2 } /^entries / { entries = $2 } /^(left|refused) / { print $1, ($2 == 0 ? 0 : "some") }
@@ -155,6 +213,8 @@ sums_up() {
     rm -r "$room"/tpool-runs-*
 }
 try 'the server many times' 0 $'1 60\nfiles\n' '' sums_up "$server" 60
+stalled_runs() { "$tpool" runs "$deadlock" 5 --threads 1 | sed -n '/  stalled/p'; }
+try 'runs that stall' 0 $'   5          1  stalled              stalled.history, 32 entries\n' '' stalled_runs
 exhausted_runs() { "$tpool" runs "$room/full.script" 5 --events 16 | sed -n '/  exhausted/p'; }
 try 'runs without room' 0 $'~   5          [1-5]  exhausted            exhausted.history, 1[0-6] entries\n' '' exhausted_runs
 interrupted() { timeout --preserve-status -s INT 1 "$tpool" runs "$server" 1000000; }
