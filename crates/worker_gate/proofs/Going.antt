@@ -1,6 +1,6 @@
 -- Where one of a pool's pending callbacks can be taken, a call of a worker that runs nothing is accepted.
-use Rattle.std.proofs.Common.{◌≡◌, ℕ, zero, suc, ◌+◌, ◌-◌, ◌<◌, ◌≤◌, Bool, true, false, cond, not, ◌&&◌, ◌||◌, ◌==◌, ◌⊎◌, inl, inr, nat_lt, nat_le, List, [], ◌∷◌, length, Option, Some, None, is_none, is_some, slice_get, refl, sym, ap, ◌∙◌, arith, filter, find, eqb-true, eq-eqb, lt-ltb}
-use Rattle.std.specs.List.{list_all, range_with_len}
+use Rattle.std.proofs.Common.{◌≡◌, ℕ, ◌+◌, ◌<◌, ◌≤◌, Bool, true, false, cond, not, ◌&&◌, ◌||◌, ◌==◌, ◌⊎◌, inl, inr, nat_lt, nat_le}
+use Rattle.std.proofs.Common.{List, [], ◌∷◌, length, Option, Some, None, is_none, is_some, slice_get, refl, sym, ap, ◌∙◌, arith, filter, eqb-true, eq-eqb, lt-ltb}
 use Rattle.std.specs.Option.{option_map_or, option_or}
 use Rattle.std.proofs.lemmas.Bool.{and_from, eqb-false, leb-false, leb-true, ltb-false, ne_eqb, or_left, or_parts, or_right}
 use Rattle.std.proofs.lemmas.Option.{slice_get_within}
@@ -39,69 +39,16 @@ use Rattle.tp_model.specs.World.{unattached, World}
 use Rattle.tp_model.proofs.Callbacks.{kept_found}
 use Rattle.tp_model.proofs.Entries.{next_number_in}
 use Rattle.tp_model.proofs.First.{next_first}
-use Rattle.tp_model.proofs.Refusals.{both, false_true, numbered_at}
+use Rattle.tp_model.proofs.Refusals.{both, false_true}
 use Rattle.tp_model.proofs.Steps.{cost_is, not_full, plan_allowed}
 use Rattle.worker_gate.specs.Walks.{is_full}
+use Rattle.worker_gate.proofs.Elements.{counted, found_in, one_fails, one_passes, row_at, IsAt}
 
 -- the call was made, and accepted or refused
 abbrev pub is_done : Outcome → Bool
 is_done (outcome.Done told) = true
 is_done (outcome.Look look) = false
 is_done (outcome.Full room cost) = false
-
--- ---- lists
-
--- an element with its place
-pub record IsAt {X : Type 0} (test : X → Bool) (passes : Bool) (xs : List X) : Type 0 where
-  pub place : ℕ
-  pub element : X
-  pub there : slice_get xs place ≡ Some element
-  pub tests : test element ≡ passes
-
-further : {X : Type 0} (test : X → Bool) (passes : Bool) (x : X) (xs : List X) → IsAt test passes xs → IsAt test passes (x ∷ xs)
-further test passes x xs at = record { place = suc at.place; element = at.element; there = at.there; tests = at.tests }
-
--- one that fails, where not all pass
-pub one_fails : {X : Type 0} (test : X → Bool) (xs : List X) → list_all test xs ≡ false → IsAt test false xs
-one_fails test [] fails = absurd (cc)
-one_fails {X} test (x ∷ xs) fails = by (test x) refl (one_fails test xs) fails
-  where
-    by : (b : Bool) → test x ≡ b → (list_all test xs ≡ false → IsAt test false xs) → (b && list_all test xs) ≡ false → IsAt test false (x ∷ xs)
-    by false is later e = record { place = 0; element = x; there = refl; tests = is }
-    by true is later e = further test false x xs (later e)
-
--- one that passes, where some are counted
-pub one_passes : {X : Type 0} (test : X → Bool) (xs : List X) → (length (filter test xs) == 0) ≡ false → IsAt test true xs
-one_passes test [] some = absurd (cc)
-one_passes {X} test (x ∷ xs) some = by (test x) refl (one_passes test xs) some
-  where
-    by : (b : Bool) → test x ≡ b → ((length (filter test xs) == 0) ≡ false → IsAt test true xs) → (length (cond b (x ∷ filter test xs) (filter test xs)) == 0) ≡ false → IsAt test true (x ∷ xs)
-    by true is later e = record { place = 0; element = x; there = refl; tests = is }
-    by false is later e = further test true x xs (later e)
-
-pub counted : {X : Type 0} (test : X → Bool) (xs : List X) (i : ℕ) (x : X) → slice_get xs i ≡ Some x → test x ≡ true → 1 ≤ length (filter test xs)
-counted test [] i x there passes = absurd (cc)
-counted test (y ∷ ys) zero x there passes =
-    let same : y ≡ x = cc in
-    let e : test y ≡ true = ap test same ∙ passes in
-    let is : length (filter test (y ∷ ys)) ≡ suc (length (filter test ys)) = ap (λ (b : Bool). length (cond b (y ∷ filter test ys) (filter test ys))) e in
-    omega (arith, is)
-counted {X} test (y ∷ ys) (suc i) x there passes = by (test y) (counted test ys i x there passes)
-  where
-    by : (b : Bool) → 1 ≤ length (filter test ys) → 1 ≤ length (cond b (y ∷ filter test ys) (filter test ys))
-    by true more = omega (arith, more)
-    by false more = more
-
--- a number of a range that passes
-found_in : (test : ℕ → Bool) (first count n : ℕ) → first ≤ n → n < first + count → test n ≡ true → is_some (find test (range_with_len first count)) ≡ true
-found_in test first zero n low high passes = absurd (omega (arith, low, high))
-found_in test first (suc count) n low high passes = by (test first) refl (λ above. found_in test (first + 1) count n above (omega (arith, high)) passes)
-  where
-    by : (b : Bool) → test first ≡ b → (first + 1 ≤ n → is_some (find test (range_with_len (first + 1) count)) ≡ true) → is_some (cond b (Some first) (find test (range_with_len (first + 1) count))) ≡ true
-    by true is later = refl
-    by false is later =
-        let apart : first ≡ n → ⊥ = λ (same : first ≡ n). false_true (sym is ∙ (ap test same ∙ passes)) in
-        later (omega (arith, low, apart))
 
 -- ---- plans of workers that run nothing
 
@@ -216,9 +163,6 @@ abbrev pub SomeGoes : World → ℕ → Type 0
 SomeGoes w room = (number : ℕ) × Goes w room number
 
 module _ (w : World) (room : ℕ) (s : IsSound (next_number_in w) w) (counts : (pool : ℕ) → attached w pool ≡ running w pool + idle w pool) where
-  row_at : (i : ℕ) (row : WorkerRow) → slice_get w.workers i ≡ Some row → numbered w.workers (i + 1) ≡ Some row
-  row_at i row there = numbered_at w.workers (i + 1) row (omega arith) (let same : (i + 1) - 1 ≡ i = omega arith in ap (slice_get w.workers) same ∙ there)
-
   -- an idle worker of the pool takes one of its callbacks
   by_idle : (pool : ℕ) → (pending w pool == 0) ≡ false → nat_le (maximum w pool) (running w pool) ≡ false → 2 ≤ room → IsAt (is_idle_in pool) true w.workers → SomeGoes w room
   by_idle pool some below fits at = of_row at.element.pool at.element.callback at.there (both (is_attached_to pool at.element) (is_none at.element.callback) at.tests)
@@ -228,7 +172,7 @@ module _ (w : World) (room : ℕ) (s : IsSound (next_number_in w) w) (counts : (
       of_row (Some p) (Some n) there is = absurd (false_true is.1)
       of_row (Some p) None there is =
           let same : p.0 ≡ pool = eqb-true p.0 pool is.0 in
-          let stands = row_at at.place (idle_at p) there in
+          let stands = row_at w.workers at.place (idle_at p) there in
           (at.place + 1, Works p stands (inl (takes w room s (at.place + 1) p stands (ap (λ (n : ℕ). pending w n == 0) same ∙ some) (ap (λ (n : ℕ). nat_le (maximum w n) (running w n)) same ∙ below) fits)))
 
   -- where it has none, the pool is in need: so one without a pool joins, and one that is idle elsewhere leaves, unless it has
@@ -238,7 +182,7 @@ module _ (w : World) (room : ℕ) (s : IsSound (next_number_in w) w) (counts : (
     elsewhere i q there = of_pending (pending w q.0 == 0) refl
       where
         stands : numbered w.workers (i + 1) ≡ Some (idle_at q)
-        stands = row_at i (idle_at q) there
+        stands = row_at w.workers i (idle_at q) there
 
         here : 1 ≤ idle w q.0
         here = counted (is_idle_in q.0) w.workers i (idle_at q) there (ap (λ (b : Bool). b && true) (eq-eqb q.0 q.0 refl))
@@ -268,7 +212,7 @@ module _ (w : World) (room : ℕ) (s : IsSound (next_number_in w) w) (counts : (
       where
         of_row : (home : Option PoolId) (callback : Option ℕ) → slice_get w.workers at.place ≡ Some (record { pool = home; callback = callback }) → is_some callback ≡ false → SomeGoes w room
         of_row home (Some n) there free = absurd (false_true (sym free))
-        of_row None None there free = let stands = row_at at.place unattached there in (at.place + 1, Joins stands (attaches w room s (at.place + 1) pool stands made need fits))
+        of_row None None there free = let stands = row_at w.workers at.place unattached there in (at.place + 1, Joins stands (attaches w room s (at.place + 1) pool stands made need fits))
         of_row (Some q) None there free = elsewhere at.place q there
 
   pub some_goes : (pool : ℕ) → is_pool_stuck w room pool ≡ false → SomeGoes w room

@@ -7,6 +7,7 @@ pub mod Together
 pub mod Turning
 pub mod TwoRounds
 pub mod Walking
+pub mod Elements
 pub mod Going
 pub mod Lasting
 pub mod Looking

@@ -1,5 +1,6 @@
 -- Turns of roles on a machine, and rounds of them.
-use Rattle.std.proofs.Common.{◌≡◌, ℕ, suc, ◌+◌, ◌<◌, Bool, true, false, ◌&&◌, ◌||◌, if◌then◌else◌, List, [], ◌∷◌, ◌++◌, ◌⊎◌, inl, inr, Option, None, Some, length, length-take-le, map, take, drop, set, get_or, eqb, refl, sym, ap, subst, ◌∙◌, append-nil, append_assoc, arith, All, slice_get, eqb-true, eq-eqb}
+use Rattle.std.proofs.Common.{◌≡◌, ℕ, suc, ◌+◌, ◌<◌, Bool, true, false, ◌&&◌, ◌||◌, if◌then◌else◌, List, [], ◌∷◌, ◌++◌, ◌⊎◌, inl, inr, Option, None}
+use Rattle.std.proofs.Common.{Some, length, length-take-le, map, take, drop, set, get_or, eqb, refl, sym, ap, subst, ◌∙◌, append-nil, append_assoc, arith, All, slice_get, eqb-true, eq-eqb}
 use Rattle.std.proofs.Math.Seq.{drop-cons, get_or-append_seam, map-set_same, take-length, drop-length}
 use Rattle.std.proofs.lemmas.List.{drop-set-lt, length-map, length-set, map-append, set_at, take_more, take_more_set, get_or-set_same, get_or-set_other}
 use Rattle.std.proofs.lemmas.List.Folds.{list_all-append}

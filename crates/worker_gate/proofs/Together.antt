@@ -1,5 +1,5 @@
 -- Where no actor moves, all is over.
-use Rattle.std.proofs.Common.{◌≡◌, ℕ, zero, suc, ◌+◌, ◌-◌, ◌<◌, ◌≤◌, Bool, true, false, cond, not, ◌&&◌, ◌||◌, ◌==◌, ◌⊎◌, inl, inr, nat_le, List, [], ◌∷◌, length, Option, Some, None, is_some, option_map, slice_get, refl, sym, ap, ◌∙◌, subst, arith, eq-eqb}
+use Rattle.std.proofs.Common.{◌≡◌, ℕ, ◌+◌, ◌<◌, ◌≤◌, Bool, true, false, cond, not, ◌&&◌, ◌||◌, ◌==◌, ◌⊎◌, inl, inr, nat_le, List, [], ◌∷◌, length, Option, Some, None, is_some, option_map, slice_get, refl, sym, ap, ◌∙◌, subst, arith, eq-eqb}
 use Rattle.std.specs.List.{list_all, list_any, range_with_len}
 use Rattle.std.specs.Option.{option_map_or}
 use Rattle.std.proofs.lemmas.Bool.{and_from, both_ways, eqb-true, lt-leb, ne_eqb, not-true, not_from_false, or_cases, or_from}
@@ -22,29 +22,12 @@ use Rattle.tp_model.specs.World.{unattached, World}
 use Rattle.tp_model.proofs.Facts.{machine_facts}
 use Rattle.tp_model.proofs.Few.{few_actor}
 use Rattle.tp_model.proofs.Lists.{all_get}
-use Rattle.tp_model.proofs.Refusals.{both, numbered_at}
+use Rattle.tp_model.proofs.Refusals.{both}
 use Rattle.tp_model.proofs.Standing.{standing}
-use Rattle.worker_gate.proofs.Going.{counted, idle_at, one_fails, one_passes, some_goes, IsAt, Joins, SomeGoes, Works}
+use Rattle.worker_gate.proofs.Elements.{all_in_range, any_at, counted, one_fails, one_passes, row_at}
+use Rattle.worker_gate.proofs.Going.{idle_at, some_goes, Joins, SomeGoes, Works}
 use Rattle.worker_gate.proofs.Manned.{attached_is, manned, some_may_run, IsManned}
 use Rattle.worker_gate.proofs.Staying.{StaysAt}
-
--- ---- lists
-
-all_in_range : (test : ℕ → Bool) (first count : ℕ) → ((n : ℕ) → first ≤ n → n < first + count → test n ≡ true) → list_all test (range_with_len first count) ≡ true
-all_in_range test first zero all = refl
-all_in_range test first (suc count) all =
-    and_from (test first) _ (all first (omega arith) (omega arith)) (all_in_range test (first + 1) count (λ n low high. all n (omega (arith, low)) (omega (arith, high))))
-
-range_one : (test : ℕ → Bool) (first count : ℕ) → IsAt test false (range_with_len first count) → (n : ℕ) × (test n ≡ false)
-range_one test first count at = (at.element, at.tests)
-
-any_at : {X : Type 0} (test : X → Bool) (xs : List X) → list_any test xs ≡ true → IsAt test true xs
-any_at test [] some = absurd (cc)
-any_at {X} test (x ∷ xs) some = by (test x) refl (any_at test xs) some
-  where
-    by : (b : Bool) → test x ≡ b → (list_any test xs ≡ true → IsAt test true xs) → (b || list_any test xs) ≡ true → IsAt test true (x ∷ xs)
-    by true is later e = record { place = 0; element = x; there = refl; tests = is }
-    by false is later e = let at = later e in record { place = suc at.place; element = at.element; there = at.there; tests = at.tests }
 
 some_none : {X : Type 0} (x : X) → None ≡ Some x → ⊥
 some_none x e = cc
@@ -61,9 +44,6 @@ module _ (limits : Limits) (capacity : ℕ) (history : List Entry) (legal : IsLe
 
   crew : IsManned limits history w
   crew = manned limits capacity history legal
-
-  row_at : {X : Type 0} (rows : List X) (i : ℕ) (row : X) → slice_get rows i ≡ Some row → numbered rows (i + 1) ≡ Some row
-  row_at rows i row there = numbered_at rows (i + 1) row (omega arith) (let same : (i + 1) - 1 ≡ i = omega arith in ap (slice_get rows) same ∙ there)
 
   -- an actor of a row
   worker_of_row : (number : ℕ) (row : WorkerRow) → numbered w.workers number ≡ Some row → IsActor limits (Worker number)

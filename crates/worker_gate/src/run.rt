@@ -82,7 +82,10 @@ pub fn one_history_alone()
     ensures { (known : Given) (limits : Bounds) (capacity : ℕ) (history other : List Entry) → IsAlone known limits capacity history → IsAlone known limits capacity other → history ≡ other }
 {}
 
-/// The same on this thread alone, in rounds. It waits for nobody, and returns.
+/// What `play_routines` does with `threads` being 1: this thread alone plays all parts, client 1's first
+/// and then the others in rounds. It waits for nobody, and returns.
+///
+/// An `AllocError` comes where memory isn't there; all is lost then.
 pub fn play_routines_alone<B: Recorded, R: Routines, G: Gate>(
     alloc: Global,
     limits: Limits,
