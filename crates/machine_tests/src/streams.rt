@@ -77,3 +77,50 @@ fn an_empty_script_is_played(rt: HostRuntime) {
         (Status::Fine, NOTHING_PLAYED.as_bytes()),
     );
 }
+
+/// The program, told to play a script, ends with this status.
+fn check_script(
+    rt: &(impl Abort + Threads + Wait + Sync),
+    alloc: Global,
+    script: &str,
+    status: Status,
+) {
+    let line = "run --threads 1 --workers 1";
+    let (ended, _held) = run_program(rt, alloc, line, script, 0, 0, &Open);
+    expect_eq(rt, ended, status);
+}
+
+/// A script has its first fault at this place.
+fn check_fault(
+    rt: &(impl Abort + Threads + Wait + Sync),
+    alloc: Global,
+    script: &str,
+    line: u32,
+    column: u32,
+) {
+    check_script(rt, alloc, script, Status::BadLine { line, column });
+}
+
+/// A name has 32 letters at most, a script 15 clients and a call 10,000 times.
+#[test]
+fn scripts_at_their_limits(rt: HostRuntime) {
+    let longest = "pool aaaaaaaaaaaaaaaaaaaaaaaaaaaaaaaa";
+    check_script(&rt, rt.alloc(), longest, Status::Fine);
+    let longer = "pool aaaaaaaaaaaaaaaaaaaaaaaaaaaaaaaaa";
+    check_fault(&rt, rt.alloc(), longer, 1, 6);
+    check_fault(&rt, rt.alloc(), "pool p\npool p", 2, 6);
+    check_fault(&rt, rt.alloc(), "client", 2, 1);
+    let clients = "client\ndone\nclient\ndone\nclient\ndone\nclient\ndone\n\
+        client\ndone\nclient\ndone\nclient\ndone\nclient\ndone\n\
+        client\ndone\nclient\ndone\nclient\ndone\nclient\ndone\n\
+        client\ndone\nclient\ndone\nclient\ndone\nclient\ndone\n";
+    check_fault(&rt, rt.alloc(), clients, 31, 1);
+    let often = "work w r\nroutine r\ndone\nclient\ntimes 10001 submit w\ndone\n";
+    check_fault(&rt, rt.alloc(), often, 5, 7);
+    let no_mode = "work w r\nroutine r\ndone\nclient\nwait w\ndone\n";
+    check_fault(&rt, rt.alloc(), no_mode, 5, 7);
+    let no_work = "work w r\nroutine r\ndone\nclient\nsubmit r\ndone\n";
+    check_fault(&rt, rt.alloc(), no_work, 5, 8);
+    let no_callback = "work w r\nroutine r\ndone\nclient\nmay-run-long\ndone\n";
+    check_fault(&rt, rt.alloc(), no_callback, 5, 1);
+}

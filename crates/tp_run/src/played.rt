@@ -72,7 +72,7 @@ pub fn play_script<Rt: Threads + Wait + Sync, B: Recorded + Send, G: Gate + Sync
     output_of_run(alloc, layout, &played)
 }
 
-/// The same on this thread alone. It waits for nobody, and returns.
+/// What `play_script` does on one thread, which is this one. It waits for nobody, and returns.
 pub fn play_script_alone<B: Recorded, G: Gate>(
     alloc: Global,
     script: &Script,
