@@ -178,18 +178,8 @@ impl LiveWorld {
     fn count_expiring(&self, now: u64) -> u32
         ensures { result ≡ count_expiring self.now.world now }
     {
-        // They stand in the order in which they expire.
-        let _ = self.timers.len();
-        let due = self.timers.count_due(now);
-        let mut count = 0;
-        for place in 0..due {
-            if let Some(object) = self.timers.nth(place) {
-                if !self.kernels.is_armed(object) {
-                    count += 1;
-                }
-            }
-        }
-        count
+        self.timers
+            .count_due_where(now, &|object: ObjectId| !self.kernels.is_armed(object))
     }
 
     /// Whether there is no slot for all that would expire, if the clock came to a moment. An armed

@@ -23,12 +23,12 @@ fn timers_expire_in_order(rt: HostRuntime) {
             set.fires,
             timers.len(),
             timers.count_due(149),
-            timers.nth(0),
+            timers.count_due_where(149, &|object| object == A),
             timers.expire(160),
             timers.expire(160),
             timers.is_set(A),
         ),
-        (false, 2, 1, Some(B), Some((130, B)), Some((150, A)), false),
+        (false, 2, 1, 0, Some((130, B)), Some((150, A)), false),
     );
     expect_eq(
         &rt,

@@ -1,4 +1,6 @@
-pub mod Kept
+pub mod Entries
+pub mod Held
 pub mod Order
-pub mod Placed
+pub mod Sifting
+pub mod Sums
 pub mod Told

@@ -3,8 +3,7 @@ use Rattle.std.proofs.Common.{◌≡◌, ◌≢◌, ◌==◌, ◌⊎◌, ℕ, Bo
 use Rattle.std.specs.List.{All}
 use Rattle.std.proofs.lemmas.Bool.{eq-eqb, eqb-true, ne_eqb}
 use Rattle.std.proofs.lemmas.List.Elements.{All-head, All-tail, All-cons}
-use Rattle.timer_heap.specs.declared.Entry.{Entry}
-use Rattle.timer_heap.specs.Dues.{entry, comes_before, due_of, with_entry, without_key}
+use Rattle.timer_heap.specs.Dues.{Entry, entry, comes_before, due_of, with_entry, without_key}
 
 pub true_or_false : (b : Bool) → (b ≡ true) ⊎ (b ≡ false)
 true_or_false true = inl refl
@@ -36,6 +35,10 @@ untold_free key (x ∷ xs) none =
     (λ (other : (x.key == key) ≡ false).
     All-cons (λ y. y.key ≢ key) x xs (λ same. let is = eq-eqb x.key key same in cc) (untold_free key xs (rw other at none)))
     (true_or_false (x.key == key))
+
+pub free_untold : (key : ℕ) (xs : List Entry) → IsFree key xs → due_of key xs ≡ None
+free_untold key [] free = refl
+free_untold key (x ∷ xs) free = rw (ne_eqb x.key key (free 0 x (omega arith))) (free_untold key xs (All-tail (λ y. y.key ≢ key) x xs free))
 
 pub without_free : (key : ℕ) (xs : List Entry) → IsFree key xs → without_key key xs ≡ xs
 without_free key [] free = refl

@@ -1,2 +1,5 @@
+pub mod Counting
 pub mod Dues
+pub mod Heap
+pub mod Held
 pub mod Kept

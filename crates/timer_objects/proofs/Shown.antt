@@ -1,5 +1,5 @@
 -- The settings that entries and paces show.
-use Rattle.std.proofs.Common.{◌≡◌, ◌≢◌, ◌==◌, ◌+◌, ◌<◌, ◌≤◌, ℕ, suc, Bool, true, false, not, List, [], ◌∷◌, Option, None, Some, filter, length, set, get_or, leb-true, nat_lt, refl, sym, ap, ◌∙◌, arith, ⊎_elim, eqb-true}
+use Rattle.std.proofs.Common.{◌≡◌, ◌≢◌, ◌==◌, ◌+◌, ◌<◌, ◌≤◌, ◌&&◌, ℕ, suc, Bool, true, false, not, List, [], ◌∷◌, Option, None, Some, filter, length, set, get_or, leb-true, nat_lt, refl, sym, ap, ◌∙◌, arith, ⊎_elim, eqb-true}
 use Rattle.std.specs.Prelude.{is_some}
 use Rattle.std.specs.List.{All, AllPairs}
 use Rattle.std.proofs.lemmas.Bool.{le-leb}
@@ -11,7 +11,7 @@ use Rattle.tp_base.specs.declared.ids.ObjectId.{ObjectId}
 use Rattle.tp_base.specs.declared.rows.TimerSetting.{TimerSetting}
 use Rattle.tp_base.specs.Timers as timers
 use Rattle.tp_base.specs.Timers.{expires_before, next_due, set_or_expire, with_setting, without_setting}
-use Rattle.timer_heap.specs.declared.Entry.{Entry}
+use Rattle.timer_heap.specs.Dues.{Entry}
 use Rattle.timer_heap.specs.Dues as dues
 use Rattle.timer_heap.specs.Dues.{entry, comes_before, with_entry, without_key, due_of}
 use Rattle.timer_heap.proofs.Told.{IsFree, true_or_false, untold_free, without_free}
@@ -75,6 +75,22 @@ module _ (paces : List Pace) where
       ⊎_elim
       (λ (due : dues.is_due now x ≡ true). rw due (ap suc (shown_due now xs)))
       (λ (other : dues.is_due now x ≡ false). rw other (shown_due now xs))
+      (true_or_false (dues.is_due now x))
+
+  pub shown_where : (now : ℕ) (passes : ℕ → Bool) (es : List Entry) → length (filter (λ s. passes s.object.0) (timers.expired now (settings_of paces es))) ≡ length (filter (λ e. passes (e.key + 1) && dues.is_due now e) es)
+  shown_where now passes [] = refl
+  shown_where now passes (x ∷ xs) =
+      ⊎_elim
+      (λ (due : dues.is_due now x ≡ true).
+      ⊎_elim
+      (λ (good : passes (x.key + 1) ≡ true). rw (due, good) (ap suc (shown_where now passes xs)))
+      (λ (bad : passes (x.key + 1) ≡ false). rw (due, bad) (shown_where now passes xs))
+      (true_or_false (passes (x.key + 1))))
+      (λ (other : dues.is_due now x ≡ false).
+      ⊎_elim
+      (λ (good : passes (x.key + 1) ≡ true). rw (other, good) (shown_where now passes xs))
+      (λ (bad : passes (x.key + 1) ≡ false). rw (other, bad) (shown_where now passes xs))
+      (true_or_false (passes (x.key + 1))))
       (true_or_false (dues.is_due now x))
 
   pub shown_set : (key : ℕ) (object : ℕ) (es : List Entry) → object ≡ key + 1 → is_some (due_of key es) ≡ is_set object (settings_of paces es)

@@ -1,6 +1,6 @@
 -- Timer objects and their settings: what a contract sees of `TimerObjects`. A setting may be that of a timer, or the
 -- timeout of an armed wait.
-use Rattle.std.specs.Prelude.{◌≡◌, ◌≢◌, ℕ, ◌==◌, Bool, true, false, List, [], ◌∷◌, Option, None, Some, option_map, slice_get, slice_index_or, if◌then◌else◌}
+use Rattle.std.specs.Prelude.{◌≡◌, ◌≢◌, ℕ, ◌≤◌, ◌==◌, Bool, true, false, List, [], ◌∷◌, Option, None, Some, slice_index_or, if◌then◌else◌}
 use Rattle.std.specs.List.{AllPairs, list_any}
 use Rattle.tp_base.specs.declared.ids.ObjectId.{ObjectId}
 use Rattle.tp_base.specs.declared.rows.TimerSetting.{TimerSetting}
@@ -20,9 +20,9 @@ is_there timers object = slice_index_or timers.there object false
 abbrev pub is_set : ℕ → List TimerSetting → Bool
 is_set object settings = list_any (λ (s : TimerSetting). s.object.0 == object) settings
 
--- the object of the setting at a place, counted from 0
-abbrev pub object_at : ℕ → List TimerSetting → Option ObjectId
-object_at place settings = option_map (λ (s : TimerSetting). s.object) (slice_get settings place)
+-- a test of objects answers as this function does
+abbrev pub TestsObjects : (ObjectId → Bool → Type 0) → ℕ → (ℕ → Bool) → Type 0
+TestsObjects post limit passes = (object : ObjectId) (answer : Bool) → object.0 ≤ limit → post object answer → answer ≡ passes object.0
 
 -- each setting expires before all later ones
 abbrev pub IsInOrder : List TimerSetting → Type 0

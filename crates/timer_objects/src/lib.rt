@@ -5,7 +5,7 @@
 //!
 //! `open` takes the memory for all objects, and no other call takes any. `create` enters an object
 //! and `close` strikes it out; `set` does what SetThreadpoolTimer does to the settings, and `unset` ends
-//! one; `expire` lets the first timer expire, if it is due; `is_set`, `nth`, `count_due` and `len` read.
+//! one; `expire` lets the first timer expire, if it is due; `is_set`, `count_due` and `len` read.
 //! What the numbers mean is defined in tp_base (`specs/Timers`): times are in units of 100 ns since the
 //! clock began, periods and windows in milliseconds.
 //!
@@ -16,22 +16,20 @@
 //! timers.set(ObjectId(1), 100, Some(150), 0, 0);      // once, at 150
 //! timers.set(ObjectId(2), 100, Some(-30), 1, 0);      // at 130, and from then on each 10,000 units
 //! timers.count_due(200)       // 2
-//! timers.nth(0)               // Some(ObjectId(2)): the first to expire
 //! timers.expire(200)          // Some((130, ObjectId(2))): it is set anew, to 10,130
 //! timers.expire(200)          // Some((150, ObjectId(1))): it is no longer set
 //! timers.expire(200)          // None
 //! ```
 //!
-//! What a call costs: `create` and `is_set` look at one object, `nth`, and `expire` where nothing is
-//! due, at one setting. `set`, `unset` and `close` find the place of a setting by halving, and so does `expire` where a
-//! timer is set anew; the settings before it move then or those behind it, whichever are fewer.
-//! `count_due` finds by halving where those that are due end.
+//! What a call costs: `create` and `is_set` look at one object, and `expire` where nothing is due at
+//! one setting. `set`, `unset`, `close` and an `expire` that takes one out move settings along one way
+//! through a heap (timer_heap). `count_due` looks at those that are due and at those right below them.
 
 #![tactic(auto)]
 
-ghost use Rattle.std.specs.Prelude.{◌≡◌, ◌+◌, ◌<◌, ◌≤◌, All, IfOk, [], ◌∷◌, MatchOption, IfNone, length, map, replicate, slice_set, true, false};
+ghost use Rattle.std.specs.Prelude.{◌≡◌, ℕ, ◌+◌, ◌^◌, ◌<◌, ◌≤◌, All, Bool, IfOk, [], ◌∷◌, MatchOption, IfNone, filter, length, map, replicate, slice_set, true, false};
 ghost use Rattle.tp_base.specs.Timers.{after_expiry, clock_end, expired, expires_at_once, is_due, set_or_expire, set_timer, without_setting};
-ghost use Rattle.timer_objects.specs.Settings.{HasDistinctObjects, IsInOrder, after_first, first_expired, is_set, is_there, object_at, told};
+ghost use Rattle.timer_objects.specs.Settings.{HasDistinctObjects, IsInOrder, after_first, first_expired, is_set, is_there, told, TestsObjects};
 
 mod moments;
 
@@ -229,20 +227,24 @@ impl TimerObjects {
         object.0 > 0 && self.dues.due_of(key_of(object)).is_some()
     }
 
-    /// The object of the setting at this place in the order in which they expire, counted from 0, or
-    /// None behind the last.
-    pub fn nth(&self, place: u32) -> Option<ObjectId>
-        ensures { result ≡ object_at place self.now.settings }
-    {
-        let key = self.dues.nth(place)?;
-        Some(ObjectId(key + 1))
-    }
-
     /// How many timers are due at the moment `now`: their due times aren't above it.
     pub fn count_due(&self, now: u64) -> u32
         ensures { result ≡ length (expired now self.now.settings) }
     {
         self.dues.count_due(now)
+    }
+
+    /// How many of the timers that are due at the moment `now` pass a test.
+    pub fn count_due_where<F: Fn(ObjectId) -> bool>(&self, now: u64, test: &F) -> u32
+        requires { F.IsAlwaysCallable test.now }
+        ensures { (passes : ℕ → Bool) → TestsObjects (F.post test.now) self.now.limit passes → result ≡ length (filter (λ s. passes s.object.0) (expired now self.now.settings)) }
+    {
+        // A key is below the limit, so its object has a number.
+        let of_key = |key: u32| -> bool
+            requires { F.IsAlwaysCallable test.now }
+            ensures { key + 1 < 2 ^ 32 → F.post test.entry.now (record { 0 = key + 1 }) result }
+        { test(ObjectId(key.saturating_add(1))) };
+        self.dues.count_due_where(now, &of_key)
     }
 
     /// Lets the first timer expire, if it is due at the moment `now`, and answers when it was due,

@@ -3,7 +3,7 @@ use Rattle.std.proofs.Common.{◌≡◌, ◌≢◌, ◌+◌, ◌<◌, ◌≤◌,
 use Rattle.std.proofs.lemmas.Bool.{cases_eq, eq-eqb, ne_eqb}
 use Rattle.std.proofs.lemmas.List.{length-set, get_or-set_other, get_or-set_same}
 use Rattle.std.proofs.lemmas.List.Elements.{All-tail}
-use Rattle.timer_heap.specs.declared.Entry.{Entry}
+use Rattle.timer_heap.specs.Dues.{Entry}
 use Rattle.timer_heap.specs.Dues.{Dues, HasDistinctKeys, IsInOrder, after_first, due_of, entry, first_due, with_entry, without_key}
 use Rattle.timer_heap.proofs.Told.{IsFree, free_without, told_with, told_with_other, told_without, told_without_other}
 use Rattle.timer_objects.proofs.Shown.{popped}
