@@ -46,24 +46,18 @@
 
 #![tactic(auto)]
 
-ghost use Rattle.std.specs.Prelude.{◌≡◌, ◌+◌, ◌^◌, ◌<◌, IfOk, nat_lt, option_map};
-ghost use Rattle.pool_core.specs.Entered.{outcome_of_entry};
-ghost use Rattle.tp_base.specs.Ranges.{AreLimitsInRange, IsCallInRange, IsAnswerInRange, IsOutcomeInRange, IsRefusalInRange};
+ghost use Rattle.std.specs.Prelude.{◌≡◌, ◌^◌, ◌<◌, IfOk, option_map};
+ghost use Rattle.tp_base.specs.Ranges.{AreLimitsInRange, IsCallInRange, IsOutcomeInRange};
 ghost use Rattle.tp_model.specs.World.{World, opening};
 ghost use Rattle.tp_model.specs.Counts.{owed};
-ghost use Rattle.tp_model.specs.Changes.{changed};
 ghost use Rattle.tp_model.specs.Over.{is_over, left_after, row_of};
-ghost use Rattle.tp_model.specs.Support.Allowed.{IsAllowed, price as price_of};
-ghost use Rattle.tp_model.specs.Support.Ranged.{IsChangeInRange};
 ghost use Rattle.tp_model.specs.Table.{step};
-ghost use Rattle.tp_model.specs.Support.Remembered.{StandsFor, Meets, remembered_in};
+ghost use Rattle.tp_model.specs.Support.Remembered.{StandsFor, Meets};
 
-use decisions::Decision;
-use live_world::LiveWorld;
-use plans::{plan, price};
+use machine::Machine;
 use std::alloc::{AllocError, Global};
 use std::marker::Model;
-use tp_base::answers::{Answer, Outcome, Refusal};
+use tp_base::answers::Outcome;
 use tp_base::calls::Call;
 use tp_base::ids::{ObjectId, Who};
 use tp_base::limits::Limits;
@@ -76,6 +70,7 @@ mod groups;
 mod in_callback;
 mod io;
 mod kernels;
+mod machine;
 mod objects;
 mod plans;
 mod pools;
@@ -90,9 +85,9 @@ mod workers;
 /// A machine that is being played.
 #[derive(Drop)]
 pub struct Engine {
-    live: LiveWorld,
-    owed: u64,
-    age: u64,
+    machine: Machine,
+    // Where the change of an accepted call is written. It says nothing of the machine.
+    change: Change,
 }
 
 impl Model for Engine {
@@ -100,16 +95,10 @@ impl Model for Engine {
 
     ghost Value = { Remembered };
 
-    ghost use Rattle.pool_core.specs.View.{remembered, IsEngine};
-
-    ghost view = { remembered };
-
-    ghost invariant = { IsEngine };
+    ghost view = { λ engine. engine.machine };
 }
 
 impl Engine {
-    ghost use Rattle.pool_core.specs.Entered.{after_entry};
-
     /// Opens the engine of a machine with these limits, before its first call.
     ///
     /// It takes all the memory that the engine will ever need; an `AllocError` comes where that
@@ -120,9 +109,8 @@ impl Engine {
         ensures age { IfOk result (λ engine. engine.age ≡ 0) }
     {
         Ok(Engine {
-            live: LiveWorld::open(alloc, limits)?,
-            owed: u64::from(limits.clients),
-            age: 0,
+            machine: Machine::open(alloc, limits)?,
+            change: Change::Keep,
         })
     }
 
@@ -131,52 +119,14 @@ impl Engine {
     /// `room` is how many more entries the history has room for, less those that are owed. The
     /// outcome is the answer, which is the call's entry; or a look, where nothing happened yet; or
     /// Full, where the call costs more than there is room for. It takes no memory.
+    #[inline(always)]
     pub fn step(&mut self, who: Who, call: Call, room: u64) -> Outcome
         requires in_range { IsCallInRange call }
         requires young { self.old.age < 2 ^ 47 }
         ensures meets { (w : World) → StandsFor self.old w → Meets self.old self.new w (step w room who call) result }
         ensures in_range { IsOutcomeInRange result }
     {
-        self.live.is_reachable();
-        let mut change = Change::Keep;
-        match plan(&self.live, who, call, room, &mut change) {
-            Decision::Looked(look) => Outcome::Look(look),
-            Decision::Refused(refusal) => refuse(refusal, room),
-            Decision::Accepted(answer) => self.enter(answer, &change, room),
-        }
-    }
-
-    // Makes a change for an answer, where the history has room for what they cost.
-    #[inline(always)]
-    fn enter(&mut self, answer: Answer, change: &Change, room: u64) -> Outcome
-        requires allowed { IsAllowed (self.old.made + 1) self.old.world change.now }
-        requires answer_in_range { IsAnswerInRange answer }
-        requires change_in_range { IsChangeInRange change.now }
-        requires young { self.old.age < 2 ^ 47 }
-        ensures outcome { result ≡ outcome_of_entry room answer (price_of change.now) }
-        ensures after { self.new ≡ after_entry self.old room change.now }
-        ensures in_range { IsOutcomeInRange result }
-    {
-        let cost = price(change);
-        if lacks_room(room, cost) {
-            return Outcome::Full { room, cost };
-        }
-        self.apply(change);
-        Outcome::Done(answer)
-    }
-
-    // Makes a change that the world allows, and counts what the history owes and the age.
-    #[inline(never)]
-    fn apply(&mut self, change: &Change)
-        requires allowed { IsAllowed (self.old.made + 1) self.old.world change.now }
-        requires in_range { IsChangeInRange change.now }
-        requires young { self.old.age < 2 ^ 47 }
-        ensures { self.new ≡ remembered_in self.old (changed self.old.world change.now) }
-    {
-        self.live.is_reachable();
-        self.owed = self.owed + price(change) - 1;
-        self.age += 1;
-        self.live.apply(change);
+        self.machine.step(who, call, room, &mut self.change)
     }
 
     /// The number of entries for which the history must keep room: each running callback returns,
@@ -185,7 +135,7 @@ impl Engine {
     pub fn owed(&self) -> u64
         ensures { (w : World) → StandsFor self.now w → result ≡ owed w }
     {
-        self.owed
+        self.machine.owed()
     }
 
     /// Whether all is over: every client has finished, no callback runs, and the history, which has
@@ -194,7 +144,7 @@ impl Engine {
     pub fn is_over(&self, room: u64) -> bool
         ensures { (w : World) → StandsFor self.now w → result ≡ is_over w room }
     {
-        self.live.is_over(room)
+        self.machine.is_over(room)
     }
 
     /// Of the callbacks that may still run the one of least number above this one, if there is one: its
@@ -202,35 +152,13 @@ impl Engine {
     pub fn left_after(&self, number: u64) -> Option<(u64, ObjectId, Left)>
         ensures { (w : World) → StandsFor self.now w → option_map row_of result ≡ left_after w number }
     {
-        self.live.left_after(number)
+        self.machine.left_after(number)
     }
 
     /// The number of steps that were accepted since the engine was opened.
     pub fn age(&self) -> u64
         ensures { result ≡ self.now.age }
     {
-        self.age
-    }
-}
-
-// Whether an entry of this cost is too much for the room that a history has.
-#[inline(always)]
-fn lacks_room(room: u64, cost: u64) -> bool
-    ensures { result ≡ nat_lt room cost }
-{
-    room < cost
-}
-
-// What a refusal comes to, where the history has room for its entry.
-#[inline(always)]
-fn refuse(refusal: Refusal, room: u64) -> Outcome
-    requires { IsRefusalInRange refusal }
-    ensures outcome { result ≡ outcome_of_entry room (Answer.Refused refusal) 1 }
-    ensures in_range { IsOutcomeInRange result }
-{
-    if lacks_room(room, 1) {
-        Outcome::Full { room, cost: 1 }
-    } else {
-        Outcome::Done(Answer::Refused(refusal))
+        self.machine.age()
     }
 }

@@ -16,6 +16,7 @@ use tp_base::ids::Who;
 use tp_base::plans::Change;
 
 /// What a call comes to, where the history has room for so many entries. It changes nothing.
+#[inline(always)]
 pub(crate) fn plan(
     world: &LiveWorld,
     who: Who,

@@ -107,6 +107,7 @@ fn end_freely(who: Who, change: &mut Change) -> Decision
 
 // What End comes to where the actor's wait can't end yet: a look, or the end of the wait where the
 // machine is stalled.
+#[inline(always)]
 fn unless_stalled(
     world: &LiveWorld,
     who: Who,

@@ -12,11 +12,11 @@ use Rattle.tp_model.proofs.Calls.{plan_ranged}
 use Rattle.live_world.specs.Bounds.{IsBounded}
 use Rattle.pool_core.specs.Decided.{decided}
 use Rattle.pool_core.specs.declared.decisions.Decision.{Decision}
-use Rattle.pool_core.specs.View.{remembered, IsEngine}
-use Rattle.pool_core.specs.declared.Engine.TheInside.{Inside}
+use Rattle.pool_core.specs.View.{remembered, IsMachine}
+use Rattle.pool_core.specs.declared.machine.Machine.TheInside.{Inside}
 use Rattle.pool_core.proofs.Counting.{taken_within}
 use Rattle.pool_core.proofs.Stepping.{meets_looked, meets_refused, meets_done}
-use Rattle.pool_core.proofs.Engine.step.Goals as goal
+use Rattle.pool_core.proofs.machine.Machine.step.Goals as goal
 
 -- the plan is that of what the engine remembers
 planned : (i : Inside) (e : Remembered) (room : ℕ) (who : Who) (call : Call) (change : Change) (decision is : Decision) → remembered i ≡ e → decided decision change ≡ plan_at i.live.world (i.live.made + 1) room who call → decision ≡ is → plan_at e.world (e.made + 1) room who call ≡ decided is change
@@ -53,7 +53,7 @@ returns-in-Accepted-clause-meets c w stands =
 -- ---- ranges
 
 -- the plan's numbers are in range
-ranged : (i : Inside) (e : Remembered) (room : ℕ) (who : Who) (call : Call) (change : Change) (decision is : Decision) → remembered i ≡ e → IsEngine i → e.age < 2 ^ 47 → IsSound (i.live.made + 1) i.live.world → IsBounded i.live.world → IsCallInRange call
+ranged : (i : Inside) (e : Remembered) (room : ℕ) (who : Who) (call : Call) (change : Change) (decision is : Decision) → remembered i ≡ e → IsMachine i → e.age < 2 ^ 47 → IsSound (i.live.made + 1) i.live.world → IsBounded i.live.world → IsCallInRange call
     → decided decision change ≡ plan_at i.live.world (i.live.made + 1) room who call → decision ≡ is → IsPlanInRange (decided is change)
 ranged i e room who call change decision is same k young s b in_range made found =
     let few : i.live.made + 1 + 65536 ≤ 2 ^ 64 = omega (arith, k.few_made, young, ap (λ (r : Remembered). r.age) same) in

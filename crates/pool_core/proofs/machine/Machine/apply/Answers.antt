@@ -13,21 +13,21 @@ use Rattle.tp_model.proofs.Ranged.{changed_rows, forget_rows}
 use Rattle.tp_model.proofs.Takings.{taken_more}
 use Rattle.live_world.specs.Bounds.{IsBounded}
 use Rattle.live_world.specs.Live.{Live}
-use Rattle.pool_core.specs.View.{remembered, IsEngine}
-use Rattle.pool_core.specs.declared.Engine.TheInside.{Inside}
+use Rattle.pool_core.specs.View.{remembered, IsMachine}
+use Rattle.pool_core.specs.declared.machine.Machine.TheInside.{Inside}
 use Rattle.pool_core.proofs.Counting.{AreFew, few, taken_within}
-use Rattle.pool_core.proofs.Engine.apply.Goals as goal
+use Rattle.pool_core.proofs.machine.Machine.apply.Goals as goal
 
 allowed_here : (i : Inside) (e : Remembered) (ch : Change) → remembered i ≡ e → IsAllowed (e.made + 1) e.world ch → IsAllowed (i.live.made + 1) i.live.world ch
 allowed_here i e ch same allowed = subst (λ (r : Remembered). IsAllowed (r.made + 1) r.world ch) (sym same) allowed
 
 -- what is owed after the change, and its own entry, is what was owed before and its price
-pays : (i : Inside) (e : Remembered) (ch : Change) → remembered i ≡ e → IsSound (i.live.made + 1) i.live.world → IsAllowed (e.made + 1) e.world ch → IsEngine i → 1 + owed (changed i.live.world ch) ≡ i.owed + price ch
+pays : (i : Inside) (e : Remembered) (ch : Change) → remembered i ≡ e → IsSound (i.live.made + 1) i.live.world → IsAllowed (e.made + 1) e.world ch → IsMachine i → 1 + owed (changed i.live.world ch) ≡ i.owed + price ch
 pays i e ch same sound allowed k =
     paid (i.live.made + 1) i.live.world ch sound (allowed_here i e ch same allowed) ∙ ap (λ n. n + price ch) (sym k.owes)
 
 -- few callbacks are made, at little cost
-few_here : (i : Inside) (e : Remembered) (ch : Change) → remembered i ≡ e → IsBounded i.live.world → IsAllowed (e.made + 1) e.world ch → IsEngine i → AreFew ch
+few_here : (i : Inside) (e : Remembered) (ch : Change) → remembered i ≡ e → IsBounded i.live.world → IsAllowed (e.made + 1) e.world ch → IsMachine i → AreFew ch
 few_here i e ch same b allowed k =
     let objects : length i.live.world.objects ≤ 65535 = omega (arith, k.rows.few, b.limits.objects_most) in
     few (i.live.made + 1) i.live.world ch b.limits.slots_most (taken_within i.live.world b) objects (allowed_here i e ch same allowed)
