@@ -6,6 +6,7 @@ ghost use Rattle.worker_gate.specs.Places.{given};
 
 use crate::actor::Actor;
 use crate::role::{Gate, Turn};
+use crossbeam_utils::Backoff;
 use recorded::Recorded;
 use shared_pool::SharedPool;
 use std::alloc::AllocError;
@@ -31,13 +32,17 @@ pub fn play_crew<B: Recorded, R: Routines, G: Gate>(
     ensures ready { AllReady (given R.next_of R.after_of routines.now) pool.now result.items }
     ensures back { AreHandedBack (given R.next_of R.after_of routines.now) crew.items result.items }
 {
+    let backoff = Backoff::new();
     let mut idle = 0;
     while idle < IDLE_ROUNDS {
         match play_round(&mut crew, pool, routines, gate) {
-            Turn::Moved => idle = 0,
+            Turn::Moved => {
+                idle = 0;
+                backoff.reset();
+            }
             Turn::Waiting => {
                 idle += 1;
-                thread::yield_now();
+                backoff.snooze();
             }
             Turn::Ended => break,
         }

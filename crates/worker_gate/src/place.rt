@@ -50,7 +50,9 @@ impl Place {
         }
     }
 
-    fn next_in<R: Routines>(&self, who: Who, routines: &R) -> Option<Call>
+    // The same while no wait is begun.
+    #[inline(always)]
+    pub(crate) fn next_in<R: Routines>(&self, who: Who, routines: &R) -> Option<Call>
         ensures value { result ≡ next_in (given R.next_of R.after_of routines.now) (part_in self.now.stage who) self.now.at }
         ensures in_range { IfSome result IsCallInRange }
         ensures of_part { IfSome result IsOfPart }

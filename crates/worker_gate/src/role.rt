@@ -7,7 +7,7 @@ ghost use Rattle.tp_script.specs.Calls.{IsOfPart};
 ghost use Rattle.recorded.specs.Recordings.{is_over_behind};
 ghost use Rattle.turn_lock.specs.Histories.{own};
 ghost use Rattle.worker_gate.specs.Places.{given, next_call};
-ghost use Rattle.worker_gate.specs.Roles.{due_at, due_of, due_or, ends, ends_at, is_idle_take, is_last_turn, new_role, took, turn_by, turned, who_of, IsOf};
+ghost use Rattle.worker_gate.specs.Roles.{due_of, due_or, ends, ends_at, is_idle_take, is_last_turn, new_role, took, turn_by, turned, who_of, IsOf};
 
 use crate::place::Place;
 use recorded::Recorded;
@@ -132,29 +132,19 @@ impl Role {
             }
     }
 
-    // The call that it is to make.
+    // The call that it is to make. Its part is asked only where it plays one and waits for nothing.
+    #[inline(always)]
     pub(crate) fn due<R: Routines>(&self, routines: &R) -> Call
         ensures value { result ≡ due_of (given R.next_of R.after_of routines.now) self.now.who self.now.place self.now.marked }
         ensures in_range { IsCallInRange result }
         ensures of_part { IfSome (next_call (given R.next_of R.after_of routines.now) self.now.who self.now.place) IsOfPart }
     {
-        let next = self.place.next_call(self.who, routines);
         if self.place.waits {
-            Call::End
-        } else {
-            self.due_at(next)
+            return Call::End;
         }
-    }
-
-    // The same while no wait is begun, by the next call of its part.
-    fn due_at(&self, next: Option<Call>) -> Call
-        requires { IfSome next IsCallInRange }
-        ensures value { result ≡ due_at self.now.place.stage self.now.marked next }
-        ensures in_range { IsCallInRange result }
-    {
         match self.place.stage {
-            Stage::Playing => self.due_or(Call::Finish, next),
-            Stage::Busy { .. } => self.due_or(Call::Return, next),
+            Stage::Playing => self.due_or(Call::Finish, self.place.next_in(self.who, routines)),
+            Stage::Busy { .. } => self.due_or(Call::Return, self.place.next_in(self.who, routines)),
             Stage::Over => Call::Finish,
             Stage::Away => Call::Attach,
             Stage::Idle if self.marked => Call::Detach,
@@ -176,6 +166,7 @@ impl Role {
     }
 
     // Takes note of what its call came to.
+    #[inline(always)]
     pub(crate) fn hears<R: Routines, G: Gate>(
         &mut self,
         routines: &R,
