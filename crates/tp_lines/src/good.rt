@@ -8,7 +8,7 @@ ghost use Rattle.line_grammar.specs.Traces.{IsAhead};
 ghost use Rattle.tp_lines.specs.Answers.{EntryLines};
 ghost use Rattle.tp_lines.specs.Calls.{CallLines};
 
-use crate::fronts::{front_entry, front_line};
+use crate::fronts::{front_entry, front_line, rare_entry, rare_line};
 use line_grammar::words::behind;
 use tp_base::answers::Entry;
 use tp_base::calls::Call;
@@ -32,6 +32,25 @@ pub fn read_good_entry(text: &[u8]) -> Option<(Entry, usize)>
     ensures { IfSome result (λ read. IsAhead EntryLines text.now read.0 read.1) }
 {
     let (entry, rest) = front_entry(text)?;
+    let more = behind(b'\n', rest)?;
+    Some((entry, text.len() - more.len()))
+}
+
+/// The same for some lines of calls that are less frequent. It stands apart, so that what most lines need
+/// stays short.
+pub fn read_rare_call(text: &[u8]) -> Option<((Who, Call), usize)>
+    ensures { IfSome result (λ read. IsAhead CallLines text.now read.0 read.1) }
+{
+    let (made, rest) = rare_line(text)?;
+    let more = behind(b'\n', rest)?;
+    Some((made, text.len() - more.len()))
+}
+
+/// The same for some lines of entries that are less frequent.
+pub fn read_rare_entry(text: &[u8]) -> Option<(Entry, usize)>
+    ensures { IfSome result (λ read. IsAhead EntryLines text.now read.0 read.1) }
+{
+    let (entry, rest) = rare_entry(text)?;
     let more = behind(b'\n', rest)?;
     Some((entry, text.len() - more.len()))
 }

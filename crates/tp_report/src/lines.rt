@@ -15,7 +15,7 @@ use tp_base::calls::Call;
 use tp_base::ids::Who;
 use tp_lines::calls::read_call_line;
 use tp_lines::entries::read_entry;
-use tp_lines::good::{read_good_call, read_good_entry};
+use tp_lines::good::{read_good_call, read_good_entry, read_rare_call, read_rare_entry};
 
 /// What a line behind the header is.
 #[derive(Clone, Copy)]
@@ -58,7 +58,7 @@ pub fn read_call(text: &[u8]) -> Result<((Who, Call), usize), usize>
 {
     match read_good_call(text) {
         Some(read) => Ok(read),
-        None => match read_any_call(text) {
+        None => match read_other_call(text) {
             Ok((line, size)) => Ok((line, size)),
             Err(place) => Err(place),
         },
@@ -67,6 +67,15 @@ pub fn read_call(text: &[u8]) -> Result<((Who, Call), usize), usize>
 
 // The others stand apart, so that what most lines need stays short.
 #[inline(never)]
+fn read_other_call(text: &[u8]) -> Result<((Who, Call), usize), usize>
+    ensures { IsRead (Ended CallLines) text.now result }
+{
+    match read_rare_call(text) {
+        Some(read) => Ok(read),
+        None => read_any_call(text),
+    }
+}
+
 fn read_any_call(text: &[u8]) -> Result<((Who, Call), usize), usize>
     ensures { IsRead (Ended CallLines) text.now result }
 {
@@ -80,7 +89,7 @@ fn read_entry_line(text: &[u8]) -> Result<(Entry, usize), usize>
 {
     match read_good_entry(text) {
         Some(read) => Ok(read),
-        None => match read_any_entry(text) {
+        None => match read_other_entry(text) {
             Ok((entry, size)) => Ok((entry, size)),
             Err(place) => Err(place),
         },
@@ -88,6 +97,15 @@ fn read_entry_line(text: &[u8]) -> Result<(Entry, usize), usize>
 }
 
 #[inline(never)]
+fn read_other_entry(text: &[u8]) -> Result<(Entry, usize), usize>
+    ensures { IsRead (Ended EntryLines) text.now result }
+{
+    match read_rare_entry(text) {
+        Some(read) => Ok(read),
+        None => read_any_entry(text),
+    }
+}
+
 fn read_any_entry(text: &[u8]) -> Result<(Entry, usize), usize>
     ensures { IsRead (Ended EntryLines) text.now result }
 {

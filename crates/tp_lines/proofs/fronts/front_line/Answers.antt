@@ -1,12 +1,6 @@
-use Rattle.tp_lines.proofs.FrontFacts.{client_front, worker_front}
+use Rattle.tp_lines.proofs.FrontFacts.{line_front}
 use Rattle.tp_lines.proofs.fronts.front_line.Goals as goal
-
-pub returns-in-Some : goal.returns-in-Some
-returns-in-Some c =
-    let d = c.in_ok-number.ensures in
-    worker_front c.args.text.now c.in-Some.after.now c.in_ok-number.start.now c.in_ok-call.rest.now c.in-Some.ensures c.in_ok-number.number d.0 d.1 d.2 c.in_ok-call.call c.in_ok-call.ensures
 
 pub returns : goal.returns
 returns c =
-    let d = c.in_ok-number-2.ensures in
-    client_front c.args.text.now c.in_ok-after.after.now c.in_ok-number-2.start.now c.in_ok-call-2.rest.now c.in_ok-after.ensures c.in_ok-number-2.number d.0 d.1 d.2 c.in_ok-call-2.call c.in_ok-call-2.ensures
+    line_front c.args.text.now c.in_ok-who.start.now c.in_ok-call.rest.now c.in_ok-who.who c.in_ok-call.call c.in_ok-who.ensures c.in_ok-call.ensures
