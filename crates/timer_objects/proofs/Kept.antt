@@ -5,8 +5,7 @@ use Rattle.std.proofs.lemmas.Bool.{cases_lt}
 use Rattle.std.proofs.lemmas.List.{length-set, get_or-set_other, get_or_past, get_or_default}
 use Rattle.std.proofs.lemmas.List.Elements.{All-filter, All-head, All-tail, All-same}
 use Rattle.tp_base.specs.declared.rows.TimerSetting.{TimerSetting}
-use Rattle.timer_heap.specs.Dues.{Entry}
-use Rattle.timer_heap.specs.Dues.{Dues, entry, with_entry, without_key, HasDistinctKeys, is_due, first_due, after_first}
+use Rattle.timer_heap.specs.Dues.{Entry, Dues, entry, with_entry, without_key, HasDistinctKeys, is_due, first_due, after_first}
 use Rattle.timer_heap.proofs.Entries.{all_with}
 use Rattle.timer_heap.proofs.Told.{true_or_false, free_without}
 use Rattle.timer_objects.specs.declared.Pace.{Pace}

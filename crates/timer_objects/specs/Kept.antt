@@ -1,8 +1,7 @@
 -- What timer objects keep between calls.
 use Rattle.std.specs.Prelude.{◌≡◌, ℕ, ◌+◌, ◌<◌, ◌^◌, Bool, true, false, List, All, length, map, slice_index_or}
 use Rattle.tp_base.specs.declared.rows.TimerSetting.{TimerSetting}
-use Rattle.timer_heap.specs.Dues.{Entry}
-use Rattle.timer_heap.specs.Dues.{Dues}
+use Rattle.timer_heap.specs.Dues.{Entry, Dues}
 use Rattle.timer_objects.specs.declared.Pace.{Pace}
 
 abbrev pub pace_of : List Pace → ℕ → Pace

@@ -4,8 +4,7 @@ use Rattle.std.specs.List.{All}
 use Rattle.std.proofs.lemmas.Bool.{cases_lt}
 use Rattle.std.proofs.lemmas.Bool.Decides.{nat_tests}
 use Rattle.std.proofs.lemmas.List.Elements.{All-cons}
-use Rattle.timer_heap.specs.Dues.{Entry}
-use Rattle.timer_heap.specs.Dues.{IsInOrder, comes_before, due_of, entry, first_due, is_due}
+use Rattle.timer_heap.specs.Dues.{Entry, IsInOrder, comes_before, due_of, entry, first_due, is_due}
 use Rattle.timer_heap.proofs.Order.{head_pairs}
 use Rattle.timer_heap.proofs.Told.{told_is, true_or_false}
 

@@ -2,10 +2,8 @@
 use Rattle.std.proofs.Common.{◌≡◌, ◌≢◌, ◌+◌, ◌<◌, ◌≤◌, ◌⊎◌, ℕ, zero, suc, List, [], ◌∷◌, Option, None, Some, IsSome, length, set, get_or, refl, sym, ap, subst, inl, inr, ◌∙◌, arith, ⊎_elim}
 use Rattle.std.proofs.lemmas.Bool.{cases_eq, eq-eqb, ne_eqb}
 use Rattle.std.proofs.lemmas.List.{length-set, get_or-set_other, get_or-set_same}
-use Rattle.std.proofs.lemmas.List.Elements.{All-tail}
-use Rattle.timer_heap.specs.Dues.{Entry}
 use Rattle.timer_heap.specs.Dues.{Dues, HasDistinctKeys, IsInOrder, after_first, due_of, entry, first_due, with_entry, without_key}
-use Rattle.timer_heap.proofs.Told.{IsFree, free_without, told_with, told_with_other, told_without, told_without_other}
+use Rattle.timer_heap.proofs.Told.{free_untold, free_without, told_with, told_with_other, told_without, told_without_other}
 use Rattle.timer_objects.proofs.Shown.{popped}
 use Rattle.wait_objects.specs.declared.Wait.{Wait}
 use Rattle.wait_objects.specs.Kept.{IsKept}
@@ -21,11 +19,6 @@ due_within : (waits : List (Option Wait)) (n due : ℕ) → due_in (get_or waits
 due_within [] n due is = cc
 due_within (w ∷ ws) zero due is = omega arith
 due_within (w ∷ ws) (suc n) due is = omega (arith, due_within ws n due is)
-
-free_untold : (key : ℕ) (xs : List Entry) → IsFree key xs → due_of key xs ≡ None
-free_untold key [] free = refl
-free_untold key (x ∷ xs) free =
-    rw (ne_eqb x.key key (free 0 x (omega arith))) (free_untold key xs (All-tail (λ y. y.key ≢ key) x xs free))
 
 module _ (waits : List (Option Wait)) (dues : Dues) (kept : IsKept waits dues) where
   -- an object changes, and with it the due time of its key alone
