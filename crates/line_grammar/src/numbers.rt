@@ -50,6 +50,7 @@ fn first_digit(text: &[u8]) -> Option<u64>
 }
 
 // The number with the digit at `size` behind it, if it has one and is then at most `most`.
+#[inline(always)]
 fn longer_number(text: &[u8], size: usize, value: u64, most: u64) -> Option<u64>
     requires { size ≤ length text.now }
     ensures { MatchOption result
