@@ -5,7 +5,8 @@
 //!
 //! `open` takes the memory for all objects, and no other call takes any. `create` enters an object
 //! and `close` strikes it out; `set` does what SetThreadpoolTimer does to the settings, and `unset` ends
-//! one; `expire` lets the first timer expire, if it is due; `is_set`, `count_due` and `len` read.
+//! one; `expire` lets the first timer expire, if it is due; `is_set`, `count_due` and `len` read, and
+//! `note_due` is for a count that is asked for again.
 //! What the numbers mean is defined in tp_base (`specs/Timers`): times are in units of 100 ns since the
 //! clock began, periods and windows in milliseconds.
 //!
@@ -23,7 +24,8 @@
 //!
 //! What a call costs: `create` and `is_set` look at one object, and `expire` where nothing is due at
 //! one setting. `set`, `unset`, `close` and an `expire` that takes one out move settings along one way
-//! through a heap (timer_heap). `count_due` looks at those that are due and at those right below them.
+//! through a heap (timer_heap). `count_due` and `note_due` look at those that are due and at those
+//! right below them; for the moment that was noted last, until a setting begins or ends, at none.
 
 #![tactic(auto)]
 
@@ -232,6 +234,14 @@ impl TimerObjects {
         ensures { result ≡ length (expired now self.now.settings) }
     {
         self.dues.count_due(now)
+    }
+
+    /// Notes how many timers are due at the moment `now`, for `count_due`: until a setting begins or
+    /// ends, that answers for this moment at once.
+    pub fn note_due(&mut self, now: u64)
+        ensures { self.new ≡ self.old }
+    {
+        self.dues.note_due(now);
     }
 
     /// How many of the timers that are due at the moment `now` pass a test.
