@@ -182,9 +182,17 @@ impl LiveWorld {
             .count_due_where(now, &|object: ObjectId| !self.kernels.is_armed(object))
     }
 
+    /// Notes how many timers and timeouts are due at a moment, for `lacks_slots_at`: until one is set
+    /// or ends, that counts them for this moment at once.
+    pub fn note_due(&mut self, now: u64)
+        ensures { self.new ≡ self.old }
+    {
+        self.timers.note_due(now);
+    }
+
     /// Whether there is no slot for all that would expire, if the clock came to a moment. An armed
-    /// wait whose timeout is due has one. Walks what is due only if there are too few slots for all
-    /// of it, but enough for all of it less one for each armed wait.
+    /// wait whose timeout is due has one. Walks what is due, if that isn't noted, and once more if
+    /// there are too few slots for all of it, but enough for all of it less one for each armed wait.
     pub fn lacks_slots_at(&self, now: u64) -> bool
         ensures { result ≡ lacks_slots_for self.now.world (count_expiring self.now.world now) }
     {
