@@ -72,9 +72,24 @@ impl Machine {
         self.live.is_reachable();
         match plan(&self.live, who, call, room, change) {
             Decision::Looked(look) => Outcome::Look(look),
-            Decision::Refused(refusal) => refuse(refusal, room),
+            Decision::Refused(refusal) => {
+                if let (Call::Advance { ticks }, Refusal::CallbackLimit) = (call, refusal) {
+                    self.note_due(ticks);
+                }
+                refuse(refusal, room)
+            }
             Decision::Accepted(answer) => self.enter(answer, change, room),
         }
+    }
+
+    // Notes how many timers are due so many ticks from now, for want of slots for their callbacks. The
+    // same call is then refused without a walk.
+    #[inline(never)]
+    fn note_due(&mut self, ticks: u64)
+        ensures { self.new ≡ self.old }
+    {
+        let now = self.live.now().saturating_add(ticks);
+        self.live.note_due(now);
     }
 
     // Makes a change for an answer, where the history has room for what they cost.

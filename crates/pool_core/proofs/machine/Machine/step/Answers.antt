@@ -1,12 +1,12 @@
-use Rattle.std.proofs.Common.{◌≡◌, ℕ, ◌+◌, ◌<◌, ◌≤◌, ◌^◌, sym, ap, ◌∙◌, subst, arith}
+use Rattle.std.proofs.Common.{◌≡◌, ℕ, ◌+◌, ◌<◌, ◌≤◌, ◌^◌, sym, ap, ◌∙◌, subst, arith, rules}
 use Rattle.tp_base.specs.declared.ids.Who.{Who}
 use Rattle.tp_base.specs.declared.calls.Call.{Call}
 use Rattle.tp_base.specs.declared.plans.Change.{Change}
 use Rattle.tp_base.specs.Ranges.{IsCallInRange}
-use Rattle.tp_model.specs.Table.{plan_at}
+use Rattle.tp_model.specs.Table.{plan_at, step}
 use Rattle.tp_model.specs.Support.Ranged.{IsPlanInRange}
 use Rattle.tp_model.specs.Support.Sound.{IsSound}
-use Rattle.tp_model.specs.Support.Remembered.{Remembered}
+use Rattle.tp_model.specs.Support.Remembered.{Remembered, Meets}
 use Rattle.tp_model.proofs.Steps.{plan_allowed}
 use Rattle.tp_model.proofs.Calls.{plan_ranged}
 use Rattle.live_world.specs.Bounds.{IsBounded}
@@ -37,11 +37,13 @@ returns-in-Looked-clause-meets c w stands =
     meets_looked c.args.self.now w c.args.room c.args.who c.args.call c.in-Looked.look
     (planned c.self.inside c.args.self.now c.args.room c.args.who c.args.call c.plan.new.change c.plan.result _ c.self.view_is c.plan.ensures c.in-Looked.is) stands
 
-pub returns-in-Refused-clause-meets : goal.returns-in-Refused-clause-meets
-returns-in-Refused-clause-meets c w stands =
-    meets_refused c.args.self.now w c.args.room c.args.who c.args.call c.in-Refused.refusal c.refuse.result
+pub returns-after-call-clause-meets : goal.returns-after-call-clause-meets
+returns-after-call-clause-meets c w stands =
+    let same : c.match-call.self ≡ c.args.self.now = search rules in
+    subst (λ (e : Remembered). Meets c.args.self.now e w (step w c.args.room c.args.who c.args.call) c.refuse.result) (sym same)
+    (meets_refused c.args.self.now w c.args.room c.args.who c.args.call c.in-Refused.refusal c.refuse.result
     (planned c.self.inside c.args.self.now c.args.room c.args.who c.args.call c.plan.new.change c.plan.result _ c.self.view_is c.plan.ensures c.in-Refused.is)
-    c.refuse.ensures.outcome stands
+    c.refuse.ensures.outcome stands)
 
 pub returns-in-Accepted-clause-meets : goal.returns-in-Accepted-clause-meets
 returns-in-Accepted-clause-meets c w stands =
