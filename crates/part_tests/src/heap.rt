@@ -13,6 +13,7 @@ fn keys_come_due_in_order(rt: HostRuntime) {
     heap.set(2, 70);
     heap.set(1, 50);
     heap.set(0, 50);
+    heap.note_due(50);
     expect_eq(
         &rt,
         (
@@ -22,9 +23,10 @@ fn keys_come_due_in_order(rt: HostRuntime) {
             heap.due_of(2),
             heap.pop_due(49),
             heap.pop_due(60),
+            heap.count_due(50),
             heap.unset(2),
         ),
-        (3, 2, 1, Some(70), None, Some((50, 0)), true),
+        (3, 2, 1, Some(70), None, Some((50, 0)), 1, true),
     );
     drop(heap);
 }

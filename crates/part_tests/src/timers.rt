@@ -17,6 +17,7 @@ fn timers_expire_in_order(rt: HostRuntime) {
     timers.create(B);
     let set = timers.set(A, 100, Some(150), 0, 0);
     timers.set(B, 100, Some(-30), 1, 0);
+    timers.note_due(149);
     expect_eq(
         &rt,
         (
@@ -25,10 +26,11 @@ fn timers_expire_in_order(rt: HostRuntime) {
             timers.count_due(149),
             timers.count_due_where(149, &|object| object == A),
             timers.expire(160),
+            timers.count_due(149),
             timers.expire(160),
             timers.is_set(A),
         ),
-        (false, 2, 1, 0, Some((130, B)), Some((150, A)), false),
+        (false, 2, 1, 0, Some((130, B)), 0, Some((150, A)), false),
     );
     expect_eq(
         &rt,

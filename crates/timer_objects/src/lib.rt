@@ -237,7 +237,7 @@ impl TimerObjects {
     }
 
     /// Notes how many timers are due at the moment `now`, for `count_due`: until a setting begins or
-    /// ends, that answers for this moment at once.
+    /// ends, or another moment is noted, that answers for this moment at once.
     pub fn note_due(&mut self, now: u64)
         ensures { self.new ≡ self.old }
     {
