@@ -82,8 +82,9 @@ impl Machine {
         }
     }
 
-    // Notes how many timers are due so many ticks from now, for want of slots for their callbacks. The
-    // same call is then refused without a walk.
+    // Notes how many timers are due so many ticks from now, where there are too few slots for their
+    // callbacks: so the same call is refused without a walk. One past the end of the clock is refused
+    // for that, so the sum is the moment that the call would have come to.
     #[inline(never)]
     fn note_due(&mut self, ticks: u64)
         ensures { self.new ≡ self.old }
