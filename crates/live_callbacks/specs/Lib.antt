@@ -1,0 +1,3 @@
+pub mod Callbacks
+pub mod Kept
+pub mod Lists
