@@ -8,7 +8,7 @@ use Rattle.tp_base.specs.declared.rows.Status.{Status}
 use Rattle.tp_base.specs.declared.rows.Status.TheVariants.{Expected, Issued, Pending, Running, Returned, Cancelled}
 use Rattle.tp_base.specs.declared.rows.CallbackRow.{CallbackRow}
 use Rattle.tp_base.specs.declared.rows.WaitTarget.TheVariants.{Group}
-use Rattle.tp_model.specs.Counts.{is_operating, is_pending}
+use Rattle.tp_model.specs.Counts.{is_operating, is_pending, is_live}
 use Rattle.tp_model.specs.Conditions.{is_operation_of}
 use Rattle.tp_model.specs.Changes.{begin_close}
 use Rattle.tp_model.specs.Groups.{first_operating, is_operating_member, is_member_at, notices_of, numbers_in, without_members}
@@ -24,7 +24,6 @@ use Rattle.live_world.proofs.Along.{number_of}
 use Rattle.live_world.proofs.Cancelled.{none_where}
 use Rattle.live_world.proofs.GroupWalks.{cancels_none_of}
 use Rattle.live_world.proofs.Lists.{none_passes}
-use Rattle.live_world.proofs.Operating.{over_unoperating}
 
 -- ---- after the cancellation
 
@@ -53,7 +52,15 @@ not_settled_group l group living =
 -- ---- no operation is under way
 
 over_idle : (k : ℕ) (c : CallbackRow) → lives c ≡ false → is_operation_of k c ≡ false
-over_idle k c over = ap (λ b. b && (c.object.0 == k)) (over_unoperating c over)
+over_idle k c over = ap (λ b. b && (c.object.0 == k)) (idle c.status over)
+  where
+    idle : (s : Status) → is_live s ≡ false → is_operating s ≡ false
+    idle Expected e = absurd cc
+    idle Issued e = absurd cc
+    idle Pending e = absurd cc
+    idle (Running worker associated slots) e = absurd cc
+    idle Returned e = refl
+    idle Cancelled e = refl
 
 -- what is cancelled has none
 same_operations : (group : GroupId) (cancel : Bool) (k : ℕ) (cs : List CallbackRow) → list_any (is_operation_of k) (cancel_where (is_cancelled_by (Group group) cancel) cs) ≡ list_any (is_operation_of k) cs

@@ -168,10 +168,7 @@ closes_by i l who group cancel context n place barriers notices begun is k may s
       shows = ap₂ (λ ds (bs : BegunWaits). record w { callbacks = ds; waits = bs.waits; given_up = bs.given_up }) (sym k.alive.live) begun_here;
       sized = k.sized;
       alive = k.alive;
-      queued = k.queued;
       tallied = k.tallied;
-      listed = k.listed;
-      operating = k.operating;
       timed = k.timed;
       kernels = k.kernels;
       slotted = k.slotted;
@@ -235,10 +232,7 @@ given_by i l who place object notices begun is k allowed at least rises notices_
       shows = ap₂ (λ ds (bs : BegunWaits). record (shown i).world { callbacks = ds; waits = bs.waits; given_up = bs.given_up }) (sym k.alive.live) begun_now;
       sized = k.sized;
       alive = k.alive;
-      queued = k.queued;
       tallied = k.tallied;
-      listed = k.listed;
-      operating = k.operating;
       timed = k.timed;
       kernels = k.kernels;
       slotted = k.slotted;

@@ -24,16 +24,17 @@ use Rattle.tp_model.specs.Waits.{is_held_for, is_outstanding_for, is_cancelled_b
 use Rattle.tp_model.proofs.Lists.{all_along, all_filter, filter_agree, filter_filter}
 use Rattle.tp_model.proofs.Callbacks.{found_bounds}
 use Rattle.tp_model.proofs.Sound.{sound_begin_wait}
-use Rattle.tp_model.proofs.Refusals.{and_false}
+use Rattle.tp_model.proofs.Refusals.{and_false, both}
 use Rattle.live_world.specs.declared.begun.BegunWaits.{BegunWaits}
 use Rattle.live_world.specs.declared.LiveWorld.TheInside.{Inside}
 use Rattle.live_world.specs.Live.{Live, moved, with_world, settled}
 use Rattle.live_world.specs.Parts.{place_of, is_held_among, held_among}
 use Rattle.live_world.specs.View.{shown, IsLiveWorld}
 use Rattle.live_world.specs.Invariant.{AreCovered, AreWanted, AreClosing, is_pending_callback, is_running_callback}
-use Rattle.live_world.specs.Waiting.{numbers_of, is_covered_among}
+use Rattle.live_callbacks.specs.Callbacks.{outstanding_among}
+use Rattle.live_world.specs.Waiting.{is_wanted}
 use Rattle.live_world.proofs.Lists.{filter_all, filter_alike, filter_both, filter_map, all_pass, none_passes}
-use Rattle.live_world.proofs.Along.{number_of, numbers_shown, pending_among}
+use Rattle.live_world.proofs.Along.{number_of, pending_among}
 use Rattle.live_world.proofs.Cancelled.{none_where}
 use Rattle.live_world.proofs.Covered.{covered_begun}
 use Rattle.live_world.proofs.Wanted.{wanted_covering, wanted_begun}
@@ -52,28 +53,17 @@ each_found low next_number (c ∷ cs) r = (
       cs (each_found (c.number + 1) next_number cs r.1),
 )
 
--- what is outstanding, or with cancel what of it runs
-pub covers_outstanding : (next_number : ℕ) (object : ObjectId) (cancel : Bool) (cs : List CallbackRow) → IsRising 1 next_number cs → covered_of (Object object) cancel cs ≡ filter (is_covered_among cs cancel) (map number_of (filter (is_outstanding_for (Object object)) cs))
-covers_outstanding next_number object cancel cs rising =
-    ap (map number_of)
-    (filter_alike (is_covered_by (Object object) cancel) (λ c. p c && q c.number) cs (all_along (λ c. find (has_number c.number) cs ≡ Some c) (λ c. is_covered_by (Object object) cancel c ≡ (p c && q c.number)) one cs (each_found 1 next_number cs rising))
-    ∙ sym (filter_both (λ (c : CallbackRow). q c.number) p cs))
-    ∙ sym (filter_map q number_of (filter p cs))
+-- of what is outstanding a wait covers all, or with cancel what runs
+pub covers_outstanding : (object : ObjectId) (cancel : Bool) (cs : List CallbackRow) → map number_of (filter (is_wanted cancel) (outstanding_among cs object)) ≡ covered_of (Object object) cancel cs
+covers_outstanding object cancel cs =
+    ap (map number_of) (filter_both (is_wanted cancel) (is_outstanding_for (Object object)) cs
+    ∙ filter_agree (λ c. is_outstanding_for (Object object) c && is_wanted cancel c) (is_covered_by (Object object) cancel) (λ c. ap (λ b. is_outstanding_for (Object object) c && b) (alike cancel (is_running_callback c))) cs)
   where
-    p : CallbackRow → Bool
-    p = is_outstanding_for (Object object)
-
-    q : ℕ → Bool
-    q = is_covered_among cs cancel
-
-    alike : (a b : Bool) → (a || not (b && true)) ≡ (not b || a)
+    alike : (a b : Bool) → (not a || b) ≡ (b || not (a && true))
     alike true true = refl
     alike true false = refl
     alike false true = refl
     alike false false = refl
-
-    one : (c : CallbackRow) → find (has_number c.number) cs ≡ Some c → is_covered_by (Object object) cancel c ≡ (p c && q c.number)
-    one c found = ap (λ b. p c && b) (alike (is_running_callback c) cancel ∙ ap (λ o. not cancel || option_map_or is_running_callback o false) (sym found))
 
 -- ---- how many it covers, and how many it cancels
 
@@ -143,18 +133,22 @@ cancels_none object (c ∷ cs) = cancels_none object cs
 
 -- ---- the parts
 
--- what is outstanding is held
-all_held : (next_number : ℕ) (object : ObjectId) (cs : List CallbackRow) → IsRising 1 next_number cs → AllByRecursion (λ n. is_held_among cs (Object object) n ≡ true) (map number_of (filter (is_outstanding_for (Object object)) cs))
-all_held next_number object cs rising =
-    held (filter (is_outstanding_for (Object object)) cs) (all_filter (λ c. find (has_number c.number) cs ≡ Some c) (is_outstanding_for (Object object)) cs (each_found 1 next_number cs rising)) (all_pass (is_outstanding_for (Object object)) cs)
+-- what it covers is held
+all_held : (next_number : ℕ) (object : ObjectId) (cancel : Bool) (cs : List CallbackRow) → IsRising 1 next_number cs → AllByRecursion (λ n. is_held_among cs (Object object) n ≡ true) (covered_of (Object object) cancel cs)
+all_held next_number object cancel cs rising =
+    held (filter covers cs) (all_filter (λ c. find (has_number c.number) cs ≡ Some c) covers cs (each_found 1 next_number cs rising)) (all_pass covers cs)
   where
-    held : (ds : List CallbackRow) → AllByRecursion (λ c. find (has_number c.number) cs ≡ Some c) ds → AllByRecursion (λ c. is_outstanding_for (Object object) c ≡ true) ds → AllByRecursion (λ n. is_held_among cs (Object object) n ≡ true) (map number_of ds)
+    covers : CallbackRow → Bool
+    covers = is_covered_by (Object object) cancel
+
+    held : (ds : List CallbackRow) → AllByRecursion (λ c. find (has_number c.number) cs ≡ Some c) ds → AllByRecursion (λ c. covers c ≡ true) ds → AllByRecursion (λ n. is_held_among cs (Object object) n ≡ true) (map number_of ds)
     held [] found passes = tt
-    held (d ∷ ds) found passes = (ap (λ o. option_map_or (is_outstanding_for (Object object)) o false) found.0 ∙ passes.0, held ds found.1 passes.1)
+    held (d ∷ ds) found passes =
+        (ap (λ o. option_map_or (is_outstanding_for (Object object)) o false) found.0 ∙ (both (is_outstanding_for (Object object) d) (is_running d.status || not (cancel && true)) passes.0).0, held ds found.1 passes.1)
 
 pub begun_by : (i : Inside) (l : Live) (who : Who) (object : ObjectId) (cancel : Bool) (place : ℕ) (barriers notices : Covers) (begun : BegunWaits) → shown i ≡ l → IsLiveWorld i
     → MayBegin l.world who (Object object) → filter (is_cancelled_by (Object object) cancel) l.world.callbacks ≡ [] → place_of i.limits who ≡ Some place
-    → barriers ≡ with_wait i.barriers place (Some (filter (is_covered_among i.callbacks.rows cancel) (numbers_of i.outstanding.entries object.0))) → notices ≡ with_wait i.notices place (Some []) → begun ≡ record i.waits { waits = i.waits.waits ++ new_wait who (Object object) cancel i.callbacks.rows ∷ [] }
+    → barriers ≡ with_wait i.barriers place (Some (covered_of (Object object) cancel i.callbacks.rows)) → notices ≡ with_wait i.notices place (Some []) → begun ≡ record i.waits { waits = i.waits.waits ++ new_wait who (Object object) cancel i.callbacks.rows ∷ [] }
     → Becomes (record i { barriers = barriers; waits = begun; notices = notices }) (with_world l (begin_wait l.world who (Object object) cancel l.world.callbacks))
 begun_by i l who object cancel place barriers notices begun is k may settled at barriers_now notices_now begun_now =
     let waits_now = ap (λ (bs : BegunWaits). bs.waits) begun_now in
@@ -164,22 +158,14 @@ begun_by i l who object cancel place barriers notices begun is k may settled at 
     let b : BegunWait = new_wait who (Object object) cancel cs in
     let may_here : MayBegin w who (Object object) = subst (λ (x : Live). MayBegin x.world who (Object object)) (sym is) may in
     let left : AllByRecursion (λ c. is_cancelled_by (Object object) cancel c ≡ false) cs = none_passes (is_cancelled_by (Object object) cancel) cs (ap (λ (x : Live). filter (is_cancelled_by (Object object) cancel) x.world.callbacks) is ∙ settled) in
-    let q : ℕ → Bool = is_covered_among cs cancel in
-    let all : List ℕ = map number_of (filter (is_outstanding_for (Object object)) cs) in
-    let covers : b.covered ≡ filter q all = covers_outstanding (i.made + 1) object cancel cs k.sound.numbers in
-    let numbers : filter q (numbers_of i.outstanding.entries object.0) ≡ b.covered = ap (filter q) (numbers_shown cs object i.outstanding.entries k.listed.listed) ∙ sym covers in
-    let held : held_among cs b ≡ b.covered
-    = ap (filter (is_held_among cs (Object object))) covers ∙ filter_all (is_held_among cs (Object object)) (filter q all) (all_filter (λ n. is_held_among cs (Object object) n ≡ true) q all (all_held (i.made + 1) object cs k.sound.numbers)) ∙ sym covers in
+    let held : held_among cs b ≡ b.covered = filter_all (is_held_among cs (Object object)) b.covered (all_held (i.made + 1) object cancel cs k.sound.numbers) in
     let sound : IsSound (i.made + 1) v = subst (λ ds. IsSound (i.made + 1) (begin_wait w who (Object object) cancel ds)) (none_where cs (is_cancelled_by (Object object) cancel) left) (sound_begin_wait (i.made + 1) w who (Object object) cancel may_here.none may_here.made k.sound) in
     let r = became_by (record i { barriers = barriers; waits = begun; notices = notices }) v sound
     (record {
       shows = ap₂ (λ ds (bs : BegunWaits). record w { callbacks = ds; waits = bs.waits; given_up = bs.given_up }) (sym k.alive.live) begun_now;
       sized = k.sized;
       alive = k.alive;
-      queued = k.queued;
       tallied = k.tallied;
-      listed = k.listed;
-      operating = k.operating;
       timed = k.timed;
       kernels = k.kernels;
       slotted = k.slotted;
@@ -188,7 +174,7 @@ begun_by i l who object cancel place barriers notices begun is k may settled at 
       membered = k.membered;
       closing = subst (λ x. AreClosing i.limits begun.waits i.closing.items x) (sym notices_now)
           (subst (λ bs. AreClosing i.limits bs i.closing.items (with_wait i.notices place (Some []))) (sym waits_now) (closing_beside place b at may_here.none refl refl k.closing));
-      covered = subst (λ x. AreCovered i.limits cs begun.waits x) (sym (barriers_now ∙ ap (λ ns. with_wait i.barriers place (Some ns)) numbers))
+      covered = subst (λ x. AreCovered i.limits cs begun.waits x) (sym barriers_now)
           (subst (λ bs. AreCovered i.limits cs bs (with_wait i.barriers place (Some b.covered))) (sym waits_now)
           (covered_begun place b at may_here.none held k.covered));
     }) in
@@ -257,10 +243,7 @@ acquires i l who kernel cancel place barriers notices begun is k allowed at barr
       shows = ap₂ (λ ds (bs : BegunWaits). record w { callbacks = ds; waits = bs.waits; given_up = bs.given_up }) (sym k.alive.live) begun_now ∙ ap (λ ds. forget (begin_wait w who (Kernel kernel) cancel ds)) (sym kept);
       sized = k.sized;
       alive = k.alive;
-      queued = k.queued;
       tallied = k.tallied;
-      listed = k.listed;
-      operating = k.operating;
       timed = k.timed;
       kernels = k.kernels;
       covered = subst (λ x. AreCovered i.limits cs begun.waits x) (sym (barriers_now ∙ ap (λ ns. with_wait i.barriers place (Some ns)) (sym covers)))

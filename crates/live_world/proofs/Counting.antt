@@ -4,15 +4,16 @@ use Rattle.std.specs.List.{AllByRecursion}
 use Rattle.std.specs.Option.{option_map_or}
 use Rattle.std.proofs.lemmas.List.{length-map}
 use Rattle.tp_base.specs.declared.ids.PoolId.{PoolId}
+use Rattle.tp_base.specs.declared.rows.CallbackRow.{CallbackRow}
 use Rattle.tp_base.specs.declared.rows.PoolRow.{PoolRow}
-use Rattle.prio_queue.specs.Pending.{queue_of}
 use Rattle.pool_rows.specs.Pools.{counts_of}
 use Rattle.pool_rows.specs.Workers.{is_attached_to as is_attached_kept, runs_in, runs_long_in}
 use Rattle.pool_rows.specs.declared.Counts.{Counts}
 use Rattle.pool_rows.specs.declared.WorkerRow as kept
 use Rattle.tp_model.specs.World.{World}
-use Rattle.tp_model.specs.Counts.{is_attached_to, is_idle_in, running, running_long, attached, idle}
+use Rattle.tp_model.specs.Counts.{is_attached_to, is_idle_in, is_pending, is_pending_in, pending, running, running_long, attached, idle}
 use Rattle.tp_model.proofs.Lists.{all_along}
+use Rattle.tp_model.proofs.Refusals.{and_false}
 use Rattle.live_world.specs.declared.LiveWorld.TheInside.{Inside}
 use Rattle.live_world.specs.declared.pools.Tally.{Tally}
 use Rattle.live_world.specs.Tally.{tally_of, tally_shown}
@@ -20,7 +21,6 @@ use Rattle.live_world.specs.Parts.{shown_worker}
 use Rattle.live_world.specs.View.{shown, IsLiveWorld}
 use Rattle.live_world.specs.Invariant.{IsHome}
 use Rattle.live_world.proofs.Lists.{filter_map, filter_none, past_end}
-use Rattle.live_world.proofs.Queued.{queue_shown, queue_nowhere}
 
 -- ---- workers
 
@@ -55,6 +55,12 @@ attached_nowhere pools pool ws past homes = filter_none (is_attached_kept pool) 
     elsewhere None home = refl
     elsewhere (Some p) home = ne_eqb p.0 pool (λ e. omega (arith, e, home, past))
 
+-- and no callback of it is pending
+none_pending : (pools pool : ℕ) (cs : List CallbackRow) → pools ≤ pool → AllByRecursion (λ (c : CallbackRow). c.pool.0 < pools) cs → filter (is_pending_in pool) cs ≡ []
+none_pending pools pool cs past homes =
+    filter_none (is_pending_in pool) cs (all_along (λ (c : CallbackRow). c.pool.0 < pools) (λ c. is_pending_in pool c ≡ false)
+    (λ c lt. ap (λ b. is_pending c.status && b) (ne_eqb c.pool.0 pool (λ e. omega (arith, e, lt, past))) ∙ and_false (is_pending c.status)) cs homes)
+
 -- ---- the tally
 
 abbrev counts_at : Inside → ℕ → PoolRow → Counts
@@ -74,13 +80,13 @@ same_tally : (m m' x x' p p' r r' a a' i i' v v' : ℕ) → m ≡ m' → x ≡ x
     → ◌≡◌ {A = Tally} (record { minimum = m; maximum = x; pending = p; running = r; attached = a; idle = i; available = v }) (record { minimum = m'; maximum = x'; pending = p'; running = r'; attached = a'; idle = i'; available = v' })
 same_tally m m' x x' p p' r r' a a' i i' v v' em ex ep er ea ei ev = cc
 
-pub is_tally : (i : Inside) (pool : ℕ) (counts : Counts) → IsLiveWorld i → counts_of pool i.pools ≡ Some counts → tally_shown (length (queue_of i.queues pool)) counts ≡ tally_of (shown i).world pool
+pub is_tally : (i : Inside) (pool : ℕ) (counts : Counts) → IsLiveWorld i → counts_of pool i.pools ≡ Some counts → tally_shown (pending (shown i).world pool) counts ≡ tally_of (shown i).world pool
 is_tally i pool counts k is = known (slice_get i.pools.pools pool) refl is
   where
     some_same : (x y : Counts) → Some x ≡ Some y → x ≡ y
     some_same x y e = cc
 
-    known : (o : Option PoolRow) → slice_get i.pools.pools pool ≡ o → counts_of pool i.pools ≡ Some counts → tally_shown (length (queue_of i.queues pool)) counts ≡ tally_of (shown i).world pool
+    known : (o : Option PoolRow) → slice_get i.pools.pools pool ≡ o → counts_of pool i.pools ≡ Some counts → tally_shown (pending (shown i).world pool) counts ≡ tally_of (shown i).world pool
     known None e h = let none : None ≡ Some counts = sym (ap (option_map (counts_at i pool)) e) ∙ h in absurd cc
     known (Some row) e h =
         let same : counts_at i pool row ≡ counts = some_same (counts_at i pool row) counts (sym (ap (option_map (counts_at i pool)) e) ∙ h) in
@@ -91,7 +97,7 @@ is_tally i pool counts k is = known (slice_get i.pools.pools pool) refl is
         same_tally _ _ _ _ _ _ _ _ _ _ _ _ _ _
         (ap (λ (x : Counts). cond x.closed 0 x.minimum) (sym same) ∙ sym (ap (λ o. option_map_or (λ (p : PoolRow). cond p.closed 0 p.minimum) o 0) e))
         (ap (λ (x : Counts). x.maximum) (sym same) ∙ sym (ap (λ o. option_map_or (λ (p : PoolRow). p.maximum) o 0) e))
-        (queue_shown pool k.queued)
+        refl
         ran joined
         (ap₂ (λ m n. m - n) (ap (λ (x : Counts). x.attached) (sym same)) (ap (λ (x : Counts). x.running) (sym same)) ∙ sym (less _ _ _ (idle_shown i pool)))
         (ap₂ (λ m n. m - n) joined long)
@@ -113,7 +119,7 @@ is_no_tally i pool k is = known (slice_get i.pools.pools pool) refl is
         same_tally _ _ _ _ _ _ _ _ _ _ _ _ _ _
         (sym (ap (λ o. option_map_or (λ (p : PoolRow). cond p.closed 0 p.minimum) o 0) e))
         (sym (ap (λ o. option_map_or (λ (p : PoolRow). p.maximum) o 0) e))
-        (sym (ap length (queue_nowhere (length i.pools.pools) pool i.callbacks.rows past k.sound.callback_pools)))
+        (sym (ap length (none_pending (length i.pools.pools) pool i.callbacks.rows past k.sound.callback_pools)))
         (sym (k.tallied.run pool ∙ none_run))
         (sym none_joined)
         (omega (arith, idle_shown i pool, attached_shown i pool, none_joined))

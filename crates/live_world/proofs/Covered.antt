@@ -28,14 +28,15 @@ use Rattle.tp_model.proofs.Lists.{all_append, all_filter, find_all, filter_agree
 use Rattle.tp_model.proofs.Callbacks.{find_replaced, find_replaced_other}
 use Rattle.tp_model.proofs.Forgetting.{over_forget, over_not_outstanding}
 use Rattle.tp_model.proofs.Refusals.{made, false_true, both, neither, and_false, same_actor_is, is_own_actor}
-use Rattle.live_world.specs.Parts.{shown_worker, is_tied, is_held_among, held_among, wait_among, closing_of, closing_by, place_within, place_of}
+use Rattle.live_world.specs.Parts.{shown_worker, is_held_among, held_among, wait_among, closing_of, closing_by, place_within, place_of}
 use Rattle.live_world.specs.Invariant.{AreCovered, IsWaitKept}
 use Rattle.live_world.specs.Closing.{IsLeft, left_at}
 use Rattle.live_world.specs.Live.{Live}
 use Rattle.live_world.specs.View.{shown, IsLiveWorld}
 use Rattle.live_world.specs.declared.LiveWorld.TheInside.{Inside}
 use Rattle.live_world.specs.declared.closing.Closing.{Closing}
-use Rattle.live_world.proofs.Listed.{held_alike}
+use Rattle.live_callbacks.specs.Callbacks.{is_tied}
+use Rattle.live_callbacks.proofs.Found.{held_alike}
 
 -- ---- what is held, by two tests
 

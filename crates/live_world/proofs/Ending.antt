@@ -59,10 +59,7 @@ ended i l who how place barriers notices waits kernels is k allowed at barriers_
           ∙ ap (λ (t : Kernels). record (forget (without_wait (shown i).world who)) { kernels = t.rows; armings = t.armed; given_up = given_up_after i.waits.given_up how (wait_among i.waits.waits who) }) kernels_now;
       sized = k.sized;
       alive = k.alive;
-      queued = k.queued;
       tallied = k.tallied;
-      listed = k.listed;
-      operating = k.operating;
       timed = k.timed;
       kernels = subst (λ (t : Kernels). AreKernels i.limits t) (sym kernels_now)
           (record {

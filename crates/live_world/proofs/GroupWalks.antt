@@ -2,6 +2,7 @@
 use Rattle.std.proofs.Common.{◌≡◌, ℕ, ◌+◌, ◌<◌, ◌≤◌, Bool, true, false, cond, not, ◌&&◌, ◌||◌, ◌==◌, List, [], ◌∷◌, ◌++◌, length, map, nat_lt, slice_get, Option, Some, None, unwrap_or, refl, sym, ap, ap₂, ◌∙◌, subst, arith, filter, find, option_map, eqb-true, eq-eqb, lt-ltb, length-append, append_assoc}
 use Rattle.std.specs.List.{All, AllByRecursion}
 use Rattle.std.proofs.lemmas.List.{length-map}
+use Rattle.std.proofs.lemmas.List.Sums.{length-filter, count_by-le-length}
 use Rattle.std.proofs.lemmas.List.Elements.{All-from_recursion}
 use Rattle.tp_base.specs.declared.ids.GroupId.{GroupId}
 use Rattle.tp_base.specs.declared.rows.Status.{Status}
@@ -23,14 +24,11 @@ use Rattle.tp_model.proofs.Forgetting.{over_not_cancelled}
 use Rattle.tp_model.proofs.Refusals.{both, and_false, false_true}
 use Rattle.live_world.specs.Closing.{is_of_group, settled_group}
 use Rattle.live_world.specs.Live.{Live, with_world}
-use Rattle.live_world.proofs.Along.{number_of, and_swap, first_filtered, looked_up, rows_rise}
+use Rattle.live_world.proofs.Along.{RowAt, after_of, number_of, and_swap, first_filtered, looked_up, row_at, rows_rise}
 use Rattle.live_world.proofs.Cancelled.{none_where, nothing_left, settles_alike, behind, still_among}
 use Rattle.live_world.proofs.Lists.{all_pass, filter_alike, filter_both, set_twice}
 use Rattle.live_world.proofs.Numbers.{itself, all_before, has_covered}
 use Rattle.live_world.proofs.Walks.{Rises, rest, IsAmong, rest_first, first_among, rest_next, rest_without, passing_without, found_among, rises_map}
-
-abbrev pub after_of : List CallbackRow → CallbackRow → Option CallbackRow
-after_of cs c = find (λ (x : CallbackRow). nat_lt c.number x.number) cs
 
 -- ---- from the first on
 
@@ -52,28 +50,6 @@ at_first next_number cs next rising found =
       whole = ap (rest number_of cs) is ∙ rest_first number_of 1 cs (rows_rise 1 next_number cs rising);
       among = subst (IsAmong number_of cs) (sym is) (first_among number_of cs);
     }
-
--- ---- from one to the next
-
-pub record RowAt (cs : List CallbackRow) (c : CallbackRow) (next : Option CallbackRow) : Type 0 where
-  pub step : (after : Option CallbackRow) → after ≡ after_of cs c → rest number_of cs next ≡ c ∷ rest number_of cs after
-  pub among : (after : Option CallbackRow) → after ≡ after_of cs c → IsAmong number_of cs after
-  pub later : (after : Option CallbackRow) → after ≡ after_of cs c → length (rest number_of cs after) < length (rest number_of cs next)
-  pub found : find (has_number c.number) cs ≡ Some c
-
-pub row_at : (next_number : ℕ) (cs : List CallbackRow) (c : CallbackRow) (next : Option CallbackRow) → IsRising 1 next_number cs → next ≡ Some c → IsAmong number_of cs next → RowAt cs c next
-row_at next_number cs c next rising is among =
-    record {
-      step = step;
-      among = λ after found. subst (IsAmong number_of cs) (sym found) (found_among number_of 1 (λ (x : CallbackRow). nat_lt c.number x.number) cs (rows_rise 1 next_number cs rising));
-      later = λ after found. omega (arith, ap length (step after found));
-      found = subst (IsAmong number_of cs) is among;
-    }
-  where
-    step : (after : Option CallbackRow) → after ≡ after_of cs c → rest number_of cs next ≡ c ∷ rest number_of cs after
-    step after found =
-        ap (rest number_of cs) is ∙ rest_next number_of 1 cs c (rows_rise 1 next_number cs rising) (subst (IsAmong number_of cs) is among)
-        ∙ ap (λ o. c ∷ rest number_of cs o) (sym found)
 
 -- ---- those of one group, gone along
 
@@ -151,61 +127,75 @@ counts_row p q next_number cs c next all some rising is k =
     one true = omega arith
     one false = omega arith
 
--- ---- they are covered
+-- ---- those that pass a test are covered
 
-pub record CoveringRows (cs : List CallbackRow) (before now : Covers) (waiter : ℕ) (next : Option CallbackRow) : Type 0 where
-  pub so_far : List ℕ
-  pub covers : now ≡ with_wait before waiter (Some so_far)
-  pub all : so_far ++ map number_of (rest number_of cs next) ≡ map number_of cs
-  pub among : IsAmong number_of cs next
+module _ (q : CallbackRow → Bool) (cs : List CallbackRow) (before : Covers) (waiter : ℕ) where
+  pub record CoveringRows (now : Covers) (next : Option CallbackRow) : Type 0 where
+    pub so_far : List ℕ
+    pub covers : now ≡ with_wait before waiter (Some so_far)
+    pub all : so_far ++ map number_of (filter q (rest number_of cs next)) ≡ map number_of (filter q cs)
+    pub among : IsAmong number_of cs next
 
-pub covering_rows : (next_number : ℕ) (cs : List CallbackRow) (before now : Covers) (waiter : ℕ) (next : Option CallbackRow) → IsRising 1 next_number cs → now ≡ with_wait before waiter (Some []) → next ≡ find (λ (c : CallbackRow). nat_lt 0 c.number) cs → CoveringRows cs before now waiter next
-covering_rows next_number cs before now waiter next rising begun found =
-    let a = at_first next_number cs next rising found in
-    record { so_far = []; covers = begun; all = ap (map number_of) a.whole; among = a.among }
+  -- the next is covered, if it passes
+  pub record CoversRow (now : Covers) (c : CallbackRow) (next : Option CallbackRow) : Type 0 where
+    pub at : RowAt cs c next
+    pub so_far : List ℕ
+    pub covers : now ≡ with_wait before waiter (Some so_far)
+    pub below : q c ≡ true → All (λ n. n < c.number) so_far
+    pub fewer : q c ≡ true → length so_far < length cs
+    pub covered : q c ≡ true → waiter < length before.waits → (new : Covers) → new ≡ with_wait now waiter (Some (with_number c.number (covered_of now waiter))) → (after : Option CallbackRow) → after ≡ after_of cs c → CoveringRows new after
+    pub passed : q c ≡ false → (after : Option CallbackRow) → after ≡ after_of cs c → CoveringRows now after
 
-pub record CoversRow (cs : List CallbackRow) (before now : Covers) (waiter : ℕ) (c : CallbackRow) (next : Option CallbackRow) : Type 0 where
-  pub at : RowAt cs c next
-  pub so_far : List ℕ
-  pub covers : now ≡ with_wait before waiter (Some so_far)
-  pub below : All (λ n. n < c.number) so_far
-  pub fewer : length so_far < length cs
-  pub covered : waiter < length before.waits → (new : Covers) → new ≡ with_wait now waiter (Some (with_number c.number (covered_of now waiter))) → (after : Option CallbackRow) → after ≡ after_of cs c → CoveringRows cs before new waiter after
+  module _ (next_number : ℕ) (rising : IsRising 1 next_number cs) (now : Covers) (next : Option CallbackRow) where
+    pub covering_rows : now ≡ with_wait before waiter (Some []) → next ≡ find (λ (c : CallbackRow). nat_lt 0 c.number) cs → CoveringRows now next
+    covering_rows begun found =
+        let a = at_first next_number cs next rising found in
+        record { so_far = []; covers = begun; all = ap (λ ds. map number_of (filter q ds)) a.whole; among = a.among }
 
-pub covers_row : (next_number : ℕ) (cs : List CallbackRow) (before now : Covers) (waiter : ℕ) (c : CallbackRow) (next : Option CallbackRow) → IsRising 1 next_number cs → next ≡ Some c → CoveringRows cs before now waiter next → CoversRow cs before now waiter c next
-covers_row next_number cs before now waiter c next rising is k =
-    record {
-      at = at;
-      so_far = k.so_far;
-      covers = k.covers;
-      below = below;
-      fewer = omega (arith, ap length (whole (after_of cs c) refl), length-append k.so_far (c.number ∷ left (after_of cs c)), length-map cs number_of);
-      covered = λ within new becomes after found.
-          let had : covered_of now waiter ≡ k.so_far = ap (λ o. unwrap_or o []) (has_covered before now waiter k.so_far within k.covers) in
-          let behind : with_number c.number (covered_of now waiter) ≡ k.so_far ++ c.number ∷ [] = ap (with_number c.number) had ∙ with_greatest c.number k.so_far below in
-          record {
-            so_far = k.so_far ++ c.number ∷ [];
-            covers = becomes ∙ ap₂ (λ (b : Covers) (ns : List ℕ). with_wait b waiter (Some ns)) k.covers behind
-                ∙ ap (λ ws. record before { waits = ws }) (set_twice before.waits waiter (Some k.so_far) (Some (k.so_far ++ c.number ∷ [])));
-            all = append_assoc k.so_far (c.number ∷ []) (left after) ∙ whole after found;
-            among = at.among after found;
-          };
-    }
-  where
-    at : RowAt cs c next
-    at = row_at next_number cs c next rising is k.among
+    pub covers_row : (c : CallbackRow) → next ≡ Some c → CoveringRows now next → CoversRow now c next
+    covers_row c is k =
+        record {
+          at = at;
+          so_far = k.so_far;
+          covers = k.covers;
+          below = below;
+          fewer = λ passes. omega (
+            arith,
+            ap length (whole true passes (after_of cs c) refl),
+            length-append k.so_far (c.number ∷ left (after_of cs c)),
+            length-map (filter q cs) number_of,
+            length-filter q cs,
+            count_by-le-length q cs,
+          );
+          covered = λ passes within new becomes after found.
+              let had : covered_of now waiter ≡ k.so_far = ap (λ o. unwrap_or o []) (has_covered before now waiter k.so_far within k.covers) in
+              let behind : with_number c.number (covered_of now waiter) ≡ k.so_far ++ c.number ∷ [] = ap (with_number c.number) had ∙ with_greatest c.number k.so_far (below passes) in
+              record {
+                so_far = k.so_far ++ c.number ∷ [];
+                covers = becomes ∙ ap₂ (λ (b : Covers) (ns : List ℕ). with_wait b waiter (Some ns)) k.covers behind
+                    ∙ ap (λ ws. record before { waits = ws }) (set_twice before.waits waiter (Some k.so_far) (Some (k.so_far ++ c.number ∷ [])));
+                all = append_assoc k.so_far (c.number ∷ []) (left after) ∙ whole true passes after found;
+                among = at.among after found;
+              };
+          passed = λ fails after found. record { so_far = k.so_far; covers = k.covers; all = whole false fails after found; among = at.among after found };
+        }
+      where
+        at : RowAt cs c next
+        at = row_at next_number cs c next rising is k.among
 
-    left : Option CallbackRow → List ℕ
-    left o = map number_of (rest number_of cs o)
+        left : Option CallbackRow → List ℕ
+        left o = map number_of (filter q (rest number_of cs o))
 
-    whole : (after : Option CallbackRow) → after ≡ after_of cs c → k.so_far ++ c.number ∷ left after ≡ map number_of cs
-    whole after found = ap (λ ds. k.so_far ++ map number_of ds) (sym (at.step after found)) ∙ k.all
+        whole : (b : Bool) → q c ≡ b → (after : Option CallbackRow) → after ≡ after_of cs c → k.so_far ++ map number_of (cond b (c ∷ filter q (rest number_of cs after)) (filter q (rest number_of cs after))) ≡ map number_of (filter q cs)
+        whole b e after found =
+            ap (λ x. k.so_far ++ map number_of (cond x (c ∷ filter q (rest number_of cs after)) (filter q (rest number_of cs after)))) (sym e)
+            ∙ ap (λ ds. k.so_far ++ map number_of (filter q ds)) (sym (at.step after found)) ∙ k.all
 
-    below : All (λ n. n < c.number) k.so_far
-    below =
-        All-from_recursion (λ n. n < c.number) k.so_far
-        (all_before 1 c.number k.so_far (left (after_of cs c))
-        (subst (Rises itself 1) (sym (whole (after_of cs c) refl)) (rises_map itself number_of 1 cs (rows_rise 1 next_number cs rising))))
+        below : q c ≡ true → All (λ n. n < c.number) k.so_far
+        below passes =
+            All-from_recursion (λ n. n < c.number) k.so_far
+            (all_before 1 c.number k.so_far (left (after_of cs c))
+            (subst (Rises itself 1) (sym (whole true passes (after_of cs c) refl)) (rises_map itself number_of 1 (filter q cs) (rows_rise 1 next_number (filter q cs) (rising_filter q 1 next_number cs rising)))))
 
 -- ---- what is pending of a group is cancelled
 

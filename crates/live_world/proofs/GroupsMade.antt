@@ -31,10 +31,7 @@ groups_moved i l ch groups there is k allowed none same now limit within =
       shows = ap (λ cs. record (shown i).world { callbacks = cs; groups = map shown_group there.rows }) (sym k.alive.live);
       sized = k.sized;
       alive = k.alive;
-      queued = k.queued;
       tallied = k.tallied;
-      listed = k.listed;
-      operating = k.operating;
       covered = k.covered;
       timed = k.timed;
       kernels = k.kernels;

@@ -3,7 +3,6 @@ use Rattle.std.proofs.Common.{◌≡◌, ℕ, zero, suc, ◌+◌, ◌<◌, ◌�
 use Rattle.std.specs.List.{list_any, range_with_len}
 use Rattle.std.proofs.lemmas.Bool.{eqb-false, ltb-true, ltb-false}
 use Rattle.tp_base.specs.declared.rows.CallbackRow.{CallbackRow}
-use Rattle.keyed_lists.specs.Keyed.{Entry}
 use Rattle.tp_model.specs.World.{World}
 use Rattle.tp_model.specs.Counts.{is_operating}
 use Rattle.tp_model.specs.Conditions.{is_operation_of}
@@ -13,9 +12,8 @@ use Rattle.tp_model.proofs.Lists.{find_agree}
 use Rattle.tp_model.proofs.Refusals.{and_false, false_true}
 use Rattle.tp_model.proofs.Releasing.{that_made}
 use Rattle.live_world.specs.Closing.{lesser, operates}
-use Rattle.live_world.specs.Parts.{tied_entry}
-use Rattle.live_world.proofs.Along.{number_of}
-use Rattle.live_world.proofs.GroupWalks.{after_of, at_first, row_at}
+use Rattle.live_world.proofs.Along.{after_of, number_of, row_at}
+use Rattle.live_world.proofs.GroupWalks.{at_first}
 use Rattle.live_world.proofs.Walks.{rest, IsAmong}
 
 or_false : (b : Bool) → (b || false) ≡ b
@@ -120,15 +118,15 @@ module _ (w : World) (group : ℕ) where
       none [] = refl
       none (n ∷ ns) = ap (λ b. cond b (Some n) (find (λ m. is_member_at w group m && false) ns)) (and_false (is_member_at w group n)) ∙ none ns
 
-  -- where nothing is listed as an operation, none operates
-  pub none_operates : (listed : List Entry) → listed ≡ map tied_entry (filter (λ (c : CallbackRow). is_operating c.status) w.callbacks) → length listed ≡ 0 → None ≡ first_operating w group
-  none_operates listed is empty = sym (idle w.callbacks (ap length (sym is) ∙ empty)) ∙ least_is
+  -- where no operation is expected or under way, none operates
+  pub none_operates : list_any (λ (c : CallbackRow). is_operating c.status) w.callbacks ≡ false → None ≡ first_operating w group
+  none_operates none = sym (idle w.callbacks none) ∙ least_is
     where
-      idle : (cs : List CallbackRow) → length (map tied_entry (filter (λ (c : CallbackRow). is_operating c.status) cs)) ≡ 0 → least_after None cs ≡ None
+      idle : (cs : List CallbackRow) → list_any (λ (c : CallbackRow). is_operating c.status) cs ≡ false → least_after None cs ≡ None
       idle [] e = refl
       idle (c ∷ cs) e =
-          elim (is_operating c.status) as (λ b. length (map tied_entry (cond b (c ∷ filter (λ (x : CallbackRow). is_operating x.status) cs) (filter (λ (x : CallbackRow). is_operating x.status) cs))) ≡ 0 → least_after (cond (b && is_member_at w group c.object.0) (lesser None c.object.0) None) cs ≡ None) [
-            | true ↦ λ h. absurd (omega (arith, h))
+          elim (is_operating c.status) as (λ b. (b || list_any (λ (x : CallbackRow). is_operating x.status) cs) ≡ false → least_after (cond (b && is_member_at w group c.object.0) (lesser None c.object.0) None) cs ≡ None) [
+            | true ↦ λ h. absurd cc
             | false ↦ λ h. idle cs h
           ] e
 

@@ -1,11 +1,6 @@
-pub mod Listed
 pub mod Lists
-pub mod Entries
-pub mod Completed
-pub mod Queued
 pub mod Tallied
 pub mod Alive
-pub mod Operating
 pub mod Moving
 pub mod Counting
 pub mod Covered

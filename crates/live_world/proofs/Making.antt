@@ -69,10 +69,7 @@ created i l row objects members timers is k allowed now members_now timers_now =
           ∙ ap₂ (λ cs os. record (shown i).world { callbacks = cs; objects = os }) (sym k.alive.live) (map-append shown_object i.objects.rows _ ∙ ap (λ (o : ObjectRow). map shown_object i.objects.rows ++ o ∷ []) marked);
       sized = sized_objects i (with_row i.objects object) refl (omega (arith, longer, fewer)) k;
       alive = k.alive;
-      queued = k.queued;
       tallied = k.tallied;
-      listed = k.listed;
-      operating = k.operating;
       covered = k.covered;
       timed = timed_created i object fewer k;
       kernels = k.kernels;
@@ -128,10 +125,7 @@ released i l object live objects members timers kernels armed is k allowed was n
       shows = ap₂ (λ cs os. record (shown i).world { callbacks = cs; objects = os; settings = without_setting object i.timers.settings; armings = without_arming object.0 i.kernels.armed }) (sym k.alive.live) rows_now;
       sized = sized_objects i there refl (omega (arith, as_long, k.sized.objects_within)) k;
       alive = k.alive;
-      queued = k.queued;
       tallied = k.tallied;
-      listed = k.listed;
-      operating = k.operating;
       covered = k.covered;
       timed = timed_released i object marked (numbered_some (shown i).world.objects object.0 a.row a.stands).1 refl k;
       kernels = record { kernel_limit = k.kernels.kernel_limit; kernels_within = k.kernels.kernels_within; armed_limit = k.kernels.armed_limit; once = less_once i object.0 k };
@@ -154,10 +148,7 @@ kernels_moved i l ch kernels rows is k allowed none same now within =
       shows = ap (λ cs. record (shown i).world { callbacks = cs; kernels = rows }) (sym k.alive.live);
       sized = k.sized;
       alive = k.alive;
-      queued = k.queued;
       tallied = k.tallied;
-      listed = k.listed;
-      operating = k.operating;
       covered = k.covered;
       timed = k.timed;
       kernels = record { kernel_limit = k.kernels.kernel_limit; kernels_within = within; armed_limit = k.kernels.armed_limit; once = k.kernels.once };

@@ -18,20 +18,22 @@ use Rattle.tp_base.specs.declared.rows.CallbackRow.{CallbackRow}
 use Rattle.tp_base.specs.declared.rows.TimerSetting.{TimerSetting}
 use Rattle.tp_base.specs.declared.rows.WorkerRow.{WorkerRow}
 use Rattle.tp_base.specs.declared.rows.ClientRow.{ClientRow}
-use Rattle.callback_rows.specs.LiveCallbacks.{LiveCallbacks}
+use Rattle.live_callbacks.specs.Callbacks.{Callbacks, MovesOn, is_tied}
 use Rattle.handle_table.specs.Table.{Table}
-use Rattle.prio_queue.specs.Pending.{Pending, queue_of, with_queue, without_number}
 use Rattle.pool_rows.specs.Pools.{Pools, worker_of, with_worker as with_kept_worker}
 use Rattle.pool_rows.specs.Workers.{IsIdle, idle_in, unattached as unattached_row}
 use Rattle.pool_rows.specs.declared.WorkerRow as kept
-use Rattle.keyed_lists.specs.Keyed.{Keyed, Entry}
 use Rattle.cancel_wait.specs.Rising.{all_but}
 use Rattle.cancel_wait.specs.Covers.{Covers}
 use Rattle.kernel_events.specs.Kernels.{Kernels}
-use Rattle.tp_base.specs.declared.rows.Status.TheVariants.{Running}
+use Rattle.tp_base.specs.declared.answers.TakeResult.{TakeResult}
+use Rattle.tp_base.specs.declared.ids.ObjectId.{ObjectId}
+use Rattle.tp_base.specs.declared.rows.Status.{Status}
+use Rattle.tp_base.specs.declared.rows.Status.TheVariants.{Expected, Issued, Pending, Running, Returned, Cancelled}
 use Rattle.tp_base.specs.declared.rows.WaitTarget.TheVariants as target
 use Rattle.tp_model.specs.World.{World, BegunWait}
-use Rattle.tp_model.specs.Counts.{has_number, callback_of, is_operating, is_pending, is_running, is_live}
+use Rattle.tp_model.specs.Counts.{has_number, callback_of, is_expected, is_operating, is_pending, is_running, is_running_in, is_live}
+use Rattle.tp_model.specs.Conditions.{lacks_slots_for}
 use Rattle.tp_model.specs.Changes.{changed, replaced, with_callback, taken, loosened, marked, returned, without_run}
 use Rattle.tp_model.specs.Waits.{is_held_for, cancelled}
 use Rattle.tp_model.specs.Support.Allowed.{IsAllowed, Idles, Runs, news}
@@ -47,15 +49,12 @@ use Rattle.live_world.specs.declared.objects.Object.{Object}
 use Rattle.live_world.specs.declared.LiveWorld.TheInside.{Inside}
 use Rattle.live_world.specs.Closing.{IsLeft}
 use Rattle.live_world.specs.Live.{Live, moved, with_world}
-use Rattle.live_world.specs.Parts.{world_of, shown_worker, is_tied, tied_entry}
+use Rattle.live_world.specs.Parts.{world_of, shown_worker}
 use Rattle.live_world.specs.View.{shown, IsLiveWorld}
-use Rattle.live_world.specs.Invariant.{AreSized, AreLive, AreQueued, AreTallied, AreListed, AreOperating, AreCovered, AreTimed, AreKernels, AreSlotted, AreWanted, AreGrouped, AreMembered, AreClosing, IsHome, IsMarked, AreMarked}
+use Rattle.live_world.specs.Invariant.{AreSized, AreLive, AreTallied, AreCovered, AreTimed, AreKernels, AreSlotted, AreWanted, AreGrouped, AreMembered, AreClosing, IsHome, IsMarked, AreMarked}
 use Rattle.live_world.proofs.Lists.{set_twice, set_there}
 use Rattle.live_world.proofs.Alive.{alive_more, alive_replaced, alive_less, removed_rows}
-use Rattle.live_world.proofs.Listed.{pending_tied, over_untied, listed_more, listed_same, listed_less, listed_lives}
-use Rattle.live_world.proofs.Operating.{operating_beside, operating_lives, operating_same, pending_apart, running_apart}
 use Rattle.live_world.proofs.Covered.{covered_replaced, covered_loose, covered_less, covered_lives, covered_more}
-use Rattle.live_world.proofs.Queued.{queued_entry, queued_more, queued_less, queued_same, queued_lives}
 use Rattle.live_world.proofs.Tallied.{AreApart, is_behind, runs_nothing, runs_this, worker_changed, idle_alike, busy_alike, tallied_more, tallied_free, tallied_both, tallied_still, tallied_lives, still_apart, marked_set, marked_apart, marked_replaced, marked_others, others_apart, same_found}
 
 -- ---- what every change shows
@@ -65,10 +64,7 @@ pub record After (i : Inside) (v : World) : Type 0 where
   pub shows : (shown i).world ≡ forget v
   pub sized : AreSized i.limits i.pools i.objects i.clients.items
   pub alive : AreLive i.limits i.callbacks
-  pub queued : AreQueued i.limits i.callbacks.rows i.queues
   pub tallied : AreTallied i.callbacks.rows i.pools.workers
-  pub listed : AreListed i.limits is_tied i.callbacks.rows i.outstanding
-  pub operating : AreOperating i.limits i.callbacks.rows i.started i.operations
   pub covered : AreCovered i.limits i.callbacks.rows i.waits.waits i.barriers
   pub timed : AreTimed i.limits i.objects i.timers
   pub kernels : AreKernels i.limits i.kernels
@@ -89,10 +85,7 @@ became_by j v s a =
       keeps = record {
         sized = a.sized;
         alive = a.alive;
-        queued = a.queued;
         tallied = a.tallied;
-        listed = a.listed;
-        operating = a.operating;
         covered = a.covered;
         timed = a.timed;
         kernels = a.kernels;
@@ -134,11 +127,9 @@ pub slots_here : {callbacks : List CallbackRow} (n most : ℕ) → filter lives 
 slots_here n most living room = omega (arith, ap length living, room)
 
 -- callbacks and workers alone change
-shows_along : (limits : Limits) (pools : Pools) (groups : Table Group) (objects : Table Object) (rows : List CallbackRow) (kernels : Kernels) (clients : List ClientRow) (waits : List BegunWait) (settings : List TimerSetting) (clock given_up : ℕ) (workers : List kept.WorkerRow) (now after : List CallbackRow) (workers_after : List WorkerRow)
-    → now ≡ filter lives after → map shown_worker workers ≡ workers_after
-    → world_of limits (record pools { workers = workers }) groups objects now kernels clients waits settings clock given_up ≡ forget (record (world_of limits pools groups objects rows kernels clients waits settings clock given_up) { callbacks = after; workers = workers_after })
-shows_along limits pools groups objects rows kernels clients waits settings clock given_up workers now after workers_after ec ew =
-    ap₂ (λ cs ws. record (world_of limits pools groups objects rows kernels clients waits settings clock given_up) { callbacks = cs; workers = ws }) ec ew
+shows_along : (i : Inside) (workers : List kept.WorkerRow) (now after : List CallbackRow) (workers_after : List WorkerRow) → now ≡ filter lives after → map shown_worker workers ≡ workers_after
+    → world_of i.limits (record i.pools { workers = workers }) i.groups i.objects now i.kernels i.clients.items i.waits.waits i.timers.settings i.clock i.waits.given_up ≡ forget (record (shown i).world { callbacks = after; workers = workers_after })
+shows_along i workers now after workers_after ec ew = ap₂ (λ cs ws. record (shown i).world { callbacks = cs; workers = ws }) ec ew
 
 set_shown : (workers : List kept.WorkerRow) (number : ℕ) (new : kept.WorkerRow) (target : WorkerRow) → shown_worker new ≡ target → map shown_worker (slice_set workers (number - 1) new) ≡ slice_set (map shown_worker workers) (number - 1) target
 set_shown workers number new target shows = map-set shown_worker workers (number - 1) new ∙ ap (λ t. slice_set (map shown_worker workers) (number - 1) t) shows
@@ -168,13 +159,9 @@ free_after : (i : Inside) (number : ℕ) (row new : kept.WorkerRow) (target : Wo
     → After (record i { pools = record i.pools { workers = slice_set i.pools.workers (number - 1) new } }) (record (shown i).world { workers = slice_set (shown i).world.workers (number - 1) target })
 free_after i number row new target k is idle none home shows =
     record {
-      shows = shows_along i.limits i.pools i.groups i.objects i.callbacks.rows i.kernels i.clients.items i.waits.waits i.timers.settings i.clock i.waits.given_up (slice_set i.pools.workers (number - 1) new) i.callbacks.rows i.callbacks.rows (slice_set (shown i).world.workers (number - 1) target)
-          (sym k.alive.live) (set_shown i.pools.workers number new target shows);
+      shows = shows_along i (slice_set i.pools.workers (number - 1) new) i.callbacks.rows i.callbacks.rows (slice_set (shown i).world.workers (number - 1) target) (sym k.alive.live) (set_shown i.pools.workers number new target shows);
       sized = sized_worker i.pools (number - 1) new home k.sized;
       alive = k.alive;
-      queued = k.queued;
-      listed = k.listed;
-      operating = k.operating;
       timed = k.timed;
       kernels = k.kernels;
       slotted = k.slotted;
@@ -221,42 +208,150 @@ runs_here i l by is runs =
     let above : 0 < b.row.callback = omega (arith, busy) in
     subst (λ (o : Option kept.WorkerRow). IsSomeAnd o (λ (w : kept.WorkerRow). 0 < w.callback)) (sym (numbered_at i.pools.workers by.worker b.row b.from_one b.at_place)) above
 
--- the pool of a callback that is kept has a queue
-pub queue_there : (i : Inside) (l : Live) (c : CallbackRow) → shown i ≡ l → IsLiveWorld i → callback_of l.world c.number ≡ Some c → c.pool.0 < length i.queues.queues
-queue_there i l c is k found =
-    let found_here : find (has_number c.number) i.callbacks.rows ≡ Some c = ap (λ (x : Live). callback_of x.world c.number) is ∙ found in
-    let home : c.pool.0 < length i.pools.pools = find_all (λ (x : CallbackRow). x.pool.0 < length i.pools.pools) (has_number c.number) c i.callbacks.rows k.sound.callback_pools found_here in
-    omega (arith, home, k.sized.pools_within, k.queued.queue_count)
+-- what is pending is outstanding for its object
+pub pending_tied : (object : ObjectId) (s : Status) → is_pending s ≡ true → is_held_for (target.Object object) s ≡ true
+pending_tied object Expected e = refl
+pending_tied object Issued e = refl
+pending_tied object Pending e = refl
+pending_tied object (Running worker associated slots) e = absurd cc
+pending_tied object Returned e = absurd cc
+pending_tied object Cancelled e = absurd cc
 
--- ---- a callback begins
+-- ---- callbacks and workers, counted
 
--- the parts that change, by what each became
-abbrev pub with_changed : Inside → Pools → LiveCallbacks → Pending → Keyed → Covers → Inside
-with_changed i pools callbacks queues outstanding barriers = record i { pools = pools; callbacks = callbacks; queues = queues; outstanding = outstanding; barriers = barriers }
+-- another row of a callback, which runs if the one before ran
+tallied_same : (i : Inside) (r c : CallbackRow) → IsLiveWorld i → find (has_number r.number) i.callbacks.rows ≡ Some c → r.pool ≡ c.pool → r.long ≡ c.long → is_running r.status ≡ is_running c.status → AreTallied (replaced r i.callbacks.rows) i.pools.workers
+tallied_same i r c k found pool long ran =
+    let run : (p : ℕ) → is_running_in p r ≡ is_running_in p c = λ p. ap₂ (λ (b : Bool) (q : PoolId). b && (q.0 == p)) ran pool in
+    tallied_still (i.made + 1) r c i.callbacks.rows i.pools.workers run (λ p. ap₂ (λ a b. a && b) (run p) long) k.sound.numbers found (marked_replaced r c i.callbacks.rows i.pools.workers found long k.tallied.marked) k.tallied
 
-pub with_parts : (i : Inside) (v : World) (pools p : Pools) (callbacks c : LiveCallbacks) (queues q : Pending) (outstanding o : Keyed) (barriers b : Covers) → pools ≡ p → callbacks ≡ c → queues ≡ q → outstanding ≡ o → barriers ≡ b
-    → After (with_changed i p c q o b) v → After (with_changed i pools callbacks queues outstanding barriers) v
-with_parts i v pools p callbacks c queues q outstanding o barriers b ep ec eq eo eb a =
-    subst (λ x. After (with_changed i x callbacks queues outstanding barriers) v) (sym ep)
-    (subst (λ x. After (with_changed i p x queues outstanding barriers) v) (sym ec)
-    (subst (λ x. After (with_changed i p c x outstanding barriers) v) (sym eq)
-    (subst (λ x. After (with_changed i p c q x barriers) v) (sym eo)
-    (subst (λ x. After (with_changed i p c q o x) v) (sym eb) a))))
+-- ---- callbacks, workers and what waits hold change
 
--- what leaves each list of numbers
-abbrev pub unlisted : Keyed → ℕ → Keyed
-unlisted lists number = record lists { entries = filter (λ (e : Entry). not (e.number == number)) lists.entries }
+abbrev pub with_changed : Inside → Pools → Callbacks → Covers → ℕ → Inside
+with_changed i pools callbacks barriers made = record i { pools = pools; callbacks = callbacks; barriers = barriers; made = made }
 
+abbrev pub with_workers : Inside → List kept.WorkerRow → Pools
+with_workers i workers = record i.pools { workers = workers }
+
+-- a number leaves each wait
 abbrev pub left : Covers → ℕ → Covers
 left barriers number = record barriers { waits = map (option_map (all_but number)) barriers.waits }
 
-pub taken_by : (i : Inside) (l : Live) (by : Idle) (c : CallbackRow) (pools : Pools) (callbacks : LiveCallbacks) (queues : Pending) → shown i ≡ l → IsLiveWorld i → IsAllowed (l.made + 1) l.world (change.Take by c)
+-- what of the parts shows these callbacks and workers, of which those that live are kept
+record Shows (i : Inside) (workers : List kept.WorkerRow) (rows after : List CallbackRow) (ws : List WorkerRow) (barriers : Covers) : Type 0 where
+  living : rows ≡ filter lives after
+  shown_workers : map shown_worker workers ≡ ws
+  sized : AreSized i.limits (with_workers i workers) i.objects i.clients.items
+  alive : AreLive i.limits (record i.callbacks { rows = rows })
+  tallied : AreTallied rows workers
+  slotted : AreSlotted i.limits rows i.kernels i.armed
+  covered : AreCovered i.limits rows i.waits.waits barriers
+
+changed_after : (i : Inside) (pools : Pools) (workers : List kept.WorkerRow) (callbacks : Callbacks) (rows after : List CallbackRow) (ws : List WorkerRow) (barriers b : Covers) (n : ℕ) → IsLiveWorld i
+    → pools ≡ with_workers i workers → callbacks ≡ record i.callbacks { rows = rows } → barriers ≡ b → Shows i workers rows after ws b → After (with_changed i pools callbacks barriers n) (record (shown i).world { callbacks = after; workers = ws })
+changed_after i pools workers callbacks rows after ws barriers b n k ep ec eb s =
+    subst (λ x. After (with_changed i x callbacks barriers n) (record (shown i).world { callbacks = after; workers = ws })) (sym ep)
+    (subst (λ x. After (with_changed i (with_workers i workers) x barriers n) (record (shown i).world { callbacks = after; workers = ws })) (sym ec)
+    (subst (λ x. After (with_changed i (with_workers i workers) (record i.callbacks { rows = rows }) x n) (record (shown i).world { callbacks = after; workers = ws })) (sym eb)
+    (record {
+      shows = shows_along i workers rows after ws s.living s.shown_workers;
+      sized = s.sized;
+      alive = s.alive;
+      tallied = s.tallied;
+      covered = s.covered;
+      timed = k.timed;
+      kernels = k.kernels;
+      slotted = s.slotted;
+      wanted = k.wanted;
+      grouped = k.grouped;
+      membered = k.membered;
+      closing = k.closing;
+    })))
+
+-- a callback goes on
+pub goes_on : (i : Inside) (r : CallbackRow) (pools : Pools) (workers : List kept.WorkerRow) (callbacks : Callbacks) (ws : List WorkerRow) (barriers b : Covers) → IsLiveWorld i → lives r ≡ true
+    → pools ≡ with_workers i workers → callbacks ≡ record i.callbacks { rows = replaced r i.callbacks.rows } → barriers ≡ b → map shown_worker workers ≡ ws → AreSized i.limits (with_workers i workers) i.objects i.clients.items
+    → AreTallied (replaced r i.callbacks.rows) workers → AreCovered i.limits (replaced r i.callbacks.rows) i.waits.waits b → After (with_changed i pools callbacks barriers i.made) (record (shown i).world { callbacks = replaced r i.callbacks.rows; workers = ws })
+goes_on i r pools workers callbacks ws barriers b k live ep ec eb ew sized tallied covered =
+    let alive_now = alive_replaced i.callbacks r live k.alive in
+    changed_after i pools workers callbacks (replaced r i.callbacks.rows) (replaced r i.callbacks.rows) ws barriers b i.made k ep ec eb
+    (record { living = sym alive_now.live; shown_workers = ew; sized = sized; alive = alive_now; tallied = tallied; slotted = slots_replaced r k.slotted; covered = covered })
+
+-- and is over
+pub goes : (i : Inside) (r c : CallbackRow) (pools : Pools) (workers : List kept.WorkerRow) (callbacks : Callbacks) (ws : List WorkerRow) (barriers : Covers) → IsLiveWorld i → lives r ≡ false → find (has_number r.number) i.callbacks.rows ≡ Some c
+    → pools ≡ with_workers i workers → callbacks ≡ record i.callbacks { rows = filter (λ (x : CallbackRow). not (x.number == r.number)) i.callbacks.rows } → barriers ≡ left i.barriers r.number → map shown_worker workers ≡ ws → AreSized i.limits (with_workers i workers) i.objects i.clients.items
+    → AreMarked (filter (λ (x : CallbackRow). not (x.number == r.number)) i.callbacks.rows) workers → AreTallied (replaced r i.callbacks.rows) workers → After (with_changed i pools callbacks barriers i.made) (record (shown i).world { callbacks = replaced r i.callbacks.rows; workers = ws })
+goes i r c pools workers callbacks ws barriers k over found ep ec eb ew sized marks tallied =
+    let others : List CallbackRow = filter (λ (x : CallbackRow). not (x.number == r.number)) i.callbacks.rows in
+    let removed : others ≡ filter lives (replaced r i.callbacks.rows) = removed_rows i.callbacks r over k.alive in
+    changed_after i pools workers callbacks others (replaced r i.callbacks.rows) ws barriers (left i.barriers r.number) i.made k ep ec eb
+    (record {
+      living = removed;
+      shown_workers = ew;
+      sized = sized;
+      alive = alive_less i.callbacks r over k.alive;
+      tallied = subst (λ cs. AreTallied cs workers) (sym removed) (tallied_lives (replaced r i.callbacks.rows) workers (subst (λ cs. AreMarked cs workers) removed marks) tallied);
+      slotted = slots_fewer (λ (x : CallbackRow). not (x.number == r.number)) k.slotted;
+      covered = subst (λ cs. AreCovered i.limits cs i.waits.waits (left i.barriers r.number)) (sym removed)
+          (covered_lives (i.made + 1) (rising_replaced r 1 (i.made + 1) i.callbacks.rows k.sound.numbers) (covered_less r c over found k.covered));
+    })
+
+-- or it ends where no worker runs it
+pub goes_idle : (i : Inside) (r c : CallbackRow) (callbacks : Callbacks) (barriers : Covers) → IsLiveWorld i → lives r ≡ false → r.number ≡ c.number → r.pool ≡ c.pool → r.long ≡ c.long → is_running c.status ≡ false → is_running r.status ≡ false → find (has_number r.number) i.callbacks.rows ≡ Some c
+    → callbacks ≡ record i.callbacks { rows = filter (λ (x : CallbackRow). not (x.number == r.number)) i.callbacks.rows } → barriers ≡ left i.barriers r.number
+    → After (with_changed i i.pools callbacks barriers i.made) (record (shown i).world { callbacks = replaced r i.callbacks.rows })
+goes_idle i r c callbacks barriers k over number pool long before after found ec eb =
+    let apart : AreApart r.number i.pools.workers = subst (λ n. AreApart n i.pools.workers) (sym number) (still_apart c i.callbacks.rows 1 i.pools.workers (ap (λ n. find (has_number n) i.callbacks.rows) (sym number) ∙ found) before k.sound.workers) in
+    goes i r c i.pools i.pools.workers callbacks (shown i).world.workers barriers k over found refl ec eb refl k.sized (marked_others r.number i.callbacks.rows i.pools.workers apart k.tallied.marked)
+    (tallied_same i r c k found pool long (after ∙ sym before))
+
+-- a callback goes on where no worker begins or ends it
+pub goes_along : (i : Inside) (r c : CallbackRow) (callbacks : Callbacks) (barriers b : Covers) → IsLiveWorld i → lives r ≡ true → r.pool ≡ c.pool → r.long ≡ c.long → is_running r.status ≡ is_running c.status → find (has_number r.number) i.callbacks.rows ≡ Some c
+    → callbacks ≡ record i.callbacks { rows = replaced r i.callbacks.rows } → barriers ≡ b → AreCovered i.limits (replaced r i.callbacks.rows) i.waits.waits b
+    → After (with_changed i i.pools callbacks barriers i.made) (record (shown i).world { callbacks = replaced r i.callbacks.rows })
+goes_along i r c callbacks barriers b k live pool long ran found ec eb covered = goes_on i r i.pools i.pools.workers callbacks (shown i).world.workers barriers b k live refl ec eb refl k.sized (tallied_same i r c k found pool long ran) covered
+
+-- a callback comes
+pub comes : (i : Inside) (c : CallbackRow) (callbacks : Callbacks) → IsLiveWorld i → c.number ≡ i.made + 1 → lives c ≡ true → is_running c.status ≡ false → lacks_slots_for (shown i).world 1 ≡ false
+    → callbacks ≡ record i.callbacks { rows = i.callbacks.rows ++ c ∷ [] } → After (with_changed i i.pools callbacks i.barriers (i.made + 1)) (record (shown i).world { callbacks = i.callbacks.rows ++ c ∷ [] })
+comes i c callbacks k number live still room ec =
+    let alive_now = alive_more i.callbacks c live k.alive in
+    changed_after i i.pools i.pools.workers callbacks (i.callbacks.rows ++ c ∷ []) (i.callbacks.rows ++ c ∷ []) (shown i).world.workers i.barriers i.barriers (i.made + 1) k refl ec refl
+    (record {
+      living = sym alive_now.live;
+      shown_workers = refl;
+      sized = k.sized;
+      alive = alive_now;
+      tallied = tallied_more c i.callbacks.rows i.pools.workers still k.tallied;
+      slotted = slots_more c (slots_here (length i.kernels.armed) i.limits.slots k.alive.live (ltb-false i.limits.slots (length (filter lives i.callbacks.rows) + length i.kernels.armed + 1) room)) k.slotted;
+      covered = covered_more (i.made + 1) c number k.sound.waits k.covered;
+    })
+
+-- a row that goes on, as the lists ask for it
+pub goes_with : (c : CallbackRow) (long : Bool) (result : TakeResult) (status : Status) → (is_held_for (target.Object c.object) status ≡ true → is_tied c ≡ true) → (is_expected status ≡ true → is_expected c.status ≡ true) → (is_operating status ≡ true → is_operating c.status ≡ true)
+    → MovesOn c (record c { long = long; result = result; status = status })
+goes_with c long result status outstanding expected operating =
+    record { number = refl; object = refl; pool = refl; group = refl; priority = refl; outstanding = outstanding; expected = expected; operating = operating }
+
+-- the callback that is asked for is kept
+pub found_here : (i : Inside) (l : Live) (c : CallbackRow) → shown i ≡ l → callback_of l.world c.number ≡ Some c → find (has_number c.number) i.callbacks.rows ≡ Some c
+found_here i l c is found = ap (λ (x : Live). callback_of x.world c.number) is ∙ found
+
+-- ---- a callback is made
+
+pub queued_by : (i : Inside) (l : Live) (c : CallbackRow) (callbacks : Callbacks) → shown i ≡ l → IsLiveWorld i → IsAllowed (l.made + 1) l.world (change.QueueCallback c)
+    → callbacks ≡ record i.callbacks { rows = i.callbacks.rows ++ c ∷ [] } → Becomes (record i { callbacks = callbacks; made = i.made + 1 }) (moved l (change.QueueCallback c))
+queued_by i l c callbacks is k allowed rows_now =
+    moved_by i (record i { callbacks = callbacks; made = i.made + 1 }) l (change.QueueCallback c) is k allowed refl
+    (λ a. comes i c callbacks k a.number (pending_lives c.status a.pending) (pending_not_running c.status a.pending) a.room rows_now)
+
+-- ---- a callback begins
+
+pub taken_by : (i : Inside) (l : Live) (by : Idle) (c : CallbackRow) (pools : Pools) (callbacks : Callbacks) → shown i ≡ l → IsLiveWorld i → IsAllowed (l.made + 1) l.world (change.Take by c)
     → pools ≡ with_kept_worker by.worker (λ w. record w { callback = c.number; long = c.long }) i.pools
-    → callbacks ≡ record i.callbacks { rows = replaced (taken c by.worker) i.callbacks.rows }
-    → queues ≡ with_queue i.queues by.pool.0 (without_number c.number (queue_of i.queues by.pool.0))
-    → Becomes (record i { pools = pools; callbacks = callbacks; queues = queues }) (moved l (change.Take by c))
-taken_by i l by c pools callbacks queues is k allowed pools_now rows_now queues_now =
-    moved_by i (record i { pools = pools; callbacks = callbacks; queues = queues }) l (change.Take by c) is k allowed (omega arith) (λ a.
+    → callbacks ≡ record i.callbacks { rows = replaced (taken c by.worker) i.callbacks.rows } → Becomes (record i { pools = pools; callbacks = callbacks }) (moved l (change.Take by c))
+taken_by i l by c pools callbacks is k allowed pools_now rows_now =
+    moved_by i (record i { pools = pools; callbacks = callbacks }) l (change.Take by c) is k allowed (omega arith) (λ a.
     let b = is_behind i.pools.workers by.worker (Some by.pool) None a.idles in
     let r : CallbackRow = taken c by.worker in
     let new : kept.WorkerRow = record b.row { callback = c.number; long = c.long } in
@@ -265,36 +360,16 @@ taken_by i l by c pools callbacks queues is k allowed pools_now rows_now queues_
     let busy : c.number ≢ 0 = λ z. omega (arith, z, above) in
     let idle : b.row.callback ≡ 0 = runs_nothing b.row.callback b.same_callback in
     let shows : shown_worker new ≡ target = ap₂ (λ (p : Option PoolId) (z : Bool). record { pool = p; callback = cond z None (Some c.number) }) b.same_pool (ne_eqb c.number 0 busy) in
-    let home : c.pool.0 < length i.pools.pools = find_all (λ (x : CallbackRow). x.pool.0 < length i.pools.pools) (has_number c.number) c i.callbacks.rows k.sound.callback_pools a.found in
-    let alive_now = alive_replaced i.callbacks r refl k.alive in
-    with_parts i (changed (shown i).world (change.Take by c)) pools (record i.pools { workers = slice_set i.pools.workers (by.worker - 1) new }) callbacks (record i.callbacks { rows = replaced r i.callbacks.rows })
-    queues (with_queue i.queues c.pool.0 (without_number c.number (queue_of i.queues c.pool.0))) i.outstanding i.outstanding i.barriers i.barriers
+    goes_on i r pools (slice_set i.pools.workers (by.worker - 1) new) callbacks (slice_set (shown i).world.workers (by.worker - 1) target) i.barriers i.barriers k refl
     (pools_now ∙ worker_changed i.pools by.worker b.row (λ w. record w { callback = c.number; long = c.long }) b.at_place b.from_one)
-    rows_now
-    (queues_now ∙ ap (λ (p : PoolId). with_queue i.queues p.0 (without_number c.number (queue_of i.queues p.0))) (sym a.home))
-    refl refl
-    (record {
-      shows = shows_along i.limits i.pools i.groups i.objects i.callbacks.rows i.kernels i.clients.items i.waits.waits i.timers.settings i.clock i.waits.given_up (slice_set i.pools.workers (by.worker - 1) new) (replaced r i.callbacks.rows) (replaced r i.callbacks.rows) (slice_set (shown i).world.workers (by.worker - 1) target)
-          (sym alive_now.live) (set_shown i.pools.workers by.worker new target shows);
-      sized = sized_worker i.pools (by.worker - 1) new (same_home i.pools (by.worker - 1) b.row new b.at_place refl k.sized) k.sized;
-      alive = alive_now;
-      listed = listed_same (i.made + 1) r c refl refl (sym (pending_tied c.object c.status a.pending)) k.sound.numbers a.found k.listed;
-      operating = operating_same (i.made + 1) r c refl refl refl (pending_apart c.status a.pending) k.sound.numbers a.found k.operating;
-      timed = k.timed;
-      kernels = k.kernels;
-      slotted = slots_replaced (taken c by.worker) k.slotted;
-      wanted = k.wanted;
-      grouped = k.grouped;
-      membered = k.membered;
-      closing = k.closing;
-      covered = covered_replaced r c refl refl (sym (pending_tied c.object c.status a.pending)) (sym (pending_lives c.status a.pending)) a.found k.covered;
-      queued = queued_less (i.made + 1) r c (omega (arith, home, k.sized.pools_within)) a.pending refl refl k.sound.numbers a.found k.queued;
-      tallied = tallied_both (i.made + 1) r c i.callbacks.rows i.pools.workers (by.worker - 1) b.row new k.sound.numbers a.found b.at_place
-          (idle_alike c b.row (pending_not_running c.status a.pending) idle)
-          (busy_alike r new by.pool b.same_pool busy a.home refl refl)
-          (marked_set (replaced r i.callbacks.rows) i.pools.workers (by.worker - 1) new (λ _. (r, find_here r c i.callbacks.rows a.found, refl))
-          (marked_replaced r c i.callbacks.rows i.pools.workers a.found refl k.tallied.marked)) k.tallied;
-    }))
+    rows_now refl (set_shown i.pools.workers by.worker new target shows)
+    (sized_worker i.pools (by.worker - 1) new (same_home i.pools (by.worker - 1) b.row new b.at_place refl k.sized) k.sized)
+    (tallied_both (i.made + 1) r c i.callbacks.rows i.pools.workers (by.worker - 1) b.row new k.sound.numbers a.found b.at_place
+    (idle_alike c b.row (pending_not_running c.status a.pending) idle)
+    (busy_alike r new by.pool b.same_pool busy a.home refl refl)
+    (marked_set (replaced r i.callbacks.rows) i.pools.workers (by.worker - 1) new (λ _. (r, find_here r c i.callbacks.rows a.found, refl))
+    (marked_replaced r c i.callbacks.rows i.pools.workers a.found refl k.tallied.marked)) k.tallied)
+    (covered_replaced r c refl refl (sym (pending_tied c.object c.status a.pending)) (sym (pending_lives c.status a.pending)) a.found k.covered))
 
 -- ---- a callback that runs
 
@@ -307,7 +382,6 @@ record IsRun (i : Inside) (by : Busy) : Type 0 where
   runs : row.callback ≡ by.callback.number
   busy : row.callback ≢ 0
   ran : is_running by.callback.status ≡ true
-  waits_not : is_pending by.callback.status ≡ false
   mark : by.callback.long ≡ row.long
   -- no other worker runs it
   alone : (new : kept.WorkerRow) → new.callback ≡ 0 → AreApart by.callback.number (slice_set i.pools.workers (by.worker - 1) new)
@@ -325,7 +399,6 @@ is_run i by k a =
       runs = this.0;
       busy = this.1;
       ran = ap is_running a.running;
-      waits_not = ap is_pending a.running;
       mark = ap (λ (x : CallbackRow). x.long) (same_found by.callback.number b.row.callback by.callback mark.0 i.callbacks.rows this.0 a.found mark.1) ∙ sym mark.2;
       alone = λ new none. others_apart by.callback by.worker a.associated a.slots i.callbacks.rows 1 (by.worker - 1) i.pools.workers new a.found a.running (omega (arith, b.from_one)) none k.sound.workers;
     }
@@ -336,10 +409,9 @@ shows_same workers place row new is same =
     ∙ set_there (map shown_worker workers) place (shown_worker row) (slice_get-map shown_worker workers place ∙ ap (option_map shown_worker) is)
 
 -- it may run long
-pub marked_long : (i : Inside) (l : Live) (by : Busy) (pools : Pools) (callbacks : LiveCallbacks) → shown i ≡ l → IsLiveWorld i → IsAllowed (l.made + 1) l.world (change.Mark by Long)
+pub marked_long : (i : Inside) (l : Live) (by : Busy) (pools : Pools) (callbacks : Callbacks) → shown i ≡ l → IsLiveWorld i → IsAllowed (l.made + 1) l.world (change.Mark by Long)
     → pools ≡ with_kept_worker by.worker (λ w. record w { long = true }) i.pools
-    → callbacks ≡ record i.callbacks { rows = replaced (marked Long by.callback) i.callbacks.rows }
-    → Becomes (record i { pools = pools; callbacks = callbacks }) (moved l (change.Mark by Long))
+    → callbacks ≡ record i.callbacks { rows = replaced (marked Long by.callback) i.callbacks.rows } → Becomes (record i { pools = pools; callbacks = callbacks }) (moved l (change.Mark by Long))
 marked_long i l by pools callbacks is k allowed pools_now rows_now =
     moved_by i (record i { pools = pools; callbacks = callbacks }) l (change.Mark by Long) is k allowed (omega arith) (λ a.
     let on = is_run i by k a.runs in
@@ -347,44 +419,26 @@ marked_long i l by pools callbacks is k allowed pools_now rows_now =
     let r : CallbackRow = marked Long c in
     let new : kept.WorkerRow = record on.row { long = true } in
     let rest : kept.WorkerRow = record on.row { callback = 0; long = false } in
-    let alive_now = alive_replaced i.callbacks r (ap is_live a.runs.running) k.alive in
-    with_parts i (changed (shown i).world (change.Mark by Long)) pools (record i.pools { workers = slice_set i.pools.workers (by.worker - 1) new }) callbacks (record i.callbacks { rows = replaced r i.callbacks.rows })
-    i.queues i.queues i.outstanding i.outstanding i.barriers i.barriers
+    goes_on i r pools (slice_set i.pools.workers (by.worker - 1) new) callbacks (shown i).world.workers i.barriers i.barriers k (ap is_live a.runs.running)
     (pools_now ∙ worker_changed i.pools by.worker on.row (λ w. record w { long = true }) on.at_place on.from_one)
-    rows_now refl refl refl
-    (record {
-      shows = shows_along i.limits i.pools i.groups i.objects i.callbacks.rows i.kernels i.clients.items i.waits.waits i.timers.settings i.clock i.waits.given_up (slice_set i.pools.workers (by.worker - 1) new) (replaced r i.callbacks.rows) (replaced r i.callbacks.rows) (shown i).world.workers
-          (sym alive_now.live) (shows_same i.pools.workers (by.worker - 1) on.row new on.at_place refl);
-      sized = sized_worker i.pools (by.worker - 1) new (same_home i.pools (by.worker - 1) on.row new on.at_place refl k.sized) k.sized;
-      alive = alive_now;
-      listed = listed_same (i.made + 1) r c refl refl refl k.sound.numbers a.runs.found k.listed;
-      operating = operating_same (i.made + 1) r c refl refl (running_apart c.status on.ran) (running_apart c.status on.ran) k.sound.numbers a.runs.found k.operating;
-      timed = k.timed;
-      kernels = k.kernels;
-      slotted = slots_replaced r k.slotted;
-      wanted = k.wanted;
-      grouped = k.grouped;
-      membered = k.membered;
-      closing = k.closing;
-      covered = covered_replaced r c refl refl refl refl a.runs.found k.covered;
-      queued = queued_same (i.made + 1) r c on.waits_not on.waits_not k.sound.numbers a.runs.found k.queued;
-      tallied = tallied_both (i.made + 1) r c i.callbacks.rows i.pools.workers (by.worker - 1) on.row new k.sound.numbers a.runs.found on.at_place
-          (busy_alike c on.row by.pool on.joined on.busy a.runs.home on.ran on.mark)
-          (busy_alike r new by.pool on.joined on.busy a.runs.home on.ran refl)
-          (subst (λ ws. AreMarked (replaced r i.callbacks.rows) ws) (set_twice i.pools.workers (by.worker - 1) rest new)
-          (marked_set (replaced r i.callbacks.rows) (slice_set i.pools.workers (by.worker - 1) rest) (by.worker - 1) new
-          (λ _. (r, ap (λ n. find (has_number n) (replaced r i.callbacks.rows)) on.runs ∙ find_here r c i.callbacks.rows a.runs.found, refl))
-          (marked_apart r i.callbacks.rows (slice_set i.pools.workers (by.worker - 1) rest) (on.alone rest refl)
-          (marked_set i.callbacks.rows i.pools.workers (by.worker - 1) rest (λ runs_now. absurd (runs_now refl)) k.tallied.marked)))) k.tallied;
-    }))
+    rows_now refl (shows_same i.pools.workers (by.worker - 1) on.row new on.at_place refl)
+    (sized_worker i.pools (by.worker - 1) new (same_home i.pools (by.worker - 1) on.row new on.at_place refl k.sized) k.sized)
+    (tallied_both (i.made + 1) r c i.callbacks.rows i.pools.workers (by.worker - 1) on.row new k.sound.numbers a.runs.found on.at_place
+    (busy_alike c on.row by.pool on.joined on.busy a.runs.home on.ran on.mark)
+    (busy_alike r new by.pool on.joined on.busy a.runs.home on.ran refl)
+    (subst (λ ws. AreMarked (replaced r i.callbacks.rows) ws) (set_twice i.pools.workers (by.worker - 1) rest new)
+    (marked_set (replaced r i.callbacks.rows) (slice_set i.pools.workers (by.worker - 1) rest) (by.worker - 1) new
+    (λ _. (r, ap (λ n. find (has_number n) (replaced r i.callbacks.rows)) on.runs ∙ find_here r c i.callbacks.rows a.runs.found, refl))
+    (marked_apart r i.callbacks.rows (slice_set i.pools.workers (by.worker - 1) rest) (on.alone rest refl)
+    (marked_set i.callbacks.rows i.pools.workers (by.worker - 1) rest (λ runs_now. absurd (runs_now refl)) k.tallied.marked)))) k.tallied)
+    (covered_replaced r c refl refl refl refl a.runs.found k.covered))
 
 -- it returns
-pub ended_by : (i : Inside) (l : Live) (by : Busy) (pools : Pools) (callbacks : LiveCallbacks) (outstanding : Keyed) (barriers : Covers) → shown i ≡ l → IsLiveWorld i → Runs l.world by
+pub ended_by : (i : Inside) (l : Live) (by : Busy) (pools : Pools) (callbacks : Callbacks) (barriers : Covers) → shown i ≡ l → IsLiveWorld i → Runs l.world by
     → pools ≡ with_kept_worker by.worker (λ w. record w { callback = 0; long = false }) i.pools
-    → callbacks ≡ record i.callbacks { rows = filter (λ (x : CallbackRow). not (x.number == by.callback.number)) i.callbacks.rows }
-    → outstanding ≡ unlisted i.outstanding by.callback.number → barriers ≡ left i.barriers by.callback.number
-    → Becomes (record i { pools = pools; callbacks = callbacks; outstanding = outstanding; barriers = barriers }) (with_world l (without_run l.world by))
-ended_by i l by pools callbacks outstanding barriers is k running pools_now rows_now listed_now left_now =
+    → callbacks ≡ record i.callbacks { rows = filter (λ (x : CallbackRow). not (x.number == by.callback.number)) i.callbacks.rows } → barriers ≡ left i.barriers by.callback.number
+    → Becomes (record i { pools = pools; callbacks = callbacks; barriers = barriers }) (with_world l (without_run l.world by))
+ended_by i l by pools callbacks barriers is k running pools_now rows_now left_now =
     let a : Runs (shown i).world by = subst (λ (x : Live). Runs x.world by) (sym is) running in
     let on = is_run i by k a in
     let c : CallbackRow = by.callback in
@@ -392,184 +446,53 @@ ended_by i l by pools callbacks outstanding barriers is k running pools_now rows
     let new : kept.WorkerRow = record on.row { callback = 0; long = false } in
     let target : WorkerRow = record { pool = Some by.pool; callback = None } in
     let shows : shown_worker new ≡ target = ap (λ (p : Option PoolId). record { pool = p; callback = None }) on.joined in
-    let others : List CallbackRow = filter (λ (x : CallbackRow). not (x.number == c.number)) i.callbacks.rows in
-    let removed : others ≡ filter lives (replaced r i.callbacks.rows) = removed_rows i.callbacks r refl k.alive in
-    let before : AreMarked i.callbacks.rows (slice_set i.pools.workers (by.worker - 1) new) = marked_set i.callbacks.rows i.pools.workers (by.worker - 1) new (λ busy. absurd (busy refl)) k.tallied.marked in
-    let marks : AreMarked others (slice_set i.pools.workers (by.worker - 1) new) = marked_others c.number i.callbacks.rows (slice_set i.pools.workers (by.worker - 1) new) (on.alone new refl) before in
-    let v : World = without_run (shown i).world by in
-    let b = became_by (record i { pools = pools; callbacks = callbacks; outstanding = outstanding; barriers = barriers }) v
+    let workers : List kept.WorkerRow = slice_set i.pools.workers (by.worker - 1) new in
+    let before : AreMarked i.callbacks.rows workers = marked_set i.callbacks.rows i.pools.workers (by.worker - 1) new (λ busy. absurd (busy refl)) k.tallied.marked in
+    let b = became_by (record i { pools = pools; callbacks = callbacks; barriers = barriers }) (without_run (shown i).world by)
     (sound_returned (i.made + 1) (shown i).world by.worker target by.pool c on.from_one refl (record { callback = c; associated = a.associated; slots = a.slots; found = a.found; runs = a.running; at_home = a.home }) a.found k.sound)
-    (with_parts i v pools (record i.pools { workers = slice_set i.pools.workers (by.worker - 1) new }) callbacks (record i.callbacks { rows = others })
-    i.queues i.queues outstanding (unlisted i.outstanding c.number) barriers (left i.barriers c.number)
+    (goes i r c pools workers callbacks (slice_set (shown i).world.workers (by.worker - 1) target) barriers k refl a.found
     (pools_now ∙ worker_changed i.pools by.worker on.row (λ w. record w { callback = 0; long = false }) on.at_place on.from_one)
-    rows_now refl listed_now left_now
-    (record {
-      shows = shows_along i.limits i.pools i.groups i.objects i.callbacks.rows i.kernels i.clients.items i.waits.waits i.timers.settings i.clock i.waits.given_up (slice_set i.pools.workers (by.worker - 1) new) others (replaced r i.callbacks.rows) (slice_set (shown i).world.workers (by.worker - 1) target)
-          removed (set_shown i.pools.workers by.worker new target shows);
-      sized = sized_worker i.pools (by.worker - 1) new (same_home i.pools (by.worker - 1) on.row new on.at_place refl k.sized) k.sized;
-      alive = alive_less i.callbacks r refl k.alive;
-      listed = subst (λ cs. AreListed i.limits is_tied cs (unlisted i.outstanding c.number)) (sym removed) (listed_lives over_untied (listed_less r refl k.listed));
-      operating = subst (λ cs. AreOperating i.limits cs i.started i.operations) (sym removed) (operating_lives (operating_same (i.made + 1) r c refl refl refl (running_apart c.status on.ran) k.sound.numbers a.found k.operating));
-      timed = k.timed;
-      kernels = k.kernels;
-      slotted = slots_fewer (λ (x : CallbackRow). not (x.number == c.number)) k.slotted;
-      wanted = k.wanted;
-      grouped = k.grouped;
-      membered = k.membered;
-      closing = k.closing;
-      covered = subst (λ cs. AreCovered i.limits cs i.waits.waits (left i.barriers c.number)) (sym removed)
-          (covered_lives (i.made + 1) (rising_replaced r 1 (i.made + 1) i.callbacks.rows k.sound.numbers) (covered_less r c refl a.found k.covered));
-      queued = subst (λ cs. AreQueued i.limits cs i.queues) (sym removed) (queued_lives (queued_same (i.made + 1) r c on.waits_not refl k.sound.numbers a.found k.queued));
-      tallied = subst (λ cs. AreTallied cs (slice_set i.pools.workers (by.worker - 1) new)) (sym removed)
-          (tallied_lives (replaced r i.callbacks.rows) (slice_set i.pools.workers (by.worker - 1) new) (subst (λ cs. AreMarked cs (slice_set i.pools.workers (by.worker - 1) new)) removed marks)
-          (tallied_both (i.made + 1) r c i.callbacks.rows i.pools.workers (by.worker - 1) on.row new k.sound.numbers a.found on.at_place
-          (busy_alike c on.row by.pool on.joined on.busy a.home on.ran on.mark)
-          (idle_alike r new refl refl)
-          (marked_apart r i.callbacks.rows (slice_set i.pools.workers (by.worker - 1) new) (on.alone new refl) before) k.tallied));
-    })) in
+    rows_now left_now (set_shown i.pools.workers by.worker new target shows)
+    (sized_worker i.pools (by.worker - 1) new (same_home i.pools (by.worker - 1) on.row new on.at_place refl k.sized) k.sized)
+    (marked_others c.number i.callbacks.rows workers (on.alone new refl) before)
+    (tallied_both (i.made + 1) r c i.callbacks.rows i.pools.workers (by.worker - 1) on.row new k.sound.numbers a.found on.at_place
+    (busy_alike c on.row by.pool on.joined on.busy a.home on.ran on.mark)
+    (idle_alike r new refl refl)
+    (marked_apart r i.callbacks.rows workers (on.alone new refl) before) k.tallied)) in
     record { keeps = b.keeps; becomes = b.becomes ∙ ap (λ (x : Live). with_world x (without_run x.world by)) is }
 
--- ---- a callback is made
-
--- its number is listed
-abbrev pub more_listed : Keyed → CallbackRow → Keyed
-more_listed lists c = record lists { entries = lists.entries ++ tied_entry c ∷ [] }
-
-pub queued_by : (i : Inside) (l : Live) (c : CallbackRow) (callbacks : LiveCallbacks) (queues : Pending) (outstanding : Keyed) → shown i ≡ l → IsLiveWorld i → IsAllowed (l.made + 1) l.world (change.QueueCallback c)
-    → callbacks ≡ record i.callbacks { rows = i.callbacks.rows ++ c ∷ [] } → queues ≡ queued_entry i.queues c
-    → outstanding ≡ more_listed i.outstanding c
-    → Becomes (record i { callbacks = callbacks; queues = queues; outstanding = outstanding; made = i.made + 1 }) (moved l (change.QueueCallback c))
-queued_by i l c callbacks queues outstanding is k allowed rows_now queues_now listed_now =
-    moved_by i (record i { callbacks = callbacks; queues = queues; outstanding = outstanding; made = i.made + 1 }) l (change.QueueCallback c) is k allowed refl (λ a.
-    let alive_now = alive_more i.callbacks c (pending_lives c.status a.pending) k.alive in
-    with_parts (record i { made = i.made + 1 }) (changed (shown i).world (change.QueueCallback c)) i.pools i.pools callbacks (record i.callbacks { rows = i.callbacks.rows ++ c ∷ [] }) queues (queued_entry i.queues c) outstanding (more_listed i.outstanding c) i.barriers i.barriers
-    refl rows_now queues_now listed_now refl
-    (record {
-      shows = ap (λ cs. record (shown i).world { callbacks = cs }) (sym alive_now.live);
-      sized = k.sized;
-      listed = listed_more c (pending_tied c.object c.status a.pending) k.listed;
-      operating = operating_beside c (pending_apart c.status a.pending) k.operating;
-      timed = k.timed;
-      kernels = k.kernels;
-      slotted = slots_more c (slots_here (length i.kernels.armed) i.limits.slots k.alive.live (ltb-false i.limits.slots (length (filter lives i.callbacks.rows) + length i.kernels.armed + 1) a.room)) k.slotted;
-      wanted = k.wanted;
-      grouped = k.grouped;
-      membered = k.membered;
-      closing = k.closing;
-      covered = covered_more (i.made + 1) c a.number k.sound.waits k.covered;
-      alive = alive_now;
-      queued = queued_more c (omega (arith, a.home, k.sized.pools_within)) a.pending (subst (λ n. IsRising 1 n i.callbacks.rows) (sym a.number) k.sound.numbers) k.queued;
-      tallied = tallied_more c i.callbacks.rows i.pools.workers (pending_not_running c.status a.pending) k.tallied;
-    }))
-
--- ---- a callback is no longer outstanding for its object
-
-pub loosened_by : (i : Inside) (l : Live) (by : Busy) (callbacks : LiveCallbacks) (outstanding : Keyed) (barriers : Covers) → shown i ≡ l → IsLiveWorld i → IsAllowed (l.made + 1) l.world (change.Mark by Loose)
-    → callbacks ≡ record i.callbacks { rows = replaced (marked Loose by.callback) i.callbacks.rows }
-    → outstanding ≡ unlisted i.outstanding by.callback.number → IsLeft by.callback.number i.closing.items i.barriers barriers
-    → Becomes (record i { callbacks = callbacks; outstanding = outstanding; barriers = barriers }) (moved l (change.Mark by Loose))
-loosened_by i l by callbacks outstanding barriers is k allowed rows_now listed_now left_now =
-    moved_by i (record i { callbacks = callbacks; outstanding = outstanding; barriers = barriers }) l (change.Mark by Loose) is k allowed (omega arith) (λ a.
-    let on = is_run i by k a.runs in
+-- it is no longer outstanding for its object
+pub loosened_by : (i : Inside) (l : Live) (by : Busy) (callbacks : Callbacks) (barriers : Covers) → shown i ≡ l → IsLiveWorld i → IsAllowed (l.made + 1) l.world (change.Mark by Loose)
+    → callbacks ≡ record i.callbacks { rows = replaced (marked Loose by.callback) i.callbacks.rows } → IsLeft by.callback.number i.closing.items i.barriers barriers
+    → Becomes (record i { callbacks = callbacks; barriers = barriers }) (moved l (change.Mark by Loose))
+loosened_by i l by callbacks barriers is k allowed rows_now left_now =
+    moved_by i (record i { callbacks = callbacks; barriers = barriers }) l (change.Mark by Loose) is k allowed (omega arith) (λ a.
     let c : CallbackRow = by.callback in
     let r : CallbackRow = marked Loose c in
     let runs : r.status ≡ Running by.worker false a.runs.slots = ap loosened a.runs.running in
     let untied : is_tied r ≡ false = ap (is_held_for (target.Object c.object)) runs in
-    let alive_now = alive_replaced i.callbacks r (ap is_live runs) k.alive in
-    with_parts i (changed (shown i).world (change.Mark by Loose)) i.pools i.pools callbacks (record i.callbacks { rows = replaced r i.callbacks.rows })
-    i.queues i.queues outstanding (unlisted i.outstanding c.number) barriers barriers
-    refl rows_now refl listed_now refl
-    (record {
-      shows = ap (λ cs. record (shown i).world { callbacks = cs }) (sym alive_now.live);
-      sized = k.sized;
-      alive = alive_now;
-      queued = queued_same (i.made + 1) r c on.waits_not (ap is_pending runs) k.sound.numbers a.runs.found k.queued;
-      tallied = tallied_still (i.made + 1) r c i.callbacks.rows i.pools.workers (λ p. ap (λ b. b && (c.pool.0 == p)) (ap is_running runs ∙ sym on.ran)) (λ p. ap (λ b. (b && (c.pool.0 == p)) && c.long) (ap is_running runs ∙ sym on.ran)) k.sound.numbers a.runs.found
-          (marked_replaced r c i.callbacks.rows i.pools.workers a.runs.found refl k.tallied.marked) k.tallied;
-      listed = listed_less r untied k.listed;
-      operating = operating_same (i.made + 1) r c refl refl (ap is_operating runs) (running_apart c.status on.ran) k.sound.numbers a.runs.found k.operating;
-      timed = k.timed;
-      kernels = k.kernels;
-      slotted = slots_replaced r k.slotted;
-      wanted = k.wanted;
-      grouped = k.grouped;
-      membered = k.membered;
-      closing = k.closing;
-      covered = covered_loose r c refl refl untied (ap is_live runs ∙ sym (ap is_live a.runs.running)) a.runs.found k.closing.closes left_now k.covered;
-    }))
+    goes_along i r c callbacks barriers barriers k (ap is_live runs) refl refl (ap is_running runs ∙ sym (ap is_running a.runs.running)) a.runs.found rows_now refl
+    (covered_loose r c refl refl untied (ap is_live runs ∙ sym (ap is_live a.runs.running)) a.runs.found k.closing.closes left_now k.covered))
 
--- ---- it asks for an action on return
-
-pub asked_by : (i : Inside) (l : Live) (by : Busy) (kind : ActionKind) (action : Action) (callbacks : LiveCallbacks) → shown i ≡ l → IsLiveWorld i → IsAllowed (l.made + 1) l.world (change.Mark by (Asks kind action))
+-- it asks for an action on return
+pub asked_by : (i : Inside) (l : Live) (by : Busy) (kind : ActionKind) (action : Action) (callbacks : Callbacks) → shown i ≡ l → IsLiveWorld i → IsAllowed (l.made + 1) l.world (change.Mark by (Asks kind action))
     → callbacks ≡ record i.callbacks { rows = replaced (marked (Asks kind action) by.callback) i.callbacks.rows } → Becomes (record i { callbacks = callbacks }) (moved l (change.Mark by (Asks kind action)))
 asked_by i l by kind action callbacks is k allowed rows_now =
     moved_by i (record i { callbacks = callbacks }) l (change.Mark by (Asks kind action)) is k allowed (omega arith) (λ a.
-    let on = is_run i by k a.runs in
     let c : CallbackRow = by.callback in
     let r : CallbackRow = marked (Asks kind action) c in
     let runs : r.status ≡ Running by.worker a.runs.associated (filled kind action a.runs.slots) = ap (asking kind action) a.runs.running in
     let tied : is_tied r ≡ is_tied c = ap (is_held_for (target.Object c.object)) runs ∙ sym (ap (is_held_for (target.Object c.object)) a.runs.running) in
-    let alive_now = alive_replaced i.callbacks r (ap is_live runs) k.alive in
-    subst (λ x. After (record i { callbacks = x }) (changed (shown i).world (change.Mark by (Asks kind action)))) (sym rows_now)
-    (record {
-      shows = ap (λ cs. record (shown i).world { callbacks = cs }) (sym alive_now.live);
-      sized = k.sized;
-      alive = alive_now;
-      queued = queued_same (i.made + 1) r c on.waits_not (ap is_pending runs) k.sound.numbers a.runs.found k.queued;
-      tallied = tallied_still (i.made + 1) r c i.callbacks.rows i.pools.workers (λ p. ap (λ b. b && (c.pool.0 == p)) (ap is_running runs ∙ sym on.ran)) (λ p. ap (λ b. (b && (c.pool.0 == p)) && c.long) (ap is_running runs ∙ sym on.ran)) k.sound.numbers a.runs.found
-          (marked_replaced r c i.callbacks.rows i.pools.workers a.runs.found refl k.tallied.marked) k.tallied;
-      listed = listed_same (i.made + 1) r c refl refl tied k.sound.numbers a.runs.found k.listed;
-      operating = operating_same (i.made + 1) r c refl refl (ap is_operating runs) (running_apart c.status on.ran) k.sound.numbers a.runs.found k.operating;
-      timed = k.timed;
-      kernels = k.kernels;
-      slotted = slots_replaced r k.slotted;
-      wanted = k.wanted;
-      grouped = k.grouped;
-      membered = k.membered;
-      closing = k.closing;
-      covered = covered_replaced r c refl refl tied (ap is_live runs ∙ sym (ap is_live a.runs.running)) a.runs.found k.covered;
-    }))
+    goes_along i r c callbacks i.barriers i.barriers k (ap is_live runs) refl refl (ap is_running runs ∙ sym (ap is_running a.runs.running)) a.runs.found rows_now refl
+    (covered_replaced r c refl refl tied (ap is_live runs ∙ sym (ap is_live a.runs.running)) a.runs.found k.covered))
 
 -- ---- a pending callback is cancelled
 
-pub cancelled_by : (i : Inside) (l : Live) (c : CallbackRow) (callbacks : LiveCallbacks) (queues : Pending) (outstanding : Keyed) (barriers : Covers) → shown i ≡ l → IsLiveWorld i
-    → callback_of l.world c.number ≡ Some c → is_pending c.status ≡ true
-    → callbacks ≡ record i.callbacks { rows = filter (λ (x : CallbackRow). not (x.number == c.number)) i.callbacks.rows }
-    → queues ≡ with_queue i.queues c.pool.0 (without_number c.number (queue_of i.queues c.pool.0))
-    → outstanding ≡ unlisted i.outstanding c.number → barriers ≡ left i.barriers c.number
-    → Becomes (record i { callbacks = callbacks; queues = queues; outstanding = outstanding; barriers = barriers }) (with_world l (with_callback l.world (cancelled c)))
-cancelled_by i l c callbacks queues outstanding barriers is k found pends rows_now queues_now listed_now left_now =
-    let found_here : find (has_number c.number) i.callbacks.rows ≡ Some c = ap (λ (x : Live). callback_of x.world c.number) is ∙ found in
-    let r : CallbackRow = cancelled c in
-    let others : List CallbackRow = filter (λ (x : CallbackRow). not (x.number == c.number)) i.callbacks.rows in
-    let removed : others ≡ filter lives (replaced r i.callbacks.rows) = removed_rows i.callbacks r refl k.alive in
-    let home : c.pool.0 < length i.pools.pools = find_all (λ (x : CallbackRow). x.pool.0 < length i.pools.pools) (has_number c.number) c i.callbacks.rows k.sound.callback_pools found_here in
-    let still : is_running c.status ≡ false = pending_not_running c.status pends in
-    let marks : AreMarked (replaced r i.callbacks.rows) i.pools.workers = marked_replaced r c i.callbacks.rows i.pools.workers found_here refl k.tallied.marked in
-    let apart : AreApart c.number i.pools.workers = still_apart c i.callbacks.rows 1 i.pools.workers found_here still k.sound.workers in
-    let v : World = with_callback (shown i).world r in
-    let b = became_by (record i { callbacks = callbacks; queues = queues; outstanding = outstanding; barriers = barriers }) v (sound_cancelled (i.made + 1) (shown i).world c found_here pends k.sound)
-    (with_parts i v i.pools i.pools callbacks (record i.callbacks { rows = others }) queues (with_queue i.queues c.pool.0 (without_number c.number (queue_of i.queues c.pool.0)))
-    outstanding (unlisted i.outstanding c.number) barriers (left i.barriers c.number) refl rows_now queues_now listed_now left_now
-    (record {
-      shows = ap (λ cs. record (shown i).world { callbacks = cs }) removed;
-      sized = k.sized;
-      alive = alive_less i.callbacks r refl k.alive;
-      queued = subst (λ cs. AreQueued i.limits cs (with_queue i.queues c.pool.0 (without_number c.number (queue_of i.queues c.pool.0)))) (sym removed)
-          (queued_lives (queued_less (i.made + 1) r c (omega (arith, home, k.sized.pools_within)) pends refl refl k.sound.numbers found_here k.queued));
-      tallied = subst (λ cs. AreTallied cs i.pools.workers) (sym removed)
-          (tallied_lives (replaced r i.callbacks.rows) i.pools.workers (subst (λ cs. AreMarked cs i.pools.workers) removed (marked_others c.number i.callbacks.rows i.pools.workers apart k.tallied.marked))
-          (tallied_still (i.made + 1) r c i.callbacks.rows i.pools.workers (λ p. ap (λ b. b && (c.pool.0 == p)) (sym still)) (λ p. ap (λ b. (b && (c.pool.0 == p)) && c.long) (sym still)) k.sound.numbers found_here marks k.tallied));
-      listed = subst (λ cs. AreListed i.limits is_tied cs (unlisted i.outstanding c.number)) (sym removed) (listed_lives over_untied (listed_less r refl k.listed));
-      operating = subst (λ cs. AreOperating i.limits cs i.started i.operations) (sym removed) (operating_lives (operating_same (i.made + 1) r c refl refl refl (pending_apart c.status pends) k.sound.numbers found_here k.operating));
-      timed = k.timed;
-      kernels = k.kernels;
-      slotted = slots_fewer (λ (x : CallbackRow). not (x.number == c.number)) k.slotted;
-      wanted = k.wanted;
-      grouped = k.grouped;
-      membered = k.membered;
-      closing = k.closing;
-      covered = subst (λ cs. AreCovered i.limits cs i.waits.waits (left i.barriers c.number)) (sym removed)
-          (covered_lives (i.made + 1) (rising_replaced r 1 (i.made + 1) i.callbacks.rows k.sound.numbers) (covered_less r c refl found_here k.covered));
-    })) in
-    record { keeps = b.keeps; becomes = b.becomes ∙ ap (λ (x : Live). with_world x (with_callback x.world r)) is }
+pub cancelled_by : (i : Inside) (l : Live) (c : CallbackRow) (callbacks : Callbacks) (barriers : Covers) → shown i ≡ l → IsLiveWorld i → callback_of l.world c.number ≡ Some c → is_pending c.status ≡ true
+    → callbacks ≡ record i.callbacks { rows = filter (λ (x : CallbackRow). not (x.number == c.number)) i.callbacks.rows } → barriers ≡ left i.barriers c.number
+    → Becomes (record i { callbacks = callbacks; barriers = barriers }) (with_world l (with_callback l.world (cancelled c)))
+cancelled_by i l c callbacks barriers is k found pends rows_now left_now =
+    let found_now = found_here i l c is found in
+    let b = became_by (record i { callbacks = callbacks; barriers = barriers }) (with_callback (shown i).world (cancelled c)) (sound_cancelled (i.made + 1) (shown i).world c found_now pends k.sound)
+    (goes_idle i (cancelled c) c callbacks barriers k refl refl refl refl (pending_not_running c.status pends) refl found_now rows_now left_now) in
+    record { keeps = b.keeps; becomes = b.becomes ∙ ap (λ (x : Live). with_world x (with_callback x.world (cancelled c))) is }

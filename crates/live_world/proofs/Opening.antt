@@ -3,25 +3,23 @@ use Rattle.std.proofs.Common.{◌≡◌, ℕ, Bool, suc, zero, ◌+◌, None, tr
 use Rattle.tp_base.specs.declared.limits.Limits.{Limits}
 use Rattle.tp_base.specs.declared.rows.ClientRow.{ClientRow}
 use Rattle.tp_base.specs.Ranges.{AreLimitsInRange}
-use Rattle.callback_rows.specs.LiveCallbacks.{LiveCallbacks}
+use Rattle.live_callbacks.specs.Callbacks.{Callbacks}
 use Rattle.handle_table.specs.Table.{Table, Marked}
 use Rattle.timer_objects.specs.Settings.{Timers}
 use Rattle.kernel_events.specs.Kernels.{Kernels}
 use Rattle.std.specs.Option.{option_map_or}
-use Rattle.prio_queue.specs.Pending.{Entry}
 use Rattle.pool_rows.specs.Pools.{Pools}
 use Rattle.pool_rows.specs.Workers.{runs_in, runs_long_in, unattached as unattached_row}
-use Rattle.tp_model.specs.Counts.{is_expected, is_operating}
 use Rattle.tp_model.specs.World.{World, opening, unattached, unfinished}
 use Rattle.tp_model.specs.Support.Sound.{IsSound}
 use Rattle.tp_model.specs.Support.Remembered.{forget}
 use Rattle.tp_model.proofs.Sound.{opening_sound}
 use Rattle.live_world.specs.declared.begun.BegunWaits.{BegunWaits}
 use Rattle.live_world.specs.declared.objects.Object.{Object}
-use Rattle.live_world.specs.Parts.{world_of, shown_worker, is_tied, is_timed_kind}
-use Rattle.live_world.specs.Invariant.{AreSized, AreLive, AreQueued, AreTallied, AreListed, AreCovered, AreTimed, AreKernels, AreSlotted, AreWanted, AreGrouped, AreMembered, AreClosing, IsHome, IsMarked}
+use Rattle.live_world.specs.Parts.{world_of, shown_worker, is_timed_kind}
+use Rattle.live_world.specs.Invariant.{AreSized, AreLive, AreTallied, AreCovered, AreTimed, AreKernels, AreSlotted, AreWanted, AreGrouped, AreMembered, AreClosing, IsHome, IsMarked}
 use Rattle.live_world.specs.View.{shown}
-use Rattle.live_world.specs.Opening.{opened_pools, opened_groups, opened_objects, opened_members, opened_callbacks, opened_queues, opened_lists, opened_barriers, opened_notices, opened_timers, opened_kernels}
+use Rattle.live_world.specs.Opening.{opened_pools, opened_groups, opened_objects, opened_members, opened_callbacks, opened_barriers, opened_notices, opened_timers, opened_kernels}
 use Rattle.live_world.specs.declared.groups.Group.{Group}
 use Rattle.live_world.specs.declared.LiveWorld.TheInside.{Inside}
 use Rattle.live_world.proofs.Moving.{Becomes}
@@ -35,10 +33,6 @@ get_replicate d zero place = refl
 get_replicate d (suc n) zero = refl
 get_replicate d (suc n) (suc place) = get_replicate d n place
 
-none_held : (n : ℕ) → sum_by {X = List Entry} length (replicate n []) ≡ 0
-none_held zero = refl
-none_held (suc n) = none_held n
-
 pub record IsOpened (i : Inside) : Type 0 where
   pub in_range : AreLimitsInRange i.limits
   pub pools : i.pools ≡ opened_pools i.limits
@@ -46,10 +40,6 @@ pub record IsOpened (i : Inside) : Type 0 where
   pub objects : i.objects ≡ opened_objects i.limits
   pub members : i.members ≡ opened_members i.limits
   pub callbacks : i.callbacks ≡ opened_callbacks i.limits
-  pub queues : i.queues ≡ opened_queues i.limits
-  pub outstanding : i.outstanding ≡ opened_lists i.limits
-  pub started : i.started ≡ opened_lists i.limits
-  pub operations : i.operations ≡ opened_lists i.limits
   pub barriers : i.barriers ≡ opened_barriers i.limits
   pub timers : i.timers ≡ opened_timers i.limits
   pub clock : i.clock ≡ 0
@@ -79,15 +69,6 @@ sized_opened limits in_range =
       client_count = length_replicate unfinished limits.clients;
     }
 
-queued_opened : (limits : Limits) → AreQueued limits [] (opened_queues limits)
-queued_opened limits =
-    record {
-      queue_slots = refl;
-      queue_count = length_replicate [] limits.pools;
-      queued = λ pool. get_replicate [] limits.pools pool;
-      held_all = none_held limits.pools;
-    }
-
 tallied_opened : (limits : Limits) → AreTallied [] (replicate limits.workers unattached_row)
 tallied_opened limits =
     let workers = replicate limits.workers unattached_row in
@@ -96,9 +77,6 @@ tallied_opened limits =
       run = λ pool. sym (ap length (filter_none (runs_in pool) workers (all_replicate (λ w. runs_in pool w ≡ false) unattached_row refl limits.workers)));
       run_long = λ pool. sym (ap length (filter_none (runs_long_in pool) workers (all_replicate (λ w. runs_long_in pool w ≡ false) unattached_row refl limits.workers)));
     }
-
-listed_opened : (limits : Limits) (test : CallbackRow → Bool) → AreListed limits test [] (opened_lists limits)
-listed_opened limits test = record { key_count = refl; listed_slots = refl; listed = refl }
 
 timed_opened : (limits : Limits) → AreTimed limits (opened_objects limits) (opened_timers limits)
 timed_opened limits =
@@ -139,7 +117,7 @@ pub opened : (i : Inside) → IsOpened i → Becomes i (record { world = forget 
 opened i o =
     let limits : Limits = i.limits in
     let shown_workers : map shown_worker (replicate limits.workers unattached_row) ≡ replicate limits.workers unattached = map_replicate shown_worker unattached_row limits.workers in
-    let rows : i.callbacks.rows ≡ [] = ap (λ (c : LiveCallbacks). c.rows) o.callbacks in
+    let rows : i.callbacks.rows ≡ [] = ap (λ (c : Callbacks). c.rows) o.callbacks in
     let world_now : (shown i).world ≡ opening limits =
     ap₂ (λ (p : Pools) (t : Table Object). world_of limits p i.groups t i.callbacks.rows i.kernels i.clients.items i.waits.waits i.timers.settings i.clock i.waits.given_up) o.pools o.objects
     ∙ ap (λ (g : Table Group). world_of limits (opened_pools limits) g (opened_objects limits) i.callbacks.rows i.kernels i.clients.items i.waits.waits i.timers.settings i.clock i.waits.given_up) o.groups
@@ -150,14 +128,8 @@ opened i o =
     record {
       keeps = record {
         sized = both (λ p t. AreSized limits p t i.clients.items) o.pools o.objects (subst (λ cl. AreSized limits (opened_pools limits) (opened_objects limits) cl) (sym o.clients) (sized_opened limits o.in_range));
-        alive = subst (λ c. AreLive limits c) (sym o.callbacks) (record { slot_limit = refl; live = refl });
-        queued = both (λ cs q. AreQueued limits cs q) rows o.queues (queued_opened limits);
+        alive = subst (λ c. AreLive limits c) (sym o.callbacks) (record { slot_limit = refl; pool_limit = refl; object_limit = refl; live = refl });
         tallied = both (λ cs ws. AreTallied cs ws) rows (ap (λ (p : Pools). p.workers) o.pools) (tallied_opened limits);
-        listed = both (λ cs k. AreListed limits is_tied cs k) rows o.outstanding (listed_opened limits is_tied);
-        operating = record {
-          expected = both (λ cs k. AreListed limits (λ (c : CallbackRow). is_expected c.status) cs k) rows o.started (listed_opened limits (λ (c : CallbackRow). is_expected c.status));
-          operating = both (λ cs k. AreListed limits (λ (c : CallbackRow). is_operating c.status) cs k) rows o.operations (listed_opened limits (λ (c : CallbackRow). is_operating c.status));
-        };
         timed = subst (λ n. AreTimed limits i.objects n) (sym o.timers) (subst (λ t. AreTimed limits t (opened_timers limits)) (sym o.objects) (timed_opened limits));
         covered = both (λ cs b. AreCovered limits cs i.waits.waits b) rows o.barriers (subst (λ (bs : BegunWaits). AreCovered limits [] bs.waits (opened_barriers limits)) (sym o.waits) (covered_opened limits));
         kernels = subst (λ (t : Kernels). AreKernels limits t) (sym o.kernels) (record { kernel_limit = refl; kernels_within = omega arith; armed_limit = refl; once = tt });

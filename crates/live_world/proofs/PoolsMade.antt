@@ -44,10 +44,7 @@ pools_moved i l ch pools rows is k allowed none same now more within =
         client_count = k.sized.client_count;
       };
       alive = k.alive;
-      queued = k.queued;
       tallied = k.tallied;
-      listed = k.listed;
-      operating = k.operating;
       covered = k.covered;
       timed = k.timed;
       kernels = k.kernels;

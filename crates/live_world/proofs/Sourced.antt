@@ -55,10 +55,7 @@ sources_set i l s kernels timers armed is k a kernels_now timers_now armed_now =
       shows = ap (λ cs. record v { callbacks = cs }) (sym k.alive.live);
       sized = k.sized;
       alive = k.alive;
-      queued = k.queued;
       tallied = k.tallied;
-      listed = k.listed;
-      operating = k.operating;
       covered = k.covered;
       timed = record { timer_limit = k.timed.timer_limit; places = k.timed.places; there = k.timed.there };
       kernels = record { kernel_limit = k.kernels.kernel_limit; kernels_within = omega (arith, a.long, k.kernels.kernels_within); armed_limit = k.kernels.armed_limit; once = a.once };

@@ -30,7 +30,7 @@ use Rattle.live_world.specs.View.{shown, IsLiveWorld}
 use Rattle.live_world.specs.Parts.{closing_by, closing_of}
 use Rattle.live_world.specs.Waiting.{held_by, is_pending_for, pending_of}
 use Rattle.live_world.proofs.Along.{first_passes, first_by_number}
-use Rattle.live_world.proofs.Listed.{pending_tied}
+use Rattle.live_world.proofs.Moving.{pending_tied}
 
 -- ---- of a list
 

@@ -11,20 +11,19 @@ use Rattle.tp_base.specs.declared.rows.CallbackRow.{CallbackRow}
 use Rattle.tp_base.specs.declared.rows.Arming.{Arming}
 use Rattle.tp_base.specs.Armings.{is_armed}
 use Rattle.tp_base.specs.Ranges.{AreLimitsInRange}
-use Rattle.callback_rows.specs.LiveCallbacks.{LiveCallbacks}
 use Rattle.handle_table.specs.Table.{Table}
-use Rattle.prio_queue.specs.Pending.{Pending, queue_of, held}
 use Rattle.keyed_lists.specs.Keyed.{Keyed}
+use Rattle.live_callbacks.specs.Callbacks.{Callbacks}
 use Rattle.cancel_wait.specs.Covers.{Covers, wait_of}
 use Rattle.pool_rows.specs.Pools.{Pools}
 use Rattle.pool_rows.specs.Workers.{runs_in, runs_long_in}
 use Rattle.pool_rows.specs.declared.WorkerRow.{WorkerRow}
 use Rattle.timer_objects.specs.Settings.{Timers, is_there}
 use Rattle.kernel_events.specs.Kernels.{Kernels}
-use Rattle.tp_model.specs.Counts.{has_number, is_expected, is_operating, is_pending, is_running, is_running_in, is_running_long_in}
+use Rattle.tp_model.specs.Counts.{has_number, is_pending, is_running, is_running_in, is_running_long_in}
 use Rattle.tp_model.specs.World.{BegunWait}
 use Rattle.tp_model.specs.Support.Remembered.{lives}
-use Rattle.live_world.specs.Parts.{entry_of, queue_among, tied_entry, held_among, wait_among, wanted_by, closing_by, notices_by, place_of, is_timed, members_from}
+use Rattle.live_world.specs.Parts.{held_among, wait_among, wanted_by, closing_by, notices_by, place_of, is_timed, members_from}
 use Rattle.live_world.specs.declared.groups.Group.{Group}
 use Rattle.live_world.specs.declared.closing.Closing.{Closing}
 use Rattle.live_world.specs.declared.objects.Object.{Object}
@@ -52,16 +51,11 @@ pub record AreSized (limits : Limits) (pools : Pools) (objects : Table Object) (
   pub client_count : length clients ≡ limits.clients
 
 -- no callback that is over is kept
-pub record AreLive (limits : Limits) (callbacks : LiveCallbacks) : Type 0 where
+pub record AreLive (limits : Limits) (callbacks : Callbacks) : Type 0 where
   pub slot_limit : callbacks.slots ≡ limits.slots
+  pub pool_limit : callbacks.pools ≡ limits.pools
+  pub object_limit : callbacks.objects ≡ limits.objects
   pub live : filter lives callbacks.rows ≡ callbacks.rows
-
--- the queues hold exactly the pending callbacks, in the order in which they are taken
-pub record AreQueued (limits : Limits) (callbacks : List CallbackRow) (queues : Pending) : Type 0 where
-  pub queue_slots : queues.slots ≡ limits.slots
-  pub queue_count : length queues.queues ≡ limits.pools
-  pub queued : (pool : ℕ) → queue_of queues pool ≡ map entry_of (queue_among callbacks pool)
-  pub held_all : held queues ≡ length (filter is_pending_callback callbacks)
 
 -- what a worker runs is kept, and the worker has its long mark
 abbrev pub IsMarked : List CallbackRow → WorkerRow → Type 0
@@ -76,20 +70,9 @@ pub record AreTallied (callbacks : List CallbackRow) (workers : List WorkerRow) 
   pub run : (pool : ℕ) → length (filter (is_running_in pool) callbacks) ≡ length (filter (runs_in pool) workers)
   pub run_long : (pool : ℕ) → length (filter (is_running_long_in pool) callbacks) ≡ length (filter (runs_long_in pool) workers)
 
--- the lists of objects hold exactly the callbacks that pass a test
-pub record AreListed (limits : Limits) (test : CallbackRow → Bool) (callbacks : List CallbackRow) (lists : Keyed) : Type 0 where
-  pub key_count : lists.keys ≡ limits.objects + 1
-  pub listed_slots : lists.slots ≡ limits.slots
-  pub listed : lists.entries ≡ map tied_entry (filter test callbacks)
-
 -- an actor of the machine waits
 abbrev pub IsWaitKept : Limits → BegunWait → Type 0
 IsWaitKept limits b = is_some (place_of limits b.actor) ≡ true
-
--- what expects its operation is listed, and what expects it or has it under way
-pub record AreOperating (limits : Limits) (callbacks : List CallbackRow) (started operations : Keyed) : Type 0 where
-  pub expected : AreListed limits (λ c. is_expected c.status) callbacks started
-  pub operating : AreListed limits (λ c. is_operating c.status) callbacks operations
 
 -- the barriers hold of each begun wait exactly what it still holds
 pub record AreCovered (limits : Limits) (callbacks : List CallbackRow) (waits : List BegunWait) (barriers : Covers) : Type 0 where

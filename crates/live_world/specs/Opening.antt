@@ -1,14 +1,13 @@
 -- Each part of a live world as it is opened.
 use Rattle.std.specs.Prelude.{◌+◌, false, [], ◌∷◌, None, replicate}
 use Rattle.tp_base.specs.declared.limits.Limits.{Limits}
-use Rattle.callback_rows.specs.LiveCallbacks.{LiveCallbacks}
 use Rattle.cancel_wait.specs.Covers.{Covers}
 use Rattle.handle_table.specs.Table.{Table}
 use Rattle.kernel_events.specs.Kernels.{Kernels}
 use Rattle.keyed_lists.specs.Keyed.{Keyed}
+use Rattle.live_callbacks.specs.Callbacks.{Callbacks}
 use Rattle.pool_rows.specs.Pools.{Pools, made_pool}
 use Rattle.pool_rows.specs.Workers.{unattached as unattached_row}
-use Rattle.prio_queue.specs.Pending.{Pending}
 use Rattle.timer_objects.specs.Settings.{Timers}
 use Rattle.live_world.specs.declared.groups.Group.{Group}
 use Rattle.live_world.specs.declared.objects.Object.{Object}
@@ -25,14 +24,8 @@ opened_notices limits = record { slots = limits.objects; waits = replicate (limi
 abbrev pub opened_objects : Limits → Table Object
 opened_objects limits = record { limit = limits.objects; rows = [] }
 
-abbrev pub opened_callbacks : Limits → LiveCallbacks
-opened_callbacks limits = record { slots = limits.slots; rows = [] }
-
-abbrev pub opened_queues : Limits → Pending
-opened_queues limits = record { slots = limits.slots; queues = replicate limits.pools [] }
-
-abbrev pub opened_lists : Limits → Keyed
-opened_lists limits = record { keys = limits.objects + 1; slots = limits.slots; entries = [] }
+abbrev pub opened_callbacks : Limits → Callbacks
+opened_callbacks limits = record { slots = limits.slots; pools = limits.pools; objects = limits.objects; rows = [] }
 
 abbrev pub opened_members : Limits → Keyed
 opened_members limits = record { keys = limits.groups + 1; slots = limits.objects; entries = [] }

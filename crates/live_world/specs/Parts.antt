@@ -11,8 +11,6 @@ use Rattle.tp_base.specs.declared.rows.WaitTarget.{WaitTarget}
 use Rattle.tp_base.specs.declared.rows.WaitTarget.TheVariants.{Object, Group, Kernel}
 use Rattle.keyed_lists.specs.Keyed as keyed
 use Rattle.tp_base.specs.declared.limits.Limits.{Limits}
-use Rattle.tp_base.specs.declared.calls.Priority.{Priority}
-use Rattle.tp_base.specs.declared.calls.Priority.TheVariants.{High, Normal, Low}
 use Rattle.tp_base.specs.declared.rows.GroupRow.{GroupRow}
 use Rattle.tp_base.specs.declared.rows.ObjectRow.{ObjectRow}
 use Rattle.tp_base.specs.declared.rows.WorkerRow.{WorkerRow}
@@ -22,15 +20,14 @@ use Rattle.tp_base.specs.declared.rows.TimerSetting.{TimerSetting}
 use Rattle.tp_base.specs.declared.calls.Kind.{Kind}
 use Rattle.tp_base.specs.declared.calls.Kind.TheVariants.{Timer, Wait}
 use Rattle.handle_table.specs.Table.{Table, Marked, numbered as numbered_row}
-use Rattle.prio_queue.specs.Pending.{Entry, entry}
 use Rattle.kernel_events.specs.Kernels.{Kernels}
 use Rattle.pool_rows.specs.Pools.{Pools}
 use Rattle.pool_rows.specs.declared.WorkerRow as kept
 use Rattle.tp_model.specs.World.{World, BegunWait}
-use Rattle.tp_model.specs.Counts.{has_number, is_pending_in, is_high, is_normal, is_low}
+use Rattle.tp_model.specs.Counts.{has_number}
 use Rattle.tp_base.specs.Actors.{is_same_actor}
 use Rattle.tp_model.specs.Conditions.{is_same_kind}
-use Rattle.tp_model.specs.Waits.{is_held_for, is_outstanding_for}
+use Rattle.tp_model.specs.Waits.{is_outstanding_for}
 use Rattle.live_world.specs.declared.groups.Group as made_group
 use Rattle.live_world.specs.declared.closing.Closing.{Closing}
 use Rattle.live_world.specs.declared.objects.Object as made
@@ -45,15 +42,6 @@ shown_group m = record { closed = m.released }
 -- callback 0 stands for none
 abbrev pub shown_worker : kept.WorkerRow → WorkerRow
 shown_worker r = record { pool = r.pool; callback = if r.callback == 0 then None else Some r.callback }
-
-abbrev pub priority_byte : Priority → ℕ
-priority_byte High = 0
-priority_byte Normal = 1
-priority_byte Low = 2
-
--- a pending callback's entry in its pool's queue
-abbrev pub entry_of : CallbackRow → Entry
-entry_of c = entry (priority_byte c.priority) c.number
 
 abbrev pub world_of : Limits → Pools → Table made_group.Group → Table made.Object → List CallbackRow → Kernels → List ClientRow → List BegunWait → List TimerSetting → ℕ → ℕ → World
 world_of limits pools groups objects callbacks kernels clients waits settings now given_up = record {
@@ -92,23 +80,6 @@ members_from groups number (m ∷ ms) = if is_listed groups m then keyed.entry m
 -- the lists with one more object, if its group is one of so many
 abbrev pub with_member : keyed.Keyed → ℕ → GroupId → ℕ → keyed.Keyed
 with_member members groups group number = if nat_le group.0 groups then record members { entries = members.entries ++ keyed.entry group.0 number ∷ [] } else members
-
--- the queue of a pool, of the callbacks alone
-abbrev pub waiting_among : List CallbackRow → ℕ → (Priority → Bool) → List CallbackRow
-waiting_among callbacks pool test = filter (λ c. is_pending_in pool c && test c.priority) callbacks
-
-abbrev pub queue_among : List CallbackRow → ℕ → List CallbackRow
-queue_among callbacks pool = waiting_among callbacks pool is_high ++ waiting_among callbacks pool is_normal ++ waiting_among callbacks pool is_low
-
--- ---- what is outstanding
-
--- the callback is outstanding for its object; simple callbacks are of object 0
-abbrev pub is_tied : CallbackRow → Bool
-is_tied c = is_held_for (Object c.object) c.status
-
--- its entry among those of its object
-abbrev pub tied_entry : CallbackRow → keyed.Entry
-tied_entry c = keyed.entry c.object.0 c.number
 
 -- ---- what waits hold
 

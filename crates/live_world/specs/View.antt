@@ -2,8 +2,8 @@
 use Rattle.std.specs.Prelude.{◌+◌}
 use Rattle.tp_model.specs.Support.Sound.{IsSound}
 use Rattle.live_world.specs.Live.{Live}
-use Rattle.live_world.specs.Invariant.{AreSized, AreLive, AreQueued, AreTallied, AreListed, AreOperating, AreCovered, AreTimed, AreKernels, AreSlotted, AreWanted, AreGrouped, AreMembered, AreClosing}
-use Rattle.live_world.specs.Parts.{world_of, is_tied}
+use Rattle.live_world.specs.Invariant.{AreSized, AreLive, AreTallied, AreCovered, AreTimed, AreKernels, AreSlotted, AreWanted, AreGrouped, AreMembered, AreClosing}
+use Rattle.live_world.specs.Parts.{world_of}
 use Rattle.live_world.specs.declared.LiveWorld.TheInside.{Inside}
 
 abbrev pub shown : Inside → Live
@@ -15,10 +15,7 @@ shown a = record {
 pub record IsLiveWorld (a : Inside) : Type 0 where
   pub sized : AreSized a.limits a.pools a.objects a.clients.items
   pub alive : AreLive a.limits a.callbacks
-  pub queued : AreQueued a.limits a.callbacks.rows a.queues
   pub tallied : AreTallied a.callbacks.rows a.pools.workers
-  pub listed : AreListed a.limits is_tied a.callbacks.rows a.outstanding
-  pub operating : AreOperating a.limits a.callbacks.rows a.started a.operations
   pub covered : AreCovered a.limits a.callbacks.rows a.waits.waits a.barriers
   pub timed : AreTimed a.limits a.objects a.timers
   pub kernels : AreKernels a.limits a.kernels

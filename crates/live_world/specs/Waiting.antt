@@ -8,9 +8,10 @@ use Rattle.tp_base.specs.declared.rows.CallbackRow.{CallbackRow}
 use Rattle.tp_base.specs.declared.rows.WaitTarget.{WaitTarget}
 use Rattle.tp_base.specs.declared.rows.WaitTarget.TheVariants.{Object, Group, Kernel}
 use Rattle.keyed_lists.specs.Keyed.{Entry}
+use Rattle.live_callbacks.specs.Callbacks.{outstanding_among}
 use Rattle.tp_model.specs.World.{World, BegunWait}
-use Rattle.tp_model.specs.Counts.{has_number, is_pending}
-use Rattle.tp_model.specs.Waits.{is_outstanding_for, wait_of, held}
+use Rattle.tp_model.specs.Counts.{is_pending}
+use Rattle.tp_model.specs.Waits.{wait_of, held}
 use Rattle.tp_model.specs.Sources.{object_row}
 use Rattle.tp_model.specs.Calls.Waits.{holds_starved}
 use Rattle.live_world.specs.Invariant.{is_running_callback}
@@ -19,7 +20,7 @@ use Rattle.live_world.specs.declared.waits.Progress.TheVariants.{NotBegun, Free,
 
 -- by rising number
 abbrev pub outstanding_of : World → ObjectId → List CallbackRow
-outstanding_of w object = filter (is_outstanding_for (Object object)) w.callbacks
+outstanding_of w object = outstanding_among w.callbacks object
 
 -- the callback is pending, and of the object
 abbrev pub is_pending_for : ObjectId → CallbackRow → Bool
@@ -32,9 +33,9 @@ pending_of w object = filter (is_pending_for object) w.callbacks
 abbrev pub numbers_of : List Entry → ℕ → List ℕ
 numbers_of entries key = map (λ (e : Entry). e.number) (filter (λ (e : Entry). e.key == key) entries)
 
--- whether a wait covers an outstanding callback, by its number: with cancel it covers what runs
-abbrev pub is_covered_among : List CallbackRow → Bool → ℕ → Bool
-is_covered_among callbacks cancel number = not cancel || option_map_or is_running_callback (find (has_number number) callbacks) false
+-- whether a wait covers an outstanding callback: with cancel it covers what runs
+abbrev pub is_wanted : Bool → CallbackRow → Bool
+is_wanted cancel c = not cancel || is_running_callback c
 
 -- what an actor's wait holds, if it has begun one
 abbrev pub held_by : World → Who → List ℕ

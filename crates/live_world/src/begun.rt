@@ -11,8 +11,8 @@ ghost use Rattle.tp_model.specs.Groups.{object_id};
 ghost use Rattle.cancel_wait.specs.Covers.{covered_of};
 ghost use Rattle.live_world.specs.Parts.{wait_among};
 
-use callback_rows::CallbackRows;
 use cancel_wait::Barriers;
+use live_callbacks::LiveCallbacks;
 use std::marker::Model;
 use tp_base::ids::{GroupId, Who};
 use tp_base::plans::WaitEnd;
@@ -59,7 +59,7 @@ impl BegunWaits {
     }
 
     #[inline(always)]
-    pub fn and(&self, _begins: &Begins, _callbacks: &CallbackRows) -> BegunWaits
+    pub fn and(&self, _begins: &Begins, _callbacks: &LiveCallbacks) -> BegunWaits
         ensures { result ≡ record self.now { waits = self.now.waits ++ new_wait _begins.now.who _begins.now.target _begins.now.cancel _callbacks.now.rows ∷ [] } }
     {
         BegunWaits {}
@@ -69,7 +69,7 @@ impl BegunWaits {
     pub fn and_close(
         &self,
         _closes: &Closes,
-        _callbacks: &CallbackRows,
+        _callbacks: &LiveCallbacks,
         _notices: &Barriers,
     ) -> BegunWaits
         ensures { result ≡ record self.now { waits = self.now.waits ++ new_close _closes.now.who _closes.now.group _closes.now.cancel _closes.now.context (map object_id (covered_of _notices.now _closes.now.waiter)) _callbacks.now.rows ∷ [] } }

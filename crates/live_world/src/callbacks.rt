@@ -49,13 +49,7 @@ impl LiveWorld {
     pub fn next(&self, pool: PoolId) -> Option<CallbackRow>
         ensures { result ≡ next self.now.world pool.0 }
     {
-        if pool.0 >= self.pools.pools() {
-            return None;
-        }
-        match self.queues.first(pool.0) {
-            Some(number) => self.callbacks.find(number),
-            None => None,
-        }
+        self.callbacks.next(pool)
     }
 
     // The callback of least number above this one, if one is kept.

@@ -11,7 +11,6 @@ ghost use Rattle.tp_model.specs.Changes.{with_callback, without_run, loosened as
 ghost use Rattle.tp_model.specs.Waits.{cancelled, is_cancelled_by};
 ghost use Rattle.tp_model.specs.Support.Allowed.{IsAllowed, MayBegin, Runs};
 ghost use Rattle.tp_model.specs.Support.Ranged.{AreTakenAtMost};
-ghost use Rattle.live_world.specs.Parts.{priority_byte as priority_byte_of};
 ghost use Rattle.live_world.specs.Live.{moved, with_world, fired_to, unfired, without_pending, settled};
 ghost use Rattle.live_world.specs.Performing.{MayPerform, suits_state};
 
@@ -24,7 +23,6 @@ use crate::objects::{Object, is_timed_kind};
 use crate::waiting::begin_covering;
 use crate::waits::is_pending;
 use tp_base::answers::{ActionKind, SlotWord};
-use tp_base::calls::Priority;
 use tp_base::ids::{KernelId, ObjectId, PoolId, Who};
 use tp_base::plans::{ActionWords, Busy, Change, Idle, KernelChange, Mark, PoolChange, WaitEnd};
 use tp_base::rows::{
@@ -37,17 +35,6 @@ pub(crate) const NO_ACTIONS: Slots = Slots {
     semaphore: None,
     event: None,
 };
-
-// The priority as the queues know it.
-pub(crate) fn priority_byte(priority: Priority) -> u8
-    ensures { result ≡ priority_byte_of priority }
-{
-    match priority {
-        Priority::High => 0,
-        Priority::Normal => 1,
-        Priority::Low => 2,
-    }
-}
 
 // A running callback that is no longer outstanding for its object.
 fn loosened(status: Status) -> Status
@@ -226,12 +213,6 @@ impl LiveWorld {
         ensures { self.new ≡ moved self.old (Change.QueueCallback callback) }
     {
         self.callbacks.push(callback);
-        self.queues.push(
-            callback.pool.0,
-            priority_byte(callback.priority),
-            callback.number,
-        );
-        self.outstanding.add(callback.object.0, callback.number);
         self.made += 1;
     }
 
@@ -280,8 +261,7 @@ impl LiveWorld {
             },
             ..callback
         };
-        let _was_there = self.callbacks.replace(running);
-        let _was_pending = self.queues.remove(by.pool.0, callback.number);
+        self.callbacks.change(&callback, running);
         self.pools.take(by.worker, callback.number, callback.long);
     }
 
@@ -306,7 +286,7 @@ impl LiveWorld {
             long: true,
             ..by.callback
         };
-        let _was_there = self.callbacks.replace(long);
+        self.callbacks.change(&by.callback, long);
         self.pools.mark_long(by.worker);
     }
 
@@ -319,10 +299,8 @@ impl LiveWorld {
             status: loosened(by.callback.status),
             ..by.callback
         };
-        let number = by.callback.number;
-        let _was_there = self.callbacks.replace(loose);
-        let _was_outstanding = self.outstanding.remove(number);
-        leave_unclosed(&mut self.barriers, &self.closing, number);
+        self.callbacks.change(&by.callback, loose);
+        leave_unclosed(&mut self.barriers, &self.closing, by.callback.number);
     }
 
     // Notes that a running callback asks for an action on its return.
@@ -334,7 +312,7 @@ impl LiveWorld {
             status: asking(kind, action, by.callback.status),
             ..by.callback
         };
-        let _was_there = self.callbacks.replace(asking);
+        self.callbacks.change(&by.callback, asking);
     }
 
     // Does what an action on return asks for. What it signals releases waits.
@@ -386,8 +364,7 @@ impl LiveWorld {
         requires { Runs self.old.world by }
         ensures { self.new ≡ with_world self.old (without_run self.old.world by) }
     {
-        let _was_there = self.callbacks.remove(by.callback.number);
-        let _was_outstanding = self.outstanding.remove(by.callback.number);
+        self.callbacks.remove(&by.callback);
         self.barriers.left(by.callback.number);
         self.pools.give_back(by.worker);
     }
@@ -398,9 +375,7 @@ impl LiveWorld {
         requires pending { is_pending_by callback.status ≡ true }
         ensures { self.new ≡ with_world self.old (with_callback self.old.world (cancelled callback)) }
     {
-        let _was_there = self.callbacks.remove(callback.number);
-        let _was_pending = self.queues.remove(callback.pool.0, callback.number);
-        let _was_outstanding = self.outstanding.remove(callback.number);
+        self.callbacks.remove(&callback);
         self.barriers.left(callback.number);
     }
 
@@ -437,19 +412,10 @@ impl LiveWorld {
         requires settled { filter (is_cancelled_by (WaitTarget.Object object) cancel) self.old.world.callbacks ≡ [] }
         ensures { self.new ≡ with_world self.old (begin_wait self.old.world who (WaitTarget.Object object) cancel self.old.world.callbacks) }
     {
-        // The numbers rise, and there are no more of them than slots.
-        let _ = self.outstanding.len();
         let Some(waiter) = self.waiter(who) else {
             unreachable!()
         };
-        begin_covering(
-            &mut self.barriers,
-            waiter,
-            &self.outstanding,
-            object.0,
-            &self.callbacks,
-            cancel,
-        );
+        begin_covering(&mut self.barriers, waiter, &self.callbacks, object, cancel);
         let begins = Begins {
             who,
             target: WaitTarget::Object(object),

@@ -185,7 +185,7 @@ impl LiveWorld {
     pub fn first_operating(&self, group: GroupId) -> Option<u32>
         ensures { result ≡ first_operating self.now.world group.0 }
     {
-        if self.operations.len() == 0 {
+        if !self.callbacks.are_operating() {
             return None;
         }
         self.is_reachable();

@@ -7,7 +7,6 @@ ghost use Rattle.tp_model.specs.Support.Allowed.{IsAllowed};
 ghost use Rattle.live_world.specs.Live.{moved};
 
 use crate::LiveWorld;
-use crate::changes::priority_byte;
 use tp_base::answers::TakeResult;
 use tp_base::ids::ObjectId;
 use tp_base::plans::{Change, IoStep};
@@ -18,23 +17,14 @@ impl LiveWorld {
     pub fn first_expected(&self, object: ObjectId) -> Option<CallbackRow>
         ensures { result ≡ first_expected self.now.world object.0 }
     {
-        if object.0 > self.limits.objects {
-            return None;
-        }
-        match self.started.first(object.0) {
-            Some(number) => self.callbacks.find(number),
-            None => None,
-        }
+        self.callbacks.first_expected(object)
     }
 
     /// Whether a callback of the object expects an operation or has it under way.
     pub fn has_operations(&self, object: ObjectId) -> bool
         ensures { result ≡ has_operations self.now.world object.0 }
     {
-        if object.0 > self.limits.objects {
-            return false;
-        }
-        self.operations.first(object.0).is_some()
+        self.callbacks.is_operating(object)
     }
 
     /// The callback of a number, if its operation is under way.
@@ -57,9 +47,6 @@ impl LiveWorld {
         ensures { self.new ≡ moved self.old (Change.ExpectCallback callback) }
     {
         self.callbacks.push(callback);
-        self.outstanding.add(callback.object.0, callback.number);
-        self.started.add(callback.object.0, callback.number);
-        self.operations.add(callback.object.0, callback.number);
         self.made += 1;
     }
 
@@ -84,8 +71,7 @@ impl LiveWorld {
             status: Status::Issued,
             ..callback
         };
-        let _was_there = self.callbacks.replace(issued);
-        let _was_started = self.started.remove(callback.number);
+        self.callbacks.change(&callback, issued);
     }
 
     // The operation isn't issued, and the callback never runs.
@@ -93,10 +79,7 @@ impl LiveWorld {
         requires { IsAllowed (self.old.made + 1) self.old.world (Change.Operate callback IoStep.GiveUp) }
         ensures { self.new ≡ moved self.old (Change.Operate callback IoStep.GiveUp) }
     {
-        let _was_there = self.callbacks.remove(callback.number);
-        let _was_outstanding = self.outstanding.remove(callback.number);
-        let _was_started = self.started.remove(callback.number);
-        let _was_operating = self.operations.remove(callback.number);
+        self.callbacks.remove(&callback);
         self.barriers.left(callback.number);
     }
 
@@ -110,12 +93,6 @@ impl LiveWorld {
             result: TakeResult::Io { error, bytes },
             ..callback
         };
-        let _was_there = self.callbacks.replace(completed);
-        let _was_operating = self.operations.remove(callback.number);
-        self.queues.push(
-            callback.pool.0,
-            priority_byte(callback.priority),
-            callback.number,
-        );
+        self.callbacks.change(&callback, completed);
     }
 }

@@ -11,10 +11,10 @@ ghost use Rattle.live_world.specs.Waiting.{numbers_of};
 
 use crate::closing::Closing;
 use crate::objects::Object;
-use callback_rows::CallbackRows;
 use cancel_wait::Barriers;
 use handle_table::{Found, Rows};
 use keyed_lists::KeyedLists;
+use live_callbacks::LiveCallbacks;
 use tp_base::ids::GroupId;
 
 // The object of this number is a member of the group.
@@ -86,7 +86,7 @@ pub(crate) fn begin_notices(
 pub(crate) fn begin_covering_group(
     barriers: &mut Barriers,
     waiter: u32,
-    callbacks: &CallbackRows,
+    callbacks: &LiveCallbacks,
     group: GroupId,
 )
     requires there { waiter < length barriers.old.waits }

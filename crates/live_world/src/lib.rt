@@ -6,7 +6,7 @@
 //! `wait_counts` and `progress` say what a wait would cover and how far one has come, `kernel`
 //! and its like what an event, semaphore or lock is at, and `is_stalled` whether nobody can go on.
 //! `apply` makes a change that the world allows, and is the only call that changes anything. The
-//! indexes and counters (queues, tallies, the lists of objects, what waits hold) change in `changes`
+//! indexes and counters (tallies, the lists of members, what waits hold) change in `changes`
 //! alone.
 
 #![tactic(auto)]
@@ -19,17 +19,16 @@ ghost use Rattle.tp_model.specs.Support.Sound.{IsSound};
 ghost use Rattle.live_world.specs.Bounds.{IsBounded};
 
 use begun::BegunWaits;
-use callback_rows::CallbackRows;
 use cancel_wait::Barriers;
 use closing::Closing;
 use groups::Group;
 use handle_table::Rows;
 use kernel_events::KernelTable;
 use keyed_lists::KeyedLists;
+use live_callbacks::LiveCallbacks;
 use objects::Object;
-use opened::{both, open_lists, open_rows, open_waits};
+use opened::{both, open_rows, open_waits};
 use pool_rows::PoolRows;
-use prio_queue::Queues;
 use std::alloc::{AllocError, Global};
 use std::marker::Model;
 use timer_objects::TimerObjects;
@@ -66,14 +65,7 @@ pub struct LiveWorld {
     objects: Rows<Object>,
     // The members of each group.
     members: KeyedLists,
-    callbacks: CallbackRows,
-    queues: Queues,
-    // What is outstanding for each object.
-    outstanding: KeyedLists,
-    // What of that expects its operation.
-    started: KeyedLists,
-    // And what expects its operation or has it under way.
-    operations: KeyedLists,
+    callbacks: LiveCallbacks,
     // What each begun wait still holds.
     barriers: Barriers,
     waits: BegunWaits,
@@ -116,26 +108,21 @@ impl LiveWorld {
         ensures { IfOk result (λ live. live ≡ record { world = forget (opening limits); made = 0 }) }
     {
         let rows = open_rows(alloc, limits)?;
-        let (rows, lists) = both(rows, open_lists(alloc, limits))?;
-        let (tables, waits) = both((rows, lists), open_waits(alloc, limits))?;
-        let (tables, clients) = both((tables, waits), actors::open_clients(alloc, limits.clients))?;
+        let (rows, waits) = both(rows, open_waits(alloc, limits))?;
+        let (tables, clients) = both((rows, waits), actors::open_clients(alloc, limits.clients))?;
         let (tables, timers) = both((tables, clients), TimerObjects::open(alloc, limits.objects))?;
         let (tables, kernels) = both(
             (tables, timers),
             KernelTable::open(alloc, limits.kernels, limits.objects),
         )?;
-        let ((((rows, lists), waits), clients), timers) = tables;
+        let (((rows, waits), clients), timers) = tables;
         Ok(LiveWorld {
             limits,
             pools: rows.pools,
             groups: rows.groups,
             objects: rows.objects,
-            members: lists.members,
+            members: rows.members,
             callbacks: rows.callbacks,
-            queues: rows.queues,
-            outstanding: lists.outstanding,
-            started: lists.started,
-            operations: lists.operations,
             barriers: waits.barriers,
             waits: BegunWaits::none(),
             wanted: waits.wanted,

@@ -3,39 +3,29 @@
 
 ghost use Rattle.std.specs.Prelude.{◌≡◌, ◌+◌, [], IfOk, None, Ok, replicate};
 ghost use Rattle.tp_base.specs.Ranges.{AreLimitsInRange};
-ghost use Rattle.live_world.specs.Opening.{opened_callbacks, opened_lists, opened_members, opened_pools};
+ghost use Rattle.live_world.specs.Opening.{opened_callbacks, opened_members, opened_pools};
 
 use crate::closing::{Closing, open_closing};
 use crate::groups::Group;
 use crate::objects::Object;
 use crate::waits::open_wanted;
-use callback_rows::CallbackRows;
 use cancel_wait::Barriers;
 use handle_table::Rows;
 use keyed_lists::KeyedLists;
+use live_callbacks::LiveCallbacks;
 use pool_rows::PoolRows;
-use prio_queue::Queues;
 use std::alloc::{AllocError, Global};
 use tp_base::ids::KernelId;
 use tp_base::limits::Limits;
 
-// The rows of what is made, and the queues of callbacks.
+// The rows of what is made, and the members of each group.
 #[derive(Drop)]
 pub(crate) struct OpenedRows {
     pub pools: PoolRows,
     pub groups: Rows<Group>,
     pub objects: Rows<Object>,
-    pub callbacks: CallbackRows,
-    pub queues: Queues,
-}
-
-// What is listed by group and by object.
-#[derive(Drop)]
-pub(crate) struct OpenedLists {
     pub members: KeyedLists,
-    pub outstanding: KeyedLists,
-    pub started: KeyedLists,
-    pub operations: KeyedLists,
+    pub callbacks: LiveCallbacks,
 }
 
 // What is kept by actor.
@@ -65,57 +55,33 @@ pub(crate) fn open_rows(alloc: Global, limits: Limits) -> Result<OpenedRows, All
     ensures groups { IfOk result (λ rows. rows.groups.rows ≡ []) }
     ensures object_limit { IfOk result (λ rows. rows.objects.limit ≡ limits.objects) }
     ensures objects { IfOk result (λ rows. rows.objects.rows ≡ []) }
+    ensures members { IfOk result (λ rows. rows.members ≡ opened_members limits) }
     ensures callbacks { IfOk result (λ rows. rows.callbacks ≡ opened_callbacks limits) }
-    ensures queue_slots { IfOk result (λ rows. rows.queues.slots ≡ limits.slots) }
-    ensures queues { IfOk result (λ rows. rows.queues.queues ≡ replicate limits.pools []) }
 {
     let pools = PoolRows::open(alloc, limits.pools, limits.workers)?;
     let (pools, groups) = both(pools, Rows::open(alloc, limits.groups))?;
     let (tables, objects) = both((pools, groups), Rows::open(alloc, limits.objects))?;
-    let (tables, callbacks) = both(
+    let (tables, members) = both(
         (tables, objects),
-        CallbackRows::open(alloc, limits.slots, limits.groups),
+        KeyedLists::open(alloc, limits.groups + 1, limits.objects),
     )?;
-    let (tables, queues) = both(
-        (tables, callbacks),
-        Queues::open(alloc, limits.pools, limits.slots),
+    let (tables, callbacks) = both(
+        (tables, members),
+        LiveCallbacks::open(
+            alloc,
+            limits.slots,
+            limits.pools,
+            limits.objects,
+            limits.groups,
+        ),
     )?;
-    let (((pools, groups), objects), callbacks) = tables;
+    let (((pools, groups), objects), members) = tables;
     Ok(OpenedRows {
         pools,
         groups,
         objects,
+        members,
         callbacks,
-        queues,
-    })
-}
-
-pub(crate) fn open_lists(alloc: Global, limits: Limits) -> Result<OpenedLists, AllocError>
-    requires { AreLimitsInRange limits }
-    ensures members { IfOk result (λ lists. lists.members ≡ opened_members limits) }
-    ensures outstanding { IfOk result (λ lists. lists.outstanding ≡ opened_lists limits) }
-    ensures started { IfOk result (λ lists. lists.started ≡ opened_lists limits) }
-    ensures operations { IfOk result (λ lists. lists.operations ≡ opened_lists limits) }
-{
-    let members = KeyedLists::open(alloc, limits.groups + 1, limits.objects)?;
-    let (members, outstanding) = both(
-        members,
-        KeyedLists::open(alloc, limits.objects + 1, limits.slots),
-    )?;
-    let (lists, started) = both(
-        (members, outstanding),
-        KeyedLists::open(alloc, limits.objects + 1, limits.slots),
-    )?;
-    let (lists, operations) = both(
-        (lists, started),
-        KeyedLists::open(alloc, limits.objects + 1, limits.slots),
-    )?;
-    let ((members, outstanding), started) = lists;
-    Ok(OpenedLists {
-        members,
-        outstanding,
-        started,
-        operations,
     })
 }
 

@@ -57,13 +57,7 @@ impl LiveWorld {
     pub(crate) fn first_outstanding(&self, object: ObjectId) -> Option<CallbackRow>
         ensures { result ≡ slice_get (outstanding_of self.now.world object) 0 }
     {
-        if object.0 > self.limits.objects {
-            return None;
-        }
-        match self.outstanding.first(object.0) {
-            Some(number) => self.callbacks.find(number),
-            None => None,
-        }
+        self.callbacks.first_outstanding(object)
     }
 
     // The outstanding callback of the same object that follows this one.
@@ -71,10 +65,7 @@ impl LiveWorld {
         requires { find (has_number callback.now.number) (outstanding_of self.now.world callback.now.object) ≡ Some callback.now }
         ensures { result ≡ find (λ c. nat_lt callback.now.number c.number) (outstanding_of self.now.world callback.now.object) }
     {
-        match self.outstanding.after(callback.object.0, callback.number) {
-            Some(number) => self.callbacks.find(number),
-            None => None,
-        }
+        self.callbacks.next_outstanding(callback)
     }
 
     /// Whether a callback of the object is outstanding.

@@ -77,7 +77,7 @@ impl LiveWorld {
     {
         match self.pools.counts(pool) {
             None => NOT_MADE,
-            Some(counts) => tally_shown(self.queues.len(pool.0), counts),
+            Some(counts) => tally_shown(self.callbacks.pending(pool), counts),
         }
     }
 

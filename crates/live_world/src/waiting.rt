@@ -1,50 +1,45 @@
-//! A wait begins: it covers numbers of a key.
+//! A wait begins: it covers what is outstanding for an object.
 
-ghost use Rattle.std.specs.Prelude.{◌≡◌, ◌<◌, ◌≤◌, None, Some, filter, length};
-ghost use Rattle.keyed_lists.specs.Keyed.{IsRising};
+ghost use Rattle.std.specs.Prelude.{◌≡◌, ℕ, ◌<◌, ◌≤◌, None, Some, length};
+ghost use Rattle.tp_base.specs.declared.rows.WaitTarget.TheVariants.{Object};
+ghost use Rattle.tp_model.specs.Support.Sound.{IsRising};
+ghost use Rattle.tp_model.specs.Waits.{covered_of};
 ghost use Rattle.cancel_wait.specs.Covers.{wait_of, with_wait};
-ghost use Rattle.live_world.specs.Waiting.{numbers_of, is_covered_among};
+ghost use Rattle.live_world.specs.Waiting.{is_wanted};
 
 use crate::waits::is_running;
-use callback_rows::CallbackRows;
 use cancel_wait::Barriers;
-use keyed_lists::KeyedLists;
+use live_callbacks::LiveCallbacks;
+use tp_base::ids::ObjectId;
+use tp_base::rows::CallbackRow;
 
-// Whether a wait covers an outstanding callback, by its number: with cancel it covers what runs.
-fn is_covered(callbacks: &CallbackRows, cancel: bool, number: u64) -> bool
-    ensures { result ≡ is_covered_among callbacks.now.rows cancel number }
+// Whether a wait covers an outstanding callback: with cancel it covers what runs.
+fn is_covered(callback: &CallbackRow, cancel: bool) -> bool
+    ensures { result ≡ is_wanted cancel callback.now }
 {
-    if !cancel {
-        return true;
-    }
-    match callbacks.find(number) {
-        Some(callback) => is_running(&callback),
-        None => false,
-    }
+    !cancel || is_running(callback)
 }
 
-// Begins a wait that covers the numbers of this key, or with cancel those of them whose callbacks run.
+// Begins a wait that covers what is outstanding for this object, or with cancel what of it runs.
 pub(crate) fn begin_covering(
     barriers: &mut Barriers,
     waiter: u32,
-    outstanding: &KeyedLists,
-    key: u32,
-    callbacks: &CallbackRows,
+    callbacks: &LiveCallbacks,
+    object: ObjectId,
     cancel: bool,
 )
     requires there { waiter < length barriers.old.waits }
     requires idle { wait_of barriers.old waiter ≡ None }
-    requires key { key < outstanding.now.keys }
-    requires room { length outstanding.now.entries ≤ barriers.old.slots }
-    requires rising { IsRising outstanding.now.entries }
-    ensures { barriers.new ≡ with_wait barriers.old waiter (Some (filter (is_covered_among callbacks.now.rows cancel) (numbers_of outstanding.now.entries key))) }
+    requires room { length callbacks.now.rows ≤ barriers.old.slots }
+    requires rising { (next_number : ℕ) × IsRising 1 next_number callbacks.now.rows }
+    ensures { barriers.new ≡ with_wait barriers.old waiter (Some (covered_of (Object object) cancel callbacks.now.rows)) }
 {
     barriers.begin(waiter);
-    let mut next = outstanding.first(key);
-    while let Some(number) = next {
-        next = outstanding.after(key, number);
-        if is_covered(callbacks, cancel, number) {
-            barriers.cover(waiter, number);
+    let mut next = callbacks.first_outstanding(object);
+    while let Some(callback) = next {
+        next = callbacks.next_outstanding(&callback);
+        if is_covered(&callback, cancel) {
+            barriers.cover(waiter, callback.number);
         }
     }
 }

@@ -1,4 +1,4 @@
-use Rattle.std.proofs.Common.{◌≡◌, map, None, Some, sym, subst, arith}
+use Rattle.std.proofs.Common.{◌≡◌, ◌+◌, map, None, Some, sym, subst, arith}
 use Rattle.std.proofs.lemmas.List.{length-map}
 use Rattle.tp_base.specs.declared.ids.Who.{Who}
 use Rattle.tp_base.specs.declared.ids.ObjectId.{ObjectId}
@@ -31,9 +31,8 @@ begin_covering-requires c =
     record {
       there = omega (arith, place_there i.limits c.args.who c.in-Some.waiter at, k.covered.waiters);
       idle = idle_there c.args.who c.in-Some.waiter at a.none k.covered;
-      key = omega (arith, (number_most (map shown_object i.objects.rows) c.args.object.0 a.made).1, length-map i.objects.rows shown_object, k.sized.objects_within, k.listed.key_count);
-      room = omega (arith, c.len.ensures.limited, k.listed.listed_slots, k.covered.barrier_slots);
-      rising = c.len.ensures.rising;
+      room = omega (arith, k.slotted.slots, k.covered.barrier_slots);
+      rising = (i.made + 1, k.sound.numbers);
     }
 
 pub begin-requires : goal.begin-requires

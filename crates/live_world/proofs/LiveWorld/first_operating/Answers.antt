@@ -23,10 +23,9 @@ loop-next-preserved c =
     (next (goal.at.loop-next-preserved c).In-Some).goes_on c.callback_after-next-in-Some.result c.least_with-least.result c.callback_after-next-in-Some.ensures
     (c.least_with-least.ensures ∙ ap (λ (l : Live). cond (operates l.world.objects c.args.group.0 c.in-Some.callback) (lesser c.loop-next.least c.in-Some.callback.object.0) c.loop-next.least) c.self.view_is)
 
-pub returns-then-len-eq0 : goal.returns-then-len-eq0
-returns-then-len-eq0 c =
-    let i = c.self.inside in
-    none_operates (shown i).world c.args.group.0 i.operations.entries c.self.invariant.operating.operating.listed (sym c.len.ensures.value ∙ c.if-len-eq0.true)
+pub returns-then-not-are_operating : goal.returns-then-not-are_operating
+returns-then-not-are_operating c =
+    none_operates (shown c.self.inside).world c.args.group.0 (sym c.are_operating.ensures ∙ c.if-not-are_operating.true)
     ∙ ap (λ (l : Live). first_operating l.world c.args.group.0) c.self.view_is
 
 pub returns : goal.returns

@@ -7,32 +7,27 @@ use Rattle.kernel_events.specs.Kernels.{Kernels}
 use Rattle.timer_objects.specs.Settings.{Timers}
 use Rattle.live_world.specs.declared.LiveWorld.TheInside.{Inside}
 use Rattle.live_world.specs.declared.begun.BegunWaits.{BegunWaits}
-use Rattle.live_world.specs.declared.opened.OpenedLists.{OpenedLists}
 use Rattle.live_world.specs.declared.opened.OpenedRows.{OpenedRows}
 use Rattle.live_world.specs.declared.opened.OpenedWaits.{OpenedWaits}
 use Rattle.tp_model.specs.World.{opening}
 use Rattle.tp_model.specs.Support.Remembered.{forget}
 use Rattle.tp_model.specs.World.{unfinished}
-use Rattle.live_world.specs.Opening.{opened_kernels, opened_lists, opened_members, opened_timers}
+use Rattle.live_world.specs.Opening.{opened_kernels, opened_timers}
 use Rattle.live_world.proofs.Moving.{Becomes}
 use Rattle.live_world.proofs.Opening.{opened}
 use Rattle.live_world.proofs.LiveWorld.open.Goals as goal
 
 abbrev Tables : Type 0
-Tables = (((OpenedRows × OpenedLists) × OpenedWaits) × Vec ClientRow) × Timers
+Tables = ((OpenedRows × OpenedWaits) × Vec ClientRow) × Timers
 
 abbrev parts : Limits → Tables → Kernels → BegunWaits → Inside
-parts limits ((((rows, lists), waits), clients), timers) kernels begun = record {
+parts limits (((rows, waits), clients), timers) kernels begun = record {
   limits = limits;
   pools = rows.pools;
   groups = rows.groups;
   objects = rows.objects;
-  members = lists.members;
+  members = rows.members;
   callbacks = rows.callbacks;
-  queues = rows.queues;
-  outstanding = lists.outstanding;
-  started = lists.started;
-  operations = lists.operations;
   barriers = waits.barriers;
   waits = begun;
   wanted = waits.wanted;
@@ -47,32 +42,27 @@ parts limits ((((rows, lists), waits), clients), timers) kernels begun = record 
 }
 
 abbrev becomes : goal.After-none → Tables → Type 0
-becomes c tables = Becomes (parts c.args.limits tables c.in_ok-tables-4.kernels c.none.result) (record { world = forget (opening c.args.limits); made = 0 })
+becomes c tables = Becomes (parts c.args.limits tables c.in_ok-tables-3.kernels c.none.result) (record { world = forget (opening c.args.limits); made = 0 })
 
-opened_here : (c : goal.After-none) → becomes c c.in_ok-tables-4.tables
+opened_here : (c : goal.After-none) → becomes c c.in_ok-tables-3.tables
 opened_here c =
     let limits : Limits = c.args.limits in
     let actors : ℕ = limits.clients + limits.workers in
     let rows = c.in_ok-rows.ensures in
-    let lists = c.in_ok-rows-2.ensures in
-    let waits = c.in_ok-tables.ensures in
-    let clients = c.in_ok-tables-2.ensures in
-    let timers = c.in_ok-tables-3.ensures in
-    let kernels = c.in_ok-tables-4.ensures in
-    let tables : Tables = ((((c.in_ok-rows.rows, c.in_ok-rows-2.lists), c.in_ok-tables.waits), c.in_ok-tables-2.clients), c.in_ok-tables-3.timers) in
-    let same : c.in_ok-tables-4.tables ≡ tables = kernels.0 ∙ ap (λ t. (t, c.in_ok-tables-3.timers)) (timers.0 ∙ ap (λ t. (t, c.in_ok-tables-2.clients)) (clients.0 ∙ ap (λ t. (t, c.in_ok-tables.waits)) (waits.0 ∙ ap (λ r. (r, c.in_ok-rows-2.lists)) lists.0))) in
-    subst (becomes c) (sym same) (opened (parts limits tables c.in_ok-tables-4.kernels c.none.result)
+    let waits = c.in_ok-rows-2.ensures in
+    let clients = c.in_ok-tables.ensures in
+    let timers = c.in_ok-tables-2.ensures in
+    let kernels = c.in_ok-tables-3.ensures in
+    let tables : Tables = (((c.in_ok-rows.rows, c.in_ok-rows-2.waits), c.in_ok-tables.clients), c.in_ok-tables-2.timers) in
+    let same : c.in_ok-tables-3.tables ≡ tables = kernels.0 ∙ ap (λ t. (t, c.in_ok-tables-2.timers)) (timers.0 ∙ ap (λ t. (t, c.in_ok-tables.clients)) (clients.0 ∙ ap (λ r. (r, c.in_ok-rows-2.waits)) waits.0)) in
+    subst (becomes c) (sym same) (opened (parts limits tables c.in_ok-tables-3.kernels c.none.result)
     (record {
       in_range = c.requires;
       pools = rows.pools;
       groups = ap₂ (λ n rs. record { limit = n; rows = rs }) rows.group_limit rows.groups;
       objects = ap₂ (λ n rs. record { limit = n; rows = rs }) rows.object_limit rows.objects;
-      members = IfOk-at_ok (λ x. x.members ≡ opened_members limits) lists.1 c.open_lists.ensures.members;
+      members = rows.members;
       callbacks = rows.callbacks;
-      queues = ap₂ (λ n qs. record { slots = n; queues = qs }) rows.queue_slots rows.queues;
-      outstanding = IfOk-at_ok (λ x. x.outstanding ≡ opened_lists limits) lists.1 c.open_lists.ensures.outstanding;
-      started = IfOk-at_ok (λ x. x.started ≡ opened_lists limits) lists.1 c.open_lists.ensures.started;
-      operations = IfOk-at_ok (λ x. x.operations ≡ opened_lists limits) lists.1 c.open_lists.ensures.operations;
       barriers = ap₂ (λ n ws. record { slots = n; waits = ws })
           (IfOk-at_ok (λ x. x.barriers.slots ≡ limits.slots) waits.1 c.open_waits.ensures.barrier_slots)
           (IfOk-at_ok (λ x. x.barriers.waits ≡ replicate actors None) waits.1 c.open_waits.ensures.barriers);

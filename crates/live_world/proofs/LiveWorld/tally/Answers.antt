@@ -12,6 +12,6 @@ returns-in-None c =
 pub returns-in-Some : goal.returns-in-Some
 returns-in-Some c =
     c.tally_shown.ensures
-    ∙ ap (λ n. tally_shown n c.in-Some.counts) c.len.ensures
+    ∙ ap (λ n. tally_shown n c.in-Some.counts) c.pending.ensures
     ∙ is_tally c.self.inside c.args.pool.0 c.in-Some.counts c.self.invariant (sym c.counts.ensures ∙ c.in-Some.is)
     ∙ ap (λ (l : Live). tally_of l.world c.args.pool.0) c.self.view_is

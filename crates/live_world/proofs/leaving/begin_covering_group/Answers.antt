@@ -1,19 +1,25 @@
-use Rattle.std.proofs.Common.{◌≡◌, ◌∙◌, [], length, unwrap_or, refl, ap, arith, filter}
+use Rattle.std.proofs.Common.{◌≡◌, ◌∙◌, Bool, true, List, [], ◌∷◌, ◌++◌, Some, length, map, unwrap_or, refl, sym, ap, append-nil, arith, filter}
 use Rattle.std.proofs.lemmas.List.Sums.{length-filter, count_by-le-length}
-use Rattle.cancel_wait.specs.Covers.{covered_of}
+use Rattle.tp_base.specs.declared.rows.CallbackRow.{CallbackRow}
+use Rattle.cancel_wait.specs.Covers.{covered_of, with_wait}
 use Rattle.cancel_wait.specs.Rising.{contains_number}
 use Rattle.cancel_wait.proofs.Contained.{greatest_absent}
 use Rattle.tp_model.proofs.Callbacks.{rising_filter}
 use Rattle.live_world.specs.Closing.{is_of_group}
+use Rattle.live_world.proofs.Along.{number_of}
+use Rattle.live_world.proofs.Walks.{rest}
 use Rattle.live_world.proofs.Numbers.{has_covered}
 use Rattle.live_world.proofs.GroupWalks.{first_in_group, InGroup, in_group, CoversRow, covering_rows, covers_row}
 use Rattle.live_world.proofs.leaving.begin_covering_group.Goals as goal
 use Rattle.live_world.proofs.leaving.begin_covering_group.Goals.{In-Some}
 
-one : (c : In-Some) → CoversRow (filter (is_of_group c.args.group) c.args.callbacks.now.rows) c.args.barriers.now c.loop-next.barriers c.args.waiter c.in-Some.callback c.loop-next.next
+abbrev every : CallbackRow → Bool
+every c = true
+
+one : (c : In-Some) → CoversRow every (filter (is_of_group c.args.group) c.args.callbacks.now.rows) c.args.barriers.now c.args.waiter c.loop-next.barriers c.in-Some.callback c.loop-next.next
 one c =
-    covers_row c.requires.rising.0 (filter (is_of_group c.args.group) c.args.callbacks.now.rows) c.args.barriers.now c.loop-next.barriers c.args.waiter c.in-Some.callback c.loop-next.next (rising_filter (is_of_group c.args.group) 1 c.requires.rising.0 c.args.callbacks.now.rows c.requires.rising.1) c.in-Some.is
-    c.loop-next.invariant
+    covers_row every (filter (is_of_group c.args.group) c.args.callbacks.now.rows) c.args.barriers.now c.args.waiter c.requires.rising.0 (rising_filter (is_of_group c.args.group) 1 c.requires.rising.0 c.args.callbacks.now.rows c.requires.rising.1)
+    c.loop-next.barriers c.loop-next.next c.in-Some.callback c.in-Some.is c.loop-next.invariant
 
 here : (c : In-Some) → InGroup c.args.group c.args.callbacks.now.rows c.args.callbacks.now.rows c.in-Some.callback
 here c = in_group c.args.group c.requires.rising.0 c.args.callbacks.now.rows c.args.callbacks.now.rows c.in-Some.callback c.loop-next.next refl c.requires.rising.1 c.in-Some.is c.loop-next.invariant.among
@@ -21,21 +27,25 @@ here c = in_group c.args.group c.requires.rising.0 c.args.callbacks.now.rows c.a
 covered_here : (c : In-Some) → covered_of c.loop-next.barriers c.args.waiter ≡ (one c).so_far
 covered_here c = ap (λ o. unwrap_or o []) (has_covered c.args.barriers.now c.loop-next.barriers c.args.waiter (one c).so_far c.requires.there (one c).covers)
 
+filter_every : (xs : List CallbackRow) → filter every xs ≡ xs
+filter_every [] = refl
+filter_every (x ∷ xs) = ap (λ t. x ∷ t) (filter_every xs)
+
 pub loop-next-init : goal.loop-next-init
 loop-next-init c =
-    covering_rows c.requires.rising.0 (filter (is_of_group c.args.group) c.args.callbacks.now.rows) c.args.barriers.now c.begin.new.self c.args.waiter c.first_of_group-next.result (rising_filter (is_of_group c.args.group) 1 c.requires.rising.0 c.args.callbacks.now.rows c.requires.rising.1) c.begin.ensures
-    (first_in_group c.args.group c.requires.rising.0 c.args.callbacks.now.rows c.first_of_group-next.result c.requires.rising.1 c.first_of_group-next.ensures)
+    covering_rows every (filter (is_of_group c.args.group) c.args.callbacks.now.rows) c.args.barriers.now c.args.waiter c.requires.rising.0 (rising_filter (is_of_group c.args.group) 1 c.requires.rising.0 c.args.callbacks.now.rows c.requires.rising.1)
+    c.begin.new.self c.first_of_group-next.result c.begin.ensures (first_in_group c.args.group c.requires.rising.0 c.args.callbacks.now.rows c.first_of_group-next.result c.requires.rising.1 c.first_of_group-next.ensures)
 
 pub cover-requires-clause-room : goal.cover-requires-clause-room
 cover-requires-clause-room c =
     let o = one (goal.at.cover-requires-clause-room c).In-Some in
     let rows = c.args.callbacks.now.rows in
-    omega (arith, ap length (covered_here (goal.at.cover-requires-clause-room c).In-Some), o.fewer, length-filter (is_of_group c.args.group) rows, count_by-le-length (is_of_group c.args.group) rows, c.requires.room, ap (λ b. b.slots) o.covers)
+    omega (arith, ap length (covered_here (goal.at.cover-requires-clause-room c).In-Some), o.fewer refl, length-filter (is_of_group c.args.group) rows, count_by-le-length (is_of_group c.args.group) rows, c.requires.room, ap (λ b. b.slots) o.covers)
 
 pub cover-requires-clause-free : goal.cover-requires-clause-free
 cover-requires-clause-free c =
     ap (contains_number c.in-Some.callback.number) (covered_here (goal.at.cover-requires-clause-free c).In-Some)
-    ∙ greatest_absent c.in-Some.callback.number _ (one (goal.at.cover-requires-clause-free c).In-Some).below
+    ∙ greatest_absent c.in-Some.callback.number _ ((one (goal.at.cover-requires-clause-free c).In-Some).below refl)
 
 pub next_of_group-next-requires : goal.next_of_group-next-requires
 next_of_group-next-requires c = (here (goal.at.next_of_group-next-requires c).In-Some).there
@@ -48,4 +58,12 @@ loop-next-smaller c =
 pub loop-next-preserved : goal.loop-next-preserved
 loop-next-preserved c =
     let i = (goal.at.loop-next-preserved c).In-Some in
-    (one i).covered c.requires.there c.cover.new.self c.cover.ensures c.next_of_group-next.result ((here i).next c.next_of_group-next.result c.next_of_group-next.ensures)
+    (one i).covered refl c.requires.there c.cover.new.self c.cover.ensures c.next_of_group-next.result ((here i).next c.next_of_group-next.result c.next_of_group-next.ensures)
+
+pub returns : goal.returns
+returns c =
+    let v = c.loop-next.invariant in
+    let ys = filter (is_of_group c.args.group) c.args.callbacks.now.rows in
+    let whole : v.so_far ≡ map number_of ys
+    = sym (append-nil v.so_far) ∙ ap (λ o. v.so_far ++ map number_of (filter every (rest number_of ys o))) (sym c.in_default.is) ∙ v.all ∙ ap (map number_of) (filter_every ys) in
+    v.covers ∙ ap (λ ns. with_wait c.args.barriers.now c.args.waiter (Some ns)) whole

@@ -1,53 +1,94 @@
-use Rattle.std.proofs.Common.{◌≡◌, ◌<◌, ◌∙◌, [], true, length, is_some, unwrap_or, sym, ap, subst, arith}
-use Rattle.cancel_wait.specs.Covers.{covered_of}
+use Rattle.std.proofs.Common.{◌≡◌, ◌∙◌, List, [], ◌++◌, Some, true, length, map, unwrap_or, is_some, nat_lt, slice_get, find, refl, sym, ap, append-nil, arith, filter}
+use Rattle.std.proofs.lemmas.List.Sums.{length-filter, count_by-le-length}
+use Rattle.tp_base.specs.declared.rows.CallbackRow.{CallbackRow}
+use Rattle.tp_base.specs.declared.rows.WaitTarget.TheVariants.{Object}
+use Rattle.cancel_wait.specs.Covers.{covered_of, with_wait}
 use Rattle.cancel_wait.specs.Rising.{contains_number}
 use Rattle.cancel_wait.proofs.Contained.{greatest_absent}
-use Rattle.live_world.specs.Waiting.{numbers_of, is_covered_among}
+use Rattle.tp_model.specs.Waits.{is_outstanding_for}
+use Rattle.tp_model.specs.Support.Sound.{IsRising}
+use Rattle.tp_model.proofs.Callbacks.{rising_filter}
+use Rattle.live_callbacks.specs.Callbacks.{outstanding_among}
+use Rattle.live_world.specs.Waiting.{is_wanted}
+use Rattle.live_world.proofs.Along.{InObject, in_object, number_of}
+use Rattle.live_world.proofs.Beginnings.{covers_outstanding}
+use Rattle.live_world.proofs.GroupWalks.{CoversRow, covering_rows, covers_row, first_row_is}
+use Rattle.live_world.proofs.Numbers.{has_covered}
 use Rattle.live_world.proofs.Walks.{rest}
-use Rattle.live_world.proofs.Numbers.{itself, AtNumber, at_number, covering_first, covering_next, passing_next, has_covered}
 use Rattle.live_world.proofs.waiting.begin_covering.Goals as goal
 use Rattle.live_world.proofs.waiting.begin_covering.Goals.{In-Some, Then-is_covered}
 
-here : (c : In-Some) → AtNumber (is_covered_among c.args.callbacks.now.rows c.args.cancel) c.args.outstanding.now.entries c.args.key c.args.barriers.now c.loop-next.barriers c.args.waiter c.in-Some.number c.loop-next.next
-here c = at_number (is_covered_among c.args.callbacks.now.rows c.args.cancel) c.args.outstanding.now.entries c.args.key c.args.barriers.now c.loop-next.barriers c.args.waiter c.in-Some.number c.loop-next.next c.requires.rising c.in-Some.is c.loop-next.invariant
+abbrev rows : In-Some → List CallbackRow
+rows c = outstanding_among c.args.callbacks.now.rows c.args.object
 
-covered_here : (c : In-Some) → covered_of c.loop-next.barriers c.args.waiter ≡ (here c).so_far
-covered_here c = ap (λ o. unwrap_or o []) (has_covered c.args.barriers.now c.loop-next.barriers c.args.waiter (here c).so_far c.requires.there (here c).covers)
+one : (c : In-Some) → CoversRow (is_wanted c.args.cancel) (rows c) c.args.barriers.now c.args.waiter c.loop-next.barriers c.in-Some.callback c.loop-next.next
+one c =
+    covers_row (is_wanted c.args.cancel) (rows c) c.args.barriers.now c.args.waiter c.requires.rising.0 (rising_filter (is_outstanding_for (Object c.args.object)) 1 c.requires.rising.0 c.args.callbacks.now.rows c.requires.rising.1)
+    c.loop-next.barriers c.loop-next.next c.in-Some.callback c.in-Some.is c.loop-next.invariant
 
-passes : (c : Then-is_covered) → is_covered_among c.args.callbacks.now.rows c.args.cancel c.in-Some.number ≡ true
+here : (c : In-Some) → InObject c.args.object c.args.callbacks.now.rows c.in-Some.callback
+here c = in_object c.args.object c.args.callbacks.now.rows c.in-Some.callback c.loop-next.next c.in-Some.is c.loop-next.invariant.among
+
+covered_here : (c : In-Some) → covered_of c.loop-next.barriers c.args.waiter ≡ (one c).so_far
+covered_here c = ap (λ o. unwrap_or o []) (has_covered c.args.barriers.now c.loop-next.barriers c.args.waiter (one c).so_far c.requires.there (one c).covers)
+
+passes : (c : Then-is_covered) → is_wanted c.args.cancel c.in-Some.callback ≡ true
 passes c = sym c.is_covered.ensures ∙ c.if-is_covered.true
 
 pub loop-next-init : goal.loop-next-init
-loop-next-init c = covering_first (is_covered_among c.args.callbacks.now.rows c.args.cancel) c.args.outstanding.now.entries c.args.key c.args.barriers.now c.begin.new.self c.args.waiter c.first-next.result c.requires.rising c.begin.ensures c.first-next.ensures
+loop-next-init c =
+    let ys = outstanding_among c.args.callbacks.now.rows c.args.object in
+    let rising : IsRising 1 c.requires.rising.0 ys = rising_filter (is_outstanding_for (Object c.args.object)) 1 c.requires.rising.0 c.args.callbacks.now.rows c.requires.rising.1 in
+    covering_rows (is_wanted c.args.cancel) ys c.args.barriers.now c.args.waiter c.requires.rising.0 rising c.begin.new.self c.first_outstanding-next.result c.begin.ensures
+    (c.first_outstanding-next.ensures ∙ sym (first_row_is c.requires.rising.0 ys (find (λ (x : CallbackRow). nat_lt 0 x.number) ys) rising refl))
 
-pub after-next-requires : goal.after-next-requires
-after-next-requires c = (here (goal.at.after-next-requires c).In-Some).there
-
-pub cover-requires-clause-begun : goal.cover-requires-clause-begun
-cover-requires-clause-begun c = ap is_some (has_covered c.args.barriers.now c.loop-next.barriers c.args.waiter (here (goal.at.cover-requires-clause-begun c).In-Some).so_far c.requires.there (here (goal.at.cover-requires-clause-begun c).In-Some).covers)
+pub next_outstanding-next-requires : goal.next_outstanding-next-requires
+next_outstanding-next-requires c = (here (goal.at.next_outstanding-next-requires c).In-Some).there
 
 pub cover-requires-clause-room : goal.cover-requires-clause-room
 cover-requires-clause-room c =
-    let h = here (goal.at.cover-requires-clause-room c).In-Some in
-    omega (arith, ap length (covered_here (goal.at.cover-requires-clause-room c).In-Some), h.fewer (passes (goal.at.cover-requires-clause-room c).Then-is_covered), c.requires.room, ap (λ b. b.slots) h.covers)
+    let at = goal.at.cover-requires-clause-room c in
+    let o = one at.In-Some in
+    let p = is_outstanding_for (Object c.args.object) in
+    let all = c.args.callbacks.now.rows in
+    omega (arith, ap length (covered_here at.In-Some), o.fewer (passes at.Then-is_covered), length-filter p all, count_by-le-length p all, c.requires.room, ap (λ b. b.slots) o.covers)
+
+pub cover-requires-clause-begun : goal.cover-requires-clause-begun
+cover-requires-clause-begun c =
+    let o = one (goal.at.cover-requires-clause-begun c).In-Some in
+    ap is_some (has_covered c.args.barriers.now c.loop-next.barriers c.args.waiter o.so_far c.requires.there o.covers)
 
 pub cover-requires-clause-free : goal.cover-requires-clause-free
 cover-requires-clause-free c =
-    ap (contains_number c.in-Some.number) (covered_here (goal.at.cover-requires-clause-free c).In-Some)
-    ∙ greatest_absent c.in-Some.number _ ((here (goal.at.cover-requires-clause-free c).In-Some).below (passes (goal.at.cover-requires-clause-free c).Then-is_covered))
+    let at = goal.at.cover-requires-clause-free c in
+    ap (contains_number c.in-Some.callback.number) (covered_here at.In-Some) ∙ greatest_absent c.in-Some.callback.number _ ((one at.In-Some).below (passes at.Then-is_covered))
 
 pub loop-next-smaller-then-is_covered : goal.loop-next-smaller-then-is_covered
-loop-next-smaller-then-is_covered c = subst (λ o. length (rest itself (numbers_of c.args.outstanding.now.entries c.args.key) o) < length (rest itself (numbers_of c.args.outstanding.now.entries c.args.key) c.loop-next.next)) (sym c.after-next.ensures) (here (goal.at.loop-next-smaller-then-is_covered c).In-Some).smaller
+loop-next-smaller-then-is_covered c =
+    let at = (goal.at.loop-next-smaller-then-is_covered c).In-Some in
+    (one at).at.later c.next_outstanding-next.result ((here at).next c.next_outstanding-next.result c.next_outstanding-next.ensures)
 
 pub loop-next-preserved-then-is_covered : goal.loop-next-preserved-then-is_covered
 loop-next-preserved-then-is_covered c =
-    covering_next (is_covered_among c.args.callbacks.now.rows c.args.cancel) c.args.outstanding.now.entries c.args.key c.args.barriers.now c.loop-next.barriers c.cover.new.self c.args.waiter c.in-Some.number c.loop-next.next c.after-next.result c.requires.rising c.requires.there
-    (here (goal.at.loop-next-preserved-then-is_covered c).In-Some) (passes (goal.at.loop-next-preserved-then-is_covered c).Then-is_covered) c.cover.ensures c.after-next.ensures
+    let at = goal.at.loop-next-preserved-then-is_covered c in
+    (one at.In-Some).covered (passes at.Then-is_covered) c.requires.there c.cover.new.self c.cover.ensures c.next_outstanding-next.result ((here at.In-Some).next c.next_outstanding-next.result c.next_outstanding-next.ensures)
 
 pub loop-next-smaller : goal.loop-next-smaller
-loop-next-smaller c = subst (λ o. length (rest itself (numbers_of c.args.outstanding.now.entries c.args.key) o) < length (rest itself (numbers_of c.args.outstanding.now.entries c.args.key) c.loop-next.next)) (sym c.after-next.ensures) (here (goal.at.loop-next-smaller c).In-Some).smaller
+loop-next-smaller c =
+    let at = (goal.at.loop-next-smaller c).In-Some in
+    (one at).at.later c.next_outstanding-next.result ((here at).next c.next_outstanding-next.result c.next_outstanding-next.ensures)
 
 pub loop-next-preserved : goal.loop-next-preserved
 loop-next-preserved c =
-    passing_next (is_covered_among c.args.callbacks.now.rows c.args.cancel) c.args.outstanding.now.entries c.args.key c.args.barriers.now c.loop-next.barriers c.args.waiter c.in-Some.number c.loop-next.next c.after-next.result c.requires.rising
-    (here (goal.at.loop-next-preserved c).In-Some) (sym c.is_covered.ensures ∙ c.if-is_covered.false) c.after-next.ensures
+    let at = (goal.at.loop-next-preserved c).In-Some in
+    (one at).passed (sym c.is_covered.ensures ∙ c.if-is_covered.false) c.next_outstanding-next.result ((here at).next c.next_outstanding-next.result c.next_outstanding-next.ensures)
+
+pub returns : goal.returns
+returns c =
+    let v = c.loop-next.invariant in
+    let ys = outstanding_among c.args.callbacks.now.rows c.args.object in
+    v.covers
+    ∙ ap (λ ns. with_wait c.args.barriers.now c.args.waiter (Some ns))
+    (sym (append-nil v.so_far)
+    ∙ ap (λ o. v.so_far ++ map number_of (filter (is_wanted c.args.cancel) (rest number_of ys o))) (sym c.in_default.is) ∙ v.all
+    ∙ covers_outstanding c.args.object c.args.cancel c.args.callbacks.now.rows)

@@ -33,7 +33,7 @@ use Rattle.live_world.proofs.begun.BegunWaits.and.Statement as stated
 use Rattle.live_world.proofs.begun.BegunWaits.and.Code as code
 use Rattle.live_world.specs.contracts.begun.BegunWaits as begun
 use Rattle.live_world.specs.contracts.begun.Begins as begins
-use Rattle.callback_rows.specs.contracts.CallbackRows as rows
+use Rattle.live_callbacks.specs.contracts.LiveCallbacks as rows
 
 abbrev stayed : Stays (f.ended).signature.params (f.ended).kept
 stayed = (stay_none_ref (0 ∷ []) tt (plain (λ _. begun.the_row)) yes, (stay_none_ref (1 ∷ []) tt (plain (λ _. begins.the_row)) yes, (stay_none_ref (2 ∷ []) tt (plain (λ _. rows.the_row)) yes, tt)))

@@ -37,7 +37,7 @@ use Rattle.live_world.proofs.begun.BegunWaits.and_close.Code as code
 use Rattle.live_world.specs.declared.begun.BegunWaits.{BegunWaits}
 use Rattle.live_world.specs.contracts.begun.BegunWaits as begun
 use Rattle.live_world.specs.contracts.begun.Closes as begins
-use Rattle.callback_rows.specs.contracts.CallbackRows as rows
+use Rattle.live_callbacks.specs.contracts.LiveCallbacks as rows
 use Rattle.cancel_wait.specs.contracts.Barriers as notes
 
 abbrev stayed : Stays (f.ended).signature.params (f.ended).kept
