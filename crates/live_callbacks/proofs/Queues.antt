@@ -8,6 +8,7 @@ use Rattle.tp_base.specs.declared.ids.PoolId.{PoolId}
 use Rattle.tp_base.specs.declared.rows.CallbackRow.{CallbackRow}
 use Rattle.prio_queue.specs.Line.{entries_of}
 use Rattle.prio_queue.specs.Pending.{Entry, IsFree, Pending, entry, first_number, has_number as entries_have, held, queue_of, with_entry, with_queue, without_number}
+use Rattle.prio_queue.proofs.Apart.{lacks}
 use Rattle.prio_queue.proofs.Entries.{found as found_in, length-entries_of, with_high, with_low, with_normal, without}
 use Rattle.rising_numbers.specs.Rising.{all_but, contains_number, with_number}
 use Rattle.tp_model.specs.Counts.{has_number, is_high, is_low, is_normal, is_pending, is_pending_in}
@@ -17,7 +18,7 @@ use Rattle.live_callbacks.specs.Callbacks.{is_waiting, queue_among}
 use Rattle.live_callbacks.specs.Kept.{AreQueued, IsAtHome}
 use Rattle.live_callbacks.specs.Lists.{entries_among, numbers_of, priority_byte, requeued}
 use Rattle.live_callbacks.proofs.Found.{none_up}
-use Rattle.live_callbacks.proofs.Steps.{IsStep, lacks, renumbered}
+use Rattle.live_callbacks.proofs.Steps.{IsStep, renumbered}
 
 -- ---- whether a callback counts as waiting
 

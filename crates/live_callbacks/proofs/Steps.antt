@@ -10,13 +10,13 @@ use Rattle.tp_model.specs.Changes.{replaced}
 use Rattle.tp_model.specs.Counts.{has_number}
 use Rattle.tp_model.specs.Support.Sound.{IsRising}
 use Rattle.tp_model.proofs.Callbacks.{found_all, found_bounds, length_filter_replaced, replaced_above}
+use Rattle.tp_model.proofs.Lists.{find_passes}
+use Rattle.prio_queue.proofs.Apart.{lacks}
 use Rattle.live_callbacks.specs.Lists.{numbers_of}
+use Rattle.live_callbacks.proofs.Images.{AreBelow, below, gone, more, others, out, stays}
 
-abbrev pub AreBelow : ℕ → List CallbackRow → Type 0
-AreBelow number cs = AllByRecursion (λ (c : CallbackRow). c.number < number) cs
-
-abbrev pub others : ℕ → List CallbackRow → List CallbackRow
-others number cs = filter (λ (c : CallbackRow). not (has_number number c)) cs
+abbrev number : CallbackRow → ℕ
+number c = c.number
 
 -- rising numbers as one of them comes, stays or goes
 abbrev pub renumbered : Bool → Bool → ℕ → List ℕ → List ℕ
@@ -28,29 +28,13 @@ pub record IsStep (number : ℕ) (was is : (CallbackRow → Bool) → Bool) (cs 
   pub counts : (p : CallbackRow → Bool) → length (filter p ds) + cond (was p) 1 0 ≡ length (filter p cs) + cond (is p) 1 0
   pub free : (p : CallbackRow → Bool) → was p ≡ false → contains_number number (numbers_of p cs) ≡ false
 
--- ---- a number that isn't there, or that is taken out
+-- ---- a number that isn't there
 
 pub absent : (p : CallbackRow → Bool) (number : ℕ) (cs : List CallbackRow) → AllByRecursion (λ c. has_number number c ≡ true → p c ≡ false) cs → contains_number number (numbers_of p cs) ≡ false
 absent p number [] all = refl
 absent p number (c ∷ cs) all = grind (arith, nat_tests, all.0, absent p number cs all.1)
 
-pub lacks : (number : ℕ) (ns : List ℕ) → contains_number number ns ≡ false → all_but number ns ≡ ns
-lacks number [] none = refl
-lacks number (n ∷ ns) none = grind (arith, nat_tests, none, λ (rest : contains_number number ns ≡ false). lacks number ns rest)
-
-without : (p : CallbackRow → Bool) (number : ℕ) (cs : List CallbackRow) → numbers_of p (others number cs) ≡ all_but number (numbers_of p cs)
-without p number [] = refl
-without p number (c ∷ cs) = grind (arith, nat_tests, without p number cs)
-
-replaced_out : (p : CallbackRow → Bool) (r : CallbackRow) (cs : List CallbackRow) → p r ≡ false → numbers_of p (replaced r cs) ≡ all_but r.number (numbers_of p cs)
-replaced_out p r [] out = refl
-replaced_out p r (c ∷ cs) out = grind (arith, nat_tests, out, replaced_out p r cs out)
-
--- ---- a number that stays, or that is put
-
-replaced_same : (p : CallbackRow → Bool) (r : CallbackRow) (cs : List CallbackRow) → p r ≡ true → AllByRecursion (λ c. has_number r.number c ≡ true → p c ≡ true) cs → numbers_of p (replaced r cs) ≡ numbers_of p cs
-replaced_same p r [] inside all = refl
-replaced_same p r (c ∷ cs) inside all = grind (arith, nat_tests, inside, all.0, replaced_same p r cs inside all.1)
+-- ---- a number that is put
 
 -- a number below all comes first
 put_first : (number low next_number : ℕ) (p : CallbackRow → Bool) (cs : List CallbackRow) → number < low → IsRising low next_number cs → with_number number (numbers_of p cs) ≡ number ∷ numbers_of p cs
@@ -93,15 +77,6 @@ replaced_in p r c low next_number (d ∷ cs) out inside h e =
           ]
     ] refl e
 
--- a number above all comes last
-below_all : (p : CallbackRow → Bool) (number : ℕ) (cs : List CallbackRow) → AreBelow number cs → AllByRecursion (λ n. n < number) (numbers_of p cs)
-below_all p number [] below = tt
-below_all p number (c ∷ cs) below = elim (p c) as (λ b. AllByRecursion (λ n. n < number) (map (λ (x : CallbackRow). x.number) (cond b (c ∷ filter p cs) (filter p cs)))) [ true ↦ (below.0, below_all p number cs below.1) | false ↦ below_all p number cs below.1 ]
-
-pushed : (p : CallbackRow → Bool) (r : CallbackRow) (cs : List CallbackRow) → numbers_of p (cs ++ r ∷ []) ≡ cond (p r) (numbers_of p cs ++ r.number ∷ []) (numbers_of p cs)
-pushed p r [] = grind arith
-pushed p r (c ∷ cs) = grind (arith, pushed p r cs)
-
 counts_more : (p : CallbackRow → Bool) (r : CallbackRow) (cs : List CallbackRow) → length (filter p (cs ++ r ∷ [])) ≡ length (filter p cs) + cond (p r) 1 0
 counts_more p r [] = grind arith
 counts_more p r (c ∷ cs) = grind (arith, counts_more p r cs)
@@ -118,18 +93,18 @@ rising_below low number next_number (c ∷ cs) le h below = (h.0, rising_below (
 -- ---- each step
 
 pub comes : (r : CallbackRow) (cs : List CallbackRow) → AreBelow r.number cs → IsStep r.number (λ _. false) (λ p. p r) cs (cs ++ r ∷ [])
-comes r cs below =
+comes r cs all =
     record {
-      shows = λ p. pushed p r cs ∙ one p (p r);
+      shows = λ p. more number (λ k. k) (λ _. refl) p r cs ∙ one p (p r);
       counts = λ p. omega (arith, counts_more p r cs);
       free = λ p _. free p;
     }
   where
     free : (p : CallbackRow → Bool) → contains_number r.number (numbers_of p cs) ≡ false
-    free p = absent p r.number cs (none_has r.number p cs below)
+    free p = absent p r.number cs (none_has r.number p cs all)
 
     one : (p : CallbackRow → Bool) (b : Bool) → cond b (numbers_of p cs ++ r.number ∷ []) (numbers_of p cs) ≡ renumbered false b r.number (numbers_of p cs)
-    one p true = sym (with_greatest r.number (numbers_of p cs) (All-from_recursion (λ n. n < r.number) (numbers_of p cs) (below_all p r.number cs below)))
+    one p true = sym (with_greatest r.number (numbers_of p cs) (All-from_recursion (λ n. n < r.number) (numbers_of p cs) (below number (λ k. k) (λ _. refl) p r.number cs all)))
     one p false = sym (lacks r.number (numbers_of p cs) (free p))
 
 module _ (next_number : ℕ) (c : CallbackRow) (cs : List CallbackRow) (rising : IsRising 0 next_number cs) where
@@ -142,14 +117,14 @@ module _ (next_number : ℕ) (c : CallbackRow) (cs : List CallbackRow) (rising :
       }
     where
       one : (p : CallbackRow → Bool) (a b : Bool) → p c ≡ a → p r ≡ b → numbers_of p (replaced r cs) ≡ renumbered a b r.number (numbers_of p cs)
-      one p true true before now = replaced_same p r cs now (found_all (λ x. p x ≡ true) r.number c 0 next_number cs rising found before)
+      one p true true before now = stays number (λ k. k) (λ _. refl) p r cs now (found_all (λ x. (p x ≡ true) × (r.number ≡ x.number)) r.number c 0 next_number cs rising found (before, sym (eqb-true c.number r.number (find_passes (has_number r.number) c cs found))))
       one p false true before now = replaced_in p r c 0 next_number cs before now rising found
-      one p a false before now = replaced_out p r cs now
+      one p a false before now = out number (λ k. k) (λ _. refl) p r cs now
 
   pub leaves : find (has_number c.number) cs ≡ Some c → IsStep c.number (λ p. p c) (λ _. false) cs (others c.number cs)
   leaves found =
       record {
-        shows = λ p. without p c.number cs;
+        shows = λ p. gone number (λ k. k) (λ _. refl) p c.number cs;
         counts = λ p. omega (arith, fewer p 0 cs rising found);
         free = λ p out. absent p c.number cs (found_all (λ x. p x ≡ false) c.number c 0 next_number cs rising found out);
       }

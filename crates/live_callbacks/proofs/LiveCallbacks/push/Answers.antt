@@ -8,9 +8,10 @@ use Rattle.tp_model.proofs.Lists.{all_append}
 use Rattle.live_callbacks.specs.Callbacks.{Callbacks, is_tied}
 use Rattle.live_callbacks.specs.Kept.{IsAtHome}
 use Rattle.live_callbacks.specs.declared.LiveCallbacks.TheInside.{Inside}
+use Rattle.live_callbacks.proofs.Images.{AreBelow}
 use Rattle.live_callbacks.proofs.Listed.{listed_more, may_list}
 use Rattle.live_callbacks.proofs.Queues.{IsIn, has_room, in_none, in_own, is_free, requeued_kept}
-use Rattle.live_callbacks.proofs.Steps.{AreBelow, comes, rising_below}
+use Rattle.live_callbacks.proofs.Steps.{comes, rising_below}
 use Rattle.live_callbacks.proofs.LiveCallbacks.push.Goals as goal
 
 -- a new row in terms of the parts
