@@ -1,6 +1,5 @@
 -- What is outstanding for an object, as the lists of objects give it.
-use Rattle.std.proofs.Common.{◌≡◌, ℕ, ◌+◌, ◌<◌, ◌≤◌, Bool, true, false, cond, ◌&&◌, ◌||◌, ◌==◌, List, [], ◌∷◌, length, map, nat_lt, slice_get, Option, Some, None, refl, sym, ap, ◌∙◌, subst, arith, filter, find, option_map, is_some, eqb-true, ne_eqb}
-use Rattle.std.specs.List.{AllByRecursion, list_any}
+use Rattle.std.proofs.Common.{◌≡◌, ℕ, ◌+◌, ◌<◌, ◌≤◌, Bool, true, false, cond, ◌&&◌, ◌==◌, List, [], ◌∷◌, length, nat_lt, slice_get, Option, Some, None, refl, sym, ap, ◌∙◌, subst, arith, filter, find, option_map, eqb-true}
 use Rattle.tp_base.specs.declared.ids.ObjectId.{ObjectId}
 use Rattle.tp_base.specs.declared.rows.Status.{Status}
 use Rattle.tp_base.specs.declared.rows.Status.TheVariants.{Expected, Issued, Pending, Running, Returned, Cancelled}
@@ -10,13 +9,13 @@ use Rattle.tp_model.specs.World.{World}
 use Rattle.tp_model.specs.Counts.{has_number, is_pending}
 use Rattle.tp_model.specs.Support.Sound.{IsRising}
 use Rattle.tp_model.specs.Waits.{is_held_for, is_outstanding_for}
-use Rattle.tp_model.proofs.Lists.{all_along, filter_agree, find_all}
-use Rattle.tp_model.proofs.Refusals.{both, and_false}
+use Rattle.tp_model.proofs.Lists.{filter_agree, find_all}
+use Rattle.tp_model.proofs.Refusals.{both}
 use Rattle.live_callbacks.specs.Callbacks.{outstanding_among}
 use Rattle.tp_model.proofs.Callbacks.{rising_filter}
 use Rattle.live_world.specs.Invariant.{is_pending_callback, is_running_callback}
-use Rattle.live_world.specs.Waiting.{numbers_of, outstanding_of, is_pending_for, pending_of}
-use Rattle.live_world.proofs.Lists.{all_pass, filter_both, filter_none}
+use Rattle.live_world.specs.Waiting.{outstanding_of, is_pending_for, pending_of}
+use Rattle.live_world.proofs.Lists.{all_pass, filter_both}
 use Rattle.live_world.proofs.Walks.{Rises, rest, IsAmong, rises_filter, rest_first, first_among, rest_next, found_among}
 
 abbrev pub number_of : CallbackRow → ℕ

@@ -33,7 +33,7 @@ use Rattle.live_world.specs.View.{shown, IsLiveWorld}
 use Rattle.live_world.specs.Invariant.{AreCovered, AreWanted, AreClosing, is_pending_callback, is_running_callback}
 use Rattle.live_callbacks.specs.Callbacks.{outstanding_among}
 use Rattle.live_world.specs.Waiting.{is_wanted}
-use Rattle.live_world.proofs.Lists.{filter_all, filter_alike, filter_both, filter_map, all_pass, none_passes}
+use Rattle.live_world.proofs.Lists.{filter_all, filter_both, all_pass, none_passes}
 use Rattle.live_world.proofs.Along.{number_of, pending_among}
 use Rattle.live_world.proofs.Cancelled.{none_where}
 use Rattle.live_world.proofs.Covered.{covered_begun}

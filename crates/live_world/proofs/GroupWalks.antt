@@ -28,7 +28,7 @@ use Rattle.live_world.proofs.Along.{RowAt, after_of, number_of, and_swap, first_
 use Rattle.live_world.proofs.Cancelled.{none_where, nothing_left, settles_alike, behind, still_among}
 use Rattle.live_world.proofs.Lists.{all_pass, filter_alike, filter_both, set_twice}
 use Rattle.live_world.proofs.Numbers.{itself, all_before, has_covered}
-use Rattle.live_world.proofs.Walks.{Rises, rest, IsAmong, rest_first, first_among, rest_next, rest_without, passing_without, found_among, rises_map}
+use Rattle.live_world.proofs.Walks.{Rises, rest, IsAmong, rest_first, first_among, rest_without, passing_without, rises_map}
 
 -- ---- from the first on
 

@@ -2,6 +2,7 @@ pub mod Lists
 pub mod Tallied
 pub mod Alive
 pub mod Moving
+pub mod CallbackMoves
 pub mod Counting
 pub mod Covered
 pub mod Closes

@@ -52,10 +52,6 @@ none_passes p (x ∷ xs) e =
       | false ↦ λ h. (refl, none_passes p xs h)
     ] e
 
-pub one_more : {X : Type 0} (p : X → Bool) (xs : List X) (x : X) → p x ≡ true → length (filter p (xs ++ x ∷ [])) ≡ length (filter p xs) + 1
-one_more p xs x e =
-    ap length (filter-append p xs (x ∷ [])) ∙ length-append (filter p xs) (filter p (x ∷ [])) ∙ ap (λ b. length (filter p xs) + length (cond b (x ∷ []) [])) e
-
 pub none_more : {X : Type 0} (p : X → Bool) (xs : List X) (x : X) → p x ≡ false → length (filter p (xs ++ x ∷ [])) ≡ length (filter p xs)
 none_more p xs x e =
     ap length (filter-append p xs (x ∷ [])) ∙ length-append (filter p xs) (filter p (x ∷ [])) ∙ ap (λ b. length (filter p xs) + length (cond b (x ∷ []) [])) e ∙ omega arith
@@ -65,12 +61,6 @@ one_if b = cond b 1 0
 
 pub length_same : {X : Type 0} (p : X → Bool) (xs : List X) (i : ℕ) (old new : X) → slice_get xs i ≡ Some old → p old ≡ p new → length (filter p (slice_set xs i new)) ≡ length (filter p xs)
 length_same p xs i old new is same = omega (arith, length_filter_set p xs i old new is, ap (λ b. one_if b) same)
-
--- ---- all of a list
-
-pub both_parts : {X : Type 0} (P : X → Type 0) (xs ys : List X) → AllByRecursion P xs → AllByRecursion P ys → AllByRecursion P (xs ++ ys)
-both_parts P [] ys a b = b
-both_parts P (x ∷ xs) ys a b = (a.0, both_parts P xs ys a.1 b)
 
 -- ---- a row is set
 

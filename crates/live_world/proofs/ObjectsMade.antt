@@ -1,6 +1,5 @@
 -- Objects of callbacks.
 use Rattle.std.proofs.Common.{◌≡◌, ◌-◌, ◌<◌, ◌≤◌, true, false, List, length, is_some, Some, refl, sym, ap, subst, arith, ⊎_elim, ℕ}
-use Rattle.std.specs.List.{AllByRecursion}
 use Rattle.std.proofs.lemmas.Bool.{cases_eq}
 use Rattle.tp_base.specs.declared.ids.ObjectId.{ObjectId}
 use Rattle.tp_base.specs.declared.answers.TakeResult.{TakeResult}
@@ -12,7 +11,7 @@ use Rattle.tp_model.specs.Conditions.{lacks_slots_for}
 use Rattle.tp_model.specs.Sources.{new_callback}
 use Rattle.tp_model.specs.Support.Allowed.{IsNewCallback}
 use Rattle.tp_model.specs.Support.Sound.{IsCallbackSound, IsSound, is_standing}
-use Rattle.tp_model.proofs.Lists.{all_along, all_get}
+use Rattle.tp_model.proofs.Lists.{all_get}
 use Rattle.tp_model.proofs.Refusals.{made, numbered_some}
 
 -- the object of a callback was made, or is 0
@@ -26,9 +25,6 @@ object_made objects c sound =
     let there : c.object.0 - 1 < length objects = made objects (c.object.0 - 1) (ap is_some at.0) in
     omega (arith, there, at.1))
     (cases_eq c.object.0 0)
-
-pub objects_made : (objects : List ObjectRow) (cs : List CallbackRow) → AllByRecursion (IsCallbackSound objects) cs → AllByRecursion (λ (c : CallbackRow). c.object.0 ≤ length objects) cs
-objects_made objects cs all = all_along (IsCallbackSound objects) (λ (c : CallbackRow). c.object.0 ≤ length objects) (object_made objects) cs all
 
 -- the next callback of an object that isn't released
 pub next_is_new : (w : World) (next_number : ℕ) (object : ObjectId) (told : TakeResult) (row : ObjectRow) (c : CallbackRow) → c ≡ new_callback next_number object row told → numbered w.objects object.0 ≡ Some row → is_standing w.objects object.0 ≡ true → IsSound next_number w → lacks_slots_for w 1 ≡ false → IsNewCallback next_number w c

@@ -1,5 +1,5 @@
 -- The parts of a world that is opened.
-use Rattle.std.proofs.Common.{◌≡◌, ℕ, Bool, suc, zero, ◌+◌, None, true, false, cond, not, ◌&&◌, ◌==◌, slice_get, ◌-◌, List, [], length, map, get_or, replicate, refl, sym, ap, ap₂, ◌∙◌, subst, arith, sum_by}
+use Rattle.std.proofs.Common.{◌≡◌, ℕ, suc, zero, ◌+◌, None, true, false, cond, not, ◌&&◌, ◌==◌, slice_get, ◌-◌, List, [], length, map, get_or, replicate, refl, sym, ap, ap₂, ◌∙◌, subst, arith}
 use Rattle.tp_base.specs.declared.limits.Limits.{Limits}
 use Rattle.tp_base.specs.declared.rows.ClientRow.{ClientRow}
 use Rattle.tp_base.specs.Ranges.{AreLimitsInRange}

@@ -1,7 +1,5 @@
 -- What the parts show as an operation goes on, and that they keep their invariant.
-use Rattle.std.proofs.Common.{◌≡◌, ℕ, ◌+◌, ◌<◌, ◌∙◌, true, false, cond, not, ◌&&◌, ◌==◌, List, [], ◌∷◌, ◌++◌, length, refl, sym, ap, subst, arith, filter, ltb-false}
-use Rattle.std.proofs.lemmas.List.{length-map}
-use Rattle.std.proofs.lemmas.List.Sums.{length-filter, count_by-le-length}
+use Rattle.std.proofs.Common.{◌≡◌, ◌+◌, ◌∙◌, true, not, ◌==◌, [], ◌∷◌, ◌++◌, refl, sym, ap, arith, filter}
 use Rattle.tp_base.specs.declared.plans.Change.TheVariants as change
 use Rattle.tp_base.specs.declared.plans.IoStep.{IoStep}
 use Rattle.tp_base.specs.declared.plans.IoStep.TheVariants.{Issue, GiveUp, Complete}
@@ -9,12 +7,10 @@ use Rattle.tp_base.specs.declared.rows.CallbackRow.{CallbackRow}
 use Rattle.tp_base.specs.declared.rows.WaitTarget.TheVariants as target
 use Rattle.live_callbacks.specs.Callbacks.{Callbacks}
 use Rattle.cancel_wait.specs.Covers.{Covers}
-use Rattle.tp_model.specs.World.{World}
-use Rattle.tp_model.specs.Counts.{has_number, is_expected, is_live, is_operating, is_pending, is_running}
+use Rattle.tp_model.specs.Counts.{is_live, is_running}
 use Rattle.tp_model.specs.Changes.{operated, replaced, status_after, status_before}
 use Rattle.tp_model.specs.Waits.{is_held_for}
 use Rattle.tp_model.specs.Support.Allowed.{IsAllowed}
-use Rattle.tp_model.specs.Support.Remembered.{lives}
 use Rattle.tp_model.proofs.Callbacks.{after_idle, before_idle, before_lives}
 use Rattle.live_world.specs.Live.{Live, moved}
 use Rattle.live_world.specs.View.{shown, IsLiveWorld}

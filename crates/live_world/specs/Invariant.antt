@@ -1,6 +1,6 @@
 -- What the parts of a live world keep between calls: each index and each counter says of the rows what it is for. Each
 -- record speaks of the parts that it ties and of no others.
-use Rattle.std.specs.Prelude.{◌≡◌, ◌≢◌, ℕ, ◌+◌, ◌<◌, ◌≤◌, Bool, true, false, List, [], ◌∷◌, length, map, get_or, Option, None, Some, IfSome, is_some, option_map}
+use Rattle.std.specs.Prelude.{◌≡◌, ◌≢◌, ℕ, ◌+◌, ◌<◌, ◌≤◌, Bool, true, false, List, [], ◌∷◌, length, get_or, Option, None, Some, IfSome, is_some, option_map}
 use Rattle.std.specs.List.{filter, find, AllByRecursion}
 use Rattle.tp_base.specs.declared.ids.Who.{Who}
 use Rattle.tp_base.specs.declared.ids.PoolId.{PoolId}

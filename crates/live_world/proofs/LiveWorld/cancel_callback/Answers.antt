@@ -1,4 +1,5 @@
-use Rattle.live_world.proofs.Moving.{cancelled_by, found_here}
+use Rattle.live_world.proofs.CallbackMoves.{cancelled_by}
+use Rattle.live_world.proofs.Moving.{found_here}
 use Rattle.live_world.proofs.LiveWorld.cancel_callback.Goals as goal
 
 pub remove-requires : goal.remove-requires

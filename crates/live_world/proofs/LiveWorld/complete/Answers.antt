@@ -1,4 +1,4 @@
-use Rattle.std.proofs.Common.{sym, ap, ◌∙◌, refl}
+use Rattle.std.proofs.Common.{ap, refl}
 use Rattle.tp_base.specs.declared.plans.IoStep.TheVariants.{Complete}
 use Rattle.tp_base.specs.declared.rows.WaitTarget.TheVariants.{Object}
 use Rattle.tp_model.specs.Waits.{is_held_for}

@@ -1,14 +1,12 @@
-use Rattle.std.proofs.Common.{◌≡◌, ◌+◌, map, None, Some, sym, subst, arith}
-use Rattle.std.proofs.lemmas.List.{length-map}
+use Rattle.std.proofs.Common.{◌≡◌, ◌+◌, None, Some, sym, subst, arith}
 use Rattle.tp_base.specs.declared.ids.Who.{Who}
 use Rattle.tp_base.specs.declared.ids.ObjectId.{ObjectId}
 use Rattle.tp_base.specs.declared.rows.WaitTarget.TheVariants.{Object}
 use Rattle.tp_model.specs.Support.Allowed.{MayBegin}
 use Rattle.live_world.specs.Live.{Live}
-use Rattle.live_world.specs.Parts.{shown_object}
 use Rattle.live_world.specs.View.{shown}
 use Rattle.live_world.specs.declared.LiveWorld.TheInside.{Inside}
-use Rattle.live_world.proofs.Covered.{at_place, nowhere, place_there, idle_there, number_most, actor_somewhere}
+use Rattle.live_world.proofs.Covered.{at_place, nowhere, place_there, idle_there, actor_somewhere}
 use Rattle.live_world.proofs.Closes.{unnoticed_there}
 use Rattle.live_world.proofs.Beginnings.{begun_by}
 use Rattle.live_world.proofs.LiveWorld.cover_outstanding.Goals as goal

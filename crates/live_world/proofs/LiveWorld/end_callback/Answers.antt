@@ -1,4 +1,5 @@
-use Rattle.live_world.proofs.Moving.{ended_by, found_here, runs_here}
+use Rattle.live_world.proofs.CallbackMoves.{ended_by}
+use Rattle.live_world.proofs.Moving.{found_here, runs_here}
 use Rattle.live_world.proofs.LiveWorld.end_callback.Goals as goal
 
 pub remove-requires : goal.remove-requires

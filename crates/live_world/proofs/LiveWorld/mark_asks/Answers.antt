@@ -10,7 +10,8 @@ use Rattle.tp_model.specs.Counts.{is_expected, is_operating}
 use Rattle.tp_model.specs.Waits.{is_held_for}
 use Rattle.tp_model.specs.Changes.{replaced, marked}
 use Rattle.tp_model.specs.Actions.{asking}
-use Rattle.live_world.proofs.Moving.{asked_by, found_here, goes_with}
+use Rattle.live_world.proofs.CallbackMoves.{asked_by}
+use Rattle.live_world.proofs.Moving.{found_here, goes_with}
 use Rattle.live_world.proofs.LiveWorld.mark_asks.Goals as goal
 
 -- the row that is put is the one that is marked

@@ -1,4 +1,5 @@
-use Rattle.live_world.proofs.Moving.{found_here, goes_with, marked_long, runs_here}
+use Rattle.live_world.proofs.CallbackMoves.{marked_long}
+use Rattle.live_world.proofs.Moving.{found_here, goes_with, runs_here}
 use Rattle.live_world.proofs.LiveWorld.mark_long.Goals as goal
 
 pub change-requires : goal.change-requires

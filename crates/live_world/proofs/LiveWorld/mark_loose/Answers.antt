@@ -7,7 +7,8 @@ use Rattle.tp_base.specs.declared.rows.WaitTarget.TheVariants as target
 use Rattle.tp_model.specs.Counts.{is_expected, is_operating}
 use Rattle.tp_model.specs.Waits.{is_held_for}
 use Rattle.tp_model.specs.Changes.{replaced, loosened, marked}
-use Rattle.live_world.proofs.Moving.{found_here, goes_with, loosened_by}
+use Rattle.live_world.proofs.CallbackMoves.{loosened_by}
+use Rattle.live_world.proofs.Moving.{found_here, goes_with}
 use Rattle.live_world.proofs.LiveWorld.mark_loose.Goals as goal
 
 -- the row that is put is the one that is marked

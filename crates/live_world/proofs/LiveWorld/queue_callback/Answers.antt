@@ -1,5 +1,5 @@
 use Rattle.live_world.proofs.NewRow.{may_come}
-use Rattle.live_world.proofs.Moving.{queued_by}
+use Rattle.live_world.proofs.CallbackMoves.{queued_by}
 use Rattle.live_world.proofs.LiveWorld.queue_callback.Goals as goal
 
 pub push-requires : goal.push-requires

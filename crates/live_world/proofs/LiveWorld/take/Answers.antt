@@ -1,7 +1,7 @@
-use Rattle.std.proofs.Common.{◌+◌, ◌<◌, true, ap, ◌∙◌, refl, arith, find}
-use Rattle.tp_model.specs.Counts.{has_number}
+use Rattle.std.proofs.Common.{◌+◌, arith}
 use Rattle.tp_model.proofs.Callbacks.{found_bounds}
-use Rattle.live_world.proofs.Moving.{found_here, goes_with, idles_here, pending_tied, taken_by}
+use Rattle.live_world.proofs.CallbackMoves.{taken_by}
+use Rattle.live_world.proofs.Moving.{found_here, goes_with, idles_here, pending_tied}
 use Rattle.live_world.proofs.LiveWorld.take.Goals as goal
 
 pub change-requires : goal.change-requires

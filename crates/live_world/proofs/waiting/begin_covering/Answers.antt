@@ -1,4 +1,4 @@
-use Rattle.std.proofs.Common.{◌≡◌, ◌∙◌, List, [], ◌++◌, Some, true, length, map, unwrap_or, is_some, nat_lt, slice_get, find, refl, sym, ap, append-nil, arith, filter}
+use Rattle.std.proofs.Common.{◌≡◌, ◌∙◌, List, [], ◌++◌, Some, true, length, map, unwrap_or, is_some, nat_lt, find, refl, sym, ap, append-nil, arith, filter}
 use Rattle.std.proofs.lemmas.List.Sums.{length-filter, count_by-le-length}
 use Rattle.tp_base.specs.declared.rows.CallbackRow.{CallbackRow}
 use Rattle.tp_base.specs.declared.rows.WaitTarget.TheVariants.{Object}
