@@ -125,7 +125,8 @@ pub set_shown : (workers : List kept.WorkerRow) (number : ℕ) (new : kept.Worke
 set_shown workers number new target shows = map-set shown_worker workers (number - 1) new ∙ ap (λ t. slice_set (map shown_worker workers) (number - 1) t) shows
 
 -- another row of a worker
-pub sized_worker : {limits : Limits} {objects : Table Object} {clients : List ClientRow} (pools : Pools) (place : ℕ) (new : kept.WorkerRow) → IsHome (length pools.pools) new → AreSized limits pools objects clients → AreSized limits (record pools { workers = slice_set pools.workers place new }) objects clients
+pub sized_worker : {limits : Limits} {objects : Table Object} {clients : List ClientRow} (pools : Pools) (place : ℕ) (new : kept.WorkerRow)
+    → IsHome (length pools.pools) new → AreSized limits pools objects clients → AreSized limits (record pools { workers = slice_set pools.workers place new }) objects clients
 sized_worker pools place new home k =
     record {
       in_range = k.in_range;

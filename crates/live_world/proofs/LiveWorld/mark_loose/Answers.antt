@@ -39,8 +39,10 @@ leave_unclosed-requires c =
 
 pub invariant_of-self : goal.invariant_of-self
 invariant_of-self c =
-    (loosened_by c.self.inside c.args.self.now c.args.by c.change.new.self c.leave_unclosed.new.barriers c.self.view_is c.self.invariant c.requires (replaced_now c.self.inside.callbacks c.args.by.callback c.loosened.result c.change.new.self c.loosened.ensures c.change.ensures) (rw c.deref.ensures.value at c.leave_unclosed.ensures)).keeps
+    (loosened_by c.self.inside c.args.self.now c.args.by c.change.new.self c.leave_unclosed.new.barriers c.self.view_is c.self.invariant c.requires
+    (replaced_now c.self.inside.callbacks c.args.by.callback c.loosened.result c.change.new.self c.loosened.ensures c.change.ensures) (rw c.deref.ensures.value at c.leave_unclosed.ensures)).keeps
 
 pub returns : goal.returns
 returns c =
-    (loosened_by c.self.inside c.args.self.now c.args.by c.change.new.self c.leave_unclosed.new.barriers c.self.view_is c.self.invariant c.requires (replaced_now c.self.inside.callbacks c.args.by.callback c.loosened.result c.change.new.self c.loosened.ensures c.change.ensures) (rw c.deref.ensures.value at c.leave_unclosed.ensures)).becomes
+    (loosened_by c.self.inside c.args.self.now c.args.by c.change.new.self c.leave_unclosed.new.barriers c.self.view_is c.self.invariant c.requires
+    (replaced_now c.self.inside.callbacks c.args.by.callback c.loosened.result c.change.new.self c.loosened.ensures c.change.ensures) (rw c.deref.ensures.value at c.leave_unclosed.ensures)).becomes
