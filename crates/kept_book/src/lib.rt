@@ -1,7 +1,8 @@
 //! A machine whose entries can be read back.
 //!
 //! A `Kept` is a machine of any kind beside a list of the entries that it has made. It is seen as the
-//! same history, so whatever takes a `Recorded` takes a `Kept` too, and `entry` then reads the history.
+//! same history, so whatever takes a `Recorded` takes a `Kept` too, and `entry` and `entries` then read the
+//! history.
 //! The list gets its memory where the history is opened, and never more.
 //!
 //! ```text
@@ -13,7 +14,7 @@
 
 #![tactic(auto)]
 
-ghost use Rattle.std.specs.Prelude.{◌≡◌, slice_get};
+ghost use Rattle.std.specs.Prelude.{◌≡◌, ◌<◌, ◌^◌, length, slice_get};
 
 use recorded::Recorded;
 use std::alloc::{AllocError, Global};
@@ -50,6 +51,15 @@ impl<B: Recorded> Kept<B> {
         ensures { result ≡ slice_get self.now.history index }
     {
         self.entries.get(index as usize).copied()
+    }
+
+    /// All entries of the history, the first at place 0. There are fewer than 2^32. It takes no memory.
+    pub fn entries(&self) -> &[Entry]
+        ensures value { result.now ≡ self.now.history }
+        ensures few { length self.now.history < 2 ^ 32 }
+    {
+        let _len = self.book.len();
+        &self.entries
     }
 }
 

@@ -1,5 +1,5 @@
 -- How far a history's text is written.
-use Rattle.std.proofs.Common.{◌≡◌, ℕ, suc, ◌+◌, List, [], ◌∷◌, ◌++◌, length, take, refl, sym, ap, ◌∙◌, append_assoc, arith}
+use Rattle.std.proofs.Common.{◌≡◌, ℕ, suc, ◌+◌, List, [], ◌∷◌, ◌++◌, length, map, take, refl, sym, ap, ◌∙◌, append_assoc, arith}
 use Rattle.std.specs.Prelude.{Some}
 use Rattle.std.specs.List.{slice_get}
 use Rattle.std.proofs.Math.Seq.{take-suc}
@@ -9,7 +9,7 @@ use Rattle.line_grammar.specs.Traces.{trace_text}
 use Rattle.recorded.specs.Recordings.{Recording}
 use Rattle.tp_base.specs.declared.answers.Entry.{Entry}
 use Rattle.tp_lines.specs.Answers.{line_of_entry}
-use Rattle.tp_report.specs.Histories.{IsReadBack, end_line, header_of, history_told, lines_of}
+use Rattle.tp_report.specs.Histories.{IsReadBack, end_line, entry_lines, header_line, header_of, history_told, lines_of}
 
 pub take_next : {X : Type 0} (xs : List X) (i : ℕ) (x : X) → slice_get xs i ≡ Some x → take (i + 1) xs ≡ take i xs ++ x ∷ []
 take_next xs i x is =
@@ -21,26 +21,28 @@ trace_text-append [] more = refl
 trace_text-append (line ∷ lines) more =
     ap (λ t. line ++ 10 ∷ t) (trace_text-append lines more) ∙ sym (append_assoc line (10 ∷ trace_text lines) (trace_text more))
 
--- the first line and the lines of so many entries
-abbrev pub text_to : Recording → ℕ → List ℕ
-text_to r index = trace_text (lines_of (header_of r.limits r.capacity) (take index r.history))
-
-pub text_next : (r : Recording) (index : ℕ) (entry : Entry) (old before after ended : List ℕ) → slice_get r.history index ≡ Some entry
-    → before ≡ old ++ text_to r index → after ≡ before ++ line_of_entry entry → ended ≡ after ++ 10 ∷ [] → ended ≡ old ++ text_to r (index + 1)
-text_next r index entry old before after ended is e f g =
+-- the lines of one entry more
+pub entries_next : (entries : List Entry) (index : ℕ) (entry : Entry) (old before after : List ℕ) → slice_get entries index ≡ Some entry
+    → before ≡ old ++ entry_lines (take index entries) → after ≡ before ++ (line_of_entry entry ++ 10 ∷ []) → after ≡ old ++ entry_lines (take (index + 1) entries)
+entries_next entries index entry old before after is e f =
     let line = line_of_entry entry in
-    g ∙ ap (λ t. t ++ 10 ∷ []) (f ∙ ap (λ t. t ++ line) e) ∙ append_assoc (old ++ text_to r index) line (10 ∷ []) ∙ append_assoc old (text_to r index) (line ++ 10 ∷ [])
-    ∙ ap (λ t. old ++ t) (sym (ap (λ es. trace_text (lines_of (header_of r.limits r.capacity) es)) (take_next r.history index entry is)
-    ∙ ap (λ ls. trace_text (lines_of (header_of r.limits r.capacity) [] ++ ls)) (map-append line_of_entry (take index r.history) (entry ∷ []))
-    ∙ trace_text-append (lines_of (header_of r.limits r.capacity) (take index r.history)) (line ∷ [])))
+    f ∙ ap (λ t. t ++ (line ++ 10 ∷ [])) e ∙ append_assoc old (entry_lines (take index entries)) (line ++ 10 ∷ [])
+    ∙ ap (λ t. old ++ t) (sym (ap entry_lines (take_next entries index entry is)
+    ∙ ap trace_text (map-append line_of_entry (take index entries) (entry ∷ []))
+    ∙ trace_text-append (map line_of_entry (take index entries)) (line ∷ [])))
 
-pub text_all : (r : Recording) (index len : ℕ) (old before after : List ℕ) → take index r.history ≡ r.history → len ≡ length r.history
-    → before ≡ old ++ text_to r index → after ≡ before ++ (end_line len ++ 10 ∷ []) → after ≡ old ++ history_told r
-text_all r index len old before after all is e f =
-    f ∙ ap (λ t. t ++ (end_line len ++ 10 ∷ [])) e ∙ append_assoc old (text_to r index) (end_line len ++ 10 ∷ [])
+-- the first line, the lines of all entries and the end
+pub text_all : (r : Recording) (len : ℕ) (old headed listed after : List ℕ) → len ≡ length r.history
+    → headed ≡ old ++ (header_line (header_of r.limits r.capacity) ++ 10 ∷ []) → listed ≡ headed ++ entry_lines r.history → after ≡ listed ++ (end_line len ++ 10 ∷ [])
+    → after ≡ old ++ history_told r
+text_all r len old headed listed after is e f g =
+    let head = header_line (header_of r.limits r.capacity) in
+    let lines = entry_lines r.history in
+    g ∙ ap (λ t. t ++ (end_line len ++ 10 ∷ [])) (f ∙ ap (λ t. t ++ lines) e ∙ append_assoc old (head ++ 10 ∷ []) lines)
+    ∙ append_assoc old ((head ++ 10 ∷ []) ++ lines) (end_line len ++ 10 ∷ [])
     ∙ ap (λ t. old ++ t)
-    (ap (λ es. trace_text (lines_of (header_of r.limits r.capacity) es) ++ (end_line len ++ 10 ∷ [])) all
-    ∙ ap (λ n. trace_text (lines_of (header_of r.limits r.capacity) r.history) ++ (end_line n ++ 10 ∷ [])) is
+    (ap (λ t. t ++ (end_line len ++ 10 ∷ [])) (append_assoc head (10 ∷ []) lines)
+    ∙ ap (λ n. (head ++ 10 ∷ lines) ++ (end_line n ++ 10 ∷ [])) is
     ∙ sym (trace_text-append (lines_of (header_of r.limits r.capacity) r.history) (end_line (length r.history) ∷ [])))
 
 -- a line more

@@ -45,6 +45,10 @@ NextLines events len None text = text ≡ end_line len
 abbrev pub lines_of : Header → List Entry → List (List ℕ)
 lines_of header entries = header_line header ∷ map line_of_entry entries
 
+-- the lines of entries as a text
+abbrev pub entry_lines : List Entry → List ℕ
+entry_lines entries = trace_text (map line_of_entry entries)
+
 -- the numbers of the first line of such a machine's history
 abbrev pub header_of : Limits → ℕ → Header
 header_of limits events = record { clients = limits.clients; workers = limits.workers; events = events }

@@ -26,16 +26,14 @@ pub struct Counts {
 pub fn count_entries<B: Recorded>(book: &Kept<B>) -> Counts
     ensures { AreCounts book.now.history result }
 {
-    let len = book.len();
     let mut counts = Counts {
         made: 0,
         taken: 0,
         refused: 0,
     };
-    let mut index = 0;
-    while let Some(entry) = book.entry(index) {
-        counts = with_entry(counts, &entry);
-        index += 1;
+    let entries = book.entries();
+    for entry in entries {
+        counts = with_entry(counts, entry);
     }
     counts
 }

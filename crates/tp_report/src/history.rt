@@ -1,13 +1,15 @@
 //! Texts of histories.
 
 ghost use Rattle.std.specs.Prelude.{◌≡◌, ◌++◌, ◌∷◌, [], OnErr, OnOk, length, take};
-ghost use Rattle.tp_report.specs.Histories.{end_line, header_line, header_of, history_told, IsReadBack};
+ghost use Rattle.tp_report.specs.Histories.{end_line, entry_lines, header_line, header_of, history_told, IsReadBack};
 
 use kept_book::Kept;
 use recorded::Recorded;
 use std::alloc::{AllocError, Global};
+use std::mem;
+use tp_base::answers::Entry;
 use tp_base::limits::Limits;
-use tp_lines::print::print_entry;
+use tp_lines::print::Lines;
 
 /// Appends the history of a book as a text, which `check` can read: its first line, a line for each entry,
 /// and the end line with their number. On want of memory nothing is appended.
@@ -38,14 +40,30 @@ fn append_history<B: Recorded>(
     ensures kept { take (length out.old.items) out.new.items ≡ out.old.items }
 {
     append_header(alloc, book.limits(), book.capacity(), out)?;
-    let len = book.len();
-    let mut index = 0;
-    while let Some(entry) = book.entry(index) {
-        print_entry(&entry, out)?;
-        out.push(b'\n')?;
-        index += 1;
+    append_entries(alloc, book.entries(), out)?;
+    append_end(alloc, book.len(), out)
+}
+
+// Appends a line for each entry; on want of memory some of them may stand there.
+fn append_entries(alloc: Global, entries: &[Entry], out: &mut Vec<u8>) -> Result<(), AllocError>
+    ensures ok { OnOk result (out.new.items ≡ out.old.items ++ entry_lines entries.now) }
+    ensures kept { take (length out.old.items) out.new.items ≡ out.old.items }
+{
+    let mut lines = Lines::behind(mem::replace(out, Vec::new(alloc)));
+    let printed = print_entries(entries, &mut lines);
+    *out = lines.into_text();
+    printed
+}
+
+// The same behind other lines.
+fn print_entries(entries: &[Entry], lines: &mut Lines) -> Result<(), AllocError>
+    ensures ok { OnOk result (lines.new ≡ lines.old ++ entry_lines entries.now) }
+    ensures kept { take (length lines.old) lines.new ≡ lines.old }
+{
+    for entry in entries {
+        lines.entry(entry)?;
     }
-    append_end(alloc, len, out)
+    Ok(())
 }
 
 // Appends the first line, or nothing.

@@ -42,31 +42,6 @@ use Rattle.worker_gate.specs.Places.{Given}
 use Rattle.worker_gate.specs.Rounds.{begins_wait, NeverWaits}
 use Rattle.worker_gate.specs.Runs.{IsCutShort, Runs}
 
--- ---- whether one of a list passes a test, place by place
-
-module _ {X : Type 0} (test : X → Bool) (xs : List X) (i : ℕ) (so_far : list_any test xs ≡ list_any test (drop i xs)) where
-  any_here : (x : X) → slice_get xs i ≡ Some x → list_any test xs ≡ (test x || list_any test (drop (suc i) xs))
-  any_here x is =
-      so_far ∙ ap (λ ys. list_any test ys) (drop-cons xs i x (slice_get_within xs i x is))
-      ∙ ap (λ y. test y || list_any test (drop (suc i) xs)) (get_or_from_slice_get xs i x x is)
-
-  pub any_found : (x : X) → slice_get xs i ≡ Some x → test x ≡ true → list_any test xs ≡ true
-  any_found x is passes = any_here x is ∙ ap (λ b. b || list_any test (drop (suc i) xs)) passes
-
-  pub any_next : (x : X) → slice_get xs i ≡ Some x → test x ≡ false → list_any test xs ≡ list_any test (drop (i + 1) xs)
-  any_next x is fails =
-      let next : suc i ≡ i + 1 = omega arith in
-      any_here x is ∙ ap (λ b. b || list_any test (drop (suc i) xs)) fails ∙ ap (λ n. list_any test (drop n xs)) next
-
-past_end : {X : Type 0} (xs : List X) (i : ℕ) → slice_get xs i ≡ None → drop i xs ≡ []
-past_end [] zero e = refl
-past_end [] (suc i) e = refl
-past_end (x ∷ xs) zero e = absurd cc
-past_end (x ∷ xs) (suc i) e = past_end xs i e
-
-pub any_ends : {X : Type 0} (test : X → Bool) (xs : List X) (i : ℕ) → list_any test xs ≡ list_any test (drop i xs) → slice_get xs i ≡ None → list_any test xs ≡ false
-any_ends test xs i so_far e = so_far ∙ ap (λ ys. list_any test ys) (past_end xs i e)
-
 -- ---- how a run ends
 
 module _ (g : Given) (limits : Limits) (history : List Entry) where

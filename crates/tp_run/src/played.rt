@@ -110,8 +110,9 @@ fn output_of_run<B: Recorded>(
     let _len = played.book.len();
     let text = print_run(alloc, layout, &played.book)?;
     let left = left_callbacks(alloc, &played.book)?;
-    let exhausted = has_early_end(&played.book, EarlyEnd::Exhausted);
-    let stalled = has_early_end(&played.book, EarlyEnd::Stalled);
+    let entries = played.book.entries();
+    let exhausted = has_early_end(entries, EarlyEnd::Exhausted);
+    let stalled = has_early_end(entries, EarlyEnd::Stalled);
     let ending = ending_by(played.cut, exhausted, has_pending(&left), stalled);
     Ok(Output { text, ending })
 }
@@ -178,16 +179,13 @@ fn ending_by(cut: bool, exhausted: bool, pending: bool, stalled: bool) -> Ending
 }
 
 // Whether a wait ended so.
-fn has_early_end<B: Recorded>(book: &Kept<B>, which: EarlyEnd) -> bool
-    ensures { result ≡ has_early_end which book.now.history }
+fn has_early_end(entries: &[Entry], which: EarlyEnd) -> bool
+    ensures { result ≡ has_early_end which entries.now }
 {
-    let len = book.len();
-    let mut index = 0;
-    while let Some(entry) = book.entry(index) {
-        if is_early_end(&entry, which) {
+    for entry in entries {
+        if is_early_end(entry, which) {
             return true;
         }
-        index += 1;
     }
     false
 }
@@ -196,11 +194,11 @@ fn has_early_end<B: Recorded>(book: &Kept<B>, which: EarlyEnd) -> bool
 fn is_early_end(entry: &Entry, which: EarlyEnd) -> bool
     ensures { result ≡ is_early_end which entry.now }
 {
-    matches!(entry.call, Call::End)
-        && match which {
-            EarlyEnd::Exhausted => matches!(entry.answer, Answer::Exhausted),
-            EarlyEnd::Stalled => matches!(entry.answer, Answer::Stalled),
-        }
+    let is_early = match which {
+        EarlyEnd::Exhausted => matches!(entry.answer, Answer::Exhausted),
+        EarlyEnd::Stalled => matches!(entry.answer, Answer::Stalled),
+    };
+    is_early && matches!(entry.call, Call::End)
 }
 
 // Whether one of those that are left is pending.

@@ -212,6 +212,13 @@ module _ {B : Type 0} where
     of = subst (λ (r : Role). IsOfSeat g b.seat r) (sym role) (of_seat g a.seat b.seat a.role more.same more.starts more.mine ready.of);
   }
 
+  -- it pauses
+  pub paused_ready : (g : Given) (pool : SharedPool B) (a b : Actor B) → IsReady g pool a → b.seat ≡ a.seat → b.role ≡ a.role → IsReady g pool b
+  paused_ready g pool a b ready seat role = record {
+    player = subst (λ (s : Seat B). IsPlayer pool s) (sym seat) ready.player;
+    of = subst (λ (s : Seat B). IsOfSeat g s b.role) (sym seat) (subst (λ (r : Role). IsOfSeat g a.seat r) (sym role) ready.of);
+  }
+
   needs_rests : (g : Given) (pool : SharedPool B) (a b : Actor B) → IsReady g pool a → NeedsNoTurn a b → is_in_part a.role.place.stage ≡ false
   needs_rests g pool a b ready (inl ended) = ready.of.rests ended
   needs_rests g pool a b ready (inr (inl over)) = over_rests a.role.place.stage over

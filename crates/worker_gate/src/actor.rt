@@ -7,16 +7,22 @@ ghost use Rattle.worker_gate.specs.Roles.{who_of, StandsFor};
 use crate::role::{Gate, Role, Turn};
 use recorded::Recorded;
 use shared_pool::{Over, SharedPool, Tried};
+use std::hint;
 use tp_base::answers::Outcome;
 use tp_base::plans::Stage;
 use tp_script::Routines;
 use turn_lock::Seat;
+
+// The longest pause of an actor is of 2^10 hints to the processor.
+const LONGEST_PAUSE: u32 = 10;
 
 /// A role with the seat by which it makes its calls. Its entries are those that the seat has made.
 #[derive(Drop)]
 pub struct Actor<B> {
     pub(crate) seat: Seat<B>,
     pub(crate) role: Role,
+    // How often it found another seat at its turn, as far as that makes its pauses longer.
+    held_up: u32,
     ghost is_its: { role.who ≡ actor_in seat },
     ghost stands: { StandsFor role (mine_of seat) },
 }
@@ -32,7 +38,11 @@ impl<B> Actor<B> {
         ensures seat { seat_in result ≡ seat }
         ensures role { role_in result ≡ role }
     {
-        Actor { seat, role }
+        Actor {
+            seat,
+            role,
+            held_up: 0,
+        }
     }
 
     /// The seat, and the role. The role stands for the entries that the seat has made.
@@ -42,7 +52,11 @@ impl<B> Actor<B> {
         ensures its { who_of result.1 ≡ actor_in result.0 }
         ensures stands { StandsFor result.1 (mine_of result.0) }
     {
-        let Actor { seat, role } = self;
+        let Actor {
+            seat,
+            role,
+            held_up: _,
+        } = self;
         (seat, role)
     }
 }
@@ -56,7 +70,7 @@ impl<B: Recorded> Actor<B> {
     /// most one call.
     ///
     /// `Moved` comes where the due call became an entry. `Waiting` comes where another seat had the
-    /// turn, or the due call came to a look or Full. `Ended` comes for a client that has finished, and
+    /// turn, after a pause of 1,024 hints at most, or the due call came to a look or Full. `Ended` comes for a client that has finished, and
     /// for a worker that runs nothing where all is over, now or at an earlier turn.
     pub fn turn<R: Routines, G: Gate>(
         &mut self,
@@ -74,7 +88,7 @@ impl<B: Recorded> Actor<B> {
                 self.role.ended = true;
                 Turn::Ended
             }
-            Over::Busy { .. } => Turn::Waiting,
+            Over::Busy { .. } => self.pauses(),
             Over::No => self.plays(pool, routines, gate),
         }
     }
@@ -109,8 +123,24 @@ impl<B: Recorded> Actor<B> {
             Tried::Done(answer) => Outcome::Done(answer),
             Tried::Look(look) => Outcome::Look(look),
             Tried::Full { room, cost } => Outcome::Full { room, cost },
-            Tried::Busy { .. } => return Turn::Waiting,
+            Tried::Busy { .. } => return self.pauses(),
         };
         self.role.hears(routines, gate, call, outcome)
+    }
+
+    // Leaves the machine to the seat that has the turn, each time for twice as long as before, up to some
+    // 1,000 hints. A machine that goes to and fro between threads is slower than one that stays with a
+    // thread for many turns.
+    fn pauses(&mut self) -> Turn
+        ensures seat { seat_in self.new ≡ seat_in self.old }
+        ensures role { role_in self.new ≡ role_in self.old }
+        ensures waits { result ≡ Turn.Waiting }
+    {
+        let longer = self.held_up.min(LONGEST_PAUSE);
+        for _ in 0..1u32 << longer {
+            hint::spin_loop();
+        }
+        self.held_up = longer + 1;
+        Turn::Waiting
     }
 }
