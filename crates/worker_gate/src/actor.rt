@@ -125,7 +125,7 @@ impl<B: Recorded> Actor<B> {
             Tried::Full { room, cost } => Outcome::Full { room, cost },
             Tried::Busy { .. } => return self.pauses(),
         };
-        self.role.hears(routines, gate, call, outcome)
+        self.role.hears(routines, gate, &call, &outcome)
     }
 
     // Leaves the machine to the seat that has the turn, each time for twice as long as before, up to some

@@ -68,10 +68,10 @@ impl Place {
         &mut self,
         who: Who,
         routines: &R,
-        call: Call,
-        answer: Answer,
+        call: &Call,
+        answer: &Answer,
     )
-        ensures { self.new ≡ place_after (given R.next_of R.after_of routines.now) who self.old call answer }
+        ensures { self.new ≡ place_after (given R.next_of R.after_of routines.now) who self.old call.now answer.now }
     {
         self.cut = self.cut || (is_last(call) && self.next_call(who, routines).is_some());
         self.progresses(who, routines, call, answer);
@@ -80,8 +80,8 @@ impl Place {
     }
 
     // The same for how far it has come in its part alone.
-    fn progresses<R: Routines>(&mut self, who: Who, routines: &R, call: Call, answer: Answer)
-        ensures { self.new ≡ record self.old { at = progress_after (given R.next_of R.after_of routines.now) who self.old call answer } }
+    fn progresses<R: Routines>(&mut self, who: Who, routines: &R, call: &Call, answer: &Answer)
+        ensures { self.new ≡ record self.old { at = progress_after (given R.next_of R.after_of routines.now) who self.old call.now answer.now } }
     {
         if is_taken(answer) {
             self.at = Progress::first();
@@ -91,11 +91,11 @@ impl Place {
     }
 
     // Takes note of the answer to a call of its part.
-    fn is_told<R: Routines>(&mut self, who: Who, routines: &R, answer: Answer)
-        ensures { self.new ≡ record self.old { at = told_in (given R.next_of R.after_of routines.now) (part_in self.old.stage who) self.old.at answer } }
+    fn is_told<R: Routines>(&mut self, who: Who, routines: &R, answer: &Answer)
+        ensures { self.new ≡ record self.old { at = told_in (given R.next_of R.after_of routines.now) (part_in self.old.stage who) self.old.at answer.now } }
     {
         if let Some(part) = part_in(self.stage, who) {
-            routines.after(part, &mut self.at, answer);
+            routines.after(part, &mut self.at, *answer);
         }
     }
 }
@@ -123,22 +123,24 @@ fn part_in(stage: Stage, who: Who) -> Option<Part>
     }
 }
 
-fn stage_after(stage: Stage, call: Call, answer: Answer) -> Stage
-    ensures { result ≡ stage_after stage call answer }
+fn stage_after(stage: Stage, call: &Call, answer: &Answer) -> Stage
+    ensures { result ≡ stage_after stage call.now answer.now }
 {
     match (stage, call, answer) {
         (Stage::Playing, Call::Finish, Answer::Done) => Stage::Over,
         (Stage::Away, Call::Attach, Answer::Attached { .. }) => Stage::Idle,
         (Stage::Idle, Call::Detach, Answer::Done) => Stage::Away,
-        (Stage::Idle, Call::Take, Answer::Taken { routine, .. }) => Stage::Busy { routine },
+        (Stage::Idle, Call::Take, Answer::Taken { routine, .. }) => Stage::Busy {
+            routine: *routine,
+        },
         (Stage::Busy { .. }, Call::Return, Answer::Returned { .. }) => Stage::Idle,
         _ => stage,
     }
 }
 
 // Whether a wait is begun behind a call, by whether one was before it.
-fn waits_after(waits: bool, call: Call, answer: Answer) -> bool
-    ensures { result ≡ waits_after waits call answer }
+fn waits_after(waits: bool, call: &Call, answer: &Answer) -> bool
+    ensures { result ≡ waits_after waits call.now answer.now }
 {
     match answer {
         Answer::Begun { .. } | Answer::Closing { .. } => true,
@@ -149,14 +151,14 @@ fn waits_after(waits: bool, call: Call, answer: Answer) -> bool
 }
 
 // Whether a call ends a part.
-fn is_last(call: Call) -> bool
-    ensures { result ≡ is_last call }
+fn is_last(call: &Call) -> bool
+    ensures { result ≡ is_last call.now }
 {
     matches!(call, Call::Finish | Call::Return)
 }
 
-fn is_taken(answer: Answer) -> bool
-    ensures { result ≡ is_taken answer }
+fn is_taken(answer: &Answer) -> bool
+    ensures { result ≡ is_taken answer.now }
 {
     matches!(answer, Answer::Taken { .. })
 }

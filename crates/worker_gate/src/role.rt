@@ -117,7 +117,7 @@ impl Role {
         }
         let call = self.due(routines);
         let outcome = book.step(self.who, call);
-        self.hears(routines, gate, call, outcome)
+        self.hears(routines, gate, &call, &outcome)
     }
 
     // Whether it makes no further call on a machine as that is now.
@@ -171,11 +171,11 @@ impl Role {
         &mut self,
         routines: &R,
         gate: &G,
-        call: Call,
-        outcome: Outcome,
+        call: &Call,
+        outcome: &Outcome,
     ) -> Turn
-        ensures role { self.new ≡ took (given R.next_of R.after_of routines.now) self.old call outcome }
-        ensures turn { result ≡ turn_by outcome }
+        ensures role { self.new ≡ took (given R.next_of R.after_of routines.now) self.old call.now outcome.now }
+        ensures turn { result ≡ turn_by outcome.now }
     {
         match outcome {
             Outcome::Done(answer) => {
@@ -196,16 +196,16 @@ impl Role {
     }
 
     // Before the callback that it has taken, if it has.
-    fn stops_at<G: Gate>(&self, gate: &G, answer: Answer) {
+    fn stops_at<G: Gate>(&self, gate: &G, answer: &Answer) {
         if let (Who::Worker(worker), Answer::Taken { callback, .. }) = (self.who, answer) {
-            gate.before(worker, callback);
+            gate.before(worker, *callback);
         }
     }
 }
 
 // Whether a worker that runs nothing takes a callback.
-fn is_idle_take(stage: Stage, call: Call) -> bool
-    ensures { result ≡ is_idle_take stage call }
+fn is_idle_take(stage: Stage, call: &Call) -> bool
+    ensures { result ≡ is_idle_take stage call.now }
 {
     matches!((stage, call), (Stage::Idle, Call::Take))
 }
