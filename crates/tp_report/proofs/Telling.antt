@@ -1,20 +1,15 @@
 -- How far a history's text is written.
-use Rattle.std.proofs.Common.{◌≡◌, ℕ, suc, ◌+◌, List, [], ◌∷◌, ◌++◌, length, map, take, refl, sym, ap, ◌∙◌, append_assoc, arith}
-use Rattle.std.specs.Prelude.{Some}
-use Rattle.std.specs.List.{slice_get}
+use Rattle.std.proofs.Common.{◌≡◌, ℕ, suc, ◌+◌, ◌<◌, List, [], ◌∷◌, ◌++◌, length, map, take, get_or, refl, sym, ap, ◌∙◌, append_assoc, arith}
 use Rattle.std.proofs.Math.Seq.{take-suc}
 use Rattle.std.proofs.lemmas.List.{map-append}
-use Rattle.std.proofs.lemmas.Option.{slice_get_within, get_or_from_slice_get}
 use Rattle.line_grammar.specs.Traces.{trace_text}
 use Rattle.recorded.specs.Recordings.{Recording}
 use Rattle.tp_base.specs.declared.answers.Entry.{Entry}
 use Rattle.tp_lines.specs.Answers.{line_of_entry}
 use Rattle.tp_report.specs.Histories.{IsReadBack, end_line, entry_lines, header_line, header_of, history_told, lines_of}
 
-pub take_next : {X : Type 0} (xs : List X) (i : ℕ) (x : X) → slice_get xs i ≡ Some x → take (i + 1) xs ≡ take i xs ++ x ∷ []
-take_next xs i x is =
-    let more : i + 1 ≡ suc i = omega arith in
-    ap (λ n. take n xs) more ∙ take-suc xs i x (slice_get_within xs i x is) ∙ ap (λ y. take i xs ++ y ∷ []) (get_or_from_slice_get xs i x x is)
+pub take_more : {X : Type 0} (xs : List X) (i : ℕ) (d : X) → i < length xs → take (i + 1) xs ≡ take i xs ++ get_or xs i d ∷ []
+take_more xs i d within = let more : i + 1 ≡ suc i = omega arith in ap (λ n. take n xs) more ∙ take-suc xs i d within
 
 pub trace_text-append : (lines more : List (List ℕ)) → trace_text (lines ++ more) ≡ trace_text lines ++ trace_text more
 trace_text-append [] more = refl
@@ -22,13 +17,13 @@ trace_text-append (line ∷ lines) more =
     ap (λ t. line ++ 10 ∷ t) (trace_text-append lines more) ∙ sym (append_assoc line (10 ∷ trace_text lines) (trace_text more))
 
 -- the lines of one entry more
-pub entries_next : (entries : List Entry) (index : ℕ) (entry : Entry) (old before after : List ℕ) → slice_get entries index ≡ Some entry
-    → before ≡ old ++ entry_lines (take index entries) → after ≡ before ++ (line_of_entry entry ++ 10 ∷ []) → after ≡ old ++ entry_lines (take (index + 1) entries)
-entries_next entries index entry old before after is e f =
-    let line = line_of_entry entry in
+pub entries_next : (entries : List Entry) (index : ℕ) (d : Entry) (old before after : List ℕ) → index < length entries
+    → before ≡ old ++ entry_lines (take index entries) → after ≡ before ++ (line_of_entry (get_or entries index d) ++ 10 ∷ []) → after ≡ old ++ entry_lines (take (index + 1) entries)
+entries_next entries index d old before after within e f =
+    let line = line_of_entry (get_or entries index d) in
     f ∙ ap (λ t. t ++ (line ++ 10 ∷ [])) e ∙ append_assoc old (entry_lines (take index entries)) (line ++ 10 ∷ [])
-    ∙ ap (λ t. old ++ t) (sym (ap entry_lines (take_next entries index entry is)
-    ∙ ap trace_text (map-append line_of_entry (take index entries) (entry ∷ []))
+    ∙ ap (λ t. old ++ t) (sym (ap entry_lines (take_more entries index d within)
+    ∙ ap trace_text (map-append line_of_entry (take index entries) (get_or entries index d ∷ []))
     ∙ trace_text-append (map line_of_entry (take index entries)) (line ∷ [])))
 
 -- the first line, the lines of all entries and the end
