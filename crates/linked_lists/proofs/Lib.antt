@@ -1,0 +1,10 @@
+pub mod Ends
+pub mod Links
+pub mod Made
+pub mod Moves
+pub mod Order
+pub mod Passed
+pub mod Rings
+pub mod Runs
+pub mod Seen
+pub mod Walks

@@ -1,0 +1,4 @@
+pub mod Kept
+pub mod Linked
+pub mod Nodes
+pub mod Rings
