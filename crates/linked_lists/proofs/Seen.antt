@@ -36,63 +36,69 @@ module _ (all : Linked) (are : AreOwned all) (s : ℕ) (within : s < length all.
       (cases_eq (owner_of all q) s)
 
 module _ (capacity : ℕ) (arena : Arena) (owners lens : List ℕ) (kept : AreKept capacity arena owners lens) where
-  pub lists_many : length (lists_in arena.nodes lens) ≡ length lens
+  abbrev all : Linked
+  all = linked_in arena owners lens
+
+  abbrev lists : List (List ℕ)
+  lists = lists_in arena.nodes lens
+
+  pub lists_many : length lists ≡ length lens
   lists_many = length-lists_from (after_in arena.nodes) 0 lens
 
-  pub owned : AreOwned (linked_in arena owners lens)
+  pub owned : AreOwned all
   owned = record { once = kept.rings.once; own = kept.rings.heads }
 
-  pub owned_in : (place : ℕ) → owner_of (linked_in arena owners lens) place < length (lists_in arena.nodes lens) → place < length arena.nodes
+  pub owned_in : (place : ℕ) → owner_of all place < length lists → place < length arena.nodes
   owned_in place some =
       ⊎_elim
       (λ (within : place < length owners). omega (arith, within, kept.sized))
-      (λ (past : length owners ≤ place). absurd (omega (arith, some, get_or_past owners place (length (lists_in arena.nodes lens)) past)))
+      (λ (past : length owners ≤ place). absurd (omega (arith, some, get_or_past owners place (length lists) past)))
       (cases_lt place (length owners))
 
-  pub of_in : (s a : ℕ) → s < length (lists_in arena.nodes lens) → IsOf (linked_in arena owners lens) s a → a < length arena.nodes
+  pub of_in : (s a : ℕ) → s < length lists → IsOf all s a → a < length arena.nodes
   of_in s a within of =
       ⊎_elim
       (λ (same : a ≡ s). omega (arith, within, same, lists_many, kept.headed))
-      (λ (is : owner_of (linked_in arena owners lens) a ≡ s). owned_in a (omega (arith, is, within)))
+      (λ (is : owner_of all a ≡ s). owned_in a (omega (arith, is, within)))
       of
 
-  pub after_of_list : (s a : ℕ) → s < length (lists_in arena.nodes lens) → IsOf (linked_in arena owners lens) s a → IsOf (linked_in arena owners lens) s (after_in arena.nodes a)
-  after_of_list = after_of (after_in arena.nodes) (before_in arena.nodes) (owner_of (linked_in arena owners lens)) (lists_in arena.nodes lens) kept.rings
+  pub after_of_list : (s a : ℕ) → s < length lists → IsOf all s a → IsOf all s (after_in arena.nodes a)
+  after_of_list = after_of (after_in arena.nodes) (before_in arena.nodes) (owner_of all) lists kept.rings
 
-  pub before_of_list : (s b : ℕ) → s < length (lists_in arena.nodes lens) → IsOf (linked_in arena owners lens) s b → IsOf (linked_in arena owners lens) s (before_in arena.nodes b)
-  before_of_list = before_of (after_in arena.nodes) (before_in arena.nodes) (owner_of (linked_in arena owners lens)) (lists_in arena.nodes lens) kept.rings
+  pub before_of_list : (s b : ℕ) → s < length lists → IsOf all s b → IsOf all s (before_in arena.nodes b)
+  before_of_list = before_of (after_in arena.nodes) (before_in arena.nodes) (owner_of all) lists kept.rings
 
-  pub none_first : (s : ℕ) → s < length (lists_in arena.nodes lens) → after_in arena.nodes s ≡ s → None ≡ slice_get (list_of (linked_in arena owners lens) s) 0
-  none_first s within is = sym (first_none (after_in arena.nodes) (before_in arena.nodes) s s (list_of (linked_in arena owners lens) s) (kept.rings.ring s within) (own_out (linked_in arena owners lens) owned s within) is)
+  pub none_first : (s : ℕ) → s < length lists → after_in arena.nodes s ≡ s → None ≡ slice_get (list_of all s) 0
+  none_first s within is = sym (first_none (after_in arena.nodes) (before_in arena.nodes) s s (list_of all s) (kept.rings.ring s within) (own_out all owned s within) is)
 
-  pub some_first : (s : ℕ) → s < length (lists_in arena.nodes lens) → after_in arena.nodes s ≢ s → Some (after_in arena.nodes s) ≡ slice_get (list_of (linked_in arena owners lens) s) 0
-  some_first s within is = sym (first_some (after_in arena.nodes) (before_in arena.nodes) s s (list_of (linked_in arena owners lens) s) (kept.rings.ring s within) is)
+  pub some_first : (s : ℕ) → s < length lists → after_in arena.nodes s ≢ s → Some (after_in arena.nodes s) ≡ slice_get (list_of all s) 0
+  some_first s within is = sym (first_some (after_in arena.nodes) (before_in arena.nodes) s s (list_of all s) (kept.rings.ring s within) is)
 
-  pub none_last : (s : ℕ) → s < length (lists_in arena.nodes lens) → before_in arena.nodes s ≡ s → None ≡ slice_get (list_of (linked_in arena owners lens) s) (length (list_of (linked_in arena owners lens) s) - 1)
-  none_last s within is = sym (last_none (after_in arena.nodes) (before_in arena.nodes) s s (list_of (linked_in arena owners lens) s) (kept.rings.ring s within) (own_out (linked_in arena owners lens) owned s within) is)
+  pub none_last : (s : ℕ) → s < length lists → before_in arena.nodes s ≡ s → None ≡ slice_get (list_of all s) (length (list_of all s) - 1)
+  none_last s within is = sym (last_none (after_in arena.nodes) (before_in arena.nodes) s s (list_of all s) (kept.rings.ring s within) (own_out all owned s within) is)
 
-  pub some_last : (s : ℕ) → s < length (lists_in arena.nodes lens) → before_in arena.nodes s ≢ s → Some (before_in arena.nodes s) ≡ slice_get (list_of (linked_in arena owners lens) s) (length (list_of (linked_in arena owners lens) s) - 1)
-  some_last s within is = sym (last_some (after_in arena.nodes) (before_in arena.nodes) s s (list_of (linked_in arena owners lens) s) (kept.rings.ring s within) is)
+  pub some_last : (s : ℕ) → s < length lists → before_in arena.nodes s ≢ s → Some (before_in arena.nodes s) ≡ slice_get (list_of all s) (length (list_of all s) - 1)
+  some_last s within is = sym (last_some (after_in arena.nodes) (before_in arena.nodes) s s (list_of all s) (kept.rings.ring s within) is)
 
-  pub there : (p : ℕ) → owner_of (linked_in arena owners lens) p < length (lists_in arena.nodes lens) → 0 < times p (list_of (linked_in arena owners lens) (owner_of (linked_in arena owners lens) p))
-  there p some = omega (arith, kept.rings.once (owner_of (linked_in arena owners lens) p) p some, tally_same (owner_of (linked_in arena owners lens) p) (owner_of (linked_in arena owners lens) p) refl)
+  pub there : (p : ℕ) → owner_of all p < length lists → 0 < times p (list_of all (owner_of all p))
+  there p some = omega (arith, kept.rings.once (owner_of all p) p some, tally_same (owner_of all p) (owner_of all p) refl)
 
-  pub none_after : (p : ℕ) → owner_of (linked_in arena owners lens) p < length (lists_in arena.nodes lens) → after_in arena.nodes p < length (lists_in arena.nodes lens) → None ≡ place_after p (list_of (linked_in arena owners lens) (owner_of (linked_in arena owners lens) p))
+  pub none_after : (p : ℕ) → owner_of all p < length lists → after_in arena.nodes p < length lists → None ≡ place_after p (list_of all (owner_of all p))
   none_after p some head =
-      let s = owner_of (linked_in arena owners lens) p in
+      let s = owner_of all p in
       let is : after_in arena.nodes p ≡ s =
       ⊎_elim
       (λ (same : after_in arena.nodes p ≡ s). same)
-      (λ (of : owner_of (linked_in arena owners lens) (after_in arena.nodes p) ≡ s). absurd (omega (arith, of, some, kept.rings.heads (after_in arena.nodes p) head)))
+      (λ (of : owner_of all (after_in arena.nodes p) ≡ s). absurd (omega (arith, of, some, kept.rings.heads (after_in arena.nodes p) head)))
       (after_of_list s p some (inr refl))
       in
-      sym (next_none (after_in arena.nodes) (before_in arena.nodes) s s p (list_of (linked_in arena owners lens) s) (kept.rings.ring s some) (there p some) (own_out (linked_in arena owners lens) owned s some) is)
+      sym (next_none (after_in arena.nodes) (before_in arena.nodes) s s p (list_of all s) (kept.rings.ring s some) (there p some) (own_out all owned s some) is)
 
-  pub some_after : (p : ℕ) → owner_of (linked_in arena owners lens) p < length (lists_in arena.nodes lens) → length (lists_in arena.nodes lens) ≤ after_in arena.nodes p → Some (after_in arena.nodes p) ≡ place_after p (list_of (linked_in arena owners lens) (owner_of (linked_in arena owners lens) p))
+  pub some_after : (p : ℕ) → owner_of all p < length lists → length lists ≤ after_in arena.nodes p → Some (after_in arena.nodes p) ≡ place_after p (list_of all (owner_of all p))
   some_after p some far =
-      let s = owner_of (linked_in arena owners lens) p in
+      let s = owner_of all p in
       let apart : after_in arena.nodes p ≢ s = λ e. absurd (omega (arith, some, far, e)) in
-      sym (next_some (after_in arena.nodes) (before_in arena.nodes) s s p (list_of (linked_in arena owners lens) s) (kept.rings.ring s some) (there p some) apart)
+      sym (next_some (after_in arena.nodes) (before_in arena.nodes) s s p (list_of all s) (kept.rings.ring s some) (there p some) apart)
 
 -- a node tells whether the number of its place is below another
 pub is_below_read : (nodes : List Node) (number at : ℕ) → at < length nodes → is_below (map (λ (node : Node). node.number) nodes) number at ≡ ltb ((node_at nodes at).number) number

@@ -39,7 +39,10 @@ shown after before lists lens rings long lengths =
     ∙ walk_run after before s s (get_or lists s []) (rings s (omega (arith, within, long))))
 
 -- the same lengths, as one list has changed
-pub lengths_set : (lists : List (List ℕ)) (lens : List ℕ) (s n : ℕ) (xs : List ℕ) → s < length lists → length lists ≡ length lens → length xs ≡ n → ((t : ℕ) → t < length lens → length (get_or lists t []) ≡ get_or lens t 0) → (t : ℕ) → t < length (set lens s n) → length (get_or (set lists s xs) t []) ≡ get_or (set lens s n) t 0
+pub lengths_set :
+    (lists : List (List ℕ)) (lens : List ℕ) (s n : ℕ) (xs : List ℕ)
+    → s < length lists → length lists ≡ length lens → length xs ≡ n → ((t : ℕ) → t < length lens → length (get_or lists t []) ≡ get_or lens t 0)
+    → (t : ℕ) → t < length (set lens s n) → length (get_or (set lists s xs) t []) ≡ get_or (set lens s n) t 0
 lengths_set lists lens s n xs within long is lengths t lt =
     let in_t : t < length lens = rw length-set at lt in
     let in_s : s < length lens = omega (arith, within, long) in
