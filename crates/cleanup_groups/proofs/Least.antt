@@ -32,21 +32,6 @@ found p a (suc n) f is = first (λ there. found p (a + 1) n f there) (p a) refl 
           alone = from_first (λ k. p k ≡ false) a f e rest.alone;
         }
 
-pub found_at : (p : ℕ → Bool) (a n f : ℕ) → IsLeast p a n f → find p (range_with_len a n) ≡ Some f
-found_at p a zero f is = absurd (omega (arith, is.from, is.within))
-found_at p a (suc n) f is =
-    ⊎_elim
-    (λ (same : f ≡ a). rw (← same, is.passes) refl)
-    (λ (other : f ≢ a).
-    let out = is.alone a (omega arith) (omega (arith, is.from)) in
-    rw out (found_at p (a + 1) n f (record {
-      from = omega (arith, is.from);
-      within = omega (arith, is.within);
-      passes = is.passes;
-      alone = λ k le lt. is.alone k (omega arith) lt;
-    })))
-    (cases_eq f a)
-
 -- tests that agree on a range find the same
 pub found_same : (p q : ℕ → Bool) (a n : ℕ) → ((k : ℕ) → a ≤ k → k < a + n → p k ≡ q k) → find p (range_with_len a n) ≡ find q (range_with_len a n)
 found_same p q a zero same = refl
@@ -54,12 +39,6 @@ found_same p q a (suc n) same =
     let here = same a (omega arith) (omega arith) in
     let behind = found_same p q (a + 1) n (λ k le lt. same k (omega arith) (omega arith)) in
     rw (here, behind) refl
-
-pub none_found : (p : ℕ → Bool) (a n : ℕ) → ((k : ℕ) → a ≤ k → k < a + n → p k ≡ false) → find p (range_with_len a n) ≡ None
-none_found p a zero none = refl
-none_found p a (suc n) none =
-    let here = none a (omega arith) (omega arith) in
-    rw here (none_found p (a + 1) n (λ k le lt. none k (omega arith) (omega arith)))
 
 -- where none is found, none passes
 pub none_passes : (p : ℕ → Bool) (a n : ℕ) → find p (range_with_len a n) ≡ None → (k : ℕ) → a ≤ k → k < a + n → p k ≡ false

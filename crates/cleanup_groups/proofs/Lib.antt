@@ -1,5 +1,8 @@
-pub mod Firsts
 pub mod Least
-pub mod Next
+pub mod Leaving
+pub mod Opened
+pub mod Placed
+pub mod Ranges
 pub mod Shown
-pub mod Told
+pub mod Threads
+pub mod Walking

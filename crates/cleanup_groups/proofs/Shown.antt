@@ -1,8 +1,6 @@
 -- One waiter's notices among those of all waiters.
-use Rattle.std.proofs.Common.{◌≡◌, ℕ, ◌+◌, ◌<◌, ◌≤◌, ◌∙◌, Bool, Option, drop, List, [], ◌∷◌, length, map, get_or, set, replicate, zero, suc, ap, sym, refl, arith}
-use Rattle.std.specs.List.{All}
-use Rattle.std.proofs.lemmas.List.{get_or-map, get_or-replicate, length-replicate, map-set}
-use Rattle.std.proofs.lemmas.List.Elements.{All-set}
+use Rattle.std.proofs.Common.{◌≡◌, ℕ, ◌<◌, ◌∙◌, Bool, Option, drop, List, [], ◌∷◌, length, map, get_or, set, replicate, zero, suc, ap, sym, refl}
+use Rattle.std.proofs.lemmas.List.{get_or-map, map-set}
 use Rattle.tp_base.specs.declared.ids.ObjectId.{ObjectId}
 use Rattle.cleanup_groups.specs.declared.Group.{Group}
 use Rattle.cleanup_groups.specs.declared.Member.{Member}
@@ -26,13 +24,6 @@ module _ (notices : List Told) (waiter : ℕ) (told : Told) (within : waiter < l
 
   pub seen_with : (new : Told) (objects : List ObjectId) → new.objects ≡ objects → objects_of (set notices waiter new) ≡ set (objects_of notices) waiter objects
   seen_with new objects is = map-set (λ (t : Told). t.objects) notices waiter new ∙ ap (set (objects_of notices) waiter) is
-
-  -- there is room for all notices
-  pub room_here : (n : ℕ) → All (λ (t : Told). n ≤ t.room + 1) notices → n ≤ told.room + 1
-  room_here n rooms = rw here (rooms waiter told within)
-
-  pub rooms_with : (n : ℕ) (new : Told) → All (λ (t : Told). n ≤ t.room + 1) notices → new.room ≡ told.room → All (λ (t : Told). n ≤ t.room + 1) (set notices waiter new)
-  rooms_with n new rooms same = All-set (λ (t : Told). n ≤ t.room + 1) notices waiter new (rw same (room_here n rooms)) rooms
 
 -- ---- a call that changes one waiter's notices
 
@@ -60,6 +51,3 @@ module _ (limit : ℕ) (groups : List Group) (members : List (Option Member)) (n
 pub none_seen : (n room : ℕ) → objects_of (replicate n (record { room = room; objects = [] })) ≡ replicate n []
 none_seen zero room = refl
 none_seen (suc n) room = ap (λ os. [] ∷ os) (none_seen n room)
-
-pub rooms_at_first : (n room : ℕ) → All (λ (t : Told). room + 1 ≤ t.room + 1) (replicate n (record { room = room; objects = [] }))
-rooms_at_first n room k d within = rw (get_or-replicate n k (record { room = room; objects = [] }) d (omega (arith, within, length-replicate {A = Told} n (record { room = room; objects = [] })))) (omega arith)

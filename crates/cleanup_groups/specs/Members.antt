@@ -37,11 +37,6 @@ told group members = map object_id (filter (λ n. gets_notice group (slice_index
 abbrev pub told_if : Bool → ℕ → List (Option Member) → List ObjectId
 told_if notify group members = if notify then told group members else []
 
--- the lesser of a group's least member, if it has one, and one that joins
-abbrev pub earlier : Option ObjectId → ObjectId → ObjectId
-earlier None object = object
-earlier (Some first) object = if nat_lt first.0 object.0 then first else object
-
 -- what is left of a member as all those of a group leave
 abbrev pub left_by : ℕ → Option Member → Option Member
 left_by group member = if is_in group member then None else member

@@ -21,11 +21,13 @@
 //! groups.check(GroupId(1))                                // Err(GroupClosed)
 //! ```
 //!
-//! `open` takes the memory, and no other call takes any: a few bytes for each group and each object
-//! number, and for each waiter a place for every object. What a call costs: the least member of each
-//! group is kept, so that `first_member` and `close_group` are one look; `member_after`, and a `leave`
-//! of the least member, go over the object numbers up to the next member of the group; `notices` and
-//! `begin_close` go over all of them. Every other call looks at one group, one object or one waiter.
+//! `open` takes the memory, and no other call takes any: a few bytes for each group, some thirty for
+//! each object number, and for each waiter a place for every object. What a call costs: the members of
+//! a group are linked with one another by rising number (`linked_lists`), so that each call looks at
+//! one group alone. `first_member`, `member_after`, `leave` and `close_group` look at one or two of its
+//! members; `add` goes from the end of the group past those with greater numbers, mostly none;
+//! `notices` and `begin_close` go along all of them. Every other call looks at one group, one object or
+//! one waiter.
 
 #![tactic(auto)]
 
@@ -33,10 +35,11 @@ ghost use Rattle.std.specs.Prelude.{◌≡◌, ◌+◌, ◌-◌, ◌<◌, ◌≤
 ghost use Rattle.cleanup_groups.specs.Groups.{after_close, checked, closing, group_of, is_made, member_of, new_group, next_member, notices_of, with_group, with_member, with_notices};
 ghost use Rattle.cleanup_groups.specs.Members.{first_in, object_id, told, told_if};
 
-use members::{count_told, first_above, join, leave, leave_all, tell};
+use members::Members;
 use notices::{Notices, open_notices};
 use std::alloc::{AllocError, Global};
-use std::marker::Model;
+use std::marker::{Brand, Model};
+use std::sync::ledger::Blank;
 use tp_base::answers::Refusal;
 use tp_base::ids::{GroupId, ObjectId};
 
@@ -64,10 +67,7 @@ pub struct Member {
 pub struct Groups {
     limit: u32,
     groups: Vec<Group>,
-    // At the place of an object's number. There is no object 0.
-    members: Vec<Option<Member>>,
-    // At the place of a group's number, its least member. There is no group 0.
-    firsts: Vec<Option<ObjectId>>,
+    members: Members,
     notices: Vec<Notices>,
 }
 
@@ -81,18 +81,19 @@ impl Model for Groups {
     ghost view = { λ a. record {
       limit = a.limit;
       groups = a.groups.items;
-      members = a.members.items;
+      members = a.members.members;
       notices = map (λ told. told.objects) a.notices.items;
     } };
 
-    ghost invariant = { λ a. AreKept a.limit (vec_capacity a.groups) a.groups.items a.members.items a.firsts.items a.notices.items };
+    ghost invariant = { λ a. AreKept a.limit (vec_capacity a.groups) a.groups.items a.members a.notices.items };
 }
 
 impl Groups {
     /// No groups, with the memory for `groups` of them, for members of the object numbers from 1 to
     /// `objects`, and for the notices of `waiters` waiters, whose numbers begin with 0.
     ///
-    /// An `AllocError` comes where that memory can't be had.
+    /// An `AllocError` comes where that memory can't be had, and where `groups` and `objects` together
+    /// come to 2^32 - 1 or more.
     pub fn open(
         alloc: Global,
         groups: u32,
@@ -107,14 +108,12 @@ impl Groups {
         }) }
     {
         let rows = Vec::with_capacity(alloc, groups as usize)?;
-        let members = vec![in alloc; None; objects as usize + 1]?;
-        let firsts = vec![in alloc; None; groups as usize + 1]?;
+        let members = Members::open(alloc, groups, objects)?;
         let notices = open_notices(alloc, waiters, objects)?;
         Ok(Groups {
             limit: groups,
             groups: rows,
             members,
-            firsts,
             notices,
         })
     }
@@ -165,7 +164,7 @@ impl Groups {
         ensures { self.new ≡ with_member self.old object.0 (Some (record { group = group; notified = notified })) }
     {
         let member = Member { group, notified };
-        join(&mut self.members, &mut self.firsts, object, member);
+        self.members.add::<Brand>(object, member, Blank::new(1));
     }
 
     /// Lets an object leave its group, as `CloseThreadpoolWork` and its like do, and says whether it
@@ -174,39 +173,36 @@ impl Groups {
         ensures was { result ≡ is_some (member_of self.old object.0) }
         ensures after { self.new ≡ with_member self.old object.0 None }
     {
-        match self.member(object) {
-            None => false,
-            Some(member) => {
-                leave(&mut self.members, &mut self.firsts, object, member.group);
-                true
-            }
+        if self.members.of(object).is_none() {
+            return false;
         }
+        self.members.leave::<Brand>(object, Blank::new(1));
+        true
     }
 
     /// The least member of a group, or None where it has none or was never made.
     pub fn first_member(&self, group: GroupId) -> Option<ObjectId>
         ensures { result ≡ option_map object_id (first_in group.0 self.now.members) }
     {
-        self.firsts.get(group.0 as usize).copied().flatten()
+        self.members.first::<Brand>(group, Blank::new(1))
     }
 
     /// The least member above this one of its own group, or None where there is none. The object is a
-    /// member. Goes over the numbers up to the answer.
+    /// member.
     pub fn member_after(&self, object: ObjectId) -> Option<ObjectId>
         requires { IsSome (member_of self.now object.0) }
         ensures { result ≡ next_member self.now object.0 }
     {
-        let member = self.member(object)?;
-        first_above(&self.members, member.group, object)
+        self.members.after::<Brand>(object, Blank::new(1))
     }
 
     /// How many members of a group that was made were added with `notified`: so many notices
-    /// `begin_close` would give. Goes over all object numbers.
+    /// `begin_close` would give. Goes along the members of the group.
     pub fn notices(&self, group: GroupId) -> u32
         requires { is_made self.now group.0 ≡ true }
         ensures { result ≡ length (told group.0 self.now.members) }
     {
-        count_told(&self.members, group)
+        self.members.count_told::<Brand>(group, Blank::new(1))
     }
 
     /// Counts one simple callback more of a group that was made, of which fewer than 65,535 are
@@ -243,7 +239,7 @@ impl Groups {
     /// Lets all members of a group that was made leave it: `CloseThreadpoolCleanupGroupMembers`. With
     /// `notify`, those that were added with `notified` become the notices of this waiter, which has
     /// none left. Answers how many notices there are. The group stays, open or closed as it was. Goes
-    /// over all object numbers.
+    /// along its members.
     pub fn begin_close(&mut self, waiter: u32, group: GroupId, notify: bool) -> u32
         requires there { waiter < length self.old.notices }
         requires made { is_made self.old group.0 ≡ true }
@@ -252,9 +248,10 @@ impl Groups {
         ensures after { self.new ≡ after_close self.old waiter group.0 (told_if notify group.0 self.old.members) }
     {
         let notices = &mut self.notices[waiter as usize];
-        tell(&self.members, group, notify, notices);
+        self.members
+            .tell::<Brand>(group, notify, notices, Blank::new(1));
         let count = notices.len();
-        leave_all(&mut self.members, &mut self.firsts, group);
+        self.members.leave_all::<Brand>(group, Blank::new(1));
         count
     }
 
@@ -318,12 +315,5 @@ impl Groups {
         ensures { self.new ≡ with_group group.0 (λ _. row) self.old }
     {
         self.groups[group.0 as usize - 1] = row;
-    }
-
-    // What is kept of an object, if it is a member of a group.
-    fn member(&self, object: ObjectId) -> Option<Member>
-        ensures { result ≡ member_of self.now object.0 }
-    {
-        self.members.get(object.0 as usize).copied().flatten()
     }
 }

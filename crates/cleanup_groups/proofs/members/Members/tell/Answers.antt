@@ -1,0 +1,37 @@
+use Rattle.std.proofs.Common.{◌<◌, ap, option_map, refl, subst, sym, ◌∙◌}
+use Rattle.cleanup_groups.specs.Members.{gets_notice, next_in, object_id}
+use Rattle.cleanup_groups.proofs.Walking.{after_is, all_noted, along_is, left_of, none_noted, not_noted, one_noted, room_to_note, shorter, some_own}
+use Rattle.cleanup_groups.proofs.members.Members.tell.Goals as goal
+use Rattle.cleanup_groups.proofs.members.Members.tell.Goals.{then-gets_notice, else-gets_notice}
+
+pub loop-next-init : goal.loop-next-init
+loop-next-init g c = rw c.first_of-next.ensures.first (none_noted c.args.group.0 c.args.self.now.members c.args.notices.now c.requires.none)
+
+pub push-requires : goal.push-requires
+push-requires g c = room_to_note _ _ _ _ _ (rw c.in-Some.is at c.loop-next.invariant) c.requires.room
+
+pub after_of-next-requires : goal.after_of-next-requires
+after_of-next-requires g c =
+    let is = rw c.in-Some.is at c.loop-next.invariant in
+    some_own c.args.group.0 _ (along_is _ _ _ is.along).own
+
+pub loop-next-smaller : goal.loop-next-smaller
+loop-next-smaller g c =
+    let is = rw c.in-Some.is at c.loop-next.invariant in
+    let left = left_of c.args.group.0 c.args.self.now.members in
+    let next = c.after_of-next.ensures ∙ after_is c.args.group.0 c.args.self.now.members c.in-Some.object.0 _ (along_is _ _ _ is.along).own in
+    subst (λ n. left n < left c.loop-next.next) (sym next)
+    (subst (λ n. left (option_map object_id (next_in c.args.group.0 c.in-Some.object.0 c.args.self.now.members)) < left n) (sym c.in-Some.is) (shorter c.args.group.0 c.args.self.now.members c.in-Some.object is.along _ refl))
+
+pub loop-next-preserved : goal.loop-next-preserved
+loop-next-preserved g c =
+    let is = rw c.in-Some.is at c.loop-next.invariant in
+    let next = c.after_of-next.ensures ∙ after_is c.args.group.0 c.args.self.now.members c.in-Some.object.0 _ (along_is _ _ _ is.along).own in
+    let gets = ap (gets_notice c.args.group.0) (sym c.of.ensures) ∙ sym c.gets_notice.ensures in
+    elim c.if-gets_notice.branch [
+      | then-gets_notice w ↦ rw (next, w.notices-is) (one_noted _ _ _ _ _ _ is w.push.ensures (gets ∙ w.if-gets_notice.true))
+      | else-gets_notice w ↦ rw (next, w.notices-is) (not_noted _ _ _ _ _ is (gets ∙ w.if-gets_notice.false))
+    ]
+
+pub returns : goal.returns
+returns g c = rw c.if-not-notify.false (all_noted _ _ _ _ (rw c.in_default.is at c.loop-next.invariant))
