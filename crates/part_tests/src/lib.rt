@@ -34,6 +34,8 @@ mod kernels;
 #[cfg(test)]
 mod lines;
 #[cfg(test)]
+mod linked;
+#[cfg(test)]
 mod lists;
 #[cfg(test)]
 mod numbers;
