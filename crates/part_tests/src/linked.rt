@@ -9,8 +9,8 @@ use std::sync::ledger::{Blank, Ledger};
 use steps::Steps;
 
 // Makes list 0 of the places 2, 3 and 4, takes the middle one out and puts it first. Then the first and
-// the last place, the one behind the first, the number of the first, how
-// many there are, and the list that the first is in.
+// the last place, the one behind the first, the number of the first, how many there are, and the list
+// that the first is in.
 fn moved<L: Ledger>(
     lists: &mut LinkedLists,
     blank: Blank,
