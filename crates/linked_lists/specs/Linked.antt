@@ -20,8 +20,8 @@ owner_of all place = slice_index_or all.owners place (length all.lists)
 -- a place that is in no list, and is not a list's own
 pub record IsFree (all : Linked) (place : ℕ) : Type 0 where
   pub there : place < length all.numbers
-  pub common : length all.lists ≤ place
-  pub free : owner_of all place ≡ length all.lists
+  pub not_own : length all.lists ≤ place
+  pub in_none : owner_of all place ≡ length all.lists
 
 -- a place of this list, or the list's own
 abbrev pub IsOf : Linked → ℕ → ℕ → Type 0
