@@ -80,8 +80,8 @@ impl Model for LiveCallbacks {
 impl LiveCallbacks {
     /// No callbacks, with the memory for `slots` of them, of pools below `pools` and of objects up to `objects`.
     ///
-    /// `groups` is how many groups have a list of their callbacks. An `AllocError` comes where the memory can't
-    /// be had.
+    /// `groups` is how many groups have a list of their callbacks; those of any other, and of group 0, which
+    /// stands for none, are found one after another. An `AllocError` comes where the memory can't be had.
     pub fn open(
         alloc: Global,
         slots: u32,
@@ -146,7 +146,8 @@ impl LiveCallbacks {
     }
 
     /// The pending callback of a pool that is taken next, or None where none is pending: that of the
-    /// highest priority, and among those of one priority that of the least number.
+    /// highest priority, and among those of one priority that of the least number. Of a pool that there can't
+    /// be none is pending.
     #[inline(always)]
     pub fn next(&self, pool: PoolId) -> Option<CallbackRow>
         ensures { result ≡ slice_get (queue_among self.now.rows pool.0) 0 }
@@ -171,7 +172,8 @@ impl LiveCallbacks {
         self.queues.len(pool.0)
     }
 
-    /// The first callback that is outstanding for an object, or None where none is.
+    /// The first callback that is outstanding for an object, or None where none is. Those that have no object
+    /// are outstanding for object 0.
     #[inline(always)]
     pub fn first_outstanding(&self, object: ObjectId) -> Option<CallbackRow>
         ensures { result ≡ slice_get (outstanding_among self.now.rows object) 0 }
@@ -231,7 +233,8 @@ impl LiveCallbacks {
         self.operations.len() != 0
     }
 
-    /// A callback is made, whose number is above all the others'. It comes into the lists of its status.
+    /// A callback is made. Its number is above all the others', its pool is below `pools` and its object up to
+    /// `objects`, and there is a slot left. It comes into the lists of its status.
     #[inline]
     pub fn push(&mut self, row: CallbackRow)
         requires room { length self.old.rows < self.old.slots }
@@ -248,8 +251,11 @@ impl LiveCallbacks {
         list(&mut self.operations, to.operations, &row);
     }
 
-    /// A callback moves on: `after` comes in the place of `before`, which is its row as it stands. It leaves the
-    /// lists of its status before, and comes to the queue of its pool where it is pending now.
+    /// A callback moves on: `after` comes in the place of `before`, which is its row as it stands.
+    ///
+    /// It stays of its number, object, pool, group and priority. It leaves the lists that its status is no longer
+    /// for, and comes to the queue of its pool where it is pending now. Outstanding, expected or operating it is
+    /// afterwards only if it was so before.
     #[inline]
     pub fn change(&mut self, before: &CallbackRow, after: CallbackRow)
         requires found { find (λ c. c.number == before.now.number) self.old.rows ≡ Some before.now }

@@ -1,5 +1,5 @@
 -- What is outstanding for an object, as the lists of objects give it.
-use Rattle.std.proofs.Common.{◌≡◌, ℕ, ◌+◌, ◌<◌, ◌≤◌, Bool, true, false, cond, ◌&&◌, ◌==◌, List, [], ◌∷◌, length, nat_lt, slice_get, Option, Some, None, refl, sym, ap, ◌∙◌, subst, arith, filter, find, option_map, eqb-true}
+use Rattle.std.proofs.Common.{◌≡◌, ℕ, ◌+◌, ◌<◌, ◌≤◌, Bool, true, false, cond, ◌&&◌, ◌==◌, List, [], ◌∷◌, length, nat_lt, slice_get, Option, Some, None, refl, sym, ap, ◌∙◌, subst, arith, filter, find, option_map, eqb-true, lt-ltb}
 use Rattle.tp_base.specs.declared.ids.ObjectId.{ObjectId}
 use Rattle.tp_base.specs.declared.rows.Status.{Status}
 use Rattle.tp_base.specs.declared.rows.Status.TheVariants.{Expected, Issued, Pending, Running, Returned, Cancelled}
@@ -16,7 +16,7 @@ use Rattle.tp_model.proofs.Callbacks.{rising_filter}
 use Rattle.live_world.specs.Invariant.{is_pending_callback, is_running_callback}
 use Rattle.live_world.specs.Waiting.{outstanding_of, is_pending_for, pending_of}
 use Rattle.live_world.proofs.Lists.{all_pass, filter_both}
-use Rattle.live_world.proofs.Walks.{Rises, rest, IsAmong, rises_filter, rest_first, first_among, rest_next, found_among}
+use Rattle.live_world.proofs.Walks.{Rises, rest, IsAmong, rises_filter, rest_first, first_among, found_among, Onward, onward}
 
 abbrev pub number_of : CallbackRow → ℕ
 number_of c = c.number
@@ -92,25 +92,16 @@ first_filtered p (c ∷ cs) = elim (p c) as (λ b. cond b (Some c) (find p cs) �
 abbrev pub after_of : List CallbackRow → CallbackRow → Option CallbackRow
 after_of cs c = find (λ (x : CallbackRow). nat_lt c.number x.number) cs
 
-pub record RowAt (cs : List CallbackRow) (c : CallbackRow) (next : Option CallbackRow) : Type 0 where
-  pub step : (after : Option CallbackRow) → after ≡ after_of cs c → rest number_of cs next ≡ c ∷ rest number_of cs after
-  pub among : (after : Option CallbackRow) → after ≡ after_of cs c → IsAmong number_of cs after
-  pub later : (after : Option CallbackRow) → after ≡ after_of cs c → length (rest number_of cs after) < length (rest number_of cs next)
-  pub found : find (has_number c.number) cs ≡ Some c
+pub row_at : (next_number : ℕ) (cs : List CallbackRow) (c : CallbackRow) (next : Option CallbackRow) → IsRising 1 next_number cs → next ≡ Some c → IsAmong number_of cs next → Onward number_of cs c next
+row_at next_number cs c next rising is among = onward number_of 1 cs c next (rows_rise 1 next_number cs rising) is among
 
-pub row_at : (next_number : ℕ) (cs : List CallbackRow) (c : CallbackRow) (next : Option CallbackRow) → IsRising 1 next_number cs → next ≡ Some c → IsAmong number_of cs next → RowAt cs c next
-row_at next_number cs c next rising is among =
-    record {
-      step = step;
-      among = λ after found. subst (IsAmong number_of cs) (sym found) (found_among number_of 1 (λ (x : CallbackRow). nat_lt c.number x.number) cs (rows_rise 1 next_number cs rising));
-      later = λ after found. omega (arith, ap length (step after found));
-      found = subst (IsAmong number_of cs) is among;
-    }
+-- the first of all
+pub first_row_is : (next_number : ℕ) (cs : List CallbackRow) (next : Option CallbackRow) → IsRising 1 next_number cs → next ≡ find (λ (c : CallbackRow). nat_lt 0 c.number) cs → next ≡ slice_get cs 0
+first_row_is next_number cs next rising found = found ∙ first cs (rows_rise 1 next_number cs rising)
   where
-    step : (after : Option CallbackRow) → after ≡ after_of cs c → rest number_of cs next ≡ c ∷ rest number_of cs after
-    step after found =
-        ap (rest number_of cs) is ∙ rest_next number_of 1 cs c (rows_rise 1 next_number cs rising) (subst (IsAmong number_of cs) is among)
-        ∙ ap (λ o. c ∷ rest number_of cs o) (sym found)
+    first : (ds : List CallbackRow) → Rises number_of 1 ds → find (λ (c : CallbackRow). nat_lt 0 c.number) ds ≡ slice_get ds 0
+    first [] r = refl
+    first (d ∷ ds) r = ap (λ b. cond b (Some d) (find (λ (c : CallbackRow). nat_lt 0 c.number) ds)) (lt-ltb 0 d.number r.0)
 
 -- ---- along what is outstanding
 

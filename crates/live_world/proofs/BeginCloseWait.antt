@@ -43,7 +43,7 @@ use Rattle.live_world.proofs.Closes.{closing_given, closing_more, covered_given,
 use Rattle.live_world.proofs.Covered.{covered_begun, no_stranger, place_there, waiting_somewhere}
 use Rattle.live_world.proofs.Lists.{all_pass, filter_all, filter_alike, none_passes}
 use Rattle.live_world.proofs.Moving.{Becomes, became_by, moved_by}
-use Rattle.live_world.proofs.Numbers.{itself}
+use Rattle.live_world.proofs.Covering.{itself}
 use Rattle.live_world.proofs.Walks.{Rises, all_least, rises_pairs}
 use Rattle.live_world.proofs.Wanted.{wanted_covering}
 

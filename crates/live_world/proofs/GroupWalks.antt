@@ -1,17 +1,12 @@
 -- Callbacks that are kept, gone along one after another: all of them, or those of one group.
-use Rattle.std.proofs.Common.{◌≡◌, ℕ, ◌+◌, ◌<◌, ◌≤◌, Bool, true, false, cond, not, ◌&&◌, ◌||◌, ◌==◌, List, [], ◌∷◌, ◌++◌, length, map, nat_lt, slice_get, Option, Some, None, unwrap_or, refl, sym, ap, ap₂, ◌∙◌, subst, arith, filter, find, option_map, eqb-true, eq-eqb, lt-ltb, length-append, append_assoc}
-use Rattle.std.specs.List.{All, AllByRecursion}
+use Rattle.std.proofs.Common.{◌≡◌, ℕ, ◌+◌, ◌<◌, ◌≤◌, Bool, true, false, cond, not, ◌&&◌, ◌||◌, ◌==◌, List, [], ◌∷◌, length, slice_get, Option, Some, None, refl, sym, ap, ap₂, ◌∙◌, subst, arith, filter, find, option_map, eqb-true, eq-eqb}
+use Rattle.std.specs.List.{AllByRecursion}
 use Rattle.std.proofs.lemmas.List.{length-map}
-use Rattle.std.proofs.lemmas.List.Sums.{length-filter, count_by-le-length}
-use Rattle.std.proofs.lemmas.List.Elements.{All-from_recursion}
 use Rattle.tp_base.specs.declared.ids.GroupId.{GroupId}
 use Rattle.tp_base.specs.declared.rows.Status.{Status}
 use Rattle.tp_base.specs.declared.rows.Status.TheVariants.{Expected, Issued, Pending, Running, Returned, Cancelled}
 use Rattle.tp_base.specs.declared.rows.CallbackRow.{CallbackRow}
 use Rattle.tp_base.specs.declared.rows.WaitTarget.TheVariants.{Group}
-use Rattle.cancel_wait.specs.Rising.{with_number}
-use Rattle.cancel_wait.proofs.Contained.{with_greatest}
-use Rattle.cancel_wait.specs.Covers.{Covers, covered_of, with_wait}
 use Rattle.tp_model.specs.World.{World}
 use Rattle.tp_model.specs.Counts.{has_number, is_live, is_pending, is_running}
 use Rattle.tp_model.specs.Changes.{replaced, with_callback}
@@ -24,40 +19,25 @@ use Rattle.tp_model.proofs.Forgetting.{over_not_cancelled}
 use Rattle.tp_model.proofs.Refusals.{both, and_false, false_true}
 use Rattle.live_world.specs.Closing.{is_of_group, settled_group}
 use Rattle.live_world.specs.Live.{Live, with_world}
-use Rattle.live_world.proofs.Along.{RowAt, after_of, number_of, and_swap, first_filtered, looked_up, row_at, rows_rise}
+use Rattle.live_world.proofs.Along.{after_of, number_of, and_swap, first_filtered, looked_up, row_at, rows_rise}
 use Rattle.live_world.proofs.Cancelled.{none_where, nothing_left, settles_alike, behind, still_among}
-use Rattle.live_world.proofs.Lists.{all_pass, filter_alike, filter_both, set_twice}
-use Rattle.live_world.proofs.Numbers.{itself, all_before, has_covered}
-use Rattle.live_world.proofs.Walks.{Rises, rest, IsAmong, rest_first, first_among, rest_without, passing_without, rises_map}
+use Rattle.live_world.proofs.Lists.{all_pass, filter_alike, filter_both}
+use Rattle.live_world.proofs.Walks.{rest, IsAmong, rest_first, first_among, rest_without, passing_without, Onward}
 
 -- ---- from the first on
-
-pub first_row_is : (next_number : ℕ) (cs : List CallbackRow) (next : Option CallbackRow) → IsRising 1 next_number cs → next ≡ find (λ (c : CallbackRow). nat_lt 0 c.number) cs → next ≡ slice_get cs 0
-first_row_is next_number cs next rising found = found ∙ first cs (rows_rise 1 next_number cs rising)
-  where
-    first : (ds : List CallbackRow) → Rises number_of 1 ds → find (λ (c : CallbackRow). nat_lt 0 c.number) ds ≡ slice_get ds 0
-    first [] r = refl
-    first (d ∷ ds) r = ap (λ b. cond b (Some d) (find (λ (c : CallbackRow). nat_lt 0 c.number) ds)) (lt-ltb 0 d.number r.0)
 
 pub record AtFirst (cs : List CallbackRow) (next : Option CallbackRow) : Type 0 where
   pub whole : rest number_of cs next ≡ cs
   pub among : IsAmong number_of cs next
 
-pub at_first : (next_number : ℕ) (cs : List CallbackRow) (next : Option CallbackRow) → IsRising 1 next_number cs → next ≡ find (λ (c : CallbackRow). nat_lt 0 c.number) cs → AtFirst cs next
-at_first next_number cs next rising found =
-    let is = first_row_is next_number cs next rising found in
+pub at_first : (next_number : ℕ) (cs : List CallbackRow) (next : Option CallbackRow) → IsRising 1 next_number cs → next ≡ slice_get cs 0 → AtFirst cs next
+at_first next_number cs next rising is =
     record {
       whole = ap (rest number_of cs) is ∙ rest_first number_of 1 cs (rows_rise 1 next_number cs rising);
       among = subst (IsAmong number_of cs) (sym is) (first_among number_of cs);
     }
 
 -- ---- those of one group, gone along
-
--- the first of a group is the first of what is left without the others
-pub first_in_group : (group : GroupId) (next_number : ℕ) (cs : List CallbackRow) (next : Option CallbackRow) → IsRising 1 next_number cs → next ≡ find (is_of_group group) cs → next ≡ find (λ (c : CallbackRow). nat_lt 0 c.number) (filter (is_of_group group) cs)
-first_in_group group next_number cs next rising found =
-    let ds : List CallbackRow = filter (is_of_group group) cs in
-    found ∙ first_filtered (is_of_group group) cs ∙ sym (first_row_is next_number ds (find (λ (c : CallbackRow). nat_lt 0 c.number) ds) (rising_filter (is_of_group group) 1 next_number cs rising) refl)
 
 -- one of them is among all that are kept, and the next of its group is the next of them
 pub record InGroup (group : GroupId) (kept cs : List CallbackRow) (c : CallbackRow) : Type 0 where
@@ -83,7 +63,7 @@ pub record CountingRows (p q : CallbackRow → Bool) (cs : List CallbackRow) (ne
   pub few : all + length (rest number_of cs next) ≤ length cs
   pub among : IsAmong number_of cs next
 
-pub counting_rows : (p q : CallbackRow → Bool) (next_number : ℕ) (cs : List CallbackRow) (next : Option CallbackRow) → IsRising 1 next_number cs → next ≡ find (λ (c : CallbackRow). nat_lt 0 c.number) cs → CountingRows p q cs next 0 0
+pub counting_rows : (p q : CallbackRow → Bool) (next_number : ℕ) (cs : List CallbackRow) (next : Option CallbackRow) → IsRising 1 next_number cs → next ≡ slice_get cs 0 → CountingRows p q cs next 0 0
 counting_rows p q next_number cs next rising found =
     let a = at_first next_number cs next rising found in
     record {
@@ -98,7 +78,7 @@ more_of : (p : CallbackRow → Bool) (c : CallbackRow) (ds : List CallbackRow) �
 more_of p c ds = elim (p c) as (λ b. length (cond b (c ∷ filter p ds) (filter p ds)) ≡ cond b 1 0 + length (filter p ds)) [ true ↦ omega arith | false ↦ omega arith ]
 
 pub record CountsRow (p q : CallbackRow → Bool) (cs : List CallbackRow) (c : CallbackRow) (next : Option CallbackRow) (all some : ℕ) : Type 0 where
-  pub at : RowAt cs c next
+  pub at : Onward number_of cs c next
   pub fewer : all < length cs
   pub goes_on : (after : Option CallbackRow) (more further : ℕ) → after ≡ after_of cs c → more ≡ all + cond (p c) 1 0 → further ≡ some + cond (q c) 1 0 → (q c ≡ true → p c ≡ true) → CountingRows p q cs after more further
 
@@ -127,76 +107,6 @@ counts_row p q next_number cs c next all some rising is k =
     one true = omega arith
     one false = omega arith
 
--- ---- those that pass a test are covered
-
-module _ (q : CallbackRow → Bool) (cs : List CallbackRow) (before : Covers) (waiter : ℕ) where
-  pub record CoveringRows (now : Covers) (next : Option CallbackRow) : Type 0 where
-    pub so_far : List ℕ
-    pub covers : now ≡ with_wait before waiter (Some so_far)
-    pub all : so_far ++ map number_of (filter q (rest number_of cs next)) ≡ map number_of (filter q cs)
-    pub among : IsAmong number_of cs next
-
-  -- the next is covered, if it passes
-  pub record CoversRow (now : Covers) (c : CallbackRow) (next : Option CallbackRow) : Type 0 where
-    pub at : RowAt cs c next
-    pub so_far : List ℕ
-    pub covers : now ≡ with_wait before waiter (Some so_far)
-    pub below : q c ≡ true → All (λ n. n < c.number) so_far
-    pub fewer : q c ≡ true → length so_far < length cs
-    pub covered : q c ≡ true → waiter < length before.waits → (new : Covers) → new ≡ with_wait now waiter (Some (with_number c.number (covered_of now waiter))) → (after : Option CallbackRow) → after ≡ after_of cs c → CoveringRows new after
-    pub passed : q c ≡ false → (after : Option CallbackRow) → after ≡ after_of cs c → CoveringRows now after
-
-  module _ (next_number : ℕ) (rising : IsRising 1 next_number cs) (now : Covers) (next : Option CallbackRow) where
-    pub covering_rows : now ≡ with_wait before waiter (Some []) → next ≡ find (λ (c : CallbackRow). nat_lt 0 c.number) cs → CoveringRows now next
-    covering_rows begun found =
-        let a = at_first next_number cs next rising found in
-        record { so_far = []; covers = begun; all = ap (λ ds. map number_of (filter q ds)) a.whole; among = a.among }
-
-    pub covers_row : (c : CallbackRow) → next ≡ Some c → CoveringRows now next → CoversRow now c next
-    covers_row c is k =
-        record {
-          at = at;
-          so_far = k.so_far;
-          covers = k.covers;
-          below = below;
-          fewer = λ passes. omega (
-            arith,
-            ap length (whole true passes (after_of cs c) refl),
-            length-append k.so_far (c.number ∷ left (after_of cs c)),
-            length-map (filter q cs) number_of,
-            length-filter q cs,
-            count_by-le-length q cs,
-          );
-          covered = λ passes within new becomes after found.
-              let had : covered_of now waiter ≡ k.so_far = ap (λ o. unwrap_or o []) (has_covered before now waiter k.so_far within k.covers) in
-              let behind : with_number c.number (covered_of now waiter) ≡ k.so_far ++ c.number ∷ [] = ap (with_number c.number) had ∙ with_greatest c.number k.so_far (below passes) in
-              record {
-                so_far = k.so_far ++ c.number ∷ [];
-                covers = becomes ∙ ap₂ (λ (b : Covers) (ns : List ℕ). with_wait b waiter (Some ns)) k.covers behind
-                    ∙ ap (λ ws. record before { waits = ws }) (set_twice before.waits waiter (Some k.so_far) (Some (k.so_far ++ c.number ∷ [])));
-                all = append_assoc k.so_far (c.number ∷ []) (left after) ∙ whole true passes after found;
-                among = at.among after found;
-              };
-          passed = λ fails after found. record { so_far = k.so_far; covers = k.covers; all = whole false fails after found; among = at.among after found };
-        }
-      where
-        at : RowAt cs c next
-        at = row_at next_number cs c next rising is k.among
-
-        left : Option CallbackRow → List ℕ
-        left o = map number_of (filter q (rest number_of cs o))
-
-        whole : (b : Bool) → q c ≡ b → (after : Option CallbackRow) → after ≡ after_of cs c → k.so_far ++ map number_of (cond b (c ∷ filter q (rest number_of cs after)) (filter q (rest number_of cs after))) ≡ map number_of (filter q cs)
-        whole b e after found =
-            ap (λ x. k.so_far ++ map number_of (cond x (c ∷ filter q (rest number_of cs after)) (filter q (rest number_of cs after)))) (sym e)
-            ∙ ap (λ ds. k.so_far ++ map number_of (filter q ds)) (sym (at.step after found)) ∙ k.all
-
-        below : q c ≡ true → All (λ n. n < c.number) k.so_far
-        below passes =
-            All-from_recursion (λ n. n < c.number) k.so_far
-            (all_before 1 c.number k.so_far (left (after_of cs c))
-            (subst (Rises itself 1) (sym (whole true passes (after_of cs c) refl)) (rises_map itself number_of 1 (filter q cs) (rows_rise 1 next_number (filter q cs) (rising_filter q 1 next_number cs rising)))))
-
 -- ---- what is pending of a group is cancelled
 
 -- what is not of the group is not cancelled
@@ -212,7 +122,7 @@ pub record CancellingGroup (group : GroupId) (before now : Live) (next : Option 
 pub cancelling_group : (group : GroupId) (next_number : ℕ) (now : Live) (next : Option CallbackRow) → IsRising 1 next_number now.world.callbacks → next ≡ find (is_of_group group) now.world.callbacks → CancellingGroup group now now next
 cancelling_group group next_number now next rising found =
     let cs : List CallbackRow = now.world.callbacks in
-    let a = at_first next_number (filter (is_of_group group) cs) next (rising_filter (is_of_group group) 1 next_number cs rising) (first_in_group group next_number cs next rising found) in
+    let a = at_first next_number (filter (is_of_group group) cs) next (rising_filter (is_of_group group) 1 next_number cs rising) (found ∙ first_filtered (is_of_group group) cs) in
     record {
       leads = refl;
       left = ap (filter (is_cancelled_by (Group group) true)) a.whole ∙ filter_filter (is_cancelled_by (Group group) true) (is_of_group group) (over_not_of_group group) cs;
@@ -228,7 +138,7 @@ group_cancelled group before now next ends living k =
 
 pub record CancelsRow (group : GroupId) (before now : Live) (c : CallbackRow) (next : Option CallbackRow) : Type 0 where
   pub there : find (has_number c.number) now.world.callbacks ≡ Some c
-  pub at : RowAt (filter (is_of_group group) now.world.callbacks) c next
+  pub at : Onward number_of (filter (is_of_group group) now.world.callbacks) c next
   pub passed : is_pending c.status ≡ false → (after : Option CallbackRow) → after ≡ after_of (filter (is_of_group group) now.world.callbacks) c → CancellingGroup group before now after
   pub cancels : is_pending c.status ≡ true → (after : Option CallbackRow) → after ≡ after_of (filter (is_of_group group) now.world.callbacks) c → (new : Live) → new ≡ with_world now (with_callback now.world (cancelled c)) → CancellingGroup group before new after
   -- as much is left without it
@@ -286,7 +196,7 @@ module _ (group : GroupId) (next_number : ℕ) (now : Live) (c : CallbackRow) (r
         same = same_rest;
       }
     where
-      at : RowAt ys c next
+      at : Onward number_of ys c next
       at = row_at next_number ys c next (rising_filter (is_of_group group) 1 next_number cs rising) is k.among
 
       there : find (has_number c.number) cs ≡ Some c

@@ -12,7 +12,7 @@ use Rattle.tp_model.proofs.Lists.{find_agree}
 use Rattle.tp_model.proofs.Refusals.{and_false, false_true}
 use Rattle.tp_model.proofs.Releasing.{that_made}
 use Rattle.live_world.specs.Closing.{lesser, operates}
-use Rattle.live_world.proofs.Along.{after_of, number_of, row_at}
+use Rattle.live_world.proofs.Along.{after_of, number_of, row_at, first_row_is}
 use Rattle.live_world.proofs.GroupWalks.{at_first}
 use Rattle.live_world.proofs.Walks.{rest, IsAmong}
 
@@ -137,7 +137,7 @@ pub record LeastSoFar (w : World) (group : ℕ) (next : Option CallbackRow) (lea
 
 pub least_first : (w : World) (group next_number : ℕ) (next : Option CallbackRow) → IsRising 1 next_number w.callbacks → next ≡ find (λ (c : CallbackRow). nat_lt 0 c.number) w.callbacks → LeastSoFar w group next None
 least_first w group next_number next rising found =
-    let at = at_first next_number w.callbacks next rising found in
+    let at = at_first next_number w.callbacks next rising (first_row_is next_number w.callbacks next rising found) in
     record { left = ap (least_after w group None) at.whole ∙ least_is w group; among = at.among }
 
 pub record LeastNext (w : World) (group : ℕ) (c : CallbackRow) (next : Option CallbackRow) (least : Option ℕ) : Type 0 where

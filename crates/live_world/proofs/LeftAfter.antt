@@ -10,8 +10,8 @@ use Rattle.tp_model.specs.Support.Sound.{IsRising}
 use Rattle.tp_model.specs.World.{World}
 use Rattle.tp_model.specs.declared.Left.{Left}
 use Rattle.tp_model.proofs.Lists.{filter_filter, find_passes}
-use Rattle.live_world.proofs.Along.{number_of, rows_rise, first_filtered}
-use Rattle.live_world.proofs.Walks.{IsAmong, found_among, rest, rest_first, rest_next, rises_filter}
+use Rattle.live_world.proofs.Along.{number_of, rows_rise, first_filtered, row_at}
+use Rattle.live_world.proofs.Walks.{IsAmong, found_among, rest, rest_first, rises_filter, Onward}
 
 abbrev pub is_left_callback : CallbackRow → Bool
 is_left_callback c = is_left c.status
@@ -72,16 +72,14 @@ seeks n next_number w c next rising is k =
     record {
       found = λ left told. of_status left (is_left c.status) refl told;
       others = λ told after found. record {
-        first = passed (is_left c.status) refl told (find is_left_callback (rest number_of w.callbacks after)) ∙ sym (ap (find is_left_callback) (step after found)) ∙ k.first;
-        among = among_next c.number next_number w.callbacks after rising found;
+        first = passed (is_left c.status) refl told (find is_left_callback (rest number_of w.callbacks after)) ∙ sym (ap (find is_left_callback) (at.step after found)) ∙ k.first;
+        among = at.among after found;
       };
-      later = λ after found. omega (arith, ap length (step after found));
+      later = at.later;
     }
   where
-    step : (after : Option CallbackRow) → after ≡ find (λ (x : CallbackRow). nat_lt c.number x.number) w.callbacks → rest number_of w.callbacks next ≡ c ∷ rest number_of w.callbacks after
-    step after found =
-        ap (rest number_of w.callbacks) is ∙ rest_next number_of 1 w.callbacks c (rows_rise 1 next_number w.callbacks rising) (subst (IsAmong number_of w.callbacks) is k.among)
-        ∙ ap (λ o. c ∷ rest number_of w.callbacks o) (sym found)
+    at : Onward number_of w.callbacks c next
+    at = row_at next_number w.callbacks c next rising is k.among
 
     passed : (b : Bool) → is_left c.status ≡ b → None ≡ cond b (Some c.status) None → (o : Option CallbackRow) → o ≡ cond (is_left c.status) (Some c) o
     passed true e told o = absurd cc
@@ -93,7 +91,7 @@ seeks n next_number w c next rising is k =
         let same : status_of left ≡ c.status = cc in
         let next_one : Option CallbackRow = find (λ (x : CallbackRow). nat_lt c.number x.number) w.callbacks in
         let here : find is_left_callback (filter (λ (x : CallbackRow). nat_lt n x.number) w.callbacks) ≡ Some c
-        = sym k.first ∙ ap (find is_left_callback) (step next_one refl) ∙ ap (λ t. cond t (Some c) (find is_left_callback (rest number_of w.callbacks next_one))) e in
+        = sym k.first ∙ ap (find is_left_callback) (at.step next_one refl) ∙ ap (λ t. cond t (Some c) (find is_left_callback (rest number_of w.callbacks next_one))) e in
         ap (λ (s : Status). Some (c.number, c.object, s)) same ∙ ap (option_map left_row) (sym here) ∙ sym (found_in n w.callbacks)
 
 -- none is left

@@ -20,6 +20,7 @@ pub mod Opening
 pub mod Making
 pub mod Ending
 pub mod Walks
+pub mod Covering
 pub mod Numbers
 pub mod Along
 pub mod Looking

@@ -20,8 +20,9 @@ use Rattle.live_world.specs.Waiting.{numbers_of}
 use Rattle.live_world.proofs.Along.{find_filter, first_found}
 use Rattle.live_world.proofs.Lists.{all_pass}
 use Rattle.live_world.proofs.Members.{group_within, members_are}
-use Rattle.live_world.proofs.Numbers.{itself, first_is, next_is}
-use Rattle.live_world.proofs.Walks.{Rises, rest, IsAmong, rises_filter, rest_first, first_among, rest_next, found_among}
+use Rattle.live_world.proofs.Covering.{itself}
+use Rattle.live_world.proofs.Numbers.{first_is, next_is}
+use Rattle.live_world.proofs.Walks.{Rises, rest, IsAmong, rises_filter, rest_first, first_among, Onward, onward}
 
 -- ---- they rise, and were made
 
@@ -68,23 +69,8 @@ within_here i l group is k made = group_within i group k (ap (λ (x : Live). is_
 
 -- ---- where one of them is next
 
-pub record AtMember (w : World) (group number : ℕ) (next : Option ℕ) : Type 0 where
-  pub there : find (λ n. n == number) (members w group) ≡ Some number
-  pub step : (after : Option ℕ) → after ≡ find (λ n. nat_lt number n) (members w group) → rest itself (members w group) next ≡ number ∷ rest itself (members w group) after
-  pub later : (after : Option ℕ) → after ≡ find (λ n. nat_lt number n) (members w group) → length (rest itself (members w group) after) < length (rest itself (members w group) next)
-  pub among : (after : Option ℕ) → after ≡ find (λ n. nat_lt number n) (members w group) → IsAmong itself (members w group) after
-
-pub at_member : (w : World) (group number : ℕ) (next : Option ℕ) → next ≡ Some number → IsAmong itself (members w group) next → AtMember w group number next
-at_member w group number next is among = record { there = there; step = step; later = λ after found. omega (arith, ap length (step after found)); among = λ after found. subst (IsAmong itself ms) (sym found) (found_among itself 1 (λ n. nat_lt number n) ms (members_rise w group)) }
-  where
-    ms : List ℕ
-    ms = members w group
-
-    there : find (λ n. n == number) ms ≡ Some number
-    there = subst (IsAmong itself ms) is among
-
-    step : (after : Option ℕ) → after ≡ find (λ n. nat_lt number n) ms → rest itself ms next ≡ number ∷ rest itself ms after
-    step after found = ap (rest itself ms) is ∙ rest_next itself 1 ms number (members_rise w group) there ∙ ap (λ o. number ∷ rest itself ms o) (sym found)
+pub at_member : (w : World) (group number : ℕ) (next : Option ℕ) → next ≡ Some number → IsAmong itself (members w group) next → Onward itself (members w group) number next
+at_member w group number next is among = onward itself 1 (members w group) number next (members_rise w group) is among
 
 first_is_least : (w : World) (group : ℕ) (next : Option ℕ) → next ≡ first_member w group → next ≡ slice_get (members w group) 0
 first_is_least w group next is = is ∙ sym (least_member w group) ∙ first_found (members w group)

@@ -131,7 +131,7 @@ member_released group before now new n first living is k =
         ∙ sym (filter_both (λ m. not (m == n)) (is_member_at w group.0) (numbers_in w.objects))
 
     there : find (λ m. m == n) (members w group.0) ≡ Some n
-    there = (at_member w group.0 n (first_member w group.0) first (first_is_among w group.0 (first_member w group.0) refl)).there
+    there = (at_member w group.0 n (first_member w group.0) first (first_is_among w group.0 (first_member w group.0) refl)).found
 
     without_one : (ms : List ℕ) (m : ℕ) → find (λ x. x == m) ms ≡ Some m → length (filter (λ x. not (x == m)) ms) < length ms
     without_one [] m e = absurd cc

@@ -1,5 +1,5 @@
 -- Rising things, gone along one after another.
-use Rattle.std.proofs.Common.{◌≡◌, ℕ, suc, ◌+◌, ◌<◌, ◌≤◌, Bool, true, false, cond, not, ◌==◌, List, [], ◌∷◌, map, get_or, nat_lt, nat_le, slice_get, Option, Some, None, refl, sym, ap, ap₂, ◌∙◌, subst, arith, filter, find, eqb-true, eq-eqb, ne_eqb, lt-ltb, le-ltb, leb-true}
+use Rattle.std.proofs.Common.{◌≡◌, ℕ, suc, ◌+◌, ◌<◌, ◌≤◌, Bool, true, false, cond, not, ◌==◌, List, [], ◌∷◌, length, map, get_or, nat_lt, nat_le, slice_get, Option, Some, None, refl, sym, ap, ap₂, ◌∙◌, subst, arith, filter, find, eqb-true, eq-eqb, ne_eqb, lt-ltb, le-ltb, leb-true}
 use Rattle.std.specs.List.{AllByRecursion, AllPairs}
 use Rattle.std.proofs.lemmas.List.Elements.{recursion_from_All}
 use Rattle.std.proofs.lemmas.Bool.{le-leb, lt-leb}
@@ -107,6 +107,28 @@ module _ {X : Type 0} (key : X → ℕ) where
       known : (o : Option X) → find p xs ≡ o → IsAmong xs (find p xs)
       known None e = subst (IsAmong xs) (sym e) tt
       known (Some z) e = subst (IsAmong xs) (sym e) (found low xs z r e)
+
+  -- where one of them is next: that one, and then what is left from the one behind it on
+  pub record Onward (xs : List X) (x : X) (next : Option X) : Type 0 where
+    pub found : find (λ y. key y == key x) xs ≡ Some x
+    pub step : (after : Option X) → after ≡ find (λ y. nat_lt (key x) (key y)) xs → rest xs next ≡ x ∷ rest xs after
+    pub later : (after : Option X) → after ≡ find (λ y. nat_lt (key x) (key y)) xs → length (rest xs after) < length (rest xs next)
+    pub among : (after : Option X) → after ≡ find (λ y. nat_lt (key x) (key y)) xs → IsAmong xs after
+
+  pub onward : (low : ℕ) (xs : List X) (x : X) (next : Option X) → Rises low xs → next ≡ Some x → IsAmong xs next → Onward xs x next
+  onward low xs x next rises is among =
+      record {
+        found = there;
+        step = step;
+        later = λ after e. omega (arith, ap length (step after e));
+        among = λ after e. subst (IsAmong xs) (sym e) (found_among low (λ y. nat_lt (key x) (key y)) xs rises);
+      }
+    where
+      there : find (λ y. key y == key x) xs ≡ Some x
+      there = subst (IsAmong xs) is among
+
+      step : (after : Option X) → after ≡ find (λ y. nat_lt (key x) (key y)) xs → rest xs next ≡ x ∷ rest xs after
+      step after e = ap (rest xs) is ∙ rest_next low xs x rises there ∙ ap (λ o. x ∷ rest xs o) (sym e)
 
   -- what is left from something on is the same without a key below it
   pub rest_without : (n : ℕ) (xs : List X) (o : Option X) → ((x : X) → o ≡ Some x → n < key x) → rest (filter (λ y. not (key y == n)) xs) o ≡ rest xs o

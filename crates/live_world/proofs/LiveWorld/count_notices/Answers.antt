@@ -4,13 +4,13 @@ use Rattle.std.proofs.lemmas.List.{length-map}
 use Rattle.tp_model.specs.Groups.{gets_notice, is_object_that, members, notices_of}
 use Rattle.live_world.specs.Live.{Live}
 use Rattle.live_world.specs.Parts.{shown_object}
-use Rattle.live_world.proofs.MemberWalks.{AtMember, CountingNoticed, at_member, counting_noticed, counts_noticed, few_noticed, notices_noticed}
-use Rattle.live_world.proofs.Numbers.{itself}
-use Rattle.live_world.proofs.Walks.{rest}
+use Rattle.live_world.proofs.MemberWalks.{CountingNoticed, at_member, counting_noticed, counts_noticed, few_noticed, notices_noticed}
+use Rattle.live_world.proofs.Covering.{itself}
+use Rattle.live_world.proofs.Walks.{Onward, rest}
 use Rattle.live_world.proofs.LiveWorld.count_notices.Goals as goal
 use Rattle.live_world.proofs.LiveWorld.count_notices.Goals.{In-Some, After-from-count}
 
-at : (c : In-Some) → AtMember c.args.self.now.world c.args.group.0 c.in-Some.number c.loop-next.next
+at : (c : In-Some) → Onward itself (members c.args.self.now.world c.args.group.0) c.in-Some.number c.loop-next.next
 at c = at_member c.args.self.now.world c.args.group.0 c.in-Some.number c.loop-next.next c.in-Some.is c.loop-next.invariant.among
 
 pub loop-next-init : goal.loop-next-init
@@ -37,7 +37,7 @@ overflow_add-count c =
     omega (arith, few, ap (λ (l : Live). length l.world.objects) c.self.view_is, length-map i.objects.rows shown_object, c.self.invariant.sized.objects_within, c.self.invariant.sized.in_range.objects_most)
 
 pub next_member-next-requires : goal.next_member-next-requires
-next_member-next-requires c = record { made = c.requires; there = (at (goal.at.next_member-next-requires c).In-Some).there }
+next_member-next-requires c = record { made = c.requires; there = (at (goal.at.next_member-next-requires c).In-Some).found }
 
 pub loop-next-smaller : goal.loop-next-smaller
 loop-next-smaller c = (at (goal.at.loop-next-smaller c).In-Some).later c.next_member-next.result c.next_member-next.ensures

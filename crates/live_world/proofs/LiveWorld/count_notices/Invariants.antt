@@ -1,7 +1,7 @@
 use Rattle.std.proofs.Common.{length}
 use Rattle.tp_model.specs.Groups.{members}
 use Rattle.live_world.proofs.MemberWalks.{CountingNoticed}
-use Rattle.live_world.proofs.Numbers.{itself}
+use Rattle.live_world.proofs.Covering.{itself}
 use Rattle.live_world.proofs.Walks.{rest}
 use Rattle.live_world.proofs.LiveWorld.count_notices.Given as goal
 

@@ -7,8 +7,8 @@ use Rattle.tp_model.proofs.Lists.{filter_filter}
 use Rattle.live_world.specs.Closing.{is_of_group}
 use Rattle.live_world.specs.Live.{Live}
 use Rattle.live_world.proofs.Walks.{rest}
-use Rattle.live_world.proofs.Along.{number_of}
-use Rattle.live_world.proofs.GroupWalks.{CountsRow, InGroup, counting_rows, counts_row, cancelled_of_group, first_in_group, in_group, over_not_of_group}
+use Rattle.live_world.proofs.Along.{number_of, first_filtered}
+use Rattle.live_world.proofs.GroupWalks.{CountsRow, InGroup, counting_rows, counts_row, cancelled_of_group, in_group, over_not_of_group}
 use Rattle.live_world.proofs.LiveWorld.count_of_group.Goals as goal
 use Rattle.live_world.proofs.LiveWorld.count_of_group.Goals.{In-Some}
 
@@ -26,8 +26,7 @@ pub loop-next-init : goal.loop-next-init
 loop-next-init c =
     counting_rows (is_of_group c.args.group) (is_cancelled_by (Group c.args.group) true) (c.args.self.now.made + 1) (filter (is_of_group c.args.group) c.args.self.now.world.callbacks) c.first_of_group-next.result
     (rising_filter (is_of_group c.args.group) 1 (c.args.self.now.made + 1) c.args.self.now.world.callbacks c.is_reachable.ensures.sound.numbers)
-    (first_in_group c.args.group (c.args.self.now.made + 1) c.args.self.now.world.callbacks c.first_of_group-next.result c.is_reachable.ensures.sound.numbers
-    (c.first_of_group-next.ensures ∙ ap (λ (l : Live). find (is_of_group c.args.group) l.world.callbacks) c.self.view_is))
+    (c.first_of_group-next.ensures ∙ ap (λ (l : Live). find (is_of_group c.args.group) l.world.callbacks) c.self.view_is ∙ first_filtered (is_of_group c.args.group) c.args.self.now.world.callbacks)
 
 pub with-count-requires-clause-fits : goal.with-count-requires-clause-fits
 with-count-requires-clause-fits c =

@@ -3,16 +3,20 @@ use Rattle.std.specs.List.{list_any}
 use Rattle.tp_base.specs.declared.rows.CallbackRow.{CallbackRow}
 use Rattle.tp_model.specs.World.{World}
 use Rattle.live_world.proofs.Walks.{rest}
-use Rattle.live_world.proofs.Along.{number_of}
+use Rattle.live_world.proofs.Along.{first_row_is, number_of, rows_rise}
 use Rattle.live_world.proofs.Looking.{Looks, all_live, looking_first, looks}
 use Rattle.live_world.proofs.LiveWorld.has_callback.Goals as goal
 use Rattle.live_world.proofs.LiveWorld.has_callback.Goals.{In-Some}
 
-one : (c : In-Some) → Looks (λ x. x.pool.0 == c.args.pool.0) c.args.self.now.world.callbacks c.in-Some.callback c.loop-next.next
-one c = looks (λ x. x.pool.0 == c.args.pool.0) (c.args.self.now.made + 1) c.args.self.now.world.callbacks c.in-Some.callback c.loop-next.next c.is_reachable.ensures.sound.numbers c.in-Some.is c.loop-next.invariant
+one : (c : In-Some) → Looks number_of (λ x. x.pool.0 == c.args.pool.0) c.args.self.now.world.callbacks c.in-Some.callback c.loop-next.next
+one c =
+    looks number_of (λ x. x.pool.0 == c.args.pool.0) c.args.self.now.world.callbacks 1 c.in-Some.callback c.loop-next.next (rows_rise 1 (c.args.self.now.made + 1) c.args.self.now.world.callbacks c.is_reachable.ensures.sound.numbers) c.in-Some.is c.loop-next.invariant
 
 pub loop-next-init : goal.loop-next-init
-loop-next-init c = looking_first (λ x. x.pool.0 == c.args.pool.0) (c.args.self.now.made + 1) c.args.self.now.world.callbacks c.callback_after-next.result c.is_reachable.ensures.sound.numbers c.callback_after-next.ensures
+loop-next-init c =
+    let rows = c.args.self.now.world.callbacks in
+    let rising = c.is_reachable.ensures.sound.numbers in
+    looking_first number_of (λ x. x.pool.0 == c.args.pool.0) rows 1 c.callback_after-next.result (rows_rise 1 (c.args.self.now.made + 1) rows rising) (first_row_is (c.args.self.now.made + 1) rows c.callback_after-next.result rising c.callback_after-next.ensures)
 
 pub returns-then-callback-pool : goal.returns-then-callback-pool
 returns-then-callback-pool c = sym ((one (goal.at.returns-then-callback-pool c).In-Some).passes (eq-eqb c.in-Some.callback.pool.0 c.args.pool.0 c.if-callback-pool.true)) ∙ all_live (λ x. x.pool.0 == c.args.pool.0) c.args.self.now.world.callbacks (ap (λ (w : World). w.callbacks) c.is_reachable.ensures.living)

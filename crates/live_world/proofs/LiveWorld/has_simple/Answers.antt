@@ -2,12 +2,11 @@ use Rattle.std.proofs.Common.{◌+◌, ◌==◌, filter, find, sym, ap, ◌∙�
 use Rattle.std.specs.List.{list_any}
 use Rattle.tp_base.specs.declared.rows.CallbackRow.{CallbackRow}
 use Rattle.tp_model.specs.World.{World}
-use Rattle.tp_model.proofs.Callbacks.{rising_filter}
 use Rattle.live_world.specs.Closing.{is_of_group}
 use Rattle.live_world.specs.Live.{Live}
-use Rattle.live_world.proofs.Walks.{rest}
-use Rattle.live_world.proofs.Along.{number_of}
-use Rattle.live_world.proofs.GroupWalks.{InGroup, first_in_group, in_group}
+use Rattle.live_world.proofs.Walks.{Rises, rest, rises_filter}
+use Rattle.live_world.proofs.Along.{first_filtered, number_of, rows_rise}
+use Rattle.live_world.proofs.GroupWalks.{InGroup, in_group}
 use Rattle.live_world.proofs.Looking.{Looks, looking_first, looks, simple_live}
 use Rattle.live_world.proofs.LiveWorld.has_simple.Goals as goal
 use Rattle.live_world.proofs.LiveWorld.has_simple.Goals.{In-Some}
@@ -17,17 +16,18 @@ here c =
     in_group c.args.group (c.args.self.now.made + 1) c.self.inside.callbacks.rows c.args.self.now.world.callbacks c.in-Some.callback c.loop-next.next (ap (λ (l : Live). l.world.callbacks) c.self.view_is)
     c.is_reachable.ensures.sound.numbers c.in-Some.is c.loop-next.invariant.among
 
-one : (c : In-Some) → Looks (λ x. x.object.0 == 0) (filter (is_of_group c.args.group) c.args.self.now.world.callbacks) c.in-Some.callback c.loop-next.next
-one c =
-    looks (λ x. x.object.0 == 0) (c.args.self.now.made + 1) (filter (is_of_group c.args.group) c.args.self.now.world.callbacks) c.in-Some.callback c.loop-next.next
-    (rising_filter (is_of_group c.args.group) 1 (c.args.self.now.made + 1) c.args.self.now.world.callbacks c.is_reachable.ensures.sound.numbers) c.in-Some.is c.loop-next.invariant
+rising : (c : In-Some) → Rises number_of 1 (filter (is_of_group c.args.group) c.args.self.now.world.callbacks)
+rising c = rises_filter number_of (is_of_group c.args.group) 1 c.args.self.now.world.callbacks (rows_rise 1 (c.args.self.now.made + 1) c.args.self.now.world.callbacks c.is_reachable.ensures.sound.numbers)
+
+one : (c : In-Some) → Looks number_of (λ x. x.object.0 == 0) (filter (is_of_group c.args.group) c.args.self.now.world.callbacks) c.in-Some.callback c.loop-next.next
+one c = looks number_of (λ x. x.object.0 == 0) (filter (is_of_group c.args.group) c.args.self.now.world.callbacks) 1 c.in-Some.callback c.loop-next.next (rising c) c.in-Some.is c.loop-next.invariant
 
 pub loop-next-init : goal.loop-next-init
 loop-next-init c =
-    looking_first (λ x. x.object.0 == 0) (c.args.self.now.made + 1) (filter (is_of_group c.args.group) c.args.self.now.world.callbacks) c.first_of_group-next.result
-    (rising_filter (is_of_group c.args.group) 1 (c.args.self.now.made + 1) c.args.self.now.world.callbacks c.is_reachable.ensures.sound.numbers)
-    (first_in_group c.args.group (c.args.self.now.made + 1) c.args.self.now.world.callbacks c.first_of_group-next.result c.is_reachable.ensures.sound.numbers
-    (c.first_of_group-next.ensures ∙ ap (λ (l : Live). find (is_of_group c.args.group) l.world.callbacks) c.self.view_is))
+    let rows = c.args.self.now.world.callbacks in
+    looking_first number_of (λ x. x.object.0 == 0) (filter (is_of_group c.args.group) rows) 1 c.first_of_group-next.result
+    (rises_filter number_of (is_of_group c.args.group) 1 rows (rows_rise 1 (c.args.self.now.made + 1) rows c.is_reachable.ensures.sound.numbers))
+    (c.first_of_group-next.ensures ∙ ap (λ (l : Live). find (is_of_group c.args.group) l.world.callbacks) c.self.view_is ∙ first_filtered (is_of_group c.args.group) rows)
 
 pub returns-then-callback-eq0 : goal.returns-then-callback-eq0
 returns-then-callback-eq0 c =

@@ -4,15 +4,16 @@ use Rattle.std.specs.Option.{option_map_or}
 use Rattle.tp_model.specs.Counts.{callback_of}
 use Rattle.tp_model.specs.Calls.Waits.{is_starved}
 use Rattle.live_world.specs.Waiting.{held_by}
-use Rattle.live_world.proofs.Looking.{LooksAt, looking_at, looks_at, rises_strictly}
+use Rattle.live_world.proofs.Looking.{Looks, looking_first, looks, rises_strictly}
+use Rattle.live_world.proofs.Covering.{itself}
 use Rattle.live_world.proofs.Progress.{covered_is}
 use Rattle.live_world.proofs.Starving.{not_starved}
 use Rattle.live_world.proofs.LiveWorld.holds_any_starved.Goals as goal
 use Rattle.live_world.proofs.LiveWorld.holds_any_starved.Goals.{In-Some}
 
-one : (c : In-Some) → LooksAt (λ n. option_map_or (is_starved c.args.self.now.world c.args.room) (callback_of c.args.self.now.world n) false) (held_by c.args.self.now.world c.args.who) c.in-Some.number c.loop-next.next
+one : (c : In-Some) → Looks itself (λ n. option_map_or (is_starved c.args.self.now.world c.args.room) (callback_of c.args.self.now.world n) false) (held_by c.args.self.now.world c.args.who) c.in-Some.number c.loop-next.next
 one c =
-    looks_at (λ n. option_map_or (is_starved c.args.self.now.world c.args.room) (callback_of c.args.self.now.world n) false) (held_by c.args.self.now.world c.args.who) c.in-Some.number c.loop-next.next
+    looks itself (λ n. option_map_or (is_starved c.args.self.now.world c.args.room) (callback_of c.args.self.now.world n) false) (held_by c.args.self.now.world c.args.who) 0 c.in-Some.number c.loop-next.next
     (rises_strictly (held_by c.args.self.now.world c.args.who) (subst IsStrictlyIncreasing (covered_is c.self.inside c.args.self.now c.args.who c.args.waiter c.self.view_is c.self.invariant c.requires) c.least-next.ensures.rises))
     c.in-Some.is c.loop-next.invariant
 
@@ -22,7 +23,7 @@ returns-then-room-ge4 c = sym (not_starved c.args.self.now.world c.args.room (he
 pub loop-next-init : goal.loop-next-init
 loop-next-init c =
     let held_is = covered_is c.self.inside c.args.self.now c.args.who c.args.waiter c.self.view_is c.self.invariant c.requires in
-    looking_at (λ n. option_map_or (is_starved c.args.self.now.world c.args.room) (callback_of c.args.self.now.world n) false) (held_by c.args.self.now.world c.args.who) c.least-next.result
+    looking_first itself (λ n. option_map_or (is_starved c.args.self.now.world c.args.room) (callback_of c.args.self.now.world n) false) (held_by c.args.self.now.world c.args.who) 0 c.least-next.result
     (rises_strictly (held_by c.args.self.now.world c.args.who) (subst IsStrictlyIncreasing held_is c.least-next.ensures.rises))
     (c.least-next.ensures.value ∙ ap (λ ns. slice_get ns 0) held_is)
 

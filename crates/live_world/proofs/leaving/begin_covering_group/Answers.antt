@@ -1,25 +1,28 @@
-use Rattle.std.proofs.Common.{◌≡◌, ◌∙◌, Bool, true, List, [], ◌∷◌, ◌++◌, Some, length, map, unwrap_or, refl, sym, ap, append-nil, arith, filter}
+use Rattle.std.proofs.Common.{ℕ, ◌≡◌, ◌∙◌, Bool, true, List, [], ◌∷◌, ◌++◌, Some, length, map, unwrap_or, refl, sym, ap, append-nil, arith, filter}
 use Rattle.std.proofs.lemmas.List.Sums.{length-filter, count_by-le-length}
 use Rattle.tp_base.specs.declared.rows.CallbackRow.{CallbackRow}
 use Rattle.cancel_wait.specs.Covers.{covered_of, with_wait}
 use Rattle.cancel_wait.specs.Rising.{contains_number}
 use Rattle.cancel_wait.proofs.Contained.{greatest_absent}
-use Rattle.tp_model.proofs.Callbacks.{rising_filter}
+use Rattle.tp_base.specs.declared.ids.GroupId.{GroupId}
+use Rattle.tp_model.specs.Support.Sound.{IsRising}
 use Rattle.live_world.specs.Closing.{is_of_group}
-use Rattle.live_world.proofs.Along.{number_of}
-use Rattle.live_world.proofs.Walks.{rest}
-use Rattle.live_world.proofs.Numbers.{has_covered}
-use Rattle.live_world.proofs.GroupWalks.{first_in_group, InGroup, in_group, CoversRow, covering_rows, covers_row}
+use Rattle.live_world.proofs.Along.{first_filtered, number_of, rows_rise}
+use Rattle.live_world.proofs.Walks.{Rises, rest, rises_filter}
+use Rattle.live_world.proofs.Covering.{Covered, covering, covers_next, has_covered}
+use Rattle.live_world.proofs.GroupWalks.{InGroup, in_group}
 use Rattle.live_world.proofs.leaving.begin_covering_group.Goals as goal
 use Rattle.live_world.proofs.leaving.begin_covering_group.Goals.{In-Some}
 
 abbrev every : CallbackRow → Bool
 every c = true
 
-one : (c : In-Some) → CoversRow every (filter (is_of_group c.args.group) c.args.callbacks.now.rows) c.args.barriers.now c.args.waiter c.loop-next.barriers c.in-Some.callback c.loop-next.next
+rising : (rows : List CallbackRow) (group : GroupId) → (n : ℕ) × IsRising 1 n rows → Rises number_of 1 (filter (is_of_group group) rows)
+rising rows group r = rises_filter number_of (is_of_group group) 1 rows (rows_rise 1 r.0 rows r.1)
+
+one : (c : In-Some) → Covered number_of every (filter (is_of_group c.args.group) c.args.callbacks.now.rows) c.args.barriers.now c.args.waiter c.loop-next.barriers c.in-Some.callback c.loop-next.next
 one c =
-    covers_row every (filter (is_of_group c.args.group) c.args.callbacks.now.rows) c.args.barriers.now c.args.waiter c.requires.rising.0 (rising_filter (is_of_group c.args.group) 1 c.requires.rising.0 c.args.callbacks.now.rows c.requires.rising.1)
-    c.loop-next.barriers c.loop-next.next c.in-Some.callback c.in-Some.is c.loop-next.invariant
+    covers_next number_of every (filter (is_of_group c.args.group) c.args.callbacks.now.rows) c.args.barriers.now c.args.waiter 1 (rising c.args.callbacks.now.rows c.args.group c.requires.rising) c.loop-next.barriers c.loop-next.next c.in-Some.callback c.in-Some.is c.loop-next.invariant
 
 here : (c : In-Some) → InGroup c.args.group c.args.callbacks.now.rows c.args.callbacks.now.rows c.in-Some.callback
 here c = in_group c.args.group c.requires.rising.0 c.args.callbacks.now.rows c.args.callbacks.now.rows c.in-Some.callback c.loop-next.next refl c.requires.rising.1 c.in-Some.is c.loop-next.invariant.among
@@ -33,8 +36,9 @@ filter_every (x ∷ xs) = ap (λ t. x ∷ t) (filter_every xs)
 
 pub loop-next-init : goal.loop-next-init
 loop-next-init c =
-    covering_rows every (filter (is_of_group c.args.group) c.args.callbacks.now.rows) c.args.barriers.now c.args.waiter c.requires.rising.0 (rising_filter (is_of_group c.args.group) 1 c.requires.rising.0 c.args.callbacks.now.rows c.requires.rising.1)
-    c.begin.new.self c.first_of_group-next.result c.begin.ensures (first_in_group c.args.group c.requires.rising.0 c.args.callbacks.now.rows c.first_of_group-next.result c.requires.rising.1 c.first_of_group-next.ensures)
+    let rows = c.args.callbacks.now.rows in
+    covering number_of every (filter (is_of_group c.args.group) rows) c.args.barriers.now c.args.waiter 1 (rising rows c.args.group c.requires.rising) c.begin.new.self c.first_of_group-next.result c.begin.ensures
+    (c.first_of_group-next.ensures ∙ first_filtered (is_of_group c.args.group) rows)
 
 pub cover-requires-clause-room : goal.cover-requires-clause-room
 cover-requires-clause-room c =

@@ -1,4 +1,4 @@
-use Rattle.std.proofs.Common.{◌≡◌, ◌∙◌, List, [], ◌++◌, Some, true, length, map, unwrap_or, is_some, nat_lt, find, refl, sym, ap, append-nil, arith, filter}
+use Rattle.std.proofs.Common.{◌≡◌, ◌∙◌, List, [], ◌++◌, Some, true, length, map, unwrap_or, is_some, sym, ap, append-nil, arith, filter}
 use Rattle.std.proofs.lemmas.List.Sums.{length-filter, count_by-le-length}
 use Rattle.tp_base.specs.declared.rows.CallbackRow.{CallbackRow}
 use Rattle.tp_base.specs.declared.rows.WaitTarget.TheVariants.{Object}
@@ -6,14 +6,11 @@ use Rattle.cancel_wait.specs.Covers.{covered_of, with_wait}
 use Rattle.cancel_wait.specs.Rising.{contains_number}
 use Rattle.cancel_wait.proofs.Contained.{greatest_absent}
 use Rattle.tp_model.specs.Waits.{is_outstanding_for}
-use Rattle.tp_model.specs.Support.Sound.{IsRising}
-use Rattle.tp_model.proofs.Callbacks.{rising_filter}
 use Rattle.live_callbacks.specs.Callbacks.{outstanding_among}
 use Rattle.live_world.specs.Waiting.{is_wanted}
-use Rattle.live_world.proofs.Along.{InObject, in_object, number_of}
+use Rattle.live_world.proofs.Along.{InObject, in_object, number_of, outstanding_rise}
 use Rattle.live_world.proofs.Beginnings.{covers_outstanding}
-use Rattle.live_world.proofs.GroupWalks.{CoversRow, covering_rows, covers_row, first_row_is}
-use Rattle.live_world.proofs.Numbers.{has_covered}
+use Rattle.live_world.proofs.Covering.{Covered, covering, covers_next, has_covered}
 use Rattle.live_world.proofs.Walks.{rest}
 use Rattle.live_world.proofs.waiting.begin_covering.Goals as goal
 use Rattle.live_world.proofs.waiting.begin_covering.Goals.{In-Some, Then-is_covered}
@@ -21,10 +18,9 @@ use Rattle.live_world.proofs.waiting.begin_covering.Goals.{In-Some, Then-is_cove
 abbrev rows : In-Some → List CallbackRow
 rows c = outstanding_among c.args.callbacks.now.rows c.args.object
 
-one : (c : In-Some) → CoversRow (is_wanted c.args.cancel) (rows c) c.args.barriers.now c.args.waiter c.loop-next.barriers c.in-Some.callback c.loop-next.next
+one : (c : In-Some) → Covered number_of (is_wanted c.args.cancel) (rows c) c.args.barriers.now c.args.waiter c.loop-next.barriers c.in-Some.callback c.loop-next.next
 one c =
-    covers_row (is_wanted c.args.cancel) (rows c) c.args.barriers.now c.args.waiter c.requires.rising.0 (rising_filter (is_outstanding_for (Object c.args.object)) 1 c.requires.rising.0 c.args.callbacks.now.rows c.requires.rising.1)
-    c.loop-next.barriers c.loop-next.next c.in-Some.callback c.in-Some.is c.loop-next.invariant
+    covers_next number_of (is_wanted c.args.cancel) (rows c) c.args.barriers.now c.args.waiter 1 (outstanding_rise c.requires.rising.0 c.args.callbacks.now.rows c.args.object c.requires.rising.1) c.loop-next.barriers c.loop-next.next c.in-Some.callback c.in-Some.is c.loop-next.invariant
 
 here : (c : In-Some) → InObject c.args.object c.args.callbacks.now.rows c.in-Some.callback
 here c = in_object c.args.object c.args.callbacks.now.rows c.in-Some.callback c.loop-next.next c.in-Some.is c.loop-next.invariant.among
@@ -37,10 +33,8 @@ passes c = sym c.is_covered.ensures ∙ c.if-is_covered.true
 
 pub loop-next-init : goal.loop-next-init
 loop-next-init c =
-    let ys = outstanding_among c.args.callbacks.now.rows c.args.object in
-    let rising : IsRising 1 c.requires.rising.0 ys = rising_filter (is_outstanding_for (Object c.args.object)) 1 c.requires.rising.0 c.args.callbacks.now.rows c.requires.rising.1 in
-    covering_rows (is_wanted c.args.cancel) ys c.args.barriers.now c.args.waiter c.requires.rising.0 rising c.begin.new.self c.first_outstanding-next.result c.begin.ensures
-    (c.first_outstanding-next.ensures ∙ sym (first_row_is c.requires.rising.0 ys (find (λ (x : CallbackRow). nat_lt 0 x.number) ys) rising refl))
+    covering number_of (is_wanted c.args.cancel) (outstanding_among c.args.callbacks.now.rows c.args.object) c.args.barriers.now c.args.waiter 1 (outstanding_rise c.requires.rising.0 c.args.callbacks.now.rows c.args.object c.requires.rising.1)
+    c.begin.new.self c.first_outstanding-next.result c.begin.ensures c.first_outstanding-next.ensures
 
 pub next_outstanding-next-requires : goal.next_outstanding-next-requires
 next_outstanding-next-requires c = (here (goal.at.next_outstanding-next-requires c).In-Some).there
