@@ -1,6 +1,4 @@
-pub mod Arming
-pub mod Has
-pub mod Neighbours
-pub mod Waits
-pub mod Walking
-pub mod Counted
+pub mod Opened
+pub mod Rows
+pub mod Shown
+pub mod Threads

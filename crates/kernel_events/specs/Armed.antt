@@ -3,19 +3,14 @@ use Rattle.std.specs.Prelude.{◌≢◌, ℕ, List, map, filter, find, Option}
 use Rattle.std.specs.List.{AllPairs}
 use Rattle.std.specs.Option.{option_map}
 use Rattle.tp_base.specs.declared.ids.ObjectId.{ObjectId}
-use Rattle.tp_base.specs.declared.ids.KernelId.{KernelId}
 use Rattle.tp_base.specs.declared.rows.Arming.{Arming}
-use Rattle.tp_base.specs.Armings.{is_arming_of, is_arming_on}
+use Rattle.tp_base.specs.Armings.{is_arming_on}
 
 -- the greatest numbers of a kernel object and of a wait object, and what is armed
 pub record Armed : Type 0 where
   pub kernels : ℕ
   pub objects : ℕ
   pub armed : List Arming
-
--- what a wait object is armed on
-abbrev pub kernel_of : ℕ → List Arming → Option KernelId
-kernel_of object armed = option_map (λ (a : Arming). a.kernel) (find (is_arming_of object) armed)
 
 -- what is armed on a kernel object
 abbrev pub waits_on : ℕ → List Arming → List ObjectId

@@ -2,5 +2,4 @@ pub mod Armed
 pub mod Calls
 pub mod Kept
 pub mod Kernels
-pub mod Linked
-pub mod Walked
+pub mod Threaded

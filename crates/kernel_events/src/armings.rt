@@ -1,130 +1,163 @@
-//! The wait objects that are armed: for each what it is armed on, and lists that are linked through
-//! the objects, one of all in the order of arming, and one for each kernel object.
+//! The wait objects that are armed: a list of all in the order of arming, and one for each kernel
+//! object.
 
-ghost use Rattle.std.specs.Prelude.{◌≡◌, ◌+◌, ◌≤◌, ◌++◌, ◌∷◌, [], All, IfOk, false, length, min};
+ghost use Rattle.std.specs.Prelude.{◌≡◌, ◌+◌, ◌<◌, ◌≤◌, ◌^◌, ◌++◌, ◌∷◌, [], All, IfOk, false, if◌then◌else◌, length, min, nat_le, replicate};
 ghost use Rattle.tp_base.specs.Armings.{is_armed, without_arming};
-ghost use Rattle.kernel_events.specs.Armed.{HasDistinctObjects, first_on, kernel_of as armed_on, waits_on};
+ghost use Rattle.kernel_events.specs.Armed.{HasDistinctObjects, first_on, waits_on};
 
-use crate::links::{Ends, Link, append, unlink};
+use linked_lists::LinkedLists;
 use std::alloc::{AllocError, Global};
 use std::marker::Model;
+use std::sync::ledger::{Blank, Ledger};
+use steps::Steps;
 use tp_base::ids::{KernelId, ObjectId};
 
 // What is armed, and on which kernel object.
 #[derive(Drop)]
 pub(crate) struct Armings {
-    // By object number, where there is no object 0: what it is armed on, its links in the list of all,
-    // and those in the list of its kernel object.
-    on: Vec<Option<KernelId>>,
-    order: Vec<Link>,
-    own: Vec<Link>,
-    // The list of all, and those of each kernel object by its number.
-    all: Ends,
-    ends: Vec<Ends>,
+    // The greatest numbers of a kernel object and of a wait object.
+    kernels: u32,
+    objects: u32,
+    // Its list 0 has all that are armed; object o is at the place o.
+    order: LinkedLists,
+    // The list of a kernel object's number has those that are armed on it; object o is at the place
+    // `kernels` + o.
+    own: LinkedLists,
 }
 
 impl Model for Armings {
-    ghost use Rattle.std.specs.Prelude.{◌-◌, length};
+    ghost use Rattle.linked_lists.specs.Linked.{list_of};
     ghost use Rattle.kernel_events.specs.Armed.{Armed};
-    ghost use Rattle.kernel_events.specs.Walked.{AreKept, walk};
+    ghost use Rattle.kernel_events.specs.Threaded.{AreThreaded, armings_of};
 
     ghost Value = { Armed };
 
     ghost view = { λ a. record {
-      kernels = length a.ends.items - 1;
-      objects = length a.on.items - 1;
-      armed = walk a.on.items a.order.items (length a.on.items) a.all.first;
+      kernels = a.kernels;
+      objects = a.objects;
+      armed = armings_of a.kernels a.own (list_of a.order 0);
     } };
 
-    ghost invariant = { λ a. AreKept a.on.items a.order.items a.all a.own.items a.ends.items };
+    ghost invariant = { λ a. AreThreaded a.kernels a.objects a.order a.own };
 }
 
-const NO_LINK: Link = Link {
-    before: None,
-    behind: None,
-};
-
-const NO_ENDS: Ends = Ends {
-    first: None,
-    last: None,
-};
+// Empty lists, and behind their own places one for each object, in no list.
+fn open_lists(alloc: Global, lists: u32, objects: u32) -> Result<LinkedLists, AllocError>
+    requires { lists + objects < 2 ^ 32 }
+    ensures { IfOk result (λ made. made ≡ record {
+      room = lists + objects;
+      numbers = replicate (lists + objects) 0;
+      owners = replicate (lists + objects) lists;
+      lists = replicate lists [];
+    }) }
+{
+    let mut made = LinkedLists::open(alloc, lists, objects)?;
+    for _ in 0..objects {
+        made.add(0);
+    }
+    Ok(made)
+}
 
 impl Armings {
     // Nothing is armed. There is memory for the kernel objects of the numbers up to `kernels`, and the
     // wait objects of those up to `objects`.
+    //
+    // An `AllocError` comes where that memory can't be had, or where there would be more places than
+    // a u32 counts.
     pub(crate) fn open(alloc: Global, kernels: u32, objects: u32) -> Result<Armings, AllocError>
         ensures { IfOk result (λ armings. armings ≡ record { kernels = kernels; objects = objects; armed = [] }) }
     {
+        if kernels as u64 + objects as u64 >= u32::MAX as u64 {
+            return Err(AllocError);
+        }
         Ok(Armings {
-            on: vec![in alloc; None; objects as usize + 1]?,
-            order: vec![in alloc; NO_LINK; objects as usize + 1]?,
-            own: vec![in alloc; NO_LINK; objects as usize + 1]?,
-            all: NO_ENDS,
-            ends: vec![in alloc; NO_ENDS; kernels as usize + 1]?,
+            kernels,
+            objects,
+            order: open_lists(alloc, 1, objects)?,
+            own: open_lists(alloc, kernels + 1, objects)?,
         })
     }
 
-    // What a wait object is armed on. No wait object is armed twice.
-    pub(crate) fn kernel_of(&self, object: ObjectId) -> Option<KernelId>
-        ensures value { result ≡ armed_on object.0 self.now.armed }
+    // The place of a wait object in the list of all, or the list's own where there is no such object.
+    fn place(&self, object: ObjectId) -> u32
+        ensures { result ≡ if nat_le object.0 self.now.objects then object.0 else 0 }
+    {
+        if object.0 <= self.objects {
+            object.0
+        } else {
+            0
+        }
+    }
+
+    // Whether a wait object is armed. None is armed twice.
+    pub(crate) fn is_armed(&self, object: ObjectId) -> bool
+        ensures value { result ≡ is_armed object.0 self.now.armed }
         ensures distinct { HasDistinctObjects self.now.armed }
         ensures least { All (λ a. 1 ≤ a.object.0) self.now.armed }
         ensures most { All (λ a. a.object.0 ≤ self.now.objects) self.now.armed }
     {
-        self.on.get(object.0 as usize).copied().unwrap_or(None)
+        self.order.owner(self.place(object)) == 0
     }
 
     // The wait object that was armed earliest on a kernel object.
-    pub(crate) fn first_on(&self, kernel: KernelId) -> Option<ObjectId>
+    pub(crate) fn first_on<L: Ledger>(&self, kernel: KernelId, blank: Blank) -> Option<ObjectId>
+        requires name { blank.name ≡ L.name }
+        requires parts { blank.parts ≡ L.parts }
+        requires one { blank.parts ≡ 1 }
         ensures { result ≡ first_on kernel.0 self.now.armed }
     {
-        self.ends.get(kernel.0 as usize)?.first
+        if kernel.0 > self.kernels {
+            return None;
+        }
+        let mut steps = Steps::<L>::open(blank);
+        let place = self.own.first(kernel.0, &mut steps)?;
+        Some(ObjectId(place - self.kernels))
     }
 
     // How many wait objects are armed on a kernel object, but no more than `most`.
     pub(crate) fn count_on(&self, kernel: KernelId, most: u32) -> u32
         ensures { result ≡ min most (length (waits_on kernel.0 self.now.armed)) }
     {
-        let mut next = self.first_on(kernel);
-        let mut count = 0;
-        while count < most {
-            let Some(object) = next else {
-                return count;
-            };
-            next = self.own[object.0 as usize].behind;
-            count += 1;
+        if kernel.0 > self.kernels {
+            return 0;
         }
-        count
+        most.min(self.own.len(kernel.0))
     }
 
     // Arms a wait object, behind all others.
-    pub(crate) fn arm(&mut self, object: ObjectId, kernel: KernelId)
+    pub(crate) fn arm<L: Ledger>(&mut self, object: ObjectId, kernel: KernelId, blank: Blank)
         requires least { 1 ≤ object.0 }
         requires most { object.0 ≤ self.old.objects }
         requires kernel_most { kernel.0 ≤ self.old.kernels }
         requires free { is_armed object.0 self.old.armed ≡ false }
+        requires name { blank.name ≡ L.name }
+        requires parts { blank.parts ≡ L.parts }
+        requires one { blank.parts ≡ 1 }
         ensures { self.new ≡ record self.old { armed = self.old.armed ++ record { object = object; kernel = kernel } ∷ [] } }
     {
-        self.on[object.0 as usize] = Some(kernel);
-        append(&mut self.order, &mut self.all, object);
-        let mut ends = self.ends[kernel.0 as usize];
-        append(&mut self.own, &mut ends, object);
-        self.ends[kernel.0 as usize] = ends;
+        let mut steps = Steps::<L>::open(blank);
+        // Who owns its place says that it is free, as it isn't armed.
+        let _ = self.order.owner(object.0);
+        self.order.put_last(0, object.0, &mut steps);
+        self.own
+            .put_last(kernel.0, self.kernels + object.0, &mut steps);
     }
 
     // Disarms a wait object, and says whether it was armed.
-    pub(crate) fn disarm(&mut self, object: ObjectId) -> bool
+    pub(crate) fn disarm<L: Ledger>(&mut self, object: ObjectId, blank: Blank) -> bool
+        requires name { blank.name ≡ L.name }
+        requires parts { blank.parts ≡ L.parts }
+        requires one { blank.parts ≡ 1 }
         ensures was { result ≡ is_armed object.0 self.old.armed }
         ensures after { self.new ≡ record self.old { armed = without_arming object.0 self.old.armed } }
     {
-        let Some(kernel) = self.kernel_of(object) else {
+        let place = self.place(object);
+        if self.order.owner(place) != 0 {
             return false;
-        };
-        self.on[object.0 as usize] = None;
-        unlink(&mut self.order, &mut self.all, object);
-        let mut ends = self.ends[kernel.0 as usize];
-        unlink(&mut self.own, &mut ends, object);
-        self.ends[kernel.0 as usize] = ends;
+        }
+        let mut steps = Steps::<L>::open(blank);
+        self.order.take_out(place, &mut steps);
+        self.own.take_out(self.kernels + place, &mut steps);
         true
     }
 }

@@ -23,7 +23,8 @@
 //! ```
 //!
 //! What a call costs: each looks at one kernel object, and at the neighbours of at most one armed
-//! wait.
+//! wait (`linked_lists`). The memory is some fifty bytes for each kernel object, and forty for each
+//! wait object.
 
 #![tactic(auto)]
 
@@ -36,14 +37,14 @@ ghost use Rattle.kernel_events.specs.Kernels.{Suits, is_one_that, new_row, next_
 use armings::Armings;
 use states::{is_signalled, state_after, taken, taken_by};
 use std::alloc::{AllocError, Global};
-use std::marker::Model;
+use std::marker::{Brand, Model};
+use std::sync::ledger::Blank;
 use tp_base::ids::{KernelId, ObjectId, Who};
 use tp_base::plans::KernelChange;
 use tp_base::rows::{KernelRow, KernelState};
 
 mod armings;
 mod calls;
-mod links;
 pub mod states;
 
 pub use calls::KernelKind;
@@ -71,7 +72,8 @@ impl KernelTable {
     /// No kernel objects, with the memory for `limit` of them, and for the arming of the wait objects
     /// of the numbers from 1 to `objects`.
     ///
-    /// An `AllocError` comes where that memory can't be had.
+    /// An `AllocError` comes where that memory can't be had, and where `limit` and `objects` together
+    /// come to 2^32 - 1 or more.
     pub fn open(alloc: Global, limit: u32, objects: u32) -> Result<KernelTable, AllocError>
         ensures { IfOk result (λ kernels. kernels ≡ record { limit = limit; objects = objects; rows = []; armed = [] }) }
     {
@@ -139,7 +141,7 @@ impl KernelTable {
         requires free { is_armed object.0 self.old.armed ≡ false }
         ensures { self.new ≡ record self.old { armed = self.old.armed ++ record { object = object; kernel = kernel } ∷ [] } }
     {
-        self.armings.arm(object, kernel);
+        self.armings.arm::<Brand>(object, kernel, Blank::new(1));
     }
 
     /// Disarms a wait object, and says whether it was armed. Where it wasn't, nothing changes.
@@ -147,7 +149,7 @@ impl KernelTable {
         ensures was { result ≡ is_armed object.0 self.old.armed }
         ensures after { self.new ≡ record self.old { armed = without_arming object.0 self.old.armed } }
     {
-        self.armings.disarm(object)
+        self.armings.disarm::<Brand>(object, Blank::new(1))
     }
 
     /// Whether a wait object is armed. None is armed twice, each has a number from 1 to the greatest
@@ -160,7 +162,7 @@ impl KernelTable {
         ensures kernel_least { All (λ a. 1 ≤ a.kernel.0) self.now.armed }
         ensures kernel_most { All (λ a. a.kernel.0 ≤ length self.now.rows) self.now.armed }
     {
-        self.armings.kernel_of(object).is_some()
+        self.armings.is_armed(object)
     }
 
     /// The wait object that was armed earliest on this kernel object, or None where none is armed on
@@ -168,10 +170,10 @@ impl KernelTable {
     pub fn first_armed(&self, kernel: KernelId) -> Option<ObjectId>
         ensures { result ≡ first_on kernel.0 self.now.armed }
     {
-        self.armings.first_on(kernel)
+        self.armings.first_on::<Brand>(kernel, Blank::new(1))
     }
 
-    /// How many wait objects are armed on this kernel object, but no more than `most`. Walks as many.
+    /// How many wait objects are armed on this kernel object, but no more than `most`.
     pub fn count_armed(&self, kernel: KernelId, most: u32) -> u32
         ensures { result ≡ min most (length (waits_on kernel.0 self.now.armed)) }
     {
@@ -207,7 +209,7 @@ impl KernelTable {
             return None;
         }
         let object = self.first_armed(kernel)?;
-        self.armings.disarm(object);
+        self.armings.disarm::<Brand>(object, Blank::new(1));
         self.rows[kernel.0 as usize - 1].state = taken(state);
         Some(object)
     }

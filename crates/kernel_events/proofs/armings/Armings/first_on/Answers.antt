@@ -1,16 +1,18 @@
-use Rattle.std.proofs.Common.{ap, sym, ◌∙◌}
-use Rattle.kernel_events.specs.declared.links.Ends.{Ends}
-use Rattle.kernel_events.proofs.Waits.{first_head, none_on}
+use Rattle.std.proofs.Common.{ap, slice_get, sym, ◌∙◌}
+use Rattle.kernel_events.proofs.Shown.{none_first, one_first, past_list}
 use Rattle.kernel_events.proofs.armings.Armings.first_on.Goals as goal
 
-pub returns-in_err-get : goal.returns-in_err-get
-returns-in_err-get c =
-    let lookup = rw c.deref.ensures.value at c.in_err-get.ensures.lookup in
-    let none = none_on c.args.kernel.0 _ _ c.self.invariant.armed.kernels lookup.3 in
-    rw (← c.self.view_is) (c.from_residual.ensures ∙ sym none)
+pub returns-then-kernel-self : goal.returns-then-kernel-self
+returns-then-kernel-self g c =
+    let none = ap (λ xs. slice_get xs 0) (past_list _ _ _ _ c.self.invariant c.args.kernel.0 c.if-kernel-self.true) in
+    rw (← c.self.view_is) (none_first _ _ _ _ c.self.invariant c.args.kernel.0 none)
+
+pub returns-in_err-place : goal.returns-in_err-place
+returns-in_err-place g c =
+    rw (← c.self.view_is) (c.from_residual.ensures ∙ none_first _ _ _ _ c.self.invariant c.args.kernel.0 (sym c.first.ensures.value ∙ c.in_err-place.was))
+
+pub overflow_sub-result : goal.overflow_sub-result
+overflow_sub-result g c = (one_first _ _ _ _ c.self.invariant c.args.kernel.0 _ (sym c.first.ensures.value ∙ c.in_ok-place.was)).far
 
 pub returns : goal.returns
-returns c =
-    let lookup = rw c.deref.ensures.value at c.in_ok-get.ensures.lookup in
-    let list = c.self.invariant.armed.queued c.args.kernel.0 c.in_ok-get.field-0.now lookup.3.0 in
-    rw (← c.self.view_is) (ap (λ (e : Ends). e.first) lookup.1 ∙ list.first ∙ sym (first_head c.args.kernel.0 _))
+returns g c = rw (← c.self.view_is) ((one_first _ _ _ _ c.self.invariant c.args.kernel.0 _ (sym c.first.ensures.value ∙ c.in_ok-place.was)).first)
