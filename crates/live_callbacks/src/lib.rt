@@ -235,7 +235,7 @@ impl LiveCallbacks {
 
     /// A callback is made. Its number is above all the others', its pool is below `pools` and its object up to
     /// `objects`, and there is a slot left. It comes into the lists of its status.
-    #[inline]
+    #[inline(always)]
     pub fn push(&mut self, row: CallbackRow)
         requires room { length self.old.rows < self.old.slots }
         requires pool { row.pool.0 < self.old.pools }
@@ -256,7 +256,7 @@ impl LiveCallbacks {
     /// It stays of its number, object, pool, group and priority. It leaves the lists that its status is no longer
     /// for, and comes to the queue of its pool where it is pending now. Outstanding, expected or operating it is
     /// afterwards only if it was so before.
-    #[inline]
+    #[inline(always)]
     pub fn change(&mut self, before: &CallbackRow, after: CallbackRow)
         requires found { find (λ c. c.number == before.now.number) self.old.rows ≡ Some before.now }
         requires goes { MovesOn before.now after }
@@ -278,7 +278,7 @@ impl LiveCallbacks {
     }
 
     /// A callback leaves, of which this is the row as it stands.
-    #[inline]
+    #[inline(always)]
     pub fn remove(&mut self, row: &CallbackRow)
         requires { find (λ c. c.number == row.now.number) self.old.rows ≡ Some row.now }
         ensures { self.new ≡ record self.old { rows = filter (λ c. not (c.number == row.now.number)) self.old.rows } }

@@ -118,6 +118,7 @@ impl LiveWorld {
     }
 
     /// The actor as a worker that runs a callback, if it is one.
+    #[inline(always)]
     pub fn busy(&self, who: Who) -> Option<Busy>
         ensures { result ≡ busy_of self.now.world who }
     {
