@@ -3,9 +3,9 @@
 ghost use Rattle.std.specs.Prelude.{◌≡◌};
 ghost use Rattle.tp_edge.specs.Edges.{Edge, told, IsTold};
 
-use crate::first::First;
 use crate::sink::{Gave, Sink};
 use crate::source::{Source, Took};
+use ghost_copy::GhostCopy;
 use std::io::{Read, Write};
 use std::marker::Model;
 
@@ -15,15 +15,15 @@ use std::marker::Model;
 pub struct ReadEdge<R: Read> {
     inner: R,
     faults: u64,
-    first: First<R>,
+    first: GhostCopy<R>,
 }
 
 impl<R: Read> Model for ReadEdge<R> {
     ghost Value = { Edge };
 
-    ghost view = { λ edge. record { bytes = told (R.remaining edge.first.stream) (R.remaining edge.inner); faults = edge.faults } };
+    ghost view = { λ edge. record { bytes = told (R.remaining edge.first.value) (R.remaining edge.inner); faults = edge.faults } };
 
-    ghost invariant = { λ edge. IsTold (R.remaining edge.first.stream) (R.remaining edge.inner) };
+    ghost invariant = { λ edge. IsTold (R.remaining edge.first.value) (R.remaining edge.inner) };
 }
 
 impl<R: Read> ReadEdge<R> {
@@ -32,7 +32,7 @@ impl<R: Read> ReadEdge<R> {
         ensures left { ⟦<ReadEdge<R> as Source>⟧.left result ≡ R.remaining inner }
         ensures faults { ⟦<ReadEdge<R> as Source>⟧.failures result ≡ 0 }
     {
-        let first = First::of(&inner);
+        let first = GhostCopy::of(&inner);
         ReadEdge {
             inner,
             faults: 0,
@@ -68,15 +68,15 @@ impl<R: Read> Source for ReadEdge<R> {
 pub struct WriteEdge<W: Write> {
     inner: W,
     faults: u64,
-    first: First<W>,
+    first: GhostCopy<W>,
 }
 
 impl<W: Write> Model for WriteEdge<W> {
     ghost Value = { Edge };
 
-    ghost view = { λ edge. record { bytes = told (W.contents edge.first.stream) (W.contents edge.inner); faults = edge.faults } };
+    ghost view = { λ edge. record { bytes = told (W.contents edge.first.value) (W.contents edge.inner); faults = edge.faults } };
 
-    ghost invariant = { λ edge. IsTold (W.contents edge.first.stream) (W.contents edge.inner) };
+    ghost invariant = { λ edge. IsTold (W.contents edge.first.value) (W.contents edge.inner) };
 }
 
 impl<W: Write> WriteEdge<W> {
@@ -85,7 +85,7 @@ impl<W: Write> WriteEdge<W> {
         ensures holds { ⟦<WriteEdge<W> as Sink>⟧.holds result ≡ W.contents inner }
         ensures faults { ⟦<WriteEdge<W> as Sink>⟧.failures result ≡ 0 }
     {
-        let first = First::of(&inner);
+        let first = GhostCopy::of(&inner);
         WriteEdge {
             inner,
             faults: 0,

@@ -23,7 +23,6 @@
 #![tactic(auto)]
 
 mod edges;
-mod first;
 mod memory_sink;
 mod memory_source;
 mod never_fails;
