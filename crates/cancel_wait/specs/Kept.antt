@@ -1,23 +1,20 @@
--- How the waits are kept: one for each waiter, and the list of the waiters that have begun one.
-use Rattle.std.specs.Prelude.{◌≡◌, ℕ, Bool, false, List, [], Option, None, Some, All, length, map, sum_by, slice_index_or, if◌then◌else◌}
-use Rattle.rising_numbers.specs.Rising.{Rising, contains_number}
-use Rattle.cancel_wait.specs.declared.Wait.{Wait}
+-- How the waits are kept: by waiter whether it has begun one, and a rising list of what that covers.
+use Rattle.std.specs.Prelude.{◌≡◌, ℕ, ◌*◌, ◌^◌, ◌≤◌, ◌<◌, Bool, false, List, [], Option, None, Some, length, map, slice_index_or, if◌then◌else◌}
+use Rattle.std.specs.List.{range_with_len}
+use Rattle.rising_lists.specs.Rising.{Rising, numbers_at}
 
--- a wait as callers see it
-abbrev pub shown : Wait → Option (List ℕ)
-shown wait = if wait.begun then Some wait.covered.numbers else None
+-- a waiter's wait as callers see it
+abbrev pub wait_at : List Bool → List (List ℕ) → ℕ → Option (List ℕ)
+wait_at begun lists waiter =
+    if slice_index_or begun waiter false then Some (slice_index_or lists waiter []) else None
 
--- for each waiter, whether it has begun a wait
-abbrev pub flags : List Wait → List Bool
-flags waits = map (λ (wait : Wait). wait.begun) waits
+abbrev pub shown : List Bool → List (List ℕ) → List (Option (List ℕ))
+shown begun lists = map (wait_at begun lists) (range_with_len 0 (length begun))
 
-abbrev pub tally : Bool → ℕ
-tally begun = if begun then 1 else 0
-
--- each wait has room for so many numbers, and covers none where it isn't begun; the list has exactly the waiters that have begun one
-pub record AreWaits (slots : ℕ) (waits : List Wait) (begun : Rising) : Type 0 where
-  pub rooms : All (λ wait. wait.covered.room ≡ slots) waits
-  pub empty : All (λ wait. wait.begun ≡ false → wait.covered.numbers ≡ []) waits
-  pub listed : (waiter : ℕ) → contains_number waiter begun.numbers ≡ slice_index_or (flags waits) waiter false
-  pub counted : length begun.numbers ≡ sum_by tally (flags waits)
-  pub begun_room : begun.room ≡ length waits
+-- there is a list for each waiter, empty where it has begun no wait, and room for so many numbers in each
+pub record AreWaits (slots : ℕ) (begun : List Bool) (covered : Rising) : Type 0 where
+  pub many : length covered.lists ≡ length begun
+  pub fits : length begun < 2 ^ 32
+  pub room : covered.room ≡ length begun * slots
+  pub few : (waiter : ℕ) → length (numbers_at covered waiter) ≤ slots
+  pub empty : (waiter : ℕ) → slice_index_or begun waiter false ≡ false → numbers_at covered waiter ≡ []

@@ -1,3 +1,3 @@
 pub mod Covers
 pub mod Kept
-pub use Rattle.rising_numbers.specs.Rising
+pub use Rattle.rising_lists.specs.Rising

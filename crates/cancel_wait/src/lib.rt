@@ -1,11 +1,10 @@
 //! What begun waits cover, seen as one list for each waiter: none where it has begun no wait, and
 //! else the numbers that its wait covers and that haven't left yet, rising.
 //!
-//! `open` takes all the memory: `slots` numbers for each waiter, and one for each in the list of
-//! those that have begun. `begin` begins a wait that covers nothing, `cover` adds a number to it,
-//! and `finish` ends it, whatever it still covers. `left` takes a number out of every wait, and
-//! `left_one` out of one; `covers` asks for a number, and `least` and `after` go along what a wait
-//! covers.
+//! `open` takes all the memory: for `slots` numbers of each waiter. `begin` begins a wait that covers
+//! nothing, `cover` adds a number to it, and `finish` ends it, whatever it still covers. `left` takes
+//! a number out of every wait, and `left_one` out of one; `covers` asks for a number, and `least` and
+//! `after` go along what a wait covers.
 //!
 //! ```text
 //! let mut barriers = Barriers::open(alloc, 2, 8)?;
@@ -17,37 +16,36 @@
 //! barriers.finish(0);
 //! ```
 //!
-//! What a call costs: `cover`, `covers`, `left_one`, `after` and `left` find a number or its place by
-//! halving, and a number that comes or leaves moves the numbers before it or those behind it,
-//! whichever are fewer: none where the number is above all that the wait covers. `left` goes over the
-//! waiters that have begun a wait, and no others. `begin` and `finish` find their waiter among those
-//! by halving; `finish` drops what is left of its wait.
+//! What a call costs: what waits cover is kept in rising lists, one for each waiter, in which each number
+//! is found among those that have the same remainder (`rising_lists`). So `left` goes along these once,
+//! and meets no wait that doesn't cover the number; `left_one`, `covers` and `after` find theirs as well.
+//! `least` reads one node. `cover` reads a few where the number is above all that the wait covers, or
+//! below all, and else goes over those above it. `finish` drops what is left of its wait. Memory that no
+//! wait has needed is reserved, and not touched.
 
 #![tactic(auto)]
 
 ghost use Rattle.std.specs.Prelude.{◌≡◌, ◌<◌, [], IfOk, IsSome, None, Some, false, find, is_some, length, map, nat_lt, option_map, replicate, slice_get};
 ghost use Rattle.std.specs.List.Sorted.{IsStrictlyIncreasing};
-ghost use Rattle.rising_numbers.specs.Rising.{all_but, contains_number, with_number};
+ghost use Rattle.rising_lists.specs.Rising.{all_but, contains_number, with_number};
 ghost use Rattle.cancel_wait.specs.Covers.{covered_of, wait_of, with_wait};
 
-use rising_numbers::RisingNumbers;
+use rising_lists::RisingLists;
 use std::alloc::{AllocError, Global};
 use std::marker::Model;
+
+// In how many buckets the numbers are found at most. Each takes 44 bytes at once, and a wait of 8,192
+// numbers has two in each.
+const MOST_BUCKETS: u32 = 4_096;
 
 /// What begun waits cover.
 #[derive(Drop)]
 pub struct Barriers {
     slots: u32,
-    waits: Vec<Wait>,
-    // The waiters that have begun a wait.
-    begun: RisingNumbers,
-}
-
-/// What one waiter's wait covers: nothing where none is begun.
-#[derive(Drop)]
-struct Wait {
-    begun: bool,
-    covered: RisingNumbers,
+    // For each waiter whether it has begun a wait.
+    begun: Vec<bool>,
+    // For each waiter what its wait covers: nothing where none is begun.
+    covered: RisingLists,
 }
 
 impl Model for Barriers {
@@ -55,12 +53,11 @@ impl Model for Barriers {
 
     ghost Value = { Covers };
 
-    ghost use Rattle.std.specs.Prelude.{map};
     ghost use Rattle.cancel_wait.specs.Kept.{AreWaits, shown};
 
-    ghost view = { λ b. record { slots = b.slots; waits = map shown b.waits.items } };
+    ghost view = { λ b. record { slots = b.slots; waits = shown b.begun.items b.covered.lists } };
 
-    ghost invariant = { λ b. AreWaits b.slots b.waits.items b.begun };
+    ghost invariant = { λ b. AreWaits b.slots b.begun.items b.covered };
 }
 
 impl Barriers {
@@ -72,17 +69,17 @@ impl Barriers {
         ensures slots { IfOk result (λ barriers. barriers.slots ≡ slots) }
         ensures waits { IfOk result (λ barriers. barriers.waits ≡ replicate waiters None) }
     {
-        let mut waits = Vec::with_capacity(alloc, waiters as usize)?;
-        for _ in 0..waiters {
-            waits.push_reserved(Wait {
-                begun: false,
-                covered: RisingNumbers::open(alloc, slots)?,
-            });
+        let room = u64::from(waiters) * u64::from(slots);
+        if room > u64::from(u32::MAX) {
+            return Err(AllocError);
         }
+        let begun = vec![in alloc; false; waiters as usize]?;
+        let buckets = slots.clamp(1, MOST_BUCKETS);
+        let covered = RisingLists::open(alloc, waiters, buckets, room as u32)?;
         Ok(Barriers {
             slots,
-            waits,
-            begun: RisingNumbers::open(alloc, waiters)?,
+            begun,
+            covered,
         })
     }
 
@@ -91,7 +88,7 @@ impl Barriers {
         requires { waiter < length self.now.waits }
         ensures { result ≡ is_some (wait_of self.now waiter) }
     {
-        self.waits[waiter as usize].begun
+        self.begun[waiter as usize]
     }
 
     /// Begins a wait, which covers nothing yet, for a waiter that has begun none.
@@ -100,9 +97,7 @@ impl Barriers {
         requires idle { wait_of self.old waiter ≡ None }
         ensures { self.new ≡ with_wait self.old waiter (Some []) }
     {
-        let wait = &mut self.waits[waiter as usize];
-        wait.begun = true;
-        self.begun.put(u64::from(waiter));
+        self.begun[waiter as usize] = true;
     }
 
     /// Lets the wait that this waiter has begun cover a number that it doesn't cover yet.
@@ -112,19 +107,14 @@ impl Barriers {
         requires free { contains_number number (covered_of self.old waiter) ≡ false }
         ensures { self.new ≡ with_wait self.old waiter (Some (with_number number (covered_of self.old waiter))) }
     {
-        let covered = &mut self.waits[waiter as usize].covered;
-        covered.put(number);
+        self.covered.put(waiter, number);
     }
 
     /// Takes a number out of every wait.
     pub fn left(&mut self, number: u64)
         ensures { self.new ≡ record self.old { waits = map (option_map (all_but number)) self.old.waits } }
     {
-        for place in 0..self.begun.len() {
-            let waiter = self.begun.get(place).unwrap();
-            let wait = &mut self.waits[waiter as usize];
-            wait.covered.take_out(number);
-        }
+        self.covered.left(number);
     }
 
     /// Takes a number out of this waiter's wait. Nothing changes where that doesn't cover it, or isn't
@@ -132,21 +122,20 @@ impl Barriers {
     pub fn left_one(&mut self, waiter: u32, number: u64)
         ensures { self.new ≡ with_wait self.old waiter (option_map (all_but number) (wait_of self.old waiter)) }
     {
-        if self.waits.len() <= waiter as usize {
+        if self.begun.len() <= waiter as usize {
             return;
         }
-        let covered = &mut self.waits[waiter as usize].covered;
-        covered.take_out(number);
+        self.covered.take_out(waiter, number);
     }
 
     /// Whether this waiter's wait covers the number. A wait that isn't begun covers none.
     pub fn covers(&self, waiter: u32, number: u64) -> bool
         ensures { result ≡ contains_number number (covered_of self.now waiter) }
     {
-        match self.waits.get(waiter as usize) {
-            None => false,
-            Some(wait) => wait.covered.contains(number),
+        if self.begun.len() <= waiter as usize {
+            return false;
         }
+        self.covered.list_with(waiter, waiter + 1, number).is_some()
     }
 
     /// The least number that this waiter's wait covers, or None where it covers none or isn't begun, or
@@ -155,14 +144,20 @@ impl Barriers {
         ensures value { result ≡ slice_get (covered_of self.now waiter) 0 }
         ensures rises { IsStrictlyIncreasing (covered_of self.now waiter) }
     {
-        self.waits.get(waiter as usize)?.covered.first()
+        if self.begun.len() <= waiter as usize {
+            return None;
+        }
+        self.covered.first(waiter)
     }
 
     /// The least number above this one that this waiter's wait covers, or None where there is none.
     pub fn after(&self, waiter: u32, number: u64) -> Option<u64>
         ensures { result ≡ find (λ n. nat_lt number n) (covered_of self.now waiter) }
     {
-        self.waits.get(waiter as usize)?.covered.after(number)
+        if self.begun.len() <= waiter as usize {
+            return None;
+        }
+        self.covered.after(waiter, number)
     }
 
     /// Ends the wait that this waiter has begun.
@@ -170,9 +165,7 @@ impl Barriers {
         requires { IsSome (wait_of self.old waiter) }
         ensures { self.new ≡ with_wait self.old waiter None }
     {
-        let wait = &mut self.waits[waiter as usize];
-        wait.begun = false;
-        wait.covered.clear();
-        self.begun.take_out(u64::from(waiter));
+        self.begun[waiter as usize] = false;
+        self.covered.clear(waiter);
     }
 }

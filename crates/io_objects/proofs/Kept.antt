@@ -1,99 +1,126 @@
--- What stays true of I/O objects as an operation starts, is issued, and leaves.
-use Rattle.std.proofs.Common.{◌≡◌, ◌==◌, ◌&&◌, ◌||◌, ◌+◌, ◌<◌, ◌≤◌, ℕ, suc, Bool, true, false, not, List, [], ◌∷◌, ◌++◌, Option, None, Some, map, filter, get_or, length, refl, sym, ap, subst, ◌∙◌, arith}
+-- What stays true of I/O objects as an operation starts, is issued, and goes.
+use Rattle.std.proofs.Common.{◌≡◌, ◌+◌, ◌-◌, ◌^◌, ℕ, ◌<◌, ◌≤◌, Bool, true, false, List, [], ◌∷◌, ◌++◌, get_or, length, ap, ◌∙◌, arith, ⊎_elim}
 use Rattle.std.specs.List.{All}
-use Rattle.std.specs.Option.{is_some}
-use Rattle.std.proofs.lemmas.Bool.Decides.{nat_tests}
-use Rattle.std.proofs.lemmas.List.{get_or-map, length-map}
-use Rattle.std.proofs.lemmas.List.Elements.{All-filter}
-use Rattle.keyed_lists.specs.Keyed.{Entry, Keyed, entry, first_of}
-use Rattle.keyed_lists.specs.Keyed as keyed
-use Rattle.io_objects.specs.Operations.{IsRising, first_started, started}
-use Rattle.io_objects.specs.Kept.{IsKept, has_number, picked, shown}
-use Rattle.io_objects.proofs.Shown.{first_shown, fewer_started, issued_picked, left_picked, more_picked, named, one_started, without, without_picked}
+use Rattle.std.proofs.lemmas.Bool.{both_ways, cases_lt}
+use Rattle.std.proofs.lemmas.List.{get_or_past, length-map, length-set, length_push}
+use Rattle.rising_lists.specs.Rising.{Rising, all_but, numbers_at, with_list, with_number}
+use Rattle.io_objects.specs.Operations.{issue_one, with_issued, without_operation}
+use Rattle.io_objects.specs.Kept.{IsKept, has, operation, shown}
+use Rattle.io_objects.proofs.Held.{apart_less, apart_more, sum_less, sum_more}
+use Rattle.io_objects.proofs.Turns.{apart_completed, apart_issued, fewer_cancelled, fewer_completed, not_issued, not_started, shown_cancelled, shown_completed, shown_issued, shown_more}
 
-pub few_picked : (r : ℕ → Bool) (es : List Entry) → length (picked r es) ≤ length es
-few_picked r [] = omega arith
-few_picked r (x ∷ xs) = grind (arith, nat_tests, few_picked r xs)
+module _ (there : List Bool) (started issued : Rising) (count : ℕ) (kept : IsKept there started issued count) where
+  -- an object that is there has its lists
+  module _ (object key : ℕ) (is : object ≡ key + 1) (here : get_or there object false ≡ true) where
+    pub within : key < length started.lists
+    within =
+        ⊎_elim
+        (λ (inside : object < length there). omega (arith, inside, is, kept.places))
+        (λ (past : length there ≤ object). absurd (both_ways (get_or there object false) (get_or_past there object false past) here))
+        (cases_lt object (length there))
 
-pub rising_shown : (r : ℕ → Bool) (es : List Entry) → keyed.IsRising es → IsRising (map (shown r) es)
-rising_shown r [] rises i j d lt within = absurd (omega arith)
-rising_shown r (x ∷ xs) rises i j d lt within =
-    let inside : j < length (x ∷ xs) = omega (arith, within, length-map (x ∷ xs) (shown r)) in
-    let first = get_or-map (shown r) (x ∷ xs) i x d (omega arith) in
-    let second = get_or-map (shown r) (x ∷ xs) j x d inside in
-    rw (first, second) (rises i j x lt inside)
+    pub within_issued : key < length issued.lists
+    within_issued = omega (arith, within, kept.same_keys)
 
-pub below_shown : (r : ℕ → Bool) (es : List Entry) (n : ℕ) → All (λ o. o.number < n) (map (shown r) es) → All (λ (e : Entry). e.number < n) es
-below_shown r es n below k d lt =
-    let inside : k < length (map (shown r) es) = omega (arith, lt, length-map es (shown r)) in
-    let same = get_or-map (shown r) es k d (shown r d) lt in
-    let there = below k (shown r d) inside in
-    rw same at there
+  -- an operation starts
+  module _ (n key : ℕ) (inside : key < length started.lists) (fits : n < 2 ^ 64) (above : All (λ o. o.number < n) (shown started.lists issued.lists)) where
+    pub free_started : has started.lists key n ≡ false
+    free_started = not_started started.lists issued.lists kept.apart n key inside fits above key
 
-module _ (there : List Bool) (operations are_started : Keyed) (kept : IsKept there operations are_started) where
-  abbrev is_started : ℕ → Bool
-  is_started = has_number are_started.entries
+    pub all_more : shown (with_list started key (with_number n (numbers_at started key))).lists issued.lists ≡ shown started.lists issued.lists ++ operation n false key ∷ []
+    all_more = shown_more started.lists issued.lists kept.apart n key inside fits above
 
-  -- the first that is started
-  pub first_is : (key : ℕ) → first_of are_started.entries key ≡ first_started (key + 1) (map (shown is_started) operations.entries)
-  first_is key = ap (λ es. first_of es key) kept.some ∙ first_shown is_started key operations.entries
+    pub kept_more : count < started.room → IsKept there (with_list started key (with_number n (numbers_at started key))) issued (count + 1)
+    kept_more room =
+        let long = length-set started.lists key (with_number n (numbers_at started key)) in
+        record {
+          places = omega (arith, kept.places, long);
+          none_0 = kept.none_0;
+          same_keys = omega (arith, kept.same_keys, long);
+          same_room = kept.same_room;
+          apart = apart_more started.lists issued.lists kept.apart key n inside fits (not_started started.lists issued.lists kept.apart n key inside fits above) (not_issued started.lists issued.lists kept.apart n key inside fits above);
+          held = omega (arith, kept.held, sum_more started.lists key n inside);
+          counted = ap length all_more ∙ length_push (shown started.lists issued.lists) (operation n false key) ∙ ap (λ k. k + 1) kept.counted;
+          few = omega (arith, room);
+          keys_fit = omega (arith, kept.keys_fit, long);
+          room_fits = kept.room_fits;
+        }
 
-  pub few_started : length are_started.entries ≤ length operations.entries
-  few_started = subst (λ es. length es ≤ length operations.entries) (sym kept.some) (few_picked is_started operations.entries)
+  -- one that is started is issued, or given up
+  module _ (n key : ℕ) (inside : key < length started.lists) (has_it : has started.lists key n ≡ true) where
+    abbrev fewer : Rising
+    fewer = with_list started key (all_but n (numbers_at started key))
 
-  pub below_started : (n : ℕ) → All (λ (e : Entry). e.number < n) operations.entries → All (λ (e : Entry). e.number < n) are_started.entries
-  below_started n below = subst (All (λ (e : Entry). e.number < n)) (sym kept.some) (All-filter (λ (e : Entry). is_started e.number) (λ (e : Entry). e.number < n) operations.entries below)
+    abbrev more : Rising
+    more = with_list issued key (with_number n (numbers_at issued key))
 
-  pub kept_more : (n key : ℕ) (all some : Keyed) → All (λ (e : Entry). e.number < n) operations.entries → all ≡ record operations { entries = operations.entries ++ entry key n ∷ [] } → some ≡ record are_started { entries = are_started.entries ++ entry key n ∷ [] } → IsKept there all some
-  kept_more n key all some below is_all is_some =
-      rw (is_all, is_some)
-      (record {
-        places = kept.places;
-        none_0 = kept.none_0;
-        same_keys = kept.same_keys;
-        same_slots = kept.same_slots;
-        some =
-            sym (more_picked is_started (has_number (are_started.entries ++ entry key n ∷ [])) n key (λ m. one_started n m key are_started.entries) operations.entries below
-            ∙ ap (λ es. es ++ entry key n ∷ []) (sym kept.some));
-        fits = kept.fits;
-      })
+    inside_issued : key < length issued.lists
+    inside_issued = omega (arith, inside, kept.same_keys)
 
-  pub kept_issued : (n : ℕ) (some : Keyed) → some ≡ record are_started { entries = without n are_started.entries } → IsKept there operations some
-  kept_issued n some is_some =
-      rw is_some
-      (record {
-        places = kept.places;
-        none_0 = kept.none_0;
-        same_keys = kept.same_keys;
-        same_slots = kept.same_slots;
-        some =
-            sym (issued_picked is_started (has_number (without n are_started.entries)) n (λ m. fewer_started n m are_started.entries) operations.entries
-            ∙ ap (without n) (sym kept.some));
-        fits = kept.fits;
-      })
+    pub free_issued : has issued.lists key n ≡ false
+    free_issued = kept.apart.not_both n key key has_it
 
-  pub kept_cancelled : (n : ℕ) (all some : Keyed) → all ≡ record operations { entries = without n operations.entries } → some ≡ record are_started { entries = without n are_started.entries } → IsKept there all some
-  kept_cancelled n all some is_all is_some =
-      rw (is_all, is_some)
-      (record {
-        places = kept.places;
-        none_0 = kept.none_0;
-        same_keys = kept.same_keys;
-        same_slots = kept.same_slots;
-        some =
-            sym (left_picked is_started (has_number (without n are_started.entries)) n (λ m. fewer_started n m are_started.entries) operations.entries
-            ∙ ap (without n) (sym kept.some));
-        fits = kept.fits;
-      })
+    pub all_issued : shown fewer.lists more.lists ≡ with_issued n (shown started.lists issued.lists)
+    all_issued = shown_issued started.lists issued.lists kept.apart n key inside inside_issued has_it
 
-  pub kept_completed : (n : ℕ) (all : Keyed) → is_started n ≡ false → all ≡ record operations { entries = without n operations.entries } → IsKept there all are_started
-  kept_completed n all issued is_all =
-      rw is_all
-      (record {
-        places = kept.places;
-        none_0 = kept.none_0;
-        same_keys = kept.same_keys;
-        same_slots = kept.same_slots;
-        some = kept.some ∙ sym (without_picked is_started n operations.entries issued);
-        fits = kept.fits;
-      })
+    pub kept_issued : IsKept there fewer more count
+    kept_issued =
+        let long = length-set started.lists key (all_but n (numbers_at started key)) in
+        let long_issued = length-set issued.lists key (with_number n (numbers_at issued key)) in
+        record {
+          places = omega (arith, kept.places, long);
+          none_0 = kept.none_0;
+          same_keys = omega (arith, kept.same_keys, long, long_issued);
+          same_room = kept.same_room;
+          apart = apart_issued started.lists issued.lists kept.apart n key inside inside_issued has_it;
+          held = omega (arith, kept.held, sum_less started.lists key n inside has_it, sum_more issued.lists key n inside_issued);
+          counted = ap length all_issued ∙ length-map (shown started.lists issued.lists) (issue_one n) ∙ kept.counted;
+          few = kept.few;
+          keys_fit = omega (arith, kept.keys_fit, long);
+          room_fits = kept.room_fits;
+        }
+
+    pub all_cancelled : shown fewer.lists issued.lists ≡ without_operation n (shown started.lists issued.lists)
+    all_cancelled = shown_cancelled started.lists issued.lists kept.apart n key inside has_it
+
+    pub kept_cancelled : IsKept there fewer issued (count - 1)
+    kept_cancelled =
+        let long = length-set started.lists key (all_but n (numbers_at started key)) in
+        let one_less = fewer_cancelled started.lists issued.lists kept.apart n key inside has_it in
+        record {
+          places = omega (arith, kept.places, long);
+          none_0 = kept.none_0;
+          same_keys = omega (arith, kept.same_keys, long);
+          same_room = kept.same_room;
+          apart = apart_less started.lists issued.lists kept.apart key n inside;
+          held = omega (arith, kept.held, sum_less started.lists key n inside has_it);
+          counted = omega (arith, one_less, kept.counted);
+          few = omega (arith, kept.few);
+          keys_fit = omega (arith, kept.keys_fit, long);
+          room_fits = kept.room_fits;
+        }
+
+  -- one that is issued completes
+  module _ (n key : ℕ) (inside : key < length issued.lists) (has_it : has issued.lists key n ≡ true) where
+    abbrev rest : Rising
+    rest = with_list issued key (all_but n (numbers_at issued key))
+
+    pub all_completed : shown started.lists rest.lists ≡ without_operation n (shown started.lists issued.lists)
+    all_completed = shown_completed started.lists issued.lists kept.apart n key inside has_it
+
+    pub kept_completed : IsKept there started rest (count - 1)
+    kept_completed =
+        let long = length-set issued.lists key (all_but n (numbers_at issued key)) in
+        let one_less = fewer_completed started.lists issued.lists kept.apart n key inside has_it in
+        record {
+          places = kept.places;
+          none_0 = kept.none_0;
+          same_keys = omega (arith, kept.same_keys, long);
+          same_room = kept.same_room;
+          apart = apart_completed started.lists issued.lists kept.apart n key inside has_it;
+          held = omega (arith, kept.held, sum_less issued.lists key n inside has_it);
+          counted = omega (arith, one_less, kept.counted);
+          few = omega (arith, kept.few);
+          keys_fit = kept.keys_fit;
+          room_fits = kept.room_fits;
+        }

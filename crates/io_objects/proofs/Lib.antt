@@ -1,2 +1,5 @@
+pub mod Below
+pub mod Held
 pub mod Kept
-pub mod Shown
+pub mod Opened
+pub mod Turns

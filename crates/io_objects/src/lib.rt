@@ -22,46 +22,52 @@
 //! ios.can_close(ObjectId(2))      // Ok(())
 //! ```
 //!
-//! What a call costs: it looks at one object, and at a number and its neighbours among those of the
-//! object, whichever place they have among all.
+//! What a call costs: the operations of each object are two rising lists, of those that are started and
+//! of those that are issued (`rising_lists`). A call looks at one object, and there at the first of a
+//! list, or puts a number behind all others, or finds one by its remainder.
 
 #![tactic(auto)]
 
 ghost use Rattle.std.specs.Prelude.{◌≡◌, ◌+◌, ◌<◌, ◌≤◌, ◌++◌, ◌∷◌, [], All, Err, IfOk, Ok, OnErr, OnOk, false, if◌then◌else◌, length, ok_or, replicate, slice_set, true};
 ghost use Rattle.io_objects.specs.Operations.{IsRising, first_started, has_operation, is_there, issued_object, started, with_issued, without_operation};
 
-use keyed_lists::KeyedLists;
+use rising_lists::RisingLists;
 use std::alloc::{AllocError, Global};
 use std::marker::Model;
 use tp_base::answers::Refusal;
 use tp_base::ids::ObjectId;
+
+// In how many buckets the operations are found at most.
+const MOST_BUCKETS: u32 = 4_096;
 
 /// The I/O objects and their operations.
 #[derive(Drop)]
 pub struct IoObjects {
     // At the place of an object's number. There is no object 0.
     there: Vec<bool>,
-    // All operations, under the keys of their objects.
-    operations: KeyedLists,
-    // Those of them that aren't issued.
-    started: KeyedLists,
+    // For each object the operations that are started.
+    started: RisingLists,
+    // And those that are issued.
+    issued: RisingLists,
+    // How many there are of both.
+    count: u32,
 }
 
 impl Model for IoObjects {
-    ghost use Rattle.std.specs.Prelude.{map};
+    ghost use Rattle.std.specs.Prelude.{length};
     ghost use Rattle.io_objects.specs.Operations.{Ios};
-    ghost use Rattle.io_objects.specs.Kept.{IsKept, has_number, shown};
+    ghost use Rattle.io_objects.specs.Kept.{IsKept, shown};
 
     ghost Value = { Ios };
 
     ghost view = { λ a. record {
-      limit = a.operations.keys;
-      slots = a.operations.slots;
+      limit = length a.started.lists;
+      slots = a.started.room;
       there = a.there.items;
-      operations = map (shown (has_number a.started.entries)) a.operations.entries;
+      operations = shown a.started.lists a.issued.lists;
     } };
 
-    ghost invariant = { λ a. IsKept a.there.items a.operations a.started };
+    ghost invariant = { λ a. IsKept a.there.items a.started a.issued a.count };
 }
 
 // The key of an object: its number, counted from 0.
@@ -80,10 +86,12 @@ impl IoObjects {
     pub fn open(alloc: Global, limit: u32, slots: u32) -> Result<IoObjects, AllocError>
         ensures { IfOk result (λ ios. ios ≡ record { limit = limit; slots = slots; there = replicate (limit + 1) false; operations = [] }) }
     {
+        let buckets = slots.clamp(1, MOST_BUCKETS);
         Ok(IoObjects {
             there: vec![in alloc; false; limit as usize + 1]?,
-            operations: KeyedLists::open(alloc, limit, slots)?,
-            started: KeyedLists::open(alloc, limit, slots)?,
+            started: RisingLists::open(alloc, limit, buckets, slots)?,
+            issued: RisingLists::open(alloc, limit, buckets, slots)?,
+            count: 0,
         })
     }
 
@@ -95,7 +103,7 @@ impl IoObjects {
         ensures rising { IsRising self.now.operations }
         ensures places { length self.now.there ≡ self.now.limit + 1 }
     {
-        self.operations.len()
+        self.count
     }
 
     /// Whether there is an object of this number.
@@ -131,10 +139,10 @@ impl IoObjects {
         requires { is_there self.now object.0 ≡ true }
         ensures { result ≡ if has_operation object.0 self.now.operations then Err (Refusal.OperationsOutstanding object) else Ok tt }
     {
-        match self.operations.first(key_of(object)) {
-            Some(_) => Err(Refusal::OperationsOutstanding { io: object }),
-            None => Ok(()),
+        if self.started.len(key_of(object)) > 0 || self.issued.len(key_of(object)) > 0 {
+            return Err(Refusal::OperationsOutstanding { io: object });
         }
+        Ok(())
     }
 
     /// Starts an operation of an object: StartThreadpoolIo. `callback` is the number of the callback
@@ -146,8 +154,8 @@ impl IoObjects {
         requires above { All (λ o. o.number < callback) self.old.operations }
         ensures { self.new ≡ record self.old { operations = self.old.operations ++ started object callback ∷ [] } }
     {
-        self.operations.add(key_of(object), callback);
-        self.started.add(key_of(object), callback);
+        self.started.put(key_of(object), callback);
+        self.count += 1;
     }
 
     /// Issues the operation of an object that started first, and answers its number.
@@ -161,7 +169,9 @@ impl IoObjects {
     {
         match self.started.first(key_of(object)) {
             Some(issued) => {
-                self.started.remove(issued);
+                let key = key_of(object);
+                self.started.take_out(key, issued);
+                self.issued.put(key, issued);
                 Ok(issued)
             }
             None => Err(Refusal::NotStarted),
@@ -180,8 +190,8 @@ impl IoObjects {
     {
         match self.started.first(key_of(object)) {
             Some(cancelled) => {
-                self.started.remove(cancelled);
-                self.operations.remove(cancelled);
+                self.started.take_out(key_of(object), cancelled);
+                self.count -= 1;
                 Ok(cancelled)
             }
             None => Err(Refusal::NotStarted),
@@ -196,13 +206,14 @@ impl IoObjects {
         ensures completed { OnOk result (self.new ≡ record self.old { operations = without_operation callback self.old.operations }) }
         ensures unchanged { OnErr result (self.new ≡ self.old) }
     {
-        let started = self.started.key_of(callback);
-        match self.operations.key_of(callback) {
-            Some(key) if started.is_none() => {
-                self.operations.remove(callback);
+        let limit = (self.there.len() - 1) as u32;
+        match self.issued.list_with(0, limit, callback) {
+            Some(key) => {
+                self.issued.take_out(key, callback);
+                self.count -= 1;
                 Ok(ObjectId(key + 1))
             }
-            _ => Err(Refusal::NoOperation),
+            None => Err(Refusal::NoOperation),
         }
     }
 }

@@ -13,6 +13,15 @@ held_at q [] i within is = absurd (omega arith)
 held_at q (x ∷ xs) zero within is = omega (arith, tally_same x q is)
 held_at q (x ∷ xs) (suc i) within is = omega (arith, held_at q xs i (omega arith) is)
 
+-- where a place among these stands
+pub index_of : (q : ℕ) (xs : List ℕ) → 1 ≤ times q xs → (i : ℕ) × (i < length xs) × (get_or xs i 0 ≡ q)
+index_of q [] there = absurd (omega arith)
+index_of q (x ∷ xs) there =
+    ⊎_elim
+    (λ (same : x ≡ q). (0, omega arith, same))
+    (λ (apart : x ≢ q). let rest = index_of q xs (omega (arith, there, tally_other x q apart)) in (suc rest.0, omega (arith, rest.1), rest.2))
+    (cases_eq x q)
+
 -- behind the last place
 pub put_behind_last : (p u : ℕ) (ps : List ℕ) → ((q : ℕ) → times q (u ∷ ps) ≤ 1) → put_behind (get_or (u ∷ ps) (length ps) 0) p u ps ≡ ps ++ p ∷ []
 put_behind_last p u [] once = refl
@@ -30,6 +39,16 @@ module _ (after before : ℕ → ℕ) where
   pub first_some : (u e : ℕ) (ps : List ℕ) → Run after before u ps e → after u ≢ e → slice_get ps 0 ≡ Some (after u)
   first_some u e [] run apart = absurd (apart run.on)
   first_some u e (x ∷ xs) run apart = ap Some (sym run.0.on)
+
+  -- what follows the place before them all, and what follows one of them
+  pub first_after : (u e : ℕ) (ps : List ℕ) → Run after before u ps e → after u ≡ get_or ps 0 e
+  first_after u e [] run = run.on
+  first_after u e (x ∷ xs) run = run.0.on
+
+  pub step_after : (u e : ℕ) (ps : List ℕ) (i : ℕ) → Run after before u ps e → i < length ps → after (get_or ps i 0) ≡ get_or ps (suc i) e
+  step_after u e [] i run within = absurd (omega arith)
+  step_after u e (x ∷ xs) zero run within = first_after x e xs run.1
+  step_after u e (x ∷ xs) (suc i) run within = step_after x e xs i run.1 (omega arith)
 
   pub last_before : (u e : ℕ) (ps : List ℕ) → Run after before u ps e → before e ≡ get_or (u ∷ ps) (length ps) 0
   last_before u e [] run = run.back

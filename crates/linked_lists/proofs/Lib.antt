@@ -1,7 +1,10 @@
 pub mod Ends
+pub mod Going
+pub mod Limits
 pub mod Links
 pub mod Made
 pub mod Moves
+pub mod Moving
 pub mod Order
 pub mod Passed
 pub mod Rings

@@ -1,7 +1,7 @@
 -- What is read of linked lists, by what they keep.
-use Rattle.std.proofs.Common.{◌≡◌, ◌≢◌, ◌==◌, ◌-◌, inr, ℕ, ◌≤◌, ◌<◌, List, ◌∷◌, None, Some, length, ltb, map, refl, sym, ap, ◌∙◌, arith, ⊎_elim}
+use Rattle.std.proofs.Common.{◌≡◌, ◌≢◌, ◌==◌, ◌-◌, inr, ℕ, ◌≤◌, ◌<◌, true, false, List, ◌∷◌, None, Some, length, ltb, map, refl, sym, ap, ◌∙◌, arith, ⊎_elim}
 use Rattle.std.specs.List.{slice_get}
-use Rattle.std.proofs.lemmas.Bool.{cases_eq, cases_lt}
+use Rattle.std.proofs.lemmas.Bool.{cases_eq, cases_lt, le-ltb, lt-ltb}
 use Rattle.std.proofs.lemmas.List.{get_or_past, get_or-map}
 use Rattle.linked_lists.specs.declared.nodes.Node.{Node}
 use Rattle.linked_lists.specs.Kept.{AreKept, after_in, before_in, linked_in, lists_in}
@@ -34,6 +34,12 @@ module _ (all : Linked) (are : AreOwned all) (s : ℕ) (within : s < length all.
       (λ (is : owner_of all q ≡ s). is)
       (λ (apart : owner_of all q ≢ s). absurd (omega (arith, there, are.once s q within, tally_other (owner_of all q) s apart)))
       (cases_eq (owner_of all q) s)
+
+  pub once_in : (q : ℕ) → owner_of all q ≡ s → 1 ≤ times q (list_of all s)
+  once_in q is = omega (arith, are.once s q within, tally_same (owner_of all q) s is)
+
+  pub there_in : (q : ℕ) → IsOf all s q → q ≢ s → 1 ≤ times q (list_of all s)
+  there_in q of apart = ⊎_elim (λ (same : q ≡ s). absurd (apart same)) (λ (is : owner_of all q ≡ s). once_in q is) of
 
 module _ (capacity : ℕ) (arena : Arena) (owners lens : List ℕ) (kept : AreKept capacity arena owners lens) where
   abbrev all : Linked
@@ -103,3 +109,10 @@ module _ (capacity : ℕ) (arena : Arena) (owners lens : List ℕ) (kept : AreKe
 -- a node tells whether the number of its place is below another
 pub is_below_read : (nodes : List Node) (number at : ℕ) → at < length nodes → is_below (map (λ (node : Node). node.number) nodes) number at ≡ ltb ((node_at nodes at).number) number
 is_below_read nodes number at within = ap (λ n. ltb n number) (get_or-map (λ (node : Node). node.number) nodes at no_node 0 within)
+
+module _ (nodes : List Node) (number at : ℕ) (within : at < length nodes) (node : Node) (read : node ≡ node_at nodes at) where
+  pub below_read : node.number < number → is_below (map (λ (n : Node). n.number) nodes) number at ≡ true
+  below_read lt = is_below_read nodes number at within ∙ lt-ltb _ _ (omega (arith, lt, ap (λ (n : Node). n.number) read))
+
+  pub not_below_read : number ≤ node.number → is_below (map (λ (n : Node). n.number) nodes) number at ≡ false
+  not_below_read le = is_below_read nodes number at within ∙ le-ltb _ _ (omega (arith, le, ap (λ (n : Node). n.number) read))

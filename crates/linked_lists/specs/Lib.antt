@@ -1,4 +1,5 @@
 pub mod Kept
 pub mod Linked
+pub mod Moved
 pub mod Nodes
 pub mod Rings

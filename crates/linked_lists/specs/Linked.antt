@@ -1,5 +1,5 @@
 -- Lists of places: what a contract sees of `LinkedLists`.
-use Rattle.std.specs.Prelude.{◌≡◌, ℕ, ◌+◌, ◌≤◌, ◌<◌, ◌==◌, ◌⊎◌, Bool, true, false, nat_lt, List, [], ◌∷◌, Option, None, length, slice_get, slice_index, slice_index_or, slice_set, if◌then◌else◌}
+use Rattle.std.specs.Prelude.{◌≡◌, ℕ, ◌+◌, ◌≤◌, ◌<◌, ◌==◌, ◌⊎◌, Bool, true, false, nat_lt, not, List, [], ◌∷◌, Option, None, filter, length, slice_get, slice_index, slice_index_or, slice_set, if◌then◌else◌}
 use Rattle.std.specs.List.{AllPairs}
 
 -- for how many places there is room; by place the numbers, and the lists that they are in; and the places of each
@@ -58,6 +58,18 @@ moved all place owner list places = record all { owners = slice_set all.owners p
 -- the place's number is below this one
 abbrev pub is_below : List ℕ → ℕ → ℕ → Bool
 is_below numbers number place = nat_lt (slice_index numbers place) number
+
+-- how many of these places have a number below this one, and how many haven't
+abbrev pub count_below : List ℕ → ℕ → List ℕ → ℕ
+count_below numbers number places = length (filter (is_below numbers number) places)
+
+abbrev pub count_others : List ℕ → ℕ → List ℕ → ℕ
+count_others numbers number places = length (filter (λ p. not (is_below numbers number p)) places)
+
+-- some of these places have a number below this one, and some haven't
+pub record IsBetween (numbers : List ℕ) (number : ℕ) (places : List ℕ) : Type 0 where
+  pub above_some : 0 < count_below numbers number places
+  pub not_above_all : 0 < count_others numbers number places
 
 -- the last of these places that passes, or the one before them all
 abbrev pub last_passing : (ℕ → Bool) → ℕ → List ℕ → ℕ

@@ -48,6 +48,7 @@ impl Nodes {
     }
 
     /// How many nodes there are. There are never more than there is room for.
+    #[inline(always)]
     pub fn len(&self) -> u32
         ensures value { result ≡ length self.now.nodes }
         ensures limited { length self.now.nodes ≤ self.now.room }
@@ -57,6 +58,7 @@ impl Nodes {
     }
 
     /// The node at a place. That is one step, and no other call reads a node.
+    #[inline(always)]
     pub fn read<L: Ledger>(&self, place: u32, steps: &mut Steps<L>) -> Node
         requires { place < length self.now.nodes }
         ensures node { result ≡ slice_index_or self.now.nodes place no_node }
@@ -67,6 +69,7 @@ impl Nodes {
     }
 
     /// Adds a node behind the others.
+    #[inline(always)]
     pub fn push(&mut self, node: Node)
         requires { length self.old.nodes < self.old.room }
         ensures { self.new ≡ record self.old { nodes = self.old.nodes ++ node ∷ [] } }
@@ -75,6 +78,7 @@ impl Nodes {
     }
 
     /// Makes the second place follow the first. No other call changes a link.
+    #[inline(always)]
     pub fn link(&mut self, before: u32, after: u32)
         requires first { before < length self.old.nodes }
         requires second { after < length self.old.nodes }
@@ -85,6 +89,7 @@ impl Nodes {
     }
 
     /// Gives a place this number.
+    #[inline(always)]
     pub fn set_number(&mut self, place: u32, number: u64)
         requires { place < length self.old.nodes }
         ensures { self.new ≡ record self.old { nodes = with_node place (record (node_at self.old.nodes place) { number = number }) self.old.nodes } }

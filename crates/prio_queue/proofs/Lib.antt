@@ -1,5 +1,5 @@
-pub mod Apart
-pub mod Filters
 pub mod Entries
+pub mod Filters
 pub mod Lines
 pub mod Order
+pub mod Removed

@@ -33,6 +33,7 @@ impl<L: Ledger> Model for Steps<L> {
 
 impl<L: Ledger> Steps<L> {
     /// A counter at 0. It stands for the ledger that nothing stands for yet.
+    #[inline(always)]
     pub fn open(blank: Blank) -> Steps<L>
         requires name { blank.name ≡ L.name }
         requires parts { blank.parts ≡ L.parts }
@@ -44,6 +45,7 @@ impl<L: Ledger> Steps<L> {
     }
 
     /// Counts one step.
+    #[inline(always)]
     pub fn tick(&mut self)
         ensures { self.new ≡ self.old + 1 }
     {

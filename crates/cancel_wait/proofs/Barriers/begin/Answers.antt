@@ -1,27 +1,16 @@
-use Rattle.std.proofs.Common.{◌≡◌, ◌<◌, true, false, Some, ap, refl, length}
-use Rattle.cancel_wait.proofs.Waits.{within_waits, idle_at, shown_with, empty_at, not_listed, room_to_begin, now_begun}
+use Rattle.std.proofs.Common.{◌<◌, ◌∙◌, Bool, false, true, Some, None, [], ap, arith, get_or, if◌then◌else◌, length, set}
+use Rattle.std.proofs.lemmas.List.{get_or-set_same, length-set}
+use Rattle.cancel_wait.proofs.Waits.{else_flag, idle, many_shown, shown_with}
 use Rattle.cancel_wait.proofs.Barriers.begin.Goals as goal
 
-within : (c : goal.After-from) → c.args.waiter < length c.self.inside.waits.items
-within c = within_waits c.self.inside.slots c.self.inside.waits.items c.args.self.now c.args.waiter c.self.view_is c.requires.there
-
-idle : (c : goal.After-from) → c.index_mut-wait.result.now.begun ≡ false
-idle c = idle_at c.self.inside.waits.items c.args.waiter _ (within c) c.index_mut-wait.ensures.value c.self.inside.slots c.args.self.now c.self.view_is c.requires.idle
-
-pub put-requires-clause-room : goal.put-requires-clause-room
-put-requires-clause-room c =
-    room_to_begin c.self.inside.waits.items c.args.waiter _ (record c.index_mut-wait.result.now { begun = true }) _ _ (within c) c.index_mut-wait.ensures.value c.self.invariant refl (idle c) refl
-
-pub put-requires-clause-free : goal.put-requires-clause-free
-put-requires-clause-free c =
-    rw c.from.ensures (not_listed c.self.inside.waits.items c.args.waiter _ (record c.index_mut-wait.result.now { begun = true }) _ _ (within c) c.index_mut-wait.ensures.value c.self.invariant refl (idle c))
-
-pub invariant_of-self : goal.invariant_of-self
-invariant_of-self c =
-    let after = rw c.from.ensures at c.put.ensures.after in
-    now_begun c.self.inside.waits.items c.args.waiter _ (record c.index_mut-wait.result.now { begun = true }) _ _ (within c.before) c.index_mut-wait.ensures.value c.self.invariant refl _ (idle c.before) refl after c.put.ensures.len
+pub index_mut-requires : goal.index_mut-requires
+index_mut-requires c = omega (arith, rw (← c.self.view_is) at c.requires.there, many_shown c.self.inside.begun.items c.self.inside.covered.lists, c.self.inside.begun.ok.0)
 
 pub returns : goal.returns
 returns c =
-    let none = empty_at c.self.inside.waits.items c.args.waiter _ (within c.before) c.index_mut-wait.ensures.value _ _ c.self.invariant (idle c.before) in
-    shown_with c.self.inside.waits.items c.args.waiter _ (within c.before) c.index_mut-wait.ensures.value c.self.inside.slots (record c.index_mut-wait.result.now { begun = true }) _ _ c.self.view_is (ap Some none)
+    let begun = c.self.inside.begun.items in
+    let lists = c.self.inside.covered.lists in
+    let within : c.args.waiter < length begun = omega (arith, rw (← c.self.view_is) at c.requires.there, many_shown begun lists) in
+    let none = c.self.invariant.empty c.args.waiter (idle begun lists c.args.waiter (rw (← c.self.view_is) at c.requires.idle)) in
+    let now = ap (λ (f : Bool). if f then Some (get_or lists c.args.waiter []) else None) (get_or-set_same begun c.args.waiter true false within) ∙ ap Some none in
+    rw (← c.self.view_is) (shown_with begun (set begun c.args.waiter true) lists lists c.args.waiter within (length-set begun c.args.waiter true) (else_flag begun lists c.args.waiter true) c.self.inside.slots (Some []) now)

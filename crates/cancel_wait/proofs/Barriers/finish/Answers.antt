@@ -1,23 +1,22 @@
-use Rattle.std.proofs.Common.{◌≡◌, ◌<◌, ◌∙◌, true, false, ap, refl, length}
-use Rattle.rising_numbers.specs.Rising.{Rising}
-use Rattle.cancel_wait.proofs.Shown.{since_true}
-use Rattle.cancel_wait.proofs.Waits.{within_begun, busy_at, listed_at, shown_with, now_ended}
+use Rattle.std.proofs.Common.{Bool, false, Some, None, [], ap, arith, get_or, if◌then◌else◌, set}
+use Rattle.std.proofs.lemmas.List.{get_or-set_same, length-set}
+use Rattle.cancel_wait.proofs.Waits.{busy, busy_there, else_both, shown_with}
 use Rattle.cancel_wait.proofs.Barriers.finish.Goals as goal
 
-within : (c : goal.After-take_out) → c.args.waiter < length c.self.inside.waits.items
-within c = within_begun c.self.inside.slots c.self.inside.waits.items c.args.self.now c.args.waiter c.self.view_is c.requires
+pub index_mut-requires : goal.index_mut-requires
+index_mut-requires c =
+    let is = busy c.self.inside.begun.items c.self.inside.covered.lists c.args.waiter (rw (← c.self.view_is) at c.requires) in
+    omega (arith, busy_there c.self.inside.begun.items c.self.inside.covered.lists c.args.waiter is, c.self.inside.begun.ok.0)
 
-busy : (c : goal.After-take_out) → c.index_mut-wait.result.now.begun ≡ true
-busy c = busy_at c.self.inside.waits.items c.args.waiter _ (within c) c.index_mut-wait.ensures.value c.self.inside.slots c.args.self.now c.self.view_is c.requires
-
-pub invariant_of-self : goal.invariant_of-self
-invariant_of-self c =
-    let after = rw c.from.ensures at c.take_out.ensures.after in
-    let found = rw c.from.ensures at c.take_out.ensures.found in
-    let listed = listed_at c.self.inside.waits.items c.args.waiter _ (within c) c.index_mut-wait.ensures.value _ _ c.self.invariant (busy c) in
-    let fewer = since_true _ _ (found ∙ listed) c.take_out.ensures.one_fewer in
-    now_ended c.self.inside.waits.items c.args.waiter _ (record { begun = false; covered = c.clear.new.self }) _ _ (within c) c.index_mut-wait.ensures.value c.self.invariant (ap (λ (r : Rising). r.room) c.clear.ensures) _ (busy c) refl (ap (λ (r : Rising). r.numbers) c.clear.ensures) after fewer
+pub clear-requires : goal.clear-requires
+clear-requires c =
+    let is = busy c.self.inside.begun.items c.self.inside.covered.lists c.args.waiter (rw (← c.self.view_is) at c.requires) in
+    omega (arith, busy_there c.self.inside.begun.items c.self.inside.covered.lists c.args.waiter is, c.self.invariant.many)
 
 pub returns : goal.returns
 returns c =
-    shown_with c.self.inside.waits.items c.args.waiter _ (within c) c.index_mut-wait.ensures.value c.self.inside.slots (record { begun = false; covered = c.clear.new.self }) _ _ c.self.view_is refl
+    let begun = c.self.inside.begun.items in
+    let lists = c.self.inside.covered.lists in
+    let within = busy_there begun lists c.args.waiter (busy begun lists c.args.waiter (rw (← c.self.view_is) at c.requires)) in
+    let now = ap (λ (f : Bool). if f then Some (get_or (set lists c.args.waiter []) c.args.waiter []) else None) (get_or-set_same begun c.args.waiter false false within) in
+    rw (← c.self.view_is, c.clear.ensures) (shown_with begun (set begun c.args.waiter false) lists (set lists c.args.waiter []) c.args.waiter within (length-set begun c.args.waiter false) (else_both begun lists c.args.waiter false []) c.self.inside.slots None now)

@@ -1,14 +1,8 @@
-use Rattle.std.proofs.Common.{◌≡◌, ◌∙◌, ap, replicate, map, arith}
-use Rattle.cancel_wait.specs.Kept.{shown}
-use Rattle.cancel_wait.proofs.Opened.{unbegun, opened, all_unbegun}
+use Rattle.std.proofs.Common.{◌≡◌, false, replicate, rules}
+use Rattle.cancel_wait.proofs.Waits.{shown_none}
 use Rattle.cancel_wait.proofs.Barriers.open.Goals as goal
-
-pub invariant_of-result : goal.invariant_of-result
-invariant_of-result c =
-    let all : c.loop.counter ≡ c.args.waiters = omega arith in
-    rw c.in_ok-open-2.ensures (opened c.args.waiters c.args.slots c.loop.waits.items (c.loop.invariant.items ∙ ap (λ n. replicate n (unbegun c.args.slots)) all))
 
 pub returns-clause-waits : goal.returns-clause-waits
 returns-clause-waits c =
-    let all : c.loop.counter ≡ c.args.waiters = omega arith in
-    ap (map shown) (c.loop.invariant.items ∙ ap (λ n. replicate n (unbegun c.args.slots)) all) ∙ all_unbegun c.args.waiters c.args.slots
+    let none : c.in_ok-begun.begun.items ≡ replicate c.args.waiters false = c.in_ok-begun.ensures.items_if_clones_equal (λ y same. search rules) in
+    rw (c.in_ok-covered.ensures, none) (shown_none c.args.waiters)

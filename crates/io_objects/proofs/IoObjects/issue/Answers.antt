@@ -1,23 +1,43 @@
-use Rattle.std.proofs.Common.{refl, sym, ◌∙◌}
-use Rattle.io_objects.specs.Kept.{has_number}
-use Rattle.io_objects.proofs.Kept.{first_is, kept_issued}
-use Rattle.io_objects.proofs.Shown.{fewer_started, issued_shown, without}
+use Rattle.std.proofs.Common.{◌≡◌, ◌∙◌, ℕ, List, true, refl, sym, ap, arith}
+use Rattle.std.proofs.lemmas.List.{length-set}
+use Rattle.rising_lists.specs.Rising.{all_but, numbers_at}
+use Rattle.io_objects.specs.Operations.{Ios, Operation, with_issued}
+use Rattle.io_objects.specs.Kept.{has, shown}
+use Rattle.io_objects.proofs.Held.{first_there}
+use Rattle.io_objects.proofs.Kept.{all_issued, free_issued, kept_issued, within}
+use Rattle.io_objects.proofs.Turns.{first_none, first_some}
 use Rattle.io_objects.proofs.IoObjects.issue.Goals as goal
 
+pub put-requires-clause-free : goal.put-requires-clause-free
+put-requires-clause-free c =
+    let same : c.key_of-key.result ≡ c.key_of.result = omega (arith, c.key_of.ensures, c.key_of-key.ensures) in
+    let has_it : has c.self.inside.started.lists c.key_of-key.result c.in-Some.issued ≡ true = ap (λ k. has c.self.inside.started.lists k c.in-Some.issued) same ∙ first_there c.in-Some.issued (numbers_at c.self.inside.started c.key_of.result) (sym c.first.ensures.value ∙ c.in-Some.is) in
+    let inside = within _ _ _ _ c.self.invariant c.args.object.0 c.key_of-key.result c.key_of-key.ensures (rw (← c.self.view_is) at c.requires) in
+    free_issued _ _ _ _ c.self.invariant c.in-Some.issued c.key_of-key.result inside has_it
+
 pub invariant_of-self : goal.invariant_of-self
-invariant_of-self c = kept_issued _ _ _ c.self.invariant _ _ c.remove.ensures.after
+invariant_of-self c =
+    let same : c.key_of-key.result ≡ c.key_of.result = omega (arith, c.key_of.ensures, c.key_of-key.ensures) in
+    let has_it : has c.self.inside.started.lists c.key_of-key.result c.in-Some.issued ≡ true = ap (λ k. has c.self.inside.started.lists k c.in-Some.issued) same ∙ first_there c.in-Some.issued (numbers_at c.self.inside.started c.key_of.result) (sym c.first.ensures.value ∙ c.in-Some.is) in
+    let inside = within _ _ _ _ c.self.invariant c.args.object.0 c.key_of-key.result c.key_of-key.ensures (rw (← c.self.view_is) at c.requires) in
+    rw (c.take_out.ensures.after, c.put.ensures) (kept_issued _ _ _ _ c.self.invariant c.in-Some.issued c.key_of-key.result inside has_it)
 
 pub returns-in-Some-clause-answer : goal.returns-in-Some-clause-answer
 returns-in-Some-clause-answer c =
-    let told = sym (first_is _ _ _ c.self.invariant c.key_of.result) ∙ sym c.first.ensures ∙ c.in-Some.is in
+    let told = first_some _ _ c.self.invariant.apart c.key_of.result c.in-Some.issued (c.first.ensures.rises c.key_of.result) (sym c.first.ensures.value ∙ c.in-Some.is) in
     rw (← c.self.view_is, c.key_of.ensures) (rw told refl)
 
 pub returns-in-Some-clause-issued : goal.returns-in-Some-clause-issued
 returns-in-Some-clause-issued c =
-    let shown_now = issued_shown (has_number c.self.inside.started.entries) (has_number (without c.in-Some.issued c.self.inside.started.entries)) c.in-Some.issued (λ m. fewer_started c.in-Some.issued m c.self.inside.started.entries) c.self.inside.operations.entries in
-    rw (← c.self.view_is, c.remove.ensures.after) (rw shown_now refl)
+    let same : c.key_of-key.result ≡ c.key_of.result = omega (arith, c.key_of.ensures, c.key_of-key.ensures) in
+    let has_it : has c.self.inside.started.lists c.key_of-key.result c.in-Some.issued ≡ true = ap (λ k. has c.self.inside.started.lists k c.in-Some.issued) same ∙ first_there c.in-Some.issued (numbers_at c.self.inside.started c.key_of.result) (sym c.first.ensures.value ∙ c.in-Some.is) in
+    let inside = within _ _ _ _ c.self.invariant c.args.object.0 c.key_of-key.result c.key_of-key.ensures (rw (← c.self.view_is) at c.requires) in
+    let make : ℕ → List Operation → Ios = λ limit operations. record { limit = limit; slots = c.self.inside.started.room; there = c.self.inside.there.items; operations = operations } in
+    let long = length-set c.self.inside.started.lists c.key_of-key.result (all_but c.in-Some.issued (numbers_at c.self.inside.started c.key_of-key.result)) in
+    rw (← c.self.view_is, c.take_out.ensures.after, c.put.ensures)
+    (ap (make _) (all_issued _ _ _ _ c.self.invariant c.in-Some.issued c.key_of-key.result inside has_it) ∙ ap (λ limit. make limit (with_issued c.in-Some.issued (shown c.self.inside.started.lists c.self.inside.issued.lists))) long)
 
 pub returns-in-None-clause-answer : goal.returns-in-None-clause-answer
 returns-in-None-clause-answer c =
-    let told = sym (first_is _ _ _ c.self.invariant c.key_of.result) ∙ sym c.first.ensures ∙ c.in-None.is in
+    let told = first_none _ _ c.self.invariant.apart c.key_of.result (sym c.first.ensures.value ∙ c.in-None.is) in
     rw (← c.self.view_is, c.key_of.ensures) (rw told refl)

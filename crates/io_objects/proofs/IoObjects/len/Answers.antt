@@ -1,5 +1,11 @@
-use Rattle.io_objects.proofs.Kept.{rising_shown}
+use Rattle.std.proofs.Common.{◌^◌}
+use Rattle.io_objects.specs.Kept.{operation_of}
+use Rattle.io_objects.proofs.Below.{below_rising}
+use Rattle.io_objects.proofs.Turns.{own}
 use Rattle.io_objects.proofs.IoObjects.len.Goals as goal
 
 pub returns-clause-rising : goal.returns-clause-rising
-returns-clause-rising c = rw (← c.self.view_is) (rising_shown _ c.self.inside.operations.entries c.len.ensures.rising)
+returns-clause-rising c =
+    let s = c.self.inside.started.lists in
+    let i = c.self.inside.issued.lists in
+    rw (← c.self.view_is) (below_rising (operation_of s i) (own s i c.self.invariant.apart) (2 ^ 64))

@@ -1,33 +1,30 @@
-use Rattle.std.proofs.Common.{◌≡◌, ◌++◌, ◌∷◌, [], refl, ap, sym, arith}
-use Rattle.std.proofs.lemmas.List.{length-map}
-use Rattle.keyed_lists.specs.Keyed.{entry}
-use Rattle.io_objects.specs.Kept.{has_number, shown}
-use Rattle.io_objects.proofs.Kept.{below_shown, below_started, few_started, kept_more}
-use Rattle.io_objects.proofs.Shown.{more_shown, named, one_started}
+use Rattle.std.proofs.Common.{◌≡◌, ◌++◌, ◌∷◌, [], ◌∙◌, ℕ, List, sym, ap, arith}
+use Rattle.std.proofs.lemmas.List.{length-set}
+use Rattle.rising_lists.specs.Rising.{numbers_at, with_number}
+use Rattle.io_objects.specs.Operations.{Ios, Operation, started}
+use Rattle.io_objects.specs.Kept.{shown}
+use Rattle.io_objects.proofs.Kept.{all_more, free_started, kept_more, within}
+use Rattle.io_objects.proofs.Turns.{named}
 use Rattle.io_objects.proofs.IoObjects.start.Goals as goal
 
-pub add-requires-clause-last : goal.add-requires-clause-last
-add-requires-clause-last c = below_shown _ _ _ (rw (← c.self.view_is) at c.requires.above)
-
-pub add-requires-2-clause-room : goal.add-requires-2-clause-room
-add-requires-2-clause-room c =
-    let room = rw (← c.self.view_is) at c.requires.room in
-    let all = length-map c.self.inside.operations.entries (shown (has_number c.self.inside.started.entries)) in
-    omega (arith, room, all, few_started _ _ _ c.self.invariant, c.self.invariant.same_slots)
-
-pub add-requires-2-clause-last : goal.add-requires-2-clause-last
-add-requires-2-clause-last c = below_started _ _ _ c.self.invariant _ (below_shown _ _ _ (rw (← c.self.view_is) at c.requires.above))
+pub put-requires-clause-free : goal.put-requires-clause-free
+put-requires-clause-free c =
+    let inside = within _ _ _ _ c.self.invariant c.args.object.0 c.key_of.result c.key_of.ensures (rw (← c.self.view_is) at c.requires.there) in
+    free_started _ _ _ _ c.self.invariant c.args.callback c.key_of.result inside (omega arith) (rw (← c.self.view_is) at c.requires.above)
 
 pub invariant_of-self : goal.invariant_of-self
 invariant_of-self c =
-    let same : c.key_of-2.result ≡ c.key_of.result = omega (arith, c.key_of.ensures, c.key_of-2.ensures) in
-    let some = rw same at c.add-2.ensures in
-    kept_more _ _ _ c.self.invariant _ _ _ _ (below_shown _ _ _ (rw (← c.self.view_is) at c.requires.above)) c.add.ensures some
+    let inside = within _ _ _ _ c.self.invariant c.args.object.0 c.key_of.result c.key_of.ensures (rw (← c.self.view_is) at c.requires.there) in
+    let room = rw (← c.self.view_is) at c.requires.room in
+    rw c.put.ensures (kept_more _ _ _ _ c.self.invariant c.args.callback c.key_of.result inside (omega arith) (rw (← c.self.view_is) at c.requires.above) (omega (arith, room, c.self.invariant.counted)))
 
 pub returns : goal.returns
 returns c =
-    let below = below_shown _ _ _ (rw (← c.self.view_is) at c.requires.above) in
+    let inside = within _ _ _ _ c.self.invariant c.args.object.0 c.key_of.result c.key_of.ensures (rw (← c.self.view_is) at c.requires.there) in
+    let all = shown c.self.inside.started.lists c.self.inside.issued.lists in
     let one : named c.key_of.result ≡ c.args.object = ap (λ n. record { 0 = n }) (sym c.key_of.ensures) in
-    let shown_now =
-    more_shown (has_number c.self.inside.started.entries) (has_number (c.self.inside.started.entries ++ entry c.key_of-2.result c.args.callback ∷ [])) c.args.callback c.key_of.result (λ m. one_started c.args.callback m c.key_of-2.result c.self.inside.started.entries) c.self.inside.operations.entries below in
-    rw (← c.self.view_is, c.add.ensures, c.add-2.ensures) (rw (shown_now, one) refl)
+    let more = all_more _ _ _ _ c.self.invariant c.args.callback c.key_of.result inside (omega arith) (rw (← c.self.view_is) at c.requires.above) ∙ ap (λ object. all ++ started object c.args.callback ∷ []) one in
+    let make : ℕ → List Operation → Ios = λ limit operations. record { limit = limit; slots = c.self.inside.started.room; there = c.self.inside.there.items; operations = operations } in
+    let long = length-set c.self.inside.started.lists c.key_of.result (with_number c.args.callback (numbers_at c.self.inside.started c.key_of.result)) in
+    rw (← c.self.view_is, c.put.ensures)
+    (ap (make _) more ∙ ap (λ limit. make limit (all ++ started c.args.object c.args.callback ∷ [])) long)

@@ -1,9 +1,39 @@
-use Rattle.std.proofs.Common.{ap}
-use Rattle.prio_queue.specs.Pending.{Pending}
-use Rattle.prio_queue.proofs.Lines.{within_lines, list_at}
+use Rattle.std.proofs.Common.{◌+◌, ◌*◌, ◌<◌, ◌∙◌, ap, arith, get_or, refl, sym, []}
+use Rattle.std.specs.List.{slice_get}
+use Rattle.prio_queue.specs.Line.{row}
+use Rattle.prio_queue.specs.Pending.{first_number}
+use Rattle.prio_queue.proofs.Entries.{first_few, first_of_rows}
+use Rattle.prio_queue.proofs.Order.{entries_in_order}
+use Rattle.prio_queue.proofs.Lines.{line_at, many_lines}
 use Rattle.prio_queue.proofs.Queues.first.Goals as goal
+
+pub first_list-requires-clause-there : goal.first_list-requires-clause-there
+first_list-requires-clause-there c =
+    let within : c.args.pool < c.self.inside.pools = omega (arith, rw (← c.self.view_is) at c.requires, many_lines c.self.inside.pools c.self.inside.lists.lists) in
+    omega (arith, within, c.self.invariant.fits, c.self.invariant.many)
+
+pub first_list-requires-clause-fits : goal.first_list-requires-clause-fits
+first_list-requires-clause-fits c =
+    let within : c.args.pool < c.self.inside.pools = omega (arith, rw (← c.self.view_is) at c.requires, many_lines c.self.inside.pools c.self.inside.lists.lists) in
+    omega (arith, within, c.self.invariant.fits, c.self.invariant.many)
+
+pub first-requires : goal.first-requires
+first-requires c =
+    let within : c.args.pool < c.self.inside.pools = omega (arith, rw (← c.self.view_is) at c.requires, many_lines c.self.inside.pools c.self.inside.lists.lists) in
+    let lists = c.self.inside.lists.lists in
+    omega (arith, within, c.self.invariant.many, c.first_list.ensures, first_few (row lists c.args.pool 0) (row lists c.args.pool 1))
+
+pub returns-clause-value : goal.returns-clause-value
+returns-clause-value c =
+    let within : c.args.pool < c.self.inside.pools = omega (arith, rw (← c.self.view_is) at c.requires, many_lines c.self.inside.pools c.self.inside.lists.lists) in
+    let lists = c.self.inside.lists.lists in
+    let first = ap (λ k. slice_get (get_or lists k []) 0) c.first_list.ensures ∙ first_of_rows (row lists c.args.pool 0) (row lists c.args.pool 1) (row lists c.args.pool 2) (row lists c.args.pool) refl refl refl in
+    rw (← c.self.view_is) (c.first.ensures.value ∙ first ∙ ap first_number (sym (line_at c.self.inside.pools c.args.pool lists within)))
 
 pub returns-clause-in_order : goal.returns-clause-in_order
 returns-clause-in_order c =
-    let at = within_lines _ _ c.args.pool (ap (λ (p : Pending). p.queues) c.self.view_is) c.requires in
-    rw (← c.self.view_is, list_at _ _ _ at c.index.ensures) c.first.ensures.in_order
+    let within : c.args.pool < c.self.inside.pools = omega (arith, rw (← c.self.view_is) at c.requires, many_lines c.self.inside.pools c.self.inside.lists.lists) in
+    let lists = c.self.inside.lists.lists in
+    let rises = c.first.ensures.rises in
+    rw (← c.self.view_is, line_at c.self.inside.pools c.args.pool lists within)
+    (entries_in_order (row lists c.args.pool 0) (row lists c.args.pool 1) (row lists c.args.pool 2) (rises (3 * c.args.pool + 0)) (rises (3 * c.args.pool + 1)) (rises (3 * c.args.pool + 2)))

@@ -1,4 +1,0 @@
-pub mod Listed
-pub mod LiveCallbacks
-pub mod Places
-pub mod Reserved

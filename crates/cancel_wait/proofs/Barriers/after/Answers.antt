@@ -1,0 +1,12 @@
+use Rattle.std.proofs.Common.{◌≤◌, arith, length, refl}
+use Rattle.cancel_wait.proofs.Waits.{covered_is, seen_past}
+use Rattle.cancel_wait.proofs.Barriers.after.Goals as goal
+
+pub returns-then-len-waiter : goal.returns-then-len-waiter
+returns-then-len-waiter c =
+    let past : length c.self.inside.begun.items ≤ c.args.waiter = omega (arith, c.if-len-waiter.true, c.len.ensures, c.self.inside.begun.ok.0) in
+    rw (← c.self.view_is, seen_past c.self.inside.begun.items c.self.inside.covered.lists c.args.waiter past) refl
+
+pub returns : goal.returns
+returns c =
+    rw (← c.self.view_is, covered_is c.self.inside.begun.items c.self.inside.covered.lists c.args.waiter (c.self.invariant.empty c.args.waiter)) c.after.ensures

@@ -1,0 +1,189 @@
+-- What is told of lists as a place leaves one and comes into another.
+use Rattle.std.proofs.Common.{◌≡◌, ◌≢◌, ◌==◌, ℕ, zero, suc, ◌≤◌, ◌<◌, Bool, not, List, [], ◌∷◌, ◌++◌, filter, length, get_or, set, slice_index, if◌then◌else◌, refl, sym, ap, ap₂, subst, ◌∙◌, arith, ltb, ⊎_elim, ne_eqb, eq-eqb, length-set, get_or-set_same, get_or-set_other}
+use Rattle.std.proofs.lemmas.Bool.{cases_eq, cases_lt}
+use Rattle.std.proofs.lemmas.List.{get_or_past}
+use Rattle.std.proofs.lemmas.List.Kept.{AllPairs-filter}
+use Rattle.linked_lists.specs.Linked.{AreInOrder, AreOwned, Linked, is_below, list_of, moved, owner_of, times}
+use Rattle.linked_lists.specs.Moved.{IsEntered, IsLeft, IsMoved, IsReached, with_place, without}
+use Rattle.linked_lists.proofs.Runs.{tally_other, tally_same}
+
+-- ---- places that are not among these
+
+module _ (place : ℕ) where
+  apart_first : (x : ℕ) (xs : List ℕ) → times place (x ∷ xs) ≡ 0 → x ≢ place
+  apart_first x xs none same = absurd (omega (arith, none, tally_same x place same))
+
+  held_apart : (xs : List ℕ) (i d : ℕ) → times place xs ≡ 0 → i < length xs → get_or xs i d ≢ place
+  held_apart [] i d none within = absurd (omega (arith, within))
+  held_apart (x ∷ xs) zero d none within = apart_first x xs none
+  held_apart (x ∷ xs) (suc i) d none within = held_apart xs i d (omega (arith, none)) (omega (arith, within))
+
+  pub filter_apart : (f g : ℕ → Bool) → ((p : ℕ) → p ≢ place → f p ≡ g p) → (xs : List ℕ) → times place xs ≡ 0 → filter f xs ≡ filter g xs
+  filter_apart f g same [] none = refl
+  filter_apart f g same (x ∷ xs) none =
+      let rest : filter f xs ≡ filter g xs = filter_apart f g same xs (omega (arith, none)) in
+      ap₂ (λ (b : Bool) (ys : List ℕ). if b then x ∷ ys else ys) (same x (apart_first x xs none)) rest
+
+  pub without_none : (xs : List ℕ) → times place xs ≡ 0 → without place xs ≡ xs
+  without_none [] none = refl
+  without_none (x ∷ xs) none = rw (ne_eqb x place (apart_first x xs none)) (ap (λ ys. x ∷ ys) (without_none xs (omega (arith, none))))
+
+  pub none_without : (xs : List ℕ) → times place (without place xs) ≡ 0
+  none_without [] = refl
+  none_without (x ∷ xs) =
+      ⊎_elim
+      (λ (same : x ≡ place). rw (eq-eqb x place same) (none_without xs))
+      (λ (apart : x ≢ place). rw (ne_eqb x place apart) (omega (arith, tally_other x place apart, none_without xs)))
+      (cases_eq x place)
+
+  pub order_apart : (old new : List ℕ) → ((q : ℕ) → q ≢ place → slice_index new q ≡ slice_index old q) → (xs : List ℕ) → times place xs ≡ 0 → AreInOrder old xs → AreInOrder new xs
+  order_apart old new same xs none order i j d lt within =
+      let first = same (get_or xs i d) (held_apart xs i d none (omega arith)) in
+      let second = same (get_or xs j d) (held_apart xs j d none within) in
+      omega (arith, first, second, order i j d lt within)
+
+-- ---- a place gets a list, and the list places
+
+list_moved : (all : Linked) (place o list : ℕ) (places : List ℕ) (x : ℕ) → x < length all.lists → list_of (moved all place o list places) x ≡ if x == list then places else list_of all x
+list_moved all place o list places x within =
+    ⊎_elim
+    (λ (same : x ≡ list). rw (eq-eqb x list same) (subst (λ n. get_or (set all.lists n places) x [] ≡ places) same (get_or-set_same all.lists x places [] within)))
+    (λ (apart : x ≢ list). rw (ne_eqb x list apart) (get_or-set_other all.lists list x places [] apart))
+    (cases_eq x list)
+
+owner_moved : (all : Linked) (place o list : ℕ) (places : List ℕ) (q : ℕ) → place < length all.owners → owner_of (moved all place o list places) q ≡ if q == place then o else owner_of all q
+owner_moved all place o list places q within =
+    rw (length-set all.lists list places)
+    (⊎_elim
+    (λ (same : q ≡ place). rw (eq-eqb q place same) (rw same (get_or-set_same all.owners place o (length all.lists) within)))
+    (λ (apart : q ≢ place). rw (ne_eqb q place apart) (get_or-set_other all.owners place q o (length all.lists) apart))
+    (cases_eq q place))
+
+-- no list has a place that is in none
+none_in : (all : Linked) (place x : ℕ) → AreOwned all → owner_of all place ≡ length all.lists → x < length all.lists → times place (list_of all x) ≡ 0
+none_in all place x are free within = are.once x place within ∙ tally_other (owner_of all place) x (λ e. absurd (omega (arith, e, free, within)))
+
+-- ---- a place leaves
+
+pub left_none : (all : Linked) (place : ℕ) → AreOwned all → owner_of all place ≡ length all.lists → IsLeft all all place
+left_none all place are free = record {
+  room = refl;
+  many = refl;
+  listed = λ x within. sym (without_none place (list_of all x) (none_in all place x are free within));
+  owners = λ q.
+      ⊎_elim
+      (λ (same : q ≡ place). rw (eq-eqb q place same) (rw same free))
+      (λ (apart : q ≢ place). rw (ne_eqb q place apart) refl)
+      (cases_eq q place);
+  numbers = refl;
+}
+
+pub left_taken : (all : Linked) (place : ℕ) → AreOwned all → owner_of all place < length all.lists → IsLeft all (moved all place (length all.lists) (owner_of all place) (without place (list_of all (owner_of all place)))) place
+left_taken all place are some =
+    let list = owner_of all place in
+    let places = without place (list_of all list) in
+    let within : place < length all.owners =
+    ⊎_elim
+    (λ (lt : place < length all.owners). lt)
+    (λ (past : length all.owners ≤ place). absurd (omega (arith, some, get_or_past all.owners place (length all.lists) past)))
+    (cases_lt place (length all.owners))
+    in
+    record {
+      room = refl;
+      many = length-set all.lists list places;
+      listed = λ x lt.
+          list_moved all place (length all.lists) list places x lt
+          ∙ ⊎_elim
+          (λ (same : x ≡ list). rw (eq-eqb x list same) (ap (λ n. without place (list_of all n)) (sym same)))
+          (λ (apart : x ≢ list). rw (ne_eqb x list apart) (sym (without_none place (list_of all x) (are.once x place lt ∙ tally_other list x (λ e. apart (sym e))))))
+          (cases_eq x list);
+      owners = λ q. owner_moved all place (length all.lists) list places q within;
+      numbers = refl;
+    }
+
+-- ---- a place comes in
+
+module _ (old new : Linked) (place list number : ℕ) (reached : IsReached old new place) (free : owner_of old place ≡ length old.lists) (within : list < length old.lists) where
+  abbrev numbered : List ℕ
+  numbered = set new.numbers place number
+
+  same_numbers : (q : ℕ) → q ≢ place → slice_index numbered q ≡ slice_index old.numbers q
+  same_numbers q apart = get_or-set_other new.numbers place q number 0 apart ∙ reached.numbers q
+
+  same_list : (x : ℕ) → list_of new x ≡ list_of old x
+  same_list x = ap (λ (ls : List (List ℕ)). get_or ls x []) reached.lists
+
+  none_there : (x : ℕ) → x < length old.lists → times place (list_of new x) ≡ 0
+  none_there x lt = none_in new place x reached.owned (reached.owners place ∙ free ∙ sym (ap length reached.lists)) (omega (arith, lt, ap length reached.lists))
+
+  pub order_there : AreInOrder old.numbers (list_of old list) → AreInOrder numbered (list_of new list)
+  order_there order = order_apart place old.numbers numbered same_numbers (list_of new list) (none_there list within) (subst (AreInOrder old.numbers) (sym (same_list list)) order)
+
+  with_there : with_place numbered number place (list_of new list) ≡ with_place old.numbers number place (list_of old list)
+  with_there =
+      let below : (p : ℕ) → p ≢ place → is_below numbered number p ≡ is_below old.numbers number p = λ p apart. ap (λ n. ltb n number) (same_numbers p apart) in
+      let none = none_there list within in
+      ap₂ (λ (xs ys : List ℕ). xs ++ place ∷ ys)
+      (filter_apart place (is_below numbered number) (is_below old.numbers number) below (list_of new list) none)
+      (filter_apart place (λ p. not (is_below numbered number p)) (λ p. not (is_below old.numbers number p)) (λ p apart. ap not (below p apart)) (list_of new list) none)
+      ∙ ap (with_place old.numbers number place) (same_list list)
+
+  pub entered : IsEntered old (moved (record new { numbers = numbered }) place list list (with_place numbered number place (list_of new list))) place list number
+  entered =
+      let s : Linked = record new { numbers = numbered } in
+      let places = with_place numbered number place (list_of new list) in
+      record {
+        room = reached.room;
+        many = length-set new.lists list places ∙ ap length reached.lists;
+        listed = λ x lt.
+            list_moved s place list list places x (omega (arith, lt, ap length reached.lists))
+            ∙ ⊎_elim
+            (λ (same : x ≡ list). rw (eq-eqb x list same) (with_there ∙ ap (λ n. with_place old.numbers number place (list_of old n)) (sym same)))
+            (λ (apart : x ≢ list). rw (ne_eqb x list apart) (same_list x))
+            (cases_eq x list);
+        owners = λ q.
+            owner_moved s place list list places q reached.held
+            ∙ ap (λ n. if q == place then list else n) (reached.owners q);
+        numbers = same_numbers;
+        known = get_or-set_same new.numbers place number 0 reached.there;
+      }
+
+-- ---- and both
+
+module _ (old mid : Linked) (place list number : ℕ) (left : IsLeft old mid place) where
+  pub left_order : list < length old.lists → AreInOrder old.numbers (list_of old list) → AreInOrder mid.numbers (list_of mid list)
+  left_order within order =
+      subst (λ ns. AreInOrder ns (list_of mid list)) (sym left.numbers)
+      (subst (AreInOrder old.numbers) (sym (left.listed list within)) (AllPairs-filter (λ (a b : ℕ). slice_index old.numbers a ≤ slice_index old.numbers b) (λ p. not (p == place)) (list_of old list) order))
+
+  pub left_free : owner_of mid place ≡ length mid.lists
+  left_free = left.owners place ∙ ap (λ b. if b then length old.lists else owner_of old place) (eq-eqb place place refl) ∙ sym left.many
+
+  pub left_moved : list ≡ length old.lists → IsMoved old mid place list number
+  left_moved none = record {
+    room = left.room;
+    many = left.many;
+    listed = λ x lt. left.listed x lt ∙ sym (ap (λ b. if b then with_place old.numbers number place (without place (list_of old x)) else without place (list_of old x)) (ne_eqb x list (λ e. absurd (omega (arith, e, none, lt)))));
+    owners = λ q. left.owners q ∙ ap (λ n. if q == place then n else owner_of old q) (sym none);
+    numbers = λ q apart. ap (λ ns. slice_index ns q) left.numbers;
+    known = λ lt. absurd (omega (arith, lt, none));
+  }
+
+  pub both_moved : (new : Linked) → list < length old.lists → IsEntered mid new place list number → IsMoved old new place list number
+  both_moved new within entered = record {
+    room = entered.room ∙ left.room;
+    many = entered.many ∙ left.many;
+    listed = λ x lt.
+        entered.listed x (omega (arith, lt, left.many))
+        ∙ ap₂ (λ (ns : List ℕ) (xs : List ℕ). if x == list then with_place ns number place xs else xs) left.numbers (left.listed x lt);
+    owners = λ q. entered.owners q ∙ owner_both q;
+    numbers = λ q apart. entered.numbers q apart ∙ ap (λ ns. slice_index ns q) left.numbers;
+    known = λ lt. entered.known;
+  }
+    where
+      owner_both : (q : ℕ) → (if q == place then list else owner_of mid q) ≡ (if q == place then list else owner_of old q)
+      owner_both q =
+          ⊎_elim
+          (λ (same : q ≡ place). rw (eq-eqb q place same) refl)
+          (λ (apart : q ≢ place). rw (ne_eqb q place apart) (left.owners q ∙ ap (λ b. if b then length old.lists else owner_of old q) (ne_eqb q place apart)))
+          (cases_eq q place)

@@ -1,0 +1,12 @@
+pub mod Above
+pub mod Belongs
+pub mod Filters
+pub mod Found
+pub mod Leaving
+pub mod Numbers
+pub mod Opened
+pub mod Put
+pub mod Seen
+pub mod Spared
+pub mod Taken
+pub mod Walks
