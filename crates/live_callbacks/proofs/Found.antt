@@ -1,143 +1,159 @@
--- Rows that are found by a list of their object, and then by their number.
-use Rattle.std.proofs.Common.{◌≡◌, ℕ, ◌<◌, Bool, true, false, not, ◌&&◌, ◌==◌, List, [], ◌∷◌, length, nat_lt, slice_get, Option, Some, None, refl, sym, ap, ◌∙◌, arith, filter, find, option_map, is_some, ne_eqb}
+-- What the lists tell of the rows.
+use Rattle.std.proofs.Common.{◌≡◌, ◌≢◌, ℕ, ◌+◌, ◌-◌, ◌<◌, Bool, true, false, not, ◌&&◌, ◌==◌, List, [], ◌∷◌, ◌++◌, Option, Some, None, refl, sym, ap, ap₂, subst, ◌∙◌, arith}
+use Rattle.std.proofs.Common.{filter, find, length, map, nat_lt, if◌then◌else◌, slice_get, eq-eqb, option_map, le-ltb, lt-ltb}
+use Rattle.std.specs.Prelude.{IfSome, is_some}
 use Rattle.std.specs.List.{AllByRecursion, list_any}
+use Rattle.std.proofs.lemmas.Bool.{ne_eqb}
 use Rattle.std.proofs.lemmas.Bool.Decides.{nat_tests}
-use Rattle.tp_base.specs.declared.ids.ObjectId.{ObjectId}
 use Rattle.tp_base.specs.declared.rows.CallbackRow.{CallbackRow}
-use Rattle.tp_base.specs.declared.rows.Status.{Status}
-use Rattle.tp_base.specs.declared.rows.Status.TheVariants.{Expected, Issued, Pending, Running, Returned, Cancelled}
-use Rattle.tp_base.specs.declared.rows.WaitTarget.TheVariants.{Object}
-use Rattle.keyed_lists.specs.Keyed.{Entry, Keyed, first_of, has, next_of}
-use Rattle.tp_model.specs.Counts.{has_number}
-use Rattle.tp_model.specs.Support.Sound.{IsRising}
-use Rattle.tp_model.specs.Waits.{is_held_for, is_outstanding_for}
-use Rattle.tp_model.proofs.Callbacks.{find_numbered}
-use Rattle.live_callbacks.specs.Callbacks.{is_tied}
-use Rattle.live_callbacks.specs.Kept.{IsAtHome}
-use Rattle.live_callbacks.proofs.Listed.{entries_of}
+use Rattle.tp_model.proofs.Lists.{find_all}
+use Rattle.linked_lists.specs.Linked.{Linked, list_of, owner_of, place_after}
+use Rattle.live_callbacks.specs.Held.{AreApart, Held, IsHeldAt, row_behind, rows_of}
+use Rattle.live_callbacks.specs.Lists.{AreListed, Mark, mark, marks, places_in}
+use Rattle.live_callbacks.proofs.Parts.{Parts, before, own_list}
+use Rattle.live_callbacks.proofs.Settled.{places-append}
 
-abbrev pub number_of : Option CallbackRow → Option ℕ
-number_of o = option_map (λ (c : CallbackRow). c.number) o
-
--- ---- by a number
-
-pub by_number : (cs : List CallbackRow) (o : Option CallbackRow) (number : ℕ) → ((c : CallbackRow) → o ≡ Some c → find (has_number c.number) cs ≡ Some c) → number_of o ≡ Some number → find (has_number number) cs ≡ o
-by_number cs None number found is = absurd cc
-by_number cs (Some c) number found is = let same : c.number ≡ number = cc in ap (λ n. find (has_number n) cs) (sym same) ∙ found c refl
-
-pub none_up : (o : Option CallbackRow) → number_of o ≡ None → None ≡ o
-none_up None is = refl
-none_up (Some c) is = absurd cc
-
--- what a test finds is found by its number
-pub looked_up : (next_number : ℕ) (cs : List CallbackRow) (p : CallbackRow → Bool) (number : ℕ) → IsRising 0 next_number cs → number_of (find p cs) ≡ Some number → find (has_number number) cs ≡ find p cs
-looked_up next_number cs p number rising is = by_number cs (find p cs) number (λ c found. find_numbered p 0 next_number cs c rising found) is
-
--- ---- by tests
-
-pub find_filter : (p t : CallbackRow → Bool) (cs : List CallbackRow) → find t (filter p cs) ≡ find (λ c. p c && t c) cs
-find_filter p t [] = refl
-find_filter p t (c ∷ cs) = grind (arith, find_filter p t cs)
+-- ---- tests
 
 pub first_filtered : (p : CallbackRow → Bool) (cs : List CallbackRow) → slice_get (filter p cs) 0 ≡ find p cs
 first_filtered p [] = refl
 first_filtered p (c ∷ cs) = grind (arith, first_filtered p cs)
 
-pub any_found : (p : CallbackRow → Bool) (cs : List CallbackRow) → is_some (number_of (find p cs)) ≡ list_any p cs
-any_found p [] = refl
-any_found p (c ∷ cs) = grind (arith, any_found p cs)
+pub find_filter : (p t : CallbackRow → Bool) (cs : List CallbackRow) → find t (filter p cs) ≡ find (λ c. p c && t c) cs
+find_filter p t [] = refl
+find_filter p t (c ∷ cs) = grind (arith, find_filter p t cs)
 
-pub any_listed : (p : CallbackRow → Bool) (cs : List CallbackRow) → not (length (entries_of p cs) == 0) ≡ list_any p cs
-any_listed p [] = refl
-any_listed p (c ∷ cs) = grind (arith, nat_tests, any_listed p cs)
+pub any_some : (p : CallbackRow → Bool) (cs : List CallbackRow) → not (length (filter p cs) == 0) ≡ list_any p cs
+any_some p [] = refl
+any_some p (c ∷ cs) = grind (arith, nat_tests, any_some p cs)
 
--- ---- by an entry
+-- tests that agree on all
+abbrev pub AllAgree : (CallbackRow → Bool) → (CallbackRow → Bool) → List CallbackRow → Type 0
+AllAgree t p cs = AllByRecursion (λ (c : CallbackRow). t c ≡ p c) cs
 
--- an entry is that of a callback
-entry_found : (test p : CallbackRow → Bool) (T : Entry → Bool) → ((c : CallbackRow) → (test c && T (record { key = c.object.0; number = c.number })) ≡ p c) → (cs : List CallbackRow) → option_map (λ (e : Entry). e.number) (find T (entries_of test cs)) ≡ number_of (find p cs)
-entry_found test p T same [] = refl
-entry_found test p T same (c ∷ cs) = grind (arith, same c, entry_found test p T same cs)
+pub find_same : (t p : CallbackRow → Bool) (cs : List CallbackRow) → AllAgree t p cs → find t cs ≡ find p cs
+find_same t p [] agree = refl
+find_same t p (c ∷ cs) agree = ap₂ (λ (b : Bool) (o : Option CallbackRow). if b then Some c else o) agree.0 (find_same t p cs agree.1)
 
--- what is listed for an object is what passes for it
-abbrev pub IsListedFor : ObjectId → (CallbackRow → Bool) → (CallbackRow → Bool) → Type 0
-IsListedFor object test p = (c : CallbackRow) → (test c && (c.object.0 == object.0)) ≡ p c
+pub filter_same : (t p : CallbackRow → Bool) (cs : List CallbackRow) → AllAgree t p cs → filter t cs ≡ filter p cs
+filter_same t p [] agree = refl
+filter_same t p (c ∷ cs) agree = ap₂ (λ (b : Bool) (ds : List CallbackRow). if b then c ∷ ds else ds) agree.0 (filter_same t p cs agree.1)
 
-module _ (test p : CallbackRow → Bool) (object : ObjectId) (listed : IsListedFor object test p) (cs : List CallbackRow) where
-  first_listed : first_of (entries_of test cs) object.0 ≡ number_of (find p cs)
-  first_listed = entry_found test p (λ e. e.key == object.0) listed cs
+-- a test that fails at all
+pub find_none : (p : CallbackRow → Bool) (cs : List CallbackRow) → AllByRecursion (λ (c : CallbackRow). p c ≡ false) cs → find p cs ≡ None
+find_none p [] fail = refl
+find_none p (c ∷ cs) fail = rw fail.0 (find_none p cs fail.1)
 
-  -- among these, one that passes another test of its number
-  later_listed : (t : ℕ → Bool) → option_map (λ (e : Entry). e.number) (find (λ e. (e.key == object.0) && t e.number) (entries_of test cs)) ≡ number_of (find (λ c. t c.number) (filter p cs))
-  later_listed t =
-      entry_found test (λ c. p c && t c.number) (λ e. (e.key == object.0) && t e.number) (λ c. and_assoc (test c) (c.object.0 == object.0) (t c.number) ∙ ap (λ b. b && t c.number) (listed c)) cs
-      ∙ sym (ap number_of (find_filter p (λ c. t c.number) cs))
-    where
-      and_assoc : (a b c : Bool) → (a && (b && c)) ≡ ((a && b) && c)
-      and_assoc true b c = refl
-      and_assoc false b c = refl
+pub filter_none : (p : CallbackRow → Bool) (cs : List CallbackRow) → AllByRecursion (λ (c : CallbackRow). p c ≡ false) cs → filter p cs ≡ []
+filter_none p [] fail = refl
+filter_none p (c ∷ cs) fail = rw fail.0 (filter_none p cs fail.1)
 
-  next_listed : (number : ℕ) → next_of (entries_of test cs) object.0 number ≡ number_of (find (λ c. nat_lt number c.number) (filter p cs))
-  next_listed number = later_listed (λ n. nat_lt number n)
+-- ---- rows by keys
 
-  is_listed : (c : CallbackRow) → find (has_number c.number) (filter p cs) ≡ Some c → has (entries_of test cs) object.0 c.number ≡ true
-  is_listed c found = any (λ e. (e.key == object.0) && (e.number == c.number)) (entries_of test cs) (later_listed (λ n. n == c.number) ∙ ap number_of found)
-    where
-      any : (T : Entry → Bool) (es : List Entry) → option_map (λ (e : Entry). e.number) (find T es) ≡ Some c.number → list_any T es ≡ true
-      any T [] is = absurd cc
-      any T (e ∷ es) is = grind (arith, is, λ (rest : option_map (λ (x : Entry). x.number) (find T es) ≡ Some c.number). any T es rest)
+find_rows : (t : CallbackRow → Bool) (hs : List Held) → find t (rows_of hs) ≡ option_map (λ (h : Held). h.row) (find (λ h. t h.row) hs)
+find_rows t [] = refl
+find_rows t (h ∷ hs) = grind (arith, find_rows t hs)
 
-  -- nothing passes for an object that there can't be
-  pub beyond : (pools objects : ℕ) → objects < object.0 → AllByRecursion (IsAtHome pools objects) cs → find p cs ≡ None
-  beyond pools objects lt homes = none cs homes
-    where
-      none : (ds : List CallbackRow) → AllByRecursion (IsAtHome pools objects) ds → find p ds ≡ None
-      none [] all = refl
-      none (d ∷ ds) all = grind (arith, sym (listed d), ne_eqb d.object.0 object.0 (λ e. omega (arith, e, all.0.1, lt)), none ds all.1)
+pub keyed : (t : Held → Bool) (hs : List Held) (h : Held) → AreApart hs → find t hs ≡ Some h → find (λ (g : Held). g.key == h.key) hs ≡ Some h
+keyed t [] h apart found = absurd (cc)
+keyed t (g ∷ hs) h apart found =
+    elim (t g) as (λ b. (if b then Some g else find t hs) ≡ Some h → find (λ (x : Held). x.key == h.key) (g ∷ hs) ≡ Some h) [
+      | true ↦ λ here.
+          let same : g ≡ h = cc in
+          ap (λ b. if b then Some g else find (λ (x : Held). x.key == h.key) hs) (eq-eqb g.key h.key (ap (λ (x : Held). x.key) same)) ∙ ap Some same
+      | false ↦ λ later.
+          let other : h.key ≢ g.key = find_all (λ (x : Held). x.key ≢ g.key) t h hs apart.0 later in
+          ap (λ b. if b then Some g else find (λ (x : Held). x.key == h.key) hs) (ne_eqb g.key h.key (λ e. other (sym e))) ∙ keyed t hs h apart.1 later
+    ] found
 
-  -- what the lists tell
-  module _ (lists : Keyed) (is : lists.entries ≡ entries_of test cs) where
-    first_is : (first : Option ℕ) → first ≡ first_of lists.entries object.0 → number_of (find p cs) ≡ first
-    first_is first told = sym (told ∙ ap (λ es. first_of es object.0) is ∙ first_listed)
+module _ (heads : ℕ) (hs : List Held) (apart : AreApart hs) where
+  abbrev pub place_of : Option Held → Option ℕ
+  place_of o = option_map (λ (h : Held). heads + h.key) o
 
-    pub first_row : (next_number number : ℕ) (first : Option ℕ) → IsRising 0 next_number cs → first ≡ first_of lists.entries object.0 → first ≡ Some number → find (has_number number) cs ≡ find p cs
-    first_row next_number number first rising told some = looked_up next_number cs p number rising (first_is first told ∙ some)
+  by_place : (h : Held) → find (λ (g : Held). g.key == h.key) hs ≡ Some h → find (λ (g : Held). g.key == heads + h.key - heads) hs ≡ Some h
+  by_place h found = let back : heads + h.key - heads ≡ h.key = omega arith in ap (λ k. find (λ (g : Held). g.key == k) hs) back ∙ found
 
-    pub no_row : (first : Option ℕ) → first ≡ first_of lists.entries object.0 → first ≡ None → None ≡ find p cs
-    no_row first told none = none_up (find p cs) (first_is first told ∙ none)
+  held_at : (o : Option Held) → ((h : Held) → o ≡ Some h → find (λ (g : Held). g.key == h.key) hs ≡ Some h) → IfSome (place_of o) (IsHeldAt heads hs)
+  held_at None at = tt
+  held_at (Some h) at = (omega arith, ap is_some (by_place h (at h refl)))
 
-    pub any_row : (first : Option ℕ) → first ≡ first_of lists.entries object.0 → is_some first ≡ list_any p cs
-    any_row first told = sym (ap is_some (first_is first told)) ∙ any_found p cs
+  row_at_place : (o : Option Held) → ((h : Held) → o ≡ Some h → find (λ (g : Held). g.key == h.key) hs ≡ Some h) → row_behind heads hs (place_of o) ≡ option_map (λ (h : Held). h.row) o
+  row_at_place None at = refl
+  row_at_place (Some h) at = ap (option_map (λ (g : Held). g.row)) (by_place h (at h refl))
 
-    next_is : (number : ℕ) (next : Option ℕ) → next ≡ next_of lists.entries object.0 number → number_of (find (λ c. nat_lt number c.number) (filter p cs)) ≡ next
-    next_is number next told = sym (told ∙ ap (λ es. next_of es object.0 number) is ∙ next_listed number)
+  -- the place of what a test finds
+  module _ (t : CallbackRow → Bool) (place : Option ℕ) (is : place ≡ place_of (find (λ h. t h.row) hs)) where
+    pub place_held : IfSome place (IsHeldAt heads hs)
+    place_held = subst (λ o. IfSome o (IsHeldAt heads hs)) (sym is) (held_at (find (λ h. t h.row) hs) (λ h found. keyed (λ g. t g.row) hs h apart found))
 
-    pub next_row : (next_number number after : ℕ) (next : Option ℕ) → IsRising 0 next_number cs → next ≡ next_of lists.entries object.0 number → next ≡ Some after → find (has_number after) cs ≡ find (λ c. nat_lt number c.number) (filter p cs)
-    next_row next_number number after next rising told some =
-        let same = find_filter p (λ c. nat_lt number c.number) cs in
-        looked_up next_number cs (λ c. p c && nat_lt number c.number) after rising (ap number_of (sym same) ∙ next_is number next told ∙ some) ∙ sym same
+    pub place_row : row_behind heads hs place ≡ find t (rows_of hs)
+    place_row = ap (row_behind heads hs) is ∙ row_at_place (find (λ h. t h.row) hs) (λ h found. keyed (λ g. t g.row) hs h apart found) ∙ sym (find_rows t hs)
 
-    pub no_next : (number : ℕ) (next : Option ℕ) → next ≡ next_of lists.entries object.0 number → next ≡ None → None ≡ find (λ c. nat_lt number c.number) (filter p cs)
-    no_next number next told none = none_up (find (λ c. nat_lt number c.number) (filter p cs)) (next_is number next told ∙ none)
+-- ---- what a list has
 
-    pub in_list : (c : CallbackRow) → find (has_number c.number) (filter p cs) ≡ Some c → has lists.entries object.0 c.number ≡ true
-    in_list c found = ap (λ es. has es object.0 c.number) is ∙ is_listed c found
+module _ (heads : ℕ) (line : CallbackRow → ℕ) where
+  first_place : (list : ℕ) (hs : List Held) → slice_get (places_in heads list (marks line hs)) 0 ≡ option_map (λ (h : Held). heads + h.key) (find (λ h. line h.row == list) hs)
+  first_place list [] = refl
+  first_place list (h ∷ hs) = grind (arith, first_place list hs)
 
--- ---- what is outstanding
+  pub many_places : (list : ℕ) (hs : List Held) → length (places_in heads list (marks line hs)) ≡ length (filter (λ c. line c == list) (rows_of hs))
+  many_places list [] = refl
+  many_places list (h ∷ hs) = grind (arith, many_places list hs)
 
--- which object it is makes no difference to what is held for it
-pub held_alike : (a b : ObjectId) (s : Status) → is_held_for (Object a) s ≡ is_held_for (Object b) s
-held_alike a b Expected = refl
-held_alike a b Issued = refl
-held_alike a b Pending = refl
-held_alike a b (Running worker associated slots) = refl
-held_alike a b Returned = refl
-held_alike a b Cancelled = refl
+  pub any_line : {places : ℕ} {all : Linked} (list : ℕ) (hs : List Held) → AreListed heads places (marks line hs) all → list < heads → not (length (list_of all list) == 0) ≡ list_any (λ c. line c == list) (rows_of hs)
+  any_line list hs are within = ap (λ n. not (n == 0)) (ap length (are.listed list within) ∙ many_places list hs) ∙ any_some (λ c. line c == list) (rows_of hs)
 
-pub outstanding_listed : (object : ObjectId) → IsListedFor object is_tied (is_outstanding_for (Object object))
-outstanding_listed object c = ap (λ b. b && (c.object.0 == object.0)) (held_alike c.object object c.status) ∙ and_swap (is_held_for (Object object) c.status) (c.object.0 == object.0)
-  where
-    and_swap : (a b : Bool) → (a && b) ≡ (b && a)
-    and_swap true true = refl
-    and_swap true false = refl
-    and_swap false true = refl
-    and_swap false false = refl
+  -- the first place
+  pub first_is : {places : ℕ} {all : Linked} (list : ℕ) (hs : List Held) → AreListed heads places (marks line hs) all → list < heads → slice_get (list_of all list) 0 ≡ option_map (λ (h : Held). heads + h.key) (find (λ h. line h.row == list) hs)
+  first_is list hs are within = ap (λ (ps : List ℕ). slice_get ps 0) (are.listed list within) ∙ first_place list hs
+
+  -- and the next one
+  after_skip : (p : ℕ) (xs ys : List ℕ) → AllByRecursion (λ x. x ≢ p) xs → place_after p (xs ++ p ∷ ys) ≡ slice_get ys 0
+  after_skip p [] ys apart = ap (λ b. if b then slice_get ys 0 else place_after p ys) (eq-eqb p p refl)
+  after_skip p (x ∷ xs) ys apart = rw (ne_eqb x p apart.0) (after_skip p xs ys apart.1)
+
+  places_apart : (key list : ℕ) (hs : List Held) → AllByRecursion (λ (h : Held). h.key ≢ key) hs → AllByRecursion (λ p. p ≢ heads + key) (places_in heads list (marks line hs))
+  places_apart key list [] apart = tt
+  places_apart key list (h ∷ hs) apart =
+      elim (line h.row == list) as (λ b. AllByRecursion (λ p. p ≢ heads + key) (map (λ (m : Mark). heads + m.key) (if b then mark line h ∷ filter (λ (m : Mark). m.list == list) (marks line hs) else filter (λ (m : Mark). m.list == list) (marks line hs)))) [
+        | true ↦ ((λ e. apart.0 (omega (arith, e))), places_apart key list hs apart.1)
+        | false ↦ places_apart key list hs apart.1
+      ]
+
+  module _ (hs : List Held) (h : Held) (p : Parts hs h) (list : ℕ) (own : line h.row ≡ list) where
+    abbrev pub is_later : CallbackRow → Bool
+    is_later c = (line c == list) && nat_lt h.row.number c.number
+
+    places_here : places_in heads list (marks line hs) ≡ places_in heads list (marks line p.lo) ++ (heads + h.key) ∷ places_in heads list (marks line p.hi)
+    places_here =
+        ap (places_in heads list) (before heads line hs h p)
+        ∙ places-append heads list (marks line p.lo) (mark line h ∷ marks line p.hi)
+        ∙ ap (λ b. places_in heads list (marks line p.lo) ++ map (λ (m : Mark). heads + m.key) (if b then mark line h ∷ filter (λ (m : Mark). m.list == list) (marks line p.hi) else filter (λ (m : Mark). m.list == list) (marks line p.hi))) (eq-eqb (line h.row) list own)
+
+    none_before : (xs ys : List Held) → AllByRecursion (λ (g : Held). g.row.number < h.row.number) xs → find (λ g. is_later g.row) (xs ++ h ∷ ys) ≡ find (λ g. is_later g.row) ys
+    none_before [] ys low =
+        ap (λ b. if (line h.row == list) && b then Some h else find (λ g. is_later g.row) ys) (le-ltb h.row.number h.row.number (omega arith))
+        ∙ elim (line h.row == list) as (λ b. (if b && false then Some h else find (λ g. is_later g.row) ys) ≡ find (λ g. is_later g.row) ys) [ true ↦ refl | false ↦ refl ]
+    none_before (g ∷ xs) ys low =
+        ap (λ b. if (line g.row == list) && b then Some g else find (λ x. is_later x.row) (xs ++ h ∷ ys)) (le-ltb h.row.number g.row.number (omega (arith, low.0)))
+        ∙ elim (line g.row == list) as (λ b. (if b && false then Some g else find (λ x. is_later x.row) (xs ++ h ∷ ys)) ≡ find (λ x. is_later x.row) (xs ++ h ∷ ys)) [ true ↦ refl | false ↦ refl ]
+        ∙ none_before xs ys low.1
+
+    all_behind : (ys : List Held) → AllByRecursion (λ (g : Held). h.row.number < g.row.number) ys → find (λ g. is_later g.row) ys ≡ find (λ g. line g.row == list) ys
+    all_behind [] high = refl
+    all_behind (g ∷ ys) high =
+        ap (λ b. if (line g.row == list) && b then Some g else find (λ x. is_later x.row) ys) (lt-ltb h.row.number g.row.number high.0)
+        ∙ elim (line g.row == list) as (λ b. (if b && true then Some g else find (λ x. is_later x.row) ys) ≡ (if b then Some g else find (λ x. line x.row == list) ys)) [ true ↦ refl | false ↦ all_behind ys high.1 ]
+
+    pub owner_is : {places : ℕ} {all : Linked} → AreListed heads places (marks line hs) all → owner_of all (heads + h.key) ≡ list
+    owner_is are = are.owned h.key ∙ own_list heads line hs h p ∙ own
+
+    pub next_is : {places : ℕ} {all : Linked} → AreListed heads places (marks line hs) all → list < heads → place_after (heads + h.key) (list_of all list) ≡ option_map (λ (g : Held). heads + g.key) (find (λ g. is_later g.row) hs)
+    next_is are within =
+        ap (place_after (heads + h.key)) (are.listed list within ∙ places_here)
+        ∙ after_skip (heads + h.key) (places_in heads list (marks line p.lo)) (places_in heads list (marks line p.hi)) (places_apart h.key list p.lo p.low_keys)
+        ∙ first_place list p.hi
+        ∙ ap (option_map (λ (g : Held). heads + g.key)) (sym (ap (find (λ g. is_later g.row)) p.is ∙ none_before p.lo p.hi p.low ∙ all_behind p.hi p.high))
+
+    pub later_row : find is_later (rows_of hs) ≡ find (λ c. nat_lt h.row.number c.number) (filter (λ c. line c == list) (rows_of hs))
+    later_row = sym (find_filter (λ c. line c == list) (λ c. nat_lt h.row.number c.number) (rows_of hs))

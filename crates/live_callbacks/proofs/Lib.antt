@@ -1,5 +1,13 @@
+pub mod Following
 pub mod Found
-pub mod Images
-pub mod Listed
+pub mod Keyed
+pub mod Lines
+pub mod Numbers
+pub mod OfRows
+pub mod Parts
 pub mod Queues
-pub mod Steps
+pub mod Rising
+pub mod Settled
+pub mod Standing
+pub mod Threaded
+pub mod Tied

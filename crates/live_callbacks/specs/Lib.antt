@@ -1,3 +1,8 @@
 pub mod Callbacks
+pub mod Families
+pub mod Held
+pub mod Holding
 pub mod Kept
 pub mod Lists
+pub mod Places
+pub mod Reserved

@@ -1,56 +1,101 @@
--- What the lists have of the callbacks, and how one comes into them and leaves them.
-use Rattle.std.specs.Prelude.{ℕ, ◌+◌, ◌==◌, Bool, not, List, [], ◌∷◌, ◌++◌, map, if◌then◌else◌}
-use Rattle.std.specs.List.{filter}
+-- The lists of the callbacks: in which of each family a callback stands, and what a family has of all.
+use Rattle.std.specs.Prelude.{◌≡◌, ◌≢◌, ℕ, ◌+◌, ◌*◌, ◌<◌, ◌≤◌, ◌^◌, ◌==◌, ◌&&◌, Bool, List, [], ◌∷◌, filter, length, map, nat_le, nat_lt, slice_index, if◌then◌else◌}
+use Rattle.std.specs.List.{AllByRecursion}
 use Rattle.tp_base.specs.declared.calls.Priority.{Priority}
 use Rattle.tp_base.specs.declared.calls.Priority.TheVariants.{High, Normal, Low}
+use Rattle.tp_base.specs.declared.rows.Status.{Status}
+use Rattle.tp_base.specs.declared.rows.Status.TheVariants.{Expected, Issued, Pending, Running, Returned, Cancelled}
 use Rattle.tp_base.specs.declared.rows.CallbackRow.{CallbackRow}
-use Rattle.keyed_lists.specs.Keyed as keyed
-use Rattle.prio_queue.specs.Line.{entries_of}
-use Rattle.prio_queue.specs.Pending.{Entry, Pending, entry, queue_of, with_entry, with_queue, without_number}
-use Rattle.tp_model.specs.Counts.{is_high, is_low, is_normal}
-use Rattle.live_callbacks.specs.Callbacks.{is_waiting}
+use Rattle.linked_lists.specs.Linked.{AreInOrder, Linked, list_of, owner_of}
+use Rattle.linked_lists.specs.Moved.{IsCommon, IsMoved}
+use Rattle.live_callbacks.specs.Callbacks.{is_tied}
+use Rattle.live_callbacks.specs.Held.{Held}
 
--- ---- lists by object
+-- ---- the list of a callback in each family, or the number of lists
 
--- a callback's entry in the list of its object
-abbrev pub tied_entry : CallbackRow → keyed.Entry
-tied_entry c = keyed.entry c.object.0 c.number
+abbrev pub priority_number : Priority → ℕ
+priority_number High = 0
+priority_number Normal = 1
+priority_number Low = 2
 
--- the lists of the callbacks that pass a test
-abbrev pub lists_of : ℕ → ℕ → (CallbackRow → Bool) → List CallbackRow → keyed.Keyed
-lists_of slots objects test rows = record { keys = objects + 1; slots = slots; entries = map tied_entry (filter test rows) }
+-- three lines a pool, and two an object
+abbrev pub lines : ℕ → ℕ → ℕ
+lines pools objects = 3 * pools + 2 * (objects + 1)
 
-abbrev pub with_row : keyed.Keyed → CallbackRow → keyed.Keyed
-with_row lists c = record lists { entries = lists.entries ++ tied_entry c ∷ [] }
+abbrev pub line_by : ℕ → ℕ → ℕ → ℕ → Status → ℕ
+line_by pools objects queue object Expected = 3 * pools + object
+line_by pools objects queue object Issued = 3 * pools + (objects + 1) + object
+line_by pools objects queue object Pending = queue
+line_by pools objects queue object (Running worker associated slots) = lines pools objects
+line_by pools objects queue object Returned = lines pools objects
+line_by pools objects queue object Cancelled = lines pools objects
 
-abbrev pub without_row : keyed.Keyed → ℕ → keyed.Keyed
-without_row lists number = record lists { entries = filter (λ (e : keyed.Entry). not (e.number == number)) lists.entries }
+-- what it waits for: a worker, that its operation begins, or that it ends
+abbrev pub line_of : ℕ → ℕ → CallbackRow → ℕ
+line_of pools objects c = line_by pools objects (3 * c.pool.0 + priority_number c.priority) c.object.0 c.status
 
--- the lists as a callback was one of them before, or wasn't, and is one now, or isn't
-abbrev pub unlisted : keyed.Keyed → Bool → Bool → ℕ → keyed.Keyed
-unlisted lists was is number = if was then (if is then lists else without_row lists number) else lists
+-- what it is outstanding for
+abbrev pub object_of : ℕ → CallbackRow → ℕ
+object_of objects c = if is_tied c then c.object.0 else objects + 1
 
--- ---- queues
+-- whether a group has a list, where so many have one; group 0 stands for none
+abbrev pub has_list : ℕ → ℕ → Bool
+has_list groups group = nat_lt 0 group && nat_le group groups
 
-abbrev pub priority_byte : Priority → ℕ
-priority_byte High = 0
-priority_byte Normal = 1
-priority_byte Low = 2
+abbrev pub group_of : ℕ → CallbackRow → ℕ
+group_of groups c = if has_list groups c.group.0 then c.group.0 else groups + 1
 
--- the numbers of the callbacks that pass a test
-abbrev pub numbers_of : (CallbackRow → Bool) → List CallbackRow → List ℕ
-numbers_of test rows = map (λ (c : CallbackRow). c.number) (filter test rows)
+-- a callback is of one of so many pools, and of an object up to this one
+abbrev pub IsAtHome : ℕ → ℕ → CallbackRow → Type 0
+IsAtHome pools objects c = (c.pool.0 < pools) × (c.object.0 ≤ objects)
 
--- the entries of a pool's queue
-abbrev pub entries_among : List CallbackRow → ℕ → List Entry
-entries_among rows pool = entries_of (numbers_of (is_waiting pool is_high) rows) (numbers_of (is_waiting pool is_normal) rows) (numbers_of (is_waiting pool is_low) rows)
+-- ---- a family of lists
 
-abbrev pub with_waiting : Pending → CallbackRow → Pending
-with_waiting queues c = with_queue queues c.pool.0 (with_entry (entry (priority_byte c.priority) c.number) (queue_of queues c.pool.0))
+-- what a family has of a row: its key, its number and its list
+pub record Mark : Type 0 where
+  pub key : ℕ
+  pub number : ℕ
+  pub list : ℕ
 
-abbrev pub without_waiting : Pending → CallbackRow → Pending
-without_waiting queues c = with_queue queues c.pool.0 (without_number c.number (queue_of queues c.pool.0))
+abbrev pub mark : (CallbackRow → ℕ) → Held → Mark
+mark line h = record { key = h.key; number = h.row.number; list = line h.row }
 
--- the queues as a callback was in its own before, or wasn't, and is in it now, or isn't
-abbrev pub requeued : Pending → Bool → Bool → CallbackRow → Pending
-requeued queues was is c = if was then (if is then queues else without_waiting queues c) else (if is then with_waiting queues c else queues)
+abbrev pub marks : (CallbackRow → ℕ) → List Held → List Mark
+marks line held = map (mark line) held
+
+-- the places of a list, where so many lists have places of their own
+abbrev pub places_in : ℕ → ℕ → List Mark → List ℕ
+places_in heads list ms = map (λ m. heads + m.key) (filter (λ m. m.list == list) ms)
+
+-- the list of a key
+abbrev pub list_at : ℕ → ℕ → List Mark → ℕ
+list_at heads key [] = heads
+list_at heads key (m ∷ ms) = if m.key == key then m.list else list_at heads key ms
+
+-- each list has exactly the rows of it, by rising number, and each key is in the list of its row, or in none
+pub record AreListed (heads places : ℕ) (ms : List Mark) (all : Linked) : Type 0 where
+  pub room : all.room ≡ heads + places
+  pub many : length all.lists ≡ heads
+  pub bounded : AllByRecursion (λ m. m.list ≤ heads) ms
+  pub listed : (list : ℕ) → list < heads → list_of all list ≡ places_in heads list ms
+  pub owned : (key : ℕ) → owner_of all (heads + key) ≡ list_at heads key ms
+  pub numbered : AllByRecursion (λ m. m.list < heads → slice_index all.numbers (heads + m.key) ≡ m.number) ms
+
+-- ---- a key comes to another list
+
+pub record MaySettle (heads : ℕ) (all : Linked) (key list : ℕ) : Type 0 where
+  pub fits : heads + key < 2 ^ 32
+  pub many : length all.lists ≡ heads
+  pub within : list ≤ heads
+  pub common : IsCommon all (heads + key)
+  pub order : list < heads → AreInOrder all.numbers (list_of all list)
+
+-- nothing changes where it is in that list already
+pub record IsSettled (heads : ℕ) (old new : Linked) (key list number : ℕ) : Type 0 where
+  pub stays : owner_of old (heads + key) ≡ list → new ≡ old
+  pub moves : owner_of old (heads + key) ≢ list → IsMoved old new (heads + key) list number
+  pub none : list ≡ heads → IsMoved old new (heads + key) list number
+
+-- of three lists, from this one on, the first that isn't empty, or the last
+abbrev pub first_queue_of : Linked → ℕ → ℕ
+first_queue_of all high = if length (list_of all high) == 0 then (if length (list_of all (high + 1)) == 0 then high + 2 else high + 1) else high

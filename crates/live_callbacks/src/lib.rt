@@ -4,102 +4,128 @@
 //! `open` takes the memory, and no other call takes any. A callback comes by `push`, moves on by `change`
 //! and leaves by `remove`, and each of these knows every list: the queue of its pool, where it waits for a
 //! worker; what is outstanding for its object; and of that what expects an operation, and what expects one
-//! or has it under way. So a caller tells what becomes of a callback, and of no list.
+//! or has it under way. So a caller tells what becomes of a callback, and of no list. A wait holds callbacks by
+//! `hold`, until it lets them go by `let_go` or they leave (`waits`).
 //!
 //! ```text
-//! let mut callbacks = LiveCallbacks::open(alloc, 8, 2, 4, 0)?;
+//! let mut callbacks = LiveCallbacks::open(alloc, 8, 2, 4, 0, 3)?;
 //! callbacks.push(first);                // number 1, of object 3 and pool 0, pending
-//! callbacks.next(PoolId(0))             // Some(first)
+//! callbacks.next(PoolId(0), &mut steps) // Some(first)
 //! callbacks.change(&first, running);    // the same, and a worker runs it
-//! callbacks.next(PoolId(0))             // None
+//! callbacks.next(PoolId(0), &mut steps) // None
 //! callbacks.first_outstanding(ObjectId(3))  // Some(running)
+//! callbacks.hold(2, &running);          // the wait of waiter 2 is for it
 //! callbacks.remove(&running);
 //! callbacks.first_outstanding(ObjectId(3))  // None
+//! callbacks.first_held(2)               // None
 //! ```
 //!
-//! What a call costs: the rows are those of `callback_rows`, the queues those of `prio_queue`, and each list
-//! by object is one of `keyed_lists`. `change` and `remove` take the row as it stands, so none of them finds a
-//! number in a list in which the callback doesn't stand.
+//! What a call costs: nothing is searched but the number of a call, once. A row stands under one key while it
+//! lives, a vector of numbers leads to the keys (`rows`), and the places of a key in the lists are told by the
+//! key (`lists`), and among what waits hold by the key and the waiter (`holding`). A callback comes last into the
+//! lists where it is made. Where it becomes pending later, it goes behind those of lower numbers, from an end of
+//! its queue or from a number next to it (`beside`). It leaves a list in one step, wherever it stands there.
 
 #![tactic(auto)]
 
-ghost use Rattle.std.specs.Prelude.{◌≡◌, ◌+◌, ◌^◌, ◌<◌, ◌≤◌, ◌==◌, ◌++◌, ◌∷◌, [], All, IfOk, Some, filter, find, length, map, nat_lt, not, slice_get, if◌then◌else◌};
+ghost use Rattle.std.specs.Prelude.{◌≡◌, ◌+◌, ◌^◌, ◌<◌, ◌≤◌, ◌==◌, ◌++◌, ◌∷◌, [], All, IfOk, Some, false, filter, find, length, map, nat_lt, not, replicate, slice_get, if◌then◌else◌};
 ghost use Rattle.std.specs.List.{list_any};
 ghost use Rattle.tp_model.specs.Calls.Io.{is_expected_of};
 ghost use Rattle.tp_model.specs.Conditions.{is_operation_of};
-ghost use Rattle.tp_model.specs.Counts.{is_operating, is_pending_in};
-ghost use Rattle.live_callbacks.specs.Callbacks.{MovesOn, outstanding_among, queue_among};
+ghost use Rattle.tp_model.specs.Counts.{is_operating, is_pending, is_pending_in};
+ghost use Rattle.live_callbacks.specs.Callbacks.{MovesOn, all_but, outstanding_among, queue_among};
 
-use callback_rows::CallbackRows;
-use keyed_lists::KeyedLists;
-use prio_queue::Queues;
 use std::alloc::{AllocError, Global};
-use std::marker::Model;
+use std::marker::{Brand, Model};
+use std::sync::ledger::{Blank, Ledger};
+use steps::Steps;
 use tp_base::ids::{GroupId, ObjectId, PoolId};
-use tp_base::rows::CallbackRow;
+use tp_base::rows::{CallbackRow, Status};
+use tp_model::KeepsCallbacks;
 
+mod beside;
+mod holding;
 mod lists;
+mod places;
+mod rows;
+mod waits;
 
-use lists::{list, requeue, stands, unlist};
+use holding::Holding;
+use lists::{Lists, after_in, first_in, has_list, lines, row_behind};
+use rows::Rows;
 
 /// The callbacks that live.
 #[derive(Drop)]
 pub struct LiveCallbacks {
-    // How many pools there may be, from pool 0 on.
-    pools: u32,
-    // The greatest number of an object.
-    objects: u32,
-    rows: CallbackRows,
-    // What waits for a worker, by pool.
-    queues: Queues,
-    // What is outstanding, by object.
-    outstanding: KeyedLists,
-    // What of that expects its operation.
-    started: KeyedLists,
-    // And what expects its operation or has it under way.
-    operations: KeyedLists,
+    rows: Rows,
+    lists: Lists,
+    // How many expect an operation or have it under way.
+    operating: u32,
+    // For each waiter what its wait holds.
+    holding: Holding,
 }
 
 impl Model for LiveCallbacks {
+    ghost use Rattle.std.specs.Prelude.{map};
     ghost use Rattle.live_callbacks.specs.Callbacks.{Callbacks};
 
     ghost Value = { Callbacks };
 
+    ghost use Rattle.live_callbacks.specs.Held.{rows_of};
+    ghost use Rattle.live_callbacks.specs.Holding.{numbers_in};
     ghost use Rattle.live_callbacks.specs.Kept.{IsKept};
 
     ghost view = { λ a. record {
       slots = a.rows.slots;
-      pools = a.pools;
-      objects = a.objects;
-      rows = a.rows.rows;
+      pools = a.lists.pools;
+      objects = a.lists.objects;
+      rows = rows_of a.rows.held;
+      held = map numbers_in a.holding.lists;
     } };
 
     ghost invariant = { IsKept };
+}
+
+impl KeepsCallbacks for LiveCallbacks {
+    ghost rows = { λ c. c.rows };
+}
+
+// One where a callback expects an operation or has it under way, else none.
+#[inline(always)]
+fn operations(callback: &CallbackRow) -> u32
+    ensures { result ≡ if is_operating callback.now.status then 1 else 0 }
+{
+    match callback.status {
+        Status::Expected | Status::Issued => 1,
+        Status::Pending | Status::Running { .. } | Status::Returned | Status::Cancelled => 0,
+    }
 }
 
 impl LiveCallbacks {
     /// No callbacks, with the memory for `slots` of them, of pools below `pools` and of objects up to `objects`.
     ///
     /// `groups` is how many groups have a list of their callbacks; those of any other, and of group 0, which
-    /// stands for none, are found one after another. An `AllocError` comes where the memory can't be had.
+    /// stands for none, are found one after another. `waiters` is how many actors may wait, by numbers that begin
+    /// with 0; no wait holds anything. An `AllocError` comes where the memory can't be had.
     pub fn open(
         alloc: Global,
         slots: u32,
         pools: u32,
         objects: u32,
         groups: u32,
+        waiters: u32,
     ) -> Result<LiveCallbacks, AllocError>
         requires { objects + 1 < 2 ^ 32 }
-        ensures { IfOk result (λ live. live ≡ record { slots = slots; pools = pools; objects = objects; rows = [] }) }
+        ensures { IfOk result (λ live. live ≡ record { slots = slots; pools = pools; objects = objects; rows = []; held = replicate waiters [] }) }
     {
+        let rows = Rows::open(alloc, slots)?;
+        let lists = Lists::open(alloc, pools, objects, groups, rows.places())?;
+        let holding = Holding::open(alloc, waiters, rows.places())?;
         Ok(LiveCallbacks {
-            pools,
-            objects,
-            rows: CallbackRows::open(alloc, slots, groups)?,
-            queues: Queues::open(alloc, pools, slots)?,
-            outstanding: KeyedLists::open(alloc, objects + 1, slots)?,
-            started: KeyedLists::open(alloc, objects + 1, slots)?,
-            operations: KeyedLists::open(alloc, objects + 1, slots)?,
+            rows,
+            lists,
+            operating: 0,
+            holding,
         })
     }
 
@@ -133,7 +159,12 @@ impl LiveCallbacks {
     pub fn first_of_group(&self, group: GroupId) -> Option<CallbackRow>
         ensures { result ≡ find (λ c. c.group.0 == group.0) self.now.rows }
     {
-        self.rows.first_of_group(group)
+        if !has_list(self.lists.groups, group) {
+            return self.rows.first_of_group(group);
+        }
+        let _known = self.rows.len();
+        let place = first_in(&self.lists.by_group, group.0);
+        row_behind(&self.rows, self.lists.groups + 1, place)
     }
 
     /// The callback that follows this one in its group, or None where it is the last.
@@ -142,23 +173,36 @@ impl LiveCallbacks {
         requires { find (λ c. c.number == row.now.number) self.now.rows ≡ Some row.now }
         ensures { result ≡ find (λ c. nat_lt row.now.number c.number) (filter (λ c. c.group.0 == row.now.group.0) self.now.rows) }
     {
-        self.rows.next_of_group(row)
+        if !has_list(self.lists.groups, row.group) {
+            return self.rows.next_of_group(row.number, row.group);
+        }
+        let _known = self.rows.len();
+        let key = self.rows.key_of(row.number).unwrap();
+        let place = after_in(&self.lists.by_group, self.lists.groups + 1 + key);
+        row_behind(&self.rows, self.lists.groups + 1, place)
     }
 
     /// The pending callback of a pool that is taken next, or None where none is pending: that of the
     /// highest priority, and among those of one priority that of the least number. Of a pool that there can't
-    /// be none is pending.
+    /// be none is pending. `steps` counts the nodes that it reads: one at most, however many are pending.
     #[inline(always)]
-    pub fn next(&self, pool: PoolId) -> Option<CallbackRow>
-        ensures { result ≡ slice_get (queue_among self.now.rows pool.0) 0 }
+    pub fn next<L: Ledger>(&self, pool: PoolId, steps: &mut Steps<L>) -> Option<CallbackRow>
+        ensures value { result ≡ slice_get (queue_among self.now.rows pool.0) 0 }
+        ensures counted { steps.old ≤ steps.new }
+        ensures bound { steps.new ≤ steps.old + 1 }
     {
-        if pool.0 >= self.pools {
-            return None;
-        }
-        match self.queues.first(pool.0) {
-            Some(number) => self.rows.find(number),
-            None => None,
-        }
+        let _known = self.rows.len();
+        let place = if pool.0 < self.lists.pools {
+            let line = self.lists.first_queue(pool.0);
+            self.lists.lines.first(line, steps)
+        } else {
+            None
+        };
+        row_behind(
+            &self.rows,
+            lines(self.lists.pools, self.lists.objects),
+            place,
+        )
     }
 
     /// How many callbacks of a pool are pending.
@@ -166,10 +210,14 @@ impl LiveCallbacks {
     pub fn pending(&self, pool: PoolId) -> u32
         ensures { result ≡ length (filter (is_pending_in pool.0) self.now.rows) }
     {
-        if pool.0 >= self.pools {
+        if pool.0 >= self.lists.pools {
             return 0;
         }
-        self.queues.len(pool.0)
+        let _known = self.rows.len();
+        let high = self.lists.lines.len(3 * pool.0);
+        let normal = self.lists.lines.len(3 * pool.0 + 1);
+        let low = self.lists.lines.len(3 * pool.0 + 2);
+        high + normal + low
     }
 
     /// The first callback that is outstanding for an object, or None where none is. Those that have no object
@@ -178,13 +226,12 @@ impl LiveCallbacks {
     pub fn first_outstanding(&self, object: ObjectId) -> Option<CallbackRow>
         ensures { result ≡ slice_get (outstanding_among self.now.rows object) 0 }
     {
-        if object.0 > self.objects {
+        if object.0 > self.lists.objects {
             return None;
         }
-        match self.outstanding.first(object.0) {
-            Some(number) => self.rows.find(number),
-            None => None,
-        }
+        let _known = self.rows.len();
+        let place = first_in(&self.lists.outstanding, object.0);
+        row_behind(&self.rows, self.lists.objects + 1, place)
     }
 
     /// The callback that follows this one among those that are outstanding for its object, or None where it
@@ -194,10 +241,10 @@ impl LiveCallbacks {
         requires { find (λ c. c.number == row.now.number) (outstanding_among self.now.rows row.now.object) ≡ Some row.now }
         ensures { result ≡ find (λ c. nat_lt row.now.number c.number) (outstanding_among self.now.rows row.now.object) }
     {
-        match self.outstanding.after(row.object.0, row.number) {
-            Some(number) => self.rows.find(number),
-            None => None,
-        }
+        let _known = self.rows.len();
+        let key = self.rows.key_of(row.number).unwrap();
+        let place = after_in(&self.lists.outstanding, self.lists.objects + 1 + key);
+        row_behind(&self.rows, self.lists.objects + 1, place)
     }
 
     /// The callback of an object that has expected its operation longest, or None where none expects one.
@@ -205,13 +252,16 @@ impl LiveCallbacks {
     pub fn first_expected(&self, object: ObjectId) -> Option<CallbackRow>
         ensures { result ≡ find (is_expected_of object.0) self.now.rows }
     {
-        if object.0 > self.objects {
+        if object.0 > self.lists.objects {
             return None;
         }
-        match self.started.first(object.0) {
-            Some(number) => self.rows.find(number),
-            None => None,
-        }
+        let _known = self.rows.len();
+        let place = first_in(&self.lists.lines, 3 * self.lists.pools + object.0);
+        row_behind(
+            &self.rows,
+            lines(self.lists.pools, self.lists.objects),
+            place,
+        )
     }
 
     /// Whether a callback of an object expects an operation or has it under way.
@@ -219,10 +269,12 @@ impl LiveCallbacks {
     pub fn is_operating(&self, object: ObjectId) -> bool
         ensures { result ≡ list_any (is_operation_of object.0) self.now.rows }
     {
-        if object.0 > self.objects {
+        if object.0 > self.lists.objects {
             return false;
         }
-        self.operations.first(object.0).is_some()
+        let expected = 3 * self.lists.pools + object.0;
+        let issued = 3 * self.lists.pools + (self.lists.objects + 1) + object.0;
+        self.lists.lines.len(expected) != 0 || self.lists.lines.len(issued) != 0
     }
 
     /// Whether any callback expects an operation or has it under way.
@@ -230,7 +282,7 @@ impl LiveCallbacks {
     pub fn are_operating(&self) -> bool
         ensures { result ≡ list_any (λ c. is_operating c.status) self.now.rows }
     {
-        self.operations.len() != 0
+        self.operating != 0
     }
 
     /// A callback is made. Its number is above all the others', its pool is below `pools` and its object up to
@@ -243,12 +295,27 @@ impl LiveCallbacks {
         requires last { All (λ c. c.number < row.number) self.old.rows }
         ensures { self.new ≡ record self.old { rows = self.old.rows ++ row ∷ [] } }
     {
-        let to = stands(&row);
-        self.rows.push(row);
-        requeue(&mut self.queues, false, to.queue, &row);
-        list(&mut self.outstanding, to.outstanding, &row);
-        list(&mut self.started, to.started, &row);
-        list(&mut self.operations, to.operations, &row);
+        self.push_with::<Brand>(row, Blank::new(1))
+    }
+
+    // `push` with a counter of its own.
+    #[inline(always)]
+    fn push_with<L: Ledger>(&mut self, row: CallbackRow, blank: Blank)
+        requires name { blank.name ≡ L.name }
+        requires parts { blank.parts ≡ L.parts }
+        requires one { blank.parts ≡ 1 }
+        requires room { length self.old.rows < self.old.slots }
+        requires pool { row.pool.0 < self.old.pools }
+        requires object { row.object.0 ≤ self.old.objects }
+        requires last { All (λ c. c.number < row.number) self.old.rows }
+        ensures { self.new ≡ record self.old { rows = self.old.rows ++ row ∷ [] } }
+    {
+        let mut steps = Steps::<L>::open(blank);
+        let _known = self.rows.len();
+        let to = self.lists.stands(&row);
+        let key = self.rows.push(row);
+        self.operating += operations(&row);
+        self.lists.settle(key, row.number, to, to.line, &mut steps);
     }
 
     /// A callback moves on: `after` comes in the place of `before`, which is its row as it stands.
@@ -262,32 +329,71 @@ impl LiveCallbacks {
         requires goes { MovesOn before.now after }
         ensures { self.new ≡ record self.old { rows = map (λ c. if c.number == after.number then after else c) self.old.rows } }
     {
-        let from = stands(before);
-        let to = stands(&after);
-        let _was_there = self.rows.replace(after);
-        requeue(&mut self.queues, from.queue, to.queue, &after);
-        let number = after.number;
-        unlist(
-            &mut self.outstanding,
-            from.outstanding,
-            to.outstanding,
-            number,
-        );
-        unlist(&mut self.started, from.started, to.started, number);
-        unlist(&mut self.operations, from.operations, to.operations, number);
+        self.change_with::<Brand>(before, after, Blank::new(1))
     }
 
-    /// A callback leaves, of which this is the row as it stands.
+    // `change` with a counter of its own.
+    #[inline(always)]
+    fn change_with<L: Ledger>(&mut self, before: &CallbackRow, after: CallbackRow, blank: Blank)
+        requires name { blank.name ≡ L.name }
+        requires parts { blank.parts ≡ L.parts }
+        requires one { blank.parts ≡ 1 }
+        requires found { find (λ c. c.number == before.now.number) self.old.rows ≡ Some before.now }
+        requires goes { MovesOn before.now after }
+        ensures { self.new ≡ record self.old { rows = map (λ c. if c.number == after.number then after else c) self.old.rows } }
+    {
+        let mut steps = Steps::<L>::open(blank);
+        self.change_counted(before, after, &mut steps);
+    }
+
+    /// As `change`, and counts the nodes that it reads: two at most where the callback is neither pending then
+    /// nor has its operation under way, however many others there are.
+    #[inline]
+    pub fn change_counted<L: Ledger>(
+        &mut self,
+        before: &CallbackRow,
+        after: CallbackRow,
+        steps: &mut Steps<L>,
+    )
+        requires found { find (λ c. c.number == before.now.number) self.old.rows ≡ Some before.now }
+        requires goes { MovesOn before.now after }
+        ensures moved { self.new ≡ record self.old { rows = map (λ c. if c.number == after.number then after else c) self.old.rows } }
+        ensures counted { steps.old ≤ steps.new }
+        ensures bound { is_pending after.status ≡ false → is_operating after.status ≡ false → steps.new ≤ steps.old + 2 }
+    {
+        let _known = self.rows.len();
+        let to = self.lists.stands(&after);
+        let key = self.rows.key_of(after.number).unwrap();
+        let near = self.lists.near(&self.rows, &after, to.line, steps);
+        self.rows.replace(key, after);
+        self.operating -= operations(before) - operations(&after);
+        self.lists.settle(key, after.number, to, near, steps);
+    }
+
+    /// A callback leaves, of which this is the row as it stands. Every wait that holds it lets it go.
     #[inline(always)]
     pub fn remove(&mut self, row: &CallbackRow)
         requires { find (λ c. c.number == row.now.number) self.old.rows ≡ Some row.now }
-        ensures { self.new ≡ record self.old { rows = filter (λ c. not (c.number == row.now.number)) self.old.rows } }
+        ensures { self.new ≡ record self.old { rows = filter (λ c. not (c.number == row.now.number)) self.old.rows; held = map (all_but row.now.number) self.old.held } }
     {
-        let from = stands(row);
-        let _was_there = self.rows.remove(row.number);
-        requeue(&mut self.queues, from.queue, false, row);
-        unlist(&mut self.outstanding, from.outstanding, false, row.number);
-        unlist(&mut self.started, from.started, false, row.number);
-        unlist(&mut self.operations, from.operations, false, row.number);
+        self.remove_with::<Brand>(row, Blank::new(1))
+    }
+
+    // `remove` with a counter of its own.
+    #[inline(always)]
+    fn remove_with<L: Ledger>(&mut self, row: &CallbackRow, blank: Blank)
+        requires name { blank.name ≡ L.name }
+        requires parts { blank.parts ≡ L.parts }
+        requires one { blank.parts ≡ 1 }
+        requires found { find (λ c. c.number == row.now.number) self.old.rows ≡ Some row.now }
+        ensures { self.new ≡ record self.old { rows = filter (λ c. not (c.number == row.now.number)) self.old.rows; held = map (all_but row.now.number) self.old.held } }
+    {
+        let mut steps = Steps::<L>::open(blank);
+        let _known = self.rows.len();
+        let to = self.lists.nowhere();
+        let key = self.rows.remove(row.number).unwrap();
+        self.operating -= operations(row);
+        self.holding.leave(key);
+        self.lists.settle(key, row.number, to, to.line, &mut steps);
     }
 }

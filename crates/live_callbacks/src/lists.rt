@@ -1,54 +1,59 @@
-//! The lists in which a callback stands: which of them are those of its status, and how it comes into one and
-//! leaves it.
+//! The lists in which a callback stands, in three families: what it waits for, what it is outstanding for, and
+//! its group. In each it is in one list or in none, at the place of its key.
 
-ghost use Rattle.std.specs.Prelude.{◌≡◌, ◌<◌, All, false, if◌then◌else◌, length, true};
-ghost use Rattle.keyed_lists.specs.Keyed.{Keyed};
-ghost use Rattle.prio_queue.specs.Pending.{IsFree, held};
-ghost use Rattle.tp_model.specs.Counts.{is_expected, is_operating, is_pending};
-ghost use Rattle.live_callbacks.specs.Callbacks.{is_tied};
-ghost use Rattle.live_callbacks.specs.Lists.{priority_byte as priority_byte_of, requeued, unlisted, with_row};
+ghost use Rattle.std.specs.Prelude.{◌≡◌, ◌≢◌, ◌+◌, ◌*◌, ◌<◌, ◌≤◌, ◌^◌, [], IfOk, IfSome, false, length, slice_get, true};
+ghost use Rattle.linked_lists.specs.Moved.{IsCommon, IsMoved};
+ghost use Rattle.linked_lists.specs.Linked.{AreInOrder, AreOwned, IsOf, list_of, owner_of, place_after};
+ghost use Rattle.tp_model.specs.Counts.{is_pending};
+ghost use Rattle.live_callbacks.specs.Families.{AreSettled, HaveRoom, IsNowhere, IsStanding, OnlyLeaves, StandIn};
+ghost use Rattle.live_callbacks.specs.Held.{IsHeldAt, row_behind as row_behind_place};
+ghost use Rattle.live_callbacks.specs.Lists.{IsAtHome, MaySettle, first_queue_of, group_of as group_of_row, has_list as has_group_list, line_of as line_of_row, lines, object_of as object_of_row, priority_number as priority_number_of};
 
-use keyed_lists::KeyedLists;
-use prio_queue::Queues;
+use crate::rows::Rows;
+use linked_lists::LinkedLists;
+use std::alloc::{AllocError, Global};
+use std::marker::Brand;
+use std::sync::ledger::{Blank, Ledger};
+use steps::Steps;
 use tp_base::calls::Priority;
+use tp_base::ids::GroupId;
 use tp_base::rows::{CallbackRow, Status};
 
-// The lists that a callback stands in.
-#[derive(Clone, Copy)]
-pub(crate) struct Standing {
-    pub queue: bool,
-    pub outstanding: bool,
-    pub started: bool,
-    pub operations: bool,
+// The three families, and for how many pools, objects and groups they have lists.
+#[derive(Drop)]
+pub(crate) struct Lists {
+    pub pools: u32,
+    pub objects: u32,
+    pub groups: u32,
+    // A queue for each pool and priority, and for each object what expects its operation and what has it
+    // under way.
+    pub lines: LinkedLists,
+    // What is outstanding, by object.
+    pub outstanding: LinkedLists,
+    pub by_group: LinkedLists,
 }
 
-// The lists of a callback, by its status.
+// The list of a callback in each family, or the number of lists where it is in none.
+#[derive(Clone, Copy)]
+pub(crate) struct Standing {
+    pub line: u32,
+    pub object: u32,
+    pub group: u32,
+}
+
+// Three lines a pool and two an object.
 #[inline(always)]
-pub(crate) fn stands(callback: &CallbackRow) -> Standing
-    ensures queue { result.queue ≡ is_pending callback.now.status }
-    ensures outstanding { result.outstanding ≡ is_tied callback.now }
-    ensures started { result.started ≡ is_expected callback.now.status }
-    ensures operations { result.operations ≡ is_operating callback.now.status }
+pub(crate) fn lines(pools: u32, objects: u32) -> u32
+    requires { lines pools objects < 2 ^ 32 }
+    ensures { result ≡ lines pools objects }
 {
-    let (queue, outstanding, started, operations) = match callback.status {
-        Status::Expected => (false, true, true, true),
-        Status::Issued => (false, true, false, true),
-        Status::Pending => (true, true, false, false),
-        Status::Running { associated, .. } => (false, associated, false, false),
-        Status::Returned | Status::Cancelled => (false, false, false, false),
-    };
-    Standing {
-        queue,
-        outstanding,
-        started,
-        operations,
-    }
+    3 * pools + 2 * (objects + 1)
 }
 
 // The priority as the queues know it.
 #[inline(always)]
-fn priority_byte(priority: Priority) -> u8
-    ensures { result ≡ priority_byte_of priority }
+fn priority_number(priority: Priority) -> u32
+    ensures { result ≡ priority_number_of priority }
 {
     match priority {
         Priority::High => 0,
@@ -57,41 +62,286 @@ fn priority_byte(priority: Priority) -> u8
     }
 }
 
-// A callback comes to the queue of its pool, or leaves it, where it is in it only before or only now.
+// Whether a group has a list of its callbacks, where so many have one.
 #[inline(always)]
-pub(crate) fn requeue(queues: &mut Queues, was: bool, is: bool, callback: &CallbackRow)
-    requires pool { callback.now.pool.0 < length queues.old.queues }
-    requires room { was ≡ false → is ≡ true → held queues.old < queues.old.slots }
-    requires free { was ≡ false → is ≡ true → IsFree callback.now.number queues.old }
-    ensures { queues.new ≡ requeued queues.old was is callback.now }
+pub(crate) fn has_list(groups: u32, group: GroupId) -> bool
+    ensures { result ≡ has_group_list groups group.0 }
 {
-    if was && !is {
-        let _was_there = queues.remove(callback.pool.0, callback.number);
-    } else if !was && is {
-        let priority = priority_byte(callback.priority);
-        queues.push(callback.pool.0, priority, callback.number);
+    0 < group.0 && group.0 <= groups
+}
+
+// The line of a callback, by its status.
+#[inline(always)]
+fn line_of(pools: u32, objects: u32, callback: &CallbackRow) -> u32
+    requires home { IsAtHome pools objects callback.now }
+    requires fits { lines pools objects < 2 ^ 32 }
+    ensures value { result ≡ line_of_row pools objects callback.now }
+    ensures within { result ≤ lines pools objects }
+{
+    match callback.status {
+        Status::Expected => 3 * pools + callback.object.0,
+        Status::Issued => 3 * pools + (objects + 1) + callback.object.0,
+        Status::Pending => 3 * callback.pool.0 + priority_number(callback.priority),
+        Status::Running { .. } | Status::Returned | Status::Cancelled => lines(pools, objects),
     }
 }
 
-// A new callback comes into the list of its object, if it is one of that list.
+// The object that a callback is outstanding for, by its status, or one that there can't be.
 #[inline(always)]
-pub(crate) fn list(lists: &mut KeyedLists, comes: bool, callback: &CallbackRow)
-    requires key { callback.now.object.0 < lists.old.keys }
-    requires room { length lists.old.entries < lists.old.slots }
-    requires last { All (λ e. e.number < callback.now.number) lists.old.entries }
-    ensures { lists.new ≡ (if comes then with_row lists.old callback.now else lists.old) }
+fn object_of(objects: u32, callback: &CallbackRow) -> u32
+    requires home { callback.now.object.0 ≤ objects }
+    requires fits { objects + 1 < 2 ^ 32 }
+    ensures value { result ≡ object_of_row objects callback.now }
+    ensures within { result ≤ objects + 1 }
 {
-    if comes {
-        lists.add(callback.object.0, callback.number);
+    match callback.status {
+        Status::Expected | Status::Issued | Status::Pending => callback.object.0,
+        Status::Running { associated, .. } if associated => callback.object.0,
+        Status::Running { .. } | Status::Returned | Status::Cancelled => objects + 1,
     }
 }
 
-// A callback leaves the list of its object, where it was one of that list and isn't now.
+// The group of a callback, if that has a list, or one that there can't be.
 #[inline(always)]
-pub(crate) fn unlist(lists: &mut KeyedLists, was: bool, is: bool, number: u64)
-    ensures { lists.new ≡ unlisted lists.old was is number }
+fn group_of(groups: u32, callback: &CallbackRow) -> u32
+    requires { groups + 1 < 2 ^ 32 }
+    ensures value { result ≡ group_of_row groups callback.now }
+    ensures within { result ≤ groups + 1 }
 {
-    if was && !is {
-        let _was_there = lists.remove(number);
+    if has_list(groups, callback.group) {
+        callback.group.0
+    } else {
+        groups + 1
+    }
+}
+
+// The first place of a list.
+#[inline(always)]
+pub(crate) fn first_in(lists: &LinkedLists, list: u32) -> Option<u32>
+    requires { list < length lists.now.lists }
+    ensures { result ≡ slice_get (list_of lists.now list) 0 }
+{
+    first_with::<Brand>(lists, list, Blank::new(1))
+}
+
+// `first_in` with a counter of its own.
+#[inline(always)]
+fn first_with<L: Ledger>(lists: &LinkedLists, list: u32, blank: Blank) -> Option<u32>
+    requires name { blank.name ≡ L.name }
+    requires parts { blank.parts ≡ L.parts }
+    requires one { blank.parts ≡ 1 }
+    requires list { list < length lists.now.lists }
+    ensures { result ≡ slice_get (list_of lists.now list) 0 }
+{
+    let mut steps = Steps::<L>::open(blank);
+    lists.first(list, &mut steps)
+}
+
+// The place that follows this one in its list.
+#[inline(always)]
+pub(crate) fn after_in(lists: &LinkedLists, place: u32) -> Option<u32>
+    requires { owner_of lists.now place < length lists.now.lists }
+    ensures { result ≡ place_after place (list_of lists.now (owner_of lists.now place)) }
+{
+    after_with::<Brand>(lists, place, Blank::new(1))
+}
+
+// `after_in` with a counter of its own.
+#[inline(always)]
+fn after_with<L: Ledger>(lists: &LinkedLists, place: u32, blank: Blank) -> Option<u32>
+    requires name { blank.name ≡ L.name }
+    requires parts { blank.parts ≡ L.parts }
+    requires one { blank.parts ≡ 1 }
+    requires owned { owner_of lists.now place < length lists.now.lists }
+    ensures { result ≡ place_after place (list_of lists.now (owner_of lists.now place)) }
+{
+    let mut steps = Steps::<L>::open(blank);
+    lists.after(place, &mut steps)
+}
+
+// A place comes to this list by its number, or where there is no such list it leaves the one that it is in.
+#[inline(always)]
+pub(crate) fn move_in(lists: &mut LinkedLists, list: u32, place: u32, number: u64)
+    requires list { list ≤ length lists.old.lists }
+    requires place { IsCommon lists.old place }
+    requires order { list < length lists.old.lists → AreInOrder lists.old.numbers (list_of lists.old list) }
+    ensures owned { AreOwned lists.old }
+    ensures moves { owner_of lists.old place ≢ list → IsMoved lists.old lists.new place list number }
+    ensures none { list ≡ length lists.old.lists → IsMoved lists.old lists.new place list number }
+{
+    move_with::<Brand>(lists, list, place, number, Blank::new(1))
+}
+
+// `move_in` with a counter of its own.
+#[inline(always)]
+fn move_with<L: Ledger>(lists: &mut LinkedLists, list: u32, place: u32, number: u64, blank: Blank)
+    requires name { blank.name ≡ L.name }
+    requires parts { blank.parts ≡ L.parts }
+    requires one { blank.parts ≡ 1 }
+    requires list { list ≤ length lists.old.lists }
+    requires place { IsCommon lists.old place }
+    requires order { list < length lists.old.lists → AreInOrder lists.old.numbers (list_of lists.old list) }
+    ensures owned { AreOwned lists.old }
+    ensures moves { owner_of lists.old place ≢ list → IsMoved lists.old lists.new place list number }
+    ensures none { list ≡ length lists.old.lists → IsMoved lists.old lists.new place list number }
+{
+    let mut steps = Steps::<L>::open(blank);
+    let _known = lists.owner(place);
+    lists.move_to(list, list, place, number, &mut steps);
+}
+
+// The row whose key has this place, behind so many places of lists.
+#[inline(always)]
+pub(crate) fn row_behind(rows: &Rows, heads: u32, place: Option<u32>) -> Option<CallbackRow>
+    requires { IfSome place (IsHeldAt heads rows.now.held) }
+    ensures { result ≡ row_behind_place heads rows.now.held place }
+{
+    match place {
+        Some(place) => Some(rows.at(place - heads)),
+        None => None,
+    }
+}
+
+impl Lists {
+    // Empty lists, with the memory for so many keys.
+    pub fn open(
+        alloc: Global,
+        pools: u32,
+        objects: u32,
+        groups: u32,
+        places: u32,
+    ) -> Result<Lists, AllocError>
+        ensures pools { IfOk result (λ made. made.pools ≡ pools) }
+        ensures objects { IfOk result (λ made. made.objects ≡ objects) }
+        ensures empty { IfOk result (StandIn places []) }
+    {
+        let lines = 3 * pools as u64 + 2 * (objects as u64 + 1);
+        let most = lines.max(groups as u64 + 1) + places as u64;
+        if most > u32::MAX as u64 {
+            return Err(AllocError);
+        }
+        Ok(Lists {
+            pools,
+            objects,
+            groups,
+            lines: LinkedLists::open(alloc, lines as u32, places)?,
+            outstanding: LinkedLists::open(alloc, objects + 1, places)?,
+            by_group: LinkedLists::open(alloc, groups + 1, places)?,
+        })
+    }
+
+    // The lists of a callback.
+    #[inline(always)]
+    pub fn stands(&self, callback: &CallbackRow) -> Standing
+        requires home { IsAtHome self.now.pools self.now.objects callback.now }
+        requires fits { HaveRoom self.now }
+        ensures { IsStanding self.now callback.now result }
+    {
+        Standing {
+            line: line_of(self.pools, self.objects, callback),
+            object: object_of(self.objects, callback),
+            group: group_of(self.groups, callback),
+        }
+    }
+
+    // The lists of one that isn't there: none.
+    #[inline(always)]
+    pub fn nowhere(&self) -> Standing
+        requires { HaveRoom self.now }
+        ensures { IsNowhere self.now result }
+    {
+        Standing {
+            line: lines(self.pools, self.objects),
+            object: self.objects + 1,
+            group: self.groups + 1,
+        }
+    }
+
+    // A place of a line near to where this number belongs there, or the line's own. Where an end of the line
+    // tells where that is, no other place is looked for.
+    fn near_in<L: Ledger>(&self, rows: &Rows, line: u32, number: u64, steps: &mut Steps<L>) -> u32
+        requires fits { HaveRoom self.now }
+        requires line { line < length self.now.lines.lists }
+        requires order { AreInOrder self.now.lines.numbers (list_of self.now.lines line) }
+        ensures near { IsOf self.now.lines line result }
+        ensures counted { steps.old ≤ steps.new }
+    {
+        if self.lines.end_below(line, number, steps).is_some() {
+            return line;
+        }
+        let heads = lines(self.pools, self.objects);
+        match rows.place_beside(number, &self.lines, line, heads) {
+            Some(place) => place,
+            None => line,
+        }
+    }
+
+    // The same for the line of a callback. Only what becomes pending comes before others there.
+    #[inline(always)]
+    pub fn near<L: Ledger>(
+        &self,
+        rows: &Rows,
+        callback: &CallbackRow,
+        line: u32,
+        steps: &mut Steps<L>,
+    ) -> u32
+        requires fits { HaveRoom self.now }
+        requires line { is_pending callback.now.status ≡ true → line < length self.now.lines.lists }
+        requires order { line < length self.now.lines.lists → AreInOrder self.now.lines.numbers (list_of self.now.lines line) }
+        ensures near { IsOf self.now.lines line result }
+        ensures counted { steps.old ≤ steps.new }
+        ensures still { is_pending callback.now.status ≡ false → steps.new ≡ steps.old }
+    {
+        match callback.status {
+            Status::Pending => self.near_in(rows, line, callback.number, steps),
+            Status::Expected | Status::Issued => line,
+            Status::Running { .. } | Status::Returned | Status::Cancelled => line,
+        }
+    }
+
+    // A key of a row of this number comes to these lists, and leaves those that it was in. Into its line it
+    // comes from a place near to where it belongs there, or from the line's own.
+    #[inline(always)]
+    pub fn settle<L: Ledger>(
+        &mut self,
+        key: u32,
+        number: u64,
+        to: Standing,
+        near: u32,
+        steps: &mut Steps<L>,
+    )
+        requires fits { HaveRoom self.old }
+        requires near { IsOf self.old.lines to.line near }
+        requires line { MaySettle (lines self.old.pools self.old.objects) self.old.lines key to.line }
+        requires object { MaySettle (self.old.objects + 1) self.old.outstanding key to.object }
+        requires group { MaySettle (self.old.groups + 1) self.old.by_group key to.group }
+        ensures settled { AreSettled self.old self.new key number to }
+        ensures counted { steps.old ≤ steps.new }
+        ensures cost { OnlyLeaves self.old key to → steps.new ≤ steps.old + 2 }
+    {
+        let lines = lines(self.pools, self.objects);
+        self.lines
+            .move_to(to.line, near, lines + key, number, steps);
+        self.outstanding.move_to(to.object, to.object, self.objects + 1 + key, number, steps);
+        self.by_group
+            .move_to(to.group, to.group, self.groups + 1 + key, number, steps);
+    }
+
+    // The line of a pool's queue that is first of those that aren't empty, or its last.
+    #[inline(always)]
+    pub fn first_queue(&self, pool: u32) -> u32
+        requires pool { pool < self.now.pools }
+        requires many { length self.now.lines.lists ≡ lines self.now.pools self.now.objects }
+        requires fits { HaveRoom self.now }
+        ensures { result ≡ first_queue_of self.now.lines (3 * pool) }
+    {
+        let high = 3 * pool;
+        if self.lines.len(high) != 0 {
+            high
+        } else if self.lines.len(high + 1) != 0 {
+            high + 1
+        } else {
+            high + 2
+        }
     }
 }

@@ -1,12 +1,11 @@
-use Rattle.std.proofs.Common.{ap, ◌∙◌, ◌==◌, length, not}
+use Rattle.std.proofs.Common.{ap, ◌∙◌, ◌==◌, not}
 use Rattle.tp_base.specs.declared.rows.CallbackRow.{CallbackRow}
-use Rattle.keyed_lists.specs.Keyed.{Keyed}
 use Rattle.tp_model.specs.Counts.{is_operating}
-use Rattle.live_callbacks.proofs.Found.{any_listed}
+use Rattle.live_callbacks.specs.Held.{rows_of}
+use Rattle.live_callbacks.proofs.Found.{any_some}
 use Rattle.live_callbacks.proofs.LiveCallbacks.are_operating.Goals as goal
 
 pub returns : goal.returns
 returns c =
     rw (← c.self.view_is)
-    (ap (λ n. not (n == 0)) (c.len.ensures.value ∙ ap (λ (l : Keyed). length l.entries) c.self.invariant.operations)
-    ∙ any_listed (λ (x : CallbackRow). is_operating x.status) c.self.inside.rows.rows)
+    (ap (λ n. not (n == 0)) c.self.invariant.counted ∙ any_some (λ (x : CallbackRow). is_operating x.status) (rows_of c.self.inside.rows.held))

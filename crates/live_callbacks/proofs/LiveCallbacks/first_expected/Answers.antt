@@ -1,25 +1,36 @@
-use Rattle.std.proofs.Common.{refl, sym, ap, ◌∙◌}
+use Rattle.std.proofs.Common.{◌∙◌, ◌+◌, ◌*◌, ◌==◌, ap, arith, sym}
 use Rattle.tp_base.specs.declared.rows.CallbackRow.{CallbackRow}
-use Rattle.keyed_lists.specs.Keyed.{Keyed}
 use Rattle.tp_model.specs.Calls.Io.{is_expected_of}
 use Rattle.tp_model.specs.Counts.{is_expected}
-use Rattle.live_callbacks.proofs.Found.{beyond, first_row, no_row}
+use Rattle.live_callbacks.specs.Held.{row_behind, rows_of}
+use Rattle.live_callbacks.specs.Lists.{line_of, lines}
+use Rattle.live_callbacks.proofs.Found.{find_none, find_same, first_is, place_held, place_row}
+use Rattle.live_callbacks.proofs.Lines.{expected_agree, no_object}
 use Rattle.live_callbacks.proofs.LiveCallbacks.first_expected.Goals as goal
 
 pub returns-then-object-self : goal.returns-then-object-self
 returns-then-object-self c =
     let i = c.self.inside in
-    rw (← c.self.view_is) (sym (beyond (λ (x : CallbackRow). is_expected x.status) (is_expected_of c.args.object.0) c.args.object (λ _. refl) i.rows.rows i.pools i.objects c.if-object-self.true c.self.invariant.homes))
-
-pub returns-in-Some : goal.returns-in-Some
-returns-in-Some c =
-    let i = c.self.inside in
-    let k = c.self.invariant in
+    let cs = rows_of i.rows.held in
     rw (← c.self.view_is)
-    (c.find.ensures
-    ∙ first_row (λ (x : CallbackRow). is_expected x.status) (is_expected_of c.args.object.0) c.args.object (λ _. refl) i.rows.rows i.started (ap (λ (l : Keyed). l.entries) k.started) k.rising.0 c.in-Some.number c.first.result k.rising.1 c.first.ensures c.in-Some.is)
+    (sym (find_none (is_expected_of c.args.object.0) cs (no_object i.lists.pools i.lists.objects c.args.object.0 c.if-object-self.true (λ (x : CallbackRow). is_expected x.status) cs c.self.invariant.homes)))
 
-pub returns-in-None : goal.returns-in-None
-returns-in-None c =
+pub row_behind-requires : goal.row_behind-requires
+row_behind-requires c =
     let i = c.self.inside in
-    rw (← c.self.view_is) (no_row (λ (x : CallbackRow). is_expected x.status) (is_expected_of c.args.object.0) c.args.object (λ _. refl) i.rows.rows i.started (ap (λ (l : Keyed). l.entries) c.self.invariant.started) c.first.result c.first.ensures c.in-None.is)
+    let line = line_of i.lists.pools i.lists.objects in
+    let list = 3 * i.lists.pools + c.args.object.0 in
+    let first = c.first_in-place.ensures ∙ first_is (lines i.lists.pools i.lists.objects) line list i.rows.held c.self.invariant.standing.by_line (omega (arith, c.if-object-self.false)) in
+    rw c.lines.ensures (place_held (lines i.lists.pools i.lists.objects) i.rows.held c.len-known.ensures.apart (λ x. line x == list) c.first_in-place.result first)
+
+pub returns : goal.returns
+returns c =
+    let i = c.self.inside in
+    let line = line_of i.lists.pools i.lists.objects in
+    let list = 3 * i.lists.pools + c.args.object.0 in
+    let first = c.first_in-place.ensures ∙ first_is (lines i.lists.pools i.lists.objects) line list i.rows.held c.self.invariant.standing.by_line (omega (arith, c.if-object-self.false)) in
+    rw (← c.self.view_is)
+    (c.row_behind.ensures
+    ∙ ap (λ heads. row_behind heads i.rows.held c.first_in-place.result) c.lines.ensures
+    ∙ place_row (lines i.lists.pools i.lists.objects) i.rows.held c.len-known.ensures.apart (λ x. line x == list) c.first_in-place.result first
+    ∙ find_same (λ x. line x == list) (is_expected_of c.args.object.0) (rows_of i.rows.held) (expected_agree i.lists.pools i.lists.objects c.args.object.0 c.if-object-self.false (rows_of i.rows.held) c.self.invariant.homes))

@@ -1,31 +1,41 @@
-use Rattle.std.proofs.Common.{sym, ap, ◌∙◌}
+use Rattle.std.proofs.Common.{◌≡◌, ◌∙◌, ◌+◌, ◌==◌, ◌&&◌, false, ap, arith, sym}
+use Rattle.std.proofs.lemmas.Bool.{ne_eqb}
+use Rattle.tp_base.specs.declared.rows.CallbackRow.{CallbackRow}
 use Rattle.tp_base.specs.declared.rows.WaitTarget.TheVariants.{Object}
-use Rattle.keyed_lists.specs.Keyed.{Keyed}
-use Rattle.tp_model.specs.Waits.{is_outstanding_for}
-use Rattle.live_callbacks.specs.Callbacks.{is_tied}
-use Rattle.live_callbacks.proofs.Found.{beyond, first_filtered, first_row, no_row, outstanding_listed}
+use Rattle.tp_model.specs.Waits.{is_held_for, is_outstanding_for}
+use Rattle.tp_model.proofs.Lists.{all_along}
+use Rattle.live_callbacks.specs.Held.{rows_of}
+use Rattle.live_callbacks.specs.Lists.{IsAtHome, object_of}
+use Rattle.live_callbacks.proofs.Found.{find_none, find_same, first_filtered, first_is, place_held, place_row}
+use Rattle.live_callbacks.proofs.Lines.{outstanding_agree}
 use Rattle.live_callbacks.proofs.LiveCallbacks.first_outstanding.Goals as goal
 
 pub returns-then-object-self : goal.returns-then-object-self
 returns-then-object-self c =
     let i = c.self.inside in
     let p = is_outstanding_for (Object c.args.object) in
-    rw (← c.self.view_is) (sym (first_filtered p i.rows.rows ∙ beyond is_tied p c.args.object (outstanding_listed c.args.object) i.rows.rows i.pools i.objects c.if-object-self.true c.self.invariant.homes))
-
-pub returns-in-Some : goal.returns-in-Some
-returns-in-Some c =
-    let i = c.self.inside in
-    let k = c.self.invariant in
-    let p = is_outstanding_for (Object c.args.object) in
+    let cs = rows_of i.rows.held in
+    let other : (x : CallbackRow) → IsAtHome i.lists.pools i.lists.objects x → p x ≡ false = λ x home.
+    ap (λ b. b && is_held_for (Object c.args.object) x.status) (ne_eqb x.object.0 c.args.object.0 (λ e. absurd (omega (arith, e, home.1, c.if-object-self.true))))
+    in
     rw (← c.self.view_is)
-    (c.find.ensures
-    ∙ first_row is_tied p c.args.object (outstanding_listed c.args.object) i.rows.rows i.outstanding (ap (λ (l : Keyed). l.entries) k.outstanding) k.rising.0 c.in-Some.number c.first.result k.rising.1 c.first.ensures c.in-Some.is
-    ∙ sym (first_filtered p i.rows.rows))
+    (sym (first_filtered p cs ∙ find_none p cs (all_along (IsAtHome i.lists.pools i.lists.objects) (λ (x : CallbackRow). p x ≡ false) other cs c.self.invariant.homes)))
 
-pub returns-in-None : goal.returns-in-None
-returns-in-None c =
+pub row_behind-requires : goal.row_behind-requires
+row_behind-requires c =
     let i = c.self.inside in
+    let heads = i.lists.objects + 1 in
+    let first = c.first_in-place.ensures ∙ first_is heads (object_of i.lists.objects) c.args.object.0 i.rows.held c.self.invariant.standing.by_object (omega (arith, c.if-object-self.false)) in
+    place_held heads i.rows.held c.len-known.ensures.apart (λ x. object_of i.lists.objects x == c.args.object.0) c.first_in-place.result first
+
+pub returns : goal.returns
+returns c =
+    let i = c.self.inside in
+    let heads = i.lists.objects + 1 in
     let p = is_outstanding_for (Object c.args.object) in
+    let first = c.first_in-place.ensures ∙ first_is heads (object_of i.lists.objects) c.args.object.0 i.rows.held c.self.invariant.standing.by_object (omega (arith, c.if-object-self.false)) in
     rw (← c.self.view_is)
-    (no_row is_tied p c.args.object (outstanding_listed c.args.object) i.rows.rows i.outstanding (ap (λ (l : Keyed). l.entries) c.self.invariant.outstanding) c.first.result c.first.ensures c.in-None.is
-    ∙ sym (first_filtered p i.rows.rows))
+    (c.row_behind.ensures
+    ∙ place_row heads i.rows.held c.len-known.ensures.apart (λ x. object_of i.lists.objects x == c.args.object.0) c.first_in-place.result first
+    ∙ find_same (λ x. object_of i.lists.objects x == c.args.object.0) p (rows_of i.rows.held) (outstanding_agree i.lists.objects c.args.object c.if-object-self.false (rows_of i.rows.held))
+    ∙ sym (first_filtered p (rows_of i.rows.held)))
