@@ -1,0 +1,3 @@
+pub mod Actors
+pub mod Keeping
+pub mod Noticed

@@ -1,0 +1,5 @@
+pub mod Begun
+pub mod Kept
+pub mod Listed
+pub mod Notices
+pub mod Past

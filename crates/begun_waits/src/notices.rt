@@ -1,0 +1,113 @@
+//! The notices that actors have still to give: for each actor a list of objects. An object is in one of
+//! these lists at most, so that one place for it serves them all, and nothing is searched.
+
+ghost use Rattle.std.specs.Prelude.{◌≡◌, ℕ, ◌+◌, ◌<◌, ◌≤◌, ◌^◌, ◌++◌, ◌∷◌, [], IfOk, drop, false, length, replicate, slice_get};
+ghost use Rattle.begun_waits.specs.Notices.{IsCleared, is_listed, told_at, with_told};
+
+use linked_lists::LinkedLists;
+use std::alloc::{AllocError, Global};
+use std::marker::Model;
+use std::sync::ledger::{Blank, Ledger};
+use steps::Steps;
+use tp_base::ids::ObjectId;
+
+// For each actor, by its place, the objects of which it has still to give a notice.
+#[derive(Drop)]
+pub(crate) struct Notices {
+    actors: u32,
+    objects: u32,
+    // The list of an actor's place has its objects; object o is at the place `actors` + o.
+    lists: LinkedLists,
+}
+
+impl Model for Notices {
+    ghost use Rattle.std.specs.Prelude.{map};
+    ghost use Rattle.begun_waits.specs.Notices.{Told};
+
+    ghost Value = { Told };
+
+    ghost use Rattle.begun_waits.specs.Notices.{AreThreaded, objects_at};
+
+    ghost view = { λ a. record { objects = a.objects; lists = map (objects_at a.actors) a.lists.lists } };
+
+    ghost invariant = { λ a. AreThreaded a.actors a.objects a.lists };
+}
+
+impl Notices {
+    // None of so many actors, with the memory for objects of the numbers up to `objects`.
+    pub(crate) fn open(alloc: Global, actors: u32, objects: u32) -> Result<Notices, AllocError>
+        requires { actors + (objects + 1) < 2 ^ 32 }
+        ensures { IfOk result (λ notices. notices ≡ record { objects = objects; lists = replicate actors [] }) }
+    {
+        Ok(Notices {
+            actors,
+            objects,
+            lists: LinkedLists::open(alloc, actors, objects + 1)?,
+        })
+    }
+
+    // The first object of an actor, or None where it has no notice to give.
+    pub(crate) fn first<L: Ledger>(&self, actor: u32, blank: Blank) -> Option<ObjectId>
+        requires there { actor < length self.now.lists }
+        requires name { blank.name ≡ L.name }
+        requires parts { blank.parts ≡ L.parts }
+        requires one { blank.parts ≡ 1 }
+        ensures { result ≡ slice_get (told_at self.now actor) 0 }
+    {
+        let mut steps = Steps::<L>::open(blank);
+        let place = self.lists.first(actor, &mut steps)?;
+        Some(ObjectId(place - self.actors))
+    }
+
+    // One more object for an actor, behind the others. No actor has a notice of it.
+    pub(crate) fn put<L: Ledger>(&mut self, actor: u32, object: ObjectId, blank: Blank)
+        requires there { actor < length self.old.lists }
+        requires most { object.0 ≤ self.old.objects }
+        requires free { (other : ℕ) → is_listed object (told_at self.old other) ≡ false }
+        requires name { blank.name ≡ L.name }
+        requires parts { blank.parts ≡ L.parts }
+        requires one { blank.parts ≡ 1 }
+        ensures { self.new ≡ with_told self.old actor (told_at self.old actor ++ object ∷ []) }
+    {
+        let mut steps = Steps::<L>::open(blank);
+        let place = self.actors + object.0;
+        self.lists.reach(place);
+        self.lists.put_last(actor, place, &mut steps);
+    }
+
+    // An actor's first object goes, if it has one.
+    pub(crate) fn take_first<L: Ledger>(&mut self, actor: u32, blank: Blank)
+        requires there { actor < length self.old.lists }
+        requires name { blank.name ≡ L.name }
+        requires parts { blank.parts ≡ L.parts }
+        requires one { blank.parts ≡ 1 }
+        ensures { self.new ≡ with_told self.old actor (drop 1 (told_at self.old actor)) }
+    {
+        let mut steps = Steps::<L>::open(blank);
+        if let Some(place) = self.lists.first(actor, &mut steps) {
+            self.lists.take_out(place, &mut steps);
+        }
+    }
+
+    // All objects of an actor go.
+    pub(crate) fn clear<L: Ledger>(&mut self, actor: u32, blank: Blank)
+        requires there { actor < length self.old.lists }
+        requires name { blank.name ≡ L.name }
+        requires parts { blank.parts ≡ L.parts }
+        requires one { blank.parts ≡ 1 }
+        ensures { self.new ≡ with_told self.old actor [] }
+    {
+        let mut steps = Steps::<L>::open(blank);
+        clear_list(&mut self.lists, actor, &mut steps);
+    }
+}
+
+// Takes all places out of a list.
+fn clear_list<L: Ledger>(lists: &mut LinkedLists, list: u32, steps: &mut Steps<L>)
+    requires { list < length lists.old.lists }
+    ensures { IsCleared lists.old lists.new list }
+{
+    while let Some(place) = lists.first(list, steps) {
+        lists.take_out(place, steps);
+    }
+}
