@@ -28,7 +28,7 @@ use Rattle.tp_model.specs.Support.Moves.{Move, Moves, Stay, Mark, Attach, Detach
 use Rattle.tp_model.proofs.Callbacks.{find_replaced, find_replaced_other, pending_not_running, before_idle}
 use Rattle.tp_model.proofs.Cancelling.{running_passed, find_uncancelled}
 use Rattle.tp_model.proofs.Lists.{get_set, get_set_other}
-use Rattle.tp_model.proofs.Once.{one_if}
+use Rattle.tp_model.proofs.Agreeing.{one_if}
 use Rattle.tp_model.proofs.Places.{LastPlace, Here, Earlier, last_place, any_last, find_front}
 use Rattle.tp_model.proofs.Refusals.{false_true, and_false, is_own_actor, numbered_some, numbered_at}
 use Rattle.tp_model.proofs.Running.{same_row, same_worker}

@@ -18,7 +18,7 @@ use Rattle.tp_model.specs.Support.Sound.{IsSound, RunsOn}
 use Rattle.tp_model.specs.Support.Allowed.{Idles, Runs}
 use Rattle.tp_model.proofs.Lists.{find_passes}
 use Rattle.tp_model.proofs.Callbacks.{kept_found}
-use Rattle.tp_model.proofs.Sound.{worker_at}
+use Rattle.tp_model.proofs.SoundWorkers.{worker_at}
 use Rattle.tp_model.proofs.Refusals.{both, numbered_some}
 
 -- the actor is this worker, which is attached and runs nothing

@@ -8,7 +8,10 @@ use Rattle.tp_base.specs.declared.answers.ActionKind.{ActionKind}
 use Rattle.tp_base.specs.declared.answers.Refusal.{Refusal}
 use Rattle.tp_base.specs.declared.answers.Refusal.TheVariants.{NotOwner, OverMaximum}
 use Rattle.tp_base.specs.declared.calls.Call.{Call}
-use Rattle.tp_base.specs.declared.calls.Call.TheVariants.{CreatePool, ClosePool, SetMaximum, SetMinimum, CreateGroup, CloseGroup, BeginClose, Create, CloseObject, SubmitSimple, SubmitWork, SetTimer, SetTimerEx, IsTimerSet, Advance, BeginWait, BeginAcquire, End, CreateEvent, CreateSemaphore, CreateLock, SetEvent, ResetEvent, ReleaseSemaphore, ReleaseLock, Attach, Detach, Take, Return, MayRunLong, Disassociate, OnReturn, Finish, SetWait, StartIo, IssueIo, CancelIo, CompleteIo}
+use Rattle.tp_base.specs.declared.calls.Call.TheVariants.{CreatePool, ClosePool, SetMaximum, SetMinimum, CreateGroup, CloseGroup, BeginClose, Create, CloseObject, SubmitSimple, SubmitWork}
+use Rattle.tp_base.specs.declared.calls.Call.TheVariants.{SetTimer, SetTimerEx, IsTimerSet, Advance, SetWait, StartIo, IssueIo, CancelIo, CompleteIo}
+use Rattle.tp_base.specs.declared.calls.Call.TheVariants.{BeginWait, BeginAcquire, End, CreateEvent, CreateSemaphore, CreateLock, SetEvent, ResetEvent, ReleaseSemaphore, ReleaseLock}
+use Rattle.tp_base.specs.declared.calls.Call.TheVariants.{Attach, Detach, Take, Return, MayRunLong, Disassociate, OnReturn, Finish}
 use Rattle.tp_base.specs.declared.calls.Kind.{Kind}
 use Rattle.tp_base.specs.declared.calls.Kind.TheVariants.{Work, Timer, Io}
 use Rattle.tp_base.specs.declared.calls.Environ.{Environ}

@@ -216,7 +216,8 @@ pub length_filter_replaced : (p : CallbackRow → Bool) (r c : CallbackRow) (low
     length (filter p (replaced r cs)) + cond (p c) 1 0 ≡ length (filter p cs) + cond (p r) 1 0
 length_filter_replaced p r c low next_number [] h e = absurd cc
 length_filter_replaced p r c low next_number (d ∷ cs) h e =
-    elim (has_number r.number d) as (λ b. has_number r.number d ≡ b → cond b (Some d) (find (has_number r.number) cs) ≡ Some c → length (cond (p (cond b r d)) (cond b r d ∷ filter p (replaced r cs)) (filter p (replaced r cs))) + cond (p c) 1 0 ≡ length (cond (p d) (d ∷ filter p cs) (filter p cs)) + cond (p r) 1 0) [
+    elim (has_number r.number d) as (λ b. has_number r.number d ≡ b → cond b (Some d) (find (has_number r.number) cs) ≡ Some c
+    → length (cond (p (cond b r d)) (cond b r d ∷ filter p (replaced r cs)) (filter p (replaced r cs))) + cond (p c) 1 0 ≡ length (cond (p d) (d ∷ filter p cs) (filter p cs)) + cond (p r) 1 0) [
       | true ↦ λ same found.
           let is_c : d ≡ c = cc in
           let is_r : d.number ≡ r.number = eqb-true d.number r.number same in

@@ -2,7 +2,10 @@
 use Rattle.std.proofs.Common.{◌≡◌, ℕ, ◌+◌, ◌≤◌, ◌^◌, arith}
 use Rattle.tp_base.specs.declared.ids.Who.{Who}
 use Rattle.tp_base.specs.declared.calls.Call.{Call}
-use Rattle.tp_base.specs.declared.calls.Call.TheVariants.{CreatePool, ClosePool, SetMaximum, SetMinimum, CreateGroup, CloseGroup, BeginClose, Create, CloseObject, SubmitSimple, SubmitWork, SetTimer, SetTimerEx, IsTimerSet, Advance, BeginWait, BeginAcquire, End, CreateEvent, CreateSemaphore, CreateLock, SetEvent, ResetEvent, ReleaseSemaphore, ReleaseLock, Attach, Detach, Take, Return, MayRunLong, Disassociate, OnReturn, Finish, SetWait, StartIo, IssueIo, CancelIo, CompleteIo}
+use Rattle.tp_base.specs.declared.calls.Call.TheVariants.{CreatePool, ClosePool, SetMaximum, SetMinimum, CreateGroup, CloseGroup, BeginClose, Create, CloseObject, SubmitSimple, SubmitWork}
+use Rattle.tp_base.specs.declared.calls.Call.TheVariants.{SetTimer, SetTimerEx, IsTimerSet, Advance, SetWait, StartIo, IssueIo, CancelIo, CompleteIo}
+use Rattle.tp_base.specs.declared.calls.Call.TheVariants.{BeginWait, BeginAcquire, End, CreateEvent, CreateSemaphore, CreateLock, SetEvent, ResetEvent, ReleaseSemaphore, ReleaseLock}
+use Rattle.tp_base.specs.declared.calls.Call.TheVariants.{Attach, Detach, Take, Return, MayRunLong, Disassociate, OnReturn, Finish}
 use Rattle.tp_base.specs.Ranges.{IsCallInRange}
 use Rattle.tp_model.specs.World.{World}
 use Rattle.tp_model.specs.Table.{plan_at}
@@ -29,7 +32,8 @@ use Work.{submit_work_safe, submit_work_forget, submit_work_ranged, submit_simpl
 use Workers.{attach_safe, attach_forget, attach_ranged, detach_safe, detach_forget, detach_ranged, take_safe, take_forget, take_ranged, return_safe, return_forget, return_ranged}
 use InCallback.{may_run_long_safe, may_run_long_forget, may_run_long_ranged, disassociate_safe, disassociate_forget, disassociate_ranged, on_return_safe, on_return_forget, on_return_ranged}
 use Timers.{set_timer_safe, set_timer_forget, set_timer_ranged, set_timer_ex_safe, set_timer_ex_forget, set_timer_ex_ranged, is_timer_set_safe, is_timer_set_forget, is_timer_set_ranged, advance_safe, advance_forget, advance_ranged}
-use Kernels.{create_event_safe, create_event_forget, create_event_ranged, create_semaphore_safe, create_semaphore_forget, create_semaphore_ranged, create_lock_safe, create_lock_forget, create_lock_ranged, set_event_safe, set_event_forget, set_event_ranged, reset_event_safe, reset_event_forget, reset_event_ranged, release_semaphore_safe, release_semaphore_forget, release_semaphore_ranged, release_lock_safe, release_lock_forget, release_lock_ranged}
+use Kernels.{create_event_safe, create_event_forget, create_event_ranged, create_semaphore_safe, create_semaphore_forget, create_semaphore_ranged, create_lock_safe, create_lock_forget, create_lock_ranged}
+use Kernels.{set_event_safe, set_event_forget, set_event_ranged, reset_event_safe, reset_event_forget, reset_event_ranged, release_semaphore_safe, release_semaphore_forget, release_semaphore_ranged, release_lock_safe, release_lock_forget, release_lock_ranged}
 use WaitObjects.{set_wait_safe, set_wait_forget, set_wait_ranged}
 use Io.{start_io_safe, start_io_forget, start_io_ranged, issue_io_safe, issue_io_forget, issue_io_ranged, cancel_io_safe, cancel_io_forget, cancel_io_ranged, complete_io_safe, complete_io_forget, complete_io_ranged}
 use Waits.{begin_wait_safe, begin_wait_forget, begin_wait_ranged, begin_acquire_safe, begin_acquire_forget, begin_acquire_ranged, end_safe, end_forget, end_ranged}

@@ -291,7 +291,11 @@ paid next_number w (change.Detach by) s a =
 paid next_number w (change.Take by c) s a = omega (arith, owed_taken next_number w by.worker (record { pool = Some by.pool; callback = None }) by.pool c s a.idles refl a.found a.pending)
 paid next_number w (change.Mark by mark) s a = omega (arith, owed_marked next_number w mark by.callback s a.runs.found)
 paid next_number w (change.Return by words first count) s a =
-    omega (arith, ap length (running_appended (replaced (returned by.callback) w.callbacks) w.objects first (returning w words (slots_of by.callback.status)).jobs), owed_returned next_number w by.worker (record { pool = Some by.pool; callback = Some by.callback.number }) by.callback s a.runs.stands a.runs.found (ap is_running a.runs.running))
+    omega (
+      arith,
+      ap length (running_appended (replaced (returned by.callback) w.callbacks) w.objects first (returning w words (slots_of by.callback.status)).jobs),
+      owed_returned next_number w by.worker (record { pool = Some by.pool; callback = Some by.callback.number }) by.callback s a.runs.stands a.runs.found (ap is_running a.runs.running),
+    )
 paid next_number w (change.BeginWait who target cancel) s a = omega (arith, owed_begin_wait w who target cancel)
 paid next_number w change.CreateGroup s a = omega arith
 paid next_number w (change.CloseGroup group) s a = omega arith

@@ -123,6 +123,13 @@ module _ (P : ℕ → Type 0) where
   pub of_set : (now : ℕ) (object : ObjectId) (due : Option ℤ) (period window : ℕ) (settings : List TimerSetting) → P object.0 → AreOf P settings → AreOf P (set_timer now object due period window settings)
   of_set now object due period window settings here all = all_set_timer (λ (x : TimerSetting). P x.object.0) (λ x due h. h) now object due period window settings (λ moment. here) all
 
+-- ---- a wait that is armed
+
+-- the sources with its arming and its timeout
+abbrev pub with_arming : ObjectId → KernelId → Option ℤ → Sources → Sources
+with_arming object kernel timeout s =
+    record s { settings = set_timer s.now object timeout 0 0 s.settings; armings = s.armings ++ record { object = object; kernel = kernel } ∷ [] }
+
 -- ---- what objects firings are of
 
 -- settings of the objects that have P, and armings of those that have R
@@ -181,9 +188,9 @@ module _ (P R : ℕ → Type 0) (of : (n : ℕ) → R n → P n) where
   arm_of : (object : ObjectId) (kernel : KernelId) (timeout : Option ℤ) (s : Sources) → R object.0 → AreSourcesOf P R s → IsFiringOf P R (arm object kernel timeout s)
   arm_of object kernel timeout s here all =
       elim (is_one_that is_signalled s.kernels kernel.0) as (λ b. IsFiringOf P R (cond b (record { sources = with_state taken kernel.0 s; jobs = job object WaitObject0 ∷ [] })
-      (cond (expires_at_once s.now timeout) (record { sources = s; jobs = job object WaitTimeout ∷ [] }) (jobless (record s { settings = set_timer s.now object timeout 0 0 s.settings; armings = s.armings ++ record { object = object; kernel = kernel } ∷ [] }))))) [
+      (cond (expires_at_once s.now timeout) (record { sources = s; jobs = job object WaitTimeout ∷ [] }) (jobless (with_arming object kernel timeout s))))) [
         | true ↦ record { sources = record { settings = all.settings; armings = all.armings }; jobs = ((of object.0 here, refl), tt) }
-        | false ↦ elim (expires_at_once s.now timeout) as (λ b. IsFiringOf P R (cond b (record { sources = s; jobs = job object WaitTimeout ∷ [] }) (jobless (record s { settings = set_timer s.now object timeout 0 0 s.settings; armings = s.armings ++ record { object = object; kernel = kernel } ∷ [] })))) [
+        | false ↦ elim (expires_at_once s.now timeout) as (λ b. IsFiringOf P R (cond b (record { sources = s; jobs = job object WaitTimeout ∷ [] }) (jobless (with_arming object kernel timeout s)))) [
           | true ↦ record { sources = all; jobs = ((of object.0 here, refl), tt) }
           | false ↦ record {
             sources = record {
@@ -286,9 +293,9 @@ release_now (suc n) kernel f = release_now n kernel (release_first kernel f) ∙
 arm_now : (object : ObjectId) (kernel : KernelId) (timeout : Option ℤ) (s : Sources) → (arm object kernel timeout s).sources.now ≡ s.now
 arm_now object kernel timeout s =
     elim (is_one_that is_signalled s.kernels kernel.0) as (λ b. (cond b (record { sources = with_state taken kernel.0 s; jobs = job object WaitObject0 ∷ [] })
-    (cond (expires_at_once s.now timeout) (record { sources = s; jobs = job object WaitTimeout ∷ [] }) (jobless (record s { settings = set_timer s.now object timeout 0 0 s.settings; armings = s.armings ++ record { object = object; kernel = kernel } ∷ [] })))).sources.now ≡ s.now) [
+    (cond (expires_at_once s.now timeout) (record { sources = s; jobs = job object WaitTimeout ∷ [] }) (jobless (with_arming object kernel timeout s)))).sources.now ≡ s.now) [
       | true ↦ refl
-      | false ↦ elim (expires_at_once s.now timeout) as (λ b. (cond b (record { sources = s; jobs = job object WaitTimeout ∷ [] }) (jobless (record s { settings = set_timer s.now object timeout 0 0 s.settings; armings = s.armings ++ record { object = object; kernel = kernel } ∷ [] }))).sources.now ≡ s.now) [ true ↦ refl | false ↦ refl ]
+      | false ↦ elim (expires_at_once s.now timeout) as (λ b. (cond b (record { sources = s; jobs = job object WaitTimeout ∷ [] }) (jobless (with_arming object kernel timeout s))).sources.now ≡ s.now) [ true ↦ refl | false ↦ refl ]
     ]
 
 pub signal_now : (how : KernelChange) (kernel : ℕ) (f : Firing) → (signal how kernel f).sources.now ≡ f.sources.now

@@ -39,7 +39,7 @@ use Rattle.tp_model.specs.Support.Remembered.{lives, forget}
 use Rattle.tp_model.proofs.Lists.{filter_filter, find_kept, all_filter}
 use Rattle.tp_model.proofs.Callbacks.{over_not_left, over_not_pending, over_not_running, pending_lives, before_lives, rising_filter, filter_replaced_out, filter_replaced_filter, found_all, find_above}
 use Rattle.tp_model.proofs.Cancelling.{IsPendingTest, cancelled_pending, cancelled_if}
-use Rattle.tp_model.proofs.Sound.{worker_at}
+use Rattle.tp_model.proofs.SoundWorkers.{worker_at}
 use Rattle.tp_model.proofs.Waits.{AreLeftOver, waits_still}
 use Rattle.tp_model.proofs.Refusals.{numbered_some, false_true, and_false}
 use Rattle.tp_model.specs.Groups.{without_members, notices_of}

@@ -1,5 +1,6 @@
 -- The law Maximum: what the entries so far tell of workers and pools is what the world says.
-use Rattle.std.proofs.Common.{◌≡◌, option_map, ◌≢◌, ℕ, suc, zero, ◌+◌, ◌-◌, ◌<◌, ◌≤◌, Bool, true, false, cond, not, ◌&&◌, ◌||◌, ◌==◌, List, [], ◌∷◌, ◌++◌, length, replicate, Option, Some, None, is_some, slice_get, slice_set, refl, sym, ap, ◌∙◌, subst, arith, filter, ne_eqb, eq-eqb, length-append, length-set}
+use Rattle.std.proofs.Common.{◌≡◌, ◌≢◌, ℕ, suc, zero, ◌+◌, ◌-◌, ◌<◌, ◌≤◌, Bool, true, false, cond, not, ◌&&◌, ◌||◌, ◌==◌}
+use Rattle.std.proofs.Common.{option_map, List, [], ◌∷◌, ◌++◌, length, replicate, Option, Some, None, is_some, slice_get, slice_set, refl, sym, ap, ◌∙◌, subst, arith, filter, ne_eqb, eq-eqb, length-append, length-set}
 use Rattle.std.specs.List.{range_with_len}
 use Rattle.std.specs.Option.{option_map_or, option_or}
 use Rattle.std.proofs.lemmas.List.{length-replicate}
@@ -28,7 +29,7 @@ use Rattle.tp_model.specs.Waits.{cancel_where}
 use Rattle.tp_model.proofs.Cancelling.{count_uncancelled}
 use Rattle.tp_model.proofs.Callbacks.{length_filter_replaced, pending_not_running, before_idle, after_idle}
 use Rattle.tp_model.proofs.Refusals.{numbered_some, false_true, and_false}
-use Rattle.tp_model.proofs.Once.{one_if}
+use Rattle.tp_model.proofs.Agreeing.{one_if}
 
 and_true : (b : Bool) → (b && true) ≡ b
 and_true true = refl

@@ -35,7 +35,7 @@ use Rattle.tp_model.proofs.Cancelling.{cancelled_found, find_cancelled}
 use Rattle.tp_model.proofs.Lists.{find_more, get_set}
 use Rattle.tp_model.proofs.Refusals.{false_true, is_own_actor, numbered_at, numbered_some, or_false, or_true, same_actor_is}
 use Rattle.tp_model.proofs.Releasing.{numbered_set_other}
-use Rattle.tp_model.proofs.Sound.{worker_at}
+use Rattle.tp_model.proofs.SoundWorkers.{worker_at}
 
 -- ---- nothing moves
 
@@ -201,7 +201,8 @@ module _ (w : World) where
         none_own [] = refl
         none_own (b ∷ bs) = one (is_same_actor b.actor actor) refl (none_own bs)
           where
-            one : (t : Bool) → is_same_actor b.actor actor ≡ t → list_any (λ (x : BegunWait). is_same_actor x.actor actor) (filter (λ (x : BegunWait). not (is_same_actor x.actor actor)) bs) ≡ false → list_any (λ (x : BegunWait). is_same_actor x.actor actor) (cond (not t) (b ∷ filter (λ (x : BegunWait). not (is_same_actor x.actor actor)) bs) (filter (λ (x : BegunWait). not (is_same_actor x.actor actor)) bs)) ≡ false
+            one : (t : Bool) → is_same_actor b.actor actor ≡ t → list_any (λ (x : BegunWait). is_same_actor x.actor actor) (filter (λ (x : BegunWait). not (is_same_actor x.actor actor)) bs) ≡ false
+                → list_any (λ (x : BegunWait). is_same_actor x.actor actor) (cond (not t) (b ∷ filter (λ (x : BegunWait). not (is_same_actor x.actor actor)) bs) (filter (λ (x : BegunWait). not (is_same_actor x.actor actor)) bs)) ≡ false
             one true is rest = rest
             one false is rest = ap (λ t. t || list_any (λ (x : BegunWait). is_same_actor x.actor actor) (filter (λ (x : BegunWait). not (is_same_actor x.actor actor)) bs)) is ∙ rest
 

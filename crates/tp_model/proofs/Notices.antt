@@ -13,7 +13,8 @@ use Rattle.tp_base.specs.declared.rows.WaitTarget.{WaitTarget}
 use Rattle.tp_base.specs.declared.rows.WaitTarget.TheVariants.{Object, Group, Kernel}
 use Rattle.tp_base.specs.Actors.{is_same_actor}
 use Rattle.tp_model.specs.World.{World, BegunWait}
-use Rattle.tp_model.specs.Groups.{is_object_that, has_cancel}
+use Rattle.tp_model.specs.Groups.{is_object_that}
+use Rattle.tp_model.specs.Support.Sound.{is_told}
 use Rattle.tp_model.specs.Sources.{object_row, no_object}
 use Rattle.tp_model.specs.Waits.{wait_of, is_group_target}
 use Rattle.tp_model.specs.Changes.{notified}
@@ -55,7 +56,7 @@ abbrev pub AreClosings : List Entry → World → Type 0
 AreClosings history w = (who : Who) (wait : BegunWait) (object : ObjectId) (rest : List ObjectId) → wait_of w who ≡ Some wait → wait.notices ≡ object ∷ rest → IsClosing history who
 
 abbrev pub AreNamed : List ObjectRow → List ObjectId → Type 0
-AreNamed objects os = AllByRecursion (λ (o : ObjectId). is_object_that has_cancel objects o.0 ≡ true) os
+AreNamed objects os = AllByRecursion (λ (o : ObjectId). is_object_that is_told objects o.0 ≡ true) os
 
 abbrev own : Who → BegunWait → Bool
 own who b = is_same_actor b.actor who
@@ -129,7 +130,7 @@ module _ (before : List Entry) (w : World) (x : Entry) (after : World) (leads : 
   left_same : (cleanup : ℕ) (os : List ObjectId) → AreNamed w.objects os → map (notice_at after.objects cleanup) os ≡ map (notice_at w.objects cleanup) os
   left_same cleanup [] named = refl
   left_same cleanup (o ∷ os) named =
-      let row = that_row has_cancel w.objects o.0 named.0 in
+      let row = that_row is_told w.objects o.0 named.0 in
       let still : IsObjectStill after.objects o.0 row.0 = leads.groups.keeps o.0 row.0 row.1 in
       let now : object_row after.objects o ≡ still.new = ap (λ (r : Option ObjectRow). unwrap_or r no_object) still.stands in
       let was : object_row w.objects o ≡ row.0 = ap (λ (r : Option ObjectRow). unwrap_or r no_object) row.1 in

@@ -15,7 +15,8 @@ use Rattle.tp_model.specs.Sources.{Firing, jobless, sources_of, with_state, sign
 use Rattle.tp_model.specs.Actions.{act, perform, performed, returning}
 use Rattle.tp_model.specs.Support.Sound.{IsTimedOut, count_armed}
 use Rattle.tp_model.proofs.Firing.{IsFiringOf, AreSourcesOf, signal_of, signal_now}
-use Rattle.tp_model.proofs.Arming.{IsCounted, signal_counted, jobless_counted, signal_within}
+use Rattle.tp_model.proofs.Arming.{signal_within}
+use Rattle.tp_model.proofs.Counted.{IsCounted, signal_counted, jobless_counted}
 
 -- what each signal keeps and each lock that is given back, a return keeps
 module _ (P : Firing → Type 0) (signals : (how : KernelChange) (kernel : ℕ) (f : Firing) → P f → P (signal how kernel f)) (leaves : (kernel : ℕ) (f : Firing) → P f → P (record f { sources = with_state (state_after Leave) kernel f.sources })) where

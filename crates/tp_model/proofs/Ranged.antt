@@ -1,5 +1,5 @@
 -- From what it follows that the numbers of a plan are in range; and each change keeps those of the rows.
-use Rattle.std.proofs.Common.{◌≡◌, ℕ, ◌+◌, ◌-◌, ◌<◌, ◌≤◌, ◌^◌, Bool, true, false, cond, not, ◌==◌, List, [], ◌∷◌, length, arith, slice_get, Option, Some, None, refl, sym, subst, ap, find, ◌++◌, ◌∙◌, zero, suc, length-append, length-set}
+use Rattle.std.proofs.Common.{◌≡◌, ℕ, ◌+◌, ◌-◌, ◌<◌, ◌≤◌, ◌^◌, Bool, true, false, cond, not, ◌==◌, List, [], ◌∷◌, length, arith, slice_get, Option, Some, None, refl, sym, subst, ap, find, ◌∙◌, zero, suc, length-append, length-set}
 use Rattle.std.specs.List.{AllByRecursion}
 use Rattle.tp_base.specs.Ranges.{IsRoutineInRange, IsRefusalInRange, IsResultInRange}
 use Rattle.tp_base.specs.declared.ids.Who.{Who}
@@ -40,11 +40,11 @@ use Rattle.tp_base.specs.declared.ids.KernelId.{KernelId}
 use Rattle.tp_base.specs.declared.rows.Arming.{Arming}
 use Rattle.std.specs.Prelude.{ℤ}
 use Rattle.tp_base.specs.declared.rows.TimerSetting.{TimerSetting}
-use Rattle.tp_base.specs.Timers.{set_timer, expires_at_once}
+use Rattle.tp_base.specs.Timers.{expires_at_once}
 use Rattle.tp_model.specs.Sources.{Sources, Job, Firing, job, jobless, with_state, disarmed, release_to, release_first, release_times, arm, firing, sources_of, rows_of, object_row}
 use Rattle.tp_model.specs.Support.Sound.{IsSound, IsMade, is_standing}
-use Rattle.tp_model.proofs.Firing.{AreJobsOf, IsFiringOf, IsFiringIn, IsTriggerOf, row_of_made, firing_of, fired_in, jobs_made, armable_stands}
-use Rattle.tp_model.proofs.Sound.{sources_in}
+use Rattle.tp_model.proofs.Firing.{AreJobsOf, IsFiringOf, IsFiringIn, IsTriggerOf, row_of_made, firing_of, fired_in, jobs_made, armable_stands, with_arming}
+use Rattle.tp_model.proofs.SoundSources.{sources_in}
 use Rattle.tp_model.specs.World.{World, BegunWait}
 use Rattle.tp_model.specs.Counts.{numbered, has_number}
 use Rattle.tp_model.specs.Conditions.{busy_of}
@@ -230,9 +230,9 @@ returning_states w who words slots told all =
 arm_states : (object : ObjectId) (kernel : KernelId) (timeout : Option ℤ) (s : Sources) → AreStatesInRange s.kernels → AreStatesInRange (arm object kernel timeout s).sources.kernels
 arm_states object kernel timeout s all =
     elim (is_one_that is_signalled s.kernels kernel.0) as (λ b. AreStatesInRange (cond b (record { sources = with_state taken_state kernel.0 s; jobs = job object WaitObject0 ∷ [] })
-    (cond (expires_at_once s.now timeout) (record { sources = s; jobs = job object WaitTimeout ∷ [] }) (jobless (record s { settings = set_timer s.now object timeout 0 0 s.settings; armings = s.armings ++ record { object = object; kernel = kernel } ∷ [] })))).sources.kernels) [
+    (cond (expires_at_once s.now timeout) (record { sources = s; jobs = job object WaitTimeout ∷ [] }) (jobless (with_arming object kernel timeout s)))).sources.kernels) [
       | true ↦ taken_states s.kernels kernel.0 all
-      | false ↦ elim (expires_at_once s.now timeout) as (λ b. AreStatesInRange (cond b (record { sources = s; jobs = job object WaitTimeout ∷ [] }) (jobless (record s { settings = set_timer s.now object timeout 0 0 s.settings; armings = s.armings ++ record { object = object; kernel = kernel } ∷ [] }))).sources.kernels) [ true ↦ all | false ↦ all ]
+      | false ↦ elim (expires_at_once s.now timeout) as (λ b. AreStatesInRange (cond b (record { sources = s; jobs = job object WaitTimeout ∷ [] }) (jobless (with_arming object kernel timeout s))).sources.kernels) [ true ↦ all | false ↦ all ]
     ]
 
 fired_states : (w : World) (trigger : Trigger) → IsReady w trigger → AreStatesInRange w.kernels → AreStatesInRange (firing trigger (sources_of w)).sources.kernels
@@ -259,7 +259,16 @@ pub changed_rows : (next_number : ℕ) (w : World) (ch : Change) → IsSound nex
 changed_rows next_number w change.Keep s a r rows = rows
 changed_rows next_number w change.CreatePool s a r rows = record { objects = rows.objects; callbacks = rows.callbacks; timers = rows.timers; armings = rows.armings; kernels = rows.kernels; waits = rows.waits; few = rows.few }
 changed_rows next_number w (change.ChangePool pool how) s a r rows = pool_rows w pool.0 how (slice_get w.pools pool.0) rows
-changed_rows next_number w (change.CreateObject row) s a r rows = record { objects = all_append IsObjectInRange w.objects row rows.objects r; callbacks = rows.callbacks; timers = rows.timers; armings = rows.armings; kernels = rows.kernels; waits = rows.waits; few = omega (arith, length-append w.objects (row ∷ []), a.room) }
+changed_rows next_number w (change.CreateObject row) s a r rows =
+    record {
+      objects = all_append IsObjectInRange w.objects row rows.objects r;
+      callbacks = rows.callbacks;
+      timers = rows.timers;
+      armings = rows.armings;
+      kernels = rows.kernels;
+      waits = rows.waits;
+      few = omega (arith, length-append w.objects (row ∷ []), a.room);
+    }
 changed_rows next_number w (change.ReleaseObject object) s a r rows = release_rows w object (numbered w.objects object.0) refl rows
 changed_rows next_number w (change.QueueCallback c) s a r rows = record { objects = rows.objects; callbacks = all_append IsCallbackInRange w.callbacks c rows.callbacks r; timers = rows.timers; armings = rows.armings; kernels = rows.kernels; waits = rows.waits; few = rows.few }
 changed_rows next_number w (change.ExpectCallback c) s a r rows = record { objects = rows.objects; callbacks = all_append IsCallbackInRange w.callbacks c rows.callbacks r; timers = rows.timers; armings = rows.armings; kernels = rows.kernels; waits = rows.waits; few = rows.few }
@@ -285,7 +294,15 @@ changed_rows next_number w (change.ChangeKernel kernel how) s a r rows =
 changed_rows next_number w (change.Attach worker pool) s a r rows = record { objects = rows.objects; callbacks = rows.callbacks; timers = rows.timers; armings = rows.armings; kernels = rows.kernels; waits = rows.waits; few = rows.few }
 changed_rows next_number w (change.Detach by) s a r rows = record { objects = rows.objects; callbacks = rows.callbacks; timers = rows.timers; armings = rows.armings; kernels = rows.kernels; waits = rows.waits; few = rows.few }
 changed_rows next_number w (change.Take by c) s a r rows =
-    record { objects = rows.objects; callbacks = put_row (taken c by.worker) w.callbacks (same_numbers (taken c by.worker) c refl refl refl refl refl (found_row c w.callbacks a.found rows.callbacks)) rows.callbacks; timers = rows.timers; armings = rows.armings; kernels = rows.kernels; waits = rows.waits; few = rows.few }
+    record {
+      objects = rows.objects;
+      callbacks = put_row (taken c by.worker) w.callbacks (same_numbers (taken c by.worker) c refl refl refl refl refl (found_row c w.callbacks a.found rows.callbacks)) rows.callbacks;
+      timers = rows.timers;
+      armings = rows.armings;
+      kernels = rows.kernels;
+      waits = rows.waits;
+      few = rows.few;
+    }
 changed_rows next_number w (change.Mark by mark) s a r rows = record { objects = rows.objects; callbacks = mark_rows w mark by.callback a.runs.found rows; timers = rows.timers; armings = rows.armings; kernels = rows.kernels; waits = rows.waits; few = rows.few }
 changed_rows next_number w (change.Return by words first count) s a r rows =
     let of : Slots = slots_of by.callback.status in

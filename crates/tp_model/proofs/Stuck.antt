@@ -2,7 +2,8 @@
 -- so, and it accepts nothing else but an End that is answered with Stalled or Exhausted.
 use Rattle.std.specs.List.{list_all, list_any, range_with_len}
 use Rattle.std.specs.Option.{option_map_or}
-use Rattle.std.proofs.Common.{◌≡◌, ◌≢◌, ℕ, suc, zero, ◌+◌, ◌-◌, ◌<◌, ◌≤◌, Bool, true, false, cond, not, ◌&&◌, ◌||◌, ◌==◌, List, [], ◌∷◌, length, nat_le, nat_lt, filter, find, Option, Some, None, is_none, is_some, refl, sym, ap, ◌∙◌, subst, arith, lt-ltb, ltb-true, eqb-true, eq-eqb, inl, inr, ◌⊎◌, slice_get}
+use Rattle.std.proofs.Common.{◌≡◌, ◌≢◌, ℕ, suc, zero, ◌+◌, ◌-◌, ◌<◌, ◌≤◌, Bool, true, false, cond, not, ◌&&◌, ◌||◌, ◌==◌, nat_le, nat_lt, inl, inr, ◌⊎◌}
+use Rattle.std.proofs.Common.{List, [], ◌∷◌, length, filter, find, Option, Some, None, is_none, is_some, refl, sym, ap, ◌∙◌, subst, arith, lt-ltb, ltb-true, eqb-true, eq-eqb, slice_get}
 use Rattle.std.proofs.lemmas.Bool.{leb-true, or_cases}
 use Rattle.std.proofs.lemmas.Option.{slice_get_within}
 use Rattle.tp_base.specs.Actors.{is_same_actor}

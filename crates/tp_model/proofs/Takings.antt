@@ -1,5 +1,5 @@
 -- How often a lock is taken: no change raises that by more than one.
-use Rattle.std.proofs.Common.{suc, zero, find, length, ◌++◌, ◌∷◌, [], ◌≡◌, true, false, cond, ℕ, ◌+◌, ◌-◌, ◌≤◌, slice_get, List, Option, None, Some, refl, arith}
+use Rattle.std.proofs.Common.{suc, zero, find, length, ◌∷◌, [], ◌≡◌, true, false, cond, ℕ, ◌+◌, ◌-◌, ◌≤◌, slice_get, List, Option, None, Some, refl, arith}
 use Rattle.std.specs.Prelude.{ℤ}
 use Rattle.std.specs.List.{AllByRecursion}
 use Rattle.tp_base.specs.declared.ids.Who.{Who}
@@ -13,11 +13,12 @@ use Rattle.tp_base.specs.declared.plans.Trigger.{Trigger}
 use Rattle.tp_base.specs.declared.plans.Trigger.TheVariants.{SetTimer, Advance, SetWait, SetEvent, ReleaseSemaphore}
 use Rattle.tp_base.specs.declared.rows.Arming.{Arming}
 use Rattle.tp_base.specs.Armings.{is_arming_on}
-use Rattle.tp_base.specs.Timers.{expires_at_once, set_timer}
+use Rattle.tp_base.specs.Timers.{expires_at_once}
 use Rattle.tp_base.specs.Kernels.{is_signalled, taken as taken_state}
 use Rattle.tp_model.specs.Kernels.{is_one_that, kernel_changed}
 use Rattle.tp_model.specs.Sources.{Sources, Firing, sources_of, jobless, job, with_state, disarmed, release_to, release_first, release_times, signal, arm, firing}
 use Rattle.tp_model.specs.Actions.{slots_of, returning}
+use Rattle.tp_model.proofs.Firing.{with_arming}
 use Rattle.tp_model.proofs.Performing.{performed_keeps}
 use Rattle.tp_model.proofs.Kernels.{all_changed}
 use Rattle.tp_base.specs.declared.plans.WaitEnd.{WaitEnd}
@@ -108,9 +109,9 @@ signal_keeps most how kernel f all =
 arm_keeps : (most : ℕ) (object : ObjectId) (kernel : KernelId) (timeout : Option ℤ) (s : Sources) → AreAtMost most s.kernels → AreAtMost most (arm object kernel timeout s).sources.kernels
 arm_keeps most object kernel timeout s all =
     elim (is_one_that is_signalled s.kernels kernel.0) as (λ b. AreAtMost most (cond b (record { sources = with_state taken_state kernel.0 s; jobs = job object WaitObject0 ∷ [] })
-    (cond (expires_at_once s.now timeout) (record { sources = s; jobs = job object WaitTimeout ∷ [] }) (jobless (record s { settings = set_timer s.now object timeout 0 0 s.settings; armings = s.armings ++ record { object = object; kernel = kernel } ∷ [] })))).sources.kernels) [
+    (cond (expires_at_once s.now timeout) (record { sources = s; jobs = job object WaitTimeout ∷ [] }) (jobless (with_arming object kernel timeout s)))).sources.kernels) [
       | true ↦ state_keeps most taken_state no_lock_taken s.kernels kernel.0 all
-      | false ↦ elim (expires_at_once s.now timeout) as (λ b. AreAtMost most (cond b (record { sources = s; jobs = job object WaitTimeout ∷ [] }) (jobless (record s { settings = set_timer s.now object timeout 0 0 s.settings; armings = s.armings ++ record { object = object; kernel = kernel } ∷ [] }))).sources.kernels) [ true ↦ all | false ↦ all ]
+      | false ↦ elim (expires_at_once s.now timeout) as (λ b. AreAtMost most (cond b (record { sources = s; jobs = job object WaitTimeout ∷ [] }) (jobless (with_arming object kernel timeout s))).sources.kernels) [ true ↦ all | false ↦ all ]
     ]
 
 firing_keeps : (most : ℕ) (trigger : Trigger) (s : Sources) → AreAtMost most s.kernels → AreAtMost most (firing trigger s).sources.kernels

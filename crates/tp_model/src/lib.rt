@@ -35,6 +35,16 @@ pub enum Left {
     Pending,
 }
 
+/// Whoever keeps callbacks, as contracts see it. It has no functions: what is to be told which
+/// callbacks someone keeps takes a reference with this bound.
+pub trait KeepsCallbacks {
+    ghost use Rattle.std.specs.Prelude.{List};
+    ghost use Rattle.tp_base.specs.declared.rows.CallbackRow.{CallbackRow};
+
+    /// Their rows.
+    ghost rows: { Self → List CallbackRow };
+}
+
 /// Every legal history keeps the laws, with any limits and any capacity. It does nothing: who calls
 /// it knows this.
 #[tactic(auto, using(crate::proofs::Laws::keeps_laws))]

@@ -51,7 +51,14 @@ module _ (next_number : ℕ) (w : World) (who : Who) (object : ObjectId) where
       let home = all_get (λ (o : ObjectRow). o.env.pool.0 < length w.pools) w.objects _ of.row s.object_pools (numbered_some w.objects object.0 of.row of.stands).0 in
       subst (λ row. IsSafe next_number w who (StartIo object) (start_io next_number object row)) (sym of.stands)
       (record {
-        allowed = record { number = refl; expected = refl; object = λ _. record { row = of.row; stands = of.stands; home = refl; group = refl }; home = home; room = none.1.1.1.1.1.0; stands = row_stands w.objects object.0 of.row of.stands (neither (is_finished w who) (is_released w object.0) none.1.1.0).1 };
+        allowed = record {
+          number = refl;
+          expected = refl;
+          object = λ _. record { row = of.row; stands = of.stands; home = refl; group = refl };
+          home = home;
+          room = none.1.1.1.1.1.0;
+          stands = row_stands w.objects object.0 of.row of.stands (neither (is_finished w who) (is_released w object.0) none.1.1.0).1;
+        };
         made_by = ap (λ (r : Option ObjectRow). option_map_or (λ (o : ObjectRow). is_same_kind o.kind Wait) r false) of.stands ∙ ap (λ k. is_same_kind k Wait) of.kind;
         accepted = refl;
         tells = refl;

@@ -31,7 +31,7 @@ use Rattle.tp_model.specs.Calls.Waits.{begin_wait_refusals, begin_wait_plan, beg
 use Rattle.tp_model.specs.Calls.End.{end_plan, end_refusals, end_unless_stalled}
 use Rattle.tp_model.specs.Stalled.{are_all_busy, is_client_stuck, is_look, is_pool_stuck, is_stalled, is_worker_stuck, waits_on}
 use Rattle.tp_model.specs.Waits.{wait_of, held, is_outstanding_for, is_cancelled_by, cancelled, cancel_where, is_covered_by, covered_of, is_held, is_group_target, is_of, is_held_for}
-use Rattle.tp_model.specs.Support.Sound.{IsSound, IsWaitSound, is_left_of}
+use Rattle.tp_model.specs.Support.Sound.{IsSound, IsWaitSound, is_left_of, is_told}
 use Rattle.tp_model.specs.Support.Allowed.{IsTakeable}
 use Rattle.tp_model.specs.Support.Told.{silent, nothing, next_notice, first_left}
 use Rattle.tp_model.specs.Support.Safe.{IsSafe}
@@ -48,7 +48,7 @@ use Rattle.std.specs.List.{AllByRecursion, range_with_len}
 use Rattle.tp_base.specs.declared.rows.ObjectRow.{ObjectRow}
 use Rattle.tp_model.specs.Laws.Entries.{Notice, is_among}
 use Rattle.tp_model.proofs.Fates.{pending_left}
-use Rattle.tp_model.specs.Groups.{is_object_that, has_cancel}
+use Rattle.tp_model.specs.Groups.{is_object_that}
 use Rattle.tp_model.proofs.Releasing.{that_row}
 use Rattle.tp_model.proofs.Firing.{numbered_made}
 use Rattle.tp_model.specs.Sources.{object_row, no_object}
@@ -331,20 +331,20 @@ end_ranged next_number room w who s g = ranged_unless (end_refusals w who) _ _ (
     of_plan (plan.Looked seen) within =
         elim (is_stalled w room) as (λ t. IsPlanInRange (cond t (plan.Does answer.Stalled (change.EndWait who how.Stalled)) (plan.Looked seen))) [ true ↦ (tt, tt) | false ↦ within ]
 
-    gives : (b : BegunWait) (os : List ObjectId) → IsWaitInRange b → AllByRecursion (λ (o : ObjectId). is_object_that has_cancel w.objects o.0 ≡ true) os → IsPlanInRange (end_notices w who b.cleanup os)
+    gives : (b : BegunWait) (os : List ObjectId) → IsWaitInRange b → AllByRecursion (λ (o : ObjectId). is_object_that is_told w.objects o.0 ≡ true) os → IsPlanInRange (end_notices w who b.cleanup os)
     gives b [] within named = (tt, tt)
     gives b (o ∷ os) within named =
-        let row = that_row has_cancel w.objects o.0 named.0 in
+        let row = that_row is_told w.objects o.0 named.0 in
         let made = numbered_made w.objects o.0 row.0 row.1 in
         let its : row.0 ≡ object_row w.objects o = ap (λ (r : Option ObjectRow). unwrap_or r no_object) (sym row.1) in
         let of : IsObjectInRange row.0 = all_get IsObjectInRange w.objects (o.0 - 1) row.0 g.rows.objects (numbered_some w.objects o.0 row.0 row.1).0 in (
           subst (λ (r : ObjectRow). IsAnswerInRange (answer.Notice o r.env.cancel r.context b.cleanup)) its
-              (omega (arith, made.1, g.rows.few, g.limits.objects_most), record { least = ltb-true 0 row.0.env.cancel.0 row.2; most = of.cancel }, of.context, within.cleanup),
+              (omega (arith, made.1, g.rows.few, g.limits.objects_most), record { least = ltb-true 0 row.0.env.cancel.0 (both row.0.released (nat_lt 0 row.0.env.cancel.0) row.2).1; most = of.cancel }, of.context, within.cleanup),
           tt,
         )
 
     ends_with : (b : BegunWait) (numbers : List ℕ) → wait_of w who ≡ Some b → IsWaitInRange b → held w b ≡ numbers → IsPlanInRange (end_held w room who b numbers)
-    ends_with b [] found within is = gives b b.notices within (find_all (λ (x : BegunWait). AllByRecursion (λ (o : ObjectId). is_object_that has_cancel w.objects o.0 ≡ true) x.notices) (λ (x : BegunWait). is_same_actor x.actor who) b w.waits s.notices found)
+    ends_with b [] found within is = gives b b.notices within (find_all (λ (x : BegunWait). AllByRecursion (λ (o : ObjectId). is_object_that is_told w.objects o.0 ≡ true) x.notices) (λ (x : BegunWait). is_same_actor x.actor who) b w.waits s.notices found)
     ends_with b (n ∷ ns) found within is =
         elim (holds_starved w room (n ∷ ns)) as (λ t. IsPlanInRange (cond t (plan.Does answer.Exhausted (change.EndWait who how.Exhausted)) (plan.Looked (look.NotYet n)))) [ true ↦ (tt, tt) | false ↦ held_ranged w b n ns g is ]
 

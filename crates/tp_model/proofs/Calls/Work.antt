@@ -48,7 +48,8 @@ work_apart objects object work = of_row (numbered objects object) refl work
 pub submit_work_safe : (next_number : ℕ) (w : World) (who : Who) (object : ObjectId) → IsSound next_number w → IsSafe next_number w who (SubmitWork object) (submit_work_plan w next_number who object)
 unfolding submit_work_plan
 submit_work_safe next_number w who object s =
-    safe_unless next_number w who (SubmitWork object) (submit_work_refusals w who object.0) _ (λ none. submits (numbered w.objects object.0) refl (work_apart w.objects object.0 (not_false (is_object_of w Work object.0) none.1.0)) none.1.1.1.1.1.0 (neither (is_finished w who) (is_released w object.0) none.1.1.0).1)
+    safe_unless next_number w who (SubmitWork object) (submit_work_refusals w who object.0) _
+    (λ none. submits (numbered w.objects object.0) refl (work_apart w.objects object.0 (not_false (is_object_of w Work object.0) none.1.0)) none.1.1.1.1.1.0 (neither (is_finished w who) (is_released w object.0) none.1.1.0).1)
   where
     submits : (row : Option ObjectRow) → numbered w.objects object.0 ≡ row → is_wait_at w.objects object.0 ≡ false → lacks_slots_for w 1 ≡ false → is_released w object.0 ≡ false → IsSafe next_number w who (SubmitWork object) (submit next_number object row)
     submits None is apart fits live = tt

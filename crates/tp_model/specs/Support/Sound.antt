@@ -118,6 +118,10 @@ pub record IsTimedOut (object : ℕ) (settings : List TimerSetting) (armings : L
 abbrev pub is_standing : List ObjectRow → ℕ → Bool
 is_standing objects object = is_object_that (λ (o : ObjectRow). not o.released) objects object
 
+-- an object of which a wait may have a notice left: it was closed, and has a cancel routine
+abbrev pub is_told : ObjectRow → Bool
+is_told o = o.released && has_cancel o
+
 -- with the number that the next callback gets
 pub record IsSound (next_number : ℕ) (w : World) : Type 0 where
   pub numbers : IsRising 1 next_number w.callbacks
@@ -135,5 +139,5 @@ pub record IsSound (next_number : ℕ) (w : World) : Type 0 where
   pub callback_objects : AllByRecursion (IsCallbackSound w.objects) w.callbacks
   -- nor one that has an operation
   pub operations : AllByRecursion (λ (c : CallbackRow). is_operating c.status ≡ true → is_standing w.objects c.object.0 ≡ true) w.callbacks
-  -- and an object that a wait has a notice of has a cancel routine
-  pub notices : AllByRecursion (λ (b : BegunWait). AllByRecursion (λ (o : ObjectId). is_object_that has_cancel w.objects o.0 ≡ true) b.notices) w.waits
+  -- and an object that a wait has a notice of is released, and has a cancel routine
+  pub notices : AllByRecursion (λ (b : BegunWait). AllByRecursion (λ (o : ObjectId). is_object_that is_told w.objects o.0 ≡ true) b.notices) w.waits

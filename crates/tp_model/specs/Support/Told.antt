@@ -28,7 +28,9 @@ use Rattle.tp_base.specs.declared.rows.CallbackRow.{CallbackRow}
 use Rattle.tp_model.specs.World.{World, BegunWait}
 use Rattle.tp_model.specs.Sources.{object_row}
 use Rattle.tp_model.specs.Waits.{is_cancelled_by, wait_of}
-use Rattle.tp_model.specs.Laws.Entries.{Run, Begins, begins_by, is_ending, is_freeing, is_loosened, asked_by, words_by, made_by, queued_new, completed_by, started_by, Happening, Event, event, event_by, Issues, GivesUp, Completes, Runs as Taking, taken_by, run_by, cancelled_by, cancelled_count, attached_by, is_returned, maximum_after, Sets, sets_by, Creation, created_by, closed_by, simple_by, Notice, notice_by, wait_made, wait_numbered}
+use Rattle.tp_model.specs.Laws.Entries.{Begins, begins_by, is_ending, is_freeing, Notice, notice_by, Creation, created_by, closed_by, simple_by, wait_made, wait_numbered, Sets, sets_by}
+use Rattle.tp_model.specs.Laws.Entries.{Run, run_by, made_by, queued_new, completed_by, started_by, taken_by, cancelled_by, cancelled_count, attached_by, is_returned, maximum_after, is_loosened, asked_by, words_by}
+use Rattle.tp_model.specs.Laws.Entries.{Happening, Event, event, event_by, Issues, GivesUp, Completes, Runs as Taking}
 
 -- of callbacks that were there before, and of the worker
 pub record Deed : Type 0 where
