@@ -9,16 +9,20 @@ use Rattle.tp_base.specs.declared.rows.Status.TheVariants.{Expected, Issued, Pen
 use Rattle.tp_base.specs.declared.rows.CallbackRow.{CallbackRow}
 use Rattle.tp_base.specs.declared.rows.WaitTarget.TheVariants.{Group}
 use Rattle.tp_model.specs.Counts.{is_operating, is_pending, is_live}
-use Rattle.tp_model.specs.Conditions.{is_operation_of}
-use Rattle.tp_model.specs.Changes.{begin_close}
+use Rattle.tp_model.specs.Conditions.{is_in_wait, is_operation_of}
+use Rattle.tp_model.specs.World.{BegunWait}
+use Rattle.tp_base.specs.declared.ids.ObjectId.{ObjectId}
+use Rattle.tp_base.specs.Actors.{is_same_actor}
+use Rattle.begun_waits.specs.Begun.{with_notices}
+use Rattle.tp_model.specs.Changes.{begin_close, new_close}
 use Rattle.tp_model.specs.Groups.{first_operating, is_operating_member, is_member_at, notices_of, numbers_in, without_members}
 use Rattle.tp_model.specs.Support.Allowed.{MayClose}
 use Rattle.tp_model.specs.Support.Remembered.{lives, forget}
 use Rattle.tp_model.specs.Waits.{is_cancelled_by, is_covered_by, cancelled, cancel_where}
 use Rattle.tp_model.proofs.Forgetting.{over_not_cancelled, over_not_covered}
 use Rattle.tp_model.proofs.Lists.{any_filter, filter_filter, find_agree}
-use Rattle.tp_model.proofs.Refusals.{and_false}
-use Rattle.live_world.specs.Closing.{begin_close_wait, released_members, settled_group}
+use Rattle.tp_model.proofs.Refusals.{and_false, is_own_actor, neither}
+use Rattle.live_world.specs.Closing.{begin_close_wait, closed_members, settled_group}
 use Rattle.live_world.specs.Live.{Live, with_world, moved}
 use Rattle.live_world.proofs.Along.{number_of}
 use Rattle.live_world.proofs.Cancelled.{none_where}
@@ -104,14 +108,22 @@ may_close_settled l m who group cancel n is a =
 
 -- ---- the whole
 
-pub closes_whole : (l s m : Live) (who : Who) (group : GroupId) (cancel : Bool) (context notices : ℕ) → s ≡ settled_group l group cancel → m ≡ with_world s (begin_close_wait s.world who group cancel context)
-    → released_members m group ≡ moved l (change.BeginClose who group cancel context notices)
-closes_whole l s m who group cancel context notices settled begun =
+-- the notices of a wait that has begun last
+noticed_last : (who : Who) (os : List ObjectId) (b : BegunWait) → b.actor ≡ who → (bs : List BegunWait) → list_any (λ (x : BegunWait). is_same_actor x.actor who) bs ≡ false → with_notices who os (bs ++ b ∷ []) ≡ bs ++ record b { notices = b.notices ++ os } ∷ []
+noticed_last who os b own [] none = ap (λ t. cond t (record b { notices = b.notices ++ os }) b ∷ []) (ap (λ a. is_same_actor a who) own ∙ is_own_actor who)
+noticed_last who os b own (x ∷ bs) none =
+    let parts = neither (is_same_actor x.actor who) (list_any (λ (y : BegunWait). is_same_actor y.actor who) bs) none in
+    ap₂ (λ t ys. cond t (record x { notices = x.notices ++ os }) x ∷ ys) parts.0 (noticed_last who os b own bs parts.1)
+
+pub closes_whole : (l s m : Live) (who : Who) (group : GroupId) (cancel : Bool) (context notices : ℕ) → is_in_wait l.world who ≡ false → s ≡ settled_group l group cancel → m ≡ with_world s (begin_close_wait s.world who group cancel context)
+    → closed_members m who group cancel ≡ moved l (change.BeginClose who group cancel context notices)
+closes_whole l s m who group cancel context notices none settled begun =
     let kept : List CallbackRow = cancel_where (is_cancelled_by (Group group) cancel) l.world.callbacks in
     let twice : filter lives (filter lives kept) ≡ filter lives kept = filter_filter lives lives (λ _ e. e) kept in
-    ap (λ (x : Live). released_members x group) begun
-    ∙ ap (λ (x : Live). released_members (with_world x (begin_close_wait x.world who group cancel context)) group) settled
-    ∙ ap₂ (λ cs (ns : List ℕ). record { world = record (without_members l.world group.0) { callbacks = cs; waits = l.world.waits ++ (record { actor = who; target = Group group; covered = ns; notices = notices_of l.world group.0 cancel; cleanup = context }) ∷ [] }; made = l.made })
-    (ap (filter lives) twice ∙ twice)
+    let last = noticed_last who (notices_of l.world group.0 cancel) (new_close who group cancel context [] (filter lives kept)) refl l.world.waits none in
+    ap (λ (x : Live). closed_members x who group cancel) begun
+    ∙ ap (λ (x : Live). closed_members (with_world x (begin_close_wait x.world who group cancel context)) who group cancel) settled
+    ∙ ap₂ (λ cs ws. record { world = record (without_members l.world group.0) { callbacks = cs; waits = ws }; made = l.made }) (ap (filter lives) twice ∙ twice) last
+    ∙ ap (λ (ns : List ℕ). record { world = record (without_members l.world group.0) { callbacks = filter lives kept; waits = l.world.waits ++ (record { actor = who; target = Group group; covered = ns; notices = notices_of l.world group.0 cancel; cleanup = context }) ∷ [] }; made = l.made })
     (ap (map number_of) (filter_filter (is_covered_by (Group group) cancel) lives (over_not_covered (Group group) cancel) kept))
     ∙ ap (λ n. record { world = forget (begin_close l.world who group cancel context (notices_of l.world group.0 cancel) kept); made = n }) (omega arith)

@@ -2,7 +2,6 @@
 use Rattle.std.proofs.Common.{◌≡◌, ℕ, suc, ◌+◌, Bool, true, false, cond, not, ◌&&◌, ◌||◌, ◌==◌, List, [], ◌∷◌, ◌++◌, length, map, slice_set, Some, refl, sym, ap, ap₂, ◌∙◌, subst, arith, filter, find, eq-eqb, ne_eqb}
 use Rattle.std.specs.List.{AllByRecursion}
 use Rattle.std.specs.Option.{option_map_or}
-use Rattle.std.specs.Vec.{with_item}
 use Rattle.std.proofs.lemmas.List.{length-map}
 use Rattle.tp_base.specs.declared.ids.Who.{Who}
 use Rattle.tp_base.specs.declared.ids.ObjectId.{ObjectId}
@@ -11,7 +10,6 @@ use Rattle.tp_base.specs.declared.rows.Status.{Status}
 use Rattle.tp_base.specs.declared.rows.Status.TheVariants.{Expected, Issued, Pending, Running, Returned, Cancelled}
 use Rattle.tp_base.specs.declared.rows.CallbackRow.{CallbackRow}
 use Rattle.tp_base.specs.declared.rows.WaitTarget.TheVariants.{Object, Kernel}
-use Rattle.cancel_wait.specs.Covers.{Covers, with_wait}
 use Rattle.tp_model.specs.World.{World, BegunWait}
 use Rattle.tp_model.specs.Counts.{has_number, is_pending, is_running}
 use Rattle.tp_model.specs.Changes.{new_wait, begin_wait}
@@ -25,21 +23,19 @@ use Rattle.tp_model.proofs.Lists.{all_along, all_filter, filter_agree, filter_fi
 use Rattle.tp_model.proofs.Callbacks.{found_bounds}
 use Rattle.tp_model.proofs.Sound.{sound_begin_wait}
 use Rattle.tp_model.proofs.Refusals.{and_false, both}
-use Rattle.live_world.specs.declared.begun.BegunWaits.{BegunWaits}
 use Rattle.live_world.specs.declared.LiveWorld.TheInside.{Inside}
 use Rattle.live_world.specs.Live.{Live, moved, with_world, settled}
-use Rattle.live_world.specs.Parts.{place_of, is_held_among, held_among}
+use Rattle.live_world.specs.Parts.{is_held_among, held_among}
+use Rattle.begun_waits.specs.Begun.{Begun, is_waiting, place_of}
 use Rattle.live_world.specs.View.{shown, IsLiveWorld}
-use Rattle.live_world.specs.Invariant.{AreCovered, AreWanted, AreClosing, is_pending_callback, is_running_callback}
-use Rattle.live_callbacks.specs.Callbacks.{outstanding_among}
+use Rattle.live_world.specs.Invariant.{is_pending_callback, is_running_callback}
+use Rattle.live_callbacks.specs.Callbacks.{Callbacks, outstanding_among, with_held}
 use Rattle.live_world.specs.Waiting.{is_wanted}
 use Rattle.live_world.proofs.Lists.{filter_all, filter_both, all_pass, none_passes}
 use Rattle.live_world.proofs.Along.{number_of, pending_among}
 use Rattle.live_world.proofs.Cancelled.{none_where}
-use Rattle.live_world.proofs.Covered.{covered_begun}
-use Rattle.live_world.proofs.Wanted.{wanted_covering, wanted_begun}
-use Rattle.live_world.proofs.Closes.{closing_beside}
-use Rattle.live_world.proofs.Moving.{Becomes, became_by, moved_by}
+use Rattle.live_world.proofs.Covered.{covered_begun, covered_idle, placed}
+use Rattle.live_world.proofs.Moving.{After, Becomes, became_by, moved_by, waits_after}
 
 -- ---- what a wait covers
 
@@ -146,12 +142,17 @@ all_held next_number object cancel cs rising =
     held (d ∷ ds) found passes =
         (ap (λ o. option_map_or (is_outstanding_for (Object object)) o false) found.0 ∙ (both (is_outstanding_for (Object object) d) (is_running d.status || not (cancel && true)) passes.0).0, held ds found.1 passes.1)
 
-pub begun_by : (i : Inside) (l : Live) (who : Who) (object : ObjectId) (cancel : Bool) (place : ℕ) (barriers notices : Covers) (begun : BegunWaits) → shown i ≡ l → IsLiveWorld i
-    → MayBegin l.world who (Object object) → filter (is_cancelled_by (Object object) cancel) l.world.callbacks ≡ [] → place_of i.limits who ≡ Some place
-    → barriers ≡ with_wait i.barriers place (Some (covered_of (Object object) cancel i.callbacks.rows)) → notices ≡ with_wait i.notices place (Some []) → begun ≡ record i.waits { waits = i.waits.waits ++ new_wait who (Object object) cancel i.callbacks.rows ∷ [] }
-    → Becomes (record i { barriers = barriers; waits = begun; notices = notices }) (with_world l (begin_wait l.world who (Object object) cancel l.world.callbacks))
-begun_by i l who object cancel place barriers notices begun is k may settled at barriers_now notices_now begun_now =
-    let waits_now = ap (λ (bs : BegunWaits). bs.waits) begun_now in
+-- a wait begins that covers what it holds
+pub begins_with : (i : Inside) (b : BegunWait) (place : ℕ) (callbacks : Callbacks) (waits : Begun) → IsLiveWorld i → place_of i.waits.limits b.actor ≡ Some place → is_waiting i.waits.waits b.actor ≡ false → held_among i.callbacks.rows b ≡ b.covered
+    → callbacks ≡ with_held i.callbacks place b.covered → waits ≡ record i.waits { waits = i.waits.waits ++ b ∷ [] } → After (record i { callbacks = callbacks; waits = waits }) (record (shown i).world { waits = i.waits.waits ++ b ∷ [] })
+begins_with i b place callbacks waits k at none held held_now waits_now =
+    rw (held_now, waits_now) (waits_after i (slice_set i.callbacks.held place b.covered) (record i.waits { waits = i.waits.waits ++ b ∷ [] }) i.kernels k k.kernels k.slotted (covered_begun place b (placed b.actor (Some place) at k.covered) none held k.covered))
+
+pub begun_by : (i : Inside) (l : Live) (who : Who) (object : ObjectId) (cancel : Bool) (place : ℕ) (callbacks : Callbacks) (waits : Begun) → shown i ≡ l → IsLiveWorld i
+    → MayBegin l.world who (Object object) → filter (is_cancelled_by (Object object) cancel) l.world.callbacks ≡ [] → place_of i.waits.limits who ≡ Some place
+    → callbacks ≡ with_held i.callbacks place (covered_of (Object object) cancel i.callbacks.rows) → waits ≡ record i.waits { waits = i.waits.waits ++ new_wait who (Object object) cancel i.callbacks.rows ∷ [] }
+    → Becomes (record i { callbacks = callbacks; waits = waits }) (with_world l (begin_wait l.world who (Object object) cancel l.world.callbacks))
+begun_by i l who object cancel place callbacks waits is k may settled at held_now waits_now =
     let cs : List CallbackRow = i.callbacks.rows in
     let w : World = (shown i).world in
     let v : World = begin_wait w who (Object object) cancel cs in
@@ -160,24 +161,7 @@ begun_by i l who object cancel place barriers notices begun is k may settled at 
     let left : AllByRecursion (λ c. is_cancelled_by (Object object) cancel c ≡ false) cs = none_passes (is_cancelled_by (Object object) cancel) cs (ap (λ (x : Live). filter (is_cancelled_by (Object object) cancel) x.world.callbacks) is ∙ settled) in
     let held : held_among cs b ≡ b.covered = filter_all (is_held_among cs (Object object)) b.covered (all_held (i.made + 1) object cancel cs k.sound.numbers) in
     let sound : IsSound (i.made + 1) v = subst (λ ds. IsSound (i.made + 1) (begin_wait w who (Object object) cancel ds)) (none_where cs (is_cancelled_by (Object object) cancel) left) (sound_begin_wait (i.made + 1) w who (Object object) cancel may_here.none may_here.made k.sound) in
-    let r = became_by (record i { barriers = barriers; waits = begun; notices = notices }) v sound
-    (record {
-      shows = ap₂ (λ ds (bs : BegunWaits). record w { callbacks = ds; waits = bs.waits; given_up = bs.given_up }) (sym k.alive.live) begun_now;
-      sized = k.sized;
-      alive = k.alive;
-      tallied = k.tallied;
-      timed = k.timed;
-      kernels = k.kernels;
-      slotted = k.slotted;
-      wanted = subst (λ bs. AreWanted i.limits bs i.wanted.items) (sym waits_now) (wanted_covering b may_here.none refl k.wanted);
-      grouped = k.grouped;
-      membered = k.membered;
-      closing = subst (λ x. AreClosing i.limits begun.waits i.closing.items x) (sym notices_now)
-          (subst (λ bs. AreClosing i.limits bs i.closing.items (with_wait i.notices place (Some []))) (sym waits_now) (closing_beside place b at may_here.none refl refl k.closing));
-      covered = subst (λ x. AreCovered i.limits cs begun.waits x) (sym barriers_now)
-          (subst (λ bs. AreCovered i.limits cs bs (with_wait i.barriers place (Some b.covered))) (sym waits_now)
-          (covered_begun place b at may_here.none held k.covered));
-    }) in
+    let r = became_by (record i { callbacks = callbacks; waits = waits }) v sound (begins_with i b place callbacks waits k at may_here.none held held_now waits_now) in
     record { keeps = r.keeps; becomes = r.becomes ∙ ap (λ (x : Live). with_world x (begin_wait x.world who (Object object) cancel x.world.callbacks)) is }
 
 -- ---- what a begun wait comes to
@@ -226,33 +210,14 @@ none_cancelled : (kernel : KernelId) (cancel : Bool) (cs : List CallbackRow) →
 none_cancelled kernel cancel [] = tt
 none_cancelled kernel cancel (c ∷ cs) = (ap (λ b. cancel && b) (and_false (is_pending c.status)) ∙ and_false cancel, none_cancelled kernel cancel cs)
 
-pub acquires : (i : Inside) (l : Live) (who : Who) (kernel : KernelId) (cancel : Bool) (place : ℕ) (barriers notices : Covers) (begun : BegunWaits) → shown i ≡ l → IsLiveWorld i
-    → IsAllowed (l.made + 1) l.world (change.BeginWait who (Kernel kernel) cancel) → place_of i.limits who ≡ Some place
-    → barriers ≡ with_wait i.barriers place (Some []) → notices ≡ with_wait i.notices place (Some []) → begun ≡ record i.waits { waits = i.waits.waits ++ new_wait who (Kernel kernel) cancel i.callbacks.rows ∷ [] }
-    → Becomes (record i { barriers = barriers; waits = begun; wanted = with_item i.wanted place (Some kernel); notices = notices }) (moved l (change.BeginWait who (Kernel kernel) cancel))
-acquires i l who kernel cancel place barriers notices begun is k allowed at barriers_now notices_now begun_now =
-    moved_by i (record i { barriers = barriers; waits = begun; wanted = with_item i.wanted place (Some kernel); notices = notices }) l (change.BeginWait who (Kernel kernel) cancel) is k allowed (omega arith) (λ a.
-    let waits_now = ap (λ (bs : BegunWaits). bs.waits) begun_now in
+pub acquires : (i : Inside) (l : Live) (who : Who) (kernel : KernelId) (cancel : Bool) (waits : Begun) → shown i ≡ l → IsLiveWorld i
+    → IsAllowed (l.made + 1) l.world (change.BeginWait who (Kernel kernel) cancel) → waits ≡ record i.waits { waits = i.waits.waits ++ new_wait who (Kernel kernel) cancel i.callbacks.rows ∷ [] }
+    → Becomes (record i { waits = waits }) (moved l (change.BeginWait who (Kernel kernel) cancel))
+acquires i l who kernel cancel waits is k allowed waits_now =
+    moved_by i (record i { waits = waits }) l (change.BeginWait who (Kernel kernel) cancel) is k allowed (omega arith) (λ a.
     let cs : List CallbackRow = i.callbacks.rows in
-    let w : World = (shown i).world in
     let b : BegunWait = new_wait who (Kernel kernel) cancel cs in
     let kept : cancel_where (is_cancelled_by (Kernel kernel) cancel) cs ≡ cs = none_where cs (is_cancelled_by (Kernel kernel) cancel) (none_cancelled kernel cancel cs) in
-    let covers : b.covered ≡ [] = covers_none kernel cancel cs in
-    let held : held_among cs b ≡ b.covered = ap (filter (is_held_among cs (Kernel kernel))) covers ∙ sym covers in
-    record {
-      shows = ap₂ (λ ds (bs : BegunWaits). record w { callbacks = ds; waits = bs.waits; given_up = bs.given_up }) (sym k.alive.live) begun_now ∙ ap (λ ds. forget (begin_wait w who (Kernel kernel) cancel ds)) (sym kept);
-      sized = k.sized;
-      alive = k.alive;
-      tallied = k.tallied;
-      timed = k.timed;
-      kernels = k.kernels;
-      covered = subst (λ x. AreCovered i.limits cs begun.waits x) (sym (barriers_now ∙ ap (λ ns. with_wait i.barriers place (Some ns)) (sym covers)))
-          (subst (λ bs. AreCovered i.limits cs bs (with_wait i.barriers place (Some b.covered))) (sym waits_now)
-          (covered_begun place b at a.none held k.covered));
-      slotted = k.slotted;
-      wanted = subst (λ bs. AreWanted i.limits bs (slice_set i.wanted.items place (Some kernel))) (sym waits_now) (wanted_begun place b at a.none k.wanted);
-      grouped = k.grouped;
-      membered = k.membered;
-      closing = subst (λ x. AreClosing i.limits begun.waits i.closing.items x) (sym notices_now)
-          (subst (λ bs. AreClosing i.limits bs i.closing.items (with_wait i.notices place (Some []))) (sym waits_now) (closing_beside place b at a.none refl refl k.closing));
-    })
+    let nothing : held_among cs b ≡ [] = ap (filter (is_held_among cs (Kernel kernel))) (covers_none kernel cancel cs) in
+    subst (λ ds. After (record i { waits = waits }) (begin_wait (shown i).world who (Kernel kernel) cancel ds)) (sym kept)
+    (rw waits_now (waits_after i i.callbacks.held (record i.waits { waits = i.waits.waits ++ b ∷ [] }) i.kernels k k.kernels k.slotted (covered_idle b a.none nothing k.covered))))

@@ -1,5 +1,5 @@
 -- What the parts show after each change of a callback, and that they keep their invariant.
-use Rattle.std.proofs.Common.{◌≡◌, ◌≢◌, ℕ, ◌+◌, ◌-◌, ◌≤◌, Bool, true, false, cond, not, ◌==◌, List, [], ◌∷◌, ◌++◌, map, slice_get, slice_set, Option, Some, None, refl, sym, ap, ap₂, ◌∙◌, subst, arith, filter, find, option_map, ne_eqb}
+use Rattle.std.proofs.Common.{◌≡◌, ◌≢◌, ℕ, ◌+◌, ◌-◌, ◌≤◌, Bool, true, false, cond, List, [], ◌∷◌, ◌++◌, map, slice_get, slice_set, Option, Some, None, refl, sym, ap, ap₂, ◌∙◌, subst, arith, find, option_map, ne_eqb}
 use Rattle.std.proofs.lemmas.List.{map-set}
 use Rattle.std.proofs.lemmas.Option.{slice_get-map}
 use Rattle.tp_base.specs.declared.ids.PoolId.{PoolId}
@@ -16,7 +16,6 @@ use Rattle.tp_base.specs.declared.rows.WorkerRow.{WorkerRow}
 use Rattle.live_callbacks.specs.Callbacks.{Callbacks, is_tied}
 use Rattle.pool_rows.specs.Pools.{Pools, with_worker as with_kept_worker}
 use Rattle.pool_rows.specs.declared.WorkerRow as kept
-use Rattle.cancel_wait.specs.Covers.{Covers}
 use Rattle.tp_base.specs.declared.rows.Status.TheVariants.{Running}
 use Rattle.tp_base.specs.declared.rows.WaitTarget.TheVariants as target
 use Rattle.tp_model.specs.Counts.{has_number, callback_of, is_pending, is_running, is_live}
@@ -31,11 +30,11 @@ use Rattle.live_world.specs.Closing.{IsLeft}
 use Rattle.live_world.specs.Live.{Live, moved, with_world}
 use Rattle.live_world.specs.Parts.{shown_worker}
 use Rattle.live_world.specs.View.{shown, IsLiveWorld}
-use Rattle.live_world.specs.Invariant.{IsMarked, AreMarked}
+use Rattle.live_world.specs.Invariant.{AreCovered, AreMarked, IsMarked}
 use Rattle.live_world.proofs.Lists.{set_twice, set_there}
 use Rattle.live_world.proofs.Covered.{covered_replaced, covered_loose}
 use Rattle.live_world.proofs.Tallied.{AreApart, is_behind, runs_nothing, runs_this, worker_changed, idle_alike, busy_alike, tallied_both, marked_set, marked_apart, marked_replaced, marked_others, others_apart, same_found}
-use Rattle.live_world.proofs.Moving.{Becomes, became_by, comes, found_here, goes, goes_along, goes_idle, goes_on, left, moved_by, pending_tied, same_home, set_shown, sized_worker}
+use Rattle.live_world.proofs.Moving.{Becomes, became_by, comes, found_here, goes, goes_along, goes_idle, goes_on, moved_by, pending_tied, same_home, set_shown, sized_worker, without}
 
 -- ---- a callback is made
 
@@ -60,9 +59,9 @@ taken_by i l by c pools callbacks is k allowed pools_now rows_now =
     let busy : c.number ≢ 0 = λ z. omega (arith, z, above) in
     let idle : b.row.callback ≡ 0 = runs_nothing b.row.callback b.same_callback in
     let shows : shown_worker new ≡ target = ap₂ (λ (p : Option PoolId) (z : Bool). record { pool = p; callback = cond z None (Some c.number) }) b.same_pool (ne_eqb c.number 0 busy) in
-    goes_on i r pools (slice_set i.pools.workers (by.worker - 1) new) callbacks (slice_set (shown i).world.workers (by.worker - 1) target) i.barriers i.barriers k refl
+    goes_on i r pools (slice_set i.pools.workers (by.worker - 1) new) callbacks (slice_set (shown i).world.workers (by.worker - 1) target) i.callbacks.held k refl
     (pools_now ∙ worker_changed i.pools by.worker b.row (λ w. record w { callback = c.number; long = c.long }) b.at_place b.from_one)
-    rows_now refl (set_shown i.pools.workers by.worker new target shows)
+    rows_now (set_shown i.pools.workers by.worker new target shows)
     (sized_worker i.pools (by.worker - 1) new (same_home i.pools (by.worker - 1) b.row new b.at_place refl k.sized) k.sized)
     (tallied_both (i.made + 1) r c i.callbacks.rows i.pools.workers (by.worker - 1) b.row new k.sound.numbers a.found b.at_place
     (idle_alike c b.row (pending_not_running c.status a.pending) idle)
@@ -119,9 +118,9 @@ marked_long i l by pools callbacks is k allowed pools_now rows_now =
     let r : CallbackRow = marked Long c in
     let new : kept.WorkerRow = record on.row { long = true } in
     let rest : kept.WorkerRow = record on.row { callback = 0; long = false } in
-    goes_on i r pools (slice_set i.pools.workers (by.worker - 1) new) callbacks (shown i).world.workers i.barriers i.barriers k (ap is_live a.runs.running)
+    goes_on i r pools (slice_set i.pools.workers (by.worker - 1) new) callbacks (shown i).world.workers i.callbacks.held k (ap is_live a.runs.running)
     (pools_now ∙ worker_changed i.pools by.worker on.row (λ w. record w { long = true }) on.at_place on.from_one)
-    rows_now refl (shows_same i.pools.workers (by.worker - 1) on.row new on.at_place refl)
+    rows_now (shows_same i.pools.workers (by.worker - 1) on.row new on.at_place refl)
     (sized_worker i.pools (by.worker - 1) new (same_home i.pools (by.worker - 1) on.row new on.at_place refl k.sized) k.sized)
     (tallied_both (i.made + 1) r c i.callbacks.rows i.pools.workers (by.worker - 1) on.row new k.sound.numbers a.runs.found on.at_place
     (busy_alike c on.row by.pool on.joined on.busy a.runs.home on.ran on.mark)
@@ -134,11 +133,11 @@ marked_long i l by pools callbacks is k allowed pools_now rows_now =
     (covered_replaced r c refl refl refl refl a.runs.found k.covered))
 
 -- it returns
-pub ended_by : (i : Inside) (l : Live) (by : Busy) (pools : Pools) (callbacks : Callbacks) (barriers : Covers) → shown i ≡ l → IsLiveWorld i → Runs l.world by
+pub ended_by : (i : Inside) (l : Live) (by : Busy) (pools : Pools) (callbacks : Callbacks) → shown i ≡ l → IsLiveWorld i → Runs l.world by
     → pools ≡ with_kept_worker by.worker (λ w. record w { callback = 0; long = false }) i.pools
-    → callbacks ≡ record i.callbacks { rows = filter (λ (x : CallbackRow). not (x.number == by.callback.number)) i.callbacks.rows } → barriers ≡ left i.barriers by.callback.number
-    → Becomes (record i { pools = pools; callbacks = callbacks; barriers = barriers }) (with_world l (without_run l.world by))
-ended_by i l by pools callbacks barriers is k running pools_now rows_now left_now =
+    → callbacks ≡ without i.callbacks by.callback.number
+    → Becomes (record i { pools = pools; callbacks = callbacks }) (with_world l (without_run l.world by))
+ended_by i l by pools callbacks is k running pools_now rows_now =
     let a : Runs (shown i).world by = subst (λ (x : Live). Runs x.world by) (sym is) running in
     let on = is_run i by k a in
     let c : CallbackRow = by.callback in
@@ -148,11 +147,11 @@ ended_by i l by pools callbacks barriers is k running pools_now rows_now left_no
     let shows : shown_worker new ≡ target = ap (λ (p : Option PoolId). record { pool = p; callback = None }) on.joined in
     let workers : List kept.WorkerRow = slice_set i.pools.workers (by.worker - 1) new in
     let before : AreMarked i.callbacks.rows workers = marked_set i.callbacks.rows i.pools.workers (by.worker - 1) new (λ busy. absurd (busy refl)) k.tallied.marked in
-    let b = became_by (record i { pools = pools; callbacks = callbacks; barriers = barriers }) (without_run (shown i).world by)
+    let b = became_by (record i { pools = pools; callbacks = callbacks }) (without_run (shown i).world by)
     (sound_returned (i.made + 1) (shown i).world by.worker target by.pool c on.from_one refl (record { callback = c; associated = a.associated; slots = a.slots; found = a.found; runs = a.running; at_home = a.home }) a.found k.sound)
-    (goes i r c pools workers callbacks (slice_set (shown i).world.workers (by.worker - 1) target) barriers k refl a.found
+    (goes i r c pools workers callbacks (slice_set (shown i).world.workers (by.worker - 1) target) k refl a.found
     (pools_now ∙ worker_changed i.pools by.worker on.row (λ w. record w { callback = 0; long = false }) on.at_place on.from_one)
-    rows_now left_now (set_shown i.pools.workers by.worker new target shows)
+    rows_now (set_shown i.pools.workers by.worker new target shows)
     (sized_worker i.pools (by.worker - 1) new (same_home i.pools (by.worker - 1) on.row new on.at_place refl k.sized) k.sized)
     (marked_others c.number i.callbacks.rows workers (on.alone new refl) before)
     (tallied_both (i.made + 1) r c i.callbacks.rows i.pools.workers (by.worker - 1) on.row new k.sound.numbers a.found on.at_place
@@ -162,17 +161,18 @@ ended_by i l by pools callbacks barriers is k running pools_now rows_now left_no
     record { keeps = b.keeps; becomes = b.becomes ∙ ap (λ (x : Live). with_world x (without_run x.world by)) is }
 
 -- it is no longer outstanding for its object
-pub loosened_by : (i : Inside) (l : Live) (by : Busy) (callbacks : Callbacks) (barriers : Covers) → shown i ≡ l → IsLiveWorld i → IsAllowed (l.made + 1) l.world (change.Mark by Loose)
-    → callbacks ≡ record i.callbacks { rows = replaced (marked Loose by.callback) i.callbacks.rows } → IsLeft by.callback.number i.closing.items i.barriers barriers
-    → Becomes (record i { callbacks = callbacks; barriers = barriers }) (moved l (change.Mark by Loose))
-loosened_by i l by callbacks barriers is k allowed rows_now left_now =
-    moved_by i (record i { callbacks = callbacks; barriers = barriers }) l (change.Mark by Loose) is k allowed (omega arith) (λ a.
+pub loosened_by : (i : Inside) (l : Live) (by : Busy) (mid callbacks : Callbacks) → shown i ≡ l → IsLiveWorld i → IsAllowed (l.made + 1) l.world (change.Mark by Loose)
+    → mid ≡ record i.callbacks { rows = replaced (marked Loose by.callback) i.callbacks.rows } → IsLeft by.callback.number i.waits mid callbacks
+    → Becomes (record i { callbacks = callbacks }) (moved l (change.Mark by Loose))
+loosened_by i l by mid callbacks is k allowed rows_now left_now =
+    moved_by i (record i { callbacks = callbacks }) l (change.Mark by Loose) is k allowed (omega arith) (λ a.
     let c : CallbackRow = by.callback in
     let r : CallbackRow = marked Loose c in
     let runs : r.status ≡ Running by.worker false a.runs.slots = ap loosened a.runs.running in
     let untied : is_tied r ≡ false = ap (is_held_for (target.Object c.object)) runs in
-    goes_along i r c callbacks barriers barriers k (ap is_live runs) refl refl (ap is_running runs ∙ sym (ap is_running a.runs.running)) a.runs.found rows_now refl
-    (covered_loose r c refl refl untied (ap is_live runs ∙ sym (ap is_live a.runs.running)) a.runs.found k.closing.closes left_now k.covered))
+    goes_along i r c callbacks callbacks.held k (ap is_live runs) refl refl (ap is_running runs ∙ sym (ap is_running a.runs.running)) a.runs.found
+    (left_now.rest ∙ ap (λ (x : Callbacks). record x { held = callbacks.held }) rows_now)
+    (covered_loose r c refl refl untied (ap is_live runs ∙ sym (ap is_live a.runs.running)) a.runs.found left_now (subst (λ (x : Callbacks). AreCovered i.limits i.callbacks.rows i.waits x.held) (sym rows_now) k.covered)))
 
 -- it asks for an action on return
 pub asked_by : (i : Inside) (l : Live) (by : Busy) (kind : ActionKind) (action : Action) (callbacks : Callbacks) → shown i ≡ l → IsLiveWorld i → IsAllowed (l.made + 1) l.world (change.Mark by (Asks kind action))
@@ -183,16 +183,16 @@ asked_by i l by kind action callbacks is k allowed rows_now =
     let r : CallbackRow = marked (Asks kind action) c in
     let runs : r.status ≡ Running by.worker a.runs.associated (filled kind action a.runs.slots) = ap (asking kind action) a.runs.running in
     let tied : is_tied r ≡ is_tied c = ap (is_held_for (target.Object c.object)) runs ∙ sym (ap (is_held_for (target.Object c.object)) a.runs.running) in
-    goes_along i r c callbacks i.barriers i.barriers k (ap is_live runs) refl refl (ap is_running runs ∙ sym (ap is_running a.runs.running)) a.runs.found rows_now refl
+    goes_along i r c callbacks i.callbacks.held k (ap is_live runs) refl refl (ap is_running runs ∙ sym (ap is_running a.runs.running)) a.runs.found rows_now
     (covered_replaced r c refl refl tied (ap is_live runs ∙ sym (ap is_live a.runs.running)) a.runs.found k.covered))
 
 -- ---- a pending callback is cancelled
 
-pub cancelled_by : (i : Inside) (l : Live) (c : CallbackRow) (callbacks : Callbacks) (barriers : Covers) → shown i ≡ l → IsLiveWorld i → callback_of l.world c.number ≡ Some c → is_pending c.status ≡ true
-    → callbacks ≡ record i.callbacks { rows = filter (λ (x : CallbackRow). not (x.number == c.number)) i.callbacks.rows } → barriers ≡ left i.barriers c.number
-    → Becomes (record i { callbacks = callbacks; barriers = barriers }) (with_world l (with_callback l.world (cancelled c)))
-cancelled_by i l c callbacks barriers is k found pends rows_now left_now =
+pub cancelled_by : (i : Inside) (l : Live) (c : CallbackRow) (callbacks : Callbacks) → shown i ≡ l → IsLiveWorld i → callback_of l.world c.number ≡ Some c → is_pending c.status ≡ true
+    → callbacks ≡ without i.callbacks c.number
+    → Becomes (record i { callbacks = callbacks }) (with_world l (with_callback l.world (cancelled c)))
+cancelled_by i l c callbacks is k found pends rows_now =
     let found_now = found_here i l c is found in
-    let b = became_by (record i { callbacks = callbacks; barriers = barriers }) (with_callback (shown i).world (cancelled c)) (sound_cancelled (i.made + 1) (shown i).world c found_now pends k.sound)
-    (goes_idle i (cancelled c) c callbacks barriers k refl refl refl refl (pending_not_running c.status pends) refl found_now rows_now left_now) in
+    let b = became_by (record i { callbacks = callbacks }) (with_callback (shown i).world (cancelled c)) (sound_cancelled (i.made + 1) (shown i).world c found_now pends k.sound)
+    (goes_idle i (cancelled c) c callbacks k refl refl refl refl (pending_not_running c.status pends) refl found_now rows_now) in
     record { keeps = b.keeps; becomes = b.becomes ∙ ap (λ (x : Live). with_world x (with_callback x.world (cancelled c))) is }

@@ -1,9 +1,8 @@
 -- What begun waits hold, as callbacks change and as waits begin and end.
-use Rattle.std.proofs.Common.{◌≡◌, ◌≢◌, ℕ, suc, zero, ◌+◌, ◌-◌, ◌<◌, ◌≤◌, Bool, true, false, cond, not, ◌&&◌, ◌||◌, ◌==◌, List, [], ◌∷◌, ◌++◌, length, map, nat_le, get_or, slice_get, slice_set, Option, Some, None, is_some, is_none, refl, sym, ap, ap₂, ◌∙◌, subst, arith, filter, find, option_map, eqb-true, eq-eqb, ne_eqb, length-set, get_or-set_same, get_or-set_other}
+use Rattle.std.proofs.Common.{◌≡◌, ◌≢◌, ℕ, suc, zero, ◌-◌, ◌<◌, ◌≤◌, Bool, true, false, cond, not, ◌&&◌, ◌||◌, ◌==◌, List, [], ◌∷◌, ◌++◌, length, map, get_or, slice_get, slice_set, Option, Some, None, IsSome, is_some, is_none, refl, sym, ap, ap₂, ◌∙◌, subst, arith, filter, find, option_map, eqb-true, eq-eqb, ne_eqb, length-set}
 use Rattle.std.specs.List.{AllByRecursion, list_any}
 use Rattle.std.specs.Option.{option_map_or}
 use Rattle.std.proofs.lemmas.List.{length-map}
-use Rattle.std.proofs.lemmas.Bool.{leb-true, le-leb}
 use Rattle.tp_base.specs.declared.ids.Who.{Who}
 use Rattle.tp_base.specs.declared.ids.Who.TheVariants.{Client, Worker}
 use Rattle.tp_base.specs.declared.ids.GroupId.{GroupId}
@@ -14,8 +13,6 @@ use Rattle.tp_base.specs.declared.limits.Limits.{Limits}
 use Rattle.tp_base.specs.declared.rows.CallbackRow.{CallbackRow}
 use Rattle.tp_base.specs.declared.rows.WaitTarget.{WaitTarget}
 use Rattle.tp_base.specs.declared.rows.WaitTarget.TheVariants.{Object, Group, Kernel}
-use Rattle.cancel_wait.specs.Rising.{all_but}
-use Rattle.cancel_wait.specs.Covers.{Covers, wait_of, with_wait}
 use Rattle.tp_model.specs.World.{BegunWait}
 use Rattle.tp_model.specs.Counts.{has_number, is_live, numbered}
 use Rattle.tp_base.specs.Actors.{is_same_actor}
@@ -24,19 +21,19 @@ use Rattle.tp_model.specs.Changes.{replaced}
 use Rattle.tp_model.specs.Support.Sound.{IsRising, IsWaitSound}
 use Rattle.tp_model.specs.Support.Remembered.{lives}
 use Rattle.tp_model.specs.Waits.{is_held_for, is_outstanding_for, is_group_target}
-use Rattle.tp_model.proofs.Lists.{all_append, all_filter, find_all, filter_agree}
+use Rattle.tp_model.proofs.Lists.{find_all, filter_agree}
 use Rattle.tp_model.proofs.Callbacks.{find_replaced, find_replaced_other}
 use Rattle.tp_model.proofs.Forgetting.{over_forget, over_not_outstanding}
-use Rattle.tp_model.proofs.Refusals.{made, false_true, both, neither, and_false, same_actor_is, is_own_actor}
-use Rattle.live_world.specs.Parts.{shown_worker, is_held_among, held_among, wait_among, closing_of, closing_by, place_within, place_of}
-use Rattle.live_world.specs.Invariant.{AreCovered, IsWaitKept}
+use Rattle.tp_model.proofs.Refusals.{made, false_true, and_false}
+use Rattle.begun_waits.specs.Begun.{Begun, actor_at, closing_by, closing_of, is_waiting, place_of, wait_among, without_waits}
+use Rattle.begun_waits.proofs.Actors.{at_place, begun_elsewhere, begun_found, changed_elsewhere, changed_to, ended_elsewhere, ended_gone, none_found, noted_set, noted_still, place_there, within_place}
+use Rattle.live_world.specs.Parts.{shown_worker, held_among, held_for, is_held_among}
+use Rattle.live_world.specs.Invariant.{AreCovered}
 use Rattle.live_world.specs.Closing.{IsLeft, left_at}
-use Rattle.live_world.specs.Live.{Live}
 use Rattle.live_world.specs.View.{shown, IsLiveWorld}
 use Rattle.live_world.specs.declared.LiveWorld.TheInside.{Inside}
-use Rattle.live_world.specs.declared.closing.Closing.{Closing}
-use Rattle.live_callbacks.specs.Callbacks.{is_tied}
-use Rattle.live_callbacks.proofs.Found.{held_alike}
+use Rattle.live_callbacks.specs.Callbacks.{Callbacks, all_but, is_tied}
+use Rattle.live_callbacks.proofs.Lines.{held_alike}
 
 -- ---- what is held, by two tests
 
@@ -55,39 +52,29 @@ held_but p q k (n ∷ ns) same =
 -- ---- of each wait
 
 -- of what an actor's wait holds
-along : (P : BegunWait → Type 0) (cs ds : List CallbackRow) (waits : List BegunWait) (f : List ℕ → List ℕ) (who : Who) → ((b : BegunWait) → P b → f (held_among cs b) ≡ held_among ds b) → AllByRecursion P waits
-    → option_map f (option_map (held_among cs) (wait_among waits who)) ≡ option_map (held_among ds) (wait_among waits who)
-along P cs ds waits f who same all = known (wait_among waits who) refl
-  where
-    known : (o : Option BegunWait) → wait_among waits who ≡ o → option_map f (option_map (held_among cs) o) ≡ option_map (held_among ds) o
-    known None e = refl
-    known (Some b) e = ap (λ ns. Some ns) (same b (find_all P (λ (x : BegunWait). is_same_actor x.actor who) b waits all e))
+along : (cs ds : List CallbackRow) (f : List ℕ → List ℕ) (o : Option BegunWait) → f [] ≡ [] → ((b : BegunWait) → o ≡ Some b → f (held_among cs b) ≡ held_among ds b) → f (held_for cs o) ≡ held_for ds o
+along cs ds f None none same = none
+along cs ds f (Some b) none same = same b refl
 
-module _ {limits : Limits} {cs : List CallbackRow} {waits : List BegunWait} {barriers : Covers} where
-  covered_same : (P : BegunWait → Type 0) (ds : List CallbackRow) → AllByRecursion P waits → ((b : BegunWait) → P b → held_among cs b ≡ held_among ds b) → AreCovered limits cs waits barriers → AreCovered limits ds waits barriers
-  covered_same P ds all same k =
+module _ {limits : Limits} {cs : List CallbackRow} {waits : Begun} {held : List (List ℕ)} where
+  covered_same : (ds : List CallbackRow) → ((who : Who) (b : BegunWait) → wait_among waits.waits who ≡ Some b → held_among cs b ≡ held_among ds b) → AreCovered limits cs waits held → AreCovered limits ds waits held
+  covered_same ds same k =
       record {
+        wait_limits = k.wait_limits;
         waiters = k.waiters;
-        barrier_slots = k.barrier_slots;
-        covered = λ who place at. k.covered who place at ∙ option_id (option_map (held_among cs) (wait_among waits who)) ∙ along P cs ds waits (λ ns. ns) who same all;
-        waits_kept = k.waits_kept;
+        covered = λ who place at. k.covered who place at ∙ along cs ds (λ ns. ns) (wait_among waits.waits who) refl (same who);
       }
-    where
-      option_id : (o : Option (List ℕ)) → o ≡ option_map (λ ns. ns) o
-      option_id None = refl
-      option_id (Some ns) = refl
 
-  covered_but : (number : ℕ) (ds : List CallbackRow) → ((b : BegunWait) → IsWaitKept limits b → all_but number (held_among cs b) ≡ held_among ds b) → AreCovered limits cs waits barriers
-      → AreCovered limits ds waits (record barriers { waits = map (option_map (all_but number)) barriers.waits })
+  covered_but : (number : ℕ) (ds : List CallbackRow) → ((b : BegunWait) → all_but number (held_among cs b) ≡ held_among ds b) → AreCovered limits cs waits held
+      → AreCovered limits ds waits (map (all_but number) held)
   covered_but number ds same k =
       record {
-        waiters = length-map barriers.waits (option_map (all_but number)) ∙ k.waiters;
-        barrier_slots = k.barrier_slots;
-        covered = λ who place at. get_map barriers.waits place ∙ ap (option_map (all_but number)) (k.covered who place at) ∙ along (IsWaitKept limits) cs ds waits (all_but number) who same k.waits_kept;
-        waits_kept = k.waits_kept;
+        wait_limits = k.wait_limits;
+        waiters = length-map held (all_but number) ∙ k.waiters;
+        covered = λ who place at. get_map held place ∙ ap (all_but number) (k.covered who place at) ∙ along cs ds (all_but number) (wait_among waits.waits who) refl (λ b _. same b);
       }
     where
-      get_map : (ws : List (Option (List ℕ))) (i : ℕ) → get_or (map (option_map (all_but number)) ws) i None ≡ option_map (all_but number) (get_or ws i None)
+      get_map : (ws : List (List ℕ)) (i : ℕ) → get_or (map (all_but number) ws) i [] ≡ all_but number (get_or ws i [])
       get_map [] i = refl
       get_map (w ∷ ws) zero = refl
       get_map (w ∷ ws) (suc i) = get_map ws i
@@ -142,28 +129,49 @@ held_left r c cs target found out n =
     and_true true = refl
     and_true false = refl
 
-module _ {limits : Limits} {cs : List CallbackRow} {waits : List BegunWait} {barriers : Covers} where
-  pub covered_replaced : (r c : CallbackRow) → r.object ≡ c.object → r.group ≡ c.group → is_tied r ≡ is_tied c → lives r ≡ lives c → find (has_number r.number) cs ≡ Some c → AreCovered limits cs waits barriers → AreCovered limits (replaced r cs) waits barriers
+module _ {limits : Limits} {cs : List CallbackRow} {waits : Begun} {held : List (List ℕ)} where
+  pub covered_replaced : (r c : CallbackRow) → r.object ≡ c.object → r.group ≡ c.group → is_tied r ≡ is_tied c → lives r ≡ lives c → find (has_number r.number) cs ≡ Some c → AreCovered limits cs waits held → AreCovered limits (replaced r cs) waits held
   covered_replaced r c object group tied live found k =
-      covered_same (IsWaitKept limits) (replaced r cs) k.waits_kept
-      (λ b kept. filter_agree (is_held_among cs b.target) (is_held_among (replaced r cs) b.target) (held_replaced r c cs b.target found (outstanding_same r c object group tied live b.target)) b.covered) k
+      covered_same (replaced r cs)
+      (λ who b found_one. filter_agree (is_held_among cs b.target) (is_held_among (replaced r cs) b.target) (held_replaced r c cs b.target found (outstanding_same r c object group tied live b.target)) b.covered) k
 
-  pub covered_less : (r c : CallbackRow) → lives r ≡ false → find (has_number r.number) cs ≡ Some c → AreCovered limits cs waits barriers
-      → AreCovered limits (replaced r cs) waits (record barriers { waits = map (option_map (all_but r.number)) barriers.waits })
+  pub covered_less : (r c : CallbackRow) → lives r ≡ false → find (has_number r.number) cs ≡ Some c → AreCovered limits cs waits held
+      → AreCovered limits (replaced r cs) waits (map (all_but r.number) held)
   covered_less r c out found k =
       covered_but r.number (replaced r cs)
-      (λ b kept. sym (held_but (is_held_among (replaced r cs) b.target) (is_held_among cs b.target) r.number b.covered (held_left r c cs b.target found (over_not_outstanding b.target r out)))) k
+      (λ b. sym (held_but (is_held_among (replaced r cs) b.target) (is_held_among cs b.target) r.number b.covered (held_left r c cs b.target found (over_not_outstanding b.target r out)))) k
 
+  -- what is over is held by no wait
+  pub covered_lives : (next_number : ℕ) → IsRising 1 next_number cs → AreCovered limits cs waits held → AreCovered limits (filter lives cs) waits held
+  covered_lives next_number rising k =
+      covered_same (filter lives cs)
+      (λ who b _. filter_agree (is_held_among cs b.target) (is_held_among (filter lives cs) b.target)
+      (λ n. sym (over_forget (is_outstanding_for b.target) (over_not_outstanding b.target) 1 next_number n cs rising)) b.covered) k
+
+  -- no wait holds a callback that is made later
+  pub covered_more : (next_number : ℕ) (c : CallbackRow) → c.number ≡ next_number → AllByRecursion (IsWaitSound next_number cs) waits.waits → AreCovered limits cs waits held → AreCovered limits (cs ++ c ∷ []) waits held
+  covered_more next_number c number sound k =
+      covered_same (cs ++ c ∷ [])
+      (λ who b is. held_agree (is_held_among cs b.target) (is_held_among (cs ++ c ∷ []) b.target) next_number b.covered (find_all (IsWaitSound next_number cs) (λ (x : BegunWait). is_same_actor x.actor who) b waits.waits sound is).made
+      (λ n lt. ap (λ o. option_map_or (is_outstanding_for b.target) o false) (sym (appended n cs (ne_eqb c.number n (λ e. omega (arith, e, number, lt))))))) k
+    where
+      appended : (n : ℕ) (ds : List CallbackRow) → has_number n c ≡ false → find (has_number n) (ds ++ c ∷ []) ≡ find (has_number n) ds
+      appended n [] other = ap (λ b. cond b (Some c) None) other
+      appended n (d ∷ ds) other = ap (λ t. cond (has_number n d) (Some d) t) (appended n ds other)
+
+module _ {limits : Limits} {cs : List CallbackRow} {waits : Begun} where
   -- a callback that is disassociated leaves the waits that close no group
-  pub covered_loose : {closing : List (Option Closing)} {new : Covers} (r c : CallbackRow) → r.object ≡ c.object → r.group ≡ c.group → is_tied r ≡ false → lives r ≡ lives c → find (has_number r.number) cs ≡ Some c
-      → ((who : Who) (place : ℕ) → place_of limits who ≡ Some place → get_or closing place None ≡ closing_by (wait_among waits who)) → IsLeft r.number closing barriers new → AreCovered limits cs waits barriers → AreCovered limits (replaced r cs) waits new
-  covered_loose {closing} {new} r c object group untied live found closes l k =
+  pub covered_loose : {old new : Callbacks} (r c : CallbackRow) → r.object ≡ c.object → r.group ≡ c.group → is_tied r ≡ false → lives r ≡ lives c → find (has_number r.number) cs ≡ Some c
+      → IsLeft r.number waits old new → AreCovered limits cs waits old.held → AreCovered limits (replaced r cs) waits new.held
+  covered_loose {old} {new} r c object group untied live found l k =
       record {
+        wait_limits = k.wait_limits;
         waiters = l.waiters ∙ k.waiters;
-        barrier_slots = l.slots ∙ k.barrier_slots;
         covered = λ who place at.
-            l.left place ∙ ap₂ (λ (x : Option Closing) (o : Option (List ℕ)). left_at r.number x o) (closes who place at) (k.covered who place at) ∙ of_wait (wait_among waits who);
-        waits_kept = k.waits_kept;
+            l.left place (omega (arith, place_there limits who place at, k.waiters))
+            ∙ ap₂ (λ (a : Who) (ns : List ℕ). left_at r.number (closing_by (wait_among waits.waits a)) ns)
+            (ap (λ ls. actor_at ls place) k.wait_limits ∙ at_place limits who place at) (k.covered who place at)
+            ∙ of_wait (wait_among waits.waits who);
       }
     where
       leaves : (b : BegunWait) → is_group_target b.target ≡ false → all_but r.number (held_among cs b) ≡ held_among (replaced r cs) b
@@ -174,206 +182,82 @@ module _ {limits : Limits} {cs : List CallbackRow} {waits : List BegunWait} {bar
           filter_agree (is_held_among cs b.target) (is_held_among (replaced r cs) b.target)
           (held_replaced r c cs b.target found (subst (λ t. is_outstanding_for t r ≡ is_outstanding_for t c) (sym is) (ap₂ (λ (x : GroupId) (h : Bool). (x.0 == g.0) && h) group (held_live g r.status ∙ live ∙ sym (held_live g c.status))))) b.covered
 
-      of_target : (b : BegunWait) (t : WaitTarget) → b.target ≡ t → left_at r.number (closing_of b t) (Some (held_among cs b)) ≡ Some (held_among (replaced r cs) b)
-      of_target b (Object o) e = ap (λ ns. Some ns) (leaves b (ap is_group_target e))
-      of_target b (Group g) e = ap (λ ns. Some ns) (stays b g e)
-      of_target b (Kernel kernel) e = ap (λ ns. Some ns) (leaves b (ap is_group_target e))
+      of_target : (b : BegunWait) (t : WaitTarget) → b.target ≡ t → left_at r.number (closing_of b t) (held_among cs b) ≡ held_among (replaced r cs) b
+      of_target b (Object o) e = leaves b (ap is_group_target e)
+      of_target b (Group g) e = stays b g e
+      of_target b (Kernel kernel) e = leaves b (ap is_group_target e)
 
-      of_wait : (o : Option BegunWait) → left_at r.number (closing_by o) (option_map (held_among cs) o) ≡ option_map (held_among (replaced r cs)) o
+      of_wait : (o : Option BegunWait) → left_at r.number (closing_by o) (held_for cs o) ≡ held_for (replaced r cs) o
       of_wait None = refl
       of_wait (Some b) = of_target b b.target refl
 
-  -- what is over is held by no wait
-  pub covered_lives : (next_number : ℕ) → IsRising 1 next_number cs → AreCovered limits cs waits barriers → AreCovered limits (filter lives cs) waits barriers
-  covered_lives next_number rising k =
-      covered_same (IsWaitKept limits) (filter lives cs) k.waits_kept
-      (λ b _. filter_agree (is_held_among cs b.target) (is_held_among (filter lives cs) b.target)
-      (λ n. sym (over_forget (is_outstanding_for b.target) (over_not_outstanding b.target) 1 next_number n cs rising)) b.covered) k
-
-  -- no wait holds a callback that is made later
-  pub covered_more : (next_number : ℕ) (c : CallbackRow) → c.number ≡ next_number → AllByRecursion (IsWaitSound next_number cs) waits → AreCovered limits cs waits barriers → AreCovered limits (cs ++ c ∷ []) waits barriers
-  covered_more next_number c number sound k =
-      covered_same (IsWaitSound next_number cs) (cs ++ c ∷ []) sound
-      (λ b s. held_agree (is_held_among cs b.target) (is_held_among (cs ++ c ∷ []) b.target) next_number b.covered s.made
-      (λ n lt. ap (λ o. option_map_or (is_outstanding_for b.target) o false) (sym (appended n cs (ne_eqb c.number n (λ e. omega (arith, e, number, lt))))))) k
-    where
-      appended : (n : ℕ) (ds : List CallbackRow) → has_number n c ≡ false → find (has_number n) (ds ++ c ∷ []) ≡ find (has_number n) ds
-      appended n [] other = ap (λ b. cond b (Some c) None) other
-      appended n (d ∷ ds) other = ap (λ t. cond (has_number n d) (Some d) t) (appended n ds other)
-
--- ---- places of actors
-
-pub record IsWithin (first count number place : ℕ) : Type 0 where
-  pub least : 1 ≤ number
-  pub most : number ≤ count
-  pub at : place ≡ first + (number - 1)
-
-within : (first count number place : ℕ) → place_within first count number ≡ Some place → IsWithin first count number place
-within first count number place e =
-    elim (nat_le 1 number && nat_le number count) as (λ b. (nat_le 1 number && nat_le number count) ≡ b → cond b (Some (first + (number - 1))) None ≡ Some place → IsWithin first count number place) [
-      | true ↦ λ t h.
-          let in_range = both (nat_le 1 number) (nat_le number count) t in
-          let is : first + (number - 1) ≡ place = cc in
-          record { least = leb-true 1 number in_range.0; most = leb-true number count in_range.1; at = sym is }
-      | false ↦ λ _ h. absurd cc
-    ] refl e
-
--- each actor has its own
-pub one_place : (limits : Limits) (a b : Who) (place : ℕ) → place_of limits a ≡ Some place → place_of limits b ≡ Some place → a ≡ b
-one_place limits (Client m) (Client n) place ea eb =
-    let ra = within 0 limits.clients m place ea in
-    let rb = within 0 limits.clients n place eb in
-    ap Client (omega (arith, ra.least, ra.at, rb.least, rb.at))
-one_place limits (Worker m) (Worker n) place ea eb =
-    let ra = within limits.clients limits.workers m place ea in
-    let rb = within limits.clients limits.workers n place eb in
-    ap Worker (omega (arith, ra.least, ra.at, rb.least, rb.at))
-one_place limits (Client m) (Worker n) place ea eb =
-    let ra = within 0 limits.clients m place ea in
-    let rb = within limits.clients limits.workers n place eb in
-    absurd (omega (arith, ra.least, ra.most, ra.at, rb.least, rb.at))
-one_place limits (Worker m) (Client n) place ea eb =
-    let ra = within limits.clients limits.workers m place ea in
-    let rb = within 0 limits.clients n place eb in
-    absurd (omega (arith, ra.least, ra.at, rb.least, rb.most, rb.at))
-
--- and it is there
-pub place_there : (limits : Limits) (a : Who) (place : ℕ) → place_of limits a ≡ Some place → place < limits.clients + limits.workers
-place_there limits (Client n) place e = let r = within 0 limits.clients n place e in omega (arith, r.least, r.most, r.at)
-place_there limits (Worker n) place e = let r = within limits.clients limits.workers n place e in omega (arith, r.least, r.most, r.at)
-
--- where an actor's wait was found to stand
-pub at_place : (i : Inside) (l : Live) (who : Who) (place is : Option ℕ) → shown i ≡ l → place ≡ place_of l.world.limits who → place ≡ is → place_of i.limits who ≡ is
-at_place i l who place is view found same = ap (λ (x : Live). place_of x.world.limits who) view ∙ sym found ∙ same
+-- ---- waits that begin and end
 
 pub nowhere : {X : Type 0} (o : Option X) → ((x : X) → o ≡ Some x → ⊥) → o ≡ None
 nowhere None h = refl
 nowhere (Some x) h = absurd (h x refl)
 
--- ---- waits that begin and end
-
-some_found : {X : Type 0} (p : X → Bool) (xs : List X) → is_some (find p xs) ≡ list_any p xs
-some_found p [] = refl
-some_found p (x ∷ xs) = elim (p x) as (λ b. is_some (cond b (Some x) (find p xs)) ≡ (b || list_any p xs)) [ true ↦ refl | false ↦ some_found p xs ]
-
 pub not_found : {X : Type 0} (p : X → Bool) (xs : List X) → not (list_any p xs) ≡ is_none (find p xs)
 not_found p [] = refl
 not_found p (x ∷ xs) = elim (p x) as (λ b. not (b || list_any p xs) ≡ is_none (cond b (Some x) (find p xs))) [ true ↦ refl | false ↦ not_found p xs ]
 
-pub none_found : {X : Type 0} (p : X → Bool) (xs : List X) → list_any p xs ≡ false → find p xs ≡ None
-none_found p [] none = refl
-none_found p (x ∷ xs) none = let h = neither (p x) (list_any p xs) none in ap (λ b. cond b (Some x) (find p xs)) h.0 ∙ none_found p xs h.1
-
--- an actor that has begun a wait
-pub waiting_somewhere : (who : Who) (waits : List BegunWait) (b : BegunWait) → wait_among waits who ≡ Some b → list_any (λ (x : BegunWait). is_same_actor x.actor who) waits ≡ true
-waiting_somewhere who waits b is = sym (some_found (λ (x : BegunWait). is_same_actor x.actor who) waits) ∙ ap is_some is
-
--- who is no actor of the machine has no wait
-pub no_stranger : (limits : Limits) (waits : List BegunWait) (who : Who) → place_of limits who ≡ None → AllByRecursion (IsWaitKept limits) waits → list_any (λ (b : BegunWait). is_same_actor b.actor who) waits ≡ false
-no_stranger limits waits who nowhere all = each waits all
-  where
-    each : (bs : List BegunWait) → AllByRecursion (IsWaitKept limits) bs → list_any (λ (b : BegunWait). is_same_actor b.actor who) bs ≡ false
-    each [] h = refl
-    each (b ∷ bs) h =
-        elim (is_same_actor b.actor who) as (λ t. is_same_actor b.actor who ≡ t → (t || list_any (λ (x : BegunWait). is_same_actor x.actor who) bs) ≡ false) [
-          | true ↦ λ e. absurd (false_true (ap is_some (sym nowhere) ∙ ap (λ a. is_some (place_of limits a)) (sym (same_actor_is b.actor who e)) ∙ h.0))
-          | false ↦ λ _. each bs h.1
-        ] refl
-
--- the wait that an actor has begun, after one more
-pub begun_found : (b : BegunWait) (bs : List BegunWait) → list_any (λ (x : BegunWait). is_same_actor x.actor b.actor) bs ≡ false → wait_among (bs ++ b ∷ []) b.actor ≡ Some b
-begun_found b [] h = ap (λ t. cond t (Some b) None) (is_own_actor b.actor)
-begun_found b (x ∷ bs) h =
-    let parts = neither (is_same_actor x.actor b.actor) (list_any (λ (y : BegunWait). is_same_actor y.actor b.actor) bs) h in
-    ap (λ t. cond t (Some x) (wait_among (bs ++ b ∷ []) b.actor)) parts.0 ∙ begun_found b bs parts.1
-
-pub begun_elsewhere : (b : BegunWait) (other : Who) → is_same_actor b.actor other ≡ false → (bs : List BegunWait) → wait_among (bs ++ b ∷ []) other ≡ wait_among bs other
-begun_elsewhere b other e [] = ap (λ t. cond t (Some b) None) e
-begun_elsewhere b other e (x ∷ bs) = ap (λ t. cond (is_same_actor x.actor other) (Some x) t) (begun_elsewhere b other e bs)
-
--- and after its end
-pub ended_gone : (who : Who) (bs : List BegunWait) → wait_among (filter (λ (b : BegunWait). not (is_same_actor b.actor who)) bs) who ≡ None
-ended_gone who [] = refl
-ended_gone who (x ∷ bs) =
-    elim (is_same_actor x.actor who) as (λ t. is_same_actor x.actor who ≡ t → wait_among (cond (not t) (x ∷ filter (λ (b : BegunWait). not (is_same_actor b.actor who)) bs) (filter (λ (b : BegunWait). not (is_same_actor b.actor who)) bs)) who ≡ None) [
-      | true ↦ λ _. ended_gone who bs
-      | false ↦ λ e. ap (λ t. cond t (Some x) (wait_among (filter (λ (b : BegunWait). not (is_same_actor b.actor who)) bs) who)) e ∙ ended_gone who bs
-    ] refl
-
-pub ended_elsewhere : (who other : Who) → is_same_actor who other ≡ false → (bs : List BegunWait) → wait_among (filter (λ (b : BegunWait). not (is_same_actor b.actor who)) bs) other ≡ wait_among bs other
-ended_elsewhere who other e [] = refl
-ended_elsewhere who other e (x ∷ bs) =
-    elim (is_same_actor x.actor who) as (λ t. is_same_actor x.actor who ≡ t → wait_among (cond (not t) (x ∷ filter (λ (b : BegunWait). not (is_same_actor b.actor who)) bs) (filter (λ (b : BegunWait). not (is_same_actor b.actor who)) bs)) other ≡ wait_among (x ∷ bs) other) [
-      | true ↦ λ same.
-          let apart : is_same_actor x.actor other ≡ false = ap (λ a. is_same_actor a other) (same_actor_is x.actor who same) ∙ e in
-          ended_elsewhere who other e bs ∙ sym (ap (λ t. cond t (Some x) (wait_among bs other)) apart)
-      | false ↦ λ _. ap (λ t. cond (is_same_actor x.actor other) (Some x) t) (ended_elsewhere who other e bs)
-    ] refl
-
--- what is noted of the wait of each actor, by the actor's place
-abbrev pub IsNoted : {X : Type 0} → Limits → (Option BegunWait → Option X) → List (Option X) → List BegunWait → Type 0
-IsNoted limits f xs waits = (who : Who) (place : ℕ) → place_of limits who ≡ Some place → get_or xs place None ≡ f (wait_among waits who)
-
--- another wait of one actor
-pub noted_set : {X : Type 0} (limits : Limits) (f : Option BegunWait → Option X) (xs : List (Option X)) (waits later : List BegunWait) (who : Who) (place : ℕ) (x : Option X)
-    → place_of limits who ≡ Some place → place < length xs → x ≡ f (wait_among later who) → ((other : Who) → is_same_actor who other ≡ false → wait_among later other ≡ wait_among waits other)
-    → IsNoted limits f xs waits → IsNoted limits f (slice_set xs place x) later
-noted_set limits f xs waits later who place x at within here others noted other p there =
-    elim (is_same_actor who other) as (λ b. is_same_actor who other ≡ b → get_or (slice_set xs place x) p None ≡ f (wait_among later other)) [
-      | true ↦ λ e.
-          let same : who ≡ other = same_actor_is who other e in
-          let same_place : place ≡ p = some_same place p (sym at ∙ ap (place_of limits) same ∙ there) in
-          subst (λ n. get_or (slice_set xs place x) n None ≡ f (wait_among later other)) same_place
-          (get_or-set_same xs place x None within ∙ here ∙ ap (λ a. f (wait_among later a)) same)
-      | false ↦ λ e.
-          let apart : p ≢ place = λ same. false_true (sym e ∙ ap (is_same_actor who) (one_place limits other who place (subst (λ n. place_of limits other ≡ Some n) same there) at) ∙ is_own_actor who) in
-          get_or-set_other xs place p x None apart ∙ noted other p there ∙ ap f (sym (others other e))
-    ] refl
-  where
-    some_same : (m n : ℕ) → Some m ≡ Some n → m ≡ n
-    some_same m n e = cc
-
-module _ {limits : Limits} {cs : List CallbackRow} {waits : List BegunWait} {barriers : Covers} where
-  -- the barrier of an actor is begun where the actor has begun a wait
-  pub begun_there : (who : Who) (place : ℕ) → place_of limits who ≡ Some place → AreCovered limits cs waits barriers → is_some (wait_of barriers place) ≡ list_any (λ (b : BegunWait). is_same_actor b.actor who) waits
-  begun_there who place at k = ap is_some (k.covered who place at) ∙ known (wait_among waits who) ∙ some_found (λ (b : BegunWait). is_same_actor b.actor who) waits
-    where
-      known : (o : Option BegunWait) → is_some (option_map (held_among cs) o) ≡ is_some o
-      known None = refl
-      known (Some b) = refl
+module _ {limits : Limits} {cs : List CallbackRow} {waits : Begun} {held : List (List ℕ)} where
+  -- the place of an actor
+  pub placed : (who : Who) (o : Option ℕ) → place_of waits.limits who ≡ o → AreCovered limits cs waits held → place_of limits who ≡ o
+  placed who o at k = ap (λ ls. place_of ls who) (sym k.wait_limits) ∙ at
 
   -- another wait of one actor
-  covered_set : (who : Who) (place : ℕ) (later : List BegunWait) (wait : Option (List ℕ)) → place_of limits who ≡ Some place → wait ≡ option_map (held_among cs) (wait_among later who)
-      → ((other : Who) → is_same_actor who other ≡ false → wait_among later other ≡ wait_among waits other) → AllByRecursion (IsWaitKept limits) later
-      → AreCovered limits cs waits barriers → AreCovered limits cs later (with_wait barriers place wait)
-  covered_set who place later wait at here others all k =
+  covered_set : (who : Who) (place : ℕ) (later : Begun) (numbers : List ℕ) → later.limits ≡ waits.limits → place_of limits who ≡ Some place → numbers ≡ held_for cs (wait_among later.waits who)
+      → ((other : Who) → is_same_actor who other ≡ false → wait_among later.waits other ≡ wait_among waits.waits other)
+      → AreCovered limits cs waits held → AreCovered limits cs later (slice_set held place numbers)
+  covered_set who place later numbers same at here others k =
       record {
-        waiters = length-set barriers.waits place wait ∙ k.waiters;
-        barrier_slots = k.barrier_slots;
-        covered = noted_set limits (option_map (held_among cs)) barriers.waits waits later who place wait at (omega (arith, place_there limits who place at, k.waiters)) here others k.covered;
-        waits_kept = all;
+        wait_limits = same ∙ k.wait_limits;
+        waiters = length-set held place numbers ∙ k.waiters;
+        covered = noted_set limits (held_for cs) [] held waits.waits later.waits who place numbers at (omega (arith, place_there limits who place at, k.waiters)) here others k.covered;
       }
 
-  pub covered_begun : (place : ℕ) (b : BegunWait) → place_of limits b.actor ≡ Some place → list_any (λ (x : BegunWait). is_same_actor x.actor b.actor) waits ≡ false → held_among cs b ≡ b.covered
-      → AreCovered limits cs waits barriers → AreCovered limits cs (waits ++ b ∷ []) (with_wait barriers place (Some b.covered))
+  pub covered_begun : (place : ℕ) (b : BegunWait) → place_of limits b.actor ≡ Some place → is_waiting waits.waits b.actor ≡ false → held_among cs b ≡ b.covered
+      → AreCovered limits cs waits held → AreCovered limits cs (record waits { waits = waits.waits ++ b ∷ [] }) (slice_set held place b.covered)
   covered_begun place b at none all_held k =
-      covered_set b.actor place (waits ++ b ∷ []) (Some b.covered) at
-      (sym (ap (option_map (held_among cs)) (begun_found b waits none) ∙ ap (λ ns. Some ns) all_held))
-      (λ other e. begun_elsewhere b other e waits)
-      (all_append (IsWaitKept limits) waits b k.waits_kept (ap is_some at)) k
+      covered_set b.actor place (record waits { waits = waits.waits ++ b ∷ [] }) b.covered refl at
+      (sym (ap (held_for cs) (begun_found b waits.waits none) ∙ all_held))
+      (λ other e. begun_elsewhere b other e waits.waits) k
 
-  pub covered_ended : (place : ℕ) (who : Who) → place_of limits who ≡ Some place → AreCovered limits cs waits barriers
-      → AreCovered limits cs (filter (λ (b : BegunWait). not (is_same_actor b.actor who)) waits) (with_wait barriers place None)
-  covered_ended place who at k =
-      covered_set who place (filter (λ (b : BegunWait). not (is_same_actor b.actor who)) waits) None at
-      (sym (ap (option_map (held_among cs)) (ended_gone who waits)))
-      (λ other e. ended_elsewhere who other e waits)
-      (all_filter (IsWaitKept limits) (λ (b : BegunWait). not (is_same_actor b.actor who)) waits k.waits_kept) k
+  pub covered_ended : (place : ℕ) (who : Who) (given_up : ℕ) → place_of limits who ≡ Some place → AreCovered limits cs waits held
+      → AreCovered limits cs (record waits { waits = without_waits who waits.waits; given_up = given_up }) (slice_set held place [])
+  covered_ended place who given_up at k =
+      covered_set who place (record waits { waits = without_waits who waits.waits; given_up = given_up }) [] refl at
+      (sym (ap (held_for cs) (ended_gone who waits.waits)))
+      (λ other e. ended_elsewhere who other e waits.waits) k
 
--- the barrier of an actor that has begun no wait
-pub idle_there : {limits : Limits} {cs : List CallbackRow} {waits : List BegunWait} {barriers : Covers} (who : Who) (place : ℕ) → place_of limits who ≡ Some place → list_any (λ (b : BegunWait). is_same_actor b.actor who) waits ≡ false
-    → AreCovered limits cs waits barriers → wait_of barriers place ≡ None
-idle_there {cs = cs} {waits = waits} who place at none k = k.covered who place at ∙ ap (option_map (held_among cs)) (none_found (λ (b : BegunWait). is_same_actor b.actor who) waits none)
+  -- what a wait holds is nothing that its notices tell
+  pub covered_noted : (who : Who) (f : BegunWait → BegunWait) → ((b : BegunWait) → (f b).actor ≡ b.actor) → ((b : BegunWait) → held_among cs (f b) ≡ held_among cs b) → AreCovered limits cs waits held → AreCovered limits cs (record waits { waits = map (λ (b : BegunWait). cond (is_same_actor b.actor who) (f b) b) waits.waits }) held
+  covered_noted who f stays same k =
+      record {
+        wait_limits = k.wait_limits;
+        waiters = k.waiters;
+        covered = noted_still limits (held_for cs) [] held waits.waits (map (λ (b : BegunWait). cond (is_same_actor b.actor who) (f b) b) waits.waits) who
+            (ap (held_for cs) (changed_to who f stays waits.waits) ∙ known (wait_among waits.waits who)) (λ other e. changed_elsewhere who f stays other e waits.waits) k.covered;
+      }
+    where
+      known : (o : Option BegunWait) → held_for cs (option_map f o) ≡ held_for cs o
+      known None = refl
+      known (Some b) = same b
+
+  -- a wait that holds nothing changes nothing of what waits hold
+  pub covered_idle : (b : BegunWait) → is_waiting waits.waits b.actor ≡ false → held_among cs b ≡ [] → AreCovered limits cs waits held → AreCovered limits cs (record waits { waits = waits.waits ++ b ∷ [] }) held
+  covered_idle b none nothing k =
+      record {
+        wait_limits = k.wait_limits;
+        waiters = k.waiters;
+        covered = noted_still limits (held_for cs) [] held waits.waits (waits.waits ++ b ∷ []) b.actor
+            (ap (held_for cs) (begun_found b waits.waits none) ∙ nothing ∙ sym (ap (held_for cs) (none_found (λ (x : BegunWait). is_same_actor x.actor b.actor) waits.waits none))) (λ other e. begun_elsewhere b other e waits.waits) k.covered;
+      }
+
+  -- what is held by an actor that has begun no wait
+  pub idle_there : (who : Who) (place : ℕ) → place_of limits who ≡ Some place → is_waiting waits.waits who ≡ false → AreCovered limits cs waits held → get_or held place [] ≡ []
+  idle_there who place at none k = k.covered who place at ∙ ap (held_for cs) (none_found (λ (b : BegunWait). is_same_actor b.actor who) waits.waits none)
 
 -- a row of this number is within the rows
 pub number_most : {X : Type 0} (rows : List X) (number : ℕ) → is_some (numbered rows number) ≡ true → (1 ≤ number) × (number ≤ length rows)
@@ -386,20 +270,18 @@ number_most rows number there =
           (omega (arith, positive), omega (arith, within, positive))
     ] refl there
 
-within_place : (first count number : ℕ) → 1 ≤ number → number ≤ count → place_within first count number ≡ None → ⊥
-within_place first count number least most none =
-    let some : place_within first count number ≡ Some (first + (number - 1)) = ap₂ (λ a b. cond (a && b) (Some (first + (number - 1))) None) (le-leb 1 number least) (le-leb number count most) in
-    absurd cc
-
 -- an actor of the machine has a place
-pub actor_somewhere : (i : Inside) (who : Who) → IsLiveWorld i → is_actor (shown i).world who ≡ true → place_of i.limits who ≡ None → ⊥
-actor_somewhere i (Client n) k acts none =
-    let within = number_most i.clients.items n (or_nothing (is_some (numbered i.clients.items n)) acts) in
-    within_place 0 i.limits.clients n within.0 (omega (arith, within.1, k.sized.client_count)) none
+pub actor_somewhere : (i : Inside) (who : Who) → IsLiveWorld i → is_actor (shown i).world who ≡ true → IsSome (place_of i.waits.limits who)
+actor_somewhere i who k acts = subst (λ ls. IsSome (place_of ls who)) (sym k.covered.wait_limits) (of_kind who acts)
   where
     or_nothing : (b : Bool) → (b || false) ≡ true → b ≡ true
     or_nothing true e = refl
     or_nothing false e = e
-actor_somewhere i (Worker n) k acts none =
-    let within = number_most (map shown_worker i.pools.workers) n acts in
-    within_place i.limits.clients i.limits.workers n within.0 (omega (arith, within.1, length-map i.pools.workers shown_worker, k.sized.worker_count)) none
+
+    of_kind : (a : Who) → is_actor (shown i).world a ≡ true → IsSome (place_of i.limits a)
+    of_kind (Client n) acts_here =
+        let within = number_most i.clients.items n (or_nothing (is_some (numbered i.clients.items n)) acts_here) in
+        ap is_some (within_place 0 i.limits.clients n within.0 (omega (arith, within.1, k.sized.client_count)))
+    of_kind (Worker n) acts_here =
+        let within = number_most (map shown_worker i.pools.workers) n acts_here in
+        ap is_some (within_place i.limits.clients i.limits.workers n within.0 (omega (arith, within.1, length-map i.pools.workers shown_worker, k.sized.worker_count)))

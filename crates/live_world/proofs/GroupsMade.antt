@@ -36,10 +36,8 @@ groups_moved i l ch groups there is k allowed none same now limit within =
       timed = k.timed;
       kernels = k.kernels;
       slotted = k.slotted;
-      wanted = k.wanted;
       grouped = record { group_limit = limit ∙ k.grouped.group_limit; groups_within = within };
       membered = k.membered;
-      closing = k.closing;
     })))
 
 -- there is room for one more

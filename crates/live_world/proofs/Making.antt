@@ -17,7 +17,7 @@ use Rattle.tp_base.specs.declared.rows.TimerSetting.{TimerSetting}
 use Rattle.tp_base.specs.Armings.{without_arming}
 use Rattle.tp_base.specs.Timers.{without_setting}
 use Rattle.kernel_events.specs.Kernels.{Kernels, rows_with}
-use Rattle.keyed_lists.specs.Keyed.{Keyed}
+use Rattle.linked_lists.specs.Linked.{AreOwned, Linked}
 use Rattle.tp_model.specs.Counts.{numbered}
 use Rattle.tp_model.specs.Changes.{changed, release_object}
 use Rattle.tp_model.specs.Kernels.{kernel_changed}
@@ -25,13 +25,13 @@ use Rattle.tp_model.specs.Support.Allowed.{IsAllowed, news}
 use Rattle.live_world.specs.declared.objects.Object.{Object}
 use Rattle.live_world.specs.declared.LiveWorld.TheInside.{Inside}
 use Rattle.live_world.specs.Live.{Live, moved}
-use Rattle.live_world.specs.Parts.{is_timed_kind, shown_object, with_member, world_of}
+use Rattle.live_world.specs.Parts.{is_timed_kind, shown_object, with_member, without_member, world_of}
 use Rattle.timer_objects.specs.Settings.{Timers}
 use Rattle.live_world.specs.View.{shown, IsLiveWorld}
 use Rattle.live_world.specs.Invariant.{AreMembered, AreSized}
 use Rattle.tp_model.proofs.Refusals.{numbered_some}
 use Rattle.live_world.proofs.Timed.{with_timer, without_timer, same_settings, timed_created, timed_released}
-use Rattle.live_world.proofs.Members.{membered_created, membered_released, without_member}
+use Rattle.live_world.proofs.MembersListed.{membered_created, membered_released}
 use Rattle.live_world.proofs.Moving.{After, Becomes, moved_by}
 use Rattle.live_world.proofs.Sourced.{less_once, less_slots}
 use Rattle.live_world.proofs.Takings.{changed_length, same_rows}
@@ -51,9 +51,9 @@ sized_objects i objects same within k =
       client_count = k.sized.client_count;
     }
 
-pub created : (i : Inside) (l : Live) (row : ObjectRow) (objects : Table Object) (members : Keyed) (timers : Timers) → shown i ≡ l → IsLiveWorld i → IsAllowed (l.made + 1) l.world (change.CreateObject row)
+pub created : (i : Inside) (l : Live) (row : ObjectRow) (objects : Table Object) (members : Linked) (timers : Timers) → shown i ≡ l → IsLiveWorld i → IsAllowed (l.made + 1) l.world (change.CreateObject row)
     → objects ≡ with_row i.objects (record { kind = row.kind; routine = row.routine; context = row.context; env = row.env })
-    → members ≡ with_member i.members i.limits.groups row.env.group (length i.objects.rows + 1)
+    → members ≡ with_member i.members i.limits.groups row.env.group
     → timers ≡ cond (is_timed_kind row.kind) (with_timer i.timers (length i.objects.rows + 1)) i.timers → Becomes (record i { objects = objects; members = members; timers = timers }) (moved l (change.CreateObject row))
 created i l row objects members timers is k allowed now members_now timers_now =
     moved_by i (record i { objects = objects; members = members; timers = timers }) l (change.CreateObject row) is k allowed (omega arith) (λ a.
@@ -74,10 +74,8 @@ created i l row objects members timers is k allowed now members_now timers_now =
       timed = timed_created i object fewer k;
       kernels = k.kernels;
       slotted = k.slotted;
-      wanted = k.wanted;
       grouped = k.grouped;
-      membered = subst (λ (m : Keyed). AreMembered i.limits (with_row i.objects object) m) (sym members_now) (membered_created i object k);
-      closing = k.closing;
+      membered = subst (λ (m : Linked). AreMembered i.limits (with_row i.objects object) m) (sym members_now) (membered_created i object k);
     })))
 
 -- the row here behind a row of the world
@@ -101,11 +99,11 @@ object_behind objects number row is = known (numbered_row objects number) refl (
 abbrev pub disarmed_of : Kernels → ObjectId → Kernels
 disarmed_of kernels object = record kernels { armed = without_arming object.0 kernels.armed }
 
-pub released : (i : Inside) (l : Live) (object : ObjectId) (live : Bool) (objects : Table Object) (members : Keyed) (timers : Timers) (kernels : Kernels) (armed : ℕ) → shown i ≡ l → IsLiveWorld i → IsAllowed (l.made + 1) l.world (change.ReleaseObject object)
+pub released : (i : Inside) (l : Live) (object : ObjectId) (live : Bool) (objects : Table Object) (members : Linked) (timers : Timers) (kernels : Kernels) (armed : ℕ) → shown i ≡ l → IsLiveWorld i → IsAllowed (l.made + 1) l.world (change.ReleaseObject object)
     → live ≡ is_live_row i.objects object.0 → (live ≡ true → objects ≡ with_released i.objects object.0)
-    → members ≡ without_member i.members object.0 → timers ≡ without_timer i.timers object → kernels ≡ disarmed_of i.kernels object → armed ≡ length (without_arming object.0 i.kernels.armed)
+    → AreOwned i.members → members ≡ without_member i.members i.limits.groups (i.limits.groups + object.0) → timers ≡ without_timer i.timers object → kernels ≡ disarmed_of i.kernels object → armed ≡ length (without_arming object.0 i.kernels.armed)
     → Becomes (record i { objects = objects; members = members; timers = timers; kernels = kernels; armed = armed }) (moved l (change.ReleaseObject object))
-released i l object live objects members timers kernels armed is k allowed was now members_now timers_now kernels_now armed_now =
+released i l object live objects members timers kernels armed is k allowed was now owned members_now timers_now kernels_now armed_now =
     moved_by i (record i { objects = objects; members = members; timers = timers; kernels = kernels; armed = armed }) l (change.ReleaseObject object) is k allowed (omega arith) (λ a.
     let b = object_behind i.objects object.0 a.row a.stands in
     let unreleased : b.marked.released ≡ false = ap (λ (o : ObjectRow). o.released) b.shows ∙ a.unreleased in
@@ -130,10 +128,8 @@ released i l object live objects members timers kernels armed is k allowed was n
       timed = timed_released i object marked (numbered_some (shown i).world.objects object.0 a.row a.stands).1 refl k;
       kernels = record { kernel_limit = k.kernels.kernel_limit; kernels_within = k.kernels.kernels_within; armed_limit = k.kernels.armed_limit; once = less_once i object.0 k };
       slotted = record { counted = armed_now; slots = less_slots i object.0 k };
-      wanted = k.wanted;
       grouped = k.grouped;
-      membered = subst (λ (m : Keyed). AreMembered i.limits there m) (sym members_now) (membered_released i object marked (numbered_some (shown i).world.objects object.0 a.row a.stands).1 refl k);
-      closing = k.closing;
+      membered = subst (λ (m : Linked). AreMembered i.limits there m) (sym members_now) (membered_released i object marked (numbered_some (shown i).world.objects object.0 a.row a.stands).1 refl owned k);
     })))))
 
 -- ---- kernel objects are made and changed
@@ -153,10 +149,8 @@ kernels_moved i l ch kernels rows is k allowed none same now within =
       timed = k.timed;
       kernels = record { kernel_limit = k.kernels.kernel_limit; kernels_within = within; armed_limit = k.kernels.armed_limit; once = k.kernels.once };
       slotted = record { counted = k.slotted.counted; slots = k.slotted.slots };
-      wanted = k.wanted;
       grouped = k.grouped;
       membered = k.membered;
-      closing = k.closing;
     })))
 
 pub kernel_made : (i : Inside) (l : Live) (state : KernelState) (kernels : Kernels) → shown i ≡ l → IsLiveWorld i → IsAllowed (l.made + 1) l.world (change.CreateKernel state) → kernels ≡ record i.kernels { rows = i.kernels.rows ++ record { state = state } ∷ [] }

@@ -1,12 +1,13 @@
 -- The members of a group, gone along one after another.
-use Rattle.std.proofs.Common.{◌≡◌, ℕ, zero, suc, ◌+◌, ◌<◌, ◌≤◌, ◌^◌, Bool, true, false, cond, ◌&&◌, ◌==◌, List, ◌∷◌, length, nat_lt, slice_get, Option, None, Some, refl, sym, ap, ◌∙◌, subst, arith, filter, find}
+use Rattle.std.proofs.Common.{◌≡◌, ℕ, zero, suc, ◌+◌, ◌-◌, ◌≤◌, ◌==◌, Bool, true, false, cond, ◌&&◌, List, ◌∷◌, length, nat_lt, slice_get, Option, None, Some, option_map, eqb-true, refl, sym, ap, ◌∙◌, subst, arith, filter, find}
 use Rattle.std.specs.List.{range_with_len}
-use Rattle.std.specs.Option.{IfSome, option_map_or}
+use Rattle.std.specs.Option.{option_map_or}
 use Rattle.std.proofs.lemmas.List.{length-map}
+use Rattle.std.proofs.lemmas.Option.{slice_get-map}
 use Rattle.std.proofs.lemmas.List.FromFn.{length-range_with_len}
 use Rattle.std.proofs.lemmas.List.Sums.{length-filter, count_by-le-length}
 use Rattle.tp_base.specs.declared.rows.ObjectRow.{ObjectRow}
-use Rattle.keyed_lists.specs.Keyed.{first_of, next_of}
+use Rattle.linked_lists.specs.Linked.{AreOwned, list_of, owner_of, place_after, tally, times}
 use Rattle.tp_model.specs.World.{World}
 use Rattle.tp_model.specs.Counts.{numbered}
 use Rattle.tp_model.specs.Groups.{first_member, gets_notice, has_cancel, is_group, is_member, is_member_at, is_object_that, members, notices_of, numbers_in, object_id, objects_that}
@@ -16,12 +17,10 @@ use Rattle.live_world.specs.declared.LiveWorld.TheInside.{Inside}
 use Rattle.live_world.specs.Live.{Live}
 use Rattle.live_world.specs.Parts.{shown_object}
 use Rattle.live_world.specs.View.{shown, IsLiveWorld}
-use Rattle.live_world.specs.Waiting.{numbers_of}
 use Rattle.live_world.proofs.Along.{find_filter, first_found}
 use Rattle.live_world.proofs.Lists.{all_pass}
-use Rattle.live_world.proofs.Members.{group_within, members_are}
+use Rattle.live_world.proofs.MembersListed.{group_within, place_behind, place_there}
 use Rattle.live_world.proofs.Covering.{itself}
-use Rattle.live_world.proofs.Numbers.{first_is, next_is}
 use Rattle.live_world.proofs.Walks.{Rises, rest, IsAmong, rises_filter, rest_first, first_among, Onward, onward}
 
 -- ---- they rise, and were made
@@ -50,19 +49,50 @@ least_member w group = find_filter (is_member_at w group) (λ _. true) (numbers_
 
 -- ---- as the lists give them
 
+-- a place, if there is one, is that of the number
+abbrev pub IsPlaceOf : ℕ → Option ℕ → Option ℕ → Type 0
+IsPlaceOf groups None number = None ≡ number
+IsPlaceOf groups (Some place) number = (groups ≤ place) × (Some (place - groups) ≡ number)
+
+is_place : (groups : ℕ) (place number : Option ℕ) → place ≡ option_map (λ n. groups + n) number → IsPlaceOf groups place number
+is_place groups None None e = refl
+is_place groups None (Some n) e = absurd cc
+is_place groups (Some p) None e = absurd cc
+is_place groups (Some p) (Some n) e =
+    let same : p ≡ groups + n = cc in
+    let back : p - groups ≡ n = omega (arith, same) in
+    (omega (arith, same), ap Some back)
+
 module _ (i : Inside) (group : ℕ) (k : IsLiveWorld i) (within : group ≤ i.limits.groups) where
-  pub first_listed : first_of i.members.entries group ≡ find (λ _. true) (members (shown i).world group)
-  first_listed = first_is i.members.entries group ∙ sym (first_found (numbers_of i.members.entries group)) ∙ ap (find (λ _. true)) (members_are i group k within)
+  pub first_listed : (place : Option ℕ) → place ≡ slice_get (list_of i.members group) 0 → IsPlaceOf i.limits.groups place (first_member (shown i).world group)
+  first_listed place is =
+      is_place i.limits.groups place (first_member (shown i).world group)
+      (is ∙ ap (λ ps. slice_get ps 0) (k.membered.membered group within) ∙ slice_get-map (λ n. i.limits.groups + n) (members (shown i).world group) 0
+      ∙ ap (option_map (λ n. i.limits.groups + n)) (sym (first_found (members (shown i).world group)) ∙ least_member (shown i).world group))
 
-  pub next_listed : (number : ℕ) → next_of i.members.entries group number ≡ find (λ n. nat_lt number n) (members (shown i).world group)
-  next_listed number = next_is i.members.entries group number ∙ ap (find (λ n. nat_lt number n)) (members_are i group k within)
+  module _ (number : ℕ) (found : find (λ n. n == number) (members (shown i).world group) ≡ Some number) where
+    -- a member's place is in the group's list
+    pub owner_listed : AreOwned i.members → owner_of i.members (i.limits.groups + number) ≡ group
+    owner_listed owned =
+        eqb-true (owner_of i.members (i.limits.groups + number)) group
+        (tally_true (owner_of i.members (i.limits.groups + number) == group)
+        (omega (arith, owned.once group (i.limits.groups + number) (omega (arith, within, k.membered.group_lists)), ap (times (i.limits.groups + number)) (k.membered.membered group within), place_there i.limits.groups number (members (shown i).world group) found)))
+      where
+        tally_true : (b : Bool) → 1 ≤ tally b → b ≡ true
+        tally_true true h = refl
+        tally_true false h = absurd (omega (arith, h))
 
--- what is found has a number of 32 bits
-pub number_fits : (i : Inside) (group : ℕ) (q : ℕ → Bool) (o : Option ℕ) → IsLiveWorld i → o ≡ find q (members (shown i).world group) → IfSome o (λ number. number < 2 ^ 32)
-number_fits i group q None k is = tt
-number_fits i group q (Some number) k is =
-    let made = that_made (is_member group) (shown i).world.objects number (found_member (shown i).world group number q (sym is)) in
-    omega (arith, made.1, length-map i.objects.rows shown_object, k.sized.objects_within, k.sized.in_range.objects_most)
+    pub next_listed : (place : Option ℕ) → AreOwned i.members → place ≡ place_after (i.limits.groups + number) (list_of i.members (owner_of i.members (i.limits.groups + number)))
+        → IsPlaceOf i.limits.groups place (find (λ n. nat_lt number n) (members (shown i).world group))
+    next_listed place owned is =
+        is_place i.limits.groups place (find (λ n. nat_lt number n) (members (shown i).world group))
+        (is ∙ ap (λ g. place_after (i.limits.groups + number) (list_of i.members g)) (owner_listed owned) ∙ ap (place_after (i.limits.groups + number)) (k.membered.membered group within)
+        ∙ place_behind i.limits.groups number 1 (members (shown i).world group) (members_rise (shown i).world group) found)
+
+    pub listed_within : number ≤ i.limits.objects
+    listed_within =
+        let made = that_made (is_member group) (shown i).world.objects number (found_member (shown i).world group number (λ n. n == number) found) in
+        omega (arith, made.1, length-map i.objects.rows shown_object, k.sized.objects_within)
 
 pub within_here : (i : Inside) (l : Live) (group : ℕ) → shown i ≡ l → IsLiveWorld i → is_group l.world group ≡ true → group ≤ i.limits.groups
 within_here i l group is k made = group_within i group k (ap (λ (x : Live). is_group x.world group) is ∙ made)
@@ -72,7 +102,7 @@ within_here i l group is k made = group_within i group k (ap (λ (x : Live). is_
 pub at_member : (w : World) (group number : ℕ) (next : Option ℕ) → next ≡ Some number → IsAmong itself (members w group) next → Onward itself (members w group) number next
 at_member w group number next is among = onward itself 1 (members w group) number next (members_rise w group) is among
 
-first_is_least : (w : World) (group : ℕ) (next : Option ℕ) → next ≡ first_member w group → next ≡ slice_get (members w group) 0
+pub first_is_least : (w : World) (group : ℕ) (next : Option ℕ) → next ≡ first_member w group → next ≡ slice_get (members w group) 0
 first_is_least w group next is = is ∙ sym (least_member w group) ∙ first_found (members w group)
 
 first_whole : (w : World) (group : ℕ) (next : Option ℕ) → next ≡ first_member w group → rest itself (members w group) next ≡ members w group
@@ -120,9 +150,3 @@ counts_noticed w group number next after count more noticed is test one_more fou
 pub few_noticed : (w : World) (group : ℕ) (next : Option ℕ) (count : ℕ) → CountingNoticed w group next count → count ≤ length w.objects
 few_noticed w group next count k =
     omega (arith, k.counted, few_that (is_member group) w.objects, length-filter (is_object_that (gets_notice group) w.objects) (members w group), count_by-le-length (is_object_that (gets_notice group) w.objects) (members w group))
-
--- what stands in the list of a group was made
-pub made_among : (numbers : List ℕ) (group number : ℕ) (os : List ObjectRow) (next : Option ℕ) → numbers ≡ objects_that (is_member group) os → next ≡ Some number → IsAmong itself numbers next → number ≤ length os
-made_among numbers group number os next listed is among =
-    let there : find (λ n. n == number) (objects_that (is_member group) os) ≡ Some number = ap (find (λ n. n == number)) (sym listed) ∙ subst (IsAmong itself numbers) is among in
-    (that_made (is_member group) os number (find_all (λ n. is_object_that (is_member group) os n ≡ true) (λ n. n == number) number (objects_that (is_member group) os) (all_pass (is_object_that (is_member group) os) (numbers_in os)) there)).1

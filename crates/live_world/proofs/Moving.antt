@@ -1,5 +1,5 @@
 -- What the parts show after each change, and that they keep their invariant.
-use Rattle.std.proofs.Common.{◌≡◌, ◌≢◌, ℕ, ◌+◌, ◌-◌, ◌<◌, ◌≤◌, Bool, true, false, cond, not, ◌&&◌, ◌==◌, List, [], ◌∷◌, ◌++◌, length, map, slice_get, slice_set, Option, Some, None, is_some, IsSomeAnd, refl, sym, ap, ap₂, ◌∙◌, subst, arith, filter, find, option_map, length-set, length-append, ltb-false}
+use Rattle.std.proofs.Common.{◌≡◌, ◌≢◌, ℕ, ◌+◌, ◌-◌, ◌<◌, ◌≤◌, Bool, true, false, cond, not, ◌&&◌, ◌==◌, List, [], ◌∷◌, ◌++◌, length, map, slice_get, slice_set, Option, Some, None, is_some, IsSomeAnd, refl, sym, ap, ap₂, ◌∙◌, subst, arith, filter, find, length-set, length-append, ltb-false}
 use Rattle.std.proofs.lemmas.List.{length-map, map-set}
 use Rattle.std.proofs.lemmas.List.Sums.{length-filter, count_by-le-length}
 use Rattle.tp_base.specs.declared.ids.PoolId.{PoolId}
@@ -11,13 +11,12 @@ use Rattle.tp_base.specs.declared.plans.Change.TheVariants as change
 use Rattle.tp_base.specs.declared.rows.CallbackRow.{CallbackRow}
 use Rattle.tp_base.specs.declared.rows.WorkerRow.{WorkerRow}
 use Rattle.tp_base.specs.declared.rows.ClientRow.{ClientRow}
-use Rattle.live_callbacks.specs.Callbacks.{Callbacks, MovesOn, is_tied}
+use Rattle.live_callbacks.specs.Callbacks.{Callbacks, MovesOn, all_but, is_tied}
 use Rattle.handle_table.specs.Table.{Table}
 use Rattle.pool_rows.specs.Pools.{Pools, worker_of, with_worker as with_kept_worker}
 use Rattle.pool_rows.specs.Workers.{IsIdle, idle_in, unattached as unattached_row}
 use Rattle.pool_rows.specs.declared.WorkerRow as kept
-use Rattle.cancel_wait.specs.Rising.{all_but}
-use Rattle.cancel_wait.specs.Covers.{Covers}
+use Rattle.begun_waits.specs.Begun.{Begun}
 use Rattle.kernel_events.specs.Kernels.{Kernels}
 use Rattle.tp_base.specs.declared.answers.TakeResult.{TakeResult}
 use Rattle.tp_base.specs.declared.ids.ObjectId.{ObjectId}
@@ -42,7 +41,7 @@ use Rattle.live_world.specs.declared.LiveWorld.TheInside.{Inside}
 use Rattle.live_world.specs.Live.{Live, moved}
 use Rattle.live_world.specs.Parts.{world_of, shown_worker}
 use Rattle.live_world.specs.View.{shown, IsLiveWorld}
-use Rattle.live_world.specs.Invariant.{AreSized, AreLive, AreTallied, AreCovered, AreTimed, AreKernels, AreSlotted, AreWanted, AreGrouped, AreMembered, AreClosing, IsHome, AreMarked}
+use Rattle.live_world.specs.Invariant.{AreSized, AreLive, AreTallied, AreCovered, AreTimed, AreKernels, AreSlotted, AreGrouped, AreMembered, IsHome, AreMarked}
 use Rattle.live_world.proofs.Alive.{alive_more, alive_replaced, alive_less, removed_rows}
 use Rattle.live_world.proofs.Covered.{covered_less, covered_lives, covered_more}
 use Rattle.live_world.proofs.Tallied.{AreApart, is_behind, runs_nothing, runs_this, worker_changed, tallied_more, tallied_free, tallied_still, tallied_lives, still_apart, marked_replaced, marked_others}
@@ -55,14 +54,12 @@ pub record After (i : Inside) (v : World) : Type 0 where
   pub sized : AreSized i.limits i.pools i.objects i.clients.items
   pub alive : AreLive i.limits i.callbacks
   pub tallied : AreTallied i.callbacks.rows i.pools.workers
-  pub covered : AreCovered i.limits i.callbacks.rows i.waits.waits i.barriers
+  pub covered : AreCovered i.limits i.callbacks.rows i.waits i.callbacks.held
   pub timed : AreTimed i.limits i.objects i.timers
   pub kernels : AreKernels i.limits i.kernels
   pub slotted : AreSlotted i.limits i.callbacks.rows i.kernels i.armed
-  pub wanted : AreWanted i.limits i.waits.waits i.wanted.items
   pub grouped : AreGrouped i.limits i.groups
   pub membered : AreMembered i.limits i.objects i.members
-  pub closing : AreClosing i.limits i.waits.waits i.closing.items i.notices
 
 -- they keep their invariant, and show this
 pub record Becomes (i : Inside) (l : Live) : Type 0 where
@@ -80,10 +77,8 @@ became_by j v s a =
         timed = a.timed;
         kernels = a.kernels;
         slotted = a.slotted;
-        wanted = a.wanted;
         grouped = a.grouped;
         membered = a.membered;
-        closing = a.closing;
         sound = subst (λ w. IsSound (j.made + 1) w) (sym a.shows) (forget_sound (j.made + 1) v s);
       };
       becomes = ap (λ (w : World). record { world = w; made = j.made }) a.shows;
@@ -100,6 +95,23 @@ moved_by i j l ch is k allowed counts after =
     record {
       keeps = b.keeps;
       becomes = b.becomes ∙ ap (λ (n : ℕ). record { world = forget (changed w ch); made = n }) counts ∙ ap (λ (x : Live). moved x ch) is;
+    }
+
+-- the waits change, what they hold, and the kernel objects that they take
+pub waits_after : (i : Inside) (held : List (List ℕ)) (waits : Begun) (kernels : Kernels) → IsLiveWorld i → AreKernels i.limits kernels → AreSlotted i.limits i.callbacks.rows kernels i.armed → AreCovered i.limits i.callbacks.rows waits held
+    → After (record i { callbacks = record i.callbacks { held = held }; waits = waits; kernels = kernels }) (record (shown i).world { waits = waits.waits; given_up = waits.given_up; kernels = kernels.rows; armings = kernels.armed })
+waits_after i held waits kernels k standing slotted covered =
+    record {
+      shows = ap (λ ds. record (shown i).world { callbacks = ds; waits = waits.waits; given_up = waits.given_up; kernels = kernels.rows; armings = kernels.armed }) (sym k.alive.live);
+      sized = k.sized;
+      alive = record { slot_limit = k.alive.slot_limit; pool_limit = k.alive.pool_limit; object_limit = k.alive.object_limit; live = k.alive.live };
+      tallied = k.tallied;
+      covered = covered;
+      timed = k.timed;
+      kernels = standing;
+      slotted = slotted;
+      grouped = k.grouped;
+      membered = k.membered;
     }
 
 -- ---- slots
@@ -156,10 +168,8 @@ free_after i number row new target k is idle none home shows =
       timed = k.timed;
       kernels = k.kernels;
       slotted = k.slotted;
-      wanted = k.wanted;
       grouped = k.grouped;
       membered = k.membered;
-      closing = k.closing;
       covered = k.covered;
       tallied = tallied_free i.callbacks.rows i.pools.workers (number - 1) row new is idle none k.tallied;
     }
@@ -218,32 +228,31 @@ tallied_same i r c k found pool long ran =
 
 -- ---- callbacks, workers and what waits hold change
 
-abbrev pub with_changed : Inside → Pools → Callbacks → Covers → ℕ → Inside
-with_changed i pools callbacks barriers made = record i { pools = pools; callbacks = callbacks; barriers = barriers; made = made }
+abbrev pub with_changed : Inside → Pools → Callbacks → ℕ → Inside
+with_changed i pools callbacks made = record i { pools = pools; callbacks = callbacks; made = made }
 
 abbrev pub with_workers : Inside → List kept.WorkerRow → Pools
 with_workers i workers = record i.pools { workers = workers }
 
--- a number leaves each wait
-abbrev pub left : Covers → ℕ → Covers
-left barriers number = record barriers { waits = map (option_map (all_but number)) barriers.waits }
+-- a callback leaves, and each wait lets it go
+abbrev pub without : Callbacks → ℕ → Callbacks
+without callbacks number = record callbacks { rows = filter (λ (x : CallbackRow). not (x.number == number)) callbacks.rows; held = map (all_but number) callbacks.held }
 
 -- what of the parts shows these callbacks and workers, of which those that live are kept
-record Shows (i : Inside) (workers : List kept.WorkerRow) (rows after : List CallbackRow) (ws : List WorkerRow) (barriers : Covers) : Type 0 where
+record Shows (i : Inside) (workers : List kept.WorkerRow) (rows after : List CallbackRow) (ws : List WorkerRow) (held : List (List ℕ)) : Type 0 where
   living : rows ≡ filter lives after
   shown_workers : map shown_worker workers ≡ ws
   sized : AreSized i.limits (with_workers i workers) i.objects i.clients.items
-  alive : AreLive i.limits (record i.callbacks { rows = rows })
+  alive : AreLive i.limits (record i.callbacks { rows = rows; held = held })
   tallied : AreTallied rows workers
   slotted : AreSlotted i.limits rows i.kernels i.armed
-  covered : AreCovered i.limits rows i.waits.waits barriers
+  covered : AreCovered i.limits rows i.waits held
 
-changed_after : (i : Inside) (pools : Pools) (workers : List kept.WorkerRow) (callbacks : Callbacks) (rows after : List CallbackRow) (ws : List WorkerRow) (barriers b : Covers) (n : ℕ) → IsLiveWorld i
-    → pools ≡ with_workers i workers → callbacks ≡ record i.callbacks { rows = rows } → barriers ≡ b → Shows i workers rows after ws b → After (with_changed i pools callbacks barriers n) (record (shown i).world { callbacks = after; workers = ws })
-changed_after i pools workers callbacks rows after ws barriers b n k ep ec eb s =
-    subst (λ x. After (with_changed i x callbacks barriers n) (record (shown i).world { callbacks = after; workers = ws })) (sym ep)
-    (subst (λ x. After (with_changed i (with_workers i workers) x barriers n) (record (shown i).world { callbacks = after; workers = ws })) (sym ec)
-    (subst (λ x. After (with_changed i (with_workers i workers) (record i.callbacks { rows = rows }) x n) (record (shown i).world { callbacks = after; workers = ws })) (sym eb)
+changed_after : (i : Inside) (pools : Pools) (workers : List kept.WorkerRow) (callbacks : Callbacks) (rows after : List CallbackRow) (ws : List WorkerRow) (held : List (List ℕ)) (n : ℕ) → IsLiveWorld i
+    → pools ≡ with_workers i workers → callbacks ≡ record i.callbacks { rows = rows; held = held } → Shows i workers rows after ws held → After (with_changed i pools callbacks n) (record (shown i).world { callbacks = after; workers = ws })
+changed_after i pools workers callbacks rows after ws held n k ep ec s =
+    subst (λ x. After (with_changed i x callbacks n) (record (shown i).world { callbacks = after; workers = ws })) (sym ep)
+    (subst (λ x. After (with_changed i (with_workers i workers) x n) (record (shown i).world { callbacks = after; workers = ws })) (sym ec)
     (record {
       shows = shows_along i workers rows after ws s.living s.shown_workers;
       sized = s.sized;
@@ -253,61 +262,64 @@ changed_after i pools workers callbacks rows after ws barriers b n k ep ec eb s 
       timed = k.timed;
       kernels = k.kernels;
       slotted = s.slotted;
-      wanted = k.wanted;
       grouped = k.grouped;
       membered = k.membered;
-      closing = k.closing;
-    })))
+    }))
+
+-- whatever waits hold
+alive_held : {limits : Limits} {callbacks : Callbacks} (held : List (List ℕ)) → AreLive limits callbacks → AreLive limits (record callbacks { held = held })
+alive_held held k = record { slot_limit = k.slot_limit; pool_limit = k.pool_limit; object_limit = k.object_limit; live = k.live }
 
 -- a callback goes on
-pub goes_on : (i : Inside) (r : CallbackRow) (pools : Pools) (workers : List kept.WorkerRow) (callbacks : Callbacks) (ws : List WorkerRow) (barriers b : Covers) → IsLiveWorld i → lives r ≡ true
-    → pools ≡ with_workers i workers → callbacks ≡ record i.callbacks { rows = replaced r i.callbacks.rows } → barriers ≡ b → map shown_worker workers ≡ ws → AreSized i.limits (with_workers i workers) i.objects i.clients.items
-    → AreTallied (replaced r i.callbacks.rows) workers → AreCovered i.limits (replaced r i.callbacks.rows) i.waits.waits b → After (with_changed i pools callbacks barriers i.made) (record (shown i).world { callbacks = replaced r i.callbacks.rows; workers = ws })
-goes_on i r pools workers callbacks ws barriers b k live ep ec eb ew sized tallied covered =
+pub goes_on : (i : Inside) (r : CallbackRow) (pools : Pools) (workers : List kept.WorkerRow) (callbacks : Callbacks) (ws : List WorkerRow) (held : List (List ℕ)) → IsLiveWorld i → lives r ≡ true
+    → pools ≡ with_workers i workers → callbacks ≡ record i.callbacks { rows = replaced r i.callbacks.rows; held = held } → map shown_worker workers ≡ ws → AreSized i.limits (with_workers i workers) i.objects i.clients.items
+    → AreTallied (replaced r i.callbacks.rows) workers → AreCovered i.limits (replaced r i.callbacks.rows) i.waits held → After (with_changed i pools callbacks i.made) (record (shown i).world { callbacks = replaced r i.callbacks.rows; workers = ws })
+goes_on i r pools workers callbacks ws held k live ep ec ew sized tallied covered =
     let alive_now = alive_replaced i.callbacks r live k.alive in
-    changed_after i pools workers callbacks (replaced r i.callbacks.rows) (replaced r i.callbacks.rows) ws barriers b i.made k ep ec eb
-    (record { living = sym alive_now.live; shown_workers = ew; sized = sized; alive = alive_now; tallied = tallied; slotted = slots_replaced r k.slotted; covered = covered })
+    changed_after i pools workers callbacks (replaced r i.callbacks.rows) (replaced r i.callbacks.rows) ws held i.made k ep ec
+    (record { living = sym alive_now.live; shown_workers = ew; sized = sized; alive = alive_held held alive_now; tallied = tallied; slotted = slots_replaced r k.slotted; covered = covered })
 
 -- and is over
-pub goes : (i : Inside) (r c : CallbackRow) (pools : Pools) (workers : List kept.WorkerRow) (callbacks : Callbacks) (ws : List WorkerRow) (barriers : Covers) → IsLiveWorld i → lives r ≡ false → find (has_number r.number) i.callbacks.rows ≡ Some c
-    → pools ≡ with_workers i workers → callbacks ≡ record i.callbacks { rows = filter (λ (x : CallbackRow). not (x.number == r.number)) i.callbacks.rows } → barriers ≡ left i.barriers r.number → map shown_worker workers ≡ ws → AreSized i.limits (with_workers i workers) i.objects i.clients.items
-    → AreMarked (filter (λ (x : CallbackRow). not (x.number == r.number)) i.callbacks.rows) workers → AreTallied (replaced r i.callbacks.rows) workers → After (with_changed i pools callbacks barriers i.made) (record (shown i).world { callbacks = replaced r i.callbacks.rows; workers = ws })
-goes i r c pools workers callbacks ws barriers k over found ep ec eb ew sized marks tallied =
+pub goes : (i : Inside) (r c : CallbackRow) (pools : Pools) (workers : List kept.WorkerRow) (callbacks : Callbacks) (ws : List WorkerRow) → IsLiveWorld i → lives r ≡ false → find (has_number r.number) i.callbacks.rows ≡ Some c
+    → pools ≡ with_workers i workers → callbacks ≡ without i.callbacks r.number → map shown_worker workers ≡ ws → AreSized i.limits (with_workers i workers) i.objects i.clients.items
+    → AreMarked (filter (λ (x : CallbackRow). not (x.number == r.number)) i.callbacks.rows) workers → AreTallied (replaced r i.callbacks.rows) workers → After (with_changed i pools callbacks i.made) (record (shown i).world { callbacks = replaced r i.callbacks.rows; workers = ws })
+goes i r c pools workers callbacks ws k over found ep ec ew sized marks tallied =
     let others : List CallbackRow = filter (λ (x : CallbackRow). not (x.number == r.number)) i.callbacks.rows in
+    let held : List (List ℕ) = map (all_but r.number) i.callbacks.held in
     let removed : others ≡ filter lives (replaced r i.callbacks.rows) = removed_rows i.callbacks r over k.alive in
-    changed_after i pools workers callbacks others (replaced r i.callbacks.rows) ws barriers (left i.barriers r.number) i.made k ep ec eb
+    changed_after i pools workers callbacks others (replaced r i.callbacks.rows) ws held i.made k ep ec
     (record {
       living = removed;
       shown_workers = ew;
       sized = sized;
-      alive = alive_less i.callbacks r over k.alive;
+      alive = alive_held held (alive_less i.callbacks r over k.alive);
       tallied = subst (λ cs. AreTallied cs workers) (sym removed) (tallied_lives (replaced r i.callbacks.rows) workers (subst (λ cs. AreMarked cs workers) removed marks) tallied);
       slotted = slots_fewer (λ (x : CallbackRow). not (x.number == r.number)) k.slotted;
-      covered = subst (λ cs. AreCovered i.limits cs i.waits.waits (left i.barriers r.number)) (sym removed)
+      covered = subst (λ cs. AreCovered i.limits cs i.waits held) (sym removed)
           (covered_lives (i.made + 1) (rising_replaced r 1 (i.made + 1) i.callbacks.rows k.sound.numbers) (covered_less r c over found k.covered));
     })
 
 -- or it ends where no worker runs it
-pub goes_idle : (i : Inside) (r c : CallbackRow) (callbacks : Callbacks) (barriers : Covers) → IsLiveWorld i → lives r ≡ false → r.number ≡ c.number → r.pool ≡ c.pool → r.long ≡ c.long → is_running c.status ≡ false → is_running r.status ≡ false → find (has_number r.number) i.callbacks.rows ≡ Some c
-    → callbacks ≡ record i.callbacks { rows = filter (λ (x : CallbackRow). not (x.number == r.number)) i.callbacks.rows } → barriers ≡ left i.barriers r.number
-    → After (with_changed i i.pools callbacks barriers i.made) (record (shown i).world { callbacks = replaced r i.callbacks.rows })
-goes_idle i r c callbacks barriers k over number pool long before after found ec eb =
+pub goes_idle : (i : Inside) (r c : CallbackRow) (callbacks : Callbacks) → IsLiveWorld i → lives r ≡ false → r.number ≡ c.number → r.pool ≡ c.pool → r.long ≡ c.long → is_running c.status ≡ false → is_running r.status ≡ false → find (has_number r.number) i.callbacks.rows ≡ Some c
+    → callbacks ≡ without i.callbacks r.number
+    → After (with_changed i i.pools callbacks i.made) (record (shown i).world { callbacks = replaced r i.callbacks.rows })
+goes_idle i r c callbacks k over number pool long before after found ec =
     let apart : AreApart r.number i.pools.workers = subst (λ n. AreApart n i.pools.workers) (sym number) (still_apart c i.callbacks.rows 1 i.pools.workers (ap (λ n. find (has_number n) i.callbacks.rows) (sym number) ∙ found) before k.sound.workers) in
-    goes i r c i.pools i.pools.workers callbacks (shown i).world.workers barriers k over found refl ec eb refl k.sized (marked_others r.number i.callbacks.rows i.pools.workers apart k.tallied.marked)
+    goes i r c i.pools i.pools.workers callbacks (shown i).world.workers k over found refl ec refl k.sized (marked_others r.number i.callbacks.rows i.pools.workers apart k.tallied.marked)
     (tallied_same i r c k found pool long (after ∙ sym before))
 
 -- a callback goes on where no worker begins or ends it
-pub goes_along : (i : Inside) (r c : CallbackRow) (callbacks : Callbacks) (barriers b : Covers) → IsLiveWorld i → lives r ≡ true → r.pool ≡ c.pool → r.long ≡ c.long → is_running r.status ≡ is_running c.status → find (has_number r.number) i.callbacks.rows ≡ Some c
-    → callbacks ≡ record i.callbacks { rows = replaced r i.callbacks.rows } → barriers ≡ b → AreCovered i.limits (replaced r i.callbacks.rows) i.waits.waits b
-    → After (with_changed i i.pools callbacks barriers i.made) (record (shown i).world { callbacks = replaced r i.callbacks.rows })
-goes_along i r c callbacks barriers b k live pool long ran found ec eb covered = goes_on i r i.pools i.pools.workers callbacks (shown i).world.workers barriers b k live refl ec eb refl k.sized (tallied_same i r c k found pool long ran) covered
+pub goes_along : (i : Inside) (r c : CallbackRow) (callbacks : Callbacks) (held : List (List ℕ)) → IsLiveWorld i → lives r ≡ true → r.pool ≡ c.pool → r.long ≡ c.long → is_running r.status ≡ is_running c.status → find (has_number r.number) i.callbacks.rows ≡ Some c
+    → callbacks ≡ record i.callbacks { rows = replaced r i.callbacks.rows; held = held } → AreCovered i.limits (replaced r i.callbacks.rows) i.waits held
+    → After (with_changed i i.pools callbacks i.made) (record (shown i).world { callbacks = replaced r i.callbacks.rows })
+goes_along i r c callbacks held k live pool long ran found ec covered = goes_on i r i.pools i.pools.workers callbacks (shown i).world.workers held k live refl ec refl k.sized (tallied_same i r c k found pool long ran) covered
 
 -- a callback comes
 pub comes : (i : Inside) (c : CallbackRow) (callbacks : Callbacks) → IsLiveWorld i → c.number ≡ i.made + 1 → lives c ≡ true → is_running c.status ≡ false → lacks_slots_for (shown i).world 1 ≡ false
-    → callbacks ≡ record i.callbacks { rows = i.callbacks.rows ++ c ∷ [] } → After (with_changed i i.pools callbacks i.barriers (i.made + 1)) (record (shown i).world { callbacks = i.callbacks.rows ++ c ∷ [] })
+    → callbacks ≡ record i.callbacks { rows = i.callbacks.rows ++ c ∷ [] } → After (with_changed i i.pools callbacks (i.made + 1)) (record (shown i).world { callbacks = i.callbacks.rows ++ c ∷ [] })
 comes i c callbacks k number live still room ec =
     let alive_now = alive_more i.callbacks c live k.alive in
-    changed_after i i.pools i.pools.workers callbacks (i.callbacks.rows ++ c ∷ []) (i.callbacks.rows ++ c ∷ []) (shown i).world.workers i.barriers i.barriers (i.made + 1) k refl ec refl
+    changed_after i i.pools i.pools.workers callbacks (i.callbacks.rows ++ c ∷ []) (i.callbacks.rows ++ c ∷ []) (shown i).world.workers i.callbacks.held (i.made + 1) k refl ec
     (record {
       living = sym alive_now.live;
       shown_workers = refl;

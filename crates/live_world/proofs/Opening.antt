@@ -14,16 +14,15 @@ use Rattle.tp_model.specs.World.{World, opening, unattached, unfinished}
 use Rattle.tp_model.specs.Support.Sound.{IsSound}
 use Rattle.tp_model.specs.Support.Remembered.{forget}
 use Rattle.tp_model.proofs.Sound.{opening_sound}
-use Rattle.live_world.specs.declared.begun.BegunWaits.{BegunWaits}
+use Rattle.begun_waits.specs.Begun.{Begun}
 use Rattle.live_world.specs.declared.objects.Object.{Object}
 use Rattle.live_world.specs.Parts.{world_of, shown_worker, is_timed_kind}
-use Rattle.live_world.specs.Invariant.{AreSized, AreLive, AreTallied, AreCovered, AreTimed, AreKernels, AreSlotted, AreWanted, AreGrouped, AreMembered, AreClosing, IsHome, IsMarked}
+use Rattle.live_world.specs.Invariant.{AreSized, AreLive, AreTallied, AreCovered, AreTimed, AreKernels, AreSlotted, AreGrouped, AreMembered, IsHome, IsMarked}
 use Rattle.live_world.specs.View.{shown}
-use Rattle.live_world.specs.Opening.{opened_pools, opened_groups, opened_objects, opened_members, opened_callbacks, opened_barriers, opened_notices, opened_timers, opened_kernels}
+use Rattle.live_world.specs.Opening.{opened_pools, opened_groups, opened_objects, opened_members, opened_callbacks, opened_waits, opened_timers, opened_kernels}
 use Rattle.live_world.specs.declared.groups.Group.{Group}
 use Rattle.live_world.specs.declared.LiveWorld.TheInside.{Inside}
 use Rattle.live_world.proofs.Moving.{Becomes}
-use Rattle.cancel_wait.specs.Covers.{Covers}
 use Rattle.tp_base.specs.declared.rows.CallbackRow.{CallbackRow}
 use Rattle.tp_base.specs.declared.rows.WorkerRow.{WorkerRow}
 use Rattle.live_world.proofs.Lists.{filter_none, map_replicate, length_replicate, all_replicate}
@@ -40,14 +39,10 @@ pub record IsOpened (i : Inside) : Type 0 where
   pub objects : i.objects ≡ opened_objects i.limits
   pub members : i.members ≡ opened_members i.limits
   pub callbacks : i.callbacks ≡ opened_callbacks i.limits
-  pub barriers : i.barriers ≡ opened_barriers i.limits
   pub timers : i.timers ≡ opened_timers i.limits
   pub clock : i.clock ≡ 0
   pub clients : i.clients.items ≡ replicate i.limits.clients unfinished
-  pub waits : i.waits ≡ record { waits = []; given_up = 0 }
-  pub wanted : i.wanted.items ≡ replicate (i.limits.clients + i.limits.workers) None
-  pub closing : i.closing.items ≡ replicate (i.limits.clients + i.limits.workers) None
-  pub notices : i.notices ≡ opened_notices i.limits
+  pub waits : i.waits ≡ opened_waits i.limits
   pub kernels : i.kernels ≡ opened_kernels i.limits
   pub armed : i.armed ≡ 0
   pub made : i.made ≡ 0
@@ -86,30 +81,24 @@ timed_opened limits =
       there = λ number. get_replicate false (limits.objects + 1) number ∙ elim (number == 0) as (λ b. false ≡ option_map_or (λ (m : Marked Object). not m.released && is_timed_kind m.row.kind) (cond b None (slice_get [] (number - 1))) false) [ true ↦ refl | false ↦ refl ];
     }
 
-covered_opened : (limits : Limits) → AreCovered limits [] [] (opened_barriers limits)
+covered_opened : (limits : Limits) → AreCovered limits [] (opened_waits limits) (opened_callbacks limits).held
 covered_opened limits =
     record {
-      waiters = length_replicate None (limits.clients + limits.workers);
-      barrier_slots = refl;
-      covered = λ who place at. get_replicate None (limits.clients + limits.workers) place;
-      waits_kept = tt;
+      waiters = length_replicate [] (limits.clients + limits.workers);
+      covered = λ who place at. get_replicate [] (limits.clients + limits.workers) place;
+      wait_limits = refl;
     }
 
-wanted_opened : (limits : Limits) → AreWanted limits [] (replicate (limits.clients + limits.workers) None)
-wanted_opened limits =
+membered_opened : (limits : Limits) → AreMembered limits (opened_objects limits) (opened_members limits)
+membered_opened limits =
+    let places = limits.groups + 1 in
+    let many : length (replicate places 0) ≡ places = length_replicate 0 places in
     record {
-      wanting = length_replicate None (limits.clients + limits.workers);
-      wants = λ who place at. get_replicate None (limits.clients + limits.workers) place;
-    }
-
-closing_opened : (limits : Limits) → AreClosing limits [] (replicate (limits.clients + limits.workers) None) (opened_notices limits)
-closing_opened limits =
-    record {
-      closers = length_replicate None (limits.clients + limits.workers);
-      notifiers = length_replicate None (limits.clients + limits.workers);
-      notice_slots = refl;
-      closes = λ who place at. get_replicate None (limits.clients + limits.workers) place;
-      noticed = λ who place at. get_replicate None (limits.clients + limits.workers) place;
+      group_lists = length_replicate [] places;
+      member_room = refl;
+      placed = omega (arith, many);
+      owners = length_replicate places places ∙ sym many;
+      membered = λ group le. get_replicate [] places group;
     }
 
 -- they keep their invariant, and show the opening world
@@ -122,7 +111,7 @@ opened i o =
     ap₂ (λ (p : Pools) (t : Table Object). world_of limits p i.groups t i.callbacks.rows i.kernels i.clients.items i.waits.waits i.timers.settings i.clock i.waits.given_up) o.pools o.objects
     ∙ ap (λ (g : Table Group). world_of limits (opened_pools limits) g (opened_objects limits) i.callbacks.rows i.kernels i.clients.items i.waits.waits i.timers.settings i.clock i.waits.given_up) o.groups
     ∙ ap₂ (λ (cs : List CallbackRow) (cl : List ClientRow). world_of limits (opened_pools limits) (opened_groups limits) (opened_objects limits) cs i.kernels cl i.waits.waits i.timers.settings i.clock i.waits.given_up) rows o.clients
-    ∙ ap₂ (λ (bs : BegunWaits) (ws : List WorkerRow). record (opening limits) { kernels = i.kernels.rows; armings = i.kernels.armed; waits = bs.waits; given_up = bs.given_up; workers = ws; settings = i.timers.settings; now = i.clock }) o.waits shown_workers
+    ∙ ap₂ (λ (bs : Begun) (ws : List WorkerRow). record (opening limits) { kernels = i.kernels.rows; armings = i.kernels.armed; waits = bs.waits; given_up = bs.given_up; workers = ws; settings = i.timers.settings; now = i.clock }) o.waits shown_workers
     ∙ ap₂ (λ (t : Timers) (n : ℕ). record (opening limits) { kernels = i.kernels.rows; armings = i.kernels.armed; settings = t.settings; now = n }) o.timers o.clock
     ∙ ap (λ (t : Kernels). record (opening limits) { kernels = t.rows; armings = t.armed }) o.kernels in
     record {
@@ -131,13 +120,11 @@ opened i o =
         alive = subst (λ c. AreLive limits c) (sym o.callbacks) (record { slot_limit = refl; pool_limit = refl; object_limit = refl; live = refl });
         tallied = both (λ cs ws. AreTallied cs ws) rows (ap (λ (p : Pools). p.workers) o.pools) (tallied_opened limits);
         timed = subst (λ n. AreTimed limits i.objects n) (sym o.timers) (subst (λ t. AreTimed limits t (opened_timers limits)) (sym o.objects) (timed_opened limits));
-        covered = both (λ cs b. AreCovered limits cs i.waits.waits b) rows o.barriers (subst (λ (bs : BegunWaits). AreCovered limits [] bs.waits (opened_barriers limits)) (sym o.waits) (covered_opened limits));
+        covered = both (λ (c : Callbacks) (bs : Begun). AreCovered limits c.rows bs c.held) o.callbacks o.waits (covered_opened limits);
         kernels = subst (λ (t : Kernels). AreKernels limits t) (sym o.kernels) (record { kernel_limit = refl; kernels_within = omega arith; armed_limit = refl; once = tt });
         slotted = both (λ cs n. AreSlotted limits cs i.kernels n) rows o.armed (subst (λ (t : Kernels). AreSlotted limits [] t 0) (sym o.kernels) (record { counted = refl; slots = omega arith }));
-        wanted = both (λ (bs : BegunWaits) ks. AreWanted limits bs.waits ks) o.waits o.wanted (wanted_opened limits);
         grouped = subst (λ (t : Table Group). AreGrouped limits t) (sym o.groups) (record { group_limit = refl; groups_within = omega arith });
-        membered = both (λ t m. AreMembered limits t m) o.objects o.members (record { group_keys = refl; member_slots = refl; membered = refl });
-        closing = both (λ (bs : BegunWaits) ks. AreClosing limits bs.waits ks i.notices) o.waits o.closing (subst (λ (t : Covers). AreClosing limits [] (replicate (limits.clients + limits.workers) None) t) (sym o.notices) (closing_opened limits));
+        membered = both (λ t m. AreMembered limits t m) o.objects o.members (membered_opened limits);
         sound = both (λ w n. IsSound (n + 1) w) world_now o.made (opening_sound limits);
       };
       becomes = ap₂ (λ (w : World) (n : ℕ). record { world = w; made = n }) world_now o.made;

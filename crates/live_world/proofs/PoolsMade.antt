@@ -49,10 +49,8 @@ pools_moved i l ch pools rows is k allowed none same now more within =
       timed = k.timed;
       kernels = k.kernels;
       slotted = k.slotted;
-      wanted = k.wanted;
       grouped = k.grouped;
       membered = k.membered;
-      closing = k.closing;
     })))
 
 pub pool_made : (i : Inside) (l : Live) (pools : Pools) → shown i ≡ l → IsLiveWorld i → IsAllowed (l.made + 1) l.world change.CreatePool → pools ≡ record i.pools { pools = i.pools.pools ++ made_pool (length i.pools.workers) ∷ [] }

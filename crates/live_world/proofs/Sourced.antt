@@ -60,10 +60,8 @@ sources_set i l s kernels timers armed is k a kernels_now timers_now armed_now =
       timed = record { timer_limit = k.timed.timer_limit; places = k.timed.places; there = k.timed.there };
       kernels = record { kernel_limit = k.kernels.kernel_limit; kernels_within = omega (arith, a.long, k.kernels.kernels_within); armed_limit = k.kernels.armed_limit; once = a.once };
       slotted = record { counted = refl; slots = a.slots };
-      wanted = k.wanted;
       grouped = k.grouped;
       membered = k.membered;
-      closing = k.closing;
     })))) in
     record { keeps = b.keeps; becomes = b.becomes ∙ ap (λ (x : Live). with_sources x s) is }
 

@@ -27,7 +27,7 @@ use Rattle.tp_model.proofs.Refusals.{both, and_false, false_true}
 use Rattle.live_world.specs.declared.LiveWorld.TheInside.{Inside}
 use Rattle.live_world.specs.Live.{Live}
 use Rattle.live_world.specs.View.{shown, IsLiveWorld}
-use Rattle.live_world.specs.Parts.{closing_by, closing_of}
+use Rattle.begun_waits.specs.Begun.{closing_by, closing_of}
 use Rattle.live_world.specs.Waiting.{held_by, is_pending_for, pending_of}
 use Rattle.live_world.proofs.Along.{first_passes, first_by_number}
 use Rattle.live_world.proofs.Moving.{pending_tied}

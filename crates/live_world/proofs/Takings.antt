@@ -21,7 +21,7 @@ use Rattle.tp_model.specs.Support.Ranged.{AreTakenAtMost}
 use Rattle.tp_model.proofs.Kernels.{that_stands}
 use Rattle.tp_model.proofs.Lists.{all_get}
 use Rattle.tp_model.proofs.Refusals.{numbered_some}
-use Rattle.live_world.specs.Parts.{kernel_in, wanted_by}
+use Rattle.begun_waits.specs.Begun.{kernel_in, wanted_by}
 use Rattle.live_world.specs.Taking.{IsFreeFor, rows_left}
 
 -- a changed row, as the table tells it and as the model does

@@ -23,7 +23,7 @@ module _ {X : Type 0} (key : X → ℕ) where
   IsAmong xs None = Unit {0}
   IsAmong xs (Some x) = find (λ y. key y == key x) xs ≡ Some x
 
-  above : (low : ℕ) (xs : List X) → Rises low xs → AllByRecursion (λ x. low ≤ key x) xs
+  pub above : (low : ℕ) (xs : List X) → Rises low xs → AllByRecursion (λ x. low ≤ key x) xs
   above low [] r = tt
   above low (x ∷ xs) r = (r.0, all_along (λ y. key x + 1 ≤ key y) (λ y. low ≤ key y) (λ y le. omega (arith, le, r.0)) xs (above (key x + 1) xs r.1))
 

@@ -1,23 +1,25 @@
 -- Closes of groups: which callbacks and objects are a group's, and what a close leaves.
-use Rattle.std.specs.Prelude.{◌≡◌, ℕ, Bool, ◌&&◌, ◌==◌, nat_lt, List, [], ◌∷◌, ◌++◌, map, length, get_or, if◌then◌else◌, option_map, Option, None, Some}
-use Rattle.std.specs.List.{filter}
+use Rattle.std.specs.Prelude.{◌≡◌, ◌<◌, ℕ, Bool, true, false, ◌&&◌, ◌==◌, nat_lt, List, [], ◌∷◌, ◌++◌, map, length, if◌then◌else◌, Option, None, Some}
+use Rattle.std.specs.List.{AllByRecursion, filter}
 use Rattle.tp_base.specs.declared.ids.Who.{Who}
 use Rattle.tp_base.specs.declared.ids.GroupId.{GroupId}
+use Rattle.tp_base.specs.declared.ids.ObjectId.{ObjectId}
 use Rattle.tp_base.specs.declared.rows.ObjectRow.{ObjectRow}
 use Rattle.tp_base.specs.declared.rows.CallbackRow.{CallbackRow}
 use Rattle.tp_base.specs.declared.rows.WaitTarget.TheVariants.{Group}
-use Rattle.handle_table.specs.Table.{Table}
-use Rattle.cancel_wait.specs.Rising.{all_but}
-use Rattle.cancel_wait.specs.Covers.{Covers, wait_of}
-use Rattle.tp_model.specs.World.{World}
+use Rattle.live_callbacks.specs.Callbacks.{Callbacks, all_but, held_of}
+use Rattle.begun_waits.specs.declared.Closing.{Closing}
+use Rattle.begun_waits.specs.Begun.{Begun, actor_at, closing_by, wait_among, with_notices}
+use Rattle.tp_model.specs.World.{World, BegunWait}
+use Rattle.tp_base.specs.Actors.{is_same_actor}
+use Rattle.tp_model.specs.Conditions.{is_in_wait}
 use Rattle.tp_model.specs.Counts.{is_operating}
 use Rattle.tp_model.specs.Changes.{new_close}
-use Rattle.tp_model.specs.Groups.{gets_notice, is_member, is_object_that, objects_that, without_members, notices_of}
-use Rattle.tp_model.specs.Waits.{is_cancelled_by, cancel_where}
-use Rattle.live_world.specs.declared.closing.Closing.{Closing}
-use Rattle.live_world.specs.declared.objects.Object.{Object}
+use Rattle.tp_model.specs.Groups.{is_member, is_object_that, notices_of, without_members}
+use Rattle.tp_model.specs.Laws.Entries.{is_among}
+use Rattle.tp_model.specs.Support.Sound.{is_left_among}
+use Rattle.tp_model.specs.Waits.{cancel_where, is_cancelled_by, is_group_target}
 use Rattle.live_world.specs.Live.{Live, with_world}
-use Rattle.live_world.specs.Parts.{shown_object}
 
 -- the callback is of the group
 abbrev pub is_of_group : GroupId → CallbackRow → Bool
@@ -36,18 +38,14 @@ abbrev pub numbers_of_group : List CallbackRow → GroupId → List ℕ
 numbers_of_group callbacks group = map (λ (c : CallbackRow). c.number) (filter (is_of_group group) callbacks)
 
 -- a callback that is disassociated leaves each wait that closes no group
-abbrev pub left_at : ℕ → Option Closing → Option (List ℕ) → Option (List ℕ)
-left_at number None wait = option_map (all_but number) wait
-left_at number (Some closing) wait = wait
+abbrev pub left_at : ℕ → Option Closing → List ℕ → List ℕ
+left_at number None numbers = all_but number numbers
+left_at number (Some closing) numbers = numbers
 
-pub record IsLeft (number : ℕ) (closing : List (Option Closing)) (old new : Covers) : Type 0 where
-  pub slots : new.slots ≡ old.slots
-  pub waiters : length new.waits ≡ length old.waits
-  pub left : (place : ℕ) → wait_of new place ≡ left_at number (get_or closing place None) (wait_of old place)
-
--- the members that have a cancel routine, of which a close gives notices
-abbrev pub numbers_noticed : Table Object → GroupId → Bool → List ℕ
-numbers_noticed objects group cancel = if cancel then objects_that (gets_notice group.0) (map shown_object objects.rows) else []
+pub record IsLeft (number : ℕ) (waits : Begun) (old new : Callbacks) : Type 0 where
+  pub rest : new ≡ record old { held = new.held }
+  pub waiters : length new.held ≡ length old.held
+  pub left : (place : ℕ) → place < length old.held → held_of new place ≡ left_at number (closing_by (wait_among waits.waits (actor_at waits.limits place))) (held_of old place)
 
 -- ---- the steps of a close
 
@@ -55,10 +53,24 @@ numbers_noticed objects group cancel = if cancel then objects_that (gets_notice 
 abbrev pub settled_group : Live → GroupId → Bool → Live
 settled_group l group cancel = with_world l (record l.world { callbacks = cancel_where (is_cancelled_by (Group group) cancel) l.world.callbacks })
 
--- the wait begun, with its notices
+-- the wait begun, with no notices yet
 abbrev pub begin_close_wait : World → Who → GroupId → Bool → ℕ → World
-begin_close_wait w who group cancel context = record w { waits = w.waits ++ new_close who group cancel context (notices_of w group.0 cancel) w.callbacks ∷ [] }
+begin_close_wait w who group cancel context = record w { waits = w.waits ++ new_close who group cancel context [] w.callbacks ∷ [] }
 
--- the members released
-abbrev pub released_members : Live → GroupId → Live
-released_members l group = with_world l (without_members l.world group.0)
+-- its notices noted
+abbrev pub noted : Live → Who → List ObjectId → Live
+noted l who objects = with_world l (record l.world { waits = with_notices who objects l.world.waits })
+
+-- the members released, and noted for the actor's wait, if they are to get notices
+abbrev pub closed_members : Live → Who → GroupId → Bool → Live
+closed_members l who group cancel = with_world l (record (without_members l.world group.0) { waits = with_notices who (notices_of l.world group.0 cancel) l.world.waits })
+
+-- a wait may have notices where it is for a group, and covers nothing that may still be run
+pub record MayHaveNotices (callbacks : List CallbackRow) (b : BegunWait) : Type 0 where
+  pub closes : is_group_target b.target ≡ true
+  pub settled : (number : ℕ) → is_left_among callbacks b.target number ≡ true → is_among number b.covered ≡ false
+
+-- the actor has begun one, and it may
+pub record MayNote (w : World) (who : Who) : Type 0 where
+  pub begun : is_in_wait w who ≡ true
+  pub may : AllByRecursion (λ (b : BegunWait). is_same_actor b.actor who ≡ true → MayHaveNotices w.callbacks b) w.waits

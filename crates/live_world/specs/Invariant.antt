@@ -1,10 +1,9 @@
 -- What the parts of a live world keep between calls: each index and each counter says of the rows what it is for. Each
 -- record speaks of the parts that it ties and of no others.
-use Rattle.std.specs.Prelude.{◌≡◌, ◌≢◌, ℕ, ◌+◌, ◌<◌, ◌≤◌, Bool, true, false, List, [], ◌∷◌, length, get_or, Option, None, Some, IfSome, is_some, option_map}
+use Rattle.std.specs.Prelude.{◌≡◌, ◌≢◌, ℕ, ◌+◌, ◌<◌, ◌≤◌, Bool, false, List, [], ◌∷◌, length, map, Some, IfSome, slice_index_or}
 use Rattle.std.specs.List.{filter, find, AllByRecursion}
 use Rattle.tp_base.specs.declared.ids.Who.{Who}
 use Rattle.tp_base.specs.declared.ids.PoolId.{PoolId}
-use Rattle.tp_base.specs.declared.ids.KernelId.{KernelId}
 use Rattle.tp_base.specs.declared.limits.Limits.{Limits}
 use Rattle.tp_base.specs.declared.rows.ClientRow.{ClientRow}
 use Rattle.tp_base.specs.declared.rows.CallbackRow.{CallbackRow}
@@ -12,20 +11,19 @@ use Rattle.tp_base.specs.declared.rows.Arming.{Arming}
 use Rattle.tp_base.specs.Armings.{is_armed}
 use Rattle.tp_base.specs.Ranges.{AreLimitsInRange}
 use Rattle.handle_table.specs.Table.{Table}
-use Rattle.keyed_lists.specs.Keyed.{Keyed}
+use Rattle.linked_lists.specs.Linked.{Linked, list_of}
 use Rattle.live_callbacks.specs.Callbacks.{Callbacks}
-use Rattle.cancel_wait.specs.Covers.{Covers, wait_of}
 use Rattle.pool_rows.specs.Pools.{Pools}
 use Rattle.pool_rows.specs.Workers.{runs_in, runs_long_in}
 use Rattle.pool_rows.specs.declared.WorkerRow.{WorkerRow}
 use Rattle.timer_objects.specs.Settings.{Timers, is_there}
 use Rattle.kernel_events.specs.Kernels.{Kernels}
 use Rattle.tp_model.specs.Counts.{has_number, is_pending, is_running, is_running_in, is_running_long_in}
-use Rattle.tp_model.specs.World.{BegunWait}
+use Rattle.begun_waits.specs.Begun.{Begun, place_of, wait_among}
 use Rattle.tp_model.specs.Support.Remembered.{lives}
-use Rattle.live_world.specs.Parts.{held_among, wait_among, wanted_by, closing_by, notices_by, place_of, is_timed, members_from}
+use Rattle.tp_model.specs.Groups.{is_member, objects_that}
+use Rattle.live_world.specs.Parts.{held_for, is_timed, places_of, shown_object}
 use Rattle.live_world.specs.declared.groups.Group.{Group}
-use Rattle.live_world.specs.declared.closing.Closing.{Closing}
 use Rattle.live_world.specs.declared.objects.Object.{Object}
 
 abbrev pub is_pending_callback : CallbackRow → Bool
@@ -70,16 +68,11 @@ pub record AreTallied (callbacks : List CallbackRow) (workers : List WorkerRow) 
   pub run : (pool : ℕ) → length (filter (is_running_in pool) callbacks) ≡ length (filter (runs_in pool) workers)
   pub run_long : (pool : ℕ) → length (filter (is_running_long_in pool) callbacks) ≡ length (filter (runs_long_in pool) workers)
 
--- an actor of the machine waits
-abbrev pub IsWaitKept : Limits → BegunWait → Type 0
-IsWaitKept limits b = is_some (place_of limits b.actor) ≡ true
-
--- the barriers hold of each begun wait exactly what it still holds
-pub record AreCovered (limits : Limits) (callbacks : List CallbackRow) (waits : List BegunWait) (barriers : Covers) : Type 0 where
-  pub waiters : length barriers.waits ≡ limits.clients + limits.workers
-  pub barrier_slots : barriers.slots ≡ limits.slots
-  pub covered : (who : Who) (place : ℕ) → place_of limits who ≡ Some place → wait_of barriers place ≡ option_map (held_among callbacks) (wait_among waits who)
-  pub waits_kept : AllByRecursion (IsWaitKept limits) waits
+-- the begun waits are those of this machine, and by the place of each actor there is exactly what its wait still holds
+pub record AreCovered (limits : Limits) (callbacks : List CallbackRow) (waits : Begun) (held : List (List ℕ)) : Type 0 where
+  pub wait_limits : waits.limits ≡ limits
+  pub waiters : length held ≡ limits.clients + limits.workers
+  pub covered : (who : Who) (place : ℕ) → place_of limits who ≡ Some place → slice_index_or held place [] ≡ held_for callbacks (wait_among waits.waits who)
 
 -- what may have a setting are the timers and the wait objects that aren't released
 pub record AreTimed (limits : Limits) (objects : Table Object) (timers : Timers) : Type 0 where
@@ -104,26 +97,15 @@ pub record AreSlotted (limits : Limits) (callbacks : List CallbackRow) (kernels 
   pub counted : armed ≡ length kernels.armed
   pub slots : length callbacks + length kernels.armed ≤ limits.slots
 
--- it is noted of each actor for which kernel object it waits, if it waits for one
-pub record AreWanted (limits : Limits) (waits : List BegunWait) (wanted : List (Option KernelId)) : Type 0 where
-  pub wanting : length wanted ≡ limits.clients + limits.workers
-  pub wants : (who : Who) (place : ℕ) → place_of limits who ≡ Some place → get_or wanted place None ≡ wanted_by (wait_among waits who)
-
--- the lists of groups hold exactly the members, by rising number
-pub record AreMembered (limits : Limits) (objects : Table Object) (members : Keyed) : Type 0 where
-  pub group_keys : members.keys ≡ limits.groups + 1
-  pub member_slots : members.slots ≡ limits.objects
-  pub membered : members.entries ≡ members_from limits.groups 1 objects.rows
+-- each object has a place, and a group's list has the places of exactly its members, by rising number
+pub record AreMembered (limits : Limits) (objects : Table Object) (members : Linked) : Type 0 where
+  pub group_lists : length members.lists ≡ limits.groups + 1
+  pub member_room : members.room ≡ limits.groups + 1 + limits.objects
+  pub placed : length members.numbers ≡ limits.groups + 1 + length objects.rows
+  pub owners : length members.owners ≡ length members.numbers
+  pub membered : (group : ℕ) → group ≤ limits.groups → list_of members group ≡ places_of limits.groups (objects_that (is_member group) (map shown_object objects.rows))
 
 -- there are as many groups as the limits say, or fewer
 pub record AreGrouped (limits : Limits) (groups : Table Group) : Type 0 where
   pub group_limit : groups.limit ≡ limits.groups
   pub groups_within : length groups.rows ≤ limits.groups
-
--- it is noted of each actor which group its wait closes, if it closes one, and of which objects it still has notices
-pub record AreClosing (limits : Limits) (waits : List BegunWait) (closing : List (Option Closing)) (notices : Covers) : Type 0 where
-  pub closers : length closing ≡ limits.clients + limits.workers
-  pub notifiers : length notices.waits ≡ limits.clients + limits.workers
-  pub notice_slots : notices.slots ≡ limits.objects
-  pub closes : (who : Who) (place : ℕ) → place_of limits who ≡ Some place → get_or closing place None ≡ closing_by (wait_among waits who)
-  pub noticed : (who : Who) (place : ℕ) → place_of limits who ≡ Some place → wait_of notices place ≡ notices_by (wait_among waits who)

@@ -7,6 +7,7 @@ pub mod Live
 pub mod Opening
 pub mod Parts
 pub mod Performing
+pub mod Steps
 pub mod Taking
 pub mod Tally
 pub mod Uses

@@ -1,15 +1,11 @@
 -- The world that the parts of an engine show.
-use Rattle.std.specs.Prelude.{ℕ, ◌+◌, ◌-◌, ◌==◌, ◌&&◌, ◌||◌, Bool, false, not, nat_le, List, [], ◌∷◌, ◌++◌, map, if◌then◌else◌, option_map, Option, None, Some}
+use Rattle.std.specs.Prelude.{◌≡◌, ℕ, Option, ◌+◌, ◌<◌, ◌≤◌, ◌==◌, ◌&&◌, ◌||◌, Bool, false, not, nat_le, List, [], ◌∷◌, ◌++◌, length, map, if◌then◌else◌, None, Some}
 use Rattle.std.specs.List.{filter, find}
 use Rattle.std.specs.Option.{option_map_or}
-use Rattle.tp_base.specs.declared.ids.Who.{Who}
-use Rattle.tp_base.specs.declared.ids.Who.TheVariants.{Client, Worker}
-use Rattle.tp_base.specs.declared.ids.KernelId.{KernelId}
 use Rattle.tp_base.specs.declared.ids.GroupId.{GroupId}
-use Rattle.tp_base.specs.declared.ids.ObjectId.{ObjectId}
 use Rattle.tp_base.specs.declared.rows.WaitTarget.{WaitTarget}
-use Rattle.tp_base.specs.declared.rows.WaitTarget.TheVariants.{Object, Group, Kernel}
-use Rattle.keyed_lists.specs.Keyed as keyed
+use Rattle.linked_lists.specs.Linked.{Linked, list_of, moved, owner_of}
+use Rattle.linked_lists.specs.Moved.{without}
 use Rattle.tp_base.specs.declared.limits.Limits.{Limits}
 use Rattle.tp_base.specs.declared.rows.GroupRow.{GroupRow}
 use Rattle.tp_base.specs.declared.rows.ObjectRow.{ObjectRow}
@@ -25,11 +21,9 @@ use Rattle.pool_rows.specs.Pools.{Pools}
 use Rattle.pool_rows.specs.declared.WorkerRow as kept
 use Rattle.tp_model.specs.World.{World, BegunWait}
 use Rattle.tp_model.specs.Counts.{has_number}
-use Rattle.tp_base.specs.Actors.{is_same_actor}
 use Rattle.tp_model.specs.Conditions.{is_same_kind}
 use Rattle.tp_model.specs.Waits.{is_outstanding_for}
 use Rattle.live_world.specs.declared.groups.Group as made_group
-use Rattle.live_world.specs.declared.closing.Closing.{Closing}
 use Rattle.live_world.specs.declared.objects.Object as made
 
 abbrev pub shown_object : Marked made.Object → ObjectRow
@@ -68,18 +62,29 @@ is_timed_kind kind = is_same_kind kind Timer || is_same_kind kind Wait
 abbrev pub is_timed : Table made.Object → ℕ → Bool
 is_timed objects number = option_map_or (λ (m : Marked made.Object). not m.released && is_timed_kind m.row.kind) (numbered_row objects number) false
 
--- an object that isn't released is listed under its group, which is one of so many
-abbrev pub is_listed : ℕ → Marked made.Object → Bool
-is_listed groups m = not m.released && nat_le m.row.env.group.0 groups
+-- ---- the members of groups, in a list for each
 
--- the entries of the objects from this number on
-abbrev pub members_from : ℕ → ℕ → List (Marked made.Object) → List keyed.Entry
-members_from groups number [] = []
-members_from groups number (m ∷ ms) = if is_listed groups m then keyed.entry m.row.env.group.0 number ∷ members_from groups (number + 1) ms else members_from groups (number + 1) ms
+-- the places of objects, behind so many that are the lists' own besides list 0
+abbrev pub places_of : ℕ → List ℕ → List ℕ
+places_of groups numbers = map (λ n. groups + n) numbers
 
--- the lists with one more object, if its group is one of so many
-abbrev pub with_member : keyed.Keyed → ℕ → GroupId → ℕ → keyed.Keyed
-with_member members groups group number = if nat_le group.0 groups then record members { entries = members.entries ++ keyed.entry group.0 number ∷ [] } else members
+-- there is room for one more place, which is in no list
+pub record MayList (members : Linked) (groups : ℕ) : Type 0 where
+  pub lists : length members.lists ≡ groups + 1
+  pub room : length members.numbers < members.room
+  pub own : length members.lists ≤ length members.numbers
+  pub owners : length members.owners ≡ length members.numbers
+
+abbrev pub with_place : Linked → Linked
+with_place members = record members { numbers = members.numbers ++ 0 ∷ []; owners = members.owners ++ length members.lists ∷ [] }
+
+-- one more place, last in the group's list, if the group is one of so many
+abbrev pub with_member : Linked → ℕ → GroupId → Linked
+with_member members groups group = if nat_le group.0 groups then moved (with_place members) (length members.numbers) group.0 group.0 (list_of members group.0 ++ length members.numbers ∷ []) else with_place members
+
+-- the place is in no list
+abbrev pub without_member : Linked → ℕ → ℕ → Linked
+without_member members groups place = if nat_le (owner_of members place) groups then moved members place (length members.lists) (owner_of members place) (without place (list_of members (owner_of members place))) else members
 
 -- ---- what waits hold
 
@@ -90,41 +95,6 @@ is_held_among callbacks target number = option_map_or (is_outstanding_for target
 abbrev pub held_among : List CallbackRow → BegunWait → List ℕ
 held_among callbacks b = filter (is_held_among callbacks b.target) b.covered
 
--- the wait that an actor has begun
-abbrev pub wait_among : List BegunWait → Who → Option BegunWait
-wait_among waits who = find (λ (b : BegunWait). is_same_actor b.actor who) waits
-
--- the kernel object that a wait is for, if it is for one
-abbrev pub kernel_in : WaitTarget → Option KernelId
-kernel_in (Object object) = None
-kernel_in (Group group) = None
-kernel_in (Kernel kernel) = Some kernel
-
-abbrev pub wanted_by : Option BegunWait → Option KernelId
-wanted_by None = None
-wanted_by (Some b) = kernel_in b.target
-
--- the group that a wait closes, and with which context, if it closes one
-abbrev pub closing_of : BegunWait → WaitTarget → Option Closing
-closing_of b (Object object) = None
-closing_of b (Group group) = Some (record { group = group; context = b.cleanup })
-closing_of b (Kernel kernel) = None
-
-abbrev pub closing_by : Option BegunWait → Option Closing
-closing_by None = None
-closing_by (Some b) = closing_of b b.target
-
--- the objects that it still has notices of
-abbrev pub notices_left : BegunWait → List ℕ
-notices_left b = map (λ (o : ObjectId). o.0) b.notices
-
-abbrev pub notices_by : Option BegunWait → Option (List ℕ)
-notices_by o = option_map notices_left o
-
-abbrev pub place_within : ℕ → ℕ → ℕ → Option ℕ
-place_within first count number = if nat_le 1 number && nat_le number count then Some (first + (number - 1)) else None
-
--- where an actor's wait stands: first those of the clients, then those of the workers
-abbrev pub place_of : Limits → Who → Option ℕ
-place_of limits (Client number) = place_within 0 limits.clients number
-place_of limits (Worker number) = place_within limits.clients limits.workers number
+-- nothing where none is begun
+abbrev pub held_for : List CallbackRow → Option BegunWait → List ℕ
+held_for callbacks wait = option_map_or (held_among callbacks) wait []

@@ -2,7 +2,7 @@
 use Rattle.std.specs.Prelude.{◌+◌}
 use Rattle.tp_model.specs.Support.Sound.{IsSound}
 use Rattle.live_world.specs.Live.{Live}
-use Rattle.live_world.specs.Invariant.{AreSized, AreLive, AreTallied, AreCovered, AreTimed, AreKernels, AreSlotted, AreWanted, AreGrouped, AreMembered, AreClosing}
+use Rattle.live_world.specs.Invariant.{AreSized, AreLive, AreTallied, AreCovered, AreTimed, AreKernels, AreSlotted, AreGrouped, AreMembered}
 use Rattle.live_world.specs.Parts.{world_of}
 use Rattle.live_world.specs.declared.LiveWorld.TheInside.{Inside}
 
@@ -16,12 +16,10 @@ pub record IsLiveWorld (a : Inside) : Type 0 where
   pub sized : AreSized a.limits a.pools a.objects a.clients.items
   pub alive : AreLive a.limits a.callbacks
   pub tallied : AreTallied a.callbacks.rows a.pools.workers
-  pub covered : AreCovered a.limits a.callbacks.rows a.waits.waits a.barriers
+  pub covered : AreCovered a.limits a.callbacks.rows a.waits a.callbacks.held
   pub timed : AreTimed a.limits a.objects a.timers
   pub kernels : AreKernels a.limits a.kernels
   pub slotted : AreSlotted a.limits a.callbacks.rows a.kernels a.armed
-  pub wanted : AreWanted a.limits a.waits.waits a.wanted.items
   pub grouped : AreGrouped a.limits a.groups
   pub membered : AreMembered a.limits a.objects a.members
-  pub closing : AreClosing a.limits a.waits.waits a.closing.items a.notices
   pub sound : IsSound (a.made + 1) (shown a).world

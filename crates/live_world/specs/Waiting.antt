@@ -1,5 +1,5 @@
 -- What is outstanding for an object, and how far a wait has come.
-use Rattle.std.specs.Prelude.{ℕ, Bool, not, ◌&&◌, ◌||◌, ◌==◌, List, [], ◌∷◌, map, if◌then◌else◌, Option, None, Some}
+use Rattle.std.specs.Prelude.{ℕ, Bool, not, ◌&&◌, ◌||◌, ◌==◌, List, [], ◌∷◌, if◌then◌else◌, Option, None, Some}
 use Rattle.std.specs.List.{filter}
 use Rattle.std.specs.Option.{option_map_or}
 use Rattle.tp_base.specs.declared.ids.Who.{Who}
@@ -7,7 +7,6 @@ use Rattle.tp_base.specs.declared.ids.ObjectId.{ObjectId}
 use Rattle.tp_base.specs.declared.rows.CallbackRow.{CallbackRow}
 use Rattle.tp_base.specs.declared.rows.WaitTarget.{WaitTarget}
 use Rattle.tp_base.specs.declared.rows.WaitTarget.TheVariants.{Object, Group, Kernel}
-use Rattle.keyed_lists.specs.Keyed.{Entry}
 use Rattle.live_callbacks.specs.Callbacks.{outstanding_among}
 use Rattle.tp_model.specs.World.{World, BegunWait}
 use Rattle.tp_model.specs.Counts.{is_pending}
@@ -28,10 +27,6 @@ is_pending_for object c = is_pending c.status && (c.object.0 == object.0)
 
 abbrev pub pending_of : World → ObjectId → List CallbackRow
 pending_of w object = filter (is_pending_for object) w.callbacks
-
--- the numbers of a key
-abbrev pub numbers_of : List Entry → ℕ → List ℕ
-numbers_of entries key = map (λ (e : Entry). e.number) (filter (λ (e : Entry). e.key == key) entries)
 
 -- whether a wait covers an outstanding callback: with cancel it covers what runs
 abbrev pub is_wanted : Bool → CallbackRow → Bool

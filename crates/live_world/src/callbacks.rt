@@ -1,6 +1,6 @@
 //! Callbacks: a new one, and those that wait for a worker.
 
-ghost use Rattle.std.specs.Prelude.{◌≡◌, ◌+◌, ◌^◌, ◌<◌, find, if◌then◌else◌, nat_lt, option_map, None, Some};
+ghost use Rattle.std.specs.Prelude.{◌≡◌, ◌+◌, ◌^◌, ◌<◌, ◌≤◌, find, if◌then◌else◌, nat_lt, option_map, None, Some};
 ghost use Rattle.tp_model.specs.Counts.{next};
 ghost use Rattle.tp_model.specs.Conditions.{lacks_slots_for};
 ghost use Rattle.tp_model.specs.Laws.Once.{is_left};
@@ -8,6 +8,8 @@ ghost use Rattle.tp_model.specs.Over.{left_after, row_of, status_of};
 ghost use Rattle.tp_model.specs.Sources.{new_callback as new_callback_of};
 
 use crate::LiveWorld;
+use std::sync::ledger::Ledger;
+use steps::Steps;
 use tp_base::answers::TakeResult;
 use tp_base::ids::{ObjectId, PoolId};
 use tp_base::rows::{CallbackRow, ObjectRow, Status};
@@ -45,11 +47,14 @@ fn left(status: Status) -> Option<Left>
 }
 
 impl LiveWorld {
-    /// The callback of a pool that is taken next, if one is pending.
-    pub fn next(&self, pool: PoolId) -> Option<CallbackRow>
-        ensures { result ≡ next self.now.world pool.0 }
+    /// The callback of a pool that is taken next, if one is pending. `steps` counts the nodes that it reads:
+    /// one at most, however many are pending.
+    pub fn next<L: Ledger>(&self, pool: PoolId, steps: &mut Steps<L>) -> Option<CallbackRow>
+        ensures value { result ≡ next self.now.world pool.0 }
+        ensures counted { steps.old ≤ steps.new }
+        ensures bound { steps.new ≤ steps.old + 1 }
     {
-        self.callbacks.next(pool)
+        self.callbacks.next(pool, steps)
     }
 
     // The callback of least number above this one, if one is kept.

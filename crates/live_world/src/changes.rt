@@ -13,15 +13,17 @@ ghost use Rattle.tp_model.specs.Support.Allowed.{IsAllowed, MayBegin, Runs};
 ghost use Rattle.tp_model.specs.Support.Ranged.{AreTakenAtMost};
 ghost use Rattle.live_world.specs.Live.{moved, with_world, fired_to, unfired, without_pending, settled};
 ghost use Rattle.live_world.specs.Performing.{MayPerform, suits_state};
+ghost use Rattle.live_world.specs.Steps.{is_take};
 
 use crate::LiveWorld;
-use crate::begun::Begins;
-use crate::groups::list_member;
 use crate::kernels::{end_acquire, slots_of};
 use crate::leaving::leave_unclosed;
+use crate::members::{list_member, unlist_member};
 use crate::objects::{Object, is_timed_kind};
 use crate::waiting::begin_covering;
 use crate::waits::is_pending;
+use std::sync::ledger::Ledger;
+use steps::Steps;
 use tp_base::answers::{ActionKind, SlotWord};
 use tp_base::ids::{KernelId, ObjectId, PoolId, Who};
 use tp_base::plans::{ActionWords, Busy, Change, Idle, KernelChange, Mark, PoolChange, WaitEnd};
@@ -106,11 +108,16 @@ fn filled(kind: ActionKind, action: Action, slots: Slots) -> Slots
 
 impl LiveWorld {
     /// Makes a change that the world allows. It takes no memory.
-    pub fn apply(&mut self, change: &Change)
+    ///
+    /// `steps` counts the nodes that a take reads: two at most, however many callbacks there are. Of any
+    /// other change it counts none.
+    pub fn apply<L: Ledger>(&mut self, change: &Change, steps: &mut Steps<L>)
         requires allowed { IsAllowed (self.old.made + 1) self.old.world change.now }
         requires young { self.old.made + 65536 ≤ 2 ^ 63 }
         requires taken { AreTakenAtMost (2 ^ 47) self.old.world }
-        ensures { self.new ≡ moved self.old change.now }
+        ensures after { self.new ≡ moved self.old change.now }
+        ensures counted { steps.old ≤ steps.new }
+        ensures bound { is_take change.now ≡ true → steps.new ≤ steps.old + 2 }
     {
         match *change {
             Change::Keep => self.is_reachable(),
@@ -128,7 +135,7 @@ impl LiveWorld {
             Change::ChangeKernel { kernel, how } => self.change_kernel(kernel, how),
             Change::Attach { worker, pool } => self.attach(worker, pool),
             Change::Detach(by) => self.detach(by),
-            Change::Take { by, callback } => self.take(by, callback),
+            Change::Take { by, callback } => self.take(by, callback, steps),
             Change::Mark { by, mark } => self.mark(by, mark),
             Change::Return { by, words, .. } => self.return_callback(by, words),
             Change::BeginWait {
@@ -186,7 +193,7 @@ impl LiveWorld {
         let Ok(number) = self.objects.add(object) else {
             unreachable!()
         };
-        list_member(&mut self.members, self.limits.groups, row.env.group, number);
+        list_member(&mut self.members, self.limits.groups, row.env.group);
         if is_timed_kind(row.kind) {
             self.timers.create(ObjectId(number));
         }
@@ -199,7 +206,7 @@ impl LiveWorld {
         ensures { self.new ≡ moved self.old (Change.ReleaseObject object) }
     {
         let _was_live = self.objects.release(object.0);
-        let _was_listed = self.members.remove(u64::from(object.0));
+        unlist_member(&mut self.members, self.limits.groups, object.0);
         let _was_timed = self.timers.close(object);
         if self.kernels.disarm(object) {
             self.armed -= 1;
@@ -249,9 +256,11 @@ impl LiveWorld {
     }
 
     // Lets a worker run a callback that waits in its pool.
-    fn take(&mut self, by: Idle, callback: CallbackRow)
+    fn take<L: Ledger>(&mut self, by: Idle, callback: CallbackRow, steps: &mut Steps<L>)
         requires { IsAllowed (self.old.made + 1) self.old.world (Change.Take by callback) }
-        ensures { self.new ≡ moved self.old (Change.Take by callback) }
+        ensures after { self.new ≡ moved self.old (Change.Take by callback) }
+        ensures counted { steps.old ≤ steps.new }
+        ensures bound { steps.new ≤ steps.old + 2 }
     {
         let running = CallbackRow {
             status: Status::Running {
@@ -261,7 +270,7 @@ impl LiveWorld {
             },
             ..callback
         };
-        self.callbacks.change(&callback, running);
+        self.callbacks.change_counted(&callback, running, steps);
         self.pools.take(by.worker, callback.number, callback.long);
     }
 
@@ -300,7 +309,8 @@ impl LiveWorld {
             ..by.callback
         };
         self.callbacks.change(&by.callback, loose);
-        leave_unclosed(&mut self.barriers, &self.closing, by.callback.number);
+        let actors = self.limits.clients + self.limits.workers;
+        leave_unclosed(&mut self.callbacks, &self.waits, actors, by.callback.number);
     }
 
     // Notes that a running callback asks for an action on its return.
@@ -365,7 +375,6 @@ impl LiveWorld {
         ensures { self.new ≡ with_world self.old (without_run self.old.world by) }
     {
         self.callbacks.remove(&by.callback);
-        self.barriers.left(by.callback.number);
         self.pools.give_back(by.worker);
     }
 
@@ -376,7 +385,6 @@ impl LiveWorld {
         ensures { self.new ≡ with_world self.old (with_callback self.old.world (cancelled callback)) }
     {
         self.callbacks.remove(&callback);
-        self.barriers.left(callback.number);
     }
 
     // Cancels what is pending of an object. Walks what is outstanding for the object.
@@ -412,17 +420,10 @@ impl LiveWorld {
         requires settled { filter (is_cancelled_by (WaitTarget.Object object) cancel) self.old.world.callbacks ≡ [] }
         ensures { self.new ≡ with_world self.old (begin_wait self.old.world who (WaitTarget.Object object) cancel self.old.world.callbacks) }
     {
-        let Some(waiter) = self.waiter(who) else {
-            unreachable!()
-        };
-        begin_covering(&mut self.barriers, waiter, &self.callbacks, object, cancel);
-        let begins = Begins {
-            who,
-            target: WaitTarget::Object(object),
-            cancel,
-        };
-        self.notices.begin(waiter);
-        self.waits = self.waits.and(&begins, &self.callbacks);
+        let waiter = self.waits.place(who).unwrap();
+        let target = WaitTarget::Object(object);
+        self.waits.begin(who, target, cancel, &self.callbacks);
+        begin_covering(&mut self.callbacks, waiter, object, cancel);
     }
 
     // Begins a wait for a kernel object, which covers nothing.
@@ -430,18 +431,8 @@ impl LiveWorld {
         requires { IsAllowed (self.old.made + 1) self.old.world (Change.BeginWait who (WaitTarget.Kernel kernel) cancel) }
         ensures { self.new ≡ moved self.old (Change.BeginWait who (WaitTarget.Kernel kernel) cancel) }
     {
-        let Some(waiter) = self.waiter(who) else {
-            unreachable!()
-        };
-        self.barriers.begin(waiter);
-        self.wanted[waiter as usize] = Some(kernel);
-        let begins = Begins {
-            who,
-            target: WaitTarget::Kernel(kernel),
-            cancel,
-        };
-        self.notices.begin(waiter);
-        self.waits = self.waits.and(&begins, &self.callbacks);
+        let target = WaitTarget::Kernel(kernel);
+        self.waits.begin(who, target, cancel, &self.callbacks);
     }
 
     // Begins a wait of an actor. With cancel, what is pending is cancelled first.
@@ -465,15 +456,10 @@ impl LiveWorld {
         requires taken { AreTakenAtMost (2 ^ 47) self.old.world }
         ensures { self.new ≡ moved self.old (Change.EndWait who how) }
     {
-        let Some(waiter) = self.waiter(who) else {
-            unreachable!()
-        };
-        self.barriers.finish(waiter);
-        self.notices.finish(waiter);
-        end_acquire(&mut self.kernels, who, how, self.wanted[waiter as usize]);
-        self.wanted[waiter as usize] = None;
-        self.closing[waiter as usize] = None;
-        self.waits = self.waits.without(&who, &how);
+        let waiter = self.waits.place(who).unwrap();
+        self.callbacks.let_go_all(waiter);
+        end_acquire(&mut self.kernels, who, how, self.waits.wanted(who));
+        self.waits.end(who, how);
     }
 
     // Notes that a client makes no further call.

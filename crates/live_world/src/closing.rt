@@ -1,36 +1,32 @@
 //! Closes of groups: `CloseThreadpoolCleanupGroupMembers`.
 
-ghost use Rattle.std.specs.Prelude.{◌≡◌, ◌+◌, IfOk, None, [], filter, length, replicate, true};
-ghost use Rattle.tp_model.specs.Groups.{first_operating, is_group, notices_of};
+ghost use Rattle.std.specs.Prelude.{◌≡◌, ◌+◌, ◌∷◌, ◌&&◌, None, [], false, filter, length, map, true};
+ghost use Rattle.tp_model.specs.Groups.{first_operating, gets_notice as gets_notice_of, is_group, is_object_that, notices_of};
 ghost use Rattle.tp_model.specs.Waits.{is_cancelled_by};
 ghost use Rattle.tp_model.specs.Support.Allowed.{IsAllowed, MayClose};
+ghost use Rattle.tp_model.specs.Support.Sound.{is_told};
+ghost use Rattle.begun_waits.specs.Begun.{is_noticed as is_noticed_by};
+ghost use Rattle.live_world.specs.Parts.{shown_object};
 ghost use Rattle.live_world.specs.Live.{with_world, moved};
 
 use crate::LiveWorld;
-use crate::begun::Closes;
-use crate::leaving::{begin_covering_group, begin_notices};
+use crate::leaving::{begin_covering_group, gets_notice};
+use crate::objects::Object;
 use crate::waits::is_pending;
-use std::alloc::{AllocError, Global};
+use handle_table::Rows;
 use tp_base::ids::{GroupId, ObjectId, Who};
 use tp_base::plans::Change;
 use tp_base::rows::WaitTarget;
 
-/// Which group a wait closes, and the context that its notices tell.
-#[derive(Clone, Copy)]
-pub struct Closing {
-    pub group: GroupId,
-    pub context: u64,
-}
-
-// Of so many actors none closes a group.
-pub(crate) fn open_closing(alloc: Global, actors: u32) -> Result<Vec<Option<Closing>>, AllocError>
-    ensures { IfOk result (λ closing. closing.items ≡ replicate actors None) }
+// Whether a close of the group gives a notice of this object.
+fn is_noticed(objects: &Rows<Object>, group: GroupId, cancel: bool, number: u32) -> bool
+    ensures { result ≡ (cancel && is_object_that (gets_notice_of group.0) (map shown_object objects.now.rows) number) }
 {
-    vec![in alloc; None; actors as usize]
+    cancel && gets_notice(objects, group, number)
 }
 
 impl LiveWorld {
-    ghost use Rattle.live_world.specs.Closing.{begin_close_wait, released_members, settled_group};
+    ghost use Rattle.live_world.specs.Closing.{MayNote, begin_close_wait, closed_members, noted, settled_group};
 
     // Cancels what is pending of a group. Walks the callbacks of the group.
     fn cancel_group(&mut self, group: GroupId)
@@ -58,54 +54,51 @@ impl LiveWorld {
         }
     }
 
-    // Releases the members of a group. Walks the members.
-    fn release_members(&mut self, group: GroupId)
+    // Notes that an actor's wait has a notice to give, of an object that was released.
+    fn note(&mut self, who: Who, object: ObjectId)
+        requires may { MayNote self.old.world who }
+        requires told { is_object_that is_told self.old.world.objects object.0 ≡ true }
+        requires free { is_noticed_by self.old.world.waits object ≡ false }
+        ensures { self.new ≡ noted self.old who (object ∷ []) }
+    {
+        self.waits.note(who, object);
+    }
+
+    // Releases the members of a group, one after another. With cancel, an actor's wait gets a notice of
+    // each that has a cancel routine. Walks the members.
+    fn close_members(&mut self, who: Who, group: GroupId, cancel: bool)
         requires made { is_group self.old.world group.0 ≡ true }
         requires idle { first_operating self.old.world group.0 ≡ None }
-        ensures { self.new ≡ released_members self.old group }
+        requires may { cancel ≡ true → MayNote self.old.world who }
+        ensures { self.new ≡ closed_members self.old who group cancel }
     {
         while let Some(number) = self.first_member(group) {
             self.is_reachable();
+            let noticed = is_noticed(&self.objects, group, cancel, number);
             self.release_object(ObjectId(number));
+            if noticed {
+                self.note(who, ObjectId(number));
+            }
         }
         self.is_reachable();
     }
 
-    // Begins a wait for a group that has nothing to cancel any more, with the notices that it is to
-    // give of the members, which are released then. Walks the callbacks of the group and, with cancel,
-    // its members.
+    // Begins a wait for a group that has nothing to cancel any more. Walks the callbacks of the group.
     fn begin_close_wait(&mut self, who: Who, group: GroupId, cancel: bool, context: u64)
         requires allowed { MayClose self.old.world who group cancel (length (notices_of self.old.world group.0 cancel)) }
         requires settled { filter (is_cancelled_by (WaitTarget.Group group) cancel) self.old.world.callbacks ≡ [] }
-        ensures { self.new ≡ with_world self.old (begin_close_wait self.old.world who group cancel context) }
+        ensures begun { self.new ≡ with_world self.old (begin_close_wait self.old.world who group cancel context) }
+        ensures may { cancel ≡ true → MayNote self.new.world who }
     {
-        let Some(waiter) = self.waiter(who) else {
-            unreachable!()
-        };
-        begin_covering_group(&mut self.barriers, waiter, &self.callbacks, group);
-        begin_notices(
-            &mut self.notices,
-            waiter,
-            &self.members,
-            &self.objects,
-            group,
-            cancel,
-        );
-        self.closing[waiter as usize] = Some(Closing { group, context });
-        let closes = Closes {
-            who,
-            group,
-            cancel,
-            context,
-            waiter,
-        };
-        self.waits = self
-            .waits
-            .and_close(&closes, &self.callbacks, &self.notices);
+        let waiter = self.waits.place(who).unwrap();
+        self.waits
+            .begin_close(who, group, cancel, context, &self.callbacks);
+        begin_covering_group(&mut self.callbacks, waiter, group);
     }
 
-    // The members of a group are released, and an actor begins a wait for it. With cancel, what is
-    // pending is cancelled first. Walks the callbacks of the group and its members.
+    // An actor begins a wait for a group, and the members are released, with the notices that the wait is
+    // to give. With cancel, what is pending is cancelled first. Walks the callbacks of the group and its
+    // members.
     pub(crate) fn begin_close(
         &mut self,
         who: Who,
@@ -119,7 +112,7 @@ impl LiveWorld {
     {
         self.settle_group(group, cancel);
         self.begin_close_wait(who, group, cancel, context);
-        self.release_members(group);
+        self.close_members(who, group, cancel);
     }
 
     // The first notice that an actor's wait still has to give is given.
@@ -127,13 +120,6 @@ impl LiveWorld {
         requires { IsAllowed (self.old.made + 1) self.old.world (Change.GiveNotice who) }
         ensures { self.new ≡ moved self.old (Change.GiveNotice who) }
     {
-        let Some(waiter) = self.waiter(who) else {
-            unreachable!()
-        };
-        let Some(object) = self.notices.least(waiter) else {
-            unreachable!()
-        };
-        self.notices.left_one(waiter, object);
-        self.waits = self.waits.notified(&who);
+        self.waits.give_notice(who);
     }
 }

@@ -1,8 +1,8 @@
 //! Cleanup groups, and what a close of one would make of its members.
 
-ghost use Rattle.std.specs.Prelude.{◌≡◌, ◌+◌, ◌^◌, ◌<◌, ◌≤◌, ◌==◌, All, if◌then◌else◌, filter, find, length, map, nat_le, nat_lt, option_map, true, Some, IfSome};
+ghost use Rattle.std.specs.Prelude.{◌≡◌, ◌+◌, ◌^◌, ◌<◌, ◌≤◌, ◌==◌, if◌then◌else◌, filter, find, length, map, nat_le, nat_lt, option_map, true, Some};
 ghost use Rattle.handle_table.specs.Found.{found_row as found_row_of};
-ghost use Rattle.live_world.specs.Parts.{shown_group, shown_object, with_member};
+ghost use Rattle.live_world.specs.Parts.{shown_group, shown_object};
 ghost use Rattle.tp_model.specs.Counts.{numbered};
 ghost use Rattle.tp_model.specs.Conditions.{is_no_group_or_group, is_closed_group};
 ghost use Rattle.tp_model.specs.Groups.{is_group, members, first_member, has_simple, first_operating, notices_of};
@@ -18,7 +18,9 @@ use crate::objects::Object;
 use crate::outstanding::WaitCounts;
 use crate::waits::{is_operating, is_pending};
 use handle_table::{Found, Rows};
-use keyed_lists::KeyedLists;
+use std::marker::Brand;
+use std::sync::ledger::{Blank, Ledger};
+use steps::Steps;
 use tp_base::ids::{GroupId, ObjectId};
 use tp_base::plans::Change;
 use tp_base::rows::{CallbackRow, GroupRow, WaitTarget};
@@ -49,29 +51,6 @@ impl OfGroup {
             all: self.all + u32::from(of_group),
             pending: self.pending + u32::from(is_pending(callback) && of_group),
         }
-    }
-}
-
-// A member, by the number that the lists keep of it.
-fn member_number(listed: Option<u64>) -> Option<u32>
-    requires { IfSome listed (λ number. number < 2 ^ 32) }
-    ensures { result ≡ listed }
-{
-    match listed {
-        Some(number) => Some(number as u32),
-        None => None,
-    }
-}
-
-// Lists an object under its group, which is one of so many. That of another group is listed nowhere.
-pub(crate) fn list_member(members: &mut KeyedLists, groups: u32, group: GroupId, number: u32)
-    requires keys { groups < members.old.keys }
-    requires room { length members.old.entries < members.old.slots }
-    requires last { All (λ e. e.number < number) members.old.entries }
-    ensures { members.new ≡ with_member members.old groups group number }
-{
-    if group.0 <= groups {
-        members.add(group.0, u64::from(number));
     }
 }
 
@@ -168,7 +147,20 @@ impl LiveWorld {
         requires { is_group self.now.world group.0 ≡ true }
         ensures { result ≡ first_member self.now.world group.0 }
     {
-        member_number(self.members.first(group.0))
+        self.first_with::<Brand>(group, Blank::new(1))
+    }
+
+    // `first_member` with a counter of its own.
+    fn first_with<L: Ledger>(&self, group: GroupId, blank: Blank) -> Option<u32>
+        requires made { is_group self.now.world group.0 ≡ true }
+        requires name { blank.name ≡ L.name }
+        requires parts { blank.parts ≡ L.parts }
+        requires one { blank.parts ≡ 1 }
+        ensures { result ≡ first_member self.now.world group.0 }
+    {
+        let mut steps = Steps::<L>::open(blank);
+        let place = self.members.first(group.0, &mut steps)?;
+        Some(place - self.limits.groups)
     }
 
     // The member that follows this one, if it isn't the last.
@@ -177,7 +169,24 @@ impl LiveWorld {
         requires there { find (λ number. number == member) (members self.now.world group.0) ≡ Some member }
         ensures { result ≡ find (λ number. nat_lt member number) (members self.now.world group.0) }
     {
-        member_number(self.members.after(group.0, u64::from(member)))
+        self.next_with::<Brand>(group, member, Blank::new(1))
+    }
+
+    // `next_member` with a counter of its own.
+    fn next_with<L: Ledger>(&self, group: GroupId, member: u32, blank: Blank) -> Option<u32>
+        requires made { is_group self.now.world group.0 ≡ true }
+        requires there { find (λ number. number == member) (members self.now.world group.0) ≡ Some member }
+        requires name { blank.name ≡ L.name }
+        requires parts { blank.parts ≡ L.parts }
+        requires one { blank.parts ≡ 1 }
+        ensures { result ≡ find (λ number. nat_lt member number) (members self.now.world group.0) }
+    {
+        let mut steps = Steps::<L>::open(blank);
+        let place = self.limits.groups + member;
+        // It is asked for what is known by it: a place of the group's list is in that list.
+        let _group = self.members.owner(place);
+        let next = self.members.after(place, &mut steps)?;
+        Some(next - self.limits.groups)
     }
 
     /// The least of the group's members of which an operation is expected or under way, if there is

@@ -80,7 +80,6 @@ impl LiveWorld {
         ensures { self.new ≡ moved self.old (Change.Operate callback IoStep.GiveUp) }
     {
         self.callbacks.remove(&callback);
-        self.barriers.left(callback.number);
     }
 
     // The operation completes, and the callback waits for a worker, in its place by its number.

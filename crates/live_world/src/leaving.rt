@@ -1,19 +1,15 @@
 //! A callback leaves begun waits, and waits for groups begin.
 
 ghost use Rattle.tp_model.specs.Support.Sound.{IsRising};
-ghost use Rattle.std.specs.Prelude.{◌≡◌, ℕ, ◌^◌, ◌<◌, ◌≤◌, None, Some, length, map};
-ghost use Rattle.cancel_wait.specs.Covers.{wait_of, with_wait};
-ghost use Rattle.keyed_lists.specs.Keyed.{IsRising as IsRisingByNumber};
-ghost use Rattle.tp_model.specs.Groups.{gets_notice as gets_notice_of, is_member, is_object_that, objects_that};
+ghost use Rattle.std.specs.Prelude.{◌≡◌, ℕ, ◌+◌, ◌<◌, [], length, map};
+ghost use Rattle.live_callbacks.specs.Callbacks.{held_of, with_held};
+ghost use Rattle.tp_model.specs.Groups.{gets_notice as gets_notice_of, is_member, is_object_that};
 ghost use Rattle.live_world.specs.Parts.{shown_object};
-ghost use Rattle.live_world.specs.Closing.{IsLeft, numbers_noticed, numbers_of_group};
-ghost use Rattle.live_world.specs.Waiting.{numbers_of};
+ghost use Rattle.live_world.specs.Closing.{IsLeft, numbers_of_group};
 
-use crate::closing::Closing;
 use crate::objects::Object;
-use cancel_wait::Barriers;
+use begun_waits::BegunWaits;
 use handle_table::{Found, Rows};
-use keyed_lists::KeyedLists;
 use live_callbacks::LiveCallbacks;
 use tp_base::ids::GroupId;
 
@@ -37,68 +33,34 @@ pub(crate) fn gets_notice(objects: &Rows<Object>, group: GroupId, number: u32) -
     }
 }
 
-// Takes a number out of each wait that closes no group.
-pub(crate) fn leave_unclosed(barriers: &mut Barriers, closing: &[Option<Closing>], number: u64)
-    requires as_many { length closing.now ≡ length barriers.old.waits }
-    requires few { length closing.now < 2 ^ 32 }
-    ensures { IsLeft number closing.now barriers.old barriers.new }
+// Each wait that closes no group lets go of a callback.
+pub(crate) fn leave_unclosed(
+    callbacks: &mut LiveCallbacks,
+    waits: &BegunWaits<LiveCallbacks>,
+    actors: u32,
+    number: u64,
+)
+    requires as_many { actors ≡ length callbacks.old.held }
+    requires actors { actors ≡ waits.now.limits.clients + waits.now.limits.workers }
+    ensures { IsLeft number waits.now callbacks.old callbacks.new }
 {
-    for waiter in 0..closing.len() {
-        if closing[waiter].is_none() {
-            barriers.left_one(waiter as u32, number);
+    for place in 0..actors {
+        if waits.closing_at(place).is_none() {
+            callbacks.let_go(place, number);
         }
     }
 }
 
-// Begins the notices that a wait has to give: with cancel one of each member of the group that has a
-// cancel routine. With cancel it walks the members.
-pub(crate) fn begin_notices(
-    notices: &mut Barriers,
-    waiter: u32,
-    members: &KeyedLists,
-    objects: &Rows<Object>,
-    group: GroupId,
-    cancel: bool,
-)
-    requires there { waiter < length notices.old.waits }
-    requires idle { wait_of notices.old waiter ≡ None }
-    requires key { group.0 < members.now.keys }
-    requires listed { numbers_of members.now.entries group.0 ≡ objects_that (is_member group.0) (map shown_object objects.now.rows) }
-    requires rising { IsRisingByNumber members.now.entries }
-    requires room { length objects.now.rows ≤ notices.old.slots }
-    requires few { length objects.now.rows < 2 ^ 32 }
-    ensures { notices.new ≡ with_wait notices.old waiter (Some (numbers_noticed objects.now group cancel)) }
+// Lets a wait that begins hold what is kept of this group. Walks the callbacks of the group.
+pub(crate) fn begin_covering_group(callbacks: &mut LiveCallbacks, waiter: u32, group: GroupId)
+    requires there { waiter < length callbacks.old.held }
+    requires idle { held_of callbacks.old waiter ≡ [] }
+    requires rising { (next_number : ℕ) × IsRising 1 next_number callbacks.old.rows }
+    ensures { callbacks.new ≡ with_held callbacks.old waiter (numbers_of_group callbacks.old.rows group) }
 {
-    notices.begin(waiter);
-    if !cancel {
-        return;
-    }
-    let mut next = members.first(group.0);
-    while let Some(number) = next {
-        next = members.after(group.0, number);
-        if gets_notice(objects, group, number as u32) {
-            notices.cover(waiter, number);
-        }
-    }
-}
-
-// Begins a wait that covers what is kept of this group. Walks the callbacks of the group.
-pub(crate) fn begin_covering_group(
-    barriers: &mut Barriers,
-    waiter: u32,
-    callbacks: &LiveCallbacks,
-    group: GroupId,
-)
-    requires there { waiter < length barriers.old.waits }
-    requires idle { wait_of barriers.old waiter ≡ None }
-    requires room { length callbacks.now.rows ≤ barriers.old.slots }
-    requires rising { (next_number : ℕ) × IsRising 1 next_number callbacks.now.rows }
-    ensures { barriers.new ≡ with_wait barriers.old waiter (Some (numbers_of_group callbacks.now.rows group)) }
-{
-    barriers.begin(waiter);
     let mut next = callbacks.first_of_group(group);
     while let Some(callback) = next {
-        barriers.cover(waiter, callback.number);
         next = callbacks.next_of_group(&callback);
+        callbacks.hold(waiter, &callback);
     }
 }

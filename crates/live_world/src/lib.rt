@@ -18,26 +18,22 @@ ghost use Rattle.tp_model.specs.Support.Remembered.{forget};
 ghost use Rattle.tp_model.specs.Support.Sound.{IsSound};
 ghost use Rattle.live_world.specs.Bounds.{IsBounded};
 
-use begun::BegunWaits;
-use cancel_wait::Barriers;
-use closing::Closing;
+use begun_waits::BegunWaits;
 use groups::Group;
 use handle_table::Rows;
 use kernel_events::KernelTable;
-use keyed_lists::KeyedLists;
+use linked_lists::LinkedLists;
 use live_callbacks::LiveCallbacks;
 use objects::Object;
-use opened::{both, open_rows, open_waits};
+use opened::{both, open_rows};
 use pool_rows::PoolRows;
 use std::alloc::{AllocError, Global};
 use std::marker::Model;
 use timer_objects::TimerObjects;
-use tp_base::ids::KernelId;
 use tp_base::limits::Limits;
 use tp_base::rows::ClientRow;
 
 pub mod actors;
-mod begun;
 pub mod callbacks;
 mod changes;
 mod closing;
@@ -46,6 +42,7 @@ pub mod groups;
 mod io;
 mod kernels;
 mod leaving;
+mod members;
 mod objects;
 mod opened;
 pub mod outstanding;
@@ -63,18 +60,11 @@ pub struct LiveWorld {
     // A group that is closed is released.
     groups: Rows<Group>,
     objects: Rows<Object>,
-    // The members of each group.
-    members: KeyedLists,
+    // The list of a group's number has its members; object o is at the place limits.groups + o.
+    members: LinkedLists,
+    // The callbacks that live, and by the place of each actor those that its wait still holds.
     callbacks: LiveCallbacks,
-    // What each begun wait still holds.
-    barriers: Barriers,
-    waits: BegunWaits,
-    // Of each actor, where its barrier stands, the kernel object that its wait is for.
-    wanted: Vec<Option<KernelId>>,
-    // Of each actor, there too, the group that its wait closes.
-    closing: Vec<Option<Closing>>,
-    // And the objects of which that wait still has a notice to give.
-    notices: Barriers,
+    waits: BegunWaits<LiveCallbacks>,
     clients: Vec<ClientRow>,
     // The timers and the wait objects, with what is set: for a wait the timeout of its arming.
     timers: TimerObjects,
@@ -108,7 +98,7 @@ impl LiveWorld {
         ensures { IfOk result (λ live. live ≡ record { world = forget (opening limits); made = 0 }) }
     {
         let rows = open_rows(alloc, limits)?;
-        let (rows, waits) = both(rows, open_waits(alloc, limits))?;
+        let (rows, waits) = both(rows, BegunWaits::open(alloc, limits))?;
         let (tables, clients) = both((rows, waits), actors::open_clients(alloc, limits.clients))?;
         let (tables, timers) = both((tables, clients), TimerObjects::open(alloc, limits.objects))?;
         let (tables, kernels) = both(
@@ -123,11 +113,7 @@ impl LiveWorld {
             objects: rows.objects,
             members: rows.members,
             callbacks: rows.callbacks,
-            barriers: waits.barriers,
-            waits: BegunWaits::none(),
-            wanted: waits.wanted,
-            closing: waits.closing,
-            notices: waits.notices,
+            waits,
             clients,
             timers,
             kernels,

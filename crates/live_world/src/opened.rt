@@ -1,21 +1,17 @@
 //! The parts of a live world as they are opened, one after another. Where one can't be opened, those before it
 //! are freed.
 
-ghost use Rattle.std.specs.Prelude.{◌≡◌, ◌+◌, [], IfOk, None, Ok, replicate};
+ghost use Rattle.std.specs.Prelude.{◌≡◌, [], IfOk, Ok};
 ghost use Rattle.tp_base.specs.Ranges.{AreLimitsInRange};
 ghost use Rattle.live_world.specs.Opening.{opened_callbacks, opened_members, opened_pools};
 
-use crate::closing::{Closing, open_closing};
 use crate::groups::Group;
 use crate::objects::Object;
-use crate::waits::open_wanted;
-use cancel_wait::Barriers;
 use handle_table::Rows;
-use keyed_lists::KeyedLists;
+use linked_lists::LinkedLists;
 use live_callbacks::LiveCallbacks;
 use pool_rows::PoolRows;
 use std::alloc::{AllocError, Global};
-use tp_base::ids::KernelId;
 use tp_base::limits::Limits;
 
 // The rows of what is made, and the members of each group.
@@ -24,17 +20,8 @@ pub(crate) struct OpenedRows {
     pub pools: PoolRows,
     pub groups: Rows<Group>,
     pub objects: Rows<Object>,
-    pub members: KeyedLists,
+    pub members: LinkedLists,
     pub callbacks: LiveCallbacks,
-}
-
-// What is kept by actor.
-#[derive(Drop)]
-pub(crate) struct OpenedWaits {
-    pub barriers: Barriers,
-    pub wanted: Vec<Option<KernelId>>,
-    pub closing: Vec<Option<Closing>>,
-    pub notices: Barriers,
 }
 
 // Both, where the second could be made. Where not, the first is freed: here, and so at no way out of the function
@@ -63,7 +50,7 @@ pub(crate) fn open_rows(alloc: Global, limits: Limits) -> Result<OpenedRows, All
     let (tables, objects) = both((pools, groups), Rows::open(alloc, limits.objects))?;
     let (tables, members) = both(
         (tables, objects),
-        KeyedLists::open(alloc, limits.groups + 1, limits.objects),
+        LinkedLists::open(alloc, limits.groups + 1, limits.objects),
     )?;
     let (tables, callbacks) = both(
         (tables, members),
@@ -73,6 +60,7 @@ pub(crate) fn open_rows(alloc: Global, limits: Limits) -> Result<OpenedRows, All
             limits.pools,
             limits.objects,
             limits.groups,
+            limits.clients + limits.workers,
         ),
     )?;
     let (((pools, groups), objects), members) = tables;
@@ -82,31 +70,5 @@ pub(crate) fn open_rows(alloc: Global, limits: Limits) -> Result<OpenedRows, All
         objects,
         members,
         callbacks,
-    })
-}
-
-pub(crate) fn open_waits(alloc: Global, limits: Limits) -> Result<OpenedWaits, AllocError>
-    requires { AreLimitsInRange limits }
-    ensures barrier_slots { IfOk result (λ waits. waits.barriers.slots ≡ limits.slots) }
-    ensures barriers { IfOk result (λ waits. waits.barriers.waits ≡ replicate (limits.clients + limits.workers) None) }
-    ensures wanted { IfOk result (λ waits. waits.wanted.items ≡ replicate (limits.clients + limits.workers) None) }
-    ensures closing { IfOk result (λ waits. waits.closing.items ≡ replicate (limits.clients + limits.workers) None) }
-    ensures notice_slots { IfOk result (λ waits. waits.notices.slots ≡ limits.objects) }
-    ensures notices { IfOk result (λ waits. waits.notices.waits ≡ replicate (limits.clients + limits.workers) None) }
-{
-    let actors = limits.clients + limits.workers;
-    let barriers = Barriers::open(alloc, actors, limits.slots)?;
-    let (barriers, wanted) = both(barriers, open_wanted(alloc, actors))?;
-    let (waits, closing) = both((barriers, wanted), open_closing(alloc, actors))?;
-    let (waits, notices) = both(
-        (waits, closing),
-        Barriers::open(alloc, actors, limits.objects),
-    )?;
-    let ((barriers, wanted), closing) = waits;
-    Ok(OpenedWaits {
-        barriers,
-        wanted,
-        closing,
-        notices,
     })
 }

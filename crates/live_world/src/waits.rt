@@ -6,10 +6,9 @@ ghost use Rattle.tp_model.specs.Counts.{callback_of, is_operating as is_operatin
 ghost use Rattle.tp_model.specs.Conditions.{is_in_wait};
 ghost use Rattle.tp_model.specs.Waits.{wait_of};
 ghost use Rattle.tp_model.specs.Calls.Waits.{is_starved, holds_starved};
-ghost use Rattle.live_world.specs.Parts.{closing_by, place_of, place_within as place_within_of};
+ghost use Rattle.begun_waits.specs.Begun.{closing_by, place_of};
 
 use crate::LiveWorld;
-use std::alloc::{AllocError, Global};
 use tp_base::ids::{KernelId, ObjectId, RoutineId, Who};
 use tp_base::rows::{CallbackRow, Status};
 
@@ -39,25 +38,6 @@ pub enum Progress {
     },
 }
 
-// Of so many actors none waits for a kernel object.
-pub(crate) fn open_wanted(alloc: Global, actors: u32) -> Result<Vec<Option<KernelId>>, AllocError>
-    ensures { IfOk result (λ wanted. wanted.items ≡ replicate actors None) }
-{
-    vec![in alloc; None; actors as usize]
-}
-
-// Where a number stands among so many behind the first ones.
-fn place_within(first: u32, count: u32, number: u32) -> Option<u32>
-    requires { first + count < 2 ^ 32 }
-    ensures { result ≡ place_within_of first count number }
-{
-    if 1 <= number && number <= count {
-        Some(first + (number - 1))
-    } else {
-        None
-    }
-}
-
 // The callback waits for a worker.
 pub(crate) fn is_pending(callback: &CallbackRow) -> bool
     ensures { result ≡ is_pending_by callback.now.status }
@@ -82,24 +62,11 @@ pub(crate) fn is_running(callback: &CallbackRow) -> bool
 impl LiveWorld {
     ghost use Rattle.live_world.specs.Waiting.{held_by, progress_free, progress_of};
 
-    // Where an actor's wait stands among the barriers, if it is an actor of the machine.
-    pub(crate) fn waiter(&self, who: Who) -> Option<u32>
-        ensures { result ≡ place_of self.now.world.limits who }
-    {
-        match who {
-            Who::Client(number) => place_within(0, self.limits.clients, number),
-            Who::Worker(number) => place_within(self.limits.clients, self.limits.workers, number),
-        }
-    }
-
     /// Whether the actor has begun a wait.
     pub fn is_in_wait(&self, who: Who) -> bool
         ensures { result ≡ is_in_wait self.now.world who }
     {
-        match self.waiter(who) {
-            None => false,
-            Some(waiter) => self.barriers.is_begun(waiter),
-        }
+        self.waits.is_begun(who)
     }
 
     /// Whether the actor has begun no wait.
@@ -134,18 +101,8 @@ impl LiveWorld {
         match self.first_pending(held.object) {
             None => false,
             Some(callback) => {
-                self.is_starved(&callback, room) && self.barriers.covers(waiter, callback.number)
+                self.is_starved(&callback, room) && self.callbacks.holds(waiter, callback.number)
             }
-        }
-    }
-
-    // Whether the callback of this number is starved, if one is kept.
-    fn starves(&self, number: u64, room: u64) -> bool
-        ensures { result ≡ option_map_or (is_starved self.now.world room) (callback_of self.now.world number) false }
-    {
-        match self.callbacks.find(number) {
-            None => false,
-            Some(callback) => self.is_starved(&callback, room),
         }
     }
 
@@ -158,33 +115,26 @@ impl LiveWorld {
         if 4 <= room {
             return false;
         }
-        let mut next = self.barriers.least(waiter);
-        while let Some(number) = next {
-            if self.starves(number, room) {
+        let mut next = self.callbacks.first_held(waiter);
+        while let Some(callback) = next {
+            if self.is_starved(&callback, room) {
                 return true;
             }
-            next = self.barriers.after(waiter, number);
+            next = self.callbacks.next_held(waiter, &callback);
         }
         false
     }
 
     // What is left of an actor's wait that holds nothing: the first of its notices, if it has one.
-    fn progress_free(&self, who: Who, waiter: u32) -> Progress
-        requires at { place_of self.now.world.limits who ≡ Some waiter }
-        requires begun { is_none (wait_of self.now.world who) ≡ false }
+    fn progress_free(&self, who: Who) -> Progress
+        requires { is_none (wait_of self.now.world who) ≡ false }
         ensures { result ≡ progress_free self.now.world (wait_of self.now.world who) }
     {
-        self.is_reachable();
-        let Some(number) = self.notices.least(waiter) else {
+        let Some(object) = self.waits.first_notice(who) else {
             return Progress::Free;
         };
-        let Some(closing) = self.closing[waiter as usize] else {
-            unreachable!()
-        };
-        let object = ObjectId(number as u32);
-        let Some(row) = self.object(object) else {
-            unreachable!()
-        };
+        let closing = self.waits.closing(who).unwrap();
+        let row = self.object(object).unwrap();
         Progress::Notifies {
             object,
             routine: row.env.cancel,
@@ -199,7 +149,7 @@ impl LiveWorld {
         requires first { slice_get (held_by self.now.world who) 0 ≡ Some first }
         ensures { result ≡ holds_starved self.now.world room (held_by self.now.world who) }
     {
-        match self.closing[waiter as usize] {
+        match self.waits.closing(who) {
             None => self.holds_starved(who, waiter, first, room),
             Some(_) => self.holds_any_starved(who, waiter, room),
         }
@@ -211,23 +161,22 @@ impl LiveWorld {
     pub fn progress(&self, who: Who, room: u64) -> Progress
         ensures { result ≡ progress_of self.now.world room who }
     {
-        let _ = &self.limits;
-        let Some(waiter) = self.waiter(who) else {
-            return Progress::NotBegun;
-        };
-        if !self.barriers.is_begun(waiter) {
+        if !self.waits.is_begun(who) {
             return Progress::NotBegun;
         }
-        if let Some(kernel) = self.wanted[waiter as usize] {
+        if let Some(kernel) = self.waits.wanted(who) {
             return Progress::Acquires { kernel };
         }
-        match self.barriers.least(waiter) {
-            None => self.progress_free(who, waiter),
-            Some(callback) => {
-                if self.is_wait_starved(who, waiter, callback, room) {
+        let waiter = self.waits.place(who).unwrap();
+        match self.callbacks.first_held(waiter) {
+            None => self.progress_free(who),
+            Some(first) => {
+                if self.is_wait_starved(who, waiter, first.number, room) {
                     Progress::Starved
                 } else {
-                    Progress::Holds { callback }
+                    Progress::Holds {
+                        callback: first.number,
+                    }
                 }
             }
         }

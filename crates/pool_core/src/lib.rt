@@ -46,7 +46,7 @@
 
 #![tactic(auto)]
 
-ghost use Rattle.std.specs.Prelude.{◌≡◌, ◌^◌, ◌<◌, IfOk, option_map};
+ghost use Rattle.std.specs.Prelude.{◌≡◌, ◌+◌, ◌^◌, ◌<◌, ◌≤◌, IfOk, option_map};
 ghost use Rattle.tp_base.specs.Ranges.{AreLimitsInRange, IsCallInRange, IsOutcomeInRange};
 ghost use Rattle.tp_model.specs.World.{World, opening};
 ghost use Rattle.tp_model.specs.Counts.{owed};
@@ -56,7 +56,9 @@ ghost use Rattle.tp_model.specs.Support.Remembered.{StandsFor, Meets};
 
 use machine::Machine;
 use std::alloc::{AllocError, Global};
-use std::marker::Model;
+use std::marker::{Brand, Model};
+use std::sync::ledger::{Blank, Ledger};
+use steps::Steps;
 use tp_base::answers::Outcome;
 use tp_base::calls::Call;
 use tp_base::ids::{ObjectId, Who};
@@ -126,7 +128,42 @@ impl Engine {
         ensures meets { (w : World) → StandsFor self.old w → Meets self.old self.new w (step w room who call) result }
         ensures in_range { IsOutcomeInRange result }
     {
-        self.machine.step(who, call, room, &mut self.change)
+        self.step_with::<Brand>(who, call, room, Blank::new(1))
+    }
+
+    // `step` with a counter of its own.
+    #[inline(always)]
+    fn step_with<L: Ledger>(&mut self, who: Who, call: Call, room: u64, blank: Blank) -> Outcome
+        requires name { blank.name ≡ L.name }
+        requires parts { blank.parts ≡ L.parts }
+        requires one { blank.parts ≡ 1 }
+        requires in_range { IsCallInRange call }
+        requires young { self.old.age < 2 ^ 47 }
+        ensures meets { (w : World) → StandsFor self.old w → Meets self.old self.new w (step w room who call) result }
+        ensures in_range { IsOutcomeInRange result }
+    {
+        let mut steps = Steps::<L>::open(blank);
+        self.step_counted(who, call, room, &mut steps)
+    }
+
+    /// As `step`, and counts the nodes that a Take reads of the lists of callbacks: three at most, however many
+    /// callbacks are pending. Of any other call it counts none.
+    #[inline(always)]
+    pub fn step_counted<L: Ledger>(
+        &mut self,
+        who: Who,
+        call: Call,
+        room: u64,
+        steps: &mut Steps<L>,
+    ) -> Outcome
+        requires in_range { IsCallInRange call }
+        requires young { self.old.age < 2 ^ 47 }
+        ensures meets { (w : World) → StandsFor self.old w → Meets self.old self.new w (step w room who call) result }
+        ensures in_range { IsOutcomeInRange result }
+        ensures counted { steps.old ≤ steps.new }
+        ensures bound { call ≡ Call.Take → steps.new ≤ steps.old + 3 }
+    {
+        self.machine.step(who, call, room, &mut self.change, steps)
     }
 
     /// The number of entries for which the history must keep room: each running callback returns,

@@ -1,6 +1,7 @@
 //! A machine that is being played: what it remembers of the world, what the history owes, and its age.
 
-ghost use Rattle.std.specs.Prelude.{◌≡◌, ◌+◌, ◌^◌, ◌<◌, IfOk, nat_lt, option_map};
+ghost use Rattle.std.specs.Prelude.{◌≡◌, ◌+◌, ◌^◌, ◌<◌, ◌≤◌, IfOk, nat_lt, option_map, true};
+ghost use Rattle.live_world.specs.Steps.{is_take};
 ghost use Rattle.pool_core.specs.Entered.{outcome_of_entry};
 ghost use Rattle.tp_base.specs.Ranges.{AreLimitsInRange, IsCallInRange, IsAnswerInRange, IsOutcomeInRange, IsRefusalInRange};
 ghost use Rattle.tp_model.specs.World.{World, opening};
@@ -17,6 +18,8 @@ use crate::plans::{plan, price};
 use live_world::LiveWorld;
 use std::alloc::{AllocError, Global};
 use std::marker::Model;
+use std::sync::ledger::Ledger;
+use steps::Steps;
 use tp_base::answers::{Answer, Outcome, Refusal};
 use tp_base::calls::Call;
 use tp_base::ids::{ObjectId, Who};
@@ -61,16 +64,25 @@ impl Machine {
     }
 
     /// Makes a call of an actor. The change of an accepted call is written where the caller has a place
-    /// for it, so that no step begins by making one.
+    /// for it, so that no step begins by making one. `steps` counts the nodes that a Take reads.
     #[inline(always)]
-    pub(crate) fn step(&mut self, who: Who, call: Call, room: u64, change: &mut Change) -> Outcome
+    pub(crate) fn step<L: Ledger>(
+        &mut self,
+        who: Who,
+        call: Call,
+        room: u64,
+        change: &mut Change,
+        steps: &mut Steps<L>,
+    ) -> Outcome
         requires in_range { IsCallInRange call }
         requires young { self.old.age < 2 ^ 47 }
         ensures meets { (w : World) → StandsFor self.old w → Meets self.old self.new w (step w room who call) result }
         ensures in_range { IsOutcomeInRange result }
+        ensures counted { steps.old ≤ steps.new }
+        ensures bound { call ≡ Call.Take → steps.new ≤ steps.old + 3 }
     {
         self.live.is_reachable();
-        match plan(&self.live, who, call, room, change) {
+        match plan(&self.live, who, call, room, change, steps) {
             Decision::Looked(look) => Outcome::Look(look),
             Decision::Refused(refusal) => {
                 if let (Call::Advance { ticks }, Refusal::CallbackLimit) = (call, refusal) {
@@ -78,7 +90,7 @@ impl Machine {
                 }
                 refuse(refusal, room)
             }
-            Decision::Accepted(answer) => self.enter(answer, change, room),
+            Decision::Accepted(answer) => self.enter(answer, change, room, steps),
         }
     }
 
@@ -95,7 +107,13 @@ impl Machine {
 
     // Makes a change for an answer, where the history has room for what they cost.
     #[inline(always)]
-    fn enter(&mut self, answer: Answer, change: &Change, room: u64) -> Outcome
+    fn enter<L: Ledger>(
+        &mut self,
+        answer: Answer,
+        change: &Change,
+        room: u64,
+        steps: &mut Steps<L>,
+    ) -> Outcome
         requires allowed { IsAllowed (self.old.made + 1) self.old.world change.now }
         requires answer_in_range { IsAnswerInRange answer }
         requires change_in_range { IsChangeInRange change.now }
@@ -103,27 +121,31 @@ impl Machine {
         ensures outcome { result ≡ outcome_of_entry room answer (price_of change.now) }
         ensures after { self.new ≡ after_entry self.old room change.now }
         ensures in_range { IsOutcomeInRange result }
+        ensures counted { steps.old ≤ steps.new }
+        ensures bound { is_take change.now ≡ true → steps.new ≤ steps.old + 2 }
     {
         let cost = price(change);
         if lacks_room(room, cost) {
             return Outcome::Full { room, cost };
         }
-        self.apply(change);
+        self.apply(change, steps);
         Outcome::Done(answer)
     }
 
     // Makes a change that the world allows, and counts what the history owes and the age.
     #[inline(never)]
-    fn apply(&mut self, change: &Change)
+    fn apply<L: Ledger>(&mut self, change: &Change, steps: &mut Steps<L>)
         requires allowed { IsAllowed (self.old.made + 1) self.old.world change.now }
         requires in_range { IsChangeInRange change.now }
         requires young { self.old.age < 2 ^ 47 }
-        ensures { self.new ≡ remembered_in self.old (changed self.old.world change.now) }
+        ensures after { self.new ≡ remembered_in self.old (changed self.old.world change.now) }
+        ensures counted { steps.old ≤ steps.new }
+        ensures bound { is_take change.now ≡ true → steps.new ≤ steps.old + 2 }
     {
         self.live.is_reachable();
         self.owed = self.owed + price(change) - 1;
         self.age += 1;
-        self.live.apply(change);
+        self.live.apply(change, steps);
     }
 
     /// The number of entries for which the history must keep room.

@@ -1,7 +1,7 @@
 //! What each call comes to, and what a change costs.
 
 ghost use Rattle.pool_core.specs.Decided.{decided};
-ghost use Rattle.std.specs.Prelude.{◌≡◌, ◌+◌, ◌^◌, ◌<◌};
+ghost use Rattle.std.specs.Prelude.{◌≡◌, ◌+◌, ◌^◌, ◌<◌, ◌≤◌};
 ghost use Rattle.tp_model.specs.Support.Allowed.{price as price_of};
 ghost use Rattle.tp_model.specs.Table.{plan_at};
 
@@ -11,21 +11,27 @@ use crate::{
     workers,
 };
 use live_world::LiveWorld;
+use std::sync::ledger::Ledger;
+use steps::Steps;
 use tp_base::calls::Call;
 use tp_base::ids::Who;
 use tp_base::plans::Change;
 
-/// What a call comes to, where the history has room for so many entries. It changes nothing.
+/// What a call comes to, where the history has room for so many entries. It changes nothing. `steps` counts
+/// the nodes that a Take reads.
 #[inline(always)]
-pub(crate) fn plan(
+pub(crate) fn plan<L: Ledger>(
     world: &LiveWorld,
     who: Who,
     call: Call,
     room: u64,
     change: &mut Change,
+    steps: &mut Steps<L>,
 ) -> Decision
     requires { world.now.made < 2 ^ 63 }
-    ensures { decided result change.new ≡ plan_at world.now.world (world.now.made + 1) room who call }
+    ensures plan { decided result change.new ≡ plan_at world.now.world (world.now.made + 1) room who call }
+    ensures counted { steps.old ≤ steps.new }
+    ensures bound { steps.new ≤ steps.old + 1 }
 {
     match call {
         Call::CreatePool => pools::create_pool(world, who, change),
@@ -105,7 +111,7 @@ pub(crate) fn plan(
         ),
         Call::Attach => workers::attach(world, who, change),
         Call::Detach => workers::detach(world, who, change),
-        Call::Take => workers::take(world, who, change),
+        Call::Take => workers::take(world, who, change, steps),
         Call::Return => workers::return_callback(world, who, change),
         Call::MayRunLong => in_callback::may_run_long(world, who, change),
         Call::Disassociate => in_callback::disassociate(world, who, change),

@@ -2,7 +2,7 @@
 //! leave.
 
 ghost use Rattle.pool_core.specs.Decided.{decided};
-ghost use Rattle.std.specs.Prelude.{◌≡◌, ◌+◌, ◌^◌, ◌<◌};
+ghost use Rattle.std.specs.Prelude.{◌≡◌, ◌+◌, ◌^◌, ◌<◌, ◌≤◌};
 ghost use Rattle.tp_model.specs.Refusing.{first_refusal};
 ghost use Rattle.tp_model.specs.Calls.Workers.{idle_refusals, attach_plan, detach_plan, take_plan, return_plan};
 
@@ -10,6 +10,8 @@ use crate::decisions::{Decision, accept};
 use crate::refusals::first_of;
 use crate::triggers::first_number;
 use live_world::LiveWorld;
+use std::sync::ledger::Ledger;
+use steps::Steps;
 use tp_base::answers::{Answer, Look, Refusal, SlotWord};
 use tp_base::ids::{PoolId, Who};
 use tp_base::plans::Change;
@@ -74,10 +76,18 @@ pub(crate) fn detach(world: &LiveWorld, who: Who, change: &mut Change) -> Decisi
     accept(change, Answer::Done, Change::Detach(by))
 }
 
-/// A worker begins the next callback of its pool.
+/// A worker begins the next callback of its pool. `steps` counts the nodes that are read to find that: one at
+/// most.
 #[tactic(auto, unfolding(tp_model::specs::Calls::Workers::take_plan))]
-pub(crate) fn take(world: &LiveWorld, who: Who, change: &mut Change) -> Decision
-    ensures { decided result change.new ≡ take_plan world.now.world who }
+pub(crate) fn take<L: Ledger>(
+    world: &LiveWorld,
+    who: Who,
+    change: &mut Change,
+    steps: &mut Steps<L>,
+) -> Decision
+    ensures plan { decided result change.new ≡ take_plan world.now.world who }
+    ensures counted { steps.old ≤ steps.new }
+    ensures bound { steps.new ≤ steps.old + 1 }
 {
     if let Some(refusal) = idle_refusal(world, who) {
         return Decision::Refused(refusal);
@@ -85,7 +95,7 @@ pub(crate) fn take(world: &LiveWorld, who: Who, change: &mut Change) -> Decision
     let Some(by) = world.idle(who) else {
         return Decision::Refused(Refusal::NotAttached);
     };
-    let Some(callback) = world.next(by.pool) else {
+    let Some(callback) = world.next(by.pool, steps) else {
         return Decision::Looked(Look::Empty);
     };
     let running = world.running(by.pool);

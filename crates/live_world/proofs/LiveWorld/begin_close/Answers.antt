@@ -10,12 +10,13 @@ begin_close_wait-requires c = record {
   settled = group_settled c.args.self.now c.settle_group.new.self c.args.group c.args.cancel c.settle_group.ensures;
 }
 
-pub release_members-requires : goal.release_members-requires
-release_members-requires c = record {
-  made = ap (λ (l : Live). is_group l.world c.args.group.0) c.begin_close_wait.ensures ∙ ap (λ (l : Live). is_group l.world c.args.group.0) c.settle_group.ensures ∙ c.requires.made;
-  idle = begun_idle c.settle_group.new.self c.begin_close_wait.new.self c.args.who c.args.group c.args.cancel c.args.context c.begin_close_wait.ensures
+pub close_members-requires : goal.close_members-requires
+close_members-requires c = record {
+  made = ap (λ (l : Live). is_group l.world c.args.group.0) c.begin_close_wait.ensures.begun ∙ ap (λ (l : Live). is_group l.world c.args.group.0) c.settle_group.ensures ∙ c.requires.made;
+  idle = begun_idle c.settle_group.new.self c.begin_close_wait.new.self c.args.who c.args.group c.args.cancel c.args.context c.begin_close_wait.ensures.begun
       (settled_idle c.args.self.now c.settle_group.new.self c.args.group c.args.cancel c.settle_group.ensures c.requires.idle);
+  may = c.begin_close_wait.ensures.may;
 }
 
 pub returns : goal.returns
-returns c = c.release_members.ensures ∙ closes_whole c.args.self.now c.settle_group.new.self c.begin_close_wait.new.self c.args.who c.args.group c.args.cancel c.args.context c.args._notices c.settle_group.ensures c.begin_close_wait.ensures
+returns c = c.close_members.ensures ∙ closes_whole c.args.self.now c.settle_group.new.self c.begin_close_wait.new.self c.args.who c.args.group c.args.cancel c.args.context c.args._notices c.requires.none c.settle_group.ensures c.begin_close_wait.ensures.begun

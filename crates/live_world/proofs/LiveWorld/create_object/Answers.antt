@@ -1,11 +1,9 @@
 use Rattle.std.proofs.Common.{◌+◌, ◌<◌, length, sym, ap, ◌∙◌, subst, arith, cond}
-use Rattle.std.specs.List.{All}
 use Rattle.std.proofs.lemmas.List.{length-map}
 use Rattle.timer_objects.specs.Settings.{is_there}
-use Rattle.keyed_lists.specs.Keyed.{Entry}
 use Rattle.live_world.specs.Live.{Live}
-use Rattle.live_world.specs.Parts.{shown_object, with_member}
-use Rattle.live_world.proofs.Members.{may_list_member}
+use Rattle.live_world.specs.Parts.{shown_object}
+use Rattle.live_world.proofs.MembersListed.{may_list_member}
 use Rattle.live_world.proofs.Timed.{free_next, with_timer}
 use Rattle.live_world.proofs.Making.{created}
 use Rattle.live_world.proofs.LiveWorld.create_object.Goals as goal
@@ -16,7 +14,7 @@ invariant_of-self c =
     let number = c.in-Ok.ensures.number in
     let kind = sym c.is_timed_kind.ensures ∙ c.if-is_timed_kind.true in
     (created i c.args.self.now c.args.row c.add.new.self c.list_member.new.members c.create.new.self c.self.view_is c.self.invariant c.requires c.in-Ok.ensures.added
-    (c.list_member.ensures ∙ ap (with_member i.members i.limits.groups c.args.row.env.group) number)
+    c.list_member.ensures
     (c.create.ensures ∙ ap (with_timer i.timers) number ∙ sym (ap (λ b. cond b (with_timer i.timers (length i.objects.rows + 1)) i.timers) kind))).keeps
 
 pub invariant_of-self-else-is_timed_kind : goal.invariant_of-self-else-is_timed_kind
@@ -25,7 +23,7 @@ invariant_of-self-else-is_timed_kind c =
     let number = c.in-Ok.ensures.number in
     let kind = sym c.is_timed_kind.ensures ∙ c.if-is_timed_kind.false in
     (created i c.args.self.now c.args.row c.add.new.self c.list_member.new.members i.timers c.self.view_is c.self.invariant c.requires c.in-Ok.ensures.added
-    (c.list_member.ensures ∙ ap (with_member i.members i.limits.groups c.args.row.env.group) number)
+    c.list_member.ensures
     (sym (ap (λ b. cond b (with_timer i.timers (length i.objects.rows + 1)) i.timers) kind))).keeps
 
 pub create-requires-clause-free : goal.create-requires-clause-free
@@ -35,5 +33,4 @@ pub list_member-requires : goal.list_member-requires
 list_member-requires c =
     let i = c.self.inside in
     let room = subst (λ (l : Live). length l.world.objects < l.world.limits.objects) (sym c.self.view_is) c.requires.room in
-    let may = may_list_member i c.self.invariant (omega (arith, room, length-map i.objects.rows shown_object)) in
-    record { keys = may.keys; room = may.room; last = subst (λ n. All (λ (e : Entry). e.number < n) i.members.entries) (sym c.in-Ok.ensures.number) may.last }
+    may_list_member i c.self.invariant (omega (arith, room, length-map i.objects.rows shown_object))

@@ -9,7 +9,7 @@ pub give_back-requires : goal.give_back-requires
 give_back-requires c = runs_here c.self.inside c.args.self.now c.args.by c.self.view_is c.requires
 
 pub invariant_of-self : goal.invariant_of-self
-invariant_of-self c = (ended_by c.self.inside c.args.self.now c.args.by c.give_back.new.self c.remove.new.self c.left.new.self c.self.view_is c.self.invariant c.requires c.give_back.ensures c.remove.ensures c.left.ensures).keeps
+invariant_of-self c = (ended_by c.self.inside c.args.self.now c.args.by c.give_back.new.self c.remove.new.self c.self.view_is c.self.invariant c.requires c.give_back.ensures c.remove.ensures).keeps
 
 pub returns : goal.returns
-returns c = (ended_by c.self.inside c.args.self.now c.args.by c.give_back.new.self c.remove.new.self c.left.new.self c.self.view_is c.self.invariant c.requires c.give_back.ensures c.remove.ensures c.left.ensures).becomes
+returns c = (ended_by c.self.inside c.args.self.now c.args.by c.give_back.new.self c.remove.new.self c.self.view_is c.self.invariant c.requires c.give_back.ensures c.remove.ensures).becomes

@@ -1,43 +1,36 @@
-use Rattle.std.proofs.Common.{◌^◌, None, Some, Option, IfSome, sym, subst}
+use Rattle.begun_waits.specs.Begun.{wait_among, wanted_by}
+use Rattle.std.proofs.Common.{◌≡◌, ◌^◌, Option, IfSome, ap, sym, subst, ◌∙◌}
 use Rattle.tp_base.specs.declared.ids.KernelId.{KernelId}
 use Rattle.tp_model.specs.Support.Allowed.{MayEnd}
 use Rattle.tp_model.specs.Support.Ranged.{AreTakenAtMost}
 use Rattle.live_world.specs.Live.{Live}
-use Rattle.live_world.specs.Taking.{IsFreeFor}
+use Rattle.live_world.specs.Taking.{IsFreeFor, rows_left}
 use Rattle.live_world.specs.View.{shown}
-use Rattle.live_world.proofs.Covered.{at_place, nowhere}
 use Rattle.live_world.proofs.Takings.{wanted_free}
-use Rattle.live_world.proofs.Progress.{noted_here}
-use Rattle.live_world.proofs.Ending.{has_begun, ended_here}
+use Rattle.live_world.proofs.Ending.{ended, has_begun}
 use Rattle.live_world.proofs.LiveWorld.end_wait.Goals as goal
+use Rattle.live_world.proofs.LiveWorld.end_wait.Goals.{After-end}
 
-pub unreachable-requires : goal.unreachable-requires
-unreachable-requires c =
-    (has_begun c.self.inside c.args.self.now c.args.who c.args.how c.self.view_is c.self.invariant c.requires.allowed).acts
-    (at_place c.self.inside c.args.self.now c.args.who c.waiter.result None c.self.view_is c.waiter.ensures (nowhere c.waiter.result c.in_default.not-Some))
-
-pub finish-requires : goal.finish-requires
-finish-requires c =
-    (has_begun c.self.inside c.args.self.now c.args.who c.args.how c.self.view_is c.self.invariant c.requires.allowed).begun c.in-Some.waiter
-    (at_place c.self.inside c.args.self.now c.args.who c.waiter.result (Some c.in-Some.waiter) c.self.view_is c.waiter.ensures c.in-Some.is)
-
-pub finish-requires-2 : goal.finish-requires-2
-finish-requires-2 c =
-    (has_begun c.self.inside c.args.self.now c.args.who c.args.how c.self.view_is c.self.invariant c.requires.allowed).noticing c.in-Some.waiter
-    (at_place c.self.inside c.args.self.now c.args.who c.waiter.result (Some c.in-Some.waiter) c.self.view_is c.waiter.ensures c.in-Some.is)
+pub unwrap-waiter-requires : goal.unwrap-waiter-requires
+unwrap-waiter-requires c = c.place.ensures.acts (has_begun c.self.inside c.args.self.now c.args.who c.args.how c.self.view_is c.requires.allowed)
 
 pub end_acquire-requires : goal.end_acquire-requires
 end_acquire-requires c is =
     let i = c.self.inside in
     let w = (shown i).world in
-    let wanted = noted_here i c.args.who c.in-Some.waiter c.index.result.now c.self.invariant (at_place c.self.inside c.args.self.now c.args.who c.waiter.result (Some c.in-Some.waiter) c.self.view_is c.waiter.ensures c.in-Some.is) c.index.ensures in
-    subst (λ (o : Option KernelId). IfSome o (λ (kernel : KernelId). IsFreeFor c.args.who i.kernels.rows kernel.0)) (sym wanted)
+    subst (λ (o : Option KernelId). IfSome o (λ (kernel : KernelId). IsFreeFor c.args.who i.kernels.rows kernel.0)) (sym c.wanted.ensures)
     (wanted_free w c.args.who c.args.how (subst (λ (l : Live). MayEnd l.world c.args.who c.args.how) (sym c.self.view_is) c.requires.allowed) (subst (λ (l : Live). AreTakenAtMost (2 ^ 47) l.world) (sym c.self.view_is) c.requires.taken) is)
 
+-- what is left of the kernel objects, by what the wait is for
+kernels_read : (c : After-end) → c.end_acquire.new.kernels ≡ record c.self.inside.kernels { rows = rows_left c.args.who c.args.how (wanted_by (wait_among c.self.inside.waits.waits c.args.who)) c.self.inside.kernels.rows }
+kernels_read c = c.end_acquire.ensures ∙ ap (λ o. record c.self.inside.kernels { rows = rows_left c.args.who c.args.how o c.self.inside.kernels.rows }) c.wanted.ensures
+
 pub invariant_of-self : goal.invariant_of-self
-invariant_of-self c = (ended_here c.self.inside c.args.self.now c.args.who c.args.how c.in-Some.waiter c.finish.new.self c.finish-2.new.self c.without-self-inside.result c.end_acquire.new.kernels c.index.result.now c.self.view_is c.self.invariant c.requires.allowed
-    (at_place c.self.inside c.args.self.now c.args.who c.waiter.result (Some c.in-Some.waiter) c.self.view_is c.waiter.ensures c.in-Some.is) c.finish.ensures c.finish-2.ensures c.without-self-inside.ensures c.index.ensures c.end_acquire.ensures).keeps
+invariant_of-self c =
+    (ended c.self.inside c.args.self.now c.args.who c.args.how c.unwrap-waiter.result c.let_go_all.new.self c.end.new.self c.end_acquire.new.kernels c.self.view_is c.self.invariant c.requires.allowed
+    (sym c.place.ensures.value ∙ c.unwrap-waiter.ensures) c.let_go_all.ensures c.end.ensures (kernels_read c)).keeps
 
 pub returns : goal.returns
-returns c = (ended_here c.self.inside c.args.self.now c.args.who c.args.how c.in-Some.waiter c.finish.new.self c.finish-2.new.self c.without-self-inside.result c.end_acquire.new.kernels c.index.result.now c.self.view_is c.self.invariant c.requires.allowed
-    (at_place c.self.inside c.args.self.now c.args.who c.waiter.result (Some c.in-Some.waiter) c.self.view_is c.waiter.ensures c.in-Some.is) c.finish.ensures c.finish-2.ensures c.without-self-inside.ensures c.index.ensures c.end_acquire.ensures).becomes
+returns c =
+    (ended c.self.inside c.args.self.now c.args.who c.args.how c.unwrap-waiter.result c.let_go_all.new.self c.end.new.self c.end_acquire.new.kernels c.self.view_is c.self.invariant c.requires.allowed
+    (sym c.place.ensures.value ∙ c.unwrap-waiter.ensures) c.let_go_all.ensures c.end.ensures (kernels_read c)).becomes

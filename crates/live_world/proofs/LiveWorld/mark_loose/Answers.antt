@@ -1,4 +1,5 @@
-use Rattle.std.proofs.Common.{◌≡◌, false, true, sym, ap, ◌∙◌, arith}
+use Rattle.std.proofs.Common.{◌≡◌, ◌+◌, false, length, true, sym, ap, ◌∙◌}
+use Rattle.tp_base.specs.declared.limits.Limits.{Limits}
 use Rattle.tp_base.specs.declared.rows.Status.{Status}
 use Rattle.tp_base.specs.declared.rows.CallbackRow.{CallbackRow}
 use Rattle.tp_base.specs.declared.plans.Mark.TheVariants.{Loose}
@@ -29,20 +30,17 @@ change-requires c =
     }
 
 pub leave_unclosed-requires : goal.leave_unclosed-requires
-leave_unclosed-requires c =
-    let k = c.self.invariant in
-    rw c.deref.ensures.value
-    (record {
-      as_many = k.closing.closers ∙ sym k.covered.waiters;
-      few = omega (arith, k.closing.closers, k.sized.in_range.clients_most, k.sized.in_range.workers_most);
-    })
+leave_unclosed-requires c = record {
+  as_many = sym (ap (λ (x : Callbacks). length x.held) c.change.ensures ∙ c.self.invariant.covered.waiters);
+  actors = ap (λ (ls : Limits). ls.clients + ls.workers) (sym c.self.invariant.covered.wait_limits);
+}
 
 pub invariant_of-self : goal.invariant_of-self
 invariant_of-self c =
-    (loosened_by c.self.inside c.args.self.now c.args.by c.change.new.self c.leave_unclosed.new.barriers c.self.view_is c.self.invariant c.requires
-    (replaced_now c.self.inside.callbacks c.args.by.callback c.loosened.result c.change.new.self c.loosened.ensures c.change.ensures) (rw c.deref.ensures.value at c.leave_unclosed.ensures)).keeps
+    (loosened_by c.self.inside c.args.self.now c.args.by c.change.new.self c.leave_unclosed.new.callbacks c.self.view_is c.self.invariant c.requires
+    (replaced_now c.self.inside.callbacks c.args.by.callback c.loosened.result c.change.new.self c.loosened.ensures c.change.ensures) c.leave_unclosed.ensures).keeps
 
 pub returns : goal.returns
 returns c =
-    (loosened_by c.self.inside c.args.self.now c.args.by c.change.new.self c.leave_unclosed.new.barriers c.self.view_is c.self.invariant c.requires
-    (replaced_now c.self.inside.callbacks c.args.by.callback c.loosened.result c.change.new.self c.loosened.ensures c.change.ensures) (rw c.deref.ensures.value at c.leave_unclosed.ensures)).becomes
+    (loosened_by c.self.inside c.args.self.now c.args.by c.change.new.self c.leave_unclosed.new.callbacks c.self.view_is c.self.invariant c.requires
+    (replaced_now c.self.inside.callbacks c.args.by.callback c.loosened.result c.change.new.self c.loosened.ensures c.change.ensures) c.leave_unclosed.ensures).becomes

@@ -1,38 +1,33 @@
-use Rattle.std.proofs.Common.{◌≡◌, ℕ, ◌+◌, None, replicate, ◌∙◌, refl, sym, ap, ap₂, subst}
+use Rattle.std.proofs.Common.{◌≡◌, replicate, ◌∙◌, refl, sym, ap, ap₂, subst}
 use Rattle.std.proofs.lemmas.Result.{IfOk-at_ok}
 use Rattle.std.specs.Global.{Vec}
 use Rattle.tp_base.specs.declared.limits.Limits.{Limits}
 use Rattle.tp_base.specs.declared.rows.ClientRow.{ClientRow}
+use Rattle.begun_waits.specs.Begun.{Begun}
 use Rattle.kernel_events.specs.Kernels.{Kernels}
 use Rattle.timer_objects.specs.Settings.{Timers}
 use Rattle.live_world.specs.declared.LiveWorld.TheInside.{Inside}
-use Rattle.live_world.specs.declared.begun.BegunWaits.{BegunWaits}
 use Rattle.live_world.specs.declared.opened.OpenedRows.{OpenedRows}
-use Rattle.live_world.specs.declared.opened.OpenedWaits.{OpenedWaits}
 use Rattle.tp_model.specs.World.{opening}
 use Rattle.tp_model.specs.Support.Remembered.{forget}
 use Rattle.tp_model.specs.World.{unfinished}
-use Rattle.live_world.specs.Opening.{opened_kernels, opened_timers}
+use Rattle.live_world.specs.Opening.{opened_kernels, opened_timers, opened_waits}
 use Rattle.live_world.proofs.Moving.{Becomes}
 use Rattle.live_world.proofs.Opening.{opened}
 use Rattle.live_world.proofs.LiveWorld.open.Goals as goal
 
 abbrev Tables : Type 0
-Tables = ((OpenedRows × OpenedWaits) × Vec ClientRow) × Timers
+Tables = ((OpenedRows × Begun) × Vec ClientRow) × Timers
 
-abbrev parts : Limits → Tables → Kernels → BegunWaits → Inside
-parts limits (((rows, waits), clients), timers) kernels begun = record {
+abbrev parts : Limits → Tables → Kernels → Inside
+parts limits (((rows, waits), clients), timers) kernels = record {
   limits = limits;
   pools = rows.pools;
   groups = rows.groups;
   objects = rows.objects;
   members = rows.members;
   callbacks = rows.callbacks;
-  barriers = waits.barriers;
-  waits = begun;
-  wanted = waits.wanted;
-  closing = waits.closing;
-  notices = waits.notices;
+  waits = waits;
   clients = clients;
   timers = timers;
   kernels = kernels;
@@ -41,13 +36,12 @@ parts limits (((rows, waits), clients), timers) kernels begun = record {
   made = 0;
 }
 
-abbrev becomes : goal.After-none → Tables → Type 0
-becomes c tables = Becomes (parts c.args.limits tables c.in_ok-tables-3.kernels c.none.result) (record { world = forget (opening c.args.limits); made = 0 })
+abbrev becomes : goal.In_ok-tables-3 → Tables → Type 0
+becomes c tables = Becomes (parts c.args.limits tables c.in_ok-tables-3.kernels) (record { world = forget (opening c.args.limits); made = 0 })
 
-opened_here : (c : goal.After-none) → becomes c c.in_ok-tables-3.tables
+opened_here : (c : goal.In_ok-tables-3) → becomes c c.in_ok-tables-3.tables
 opened_here c =
     let limits : Limits = c.args.limits in
-    let actors : ℕ = limits.clients + limits.workers in
     let rows = c.in_ok-rows.ensures in
     let waits = c.in_ok-rows-2.ensures in
     let clients = c.in_ok-tables.ensures in
@@ -55,7 +49,7 @@ opened_here c =
     let kernels = c.in_ok-tables-3.ensures in
     let tables : Tables = (((c.in_ok-rows.rows, c.in_ok-rows-2.waits), c.in_ok-tables.clients), c.in_ok-tables-2.timers) in
     let same : c.in_ok-tables-3.tables ≡ tables = kernels.0 ∙ ap (λ t. (t, c.in_ok-tables-2.timers)) (timers.0 ∙ ap (λ t. (t, c.in_ok-tables.clients)) (clients.0 ∙ ap (λ r. (r, c.in_ok-rows-2.waits)) waits.0)) in
-    subst (becomes c) (sym same) (opened (parts limits tables c.in_ok-tables-3.kernels c.none.result)
+    subst (becomes c) (sym same) (opened (parts limits tables c.in_ok-tables-3.kernels)
     (record {
       in_range = c.requires;
       pools = rows.pools;
@@ -63,19 +57,11 @@ opened_here c =
       objects = ap₂ (λ n rs. record { limit = n; rows = rs }) rows.object_limit rows.objects;
       members = rows.members;
       callbacks = rows.callbacks;
-      barriers = ap₂ (λ n ws. record { slots = n; waits = ws })
-          (IfOk-at_ok (λ x. x.barriers.slots ≡ limits.slots) waits.1 c.open_waits.ensures.barrier_slots)
-          (IfOk-at_ok (λ x. x.barriers.waits ≡ replicate actors None) waits.1 c.open_waits.ensures.barriers);
       clients = IfOk-at_ok (λ x. x.items ≡ replicate limits.clients unfinished) clients.1 c.open_clients.ensures;
-      timers = IfOk-at_ok (λ x. x ≡ opened_timers limits) timers.1 c.open.ensures;
+      timers = IfOk-at_ok (λ x. x ≡ opened_timers limits) timers.1 c.open-2.ensures;
       clock = refl;
-      waits = c.none.ensures;
-      wanted = IfOk-at_ok (λ x. x.wanted.items ≡ replicate actors None) waits.1 c.open_waits.ensures.wanted;
-      closing = IfOk-at_ok (λ x. x.closing.items ≡ replicate actors None) waits.1 c.open_waits.ensures.closing;
-      notices = ap₂ (λ n ws. record { slots = n; waits = ws })
-          (IfOk-at_ok (λ x. x.notices.slots ≡ limits.objects) waits.1 c.open_waits.ensures.notice_slots)
-          (IfOk-at_ok (λ x. x.notices.waits ≡ replicate actors None) waits.1 c.open_waits.ensures.notices);
-      kernels = IfOk-at_ok (λ x. x ≡ opened_kernels limits) kernels.1 c.open-2.ensures;
+      waits = IfOk-at_ok (λ x. x ≡ opened_waits limits) waits.1 c.open.ensures;
+      kernels = IfOk-at_ok (λ x. x ≡ opened_kernels limits) kernels.1 c.open-3.ensures;
       armed = refl;
       made = refl;
     }))

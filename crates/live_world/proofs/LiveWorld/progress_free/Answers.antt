@@ -1,46 +1,36 @@
-use Rattle.std.proofs.Common.{◌≡◌, Some, is_some, sym, ap, ap₂, ◌∙◌, arith}
+use Rattle.std.proofs.Common.{◌≡◌, ◌+◌, Some, is_some, sym, ap, ap₂, ◌∙◌}
 use Rattle.tp_base.specs.declared.rows.ObjectRow.{ObjectRow}
+use Rattle.begun_waits.specs.declared.Closing.{Closing}
 use Rattle.tp_model.specs.Counts.{numbered}
-use Rattle.tp_model.proofs.Refusals.{false_true}
-use Rattle.live_world.specs.declared.closing.Closing.{Closing}
 use Rattle.live_world.specs.declared.waits.Progress.TheVariants.{Notifies}
 use Rattle.live_world.specs.Live.{Live}
-use Rattle.live_world.specs.Parts.{place_of}
-use Rattle.live_world.proofs.Covered.{nowhere}
-use Rattle.live_world.proofs.Progress.{IsNotice, closing_here, is_notice, no_notice, told_notice}
+use Rattle.live_world.specs.View.{shown}
+use Rattle.live_world.proofs.Progress.{IsNotice, is_notice, no_notice, told_notice}
 use Rattle.live_world.proofs.LiveWorld.progress_free.Goals as goal
 use Rattle.live_world.proofs.LiveWorld.progress_free.Goals.{In-Some}
 
 -- the object of the first notice
-notice : (c : In-Some) → IsNotice c.self.inside c.args.who c.in-Some.number
-notice c = is_notice c.self.inside c.args.who c.args.waiter c.in-Some.number c.self.invariant (ap (λ (x : Live). place_of x.world.limits c.args.who) c.self.view_is ∙ c.requires.at) (sym c.in-Some.is ∙ c.least.ensures.value)
+notice : (c : In-Some) → IsNotice (shown c.self.inside).world c.args.who c.in-Some.object
+notice c = is_notice (c.self.inside.made + 1) (shown c.self.inside).world c.args.who c.in-Some.object c.self.invariant.sound (sym c.first_notice.ensures ∙ c.in-Some.is)
 
 pub returns-in_default : goal.returns-in_default
 returns-in_default c =
-    no_notice c.self.inside c.args.self.now c.args.who c.args.waiter c.least.result c.self.view_is c.self.invariant (ap (λ (x : Live). place_of x.world.limits c.args.who) c.self.view_is ∙ c.requires.at) c.requires.begun c.least.ensures.value (nowhere c.least.result c.in_default.not-Some)
+    let begun = rw (← c.self.view_is) at c.requires in
+    rw (← c.self.view_is) (no_notice (shown c.self.inside).world c.args.who begun (sym c.first_notice.ensures ∙ c.in_default.is))
 
-pub unreachable-requires : goal.unreachable-requires
-unreachable-requires c =
-    let n = notice (goal.at.unreachable-requires c).In-Some in
-    false_true (ap is_some (sym c.in_default-index.is ∙ closing_here c.self.inside c.args.who c.args.waiter c.index.result.now c.self.invariant (ap (λ (x : Live). place_of x.world.limits c.args.who) c.self.view_is ∙ c.requires.at) c.index.ensures ∙ n.closes))
+pub unwrap-closing-requires : goal.unwrap-closing-requires
+unwrap-closing-requires c = ap is_some (c.closing.ensures ∙ (notice (goal.at.unwrap-closing-requires c).In-Some).closes)
 
-pub overflow_cast-object : goal.overflow_cast-object
-overflow_cast-object c =
-    let n = notice (goal.at.overflow_cast-object c).In-Some in
-    omega (arith, n.few, c.self.invariant.sized.objects_within, ap (λ (x : Live). x.world.limits.objects) c.self.view_is, c.is_reachable.ensures.bounded.limits.objects_most)
-
-pub unreachable-requires-in_default-object : goal.unreachable-requires-in_default-object
-unreachable-requires-in_default-object c =
-    let n = notice (goal.at.unreachable-requires-in_default-object c).In-Some in
-    false_true (ap is_some (sym c.in_default-object.is ∙ c.object.ensures ∙ ap (λ (x : Live). numbered x.world.objects c.in-Some.number) (sym c.self.view_is) ∙ n.stands))
+pub unwrap-row-requires : goal.unwrap-row-requires
+unwrap-row-requires c =
+    ap is_some (c.object.ensures ∙ ap (λ (x : Live). numbered x.world.objects c.in-Some.object.0) (sym c.self.view_is) ∙ (notice (goal.at.unwrap-row-requires c).In-Some).stands)
 
 pub returns : goal.returns
 returns c =
     let n = notice (goal.at.returns c).In-Some in
-    let found : Some c.in-Some-object.row ≡ Some n.row = sym c.in-Some-object.is ∙ c.object.ensures ∙ ap (λ (x : Live). numbered x.world.objects c.in-Some.number) (sym c.self.view_is) ∙ n.stands in
-    let noted : Some c.in-Some-index.closing ≡ Some (record { group = n.group; context = n.wait.cleanup })
-    = sym c.in-Some-index.is ∙ closing_here c.self.inside c.args.who c.args.waiter c.index.result.now c.self.invariant (ap (λ (x : Live). place_of x.world.limits c.args.who) c.self.view_is ∙ c.requires.at) c.index.ensures ∙ n.closes in
-    let row : c.in-Some-object.row ≡ n.row = cc in
-    let closing : c.in-Some-index.closing ≡ record { group = n.group; context = n.wait.cleanup } = cc in
-    ap₂ (λ (r : ObjectRow) (k : Closing). Notifies (record { 0 = c.in-Some.number }) r.env.cancel r.context k.context) row closing
-    ∙ told_notice c.self.inside c.args.self.now c.args.who c.in-Some.number c.self.view_is n
+    let found : Some c.unwrap-row.result ≡ Some n.row = sym c.unwrap-row.ensures ∙ c.object.ensures ∙ ap (λ (x : Live). numbered x.world.objects c.in-Some.object.0) (sym c.self.view_is) ∙ n.stands in
+    let closes : Some c.unwrap-closing.result ≡ Some (record { group = n.group; context = n.wait.cleanup }) = sym c.unwrap-closing.ensures ∙ c.closing.ensures ∙ n.closes in
+    let row : c.unwrap-row.result ≡ n.row = cc in
+    let closing : c.unwrap-closing.result ≡ record { group = n.group; context = n.wait.cleanup } = cc in
+    rw (← c.self.view_is)
+    (ap₂ (λ (r : ObjectRow) (k : Closing). Notifies c.in-Some.object r.env.cancel r.context k.context) row closing ∙ told_notice (shown c.self.inside).world c.args.who c.in-Some.object n)

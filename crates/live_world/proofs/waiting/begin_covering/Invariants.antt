@@ -8,7 +8,7 @@ use Rattle.live_world.proofs.waiting.begin_covering.Given as goal
 
 -- those before the next are covered
 abbrev pub invariant-loop-next : goal.invariant-loop-next
-invariant-loop-next l = Covering number_of (is_wanted l.cancel) (outstanding_among l.callbacks.rows l.fn.object) l.fn.barriers l.waiter l.barriers l.next
+invariant-loop-next l = Covering number_of (is_wanted l.cancel) (outstanding_among l.fn.callbacks.rows l.fn.object) l.fn.callbacks l.waiter l.callbacks l.next
 
 abbrev pub decreases-loop-next : goal.decreases-loop-next
-decreases-loop-next l = length (rest number_of (outstanding_among l.callbacks.rows l.fn.object) l.next)
+decreases-loop-next l = length (rest number_of (outstanding_among l.fn.callbacks.rows l.fn.object) l.next)

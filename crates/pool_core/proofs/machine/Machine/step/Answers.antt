@@ -15,7 +15,7 @@ use Rattle.pool_core.specs.declared.decisions.Decision.{Decision}
 use Rattle.pool_core.specs.View.{remembered, IsMachine}
 use Rattle.pool_core.specs.declared.machine.Machine.TheInside.{Inside}
 use Rattle.pool_core.proofs.Counting.{taken_within}
-use Rattle.pool_core.proofs.Stepping.{meets_looked, meets_refused, meets_done}
+use Rattle.pool_core.proofs.Stepping.{meets_looked, meets_refused, meets_done, takes}
 use Rattle.pool_core.proofs.machine.Machine.step.Goals as goal
 
 -- the plan is that of what the engine remembers
@@ -27,29 +27,29 @@ sound : (i : Inside) (e : Remembered) → remembered i ≡ e → IsSound (i.live
 sound i e same s = subst (λ (r : Remembered). IsSound (r.made + 1) r.world) same s
 
 pub enter-requires-clause-allowed : goal.enter-requires-clause-allowed
-enter-requires-clause-allowed c =
+enter-requires-clause-allowed g c =
     let e = c.args.self.now in
     (plan_allowed (e.made + 1) c.args.room e.world c.args.who c.args.call c.in-Accepted.answer c.plan.new.change (sound c.self.inside e c.self.view_is c.is_reachable.ensures.sound)
-    (planned c.self.inside e c.args.room c.args.who c.args.call c.plan.new.change c.plan.result _ c.self.view_is c.plan.ensures c.in-Accepted.is)).allowed
+    (planned c.self.inside e c.args.room c.args.who c.args.call c.plan.new.change c.plan.result _ c.self.view_is c.plan.ensures.plan c.in-Accepted.is)).allowed
 
 pub returns-in-Looked-clause-meets : goal.returns-in-Looked-clause-meets
-returns-in-Looked-clause-meets c w stands =
+returns-in-Looked-clause-meets g c w stands =
     meets_looked c.args.self.now w c.args.room c.args.who c.args.call c.in-Looked.look
-    (planned c.self.inside c.args.self.now c.args.room c.args.who c.args.call c.plan.new.change c.plan.result _ c.self.view_is c.plan.ensures c.in-Looked.is) stands
+    (planned c.self.inside c.args.self.now c.args.room c.args.who c.args.call c.plan.new.change c.plan.result _ c.self.view_is c.plan.ensures.plan c.in-Looked.is) stands
 
 pub returns-after-call-clause-meets : goal.returns-after-call-clause-meets
-returns-after-call-clause-meets c w stands =
+returns-after-call-clause-meets g c w stands =
     let same : c.match-call.self ≡ c.args.self.now = search rules in
     subst (λ (e : Remembered). Meets c.args.self.now e w (step w c.args.room c.args.who c.args.call) c.refuse.result) (sym same)
     (meets_refused c.args.self.now w c.args.room c.args.who c.args.call c.in-Refused.refusal c.refuse.result
-    (planned c.self.inside c.args.self.now c.args.room c.args.who c.args.call c.plan.new.change c.plan.result _ c.self.view_is c.plan.ensures c.in-Refused.is)
+    (planned c.self.inside c.args.self.now c.args.room c.args.who c.args.call c.plan.new.change c.plan.result _ c.self.view_is c.plan.ensures.plan c.in-Refused.is)
     c.refuse.ensures.outcome stands)
 
 pub returns-in-Accepted-clause-meets : goal.returns-in-Accepted-clause-meets
-returns-in-Accepted-clause-meets c w stands =
+returns-in-Accepted-clause-meets g c w stands =
     meets_done c.args.self.now w c.args.room c.args.who c.args.call c.enter.new.self c.in-Accepted.answer c.plan.new.change c.enter.result
     (sound c.self.inside c.args.self.now c.self.view_is c.is_reachable.ensures.sound)
-    (planned c.self.inside c.args.self.now c.args.room c.args.who c.args.call c.plan.new.change c.plan.result _ c.self.view_is c.plan.ensures c.in-Accepted.is)
+    (planned c.self.inside c.args.self.now c.args.room c.args.who c.args.call c.plan.new.change c.plan.result _ c.self.view_is c.plan.ensures.plan c.in-Accepted.is)
     c.enter.ensures.outcome c.enter.ensures.after stands
 
 -- ---- ranges
@@ -63,21 +63,29 @@ ranged i e room who call change decision is same k young s b in_range made found
     (plan_ranged (i.live.made + 1) i.live.world few s (record { limits = b.limits; pools_least = b.pools_least; pools_most = b.pools_most; slots_most = taken_within i.live.world b; running_most = b.running_most; rows = k.rows }) room who call in_range)
 
 pub returns-in-Looked-clause-in_range : goal.returns-in-Looked-clause-in_range
-returns-in-Looked-clause-in_range c =
+returns-in-Looked-clause-in_range g c =
     ranged c.self.inside c.args.self.now c.args.room c.args.who c.args.call c.plan.new.change c.plan.result _ c.self.view_is c.self.invariant c.requires.young c.is_reachable.ensures.sound c.is_reachable.ensures.bounded c.requires.in_range
-    c.plan.ensures c.in-Looked.is
+    c.plan.ensures.plan c.in-Looked.is
 
 pub refuse-requires : goal.refuse-requires
-refuse-requires c =
+refuse-requires g c =
     ranged c.self.inside c.args.self.now c.args.room c.args.who c.args.call c.plan.new.change c.plan.result _ c.self.view_is c.self.invariant c.requires.young c.is_reachable.ensures.sound c.is_reachable.ensures.bounded c.requires.in_range
-    c.plan.ensures c.in-Refused.is
+    c.plan.ensures.plan c.in-Refused.is
 
 pub enter-requires-clause-answer_in_range : goal.enter-requires-clause-answer_in_range
-enter-requires-clause-answer_in_range c =
+enter-requires-clause-answer_in_range g c =
     (ranged c.self.inside c.args.self.now c.args.room c.args.who c.args.call c.plan.new.change c.plan.result _ c.self.view_is c.self.invariant c.requires.young c.is_reachable.ensures.sound c.is_reachable.ensures.bounded c.requires.in_range
-    c.plan.ensures c.in-Accepted.is).0
+    c.plan.ensures.plan c.in-Accepted.is).0
 
 pub enter-requires-clause-change_in_range : goal.enter-requires-clause-change_in_range
-enter-requires-clause-change_in_range c =
+enter-requires-clause-change_in_range g c =
     (ranged c.self.inside c.args.self.now c.args.room c.args.who c.args.call c.plan.new.change c.plan.result _ c.self.view_is c.self.invariant c.requires.young c.is_reachable.ensures.sound c.is_reachable.ensures.bounded c.requires.in_range
-    c.plan.ensures c.in-Accepted.is).1
+    c.plan.ensures.plan c.in-Accepted.is).1
+
+-- ---- steps
+
+pub returns-in-Accepted-clause-bound : goal.returns-in-Accepted-clause-bound
+returns-in-Accepted-clause-bound g c is =
+    let i = c.self.inside in
+    let takes_one = takes i.live.world (i.live.made + 1) c.args.room c.args.who c.args.call c.in-Accepted.answer c.plan.new.change is (sym c.plan.ensures.plan ∙ ap (λ d. decided d c.plan.new.change) c.in-Accepted.is) in
+    omega (arith, c.plan.ensures.bound, c.enter.ensures.bound takes_one)
