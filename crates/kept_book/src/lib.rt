@@ -72,10 +72,11 @@ impl<B: Recorded> Recorded for Kept<B> {
         Ok(Kept { book, entries })
     }
 
-    fn step_into(&mut self, who: Who, call: Call, outcome: &mut Outcome) {
+    fn step_into(&mut self, who: Who, call: &Call, outcome: &mut Outcome) {
         self.book.step_into(who, call, outcome);
         if let Outcome::Done(answer) = *outcome {
             legal_fits();
+            let call = *call;
             self.entries.push_reserved(Entry { who, call, answer });
         }
     }

@@ -10,7 +10,7 @@ use Rattle.recorded.specs.Recordings.{Recording}
 use Rattle.pool_book.specs.declared.Book.TheInside.{Inside}
 
 abbrev pub recording : Inside → Recording
-recording a = record { limits = a.limits; capacity = a.capacity; history = a.past.entries }
+recording a = record { limits = a.limits; capacity = a.capacity; history = a.past }
 
 -- the history is legal, and the engine stands for the world after it
 pub record IsBook (engine : Remembered) (limits : Limits) (capacity len : ℕ) (history : List Entry) : Type 0 where
@@ -24,4 +24,4 @@ pub record IsBook (engine : Remembered) (limits : Limits) (capacity len : ℕ) (
   pub few : length history + owed (after limits history) ≤ max capacity limits.clients
 
 abbrev pub IsKept : Inside → Type 0
-IsKept a = IsBook a.engine a.limits a.capacity a.len a.past.entries
+IsKept a = IsBook a.engine a.limits a.capacity a.len a.past

@@ -84,12 +84,12 @@ impl Recorded for Book {
         })
     }
 
-    fn step_into(&mut self, who: Who, call: Call, outcome: &mut Outcome) {
+    fn step_into(&mut self, who: Who, call: &Call, outcome: &mut Outcome) {
         let room = self.room();
-        let made = self.engine.step(who, call, room);
+        let made = self.engine.step(who, *call, room);
         if let Outcome::Done(answer) = made {
             self.len += 1;
-            self.past = self.past.with(&who, &call, &answer);
+            self.past.push(&who, call, &answer);
         }
         *outcome = made;
     }

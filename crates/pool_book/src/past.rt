@@ -1,40 +1,65 @@
-// The entries of a history. They exist only in proofs.
+//! The entries of a history, for contracts alone. They take no bytes: what was written down tells them, one
+//! entry after another, and of that no value is kept.
 
-ghost use Rattle.std.specs.Prelude.{◌≡◌, List, [], ◌∷◌, ◌++◌};
-ghost use Rattle.std.specs.Borrow.{ftrue};
-ghost use Rattle.tp_base.specs.declared.answers.Entry.{Entry as Written};
+ghost use Rattle.std.specs.Prelude.{◌≡◌, [], ◌∷◌, ◌++◌};
 
+use ghost_copy::GhostCopy;
 use std::marker::Model;
+use std::mem;
 use tp_base::answers::Answer;
 use tp_base::calls::Call;
 use tp_base::ids::Who;
 
-// It takes no bytes, and its methods do nothing at run time.
+// What was written down: nothing yet, or one entry more after what was before.
 #[derive(Drop)]
-pub struct Past {
-    pub ghost entries: { List Written },
+pub(crate) enum Written {
+    Opened,
+    Entered {
+        before: GhostCopy<Written>,
+        who: GhostCopy<Who>,
+        call: GhostCopy<Call>,
+        answer: GhostCopy<Answer>,
+    },
+}
+
+// The entries, in the order in which they were written.
+#[derive(Drop)]
+pub(crate) struct Past {
+    written: GhostCopy<Written>,
 }
 
 impl Model for Past {
-    ghost also_owns = { λ _. ftrue };
-}
+    ghost use Rattle.std.specs.Prelude.{List};
+    ghost use Rattle.tp_base.specs.declared.answers.Entry.{Entry};
 
-// It owns nothing.
-unsafe impl Send for Past {}
+    ghost Value = { List Entry };
+
+    ghost use Rattle.pool_book.specs.Past.{entries_in};
+
+    ghost view = { λ a. entries_in a.written.value };
+}
 
 impl Past {
     #[inline(always)]
-    pub fn none() -> Past
-        ensures { result.entries ≡ [] }
+    pub(crate) fn none() -> Past
+        ensures { result ≡ [] }
     {
-        Past {}
+        Past {
+            written: GhostCopy::of(&Written::Opened),
+        }
     }
 
-    // The same with one more entry, which has these parts.
+    // One more entry, which has these parts.
     #[inline(always)]
-    pub fn with(&self, _who: &Who, _call: &Call, _answer: &Answer) -> Past
-        ensures { result.entries ≡ self.now.entries ++ record { who = _who.now; call = _call.now; answer = _answer.now } ∷ [] }
+    pub(crate) fn push(&mut self, who: &Who, call: &Call, answer: &Answer)
+        ensures { self.new ≡ self.old ++ record { who = who.now; call = call.now; answer = answer.now } ∷ [] }
     {
-        Past {}
+        let before = mem::replace(&mut self.written, GhostCopy::of(&Written::Opened));
+        self.written = GhostCopy::of(&Written::Entered {
+            before,
+            who: GhostCopy::of(who),
+            call: GhostCopy::of(call),
+            answer: GhostCopy::of(answer),
+        });
     }
 }

@@ -96,12 +96,12 @@ pub trait Recorded: Drop {
     /// The outcome is the machine's: the answer, where the call was accepted or refused, which is then
     /// the history's next entry; or a look or Full, where nothing happened and nothing is written down.
     /// It takes no memory.
-    fn step_into(&mut self, who: Who, call: Call, outcome: &mut Outcome)
-        requires { IsCallInRange call }
-        ensures outcome { outcome.new ≡ outcome_behind (recording self.old) who call }
-        ensures history { recording self.new ≡ recorded (recording self.old) who call outcome.new }
+    fn step_into(&mut self, who: Who, call: &Call, outcome: &mut Outcome)
+        requires { IsCallInRange call.now }
+        ensures outcome { outcome.new ≡ outcome_behind (recording self.old) who call.now }
+        ensures history { recording self.new ≡ recorded (recording self.old) who call.now outcome.new }
         // What is played on goes on from there.
-        ensures first { IsFirstOf (recording self.old) (recording self.new) who call outcome.new }
+        ensures first { IsFirstOf (recording self.old) (recording self.new) who call.now outcome.new }
         // Each number of it can stand in a line.
         ensures in_range { IsOutcomeInRange outcome.new }
         ensures legal { IsLegal (recording self.new).limits (recording self.new).capacity (recording self.new).history }
@@ -118,7 +118,7 @@ pub trait Recorded: Drop {
         ensures laws { KeepsLaws (recording self.new).limits (recording self.new).history }
     {
         let mut outcome = Outcome::Look(Look::Stay);
-        self.step_into(who, call, &mut outcome);
+        self.step_into(who, &call, &mut outcome);
         outcome
     }
 

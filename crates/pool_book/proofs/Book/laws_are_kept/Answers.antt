@@ -5,7 +5,7 @@ use Rattle.tp_model.proofs.Stalling.{stays_stalled}
 use Rattle.pool_book.proofs.Book.laws_are_kept.Goals as goal
 
 pub returns-clause-laws : goal.returns-clause-laws
-returns-clause-laws c = let a = c.self.inside in rw (← c.self.view_is) (keeps_laws a.limits a.capacity a.past.entries c.self.invariant.legal)
+returns-clause-laws c = let a = c.self.inside in rw (← c.self.view_is) (keeps_laws a.limits a.capacity a.past c.self.invariant.legal)
 
 pub returns-clause-stalls : goal.returns-clause-stalls
 returns-clause-stalls c =
