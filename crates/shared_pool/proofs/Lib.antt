@@ -1,3 +1,5 @@
 pub mod Begins
+pub mod Calling
+pub mod Entries
 pub mod Opening
 pub mod Waiting

@@ -1,6 +1,6 @@
 -- What the calls that wait come to, from what their Begin call and their Ends came to.
-use Rattle.std.proofs.Common.{◌≡◌, ℕ, ◌+◌, ◌<◌, ◌≤◌, Bool, true, false, cond, ◌&&◌, ◌||◌, List, [], ◌∷◌, ◌++◌, length, map, find, is_some, Option, Some, None, ◌⊎◌, inl, inr, option_map, refl, sym, ap, ◌∙◌, subst, arith, append_assoc, append-nil, eq-eqb, length-append}
-use Rattle.std.specs.List.{filter_map, cons_option, fold, list_any}
+use Rattle.std.proofs.Common.{◌≡◌, ℕ, ◌+◌, ◌<◌, ◌≤◌, Bool, true, false, cond, ◌&&◌, ◌||◌, List, [], ◌∷◌, ◌++◌, length, map, find, is_some, Option, Some, None, refl, sym, ap, ◌∙◌, subst, arith, append_assoc, append-nil, length-append}
+use Rattle.std.specs.List.{filter_map, fold, list_any}
 use Rattle.std.specs.Option.{unwrap_or}
 use Rattle.std.proofs.lemmas.List.{append_cancel_left, length-map, map-append}
 use Rattle.std.proofs.lemmas.List.Elements.{filter-append, filter_map-append}
@@ -18,101 +18,29 @@ use Rattle.tp_base.specs.declared.ids.GroupId.{GroupId}
 use Rattle.tp_base.specs.declared.ids.KernelId.{KernelId}
 use Rattle.tp_base.specs.declared.ids.ObjectId.{ObjectId}
 use Rattle.tp_base.specs.declared.ids.Who.{Who}
-use Rattle.tp_base.specs.declared.ids.Who.TheVariants.{Client, Worker}
 use Rattle.tp_base.specs.declared.limits.Limits.{Limits}
 use Rattle.tp_base.specs.declared.rows.WaitTarget.{WaitTarget}
 use Rattle.tp_base.specs.declared.rows.WaitTarget.TheVariants.{Object, Group, Kernel}
-use Rattle.tp_model.specs.Conditions.{is_actor, is_in_wait}
+use Rattle.tp_model.specs.Conditions.{is_in_wait}
 use Rattle.tp_model.specs.History.{is_refusal, after, IsLegal}
 use Rattle.tp_model.specs.Laws.{KeepsLaws}
 use Rattle.tp_model.specs.Waits.{is_group_target, is_object_target}
 use Rattle.tp_model.specs.Laws.Covered.{ends, end_in, IsCovered}
-use Rattle.tp_model.specs.Laws.Entries.{Begins, begins_by, begins_call, is_ending, Notice, notice_by, Creation, created_by}
-use Rattle.tp_model.specs.Laws.Notices.{given, notices_due, due_among, due_of, due_to, is_due_behind, numbers_created, created_number, notice_for, IsClosing, IsFront}
-use Rattle.tp_model.specs.Stages.{is_wait_answer, is_wait_outcome, waits_after, waits_from, waits_step, IsActor, MachineFacts}
+use Rattle.tp_model.specs.Laws.Entries.{Begins, begins_by, begins_call, is_ending, Notice, notice_by}
+use Rattle.tp_model.specs.Laws.Notices.{given, notices_due, numbers_created, created_number, IsClosing, IsFront}
+use Rattle.tp_model.specs.Stages.{is_wait_answer, waits_after, waits_from, IsActor}
 use Rattle.recorded.specs.Recordings.{outcome_behind, room_of}
 use Rattle.turn_lock.specs.declared.seats.Seat.{Seat}
 use Rattle.turn_lock.specs.declared.views.Setup.{Setup}
-use Rattle.turn_lock.specs.Histories.{actor_of, own, StartsWith}
-use Rattle.turn_lock.specs.Seats.{seen_of, mine_of, met_of, setup_in, actor_in, IsIdle, Same}
+use Rattle.turn_lock.specs.Histories.{own}
+use Rattle.turn_lock.specs.Seats.{seen_of, mine_of, setup_in, actor_in}
 use Rattle.turn_lock.specs.Views.{recording_of}
 use Rattle.shared_pool.specs.declared.notices.Told.{Told}
-use Rattle.shared_pool.specs.Calls.{comes_to, entry_of, HasCalled, HasEnded, HasLookedFor, HasMetMore}
-use Rattle.shared_pool.specs.Waits.{is_accepted, is_begin, notice_entry, notice_told, with_told, HasClosed, HasStayed, HasWaitedFor, IsAnswered, IsFreed, IsInWait, IsTelling, IsUnbegun, IsWaiting, IsWaitOver}
-use Rattle.shared_pool.proofs.Begins.{beginning, IsBeginning}
-
-same_self : (who : Who) → is_same_actor who who ≡ true
-same_self (Client n) = eq-eqb n n refl
-same_self (Worker n) = eq-eqb n n refl
-
--- ---- an actor's own entries
-
-own_last : (who : Who) (entries : List Entry) (entry : Entry) → entry.who ≡ who → own who (entries ++ entry ∷ []) ≡ own who entries ++ entry ∷ []
-own_last who entries entry is = filter-append (λ (e : Entry). is_same_actor e.who who) entries (entry ∷ []) ∙ ap (λ b. own who entries ++ cond b (entry ∷ []) []) (ap (λ w. is_same_actor w who) is ∙ same_self who)
-
-end_own : (who : Who) (entries : List Entry) → end_in who entries ≡ find is_ending (own who entries)
-end_own who [] = refl
-end_own who (e ∷ es) =
-    elim (is_same_actor e.who who) as (λ b. cond (b && is_ending e) (Some e) (end_in who es) ≡ find is_ending (cond b (e ∷ own who es) (own who es))) [
-      | true ↦ ap (λ o. cond (is_ending e) (Some e) o) (end_own who es)
-      | false ↦ end_own who es
-    ]
-
-given_own : (who : Who) (entries : List Entry) → given who entries ≡ filter_map (λ (e : Entry). notice_by e.answer) (own who entries)
-given_own who [] = refl
-given_own who (e ∷ es) =
-    elim (is_same_actor e.who who) as (λ b. cons_option (cond b (notice_by e.answer) None) (given who es) ≡ filter_map (λ (x : Entry). notice_by x.answer) (cond b (e ∷ own who es) (own who es))) [
-      | true ↦ ap (cons_option (notice_by e.answer)) (given_own who es)
-      | false ↦ given_own who es
-    ]
-
--- the entry that a notice is
-abbrev notice_by_who : Who → Told → Entry
-notice_by_who who t = record { who = who; call = End; answer = answer.Notice t.object t.routine t.context t.cleanup }
-
-none_ends : (who : Who) (told : List Told) → find is_ending (map (notice_by_who who) told) ≡ None
-none_ends who [] = refl
-none_ends who (t ∷ told) = none_ends who told
-
-all_given : (who : Who) (told : List Told) → filter_map (λ (e : Entry). notice_by e.answer) (map (notice_by_who who) told) ≡ map notice_told told
-all_given who [] = refl
-all_given who (t ∷ told) = ap (λ l. notice_told t ∷ l) (all_given who told)
-
-still_waits : (who : Who) (told : List Told) → fold (λ (b : Bool) (e : Entry). waits_after b e.call e.answer) true (map (notice_by_who who) told) ≡ true
-still_waits who [] = refl
-still_waits who (t ∷ told) = still_waits who told
-
--- ---- how many notices there are
-
-due_few : (group : ℕ) (before later : List Entry) → length (due_among group before later) ≤ length (numbers_created later)
-due_few group before [] = omega arith
-due_few group before (e ∷ later) = of_created (due_few group before later) (created_by e)
-  where
-    of_created : length (due_among group before later) ≤ length (numbers_created later) → (o : Option Creation) → length (due_of group before later o ++ due_among group before later) ≤ length (cons_option (option_map (λ (c : Creation). c.object) o) (numbers_created later))
-    of_created few None = few
-    of_created few (Some c) =
-        elim (is_due_behind group before later c) as (λ b. length (cond b (c ∷ []) [] ++ due_among group before later) ≤ length (c.object ∷ numbers_created later)) [
-          | true ↦ omega (arith, few)
-          | false ↦ omega (arith, few)
-        ]
-
-due_to_few : (target : WaitTarget) (cleanup : ℕ) (before : List Entry) → length (due_to target cleanup before) ≤ length (numbers_created before)
-due_to_few (Object object) cleanup before = omega arith
-due_to_few (Kernel kernel) cleanup before = omega arith
-due_to_few (Group group) cleanup before = omega (arith, length-map (due_among group.0 before before) (notice_for cleanup), due_few group.0 before before)
-
-notices_few : (b : Begins) (before : List Entry) → length (notices_due b before) ≤ length (numbers_created before)
-notices_few b before =
-    elim b.cancel as (λ c. length (cond c (due_to b.target b.cleanup before) []) ≤ length (numbers_created before)) [
-      | true ↦ due_to_few b.target b.cleanup before
-      | false ↦ omega arith
-    ]
-
-abbrev pub GivesFacts : Type 0
-GivesFacts = (limits : Limits) (capacity : ℕ) (history : List Entry) → IsLegal limits capacity history → MachineFacts limits history
-
-through : (history front first : List Entry) → StartsWith history front → StartsWith front first → StartsWith history first
-through history front first s t = record { rest = t.rest ++ s.rest; is = s.is ∙ (ap (λ (h : List Entry). h ++ s.rest) t.is ∙ append_assoc first t.rest s.rest) }
+use Rattle.shared_pool.specs.Calls.{entry_of, HasCalled}
+use Rattle.shared_pool.specs.Waits.{notice_entry, notice_told, with_told, HasClosed, HasWaitedFor, IsAnswered, IsFreed, IsTelling, IsUnbegun, IsWaiting, IsWaitOver}
+use Rattle.shared_pool.proofs.Begins.{beginning}
+use Rattle.shared_pool.proofs.Calling.{actor_same, same_through, still_actor}
+use Rattle.shared_pool.proofs.Entries.{all_given, begins_none, begins_of, closing_first, end_own, given_own, none_ends, notice_by_who, notices_few, own_last, same_self, still_waits}
 
 told_none : (was : Option (List Told)) → was ≡ with_told [] was
 told_none None = refl
@@ -126,175 +54,11 @@ and_off : (b : Bool) → (b && false) ≡ false
 and_off true = refl
 and_off false = refl
 
--- a close that goes on behind more entries, of which none begins one, goes on behind the first ones
-abbrev begins_of : Who → Entry → Bool
-begins_of who e = is_same_actor e.who who && is_some (begins_by e)
-
-place_of : (h more xs : List Entry) (e : Entry) (ys : List Entry) → xs ++ e ∷ ys ≡ h ++ more → ((rest : List Entry) × (ys ≡ rest ++ more) × (xs ++ e ∷ rest ≡ h)) ⊎ ((zs : List Entry) × (more ≡ zs ++ e ∷ ys))
-place_of [] more xs e ys is = inr (xs, sym is)
-place_of (y ∷ h) more [] e ys is =
-    let head : e ≡ y = cc in
-    let back : ys ≡ h ++ more = cc in
-    inl (h, back, ap (λ x. x ∷ h) head)
-place_of (y ∷ h) more (x ∷ xs) e ys is =
-    let head : x ≡ y = cc in
-    let back : xs ++ e ∷ ys ≡ h ++ more = cc in
-    longer head (place_of h more xs e ys back)
-  where
-    longer : x ≡ y → ((rest : List Entry) × (ys ≡ rest ++ more) × (xs ++ e ∷ rest ≡ h)) ⊎ ((zs : List Entry) × (more ≡ zs ++ e ∷ ys)) → ((rest : List Entry) × (ys ≡ rest ++ more) × ((x ∷ xs) ++ e ∷ rest ≡ y ∷ h)) ⊎ ((zs : List Entry) × (more ≡ zs ++ e ∷ ys))
-    longer head (inl found) = inl (found.0, found.1, (λ i. head i ∷ found.2 i))
-    longer head (inr found) = inr found
-
-none_of : (p : Entry → Bool) (zs : List Entry) (e : Entry) (ys : List Entry) → p e ≡ true → list_any p (zs ++ e ∷ ys) ≡ false → ⊥
-none_of p [] e ys is off = let both : true ≡ false = ap (λ t. t || list_any p ys) (sym is) ∙ off in cc
-none_of p (z ∷ zs) e ys is off =
-    elim (p z) as (λ t. (t || list_any p (zs ++ e ∷ ys)) ≡ false → ⊥) [
-      | true ↦ λ h. let no : true ≡ false = h in cc
-      | false ↦ λ h. none_of p zs e ys is h
-    ] off
-
-none_found : (p : Entry → Bool) (xs ys : List Entry) → find p (xs ++ ys) ≡ None → find p xs ≡ None
-none_found p [] ys e = refl
-none_found p (x ∷ xs) ys e =
-    elim (p x) as (λ t. cond t (Some x) (find p (xs ++ ys)) ≡ None → cond t (Some x) (find p xs) ≡ None) [
-      | true ↦ λ h. absurd cc
-      | false ↦ λ h. none_found p xs ys h
-    ] e
-
-closing_first : (who : Who) (h more : List Entry) → IsClosing (h ++ more) who → list_any (begins_of who) more ≡ false → IsClosing h who
-closing_first who h more c off = of_place (place_of h more c.before c.begin c.between c.place)
-  where
-    of_place : ((rest : List Entry) × (c.between ≡ rest ++ more) × (c.before ++ c.begin ∷ rest ≡ h)) ⊎ ((zs : List Entry) × (more ≡ zs ++ c.begin ∷ c.between)) → IsClosing h who
-    of_place (inl found) = record {
-      before = c.before;
-      begin = c.begin;
-      between = found.0;
-      b = c.b;
-      place = found.2;
-      begins = c.begins;
-      by = c.by;
-      group = c.group;
-      cancels = c.cancels;
-      unended = none_found (ends who) found.0 more (ap (find (ends who)) (sym found.1) ∙ c.unended);
-    }
-    of_place (inr found) =
-        absurd (none_of (begins_of who) found.0 c.begin c.between ((λ i. c.by i && is_some (c.begins i))) (ap (list_any (begins_of who)) (sym found.1) ∙ off))
-
--- an actor that has no entries begins nothing
-begins_none : (who : Who) (entries : List Entry) → own who entries ≡ [] → list_any (begins_of who) entries ≡ false
-begins_none who [] none = refl
-begins_none who (e ∷ es) none =
-    elim (is_same_actor e.who who) as (λ t. cond t (e ∷ own who es) (own who es) ≡ [] → ((t && is_some (begins_by e)) || list_any (begins_of who) es) ≡ false) [
-      | true ↦ λ h. absurd cc
-      | false ↦ λ h. begins_none who es h
-    ] none
-
 abbrev target_of : Option Begins → WaitTarget
 target_of None = Kernel (record { 0 = 0 })
 target_of (Some b) = b.target
 
 module _ {B : Type 0} where
-  actor_same : (a b : Seat B) → Same a b → actor_in b ≡ actor_in a
-  actor_same a b same = λ i. actor_of (same.setup i).limits (same.number i)
-
-  pub same_through : (a m b : Seat B) → Same a m → Same m b → Same a b
-  same_through a m b s t = record { lock = t.lock ∙ s.lock; number = t.number ∙ s.number; setup = t.setup ∙ s.setup }
-
-  -- ---- the Begin call
-
-  pub begun : (call : Call) (told : Outcome) (a m : Seat B) → is_begin call ≡ true
-      → ((limits : Limits) (capacity : ℕ) (history : List Entry) → IsLegal limits capacity history → (who : Who) → is_actor (after limits history) who ≡ true → IsActor limits who)
-      → HasEnded call told a m → is_accepted told ≡ true → IsWaiting call [] a m
-  begun call (outcome.Done x) a m is actors h taken =
-      let b : IsBeginning (after (setup_in m).limits h.before) (actor_in m) call (comes_to m h.before call) = beginning (after (setup_in m).limits h.before) (room_of (recording_of (setup_in m) h.before)) (actor_in m) call is in
-      let accepted : is_refusal x ≡ false = not_refused x taken in
-      let begins : waits_step x call ≡ Some true = b.begins x h.came accepted in
-      record {
-        same = h.same;
-        idle = h.idle;
-        in_wait = record {
-          actor = actors (setup_in m).limits (setup_in m).capacity h.before h.legal_before (actor_in m) (b.actor x h.came accepted);
-          begun = ap (waits_from false) h.mine ∙ (fold-append (λ (s : Bool) (e : Entry). waits_after s e.call e.answer) false (mine_of a) (entry_of m call x ∷ []) ∙ ap (λ o. unwrap_or o (waits_from false (mine_of a))) begins);
-        };
-        before = h.before;
-        since = h.since;
-        legal_before = h.legal_before;
-        begun = x;
-        came = h.came;
-        begins = begins;
-        accepted = accepted;
-        between = [];
-        seen = h.seen;
-        own_before = h.own_before;
-        own_between = refl;
-        mine = h.mine;
-        laws = h.laws;
-      }
-    where
-      not_refused : (y : Answer) → is_accepted (outcome.Done y) ≡ true → is_refusal y ≡ false
-      not_refused (answer.Refused refusal) e = absurd cc
-      not_refused _ e = refl
-  begun call (outcome.Look look) a m is actors h taken = absurd cc
-  begun call (outcome.Full room cost) a m is actors h taken = absurd cc
-
-  pub unbegun : (call : Call) (told : Outcome) (a m : Seat B) → is_begin call ≡ true → HasEnded call told a m → is_accepted told ≡ false → IsUnbegun call told a m
-  unbegun call (outcome.Done (answer.Refused refusal)) a m is h off = h
-  unbegun call (outcome.Done _) a m is h off = absurd cc
-  unbegun call (outcome.Look look) a m is h off =
-      absurd ((beginning (after (setup_in m).limits (seen_of m)) (room_of (recording_of (setup_in m) (seen_of m))) (actor_in m) call is).no_look look h.came)
-  unbegun call (outcome.Full room cost) a m is h off = h
-
-  -- ---- an End
-
-  still_actor : (m b : Seat B) → Same m b → IsActor (setup_in m).limits (actor_in m) → IsActor (setup_in b).limits (actor_in b)
-  still_actor m b same actor = subst (λ (p : Limits × Who). IsActor p.0 p.1) (λ i. ((sym same.setup i).limits, sym (actor_same m b same) i)) actor
-
-  pub end_answer : GivesFacts → (x : Answer) (m b : Seat B) → IsInWait m → HasCalled End x m b → is_wait_answer x ≡ true
-  end_answer facts x m b w h =
-      let f : MachineFacts (setup_in b).limits h.before = facts (setup_in b).limits (setup_in b).capacity h.before h.legal_before in
-      sym (ap is_wait_outcome h.came)
-      ∙ f.ends (actor_in b) (still_actor m b h.same w.actor) (ap (waits_from false) (sym h.own_before) ∙ w.begun) (room_of (recording_of (setup_in b) h.before))
-
-  pub never_full : GivesFacts → (room cost : ℕ) (m b : Seat B) → 0 < b.number → IsInWait m → HasLookedFor End (outcome.Full room cost) m b → ⊥
-  never_full facts room cost m b some_number w h =
-      let f : MachineFacts (setup_in b).limits (seen_of b) = facts (setup_in b).limits (setup_in b).capacity (seen_of b) h.idle.whole.informed.legal in
-      let ended : false ≡ true =
-      sym (ap is_wait_outcome h.came)
-      ∙ f.ends (actor_in b) (still_actor m b h.same w.actor) (ap (waits_from false) (sym (h.idle.whole.informed.own_is some_number) ∙ h.mine) ∙ w.begun) (room_of (recording_of (setup_in b) (seen_of b)))
-      in cc
-
-  pub stays_itself : (a : Seat B) → IsIdle a → HasStayed a a
-  stays_itself a idle = record { same = record { lock = refl; number = refl; setup = refl }; idle = idle; seen = record { rest = []; is = sym (append-nil (seen_of a)) }; mine = refl }
-
-  pub stays_on : (call : Call) (told : Outcome) (a m b : Seat B) → HasStayed a m → HasLookedFor call told m b → HasStayed a b
-  stays_on call told a m b s h = record { same = same_through a m b s.same h.same; idle = h.idle; seen = through (seen_of b) (seen_of m) (seen_of a) h.seen s.seen; mine = h.mine ∙ s.mine }
-
-  pub still_in_wait : (a m : Seat B) → HasStayed a m → IsInWait a → IsInWait m
-  still_in_wait a m s w = record { actor = still_actor a m s.same w.actor; begun = ap (waits_from false) s.mine ∙ w.begun }
-
-  pub called_since : (call : Call) (x : Answer) (a m b : Seat B) → HasStayed a m → HasCalled call x m b → HasCalled call x a b
-  called_since call x a m b s h = record {
-    same = same_through a m b s.same h.same;
-    idle = h.idle;
-    before = h.before;
-    since = through h.before (seen_of m) (seen_of a) h.since s.seen;
-    legal_before = h.legal_before;
-    own_before = sym s.mine ∙ h.own_before;
-    came = h.came;
-    seen = h.seen;
-    mine = h.mine ∙ ap (λ l. l ++ entry_of b call x ∷ []) s.mine;
-    laws = h.laws;
-    in_range = h.in_range;
-  }
-
-  pub met_itself : (a : Seat B) → HasMetMore a a
-  met_itself a = record { more = []; is = sym (append-nil (met_of a)) }
-
-  pub met_through : (a m b : Seat B) → HasMetMore a m → HasMetMore m b → HasMetMore a b
-  met_through a m b s t = record { more = s.more ++ t.more; is = t.is ∙ (ap (λ l. l ++ t.more) s.is ∙ append_assoc (met_of a) s.more t.more) }
-
-  -- ---- a wait and its Ends
-
   pub answered : (begin : Call) (told : List Told) (x : Answer) (a m b : Seat B) → 0 < m.number → IsWaiting begin told a m → HasCalled End x m b → IsAnswered begin told x a b
   answered begin told x a m b some_number w h =
       let who : actor_in b ≡ actor_in m = actor_same m b h.same in

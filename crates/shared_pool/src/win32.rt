@@ -16,7 +16,9 @@
 //! has begun a wait that hasn't ended.
 
 ghost use Rattle.tp_base.specs.declared.answers.ActionKind.TheVariants.{Event, Mutex, Section, Semaphore};
-ghost use Rattle.tp_base.specs.declared.calls.Call.TheVariants.{CancelIo, CloseGroup, CloseObject, ClosePool, Create, CreateGroup, CreatePool, Disassociate, IsTimerSet, MayRunLong, OnReturn, ReleaseLock, ReleaseSemaphore, ResetEvent, SetEvent, SetMaximum, SetMinimum, SetTimer, SetTimerEx, SetWait, StartIo, SubmitSimple, SubmitWork};
+ghost use Rattle.tp_base.specs.declared.calls.Call.TheVariants.{CloseGroup, CloseObject, ClosePool, Create, CreateGroup, CreatePool, SetMaximum, SetMinimum, SubmitSimple, SubmitWork};
+ghost use Rattle.tp_base.specs.declared.calls.Call.TheVariants.{CancelIo, IsTimerSet, SetTimer, SetTimerEx, SetWait, StartIo};
+ghost use Rattle.tp_base.specs.declared.calls.Call.TheVariants.{Disassociate, MayRunLong, OnReturn, ReleaseLock, ReleaseSemaphore, ResetEvent, SetEvent};
 ghost use Rattle.tp_base.specs.declared.calls.Kind.TheVariants.{Io, Timer, Wait, Work};
 ghost use Rattle.shared_pool.specs.Tries.{IsTry, MayTry};
 

@@ -12,7 +12,8 @@ use Rattle.turn_lock.specs.Histories.{actor_of, own}
 use Rattle.turn_lock.specs.Rule.{Ruled}
 use Rattle.turn_lock.specs.Seats.{mine_in, parts_of, IsInformed, IsNew}
 use Rattle.turn_lock.specs.Views.{part, first_part, other_parts, dealt, undealt, opening_view}
-use Rattle.turn_lock.proofs.Keeping.{dealt_from, deals}
+use Rattle.turn_lock.proofs.Joining.{deals}
+use Rattle.turn_lock.proofs.Numbering.{dealt_from}
 use Rattle.turn_lock.proofs.Seating.{whole_part}
 
 -- so many were dealt, and the other numbers are left

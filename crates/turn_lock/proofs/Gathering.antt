@@ -19,7 +19,8 @@ use Rattle.turn_lock.specs.Seats.{setup_in, seen_of, mine_of, IsGathered, IsIdle
 use Rattle.turn_lock.specs.Steps.{Informs, Fronted}
 use Rattle.turn_lock.specs.Views.{part, informed, taking_in, HasNumber, recording_of}
 use Rattle.turn_lock.proofs.Beginnings.{starts_itself, starts_through}
-use Rattle.turn_lock.proofs.Keeping.{comes_home, has_at}
+use Rattle.turn_lock.proofs.Keeping.{comes_home}
+use Rattle.turn_lock.proofs.Numbering.{has_at}
 use Rattle.turn_lock.proofs.Seating.{numbered}
 
 -- so many have been taken in
@@ -106,7 +107,8 @@ module _ {B : Type 0} where
       subst (λ (k : ℕ). HasNumber k raw.me.0.parts) is (has_part raw.me.0.parts (part seat.number (mine_of seat)) (g.part_there (omega arith)))
 
   -- what the last state says of each seat and of the book
-  pub closes : (recording : B → Recording) (setup : Setup) (raw : Raw B View) (seats : List (Seat B)) (words : List ℕ) (slots : List B) (book : B) → raw.me.0.holds ≡ false → raw.me.0.spent ≡ false → All (IsGathered raw) seats → ((n : ℕ) → 1 ≤ n → n ≤ setup.seats → Any (λ (seat : Seat B). seat.number ≡ n) seats)
+  pub closes : (recording : B → Recording) (setup : Setup) (raw : Raw B View) (seats : List (Seat B)) (words : List ℕ) (slots : List B) (book : B)
+      → raw.me.0.holds ≡ false → raw.me.0.spent ≡ false → All (IsGathered raw) seats → ((n : ℕ) → 1 ≤ n → n ≤ setup.seats → Any (λ (seat : Seat B). seat.number ≡ n) seats)
       → Final (Seen (Ruled recording setup) raw.id raw.me.0) words slots → get_elem? slots 0 ≡ some book → All (IsLast (recording book)) seats
   closes recording setup raw seats words slots book off there all numbers last at =
       let s : State B View = last.0 in

@@ -136,7 +136,8 @@ module _ {B : Type 0} where
         met = ap (λ (v : View). v.met) e;
       }
 
-  pub appends_own : (recording : B → Recording) (a : Seat B) (raw : Raw B View) (book : B) (entry : Entry) → raw.table_id ≡ a.raw.table_id → 0 < a.number → IsLegal (recording book).limits (recording book).capacity (recording book).history → raw.me ≡ (entered a.raw.me.0 (history_in_hand recording a.raw.me.1), a.raw.me.1)
+  pub appends_own : (recording : B → Recording) (a : Seat B) (raw : Raw B View) (book : B) (entry : Entry) → raw.table_id ≡ a.raw.table_id → 0 < a.number
+      → IsLegal (recording book).limits (recording book).capacity (recording book).history → raw.me ≡ (entered a.raw.me.0 (history_in_hand recording a.raw.me.1), a.raw.me.1)
       → IsWritten recording a book entry → HasAppended book entry a (seat_with a raw)
   appends_own recording a raw book entry lock some_number legal told w =
       let new : List Entry = seen_of a ++ entry ∷ [] in

@@ -14,7 +14,10 @@ use Rattle.tp_base.specs.declared.calls.Call.{Call}
 use Rattle.tp_base.specs.declared.calls.Kind.TheVariants as kind
 use Rattle.tp_base.specs.declared.plans.Trigger.TheVariants as trigger
 use Rattle.tp_model.specs.Kernels.{is_kernel_that}
-use Rattle.tp_base.specs.declared.calls.Call.TheVariants.{CreatePool, ClosePool, SetMaximum, SetMinimum, CreateGroup, CloseGroup, BeginClose, Create, CloseObject, SubmitSimple, SubmitWork, SetTimer, SetTimerEx, IsTimerSet, Advance, BeginWait, BeginAcquire, End, CreateEvent, CreateSemaphore, CreateLock, SetEvent, ResetEvent, ReleaseSemaphore, ReleaseLock, Attach, Detach, Take, Return, MayRunLong, Disassociate, OnReturn, Finish, SetWait, StartIo, IssueIo, CancelIo, CompleteIo}
+use Rattle.tp_base.specs.declared.calls.Call.TheVariants.{CreatePool, ClosePool, SetMaximum, SetMinimum, CreateGroup, CloseGroup, BeginClose, Create, CloseObject, SubmitSimple, SubmitWork}
+use Rattle.tp_base.specs.declared.calls.Call.TheVariants.{SetTimer, SetTimerEx, IsTimerSet, Advance, SetWait, StartIo, IssueIo, CancelIo, CompleteIo}
+use Rattle.tp_base.specs.declared.calls.Call.TheVariants.{BeginWait, BeginAcquire, End, CreateEvent, CreateSemaphore, CreateLock, SetEvent, ResetEvent, ReleaseSemaphore, ReleaseLock}
+use Rattle.tp_base.specs.declared.calls.Call.TheVariants.{Attach, Detach, Take, Return, MayRunLong, Disassociate, OnReturn, Finish}
 use Rattle.tp_base.specs.declared.ids.ObjectId.{ObjectId}
 use Rattle.tp_base.specs.declared.ids.Who.{Who}
 use Rattle.tp_base.specs.declared.ids.Who.TheVariants.{Client, Worker}
@@ -146,7 +149,10 @@ finish_quiet (Client number) = refl
 finish_quiet (Worker number) = tt
 
 plan_quiet : (w : World) (left : ℕ) (who : Who) (made : Call) → begins_wait made ≡ false → is_in_wait w who ≡ false → is_held w who ≡ true → IsQuietPlan (plan w left who made)
-unfolding create_pool_plan close_pool_plan set_maximum_plan set_minimum_plan create_group_plan close_group_plan create_plan close_object_plan submit_work_plan submit_simple_plan detach_plan take_plan return_plan may_run_long_plan disassociate_plan on_return_plan set_timer_plan set_timer_ex_plan is_timer_set_plan advance_plan set_wait_plan start_io_plan issue_io_plan cancel_io_plan complete_io_plan end_plan create_event_plan create_semaphore_plan create_lock_plan set_event_plan reset_event_plan release_semaphore_plan release_lock_plan finish_plan
+unfolding create_pool_plan close_pool_plan set_maximum_plan set_minimum_plan create_group_plan close_group_plan create_plan close_object_plan submit_work_plan submit_simple_plan
+    set_timer_plan set_timer_ex_plan is_timer_set_plan advance_plan set_wait_plan start_io_plan issue_io_plan cancel_io_plan complete_io_plan
+    end_plan create_event_plan create_semaphore_plan create_lock_plan set_event_plan reset_event_plan release_semaphore_plan release_lock_plan
+    detach_plan take_plan return_plan may_run_long_plan disassociate_plan on_return_plan finish_plan
 plan_quiet w left who (BeginWait kind object cancel) calm free held = absurd cc
 plan_quiet w left who (BeginAcquire kernel) calm free held = absurd cc
 plan_quiet w left who (BeginClose group cancel context) calm free held = absurd cc

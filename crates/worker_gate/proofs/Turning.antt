@@ -1,5 +1,6 @@
 -- A turn keeps what a role is.
-use Rattle.std.proofs.Common.{◌≡◌, ℕ, ◌+◌, Bool, true, false, ◌||◌, List, [], ◌∷◌, ◌++◌, IfSome, refl, sym, ap, subst, ◌∙◌, append-nil}
+use Rattle.std.proofs.Common.{◌≡◌, ℕ, ◌+◌, Bool, true, false, ◌||◌, List, [], ◌∷◌, ◌++◌, IfSome, Some, refl, sym, ap, subst, ◌∙◌, append-nil}
+use Rattle.std.specs.Prelude.{if◌then◌else◌}
 use Rattle.tp_base.specs.declared.answers.Answer.{Answer}
 use Rattle.tp_base.specs.declared.answers.Entry.{Entry}
 use Rattle.tp_base.specs.declared.answers.Outcome.{Outcome}
@@ -21,7 +22,7 @@ use Rattle.turn_lock.proofs.Beginnings.{own_more}
 use Rattle.worker_gate.specs.declared.place.Place.{Place}
 use Rattle.worker_gate.specs.declared.role.Role.{Role}
 use Rattle.worker_gate.specs.Places.{Given, next_call, opening, place_after}
-use Rattle.worker_gate.specs.Roles.{due_of, ends, ends_at, is_idle_take, took, IsOf}
+use Rattle.worker_gate.specs.Roles.{due_of, due_unless, ended_turn, ends, ends_at, is_idle_take, played_turn, took, turned, IsOf, Turned}
 use Rattle.worker_gate.specs.Runs.{is_over_in}
 use Rattle.worker_gate.specs.Walks.{comes_to, is_full, FollowsAt, IsCut}
 use Rattle.worker_gate.proofs.Stepping.{cut_by, goes_at, in_part_no_take, Goes, Stands}
@@ -124,6 +125,18 @@ still_going Away true over is = absurd cc
 still_going Away false over is = (refl, refl)
 still_going Idle true over is = absurd cc
 still_going Idle false over is = (refl, refl)
+
+-- a call was made, so the role doesn't end, and the call is the due one
+pub due_told : (ending : Bool) (due made : Call) → Some made ≡ due_unless ending due → (ending ≡ false) × (made ≡ due)
+due_told true due made e = absurd cc
+due_told false due made e = (refl, cc)
+
+-- a turn whose due call is made
+pub turned_by : (g : Given) (limits : Limits) (capacity : ℕ) (history : List Entry) (r : Role) (made : Call) (told : Outcome) → ends limits capacity history r ≡ false
+    → made ≡ due_of g r.who r.place r.marked → told ≡ comes_to limits capacity history r.who made → turned g limits capacity history r ≡ played_turn g history r made told
+turned_by g limits capacity history r made told going due came =
+    let played : Call → Turned = λ call. played_turn g history r call (comes_to limits capacity history r.who call) in
+    ap (λ b. if b then ended_turn history r else played (due_of g r.who r.place r.marked)) going ∙ ap played (sym due) ∙ ap (played_turn g history r made) (sym came)
 
 module _ (g : Given) (old new : Recording) (r q : Role) (made : Call) (told : Outcome) where
   pub turn_keeps : IsOf g old.limits old.capacity old.history (own r.who old.history) r → ends old.limits old.capacity old.history r ≡ false → IfSome (next_call g r.who r.place) IsOfPart

@@ -78,6 +78,11 @@ due_of g who p marked = if p.waits then End else due_at p.stage marked (next_cal
 
 -- ---- a turn
 
+-- the call that is due, unless the role ends
+abbrev pub due_unless : Bool → Call → Option Call
+due_unless true due = None
+due_unless false due = Some due
+
 -- whether a look is one from the Take of a worker that runs nothing
 abbrev pub is_take : Call → Bool
 is_take Take = true

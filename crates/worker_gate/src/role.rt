@@ -1,17 +1,17 @@
 //! What one actor does next, on a machine of its own.
 
-ghost use Rattle.std.specs.Prelude.{◌≡◌, ℕ, ◌≤◌, Bool, false, IfSome, [], List, length};
+ghost use Rattle.std.specs.Prelude.{◌≡◌, ℕ, ◌≤◌, Bool, true, false, IfSome, [], List, length};
 ghost use Rattle.tp_base.specs.Ranges.{IsCallInRange};
 ghost use Rattle.tp_model.specs.History.{IsLegal};
+ghost use Rattle.tp_model.specs.Stages.{is_in_part};
 ghost use Rattle.tp_script.specs.Calls.{IsOfPart};
-ghost use Rattle.recorded.specs.Recordings.{is_over_behind};
 ghost use Rattle.turn_lock.specs.Histories.{own};
 ghost use Rattle.worker_gate.specs.Places.{given, next_call};
-ghost use Rattle.worker_gate.specs.Roles.{due_of, due_or, ends, ends_at, is_idle_take, is_last_turn, new_role, took, turn_by, turned, who_of, IsOf};
+ghost use Rattle.worker_gate.specs.Roles.{due_of, due_or, due_unless, ends, is_idle_take, is_last_turn, new_role, took, turn_by, turned, who_of, IsOf};
 
 use crate::place::Place;
 use recorded::Recorded;
-use tp_base::answers::{Answer, Outcome};
+use tp_base::answers::{Answer, Look, Outcome};
 use tp_base::calls::Call;
 use tp_base::ids::Who;
 use tp_base::plans::Stage;
@@ -111,25 +111,38 @@ impl Role {
         ensures of { IsOf (given R.next_of R.after_of routines.now) (B.recording book.new).limits (B.recording book.new).capacity (B.recording book.new).history (own (who_of self.new) (B.recording book.new).history) self.new }
         ensures legal { is_last_turn result ≡ false → IsLegal (B.recording book.new).limits (B.recording book.new).capacity (B.recording book.new).history }
     {
-        if self.ends(book) {
+        let Some(call) = self.due_on(book, routines) else {
             self.ended = true;
             return Turn::Ended;
-        }
-        let call = self.due(routines);
-        let outcome = book.step(self.who, call);
+        };
+        let mut outcome = Outcome::Look(Look::Stay);
+        book.step_into(self.who, &call, &mut outcome);
         self.hears(routines, gate, &call, &outcome)
     }
 
-    // Whether it makes no further call on a machine as that is now.
-    fn ends<B: Recorded>(&self, book: &B) -> bool
-        ensures { result ≡ ends (B.recording book.now).limits (B.recording book.now).capacity (B.recording book.now).history self.now }
+    // The call that it is to make on a machine as that is now, or None where it makes no further one. Who waits is in a
+    // part, and makes one.
+    #[inline(always)]
+    fn due_on<B: Recorded, R: Routines>(&self, book: &B, routines: &R) -> Option<Call>
+        requires calm { is_in_part self.now.place.stage ≡ false → self.now.place.waits ≡ false }
+        ensures value { result ≡ due_unless (ends (B.recording book.now).limits (B.recording book.now).capacity (B.recording book.now).history self.now) (due_of (given R.next_of R.after_of routines.now) self.now.who self.now.place self.now.marked) }
+        ensures in_range { IfSome result IsCallInRange }
+        ensures of_part { IfSome result (λ _. IfSome (next_call (given R.next_of R.after_of routines.now) self.now.who self.now.place) IsOfPart) }
     {
-        self.ended
-            || match self.place.stage {
-                Stage::Over => true,
-                Stage::Playing | Stage::Busy { .. } => false,
-                Stage::Away | Stage::Idle => book.is_over(),
-            }
+        if self.ended {
+            return None;
+        }
+        if self.place.waits {
+            return Some(Call::End);
+        }
+        match self.place.stage {
+            Stage::Over => None,
+            Stage::Playing | Stage::Busy { .. } => Some(self.due_in_part(routines)),
+            Stage::Away | Stage::Idle if book.is_over() => None,
+            Stage::Away => Some(Call::Attach),
+            Stage::Idle if self.marked => Some(Call::Detach),
+            Stage::Idle => Some(Call::Take),
+        }
     }
 
     // The call that it is to make. Its part is asked only where it plays one and waits for nothing.
@@ -143,8 +156,7 @@ impl Role {
             return Call::End;
         }
         match self.place.stage {
-            Stage::Playing => self.due_or(Call::Finish, self.place.next_in(self.who, routines)),
-            Stage::Busy { .. } => self.due_or(Call::Return, self.place.next_in(self.who, routines)),
+            Stage::Playing | Stage::Busy { .. } => self.due_in_part(routines),
             Stage::Over => Call::Finish,
             Stage::Away => Call::Attach,
             Stage::Idle if self.marked => Call::Detach,
@@ -152,7 +164,24 @@ impl Role {
         }
     }
 
+    // The same for one that plays a part and waits for nothing.
+    #[inline(always)]
+    fn due_in_part<R: Routines>(&self, routines: &R) -> Call
+        requires part { is_in_part self.now.place.stage ≡ true }
+        requires calm { self.now.place.waits ≡ false }
+        ensures value { result ≡ due_of (given R.next_of R.after_of routines.now) self.now.who self.now.place self.now.marked }
+        ensures in_range { IsCallInRange result }
+        ensures of_part { IfSome (next_call (given R.next_of R.after_of routines.now) self.now.who self.now.place) IsOfPart }
+    {
+        let last = match self.place.stage {
+            Stage::Playing => Call::Finish,
+            _ => Call::Return,
+        };
+        self.due_or(last, self.place.next_in(self.who, routines))
+    }
+
     // The next call, or the last one where there is none or it came to Full.
+    #[inline(always)]
     fn due_or(&self, last: Call, next: Option<Call>) -> Call
         requires last { IsCallInRange last }
         requires next { IfSome next IsCallInRange }

@@ -35,7 +35,8 @@ close_run-requires-clause-back g c =
     let worker = setup_worker pool c.args.limits c.args.capacity is c.requires.limits.workers_least in
     let f = c.finish.ensures in
     let t = c.tell_all.ensures in
-    all_are_back γ pool opened new first c.finish.new.actor c.tell_all.new.first others c.tell_all.new.others.items parts its client worker f.goes_on f.ready f.rests t.told t.heard t.first t.others vec_items c.in_ok-crews.crews.items c.in_ok-crews.ensures c.in_ok-crews-2.crews.items c.in_ok-actors.actors.items c.in_ok-crews-2.ensures.ready c.in_ok-crews-2.ensures.back c.in_ok-actors.ensures
+    all_are_back γ pool opened new first c.finish.new.actor c.tell_all.new.first others c.tell_all.new.others.items parts its client worker f.goes_on f.ready f.rests t.told t.heard t.first t.others vec_items
+    c.in_ok-crews.crews.items c.in_ok-crews.ensures c.in_ok-crews-2.crews.items c.in_ok-actors.actors.items c.in_ok-crews-2.ensures.ready c.in_ok-crews-2.ensures.back c.in_ok-actors.ensures
 
 pub close_run-requires-clause-first : goal.close_run-requires-clause-first
 close_run-requires-clause-first g c =
@@ -52,4 +53,5 @@ close_run-requires-clause-first g c =
     let worker = setup_worker pool c.args.limits c.args.capacity is c.requires.limits.workers_least in
     let f = c.finish.ensures in
     let t = c.tell_all.ensures in
-    first_is_told γ pool opened new first c.finish.new.actor c.tell_all.new.first others c.tell_all.new.others.items parts its client worker f.goes_on f.ready f.rests t.told t.heard t.first t.others vec_items c.in_ok-crews.crews.items c.in_ok-crews.ensures c.in_ok-crews-2.crews.items c.in_ok-actors.actors.items c.in_ok-crews-2.ensures.ready c.in_ok-crews-2.ensures.back c.in_ok-actors.ensures
+    first_is_told γ pool opened new first c.finish.new.actor c.tell_all.new.first others c.tell_all.new.others.items parts its client worker f.goes_on f.ready f.rests t.told t.heard t.first t.others vec_items
+    c.in_ok-crews.crews.items c.in_ok-crews.ensures c.in_ok-crews-2.crews.items c.in_ok-actors.actors.items c.in_ok-crews-2.ensures.ready c.in_ok-crews-2.ensures.back c.in_ok-actors.ensures

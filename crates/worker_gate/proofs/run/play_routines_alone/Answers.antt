@@ -64,7 +64,8 @@ end_run-cut-requires-clause-worker g c =
     let roles = c.in_ok-roles.roles.items in
     let s = c.set_up.ensures in
     let now = g.B.Recorded.recording c.set_up.new.book in
-    now_worker γ c.args.limits c.args.capacity c.requires.client roles c.in_ok-roles.ensures start c.in_ok-book.ensures.limits c.in_ok-book.ensures.capacity c.in_ok-book.ensures.empty c.index_mut.result.now c.index_mut.ensures.value now c.set_up.new.role s.same s.played s.of s.who s.ended c.requires.limits.workers_least
+    now_worker γ c.args.limits c.args.capacity c.requires.client roles c.in_ok-roles.ensures start c.in_ok-book.ensures.limits c.in_ok-book.ensures.capacity c.in_ok-book.ensures.empty
+    c.index_mut.result.now c.index_mut.ensures.value now c.set_up.new.role s.same s.played s.of s.who s.ended c.requires.limits.workers_least
 
 pub end_run-cut-requires-clause-known : goal.end_run-cut-requires-clause-known
 end_run-cut-requires-clause-known g c =
@@ -93,7 +94,8 @@ returns-clause-limits g c =
     let now = g.B.Recorded.recording c.set_up.new.book in
     let e = c.end_run-cut.ensures in
     let last = g.B.Recorded.recording c.end_run-cut.new.book in
-    last_limits γ c.args.limits c.args.capacity c.requires.client roles c.in_ok-roles.ensures start c.in_ok-book.ensures.limits c.in_ok-book.ensures.capacity c.in_ok-book.ensures.empty c.index_mut.result.now c.index_mut.ensures.value now c.set_up.new.role s.same s.played s.of s.who s.ended last c.end_run-cut.new.roles.items e.same
+    last_limits γ c.args.limits c.args.capacity c.requires.client roles c.in_ok-roles.ensures start c.in_ok-book.ensures.limits c.in_ok-book.ensures.capacity c.in_ok-book.ensures.empty
+    c.index_mut.result.now c.index_mut.ensures.value now c.set_up.new.role s.same s.played s.of s.who s.ended last c.end_run-cut.new.roles.items e.same
 
 pub returns-clause-capacity : goal.returns-clause-capacity
 returns-clause-capacity g c =
@@ -104,7 +106,8 @@ returns-clause-capacity g c =
     let now = g.B.Recorded.recording c.set_up.new.book in
     let e = c.end_run-cut.ensures in
     let last = g.B.Recorded.recording c.end_run-cut.new.book in
-    last_capacity γ c.args.limits c.args.capacity c.requires.client roles c.in_ok-roles.ensures start c.in_ok-book.ensures.limits c.in_ok-book.ensures.capacity c.in_ok-book.ensures.empty c.index_mut.result.now c.index_mut.ensures.value now c.set_up.new.role s.same s.played s.of s.who s.ended last c.end_run-cut.new.roles.items e.same
+    last_capacity γ c.args.limits c.args.capacity c.requires.client roles c.in_ok-roles.ensures start c.in_ok-book.ensures.limits c.in_ok-book.ensures.capacity c.in_ok-book.ensures.empty
+    c.index_mut.result.now c.index_mut.ensures.value now c.set_up.new.role s.same s.played s.of s.who s.ended last c.end_run-cut.new.roles.items e.same
 
 pub returns-clause-legal : goal.returns-clause-legal
 returns-clause-legal g c =
@@ -115,7 +118,8 @@ returns-clause-legal g c =
     let now = g.B.Recorded.recording c.set_up.new.book in
     let e = c.end_run-cut.ensures in
     let last = g.B.Recorded.recording c.end_run-cut.new.book in
-    last_legal γ c.args.limits c.args.capacity c.requires.client roles c.in_ok-roles.ensures start c.in_ok-book.ensures.limits c.in_ok-book.ensures.capacity c.in_ok-book.ensures.empty c.index_mut.result.now c.index_mut.ensures.value now c.set_up.new.role s.same s.played s.of s.who s.ended last c.end_run-cut.new.roles.items e.same e.legal
+    last_legal γ c.args.limits c.args.capacity c.requires.client roles c.in_ok-roles.ensures start c.in_ok-book.ensures.limits c.in_ok-book.ensures.capacity c.in_ok-book.ensures.empty
+    c.index_mut.result.now c.index_mut.ensures.value now c.set_up.new.role s.same s.played s.of s.who s.ended last c.end_run-cut.new.roles.items e.same e.legal
 
 pub returns-clause-alone : goal.returns-clause-alone
 returns-clause-alone g c =
@@ -126,4 +130,5 @@ returns-clause-alone g c =
     let now = g.B.Recorded.recording c.set_up.new.book in
     let e = c.end_run-cut.ensures in
     let last = g.B.Recorded.recording c.end_run-cut.new.book in
-    last_alone γ c.args.limits c.args.capacity c.requires.client roles c.in_ok-roles.ensures start c.in_ok-book.ensures.limits c.in_ok-book.ensures.capacity c.in_ok-book.ensures.empty c.index_mut.result.now c.index_mut.ensures.value now c.set_up.new.role s.same s.played s.of s.who s.ended last c.end_run-cut.new.roles.items e.same e.played e.ended
+    last_alone γ c.args.limits c.args.capacity c.requires.client roles c.in_ok-roles.ensures start c.in_ok-book.ensures.limits c.in_ok-book.ensures.capacity c.in_ok-book.ensures.empty
+    c.index_mut.result.now c.index_mut.ensures.value now c.set_up.new.role s.same s.played s.of s.who s.ended last c.end_run-cut.new.roles.items e.same e.played e.ended

@@ -1,5 +1,5 @@
 use Rattle.std.proofs.Common.{sym, ◌∙◌}
-use Rattle.shared_pool.proofs.Waiting.{begun, unbegun}
+use Rattle.shared_pool.proofs.Calling.{begun, unbegun}
 use Rattle.shared_pool.proofs.pool.SharedPool.begin.Goals as goal
 
 pub returns-then-accepted-clause-begun : goal.returns-then-accepted-clause-begun

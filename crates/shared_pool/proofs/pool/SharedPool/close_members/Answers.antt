@@ -2,7 +2,8 @@ use Rattle.std.proofs.Common.{sym, ◌≤◌, subst}
 use Rattle.tp_base.specs.declared.calls.Call.TheVariants.{BeginClose}
 use Rattle.turn_lock.specs.declared.views.Setup.{Setup}
 use Rattle.shared_pool.specs.declared.notices.Told.{Told}
-use Rattle.shared_pool.proofs.Waiting.{has_closed, has_room, met_through, tells_nothing, tells_on}
+use Rattle.shared_pool.proofs.Calling.{met_through}
+use Rattle.shared_pool.proofs.Waiting.{has_closed, has_room, tells_nothing, tells_on}
 use Rattle.shared_pool.proofs.pool.SharedPool.close_members.Goals as goal
 
 pub loop-init : goal.loop-init

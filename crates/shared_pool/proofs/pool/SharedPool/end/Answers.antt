@@ -1,6 +1,6 @@
 use Rattle.tp_base.specs.declared.answers.Outcome.TheVariants.{Look}
 use Rattle.tp_base.specs.declared.calls.Call.TheVariants.{End}
-use Rattle.shared_pool.proofs.Waiting.{called_since, end_answer, met_itself, met_through, never_full, stays_itself, stays_on, still_in_wait}
+use Rattle.shared_pool.proofs.Calling.{called_since, end_answer, met_itself, met_through, never_full, stays_itself, stays_on, still_in_wait}
 use Rattle.shared_pool.proofs.pool.SharedPool.end.Goals as goal
 
 pub call-requires-clause-player : goal.call-requires-clause-player

@@ -3,7 +3,7 @@ use Rattle.std.proofs.lemmas.List.Elements.{All-pop}
 use Rattle.turn_lock.specs.Locks.{IsOf}
 use Rattle.turn_lock.specs.Seats.{IsIdle}
 use Rattle.turn_lock.proofs.Gathering.{gathers_first, gathers_next}
-use Rattle.turn_lock.proofs.Keeping.{takes_in}
+use Rattle.turn_lock.proofs.Joining.{takes_in}
 use Rattle.turn_lock.proofs.locks.TurnLock.gather.Goals as goal
 
 pub loop-other-init : goal.loop-other-init
@@ -22,4 +22,5 @@ join_seat-requires g c =
 pub loop-other-preserved : goal.loop-other-preserved
 loop-other-preserved g c =
     let joined = c.join_seat.ensures in
-    gathers_next c.args.self.now c.loop-other.raw c.join_seat.new.seat c.look.new.raw c.look.result c.args.first c.in-Some.field-0 c.args.others.items c.loop-other.others.items c.pop.new.self.items c.loop-other.invariant c.in-Some.ensures.items joined.0 joined.2 c.look.ensures.same.0 c.look.ensures.told
+    gathers_next c.args.self.now c.loop-other.raw c.join_seat.new.seat c.look.new.raw c.look.result
+    c.args.first c.in-Some.field-0 c.args.others.items c.loop-other.others.items c.pop.new.self.items c.loop-other.invariant c.in-Some.ensures.items joined.0 joined.2 c.look.ensures.same.0 c.look.ensures.told

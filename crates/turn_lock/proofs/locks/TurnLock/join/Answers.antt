@@ -1,5 +1,5 @@
 use Rattle.std.proofs.Common.{rules}
-use Rattle.turn_lock.proofs.Keeping.{takes_in}
+use Rattle.turn_lock.proofs.Joining.{takes_in}
 use Rattle.turn_lock.proofs.Seating.{joins}
 use Rattle.turn_lock.specs.Histories.{StartsWith}
 use Rattle.turn_lock.specs.Seats.{seen_of, HasLooked}

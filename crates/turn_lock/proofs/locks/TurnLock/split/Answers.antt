@@ -1,5 +1,5 @@
 use Rattle.std.proofs.Common.{rules, ◌∙◌}
-use Rattle.turn_lock.proofs.Keeping.{copies}
+use Rattle.turn_lock.proofs.Joining.{copies}
 use Rattle.turn_lock.proofs.Seating.{splits_off}
 use Rattle.turn_lock.proofs.locks.TurnLock.split.Goals as goal
 
