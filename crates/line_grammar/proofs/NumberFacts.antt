@@ -98,9 +98,9 @@ pub record IsSoFar (text : List ℕ) (least most value size : ℕ) : Type 0 wher
   pub within : size ≤ length text
   pub at_most : value ≤ most
   pub split : take size text ≡ decimal value
-  pub positive : 0 < least → 0 < value
+  pub positive : 0 < value
 
-pub so_far_first : (text : List ℕ) (least most digit : ℕ) → digit < 10 → digit ≤ most → (0 < least → 0 < digit) → 0 < length text → get_or text 0 0 ≡ 48 + digit → IsSoFar text least most digit 1
+pub so_far_first : (text : List ℕ) (least most digit : ℕ) → digit < 10 → digit ≤ most → 0 < digit → 0 < length text → get_or text 0 0 ≡ 48 + digit → IsSoFar text least most digit 1
 so_far_first text least most digit small fits low long e = record {
   begun = omega arith;
   within = omega arith;
@@ -120,7 +120,7 @@ so_far_next text least most value size longer bound s more l =
       at_most = l.at_most;
       split = take_more text size 0 more ∙ ap (λ t. t ++ b ∷ []) s.split ∙ ap (λ y. decimal value ++ y ∷ []) d
           ∙ sym (decimal_longer value (b - 48) l.not_zero (omega (arith, l.digit_most)) (omega (arith, l.value_of, l.at_most))) ∙ ap decimal (sym l.value_of);
-      positive = λ h. omega (arith, l.value_of, l.not_zero);
+      positive = omega (arith, l.value_of, l.not_zero);
     }
 
 module _ (least most : ℕ) (bound : most < 2 ^ 64) where
@@ -141,6 +141,16 @@ module _ (least most : ℕ) (bound : most < 2 ^ 64) where
     text_of = record { at_least = low; at_most = s.at_most; split = s.split };
     stops = number_stops (take size text) (drop size text) value s.at_most s.split none;
   }
+
+  -- no number goes on behind a zero
+  pub zero_read : (text : List ℕ) → least ≡ 0 → 0 < length text → get_or text 0 0 ≡ 48 → IsReadTo (Numbers least most) text 0 1
+  zero_read text low long e =
+      let split : take 1 text ≡ decimal 0 = take_more text 0 0 long ∙ ap (λ b. b ∷ []) e ∙ sym (decimal_digit 0 (omega arith)) in
+      record {
+        within = omega arith;
+        text_of = record { at_least = omega (arith, low); at_most = omega arith; split = split };
+        stops = number_stops (take 1 text) (drop 1 text) 0 (omega arith) split (λ byte more longer f l. omega (arith, l.not_zero));
+      }
 
   -- a number below the least that digits behind it make one of the language
   pub number_short : (text : List ℕ) (value size : ℕ) → IsSoFar text least most value size → value < least → 0 < value → least ≤ 19 → 199 ≤ most

@@ -24,6 +24,9 @@ pub fn read_number(text: &[u8], least: u64, most: u64) -> Result<(u64, usize), u
     if first < least.min(1) {
         return Err(0);
     }
+    if first == 0 {
+        return Ok((0, 1));
+    }
     let mut value = first;
     let mut size: usize = 1;
     while let Some(longer) = longer_number(text, size, value, most) {
@@ -52,12 +55,13 @@ fn first_digit(text: &[u8]) -> Option<u64>
 // The number with the digit at `size` behind it, if it has one and is then at most `most`.
 #[inline(always)]
 fn longer_number(text: &[u8], size: usize, value: u64, most: u64) -> Option<u64>
-    requires { size ≤ length text.now }
+    requires within { size ≤ length text.now }
+    requires positive { 0 < value }
     ensures { MatchOption result
         ((byte : ℕ) (rest : List ℕ) (longer : ℕ) → drop size text.now ≡ byte ∷ rest → ¬ (IsLonger most value byte longer))
         (λ longer. (size < length text.now) × IsLonger most value (slice_index text.now size) longer) }
 {
-    if size == text.len() || value == 0 {
+    if size == text.len() {
         return None;
     }
     let byte = text[size];

@@ -3,22 +3,17 @@ use Rattle.std.proofs.Common.{◌≡◌, ℕ, List, [], ◌∷◌, refl, true, f
 use Rattle.std.specs.Fmt.{digits}
 use Rattle.std.specs.Prelude.{pos, negsuc, codes, map}
 use Rattle.tp_base.specs.declared.answers.ActionKind.TheVariants as action
-use Rattle.tp_base.specs.declared.answers.Answer.{Answer}
 use Rattle.tp_base.specs.declared.answers.Answer.TheVariants as answer
 use Rattle.tp_base.specs.declared.answers.Look.TheVariants as look
-use Rattle.tp_base.specs.declared.answers.Outcome.{Outcome}
 use Rattle.tp_base.specs.declared.answers.Outcome.TheVariants as outcome
-use Rattle.tp_base.specs.declared.answers.Refusal.{Refusal}
 use Rattle.tp_base.specs.declared.answers.Refusal.TheVariants as refusal
 use Rattle.tp_base.specs.declared.answers.SlotWord.TheVariants.{Unasked, Performed, NotOwner, OverMaximum}
 use Rattle.tp_base.specs.declared.answers.TakeResult.TheVariants as taken
-use Rattle.tp_base.specs.declared.calls.Call.{Call}
 use Rattle.tp_base.specs.declared.calls.Call.TheVariants as call
 use Rattle.tp_base.specs.declared.calls.Environ.{Environ}
 use Rattle.tp_base.specs.declared.calls.Kind.TheVariants as kind
 use Rattle.tp_base.specs.declared.calls.Lock.TheVariants as lock
 use Rattle.tp_base.specs.declared.calls.Priority.TheVariants.{High, Normal, Low}
-use Rattle.tp_base.specs.declared.ids.Who.{Who}
 use Rattle.tp_base.specs.declared.ids.Who.TheVariants.{Client, Worker}
 use Rattle.tp_lines.specs.Answers.{line_of_entry, text_of_answer, text_of_outcome}
 use Rattle.tp_lines.specs.Calls.{line_of_call}

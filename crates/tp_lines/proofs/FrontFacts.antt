@@ -1,11 +1,11 @@
 -- Lines of frequent calls.
-use Rattle.std.proofs.Common.{◌≡◌, ℕ, ◌+◌, ◌*◌, ◌<◌, ◌≤◌, List, [], ◌∷◌, ◌++◌, drop, refl, sym, ap, ◌∙◌, subst, FitsSigned, w64, arith}
+use Rattle.std.proofs.Common.{◌≡◌, ℕ, ◌+◌, ◌*◌, ◌<◌, ◌≤◌, List, [], ◌∷◌, ◌++◌, drop, take, refl, sym, ap, ◌∙◌, subst, FitsSigned, w64, arith}
 use Rattle.std.specs.Prelude.{ℤ, codes, decimal}
 use Rattle.std.specs.Fmt.{signed_decimal}
 use Rattle.std.proofs.lemmas.Fmt.{decimal_digit}
 use Rattle.std.proofs.lemmas.List.{append_assoc, take-append-drop}
 use Rattle.line_grammar.specs.Language.{IsFront, IsReadTo}
-use Rattle.line_grammar.specs.Numbers.{Numbers, Signed}
+use Rattle.line_grammar.specs.Numbers.{Signed}
 use Rattle.line_grammar.proofs.NumberFacts.{decimal_longer}
 use Rattle.tp_base.specs.declared.answers.Answer.{Answer}
 use Rattle.tp_base.specs.declared.calls.Call.{Call}
@@ -52,9 +52,8 @@ two_digits text start rest n d least few small e f =
     e ∙ ap (λ l. (48 + n) ∷ l) f
     ∙ ap (λ l. l ++ rest) (sym (decimal_longer n d least small (omega arith) ∙ ap (λ l. l ++ (48 + d) ∷ []) (decimal_digit n few)))
 
-pub number_front : (most : ℕ) (text : List ℕ) (value n : ℕ) → IsReadTo (Numbers 0 most) text value n → (rest : List ℕ) → rest ≡ drop n text → text ≡ decimal value ++ rest
-number_front most text value n read rest e =
-    sym (take-append-drop n text) ∙ ap (λ l. l ++ drop n text) read.text_of.split ∙ ap (λ l. decimal value ++ l) (sym e)
+pub number_front : (text : List ℕ) (value n : ℕ) → take n text ≡ decimal value → (rest : List ℕ) → rest ≡ drop n text → text ≡ decimal value ++ rest
+number_front text value n read rest e = sym (take-append-drop n text) ∙ ap (λ l. l ++ drop n text) read ∙ ap (λ l. decimal value ++ l) (sym e)
 
 pub signed_front : (text : List ℕ) (value : ℤ) (n : ℕ) → IsReadTo Signed text value n → (other : ℤ) → other ≡ value → (rest : List ℕ) → rest ≡ drop n text
     → FitsSigned w64 other × (text ≡ signed_decimal other ++ rest)

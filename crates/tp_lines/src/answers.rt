@@ -239,7 +239,7 @@ pub fn put_answer(answer: &Answer, out: &mut [u8], at: usize) -> usize
             first,
             count,
         } =>
-            row!(out, at; Word::Returned, word(Word::Slot(*section)) word(Word::Slot(*mutex)) word(Word::Slot(*semaphore)) word(Word::Slot(*event)) number(*first) number(u64::from(*count))),
+            row!(out, at; Word::Returned, slot(*section) slot(*mutex) slot(*semaphore) slot(*event) number(*first) number(u64::from(*count))),
         Answer::Refused(refusal) => {
             let end = row!(out, at; Word::Refused);
             put_refusal(*refusal, out, end)

@@ -248,15 +248,22 @@ pub fn put_call(call: &Call, out: &mut [u8], at: usize) -> usize
     ensures most { result ≤ at + 234 }
 {
     let word = word_of(call);
+    // Where the word is known, so is its size. These are the calls that most lines have.
     match call {
+        Call::SubmitWork {
+            object: ObjectId(number),
+        } => row!(out, at; Word::Submit, number(u64::from(*number))),
+        Call::Take => line::first(Word::Take, out, at),
+        Call::Return => line::first(Word::Return, out, at),
+        Call::End => line::first(Word::End, out, at),
+        Call::MayRunLong => line::first(Word::MayRunLong, out, at),
+        Call::BeginAcquire {
+            kernel: KernelId(number),
+        } => row!(out, at; Word::BeginAcquire, number(u64::from(*number))),
         Call::CreatePool
         | Call::CreateGroup
-        | Call::End
         | Call::Attach
         | Call::Detach
-        | Call::Take
-        | Call::Return
-        | Call::MayRunLong
         | Call::Disassociate
         | Call::Finish => line::first(word, out, at),
         Call::ClosePool {
@@ -264,9 +271,6 @@ pub fn put_call(call: &Call, out: &mut [u8], at: usize) -> usize
         }
         | Call::CloseGroup {
             group: GroupId(number),
-        }
-        | Call::SubmitWork {
-            object: ObjectId(number),
         }
         | Call::IsTimerSet {
             object: ObjectId(number),
@@ -279,9 +283,6 @@ pub fn put_call(call: &Call, out: &mut [u8], at: usize) -> usize
         }
         | Call::CancelIo {
             object: ObjectId(number),
-        }
-        | Call::BeginAcquire {
-            kernel: KernelId(number),
         }
         | Call::SetEvent {
             kernel: KernelId(number),
@@ -373,7 +374,8 @@ pub fn put_call(call: &Call, out: &mut [u8], at: usize) -> usize
             kernel,
             count,
         } => {
-            let end = row!(out, at; word, word(Word::Action(*kind)) number(u64::from(kernel.0)));
+            let end =
+                row!(out, at; Word::OnReturn, word(Word::Action(*kind)) number(u64::from(kernel.0)));
             line::number(u64::from(*count), out, end)
         }
     }

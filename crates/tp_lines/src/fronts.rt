@@ -3,7 +3,7 @@
 //! What is found stands at the front of the text, and what is behind it is given. Where nothing is found, it
 //! may stand there all the same.
 
-ghost use Rattle.std.specs.Prelude.{◌≡◌, ◌+◌, ◌<◌, ◌≤◌, [], ◌∷◌, ◌++◌, IfSome, Some, decimal};
+ghost use Rattle.std.specs.Prelude.{◌≡◌, ◌+◌, ◌<◌, ◌≤◌, [], ◌∷◌, ◌++◌, IfSome, Some, decimal, length, take};
 ghost use Rattle.std.specs.Fmt.{signed_decimal};
 ghost use Rattle.line_grammar.specs.Language.{IsFront};
 ghost use Rattle.tp_base.specs.Ranges.{IsDueInRange};
@@ -28,42 +28,48 @@ const TIME_MOST: u64 = 9_223_372_036_854_775_807;
 
 /// A frequent call, and who makes it.
 #[inline(always)]
-pub(crate) fn front_line(text: &[u8]) -> Option<((Who, Call), &[u8])>
-    ensures { IfSome result (λ read. IsFront CallLines text.now read.0 read.1.now) }
+pub(crate) fn front_line<'a>(text: &'a [u8], made: &mut (Who, Call)) -> Option<&'a [u8]>
+    ensures { IfSome result (λ rest. IsFront CallLines text.now made.new rest.now) }
 {
     let (who, start) = front_who(text)?;
-    let (call, rest) = front_call(start)?;
-    Some(((who, call), rest))
+    made.0 = who;
+    let rest = front_call(start, &mut made.1)?;
+    Some(rest)
 }
 
 /// An entry of such a call, with a frequent answer.
 #[inline(always)]
-pub(crate) fn front_entry(text: &[u8]) -> Option<(Entry, &[u8])>
-    ensures { IfSome result (λ read. IsFront EntryLines text.now read.0 read.1.now) }
+pub(crate) fn front_entry<'a>(text: &'a [u8], entry: &mut Entry) -> Option<&'a [u8]>
+    ensures { IfSome result (λ rest. IsFront EntryLines text.now entry.new rest.now) }
 {
-    let ((who, call), arrow) = front_line(text)?;
-    let start = behind_word(b" ->", arrow)?;
-    let (answer, rest) = front_answer(start)?;
-    Some((Entry { who, call, answer }, rest))
+    let (who, start) = front_who(text)?;
+    entry.who = who;
+    let arrow = front_call(start, &mut entry.call)?;
+    let answer = behind_word(b" ->", arrow)?;
+    let rest = front_answer(answer, &mut entry.answer)?;
+    Some(rest)
 }
 
 /// A call that may be less frequent, and who makes it.
-pub(crate) fn rare_line(text: &[u8]) -> Option<((Who, Call), &[u8])>
-    ensures { IfSome result (λ read. IsFront CallLines text.now read.0 read.1.now) }
+pub(crate) fn rare_line<'a>(text: &'a [u8], made: &mut (Who, Call)) -> Option<&'a [u8]>
+    ensures { IfSome result (λ rest. IsFront CallLines text.now made.new rest.now) }
 {
     let (who, start) = front_who(text)?;
-    let (call, rest) = any_call(start)?;
-    Some(((who, call), rest))
+    made.0 = who;
+    let rest = any_call(start, &mut made.1)?;
+    Some(rest)
 }
 
 /// An entry whose call or answer may be less frequent.
-pub(crate) fn rare_entry(text: &[u8]) -> Option<(Entry, &[u8])>
-    ensures { IfSome result (λ read. IsFront EntryLines text.now read.0 read.1.now) }
+pub(crate) fn rare_entry<'a>(text: &'a [u8], entry: &mut Entry) -> Option<&'a [u8]>
+    ensures { IfSome result (λ rest. IsFront EntryLines text.now entry.new rest.now) }
 {
-    let ((who, call), arrow) = rare_line(text)?;
-    let start = behind_word(b" ->", arrow)?;
-    let (answer, rest) = any_answer(start)?;
-    Some((Entry { who, call, answer }, rest))
+    let (who, start) = front_who(text)?;
+    entry.who = who;
+    let arrow = any_call(start, &mut entry.call)?;
+    let answer = behind_word(b" ->", arrow)?;
+    let rest = any_answer(answer, &mut entry.answer)?;
+    Some(rest)
 }
 
 // The actor that the text begins with, and what stands behind it.
@@ -126,48 +132,62 @@ fn first_digit(text: &[u8]) -> Option<(u32, &[u8])>
 fn front_number(text: &[u8], most: u64) -> Option<(u64, &[u8])>
     ensures { IfSome result (λ read. (read.0 ≤ most) × (text.now ≡ decimal read.0 ++ read.1.now)) }
 {
-    let Ok((number, size)) = read_number(text, 0, most) else {
+    let (number, size) = front_digits(text);
+    if size == 0 || most < number {
         return None;
-    };
+    }
     let (_, rest) = text.split_at(size);
     Some((number, rest))
 }
 
+// The number that the text begins with, and how many digits it has, or none. It stands apart, since a loop in
+// the midst of all that is known of a line has no registers left.
+#[inline(never)]
+fn front_digits(text: &[u8]) -> (u64, usize)
+    ensures within { result.1 ≤ length text.now }
+    ensures number { 0 < result.1 → take result.1 text.now ≡ decimal result.0 }
+{
+    match read_number(text, 0, u64::MAX) {
+        Ok((number, size)) => (number, size),
+        Err(_) => (0, 0),
+    }
+}
+
 // A frequent call with the space before it, told by its first letters.
 #[inline(always)]
-fn front_call(text: &[u8]) -> Option<(Call, &[u8])>
-    ensures { IfSome result (λ read. IsFront CallTexts text.now read.0 read.1.now) }
+fn front_call<'a>(text: &'a [u8], call: &mut Call) -> Option<&'a [u8]>
+    ensures { IfSome result (λ rest. IsFront CallTexts text.now call.new rest.now) }
 {
     match text {
-        [_, b't', ..] => only_word(b" take", Word::Take, Call::Take, text),
-        [_, b'r', ..] => only_word(b" return", Word::Return, Call::Return, text),
-        [_, b's', b'u', ..] => submit(text),
-        [_, b'e', ..] => only_word(b" end", Word::End, Call::End, text),
-        [_, b'a', b't', ..] => only_word(b" attach", Word::Attach, Call::Attach, text),
-        [_, b'd', ..] => only_word(b" detach", Word::Detach, Call::Detach, text),
+        [_, b't', ..] => only_word(b" take", Word::Take, Call::Take, text, call),
+        [_, b'r', ..] => only_word(b" return", Word::Return, Call::Return, text, call),
+        [_, b's', b'u', ..] => submit(text, call),
+        [_, b'e', ..] => only_word(b" end", Word::End, Call::End, text, call),
+        [_, b'a', b't', ..] => only_word(b" attach", Word::Attach, Call::Attach, text, call),
+        [_, b'd', ..] => only_word(b" detach", Word::Detach, Call::Detach, text, call),
         _ => None,
     }
 }
 
 // Any call that is read here.
-fn any_call(text: &[u8]) -> Option<(Call, &[u8])>
-    ensures { IfSome result (λ read. IsFront CallTexts text.now read.0 read.1.now) }
+fn any_call<'a>(text: &'a [u8], call: &mut Call) -> Option<&'a [u8]>
+    ensures { IfSome result (λ rest. IsFront CallTexts text.now call.new rest.now) }
 {
-    match front_call(text) {
-        Some(read) => Some(read),
-        None => other_call(text),
+    match front_call(text, call) {
+        Some(rest) => Some(rest),
+        None => other_call(text, call),
     }
 }
 
 // A call that is less frequent.
-fn other_call(text: &[u8]) -> Option<(Call, &[u8])>
-    ensures { IfSome result (λ read. IsFront CallTexts text.now read.0 read.1.now) }
+fn other_call<'a>(text: &'a [u8], call: &mut Call) -> Option<&'a [u8]>
+    ensures { IfSome result (λ rest. IsFront CallTexts text.now call.new rest.now) }
 {
     match text {
-        [_, b's', ..] => setting(text),
-        [_, b'a', ..] => advance(text),
-        [_, b'i', ..] => is_timer_set(text),
-        [_, b'w', ..] => begin_wait(text),
+        [_, b's', ..] => setting(text, call),
+        [_, b'a', ..] => advance(text, call),
+        [_, b'i', ..] => is_timer_set(text, call),
+        [_, b'w', ..] => begin_wait(text, call),
         _ => None,
     }
 }
@@ -177,97 +197,103 @@ fn other_call(text: &[u8]) -> Option<(Call, &[u8])>
 fn only_word<'a>(
     spelled: &[u8],
     _word: Word,
-    call: Call,
+    meant: Call,
     text: &'a [u8],
-) -> Option<(Call, &'a [u8])>
+    call: &mut Call,
+) -> Option<&'a [u8]>
     requires spelled { spelled.now ≡ 32 ∷ text_of_word _word }
-    requires row { row_of call ≡ (_word, []) }
-    requires fits { FitsCall call }
-    ensures { IfSome result (λ read. IsFront CallTexts text.now read.0 read.1.now) }
+    requires row { row_of meant ≡ (_word, []) }
+    requires fits { FitsCall meant }
+    ensures { IfSome result (λ rest. IsFront CallTexts text.now call.new rest.now) }
 {
     let rest = behind_word(spelled, text)?;
-    Some((call, rest))
+    *call = meant;
+    Some(rest)
 }
 
 // The submission of a work object.
 #[inline(always)]
-fn submit(text: &[u8]) -> Option<(Call, &[u8])>
-    ensures { IfSome result (λ read. IsFront CallTexts text.now read.0 read.1.now) }
+fn submit<'a>(text: &'a [u8], call: &mut Call) -> Option<&'a [u8]>
+    ensures { IfSome result (λ rest. IsFront CallTexts text.now call.new rest.now) }
 {
     let start = behind_word(b" submit ", text)?;
     let (number, rest) = front_number(start, ID_MOST)?;
     let object = ObjectId(number as u32);
-    Some((Call::SubmitWork { object }, rest))
+    *call = Call::SubmitWork { object };
+    Some(rest)
 }
 
 // The setting of a timer or of a pool's maximum.
-fn setting(text: &[u8]) -> Option<(Call, &[u8])>
-    ensures { IfSome result (λ read. IsFront CallTexts text.now read.0 read.1.now) }
+fn setting<'a>(text: &'a [u8], call: &mut Call) -> Option<&'a [u8]>
+    ensures { IfSome result (λ rest. IsFront CallTexts text.now call.new rest.now) }
 {
-    match set_timer(text) {
-        Some(read) => Some(read),
-        None => set_maximum(text),
+    match set_timer(text, call) {
+        Some(rest) => Some(rest),
+        None => set_maximum(text, call),
     }
 }
 
-fn set_timer(text: &[u8]) -> Option<(Call, &[u8])>
-    ensures { IfSome result (λ read. IsFront CallTexts text.now read.0 read.1.now) }
+fn set_timer<'a>(text: &'a [u8], call: &mut Call) -> Option<&'a [u8]>
+    ensures { IfSome result (λ rest. IsFront CallTexts text.now call.new rest.now) }
 {
     let start = behind_word(b" set-timer ", text)?;
     let (object, second) = front_number(start, ID_MOST)?;
     let (due, third) = front_signed(behind(b' ', second)?)?;
     let (period, fourth) = front_number(behind(b' ', third)?, SMALL_MOST)?;
     let (window, rest) = front_number(behind(b' ', fourth)?, SMALL_MOST)?;
-    let call = Call::SetTimer {
+    *call = Call::SetTimer {
         object: ObjectId(object as u32),
         due: Some(due),
         period: period as u32,
         window: window as u32,
     };
-    Some((call, rest))
+    Some(rest)
 }
 
-fn set_maximum(text: &[u8]) -> Option<(Call, &[u8])>
-    ensures { IfSome result (λ read. IsFront CallTexts text.now read.0 read.1.now) }
+fn set_maximum<'a>(text: &'a [u8], call: &mut Call) -> Option<&'a [u8]>
+    ensures { IfSome result (λ rest. IsFront CallTexts text.now call.new rest.now) }
 {
     let start = behind_word(b" set-maximum ", text)?;
     let (pool, second) = front_number(start, ID_MOST)?;
     let (value, rest) = front_number(behind(b' ', second)?, SMALL_MOST)?;
     let pool = PoolId(pool as u32);
     let value = value as u32;
-    Some((Call::SetMaximum { pool, value }, rest))
+    *call = Call::SetMaximum { pool, value };
+    Some(rest)
 }
 
-fn advance(text: &[u8]) -> Option<(Call, &[u8])>
-    ensures { IfSome result (λ read. IsFront CallTexts text.now read.0 read.1.now) }
+fn advance<'a>(text: &'a [u8], call: &mut Call) -> Option<&'a [u8]>
+    ensures { IfSome result (λ rest. IsFront CallTexts text.now call.new rest.now) }
 {
     let start = behind_word(b" advance ", text)?;
     let (ticks, rest) = front_number(start, TIME_MOST)?;
-    Some((Call::Advance { ticks }, rest))
+    *call = Call::Advance { ticks };
+    Some(rest)
 }
 
-fn is_timer_set(text: &[u8]) -> Option<(Call, &[u8])>
-    ensures { IfSome result (λ read. IsFront CallTexts text.now read.0 read.1.now) }
+fn is_timer_set<'a>(text: &'a [u8], call: &mut Call) -> Option<&'a [u8]>
+    ensures { IfSome result (λ rest. IsFront CallTexts text.now call.new rest.now) }
 {
     let start = behind_word(b" is-timer-set ", text)?;
     let (number, rest) = front_number(start, ID_MOST)?;
     let object = ObjectId(number as u32);
-    Some((Call::IsTimerSet { object }, rest))
+    *call = Call::IsTimerSet { object };
+    Some(rest)
 }
 
 // The begin of a wait for a work object.
-fn begin_wait(text: &[u8]) -> Option<(Call, &[u8])>
-    ensures { IfSome result (λ read. IsFront CallTexts text.now read.0 read.1.now) }
+fn begin_wait<'a>(text: &'a [u8], call: &mut Call) -> Option<&'a [u8]>
+    ensures { IfSome result (λ rest. IsFront CallTexts text.now call.new rest.now) }
 {
     let start = behind_word(b" wait work ", text)?;
     let (number, last) = front_number(start, ID_MOST)?;
     let (cancel, rest) = front_how(last)?;
-    let call = Call::BeginWait {
+    *call = Call::BeginWait {
         kind: Kind::Work,
         object: ObjectId(number as u32),
         cancel,
     };
-    Some((call, rest))
+    Some(rest)
 }
 
 // Whether a wait cancels what is pending, with the space before it.
@@ -294,112 +320,120 @@ fn front_signed(text: &[u8]) -> Option<(i64, &[u8])>
 
 // A frequent answer with the space before it, told by its first letters.
 #[inline(always)]
-fn front_answer(text: &[u8]) -> Option<(Answer, &[u8])>
-    ensures { IfSome result (λ read. IsFront AnswerTexts text.now read.0 read.1.now) }
+fn front_answer<'a>(text: &'a [u8], answer: &mut Answer) -> Option<&'a [u8]>
+    ensures { IfSome result (λ rest. IsFront AnswerTexts text.now answer.new rest.now) }
 {
     match text {
-        [_, b'q', ..] => queued(text),
-        [_, b't', ..] => taken(text),
-        [_, b'r', b'e', b't', ..] => returned(text),
-        [_, b'o', ..] => done(text),
+        [_, b'q', ..] => queued(text, answer),
+        [_, b't', ..] => taken(text, answer),
+        [_, b'r', b'e', b't', ..] => returned(text, answer),
+        [_, b'o', ..] => done(text, answer),
         _ => None,
     }
 }
 
 // Any answer that is read here.
-fn any_answer(text: &[u8]) -> Option<(Answer, &[u8])>
-    ensures { IfSome result (λ read. IsFront AnswerTexts text.now read.0 read.1.now) }
+fn any_answer<'a>(text: &'a [u8], answer: &mut Answer) -> Option<&'a [u8]>
+    ensures { IfSome result (λ rest. IsFront AnswerTexts text.now answer.new rest.now) }
 {
-    match front_answer(text) {
-        Some(read) => Some(read),
-        None => other_answer(text),
+    match front_answer(text, answer) {
+        Some(rest) => Some(rest),
+        None => other_answer(text, answer),
     }
 }
 
 // An answer that is less frequent.
-fn other_answer(text: &[u8]) -> Option<(Answer, &[u8])>
-    ensures { IfSome result (λ read. IsFront AnswerTexts text.now read.0 read.1.now) }
+fn other_answer<'a>(text: &'a [u8], answer: &mut Answer) -> Option<&'a [u8]>
+    ensures { IfSome result (λ rest. IsFront AnswerTexts text.now answer.new rest.now) }
 {
     match text {
-        [_, b'r', ..] => no_such(text),
-        [_, b'a', ..] => advanced(text),
-        [_, b'b', ..] => begun(text),
-        [_, b'e', ..] => ended(text),
-        [_, b'f', ..] => flag(text),
+        [_, b'r', ..] => no_such(text, answer),
+        [_, b'a', ..] => advanced(text, answer),
+        [_, b'b', ..] => begun(text, answer),
+        [_, b'e', ..] => ended(text, answer),
+        [_, b'f', ..] => flag(text, answer),
         _ => None,
     }
 }
 
-fn no_such(text: &[u8]) -> Option<(Answer, &[u8])>
-    ensures { IfSome result (λ read. IsFront AnswerTexts text.now read.0 read.1.now) }
+fn no_such<'a>(text: &'a [u8], answer: &mut Answer) -> Option<&'a [u8]>
+    ensures { IfSome result (λ rest. IsFront AnswerTexts text.now answer.new rest.now) }
 {
     let rest = behind_word(b" refused no-such", text)?;
-    Some((Answer::Refused(Refusal::NoSuch), rest))
+    *answer = Answer::Refused(Refusal::NoSuch);
+    Some(rest)
 }
 
-fn advanced(text: &[u8]) -> Option<(Answer, &[u8])>
-    ensures { IfSome result (λ read. IsFront AnswerTexts text.now read.0 read.1.now) }
+fn advanced<'a>(text: &'a [u8], answer: &mut Answer) -> Option<&'a [u8]>
+    ensures { IfSome result (λ rest. IsFront AnswerTexts text.now answer.new rest.now) }
 {
     let start = behind_word(b" advanced ", text)?;
     let (now, second) = front_number(start, TIME_MOST)?;
     let (first, third) = front_number(behind(b' ', second)?, u64::MAX)?;
     let (count, rest) = front_number(behind(b' ', third)?, ID_MOST)?;
     let count = count as u32;
-    Some((Answer::Advanced { now, first, count }, rest))
+    *answer = Answer::Advanced { now, first, count };
+    Some(rest)
 }
 
-fn begun(text: &[u8]) -> Option<(Answer, &[u8])>
-    ensures { IfSome result (λ read. IsFront AnswerTexts text.now read.0 read.1.now) }
+fn begun<'a>(text: &'a [u8], answer: &mut Answer) -> Option<&'a [u8]>
+    ensures { IfSome result (λ rest. IsFront AnswerTexts text.now answer.new rest.now) }
 {
     let start = behind_word(b" begun ", text)?;
     let (covered, second) = front_number(start, ID_MOST)?;
     let (cancelled, rest) = front_number(behind(b' ', second)?, ID_MOST)?;
     let covered = covered as u32;
     let cancelled = cancelled as u32;
-    Some((Answer::Begun { covered, cancelled }, rest))
+    *answer = Answer::Begun { covered, cancelled };
+    Some(rest)
 }
 
-fn ended(text: &[u8]) -> Option<(Answer, &[u8])>
-    ensures { IfSome result (λ read. IsFront AnswerTexts text.now read.0 read.1.now) }
+fn ended<'a>(text: &'a [u8], answer: &mut Answer) -> Option<&'a [u8]>
+    ensures { IfSome result (λ rest. IsFront AnswerTexts text.now answer.new rest.now) }
 {
     let rest = behind_word(b" ended", text)?;
-    Some((Answer::Ended, rest))
+    *answer = Answer::Ended;
+    Some(rest)
 }
 
-fn flag(text: &[u8]) -> Option<(Answer, &[u8])>
-    ensures { IfSome result (λ read. IsFront AnswerTexts text.now read.0 read.1.now) }
+fn flag<'a>(text: &'a [u8], answer: &mut Answer) -> Option<&'a [u8]>
+    ensures { IfSome result (λ rest. IsFront AnswerTexts text.now answer.new rest.now) }
 {
     if let Some(rest) = behind_word(b" flag no", text) {
-        return Some((Answer::Flag { value: false }, rest));
+        *answer = Answer::Flag { value: false };
+        return Some(rest);
     }
     let rest = behind_word(b" flag yes", text)?;
-    Some((Answer::Flag { value: true }, rest))
+    *answer = Answer::Flag { value: true };
+    Some(rest)
 }
 
 #[inline(always)]
-fn done(text: &[u8]) -> Option<(Answer, &[u8])>
-    ensures { IfSome result (λ read. IsFront AnswerTexts text.now read.0 read.1.now) }
+fn done<'a>(text: &'a [u8], answer: &mut Answer) -> Option<&'a [u8]>
+    ensures { IfSome result (λ rest. IsFront AnswerTexts text.now answer.new rest.now) }
 {
     let rest = behind_word(b" ok", text)?;
-    Some((Answer::Done, rest))
+    *answer = Answer::Done;
+    Some(rest)
 }
 
 #[inline(always)]
-fn queued(text: &[u8]) -> Option<(Answer, &[u8])>
-    ensures { IfSome result (λ read. IsFront AnswerTexts text.now read.0 read.1.now) }
+fn queued<'a>(text: &'a [u8], answer: &mut Answer) -> Option<&'a [u8]>
+    ensures { IfSome result (λ rest. IsFront AnswerTexts text.now answer.new rest.now) }
 {
     let start = behind_word(b" queued ", text)?;
     let (first, space) = front_number(start, u64::MAX)?;
     let last = behind(b' ', space)?;
     let (count, rest) = front_number(last, ID_MOST)?;
     let count = count as u32;
-    Some((Answer::Queued { first, count }, rest))
+    *answer = Answer::Queued { first, count };
+    Some(rest)
 }
 
 // A callback that is called plainly.
 #[inline(always)]
-fn taken(text: &[u8]) -> Option<(Answer, &[u8])>
-    ensures { IfSome result (λ read. IsFront AnswerTexts text.now read.0 read.1.now) }
+fn taken<'a>(text: &'a [u8], answer: &mut Answer) -> Option<&'a [u8]>
+    ensures { IfSome result (λ rest. IsFront AnswerTexts text.now answer.new rest.now) }
 {
     let start = behind_word(b" taken ", text)?;
     let (callback, second) = front_number(start, u64::MAX)?;
@@ -410,26 +444,26 @@ fn taken(text: &[u8]) -> Option<(Answer, &[u8])>
     }
     let (context, fifth) = front_number(behind_word(b" x", fourth)?, u64::MAX)?;
     let rest = behind_word(b" plain", fifth)?;
-    let answer = Answer::Taken {
+    *answer = Answer::Taken {
         callback,
         object: ObjectId(object as u32),
         routine: RoutineId(routine as u32),
         context,
         result: TakeResult::Plain,
     };
-    Some((answer, rest))
+    Some(rest)
 }
 
 // A return that left nothing.
 #[inline(always)]
-fn returned(text: &[u8]) -> Option<(Answer, &[u8])>
-    ensures { IfSome result (λ read. IsFront AnswerTexts text.now read.0 read.1.now) }
+fn returned<'a>(text: &'a [u8], answer: &mut Answer) -> Option<&'a [u8]>
+    ensures { IfSome result (λ rest. IsFront AnswerTexts text.now answer.new rest.now) }
 {
     let start = behind_word(b" returned - - - - ", text)?;
     let (first, space) = front_number(start, u64::MAX)?;
     let last = behind(b' ', space)?;
     let (count, rest) = front_number(last, ID_MOST)?;
-    let answer = Answer::Returned {
+    *answer = Answer::Returned {
         section: SlotWord::Unasked,
         mutex: SlotWord::Unasked,
         semaphore: SlotWord::Unasked,
@@ -437,5 +471,5 @@ fn returned(text: &[u8]) -> Option<(Answer, &[u8])>
         first,
         count: count as u32,
     };
-    Some((answer, rest))
+    Some(rest)
 }

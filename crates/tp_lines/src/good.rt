@@ -14,43 +14,43 @@ use tp_base::answers::Entry;
 use tp_base::calls::Call;
 use tp_base::ids::Who;
 
-/// Reads the line of a call that the text begins with, where that is a frequent one, and tells how many bytes
-/// it has, its line feed included. `None` says nothing of the text. No memory is taken.
+/// Reads the line of a call that the text begins with, where that is a frequent one, writes down the call and
+/// who makes it, and tells how many bytes the line has, its line feed included. `None` says nothing of the
+/// text, and then what was written down says nothing either. No memory is taken.
 #[inline(always)]
-pub fn read_good_call(text: &[u8]) -> Option<((Who, Call), usize)>
-    ensures { IfSome result (λ read. IsAhead CallLines text.now read.0 read.1) }
+pub fn read_good_call(text: &[u8], made: &mut (Who, Call)) -> Option<usize>
+    ensures { IfSome result (λ size. IsAhead CallLines text.now made.new size) }
 {
-    let (line, rest) = front_line(text)?;
+    let rest = front_line(text, made)?;
     let more = behind(b'\n', rest)?;
-    Some((line, text.len() - more.len()))
+    Some(text.len() - more.len())
 }
 
-/// Reads the line of an entry that the text begins with, where that is a frequent one, and tells how many bytes
-/// it has, its line feed included. `None` says nothing of the text. No memory is taken.
+/// The same for the line of an entry.
 #[inline(always)]
-pub fn read_good_entry(text: &[u8]) -> Option<(Entry, usize)>
-    ensures { IfSome result (λ read. IsAhead EntryLines text.now read.0 read.1) }
+pub fn read_good_entry(text: &[u8], entry: &mut Entry) -> Option<usize>
+    ensures { IfSome result (λ size. IsAhead EntryLines text.now entry.new size) }
 {
-    let (entry, rest) = front_entry(text)?;
+    let rest = front_entry(text, entry)?;
     let more = behind(b'\n', rest)?;
-    Some((entry, text.len() - more.len()))
+    Some(text.len() - more.len())
 }
 
 /// The same for some lines of calls that are less frequent. It stands apart, so that what most lines need
 /// stays short.
-pub fn read_rare_call(text: &[u8]) -> Option<((Who, Call), usize)>
-    ensures { IfSome result (λ read. IsAhead CallLines text.now read.0 read.1) }
+pub fn read_rare_call(text: &[u8], made: &mut (Who, Call)) -> Option<usize>
+    ensures { IfSome result (λ size. IsAhead CallLines text.now made.new size) }
 {
-    let (made, rest) = rare_line(text)?;
+    let rest = rare_line(text, made)?;
     let more = behind(b'\n', rest)?;
-    Some((made, text.len() - more.len()))
+    Some(text.len() - more.len())
 }
 
 /// The same for some lines of entries that are less frequent.
-pub fn read_rare_entry(text: &[u8]) -> Option<(Entry, usize)>
-    ensures { IfSome result (λ read. IsAhead EntryLines text.now read.0 read.1) }
+pub fn read_rare_entry(text: &[u8], entry: &mut Entry) -> Option<usize>
+    ensures { IfSome result (λ size. IsAhead EntryLines text.now entry.new size) }
 {
-    let (entry, rest) = rare_entry(text)?;
+    let rest = rare_entry(text, entry)?;
     let more = behind(b'\n', rest)?;
-    Some((entry, text.len() - more.len()))
+    Some(text.len() - more.len())
 }

@@ -30,5 +30,6 @@ pub mod parse;
 mod parts;
 pub mod print;
 mod put;
+pub mod reserved;
 mod rows;
 mod words;

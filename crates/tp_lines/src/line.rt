@@ -11,6 +11,7 @@ ghost use Rattle.tp_lines.specs.Writing.{IsPut};
 
 use crate::words::{Word, word_text};
 use itoa::write_digits;
+use tp_base::answers::SlotWord;
 use tp_base::ids::KernelId;
 
 /// A byte.
@@ -94,6 +95,20 @@ pub fn word(word: Word, out: &mut [u8], at: usize) -> usize
 {
     let start = byte(b' ', out, at);
     first(word, out, start)
+}
+
+/// A space, and what became of an action on return. A copy of a text that is known takes no call.
+#[inline(always)]
+pub fn slot(slot: SlotWord, out: &mut [u8], at: usize) -> usize
+    requires { at + 31 ≤ length out.old }
+    ensures { IsPut at out.old result out.new (32 ∷ text_of_word (Word.Slot slot)) 31 }
+{
+    match slot {
+        SlotWord::Unasked => word(Word::Slot(SlotWord::Unasked), out, at),
+        SlotWord::Performed => word(Word::Slot(SlotWord::Performed), out, at),
+        SlotWord::NotOwner => word(Word::Slot(SlotWord::NotOwner), out, at),
+        SlotWord::OverMaximum => word(Word::Slot(SlotWord::OverMaximum), out, at),
+    }
 }
 
 /// A space and a number.

@@ -12,6 +12,8 @@ use crate::words::Word;
 use std::alloc::{AllocError, Global};
 use std::marker::Model;
 use tp_base::answers::{Answer, Entry, Look, Outcome};
+use tp_base::calls::Call;
+use tp_base::ids::Who;
 
 /// As much as a line needs.
 const ROOM: usize = 512;
@@ -46,14 +48,6 @@ impl Lines {
         }
     }
 
-    /// Lines behind a text that is there already. Takes no memory.
-    pub fn behind(text: Vec<u8>) -> Lines
-        ensures { result ≡ text.items }
-    {
-        let end = text.len();
-        Lines { bytes: text, end }
-    }
-
     /// Prints the line of what a call came to: its answer, its look, or full. On want of memory nothing is
     /// printed.
     #[inline(always)]
@@ -65,20 +59,6 @@ impl Lines {
             grow(&mut self.bytes)?;
         }
         let end = put_outcome(outcome, &mut self.bytes, self.end);
-        self.end = line::byte(b'\n', &mut self.bytes, end);
-        Ok(())
-    }
-
-    /// Prints the line of an entry. On want of memory nothing is printed.
-    #[inline(always)]
-    pub fn entry(&mut self, entry: &Entry) -> Result<(), AllocError>
-        ensures ok { OnOk result (self.new ≡ self.old ++ (line_of_entry entry.now ++ 10 ∷ [])) }
-        ensures err { OnErr result (self.new ≡ self.old) }
-    {
-        if self.bytes.len() - self.end < ROOM {
-            grow(&mut self.bytes)?;
-        }
-        let end = put_entry(entry, &mut self.bytes, self.end);
         self.end = line::byte(b'\n', &mut self.bytes, end);
         Ok(())
     }
@@ -164,20 +144,20 @@ pub fn print_entry(entry: &Entry, out: &mut Vec<u8>) -> Result<(), AllocError>
 {
     let at = out.len();
     out.resize(at + ROOM, 0)?;
-    let end = put_entry(entry, out, at);
+    let end = put_entry(entry.who, &entry.call, &entry.answer, out, at);
     out.truncate(end);
     Ok(())
 }
 
 #[inline(always)]
-fn put_entry(entry: &Entry, out: &mut [u8], at: usize) -> usize
+pub(crate) fn put_entry(who: Who, call: &Call, answer: &Answer, out: &mut [u8], at: usize) -> usize
     requires { at + 510 ≤ length out.old }
-    ensures { IsPut at out.old result out.new (line_of_entry entry.now) 510 }
+    ensures { IsPut at out.old result out.new (line_of_entry (record { who = who; call = call.now; answer = answer.now })) 510 }
 {
-    let call = put_who(entry.who, out, at);
-    let arrow = put_call(&entry.call, out, call);
-    let answer = line::text(b" -> ", out, arrow);
-    put_answer(&entry.answer, out, answer)
+    let called = put_who(who, out, at);
+    let arrow = put_call(call, out, called);
+    let answered = line::text(b" -> ", out, arrow);
+    put_answer(answer, out, answered)
 }
 
 #[inline(always)]

@@ -399,7 +399,8 @@ struct Known {
 }
 
 // A reference to what is known in each arm, and one equation of all of it, are proved several times faster than texts
-// and fields in matches of their own.
+// and fields in matches of their own. Where the word is known, so is the size of its text then.
+#[inline(always)]
 fn known_of(word: Word) -> &'static Known
     ensures { let known : Shape = record { table = result.now.table; text = result.now.text.now; fields = result.now.fields.now } in known ≡ shape_of word }
 {
@@ -407,6 +408,7 @@ fn known_of(word: Word) -> &'static Known
 }
 
 /// The text of a word.
+#[inline(always)]
 pub fn word_text(word: Word) -> &'static [u8]
     ensures { result.now ≡ text_of_word word }
 {

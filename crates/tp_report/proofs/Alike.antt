@@ -160,15 +160,45 @@ answer_same (answer.Begun x0 x1) (answer.Begun y0 y1) e = let p0 = both _ _ e in
 answer_same answer.Ended answer.Ended e = refl
 answer_same answer.Exhausted answer.Exhausted e = refl
 answer_same answer.Stalled answer.Stalled e = refl
-answer_same (answer.Notice x0 x1 x2 x3) (answer.Notice y0 y1 y2 y3) e = let p0 = both _ _ e in let p1 = both _ _ p0.1 in let p2 = both _ _ p1.1 in let q0 : x0 ≡ y0 = object_same x0 y0 p0.0 in let q1 : x1 ≡ y1 = routine_same x1 y1 p1.0 in let q2 : x2 ≡ y2 = number_same x2 y2 p2.0 in let q3 : x3 ≡ y3 = number_same x3 y3 p2.1 in cc
+answer_same (answer.Notice x0 x1 x2 x3) (answer.Notice y0 y1 y2 y3) e =
+    let p0 = both _ _ e in
+    let p1 = both _ _ p0.1 in
+    let p2 = both _ _ p1.1 in
+    let q0 : x0 ≡ y0 = object_same x0 y0 p0.0 in
+    let q1 : x1 ≡ y1 = routine_same x1 y1 p1.0 in
+    let q2 : x2 ≡ y2 = number_same x2 y2 p2.0 in
+    let q3 : x3 ≡ y3 = number_same x3 y3 p2.1 in
+    cc
 answer_same (answer.Started x0) (answer.Started y0) e = ap (λ z. answer.Started z) (number_same x0 y0 e)
 answer_same (answer.Operation x0) (answer.Operation y0) e = ap (λ z. answer.Operation z) (number_same x0 y0 e)
 answer_same (answer.Cancelled x0) (answer.Cancelled y0) e = ap (λ z. answer.Cancelled z) (number_same x0 y0 e)
 answer_same (answer.Count x0 x1 x2) (answer.Count y0 y1 y2) e = let p0 = both _ _ e in let p1 = both _ _ p0.1 in let q0 : x0 ≡ y0 = number_same x0 y0 p0.0 in let q1 : x1 ≡ y1 = number_same x1 y1 p1.0 in let q2 : x2 ≡ y2 = number_same x2 y2 p1.1 in cc
 answer_same (answer.Advanced x0 x1 x2) (answer.Advanced y0 y1 y2) e = let p0 = both _ _ e in let p1 = both _ _ p0.1 in let q0 : x0 ≡ y0 = number_same x0 y0 p0.0 in let q1 : x1 ≡ y1 = number_same x1 y1 p1.0 in let q2 : x2 ≡ y2 = number_same x2 y2 p1.1 in cc
 answer_same (answer.Attached x0) (answer.Attached y0) e = ap (λ z. answer.Attached z) (pool_same x0 y0 e)
-answer_same (answer.Taken x0 x1 x2 x3 x4) (answer.Taken y0 y1 y2 y3 y4) e = let p0 = both _ _ e in let p1 = both _ _ p0.1 in let p2 = both _ _ p1.1 in let p3 = both _ _ p2.1 in let q0 : x0 ≡ y0 = number_same x0 y0 p0.0 in let q1 : x1 ≡ y1 = object_same x1 y1 p1.0 in let q2 : x2 ≡ y2 = routine_same x2 y2 p2.0 in let q3 : x3 ≡ y3 = number_same x3 y3 p3.0 in let q4 : x4 ≡ y4 = result_same x4 y4 p3.1 in cc
-answer_same (answer.Returned x0 x1 x2 x3 x4 x5) (answer.Returned y0 y1 y2 y3 y4 y5) e = let p0 = both _ _ e in let p1 = both _ _ p0.1 in let p2 = both _ _ p1.1 in let p3 = both _ _ p2.1 in let p4 = both _ _ p3.1 in let q0 : x0 ≡ y0 = slot_same x0 y0 p0.0 in let q1 : x1 ≡ y1 = slot_same x1 y1 p1.0 in let q2 : x2 ≡ y2 = slot_same x2 y2 p2.0 in let q3 : x3 ≡ y3 = slot_same x3 y3 p3.0 in let q4 : x4 ≡ y4 = number_same x4 y4 p4.0 in let q5 : x5 ≡ y5 = number_same x5 y5 p4.1 in cc
+answer_same (answer.Taken x0 x1 x2 x3 x4) (answer.Taken y0 y1 y2 y3 y4) e =
+    let p0 = both _ _ e in
+    let p1 = both _ _ p0.1 in
+    let p2 = both _ _ p1.1 in
+    let p3 = both _ _ p2.1 in
+    let q0 : x0 ≡ y0 = number_same x0 y0 p0.0 in
+    let q1 : x1 ≡ y1 = object_same x1 y1 p1.0 in
+    let q2 : x2 ≡ y2 = routine_same x2 y2 p2.0 in
+    let q3 : x3 ≡ y3 = number_same x3 y3 p3.0 in
+    let q4 : x4 ≡ y4 = result_same x4 y4 p3.1 in
+    cc
+answer_same (answer.Returned x0 x1 x2 x3 x4 x5) (answer.Returned y0 y1 y2 y3 y4 y5) e =
+    let p0 = both _ _ e in
+    let p1 = both _ _ p0.1 in
+    let p2 = both _ _ p1.1 in
+    let p3 = both _ _ p2.1 in
+    let p4 = both _ _ p3.1 in
+    let q0 : x0 ≡ y0 = slot_same x0 y0 p0.0 in
+    let q1 : x1 ≡ y1 = slot_same x1 y1 p1.0 in
+    let q2 : x2 ≡ y2 = slot_same x2 y2 p2.0 in
+    let q3 : x3 ≡ y3 = slot_same x3 y3 p3.0 in
+    let q4 : x4 ≡ y4 = number_same x4 y4 p4.0 in
+    let q5 : x5 ≡ y5 = number_same x5 y5 p4.1 in
+    cc
 answer_same (answer.Refused x0) (answer.Refused y0) e = ap (λ z. answer.Refused z) (refusal_same x0 y0 e)
 answer_same _ _ e = absurd (false_true e)
 

@@ -1,5 +1,4 @@
 pub mod Alike
-pub mod Counted
 pub mod Deciding
 pub mod EndedFacts
 mod Examples
@@ -8,7 +7,9 @@ pub mod Floatless
 pub mod FreeLines
 pub mod HeaderFacts
 pub mod Judging
+pub mod Keeping
 pub mod Keys
+pub mod NoneLost
 pub mod Places
 pub mod SoFar
 pub mod Summed

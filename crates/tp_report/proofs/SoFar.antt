@@ -276,11 +276,11 @@ module _ (header : Header) (text : List ℕ) (book : Recording) (verdict : Verdi
   pub checked_few : (len ≤ 131072) × (len_told verdict ≤ 131072) × (len ≤ header.events)
   checked_few = (omega (arith, c.counts, c.read.few), omega (arith, c.read.few, told_len book.limits book.capacity c.entries verdict c.judged.is_verdict), omega (arith, c.counts, c.read.few))
 
-  pub checked_next : (new : Recording) (next : Verdict) (entry : Entry) (size : ℕ) → IsNext header.events len rest (Another entry size)
+  pub checked_next : (new : Recording) (next : Verdict) (entry : Entry) (size : ℕ) → IsNext header.events len rest entry (Another size)
       → IsSameMachine book new → ((entries : List Entry) → IsJudgedTo book entries verdict → IsJudgedTo new (entries ++ entry ∷ []) next) → IsCheckedTo header text new next (len + 1) (drop size rest)
   checked_next new next entry size is same judged = record {
     entries = c.entries ++ entry ∷ [];
-    read = read_next header.events text c.entries rest c.read most entry size (subst (λ n. IsNext header.events n rest (Another entry size)) c.counts is);
+    read = read_next header.events text c.entries rest c.read most entry size (subst (λ n. IsNext header.events n rest entry (Another size)) c.counts is);
     counts = omega (arith, c.counts, length-append c.entries (entry ∷ []));
     judged = judged c.entries c.judged;
     limits = same.limits ∙ c.limits;
@@ -290,20 +290,20 @@ module _ (header : Header) (text : List ℕ) (book : Recording) (verdict : Verdi
   pub checked_verdict : IsVerdict (limits_of header) header.events c.entries verdict
   checked_verdict = subst (λ n. IsVerdict (limits_of header) n c.entries verdict) c.capacity (subst (λ l. IsVerdict l book.capacity c.entries verdict) c.limits c.judged.is_verdict)
 
-  pub checked_all : IsNext header.events len rest End → IsVerdictBehind header text verdict
-  checked_all is =
-      let end = subst (λ n. IsNext header.events n rest End) c.counts is in
+  pub checked_all : (entry : Entry) → IsNext header.events len rest entry End → IsVerdictBehind header text verdict
+  checked_all entry is =
+      let end = subst (λ n. IsNext header.events n rest entry End) c.counts is in
       record { entries = c.entries; are_entries = read_all header.events text c.entries rest c.read most end.0 end.1; is_verdict = checked_verdict }
 
-  pub checked_only : IsNext header.events len rest End → (all : List Entry) → AreEntries header.events text all → IsVerdict (limits_of header) header.events all verdict
-  checked_only is all a =
-      let end = subst (λ n. IsNext header.events n rest End) c.counts is in
+  pub checked_only : (entry : Entry) → IsNext header.events len rest entry End → (all : List Entry) → AreEntries header.events text all → IsVerdict (limits_of header) header.events all verdict
+  checked_only entry is all a =
+      let end = subst (λ n. IsNext header.events n rest entry End) c.counts is in
       subst (λ es. IsVerdict (limits_of header) header.events es verdict) (read_only header.events text c.entries rest c.read most end.0 end.1 all a) checked_verdict
 
-  pub checked_no : (place : ℕ) → IsNext header.events len rest (Fault place) → (all : List Entry) → AreEntries header.events text all → ⊥
-  checked_no place is = read_no header.events text c.entries rest c.read most place (subst (λ n. IsNext header.events n rest (Fault place)) c.counts is)
+  pub checked_no : (entry : Entry) (place : ℕ) → IsNext header.events len rest entry (Fault place) → (all : List Entry) → AreEntries header.events text all → ⊥
+  checked_no entry place is = read_no header.events text c.entries rest c.read most place (subst (λ n. IsNext header.events n rest entry (Fault place)) c.counts is)
 
-  pub checked_fault : (place : ℕ) → IsNext header.events len rest (Fault place) → IsEntriesFault header.events text (len + 1 + 1) (place + 1)
-  checked_fault place is =
-      read_fault header.events text c.entries rest c.read most place (len + 1 + 1) (place + 1) (subst (λ n. IsNext header.events n rest (Fault place)) c.counts is)
+  pub checked_fault : (entry : Entry) (place : ℕ) → IsNext header.events len rest entry (Fault place) → IsEntriesFault header.events text (len + 1 + 1) (place + 1)
+  checked_fault entry place is =
+      read_fault header.events text c.entries rest c.read most place (len + 1 + 1) (place + 1) (subst (λ n. IsNext header.events n rest entry (Fault place)) c.counts is)
       (omega (arith, c.counts)) refl

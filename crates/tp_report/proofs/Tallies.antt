@@ -1,16 +1,20 @@
--- What is counted while the entries of a history are gone through.
-use Rattle.std.proofs.Common.{◌≡◌, ℕ, ◌+◌, ◌*◌, ◌<◌, ◌≤◌, Bool, true, false, cond, List, [], ◌∷◌, ◌++◌, length, take, get_or, sym, ap, ◌∙◌, arith, filter, length-append, subst}
-use Rattle.std.specs.List.{range_with_len}
+-- What is counted while the entries of a history come.
+use Rattle.std.proofs.Common.{◌≡◌, ℕ, ◌+◌, ◌*◌, ◌<◌, ◌≤◌, Bool, true, false, cond, List, [], ◌∷◌, ◌++◌, length, refl, sym, ap, ap₂, ◌∙◌, arith, filter, length-append}
+use Rattle.std.specs.Prelude.{◌||◌}
+use Rattle.std.specs.List.{list_any, range_with_len}
 use Rattle.std.proofs.lemmas.Grind.{flat_map-append}
-use Rattle.std.proofs.lemmas.List.{append-nil, length-take-le}
-use Rattle.std.proofs.lemmas.List.Filters.{length-filter_more}
+use Rattle.std.proofs.lemmas.List.{append-nil}
+use Rattle.std.proofs.lemmas.List.Elements.{filter-append}
+use Rattle.std.proofs.lemmas.List.Folds.{list_any-append}
 use Rattle.std.proofs.lemmas.List.FromFn.{length-range_with_len}
 use Rattle.tp_base.specs.declared.answers.Entry.{Entry}
 use Rattle.tp_model.specs.Laws.Entries.{is_taken, made_by, numbers_made}
 use Rattle.tp_report.specs.Counting.{AreCounts, IsCounted, one_if}
+use Rattle.tp_report.specs.EarlyEnds.{has_early_end, is_early_end}
 use Rattle.tp_report.specs.Summaries.{is_refused}
 use Rattle.tp_report.specs.declared.counts.Counts.{Counts}
-use Rattle.tp_report.proofs.Telling.{take_more}
+use Rattle.tp_report.specs.declared.counts.EarlyEnd.{EarlyEnd}
+use Rattle.tp_report.specs.declared.counts.EarlyEnd.TheVariants as early
 
 pub range_length : (first count : ℕ) → length (range_with_len first count) ≡ count
 range_length first count = length-range_with_len first count
@@ -23,26 +27,41 @@ filter_few p (x ∷ xs) =
       | false ↦ omega (arith, filter_few p xs)
     ]
 
-module _ (history : List Entry) (index : ℕ) (counts : Counts) (within : index ≤ length history) (a : AreCounts (take index history) counts) where
-  pub few_taken : counts.taken ≤ index
-  few_taken = omega (arith, a.taken, filter_few is_taken (take index history), length-take-le index history within)
+length-filter_last : {X : Type 0} (p : X → Bool) (xs : List X) (x : X) → length (filter p (xs ++ x ∷ [])) ≡ length (filter p xs) + one_if (p x)
+length-filter_last p xs x =
+    ap length (filter-append p xs (x ∷ []))
+    ∙ elim (p x) as (λ b. length (filter p xs ++ cond b (x ∷ []) []) ≡ length (filter p xs) + one_if b) [
+      | true ↦ length-append (filter p xs) (x ∷ [])
+      | false ↦ length-append (filter p xs) []
+    ]
 
-  pub few_refused : counts.refused ≤ index
-  few_refused = omega (arith, a.refused, filter_few is_refused (take index history), length-take-le index history within)
+or-false : (b : Bool) → (b || false) ≡ b
+or-false true = refl
+or-false false = refl
 
-  pub few_made : counts.made ≤ 4294967295 * index
-  few_made = subst (λ n. counts.made ≤ 4294967295 * n) (length-take-le index history within) a.few
+list_any_last : {X : Type 0} (p : X → Bool) (xs : List X) (x : X) → list_any p (xs ++ x ∷ []) ≡ (list_any p xs || p x)
+list_any_last p xs x = list_any-append p xs (x ∷ []) ∙ ap (λ b. list_any p xs || b) (or-false (p x))
 
-  pub counts_next : (d : Entry) (more : Counts) → index < length history → IsCounted counts (get_or history index d) more → AreCounts (take (index + 1) history) more
-  counts_next d more inside counted =
-      let entry = get_or history index d in
-      let longer : length (take (index + 1) history) ≡ length (take index history) + 1 = ap length (take_more history index d inside) ∙ length-append (take index history) (entry ∷ []) in
-      let made : length (numbers_made (take (index + 1) history)) ≡ length (numbers_made (take index history)) + length (made_by entry)
-      = ap (λ es. length (numbers_made es)) (take_more history index d inside) ∙ ap length (flat_map-append made_by (take index history) (entry ∷ []))
-      ∙ length-append (numbers_made (take index history)) (made_by entry ++ []) ∙ ap (λ n. length (numbers_made (take index history)) + length n) (append-nil (made_by entry)) in
+module _ (entries : List Entry) (counts : Counts) (a : AreCounts entries counts) where
+  pub few_taken : counts.taken ≤ length entries
+  few_taken = omega (arith, a.taken, filter_few is_taken entries)
+
+  pub few_refused : counts.refused ≤ length entries
+  few_refused = omega (arith, a.refused, filter_few is_refused entries)
+
+  pub counts_next : (entry : Entry) (more : Counts) → IsCounted counts entry more → AreCounts (entries ++ entry ∷ []) more
+  counts_next entry more counted =
+      let longer : length (entries ++ entry ∷ []) ≡ length entries + 1 = length-append entries (entry ∷ []) in
+      let made : length (numbers_made (entries ++ entry ∷ [])) ≡ length (numbers_made entries) + length (made_by entry)
+      = ap length (flat_map-append made_by entries (entry ∷ []))
+      ∙ length-append (numbers_made entries) (made_by entry ++ []) ∙ ap (λ n. length (numbers_made entries) + length n) (append-nil (made_by entry)) in
+      let ended : (which : EarlyEnd) (before after : Bool) → before ≡ has_early_end which entries → after ≡ (before || is_early_end which entry) → after ≡ has_early_end which (entries ++ entry ∷ [])
+      = λ which before after was is. is ∙ ap (λ b. b || is_early_end which entry) was ∙ sym (list_any_last (is_early_end which) entries entry) in
       record {
         made = omega (arith, counted.made, a.made, made);
-        taken = counted.taken ∙ ap (λ n. n + one_if (is_taken entry)) a.taken ∙ sym (length-filter_more is_taken history index d inside);
-        refused = counted.refused ∙ ap (λ n. n + one_if (is_refused entry)) a.refused ∙ sym (length-filter_more is_refused history index d inside);
-        few = omega (arith, counted.few, few_made, longer, length-take-le index history within);
+        taken = counted.taken ∙ ap (λ n. n + one_if (is_taken entry)) a.taken ∙ sym (length-filter_last is_taken entries entry);
+        refused = counted.refused ∙ ap (λ n. n + one_if (is_refused entry)) a.refused ∙ sym (length-filter_last is_refused entries entry);
+        exhausted = ended early.Exhausted _ _ a.exhausted counted.exhausted;
+        stalled = ended early.Stalled _ _ a.stalled counted.stalled;
+        few = omega (arith, counted.few, a.few, longer);
       }

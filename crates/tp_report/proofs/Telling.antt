@@ -17,28 +17,17 @@ trace_text-append (line ∷ lines) more =
     ap (λ t. line ++ 10 ∷ t) (trace_text-append lines more) ∙ sym (append_assoc line (10 ∷ trace_text lines) (trace_text more))
 
 -- the lines of one entry more
-pub entries_next : (entries : List Entry) (index : ℕ) (d : Entry) (old before after : List ℕ) → index < length entries
-    → before ≡ old ++ entry_lines (take index entries) → after ≡ before ++ (line_of_entry (get_or entries index d) ++ 10 ∷ []) → after ≡ old ++ entry_lines (take (index + 1) entries)
-entries_next entries index d old before after within e f =
-    let line = line_of_entry (get_or entries index d) in
-    f ∙ ap (λ t. t ++ (line ++ 10 ∷ [])) e ∙ append_assoc old (entry_lines (take index entries)) (line ++ 10 ∷ [])
-    ∙ ap (λ t. old ++ t) (sym (ap entry_lines (take_more entries index d within)
-    ∙ ap trace_text (map-append line_of_entry (take index entries) (get_or entries index d ∷ []))
-    ∙ trace_text-append (map line_of_entry (take index entries)) (line ∷ [])))
+pub entries_last : (entries : List Entry) (entry : Entry) → entry_lines (entries ++ entry ∷ []) ≡ entry_lines entries ++ (line_of_entry entry ++ 10 ∷ [])
+entries_last entries entry =
+    ap trace_text (map-append line_of_entry entries (entry ∷ [])) ∙ trace_text-append (map line_of_entry entries) (line_of_entry entry ∷ [])
 
 -- the first line, the lines of all entries and the end
-pub text_all : (r : Recording) (len : ℕ) (old headed listed after : List ℕ) → len ≡ length r.history
-    → headed ≡ old ++ (header_line (header_of r.limits r.capacity) ++ 10 ∷ []) → listed ≡ headed ++ entry_lines r.history → after ≡ listed ++ (end_line len ++ 10 ∷ [])
-    → after ≡ old ++ history_told r
-text_all r len old headed listed after is e f g =
-    let head = header_line (header_of r.limits r.capacity) in
-    let lines = entry_lines r.history in
-    g ∙ ap (λ t. t ++ (end_line len ++ 10 ∷ [])) (f ∙ ap (λ t. t ++ lines) e ∙ append_assoc old (head ++ 10 ∷ []) lines)
-    ∙ append_assoc old ((head ++ 10 ∷ []) ++ lines) (end_line len ++ 10 ∷ [])
-    ∙ ap (λ t. old ++ t)
-    (ap (λ t. t ++ (end_line len ++ 10 ∷ [])) (append_assoc head (10 ∷ []) lines)
-    ∙ ap (λ n. (head ++ 10 ∷ lines) ++ (end_line n ++ 10 ∷ [])) is
-    ∙ sym (trace_text-append (lines_of (header_of r.limits r.capacity) r.history) (end_line (length r.history) ∷ [])))
+pub text_all : (r : Recording) (len : ℕ) (listed after : List ℕ) → len ≡ length r.history
+    → listed ≡ header_line (header_of r.limits r.capacity) ++ 10 ∷ entry_lines r.history → after ≡ listed ++ (end_line len ++ 10 ∷ []) → after ≡ history_told r
+text_all r len listed after is e f =
+    f ∙ ap (λ t. t ++ (end_line len ++ 10 ∷ [])) e
+    ∙ ap (λ n. (header_line (header_of r.limits r.capacity) ++ 10 ∷ entry_lines r.history) ++ (end_line n ++ 10 ∷ [])) is
+    ∙ sym (trace_text-append (lines_of (header_of r.limits r.capacity) r.history) (end_line (length r.history) ∷ []))
 
 -- a line more
 pub line_next : (lines : List (List ℕ)) (line before after : List ℕ) → before ≡ trace_text lines → after ≡ before ++ (line ++ 10 ∷ []) → after ≡ trace_text (lines ++ line ∷ [])

@@ -1,4 +1,5 @@
 pub mod Counting
+pub mod EarlyEnds
 pub mod Faults
 pub mod Histories
 pub mod Json
@@ -9,3 +10,4 @@ pub mod Summaries
 pub mod Summing
 pub mod Traces
 pub mod Verdicts
+pub mod Writing

@@ -1,5 +1,5 @@
 -- What readers of histories find at the front of a text.
-use Rattle.std.specs.Prelude.{◌≡◌, ℕ, ◌≤◌, List, [], ◌∷◌, ◌++◌, Option, None, Some, decimal, codes}
+use Rattle.std.specs.Prelude.{◌≡◌, ℕ, ◌≤◌, List, [], ◌∷◌, ◌++◌, Option, None, Some, decimal, codes, Result, Ok, Err}
 use Rattle.line_grammar.specs.Language.{IsReadTo, IsStuck}
 use Rattle.line_grammar.specs.Parts.{Pairs}
 use Rattle.line_grammar.specs.Words.{Word}
@@ -39,8 +39,13 @@ abbrev pub IsEndRead : ℕ → List ℕ → Option ℕ → Type 0
 IsEndRead len text None = (size : ℕ) × IsReadTo (Ends len) text None size
 IsEndRead len text (Some place) = IsStuck (Ends len) text place
 
--- what the line behind the header and `len` entries is
-abbrev pub IsNext : ℕ → ℕ → List ℕ → Next → Type 0
-IsNext events len text (Another entry size) = IsReadTo (Ended (NextLines events len)) text (Some entry) size
-IsNext events len text End = (size : ℕ) × IsReadTo (Ended (NextLines events len)) text None size
-IsNext events len text (Fault place) = IsStuck (Ended (NextLines events len)) text place
+-- what a reader found that writes the value down and tells its size alone
+abbrev pub read_as : {V : Type 0} → V → Result ℕ ℕ → Result (V × ℕ) ℕ
+read_as value (Ok size) = Ok (value, size)
+read_as value (Err place) = Err place
+
+-- what the line behind the header and `len` entries is, where the entry was written down if it is one
+abbrev pub IsNext : ℕ → ℕ → List ℕ → Entry → Next → Type 0
+IsNext events len text entry (Another size) = IsReadTo (Ended (NextLines events len)) text (Some entry) size
+IsNext events len text entry End = (size : ℕ) × IsReadTo (Ended (NextLines events len)) text None size
+IsNext events len text entry (Fault place) = IsStuck (Ended (NextLines events len)) text place

@@ -1,15 +1,18 @@
-//! What the entries of a history tell of callbacks.
+//! What the entries of a history tell, counted as they come.
 
-ghost use Rattle.std.specs.Prelude.{◌≡◌, ◌+◌, ◌<◌, ◌≤◌, ◌-◌, ◌^◌, ◌++◌, ◌∷◌, [], List, length};
-ghost use Rattle.tp_base.specs.declared.answers.Entry.{Entry as Written};
-ghost use Rattle.tp_model.specs.Laws.Entries.{made_by, queued_by};
-ghost use Rattle.tp_report.specs.Counting.{AreCounts, IsCounted};
-ghost use Rattle.tp_report.specs.Summaries.{is_refused};
+ghost use Rattle.std.specs.Prelude.{◌≡◌};
+ghost use Rattle.tp_model.specs.Laws.Entries.{is_complete_call};
+ghost use Rattle.tp_report.specs.EarlyEnds.{is_end};
 
-use kept_book::Kept;
-use recorded::Recorded;
-use tp_base::answers::{Answer, Entry};
+use tp_base::answers::Answer;
 use tp_base::calls::Call;
+
+/// How a wait ends that doesn't come to what it waits for.
+#[derive(Clone, Copy)]
+pub enum EarlyEnd {
+    Exhausted,
+    Stalled,
+}
 
 /// How many of what entries tell of.
 #[derive(Clone, Copy)]
@@ -20,62 +23,85 @@ pub struct Counts {
     pub taken: u32,
     /// The refusals.
     pub refused: u32,
+    /// Whether a wait ended with `exhausted`.
+    pub exhausted: bool,
+    /// Whether a wait ended with `stalled`.
+    pub stalled: bool,
 }
 
-/// Counts over all entries of a book.
-pub fn count_entries<B: Recorded>(book: &Kept<B>) -> Counts
-    ensures { AreCounts book.now.history result }
-{
-    let mut counts = Counts {
-        made: 0,
-        taken: 0,
-        refused: 0,
-    };
-    let entries = book.entries();
-    for entry in entries {
-        counts = with_entry(counts, entry);
+impl Counts {
+    ghost use Rattle.std.specs.Prelude.{◌≡◌, ◌+◌, ◌<◌, ◌≤◌, ◌-◌, ◌^◌, [], if◌then◌else◌};
+    ghost use Rattle.tp_base.specs.declared.ids.Who.{Who as Actor};
+    ghost use Rattle.tp_model.specs.Laws.Entries.{is_complete_call};
+    ghost use Rattle.tp_report.specs.Counting.{AreCounts, IsCounted};
+
+    /// Those of no entries.
+    pub fn none() -> Counts
+        ensures { AreCounts [] result }
+    {
+        Counts {
+            made: 0,
+            taken: 0,
+            refused: 0,
+            exhausted: false,
+            stalled: false,
+        }
     }
-    counts
+
+    /// Counts one more entry, of any actor.
+    #[inline(always)]
+    #[tactic(auto, using(crate::proofs::Tallies::range_length))]
+    pub fn add(&mut self, call: &Call, answer: &Answer)
+        requires made { self.old.made + 2 ^ 32 ≤ 2 ^ 64 }
+        requires taken { self.old.taken < 2 ^ 32 - 1 }
+        requires refused { self.old.refused < 2 ^ 32 - 1 }
+        ensures { (who : Actor) → IsCounted self.old (record { who = who; call = call.now; answer = answer.now }) self.new }
+    {
+        match answer {
+            Answer::Taken { .. } => self.taken += 1,
+            Answer::Refused(_) => self.refused += 1,
+            Answer::Exhausted => self.exhausted = self.exhausted | ends_wait(call),
+            Answer::Stalled => self.stalled = self.stalled | ends_wait(call),
+            Answer::Started { .. } => self.made += 1,
+            Answer::Queued { count, .. } => self.queue(call, *count),
+            Answer::WasSet { count, .. } => self.queue(call, *count),
+            Answer::Count { count, .. } => self.queue(call, *count),
+            Answer::Advanced { count, .. } => self.queue(call, *count),
+            Answer::Returned { count, .. } => self.queue(call, *count),
+            Answer::Done
+            | Answer::Made { .. }
+            | Answer::Flag { .. }
+            | Answer::Closed { .. }
+            | Answer::Closing { .. }
+            | Answer::Begun { .. }
+            | Answer::Ended
+            | Answer::Notice { .. }
+            | Answer::Operation { .. }
+            | Answer::Cancelled { .. }
+            | Answer::Attached { .. } => {}
+        }
+    }
+
+    // Counts those that an entry makes pending. What an operation's completion makes pending was made before.
+    #[inline(always)]
+    fn queue(&mut self, call: &Call, count: u32)
+        requires { self.old.made + 2 ^ 32 ≤ 2 ^ 64 }
+        ensures { self.new ≡ record self.old { made = self.old.made + (if is_complete_call call.now then 0 else count) } }
+    {
+        if !completes(call) {
+            self.made += u64::from(count);
+        }
+    }
 }
 
-// The counts with one more entry.
-fn with_entry(counts: Counts, entry: &Entry) -> Counts
-    requires made { counts.made + 2 ^ 32 ≤ 2 ^ 64 }
-    requires taken { counts.taken < 2 ^ 32 - 1 }
-    requires refused { counts.refused < 2 ^ 32 - 1 }
-    ensures { IsCounted counts entry.now result }
+fn completes(call: &Call) -> bool
+    ensures { result ≡ is_complete_call call.now }
 {
-    Counts {
-        made: counts.made + u64::from(count_made(entry)),
-        taken: counts.taken + u32::from(matches!(entry.answer, Answer::Taken { .. })),
-        refused: counts.refused + u32::from(matches!(entry.answer, Answer::Refused(_))),
-    }
+    matches!(call, Call::CompleteIo { .. })
 }
 
-// How many callbacks an entry makes. What an operation's completion makes pending was made before.
-fn count_made(entry: &Entry) -> u32
-    ensures { result ≡ length (made_by entry.now) }
+fn ends_wait(call: &Call) -> bool
+    ensures { result ≡ is_end call.now }
 {
-    if matches!(entry.answer, Answer::Started { .. }) {
-        1
-    } else if matches!(entry.call, Call::CompleteIo { .. }) {
-        0
-    } else {
-        count_queued(&entry.answer)
-    }
-}
-
-// How many callbacks an answer tells to be pending now.
-#[tactic(auto, using(crate::proofs::Tallies::range_length))]
-fn count_queued(answer: &Answer) -> u32
-    ensures { result ≡ length (queued_by answer.now) }
-{
-    match *answer {
-        Answer::Queued { count, .. }
-        | Answer::WasSet { count, .. }
-        | Answer::Count { count, .. }
-        | Answer::Advanced { count, .. }
-        | Answer::Returned { count, .. } => count,
-        _ => 0,
-    }
+    matches!(call, Call::End)
 }

@@ -8,9 +8,9 @@ ghost use Rattle.tp_report.specs.Json.{json_line, json_of_totals, numbers_of};
 ghost use Rattle.tp_report.specs.Summaries.{totals_behind, IsNoneLost};
 ghost use Rattle.tp_report.specs.Summing.{totals_told};
 
+use crate::counted::Counted;
 use crate::left::LeftRow;
 use crate::summary::{Summary, summarize};
-use kept_book::Kept;
 use recorded::Recorded;
 use serde_json::{Value, json};
 use std::alloc::{AllocError, Global};
@@ -19,7 +19,7 @@ use std::alloc::{AllocError, Global};
 /// numbers of the callbacks that are left. On want of memory nothing is appended.
 pub fn print_json<B: Recorded>(
     alloc: Global,
-    book: &Kept<B>,
+    book: &Counted<B>,
     out: &mut Vec<u8>,
 ) -> Result<(), AllocError>
     ensures ok { OnOk result (out.new.items ≡ out.old.items ++ json_line (totals_behind book.now)) }

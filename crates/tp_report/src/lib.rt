@@ -9,15 +9,23 @@
 //! `recorded::Recorded` of the caller's choice, and no list of the lines is kept. Both answer the place
 //! of the first fault of a text that isn't in the grammar.
 //!
+//! A `Written` is a machine that writes its history down as a text while it is made, and a `Counted` one
+//! that counts what the entries tell; `print_summary` and `print_json` append the totals of that.
+//!
 //! ```text
 //! let size = MachineSize { workers: 4, events: 65_536 };
 //! trace::<Book>(alloc, b"c1 create-pool\nc1 finish\n", size)     // Ok("made 1\nok\n")
 //! trace::<Book>(alloc, b"c1 create-pool\nc1 finsh\n", size)      // Err(TextFault::At { line: 2, column: 7 })
+//!
+//! let mut book = Written::<Book>::open(alloc, program_limits(1, 4), 65_536)?;
+//! book.step(Who::Client(1), Call::Finish);                       // Outcome::Done(Answer::Done)
+//! book.into_history(alloc)    // Ok((.., "history 1 clients 1 workers 4 events 65536\nc1 finish -> ok\nend 1\n"))
 //! ```
 
 #![tactic(auto)]
 
 mod checking;
+mod counted;
 mod counts;
 mod faults;
 mod headers;
@@ -28,12 +36,15 @@ mod lines;
 mod playing;
 mod summary;
 mod verdict;
+mod written;
 
 pub use checking::check;
+pub use counted::Counted;
+pub use counts::Counts;
 pub use faults::{CheckFault, TextFault};
-pub use history::print_history;
 pub use json::print_json;
 pub use left::{LeftRow, left_callbacks};
 pub use playing::{MachineSize, trace};
 pub use summary::print_summary;
 pub use verdict::{Verdict, print_verdict};
+pub use written::Written;

@@ -2,10 +2,11 @@
 
 ghost use Rattle.std.specs.Prelude.{◌≡◌, ◌≤◌, ◌++◌, ◌∷◌, [], IfOk, string_bytes};
 ghost use Rattle.line_grammar.specs.Language.{IsRead};
+ghost use Rattle.tp_base.specs.declared.answers.Entry.{Entry as Line};
 ghost use Rattle.tp_lines.specs.Answers.{EntryLines};
 ghost use Rattle.tp_lines.specs.Calls.{CallLines};
 ghost use Rattle.tp_report.specs.Histories.{end_line, HeaderLines};
-ghost use Rattle.tp_report.specs.Readings.{Ended, IsEndRead, IsNext};
+ghost use Rattle.tp_report.specs.Readings.{Ended, IsEndRead, IsNext, read_as};
 
 use crate::headers::{Header, read_header};
 use line_grammar::words::{behind, read_word};
@@ -20,8 +21,8 @@ use tp_lines::good::{read_good_call, read_good_entry, read_rare_call, read_rare_
 /// What a line behind the header is.
 #[derive(Clone, Copy)]
 pub enum Next {
-    /// One more entry, and the size of its line.
-    Another { entry: Entry, size: usize },
+    /// One more entry, whose line has this size.
+    Another { size: usize },
     /// The end line.
     End,
     /// No such line. It goes along with one up to this place.
@@ -51,29 +52,28 @@ pub fn read_header_line(text: &[u8]) -> Result<(Header, usize), usize>
     ended!(text, read_header(text))
 }
 
-/// Reads the line of a call.
+/// Reads the line of a call, writes down the call and who makes it, and tells the size of the line.
 #[inline(always)]
-pub fn read_call(text: &[u8]) -> Result<((Who, Call), usize), usize>
-    ensures { IsRead (Ended CallLines) text.now result }
+pub fn read_call(text: &[u8], made: &mut (Who, Call)) -> Result<usize, usize>
+    ensures { IsRead (Ended CallLines) text.now (read_as made.new result) }
 {
-    match read_good_call(text) {
-        Some(read) => Ok(read),
-        None => match read_other_call(text) {
-            Ok((line, size)) => Ok((line, size)),
-            Err(place) => Err(place),
-        },
+    match read_good_call(text, made) {
+        Some(size) => Ok(size),
+        None => read_other_call(text, made),
     }
 }
 
 // The others stand apart, so that what most lines need stays short.
 #[inline(never)]
-fn read_other_call(text: &[u8]) -> Result<((Who, Call), usize), usize>
-    ensures { IsRead (Ended CallLines) text.now result }
+fn read_other_call(text: &[u8], made: &mut (Who, Call)) -> Result<usize, usize>
+    ensures { IsRead (Ended CallLines) text.now (read_as made.new result) }
 {
-    match read_rare_call(text) {
-        Some(read) => Ok(read),
-        None => read_any_call(text),
+    if let Some(size) = read_rare_call(text, made) {
+        return Ok(size);
     }
+    let (line, size) = read_any_call(text)?;
+    *made = line;
+    Ok(size)
 }
 
 fn read_any_call(text: &[u8]) -> Result<((Who, Call), usize), usize>
@@ -82,28 +82,27 @@ fn read_any_call(text: &[u8]) -> Result<((Who, Call), usize), usize>
     ended!(text, read_call_line(text))
 }
 
-// Reads the line of an entry.
+// Reads the line of an entry, writes the entry down, and tells the size of the line.
 #[inline(always)]
-fn read_entry_line(text: &[u8]) -> Result<(Entry, usize), usize>
-    ensures { IsRead (Ended EntryLines) text.now result }
+fn read_entry_line(text: &[u8], entry: &mut Entry) -> Result<usize, usize>
+    ensures { IsRead (Ended EntryLines) text.now (read_as entry.new result) }
 {
-    match read_good_entry(text) {
-        Some(read) => Ok(read),
-        None => match read_other_entry(text) {
-            Ok((entry, size)) => Ok((entry, size)),
-            Err(place) => Err(place),
-        },
+    match read_good_entry(text, entry) {
+        Some(size) => Ok(size),
+        None => read_other_entry(text, entry),
     }
 }
 
 #[inline(never)]
-fn read_other_entry(text: &[u8]) -> Result<(Entry, usize), usize>
-    ensures { IsRead (Ended EntryLines) text.now result }
+fn read_other_entry(text: &[u8], entry: &mut Entry) -> Result<usize, usize>
+    ensures { IsRead (Ended EntryLines) text.now (read_as entry.new result) }
 {
-    match read_rare_entry(text) {
-        Some(read) => Ok(read),
-        None => read_any_entry(text),
+    if let Some(size) = read_rare_entry(text, entry) {
+        return Ok(size);
     }
+    let (line, size) = read_any_entry(text)?;
+    *entry = line;
+    Ok(size)
 }
 
 fn read_any_entry(text: &[u8]) -> Result<(Entry, usize), usize>
@@ -131,16 +130,23 @@ fn end_text(alloc: Global, len: u32) -> Result<String, AllocError>
     format!(in alloc; "end {len}\n")
 }
 
-/// Reads the line behind the header of a history for `events` entries, and `len` of these.
-pub fn read_next_line(alloc: Global, text: &[u8], events: u32, len: u32) -> Result<Next, AllocError>
+/// Reads the line behind the header of a history for `events` entries, and `len` of these. Where it is one more
+/// entry, that is written down.
+pub fn read_next_line(
+    alloc: Global,
+    text: &[u8],
+    events: u32,
+    len: u32,
+    entry: &mut Entry,
+) -> Result<Next, AllocError>
     requires { len ≤ events }
-    ensures { IfOk result (IsNext events len text.now) }
+    ensures { IfOk result (IsNext events len text.now entry.new) }
 {
     if len == events {
         return read_last_line(alloc, text, len);
     }
-    match read_entry_line(text) {
-        Ok((entry, size)) => Ok(Next::Another { entry, size }),
+    match read_entry_line(text, entry) {
+        Ok(size) => Ok(Next::Another { size }),
         Err(place) => match read_end_line(alloc, text, len)? {
             None => Ok(Next::End),
             Some(other) => Ok(Next::Fault {
@@ -152,7 +158,7 @@ pub fn read_next_line(alloc: Global, text: &[u8], events: u32, len: u32) -> Resu
 
 // Reads the line behind as many entries as the history has room for.
 fn read_last_line(alloc: Global, text: &[u8], len: u32) -> Result<Next, AllocError>
-    ensures { IfOk result (IsNext len len text.now) }
+    ensures { (entry : Line) → IfOk result (IsNext len len text.now entry) }
 {
     match read_end_line(alloc, text, len)? {
         None => Ok(Next::End),

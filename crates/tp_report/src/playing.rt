@@ -107,12 +107,15 @@ fn play_calls<B: Recorded>(alloc: Global, book: &mut B, bytes: &[u8]) -> Result<
     let mut text = Lines::new(alloc);
     let mut greatest = 0;
     let mut lines = 0;
+    let mut made = (Who::Client(0), Call::Take);
+    let mut outcome = Outcome::Look(Look::Stay);
     let mut rest = bytes;
     while !rest.is_empty() {
-        match read_call(rest) {
+        match read_call(rest, &mut made) {
             Err(place) => return Err(fault_behind(lines, place)),
-            Ok(((who, call), size)) => {
-                play_call(book, who, call, &mut text)?;
+            Ok(size) => {
+                let (who, call) = made;
+                play_call(book, who, call, &mut outcome, &mut text)?;
                 greatest = greater_client(greatest, who);
                 lines += 1;
                 (_, rest) = rest.split_at(size);
@@ -125,21 +128,22 @@ fn play_calls<B: Recorded>(alloc: Global, book: &mut B, bytes: &[u8]) -> Result<
     })
 }
 
-// Makes a call, and appends the line of its outcome. On want of memory the call was made.
+// Makes a call, and appends the line of its outcome, which is put where there is a place for it. On want of memory
+// the call was made.
 #[inline(always)]
 fn play_call<B: Recorded>(
     book: &mut B,
     who: Who,
     call: Call,
+    outcome: &mut Outcome,
     lines: &mut Lines,
 ) -> Result<(), AllocError>
     requires { IsCallInRange call }
     ensures first { IsFirstOf (B.recording book.old) (B.recording book.new) who call (outcome_behind (B.recording book.old) who call) }
     ensures printed { OnOk result (lines.new ≡ lines.old ++ (text_of_outcome (outcome_behind (B.recording book.old) who call) ++ 10 ∷ [])) }
 {
-    let mut outcome = Outcome::Look(Look::Stay);
-    book.step_into(who, call, &mut outcome);
-    lines.outcome(&outcome)
+    book.step_into(who, &call, outcome);
+    lines.outcome(outcome)
 }
 
 // The greatest client of the good lines at the front of a text. The play shows whether it is the
@@ -149,8 +153,9 @@ fn guess_clients(bytes: &[u8]) -> u32
 {
     let (mut rest, _) = bytes.split_at(bytes.len().min(FRONT));
     let mut greatest = 0;
-    while let Ok(((who, _), size)) = read_call(rest) {
-        greatest = greater_client(greatest, who);
+    let mut made = (Who::Client(0), Call::Take);
+    while let Ok(size) = read_call(rest, &mut made) {
+        greatest = greater_client(greatest, made.0);
         (_, rest) = rest.split_at(size);
     }
     greatest

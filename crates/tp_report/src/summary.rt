@@ -1,14 +1,14 @@
 //! Summaries of histories.
 
-ghost use Rattle.std.specs.Prelude.{◌≡◌, ◌++◌, ◌∷◌, [], map, string_bytes, IfOk, OnErr, OnOk};
+ghost use Rattle.std.specs.Prelude.{◌≡◌, ◌++◌, ◌∷◌, [], decimal, map, IfOk, OnErr, OnOk};
 ghost use Rattle.line_grammar.specs.Traces.{trace_text};
 ghost use Rattle.tp_model.specs.Over.{row_of, status_of};
 ghost use Rattle.tp_report.specs.Summaries.{count_line, left_line, status_word, text_of_totals, totals_behind, IsNoneLost};
 ghost use Rattle.tp_report.specs.Summing.{totals_told};
 
-use crate::counts::count_entries;
+use crate::counted::Counted;
 use crate::left::{LeftRow, left_callbacks};
-use kept_book::Kept;
+use itoa::Buffer;
 use recorded::Recorded;
 use std::alloc::{AllocError, Global};
 use tp_model::Left;
@@ -35,7 +35,7 @@ pub struct Summary {
 /// want of memory nothing is appended.
 pub fn print_summary<B: Recorded>(
     alloc: Global,
-    book: &Kept<B>,
+    book: &Counted<B>,
     out: &mut Vec<u8>,
 ) -> Result<(), AllocError>
     ensures ok { OnOk result (out.new.items ≡ out.old.items ++ text_of_totals (totals_behind book.now)) }
@@ -50,12 +50,12 @@ pub fn print_summary<B: Recorded>(
 }
 
 /// Counts what a book's history tells.
-pub fn summarize<B: Recorded>(alloc: Global, book: &Kept<B>) -> Result<Summary, AllocError>
+pub fn summarize<B: Recorded>(alloc: Global, book: &Counted<B>) -> Result<Summary, AllocError>
     ensures ok { IfOk result (λ summary. totals_told summary ≡ totals_behind book.now) }
     ensures none_lost { IsNoneLost (totals_behind book.now) }
 {
     let entries = book.len();
-    let counts = count_entries(book);
+    let counts = book.counts();
     let left = left_callbacks(alloc, book)?;
     Ok(Summary {
         entries,
@@ -78,7 +78,7 @@ fn summary_lines(alloc: Global, summary: &Summary) -> Result<Vec<u8>, AllocError
     append_count(alloc, "taken", u64::from(summary.taken), &mut text)?;
     append_count(alloc, "cancelled", summary.cancelled, &mut text)?;
     append_count(alloc, "left", summary.left.len() as u64, &mut text)?;
-    append_left(alloc, &summary.left, &mut text)?;
+    append_left(&summary.left, &mut text)?;
     append_count(alloc, "refused", u64::from(summary.refused), &mut text)?;
     Ok(text)
 }
@@ -93,24 +93,36 @@ fn append_count(alloc: Global, name: &str, count: u64, text: &mut Vec<u8>) -> Re
 }
 
 // Appends a line for each callback that is left.
-fn append_left(alloc: Global, rows: &[LeftRow], text: &mut Vec<u8>) -> Result<(), AllocError>
+fn append_left(rows: &[LeftRow], text: &mut Vec<u8>) -> Result<(), AllocError>
     ensures { OnOk result (text.new.items ≡ text.old.items ++ trace_text (map left_line (map row_of rows.now))) }
 {
     for row in rows {
-        let line = left_text(alloc, row)?;
-        text.extend_from_slice(line.as_bytes())?;
+        append_row(row, text)?;
     }
     Ok(())
 }
 
-// The line of one that is left, with its line feed.
-fn left_text(alloc: Global, row: &LeftRow) -> Result<String, AllocError>
-    ensures { IfOk result (λ line. string_bytes line ≡ left_line (row_of row.now) ++ 10 ∷ []) }
+// Appends the line of one that is left, with its line feed.
+fn append_row(row: &LeftRow, text: &mut Vec<u8>) -> Result<(), AllocError>
+    ensures { OnOk result (text.new.items ≡ text.old.items ++ (left_line (row_of row.now) ++ 10 ∷ [])) }
 {
     let (number, object, left) = *row;
-    let (object, status) = (object.0, left_word(left));
-    let line = format!(in alloc; "left-callback {number} o{object} {status}\n")?;
-    Ok(line)
+    text.extend_from_slice(b"left-callback ")?;
+    append_number(number, text)?;
+    text.extend_from_slice(b" o")?;
+    append_number(u64::from(object.0), text)?;
+    text.push(b' ')?;
+    text.extend_from_slice(left_word(left).as_bytes())?;
+    text.push(b'\n')?;
+    Ok(())
+}
+
+// Appends a number. A format would take memory of its own for each.
+fn append_number(number: u64, text: &mut Vec<u8>) -> Result<(), AllocError>
+    ensures { OnOk result (text.new.items ≡ text.old.items ++ decimal number) }
+{
+    let mut digits = Buffer::new();
+    text.extend_from_slice(digits.format(number).as_bytes())
 }
 
 // How far it has come, as a word.

@@ -22,34 +22,35 @@ pub enum Verdict {
     NotLegal { position: u32, outcome: Outcome },
 }
 
-/// The verdict on a history with one more entry, from that on those before it. As long as the answers
+/// Makes the verdict on a history that on the history with one more entry. As long as the answers
 /// are the machine's, the book goes along with the history; behind a wrong one nothing more is played.
-pub fn judge<B: Recorded>(book: &mut B, verdict: Verdict, entry: &Entry) -> Verdict
+/// `place` is where the machine's outcome is put, and says nothing else.
+pub fn judge<B: Recorded>(book: &mut B, verdict: &mut Verdict, entry: &Entry, place: &mut Outcome)
     requires in_range { IsCallInRange entry.now.call }
-    requires few { len_told verdict < 2 ^ 32 - 1 }
+    requires few { len_told verdict.old < 2 ^ 32 - 1 }
     ensures same { IsSameMachine (B.recording book.old) (B.recording book.new) }
-    ensures judged { (entries : List Written) → IsJudgedTo (B.recording book.old) entries verdict → IsJudgedTo (B.recording book.new) (entries ++ entry.now ∷ []) result }
+    ensures judged { (entries : List Written) → IsJudgedTo (B.recording book.old) entries verdict.old → IsJudgedTo (B.recording book.new) (entries ++ entry.now ∷ []) verdict.new }
 {
-    let Verdict::Legal { len } = verdict else {
-        return verdict;
+    let Verdict::Legal { len } = *verdict else {
+        return;
     };
-    judge_next(book, len, entry)
+    *verdict = judge_next(book, len, entry, place);
 }
 
 // The same, where the answers of the `len` entries before are the machine's.
-fn judge_next<B: Recorded>(book: &mut B, len: u32, entry: &Entry) -> Verdict
+fn judge_next<B: Recorded>(book: &mut B, len: u32, entry: &Entry, place: &mut Outcome) -> Verdict
     requires in_range { IsCallInRange entry.now.call }
     requires few { len < 2 ^ 32 - 1 }
     ensures same { IsSameMachine (B.recording book.old) (B.recording book.new) }
     ensures judged { (entries : List Written) → IsJudgedTo (B.recording book.old) entries (Verdict.Legal len) → IsJudgedTo (B.recording book.new) (entries ++ entry.now ∷ []) result }
 {
-    let outcome = book.step(entry.who, entry.call);
-    if is_answer(&outcome, &entry.answer) {
+    book.step_into(entry.who, &entry.call, place);
+    if is_answer(place, &entry.answer) {
         Verdict::Legal { len: len + 1 }
     } else {
         Verdict::NotLegal {
             position: len + 1,
-            outcome,
+            outcome: *place,
         }
     }
 }

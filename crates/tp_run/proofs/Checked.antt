@@ -17,7 +17,8 @@ use Rattle.tp_run.specs.declared.status.Ending.{Ending}
 use Rattle.tp_run.specs.declared.status.Status.{Status}
 use Rattle.tp_run.specs.declared.top.Output.{Output}
 
-pub reply_of_fault : (bytes : List ℕ) (fault : TextFault) (reply : Result Output Status) → IsErrAnd reply (λ status. status ≡ status_of_text fault) → IsPlace (IsHistoryFault bytes) fault → ((header : Header) (entries : List Entry) → IsHistory bytes header entries → IsOrNoMemory (IsVerdict (limits_of header) header.events entries) (Err fault))
+pub reply_of_fault : (bytes : List ℕ) (fault : TextFault) (reply : Result Output Status) → IsErrAnd reply (λ status. status ≡ status_of_text fault) → IsPlace (IsHistoryFault bytes) fault
+    → ((header : Header) (entries : List Entry) → IsHistory bytes header entries → IsOrNoMemory (IsVerdict (limits_of header) header.events entries) (Err fault))
     → IsReply Check bytes reply
 reply_of_fault bytes fault (Ok output) h place only = absurd h
 reply_of_fault bytes fault (Err status) h place only = subst (λ s. IsReply Check bytes (Err s)) (sym h) (of_fault fault place only)

@@ -12,12 +12,13 @@ use Rattle.tp_model.specs.Laws.Once.{left}
 use Rattle.recorded.specs.Recordings.{Recording}
 use Rattle.tp_model.specs.Laws.{KeepsLaws}
 use Rattle.tp_report.specs.Summaries.{totals_behind, IsNoneLost}
-use Rattle.tp_run.specs.Played.{ending_by, has_early_end, has_pending, limits_for, long_script, printed, routines_of, EndsRun, IsOutputOf, IsPlayed, RanOut}
+use Rattle.tp_run.specs.Played.{ending_by, has_pending, limits_for, long_script, printed, routines_of, EndsRun, IsOutputOf, IsPlayed, RanOut}
+use Rattle.tp_report.specs.EarlyEnds.{has_early_end}
+use Rattle.tp_report.specs.declared.counts.EarlyEnd.TheVariants as early
 use Rattle.tp_report.specs.declared.playing.MachineSize.{MachineSize}
 use Rattle.tp_run.specs.Ends.{status_of_script, IsOutput, IsReply, IsScriptEnd}
 use Rattle.tp_run.specs.Inputs.{short_layout, whole_layout, IsPlayedOf}
 use Rattle.tp_run.specs.declared.command.Command.TheVariants.{Run, Big}
-use Rattle.tp_run.specs.declared.played.EarlyEnd.TheVariants as early
 use Rattle.tp_run.specs.declared.played.Layout.{Layout}
 use Rattle.tp_run.specs.declared.status.Status.{Status}
 use Rattle.tp_run.specs.declared.status.Status.TheVariants as end

@@ -1,14 +1,10 @@
 -- What the runs of a script are, and what is made of one.
-use Rattle.std.specs.Prelude.{◌≡◌, ℕ, ◌&&◌, Bool, true, false, List, [], ◌++◌, ◌⊎◌}
+use Rattle.std.specs.Prelude.{◌≡◌, ℕ, Bool, true, false, List, [], ◌++◌, ◌⊎◌}
 use Rattle.std.specs.List.{list_any}
 use Rattle.recorded.specs.ProgramLimits.{limits_with}
 use Rattle.recorded.specs.Recordings.{Recording}
 use Rattle.script_generator.specs.Scripts.{generated}
-use Rattle.tp_base.specs.declared.answers.Answer.{Answer}
-use Rattle.tp_base.specs.declared.answers.Answer.TheVariants as answer
 use Rattle.tp_base.specs.declared.answers.Entry.{Entry}
-use Rattle.tp_base.specs.declared.calls.Call.{Call}
-use Rattle.tp_base.specs.declared.calls.Call.TheVariants as call
 use Rattle.tp_base.specs.declared.ids.ObjectId.{ObjectId}
 use Rattle.tp_base.specs.declared.limits.Limits.{Limits}
 use Rattle.tp_base.specs.declared.rows.Status.{Status}
@@ -16,12 +12,12 @@ use Rattle.tp_model.specs.Counts.{is_pending}
 use Rattle.tp_model.specs.History.{after, IsLegal}
 use Rattle.tp_model.specs.Laws.{KeepsLaws}
 use Rattle.tp_model.specs.Laws.Once.{left}
+use Rattle.tp_report.specs.EarlyEnds.{has_early_end}
 use Rattle.tp_report.specs.Histories.{history_text}
 use Rattle.tp_report.specs.Json.{json_text}
 use Rattle.tp_report.specs.Summaries.{summary_text, totals_of, IsNoneLost}
+use Rattle.tp_report.specs.declared.counts.EarlyEnd.TheVariants as early
 use Rattle.tp_report.specs.declared.playing.MachineSize.{MachineSize}
-use Rattle.tp_run.specs.declared.played.EarlyEnd.{EarlyEnd}
-use Rattle.tp_run.specs.declared.played.EarlyEnd.TheVariants as early
 use Rattle.tp_run.specs.declared.played.Layout.{Layout}
 use Rattle.tp_run.specs.declared.top.Output.{Output}
 use Rattle.tp_run.specs.declared.status.Ending.{Ending}
@@ -45,24 +41,6 @@ limits_for script machine = limits_with (clients_of script) machine.workers
 -- the long script of a number
 abbrev pub long_script : ℕ → List ℕ
 long_script number = generated number 2000
-
--- ---- waits that ended early
-
-abbrev pub is_end : Call → Bool
-is_end call.End = true
-is_end _ = false
-
-abbrev pub is_early_answer : EarlyEnd → Answer → Bool
-is_early_answer early.Exhausted answer.Exhausted = true
-is_early_answer early.Stalled answer.Stalled = true
-is_early_answer _ _ = false
-
--- the end of a wait was answered so
-abbrev pub is_early_end : EarlyEnd → Entry → Bool
-is_early_end which entry = is_end entry.call && is_early_answer which entry.answer
-
-abbrev pub has_early_end : EarlyEnd → List Entry → Bool
-has_early_end which history = list_any (is_early_end which) history
 
 -- ---- a history that had too little room
 
@@ -104,6 +82,10 @@ ending_by false false true stalled = Exhausted
 ending_by false false false true = Stalled
 ending_by false false false false = Fine
 
+-- of a recording, where a role was cut or none was
+abbrev pub ending_of_run : Bool → Recording → Ending
+ending_of_run cut r = ending_by cut (has_early_end early.Exhausted r.history) (has_pending (left (after r.limits r.history))) (has_early_end early.Stalled r.history)
+
 -- ---- what is written of a run
 
 abbrev pub history_if : Bool → Limits → ℕ → List Entry → List ℕ
@@ -129,4 +111,4 @@ pub record IsPlayed (script : List Line) (threads : ℕ) (limits : Limits) (capa
 pub record IsOutputOf (layout : Layout) (cut : Bool) (r : Recording) (output : Output) : Type 0 where
   pub text : output.text.items ≡ printed layout r.limits r.capacity r.history
   pub none_lost : IsNoneLost (totals_of r.limits r.history)
-  pub ending : output.ending ≡ ending_by cut (has_early_end early.Exhausted r.history) (has_pending (left (after r.limits r.history))) (has_early_end early.Stalled r.history)
+  pub ending : output.ending ≡ ending_of_run cut r

@@ -15,7 +15,7 @@ ghost use Rattle.tp_run.specs.Runs.{IsAnswered, IsBadLine, IsBadLineOf, IsReadTo
 ghost use Rattle.tp_run.specs.declared.status.Ending.{Ending};
 
 use crate::command::{Command, command_in};
-use crate::played::{Layout, play_script, play_script_alone};
+use crate::played::{play_script, play_script_alone, play_unwritten};
 use crate::status::{Ending, Status};
 use crate::words::WordList;
 use recorded::Recorded;
@@ -254,11 +254,7 @@ fn play_text<Rt: Threads + Wait + Sync, B: Recorded + Send, G: Gate + Sync>(
     ensures err { IfErr result (IsScriptEnd bytes.now) }
 {
     let script = parse_script(alloc, bytes)?;
-    let layout = Layout {
-        history: true,
-        json,
-    };
-    let output = play_script::<Rt, B, G>(rt, alloc, &script, threads, machine, layout, gate)?;
+    let output = play_script::<Rt, B, G>(rt, alloc, &script, threads, machine, json, gate)?;
     Ok(output)
 }
 
@@ -276,11 +272,7 @@ fn play_text_alone<B: Recorded, G: Gate>(
     ensures err { IfErr result (IsScriptEnd bytes.now) }
 {
     let script = parse_script(alloc, bytes)?;
-    let layout = Layout {
-        history: true,
-        json,
-    };
-    let output = play_script_alone::<B, G>(alloc, &script, machine, layout, gate)?;
+    let output = play_script_alone::<B, G>(alloc, &script, machine, json, gate)?;
     Ok(output)
 }
 
@@ -302,9 +294,5 @@ fn play_number<B: Recorded, G: Gate>(
     let Ok(script) = parse_script(alloc, &text) else {
         return Err(AllocError);
     };
-    let layout = Layout {
-        history: false,
-        json,
-    };
-    play_script_alone::<B, G>(alloc, &script, machine, layout, gate)
+    play_unwritten::<B, G>(alloc, &script, machine, json, gate)
 }

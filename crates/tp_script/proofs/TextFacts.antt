@@ -17,7 +17,8 @@ first_line (byte ∷ line) rest lacking opened some = by (nat_eq byte 10) lackin
     behind [] (other ∷ rest) h = ap (push_first byte) (h (λ e. let no_such : ⊥ = cc in no_such))
     behind (other ∷ line) rest h = ap (push_first byte) (h (λ e. let no_such : ⊥ = cc in no_such))
 
-    by : (b : Bool) → (if b then false else lacks 10 line) ≡ true → (IsTrue (lacks 10 line) → (line ++ rest ≡ [] → ⊥) → lines_of (line ++ rest) ≡ line ∷ lines_of (without_first rest)) → (if b then [] ∷ lines_of (line ++ rest) else push_first byte (lines_of (line ++ rest))) ≡ (byte ∷ line) ∷ lines_of (without_first rest)
+    by : (b : Bool) → (if b then false else lacks 10 line) ≡ true → (IsTrue (lacks 10 line) → (line ++ rest ≡ [] → ⊥) → lines_of (line ++ rest) ≡ line ∷ lines_of (without_first rest))
+        → (if b then [] ∷ lines_of (line ++ rest) else push_first byte (lines_of (line ++ rest))) ≡ (byte ∷ line) ∷ lines_of (without_first rest)
     by true h more = let no_such : ⊥ = cc in absurd no_such
     by false h more = behind line rest (more h)
 
@@ -48,7 +49,9 @@ first_word column byte [] rest lacking opened = by (nat_eq byte 32) lacking
     one true e = refl
     one false e = let no_such : ⊥ = cc in absurd no_such
 
-    by : (b : Bool) → (if b then false else lacks 32 []) ≡ true → (if b then words_from (column + 1) rest else (if ends_word rest then (record { column = column; word = byte ∷ [] }) ∷ words_from (column + 1) rest else lengthened column byte (words_from (column + 1) rest))) ≡ (record { column = column; word = byte ∷ [] }) ∷ words_from (column + 1) rest
+    by : (b : Bool) → (if b then false else lacks 32 []) ≡ true
+        → (if b then words_from (column + 1) rest else (if ends_word rest then (record { column = column; word = byte ∷ [] }) ∷ words_from (column + 1) rest else lengthened column byte (words_from (column + 1) rest)))
+        ≡ (record { column = column; word = byte ∷ [] }) ∷ words_from (column + 1) rest
     by true h = let no_such : ⊥ = cc in absurd no_such
     by false h = one (ends_word rest) (ended rest opened)
 first_word column byte (next ∷ word) rest lacking opened =

@@ -1,7 +1,7 @@
 //! The calls that the lines of a script make.
 
 ghost use Rattle.std.specs.Prelude.{◌≡◌, ◌≤◌, ◌<◌, ◌^◌, IfSome};
-ghost use Rattle.tp_base.specs.Ranges.{IsCallInRange, IsEnvironInRange, IsNamedInRange, IsRoutineInRange, count_most};
+ghost use Rattle.tp_base.specs.Ranges.{IsCallInRange, IsDueInRange, IsEnvironInRange, IsNamedInRange, IsRoutineInRange, count_most};
 ghost use Rattle.tp_base.specs.Timers.{clock_end};
 ghost use Rattle.tp_script.specs.Calls.{IsOfPart, action_of_sort, acts, armed_by, begins_wait, call_of, calls_in, environ_by, id_of, kernel_of, kind_of_sort, level_of, local_number, lock_of_sort, maximum_of, number_at, object_at, pool_call, routine_by, small_of, ticks_of, units_of};
 
@@ -12,13 +12,14 @@ use tp_base::calls::{CLOCK_END, Call, Environ, Kind, Lock};
 use tp_base::ids::{GroupId, KernelId, ObjectId, PoolId, RoutineId};
 
 /// The next call of a line, of which `done` were made, where the local names stand for these numbers.
-pub fn call_of(line: Line, done: u32, locals: &[u64; 32]) -> Option<Call>
-    ensures value { result ≡ call_of line done locals.now }
+#[inline(always)]
+pub fn call_of(line: &Line, done: u32, locals: &[u64; 32]) -> Option<Call>
+    ensures value { result ≡ call_of line.now done locals.now }
     ensures in_range { IfSome result IsCallInRange }
     ensures of_part { IfSome result IsOfPart }
 {
     match line.head {
-        Word::Pool => Some(pool_call(line, done)),
+        Word::Pool => Some(pool_call(*line, done)),
         Word::Group => Some(Call::CreateGroup),
         Word::Event => Some(Call::CreateEvent {
             manual: line.manual,
@@ -38,71 +39,71 @@ pub fn call_of(line: Line, done: u32, locals: &[u64; 32]) -> Option<Call>
         }),
         Word::Object(kind) => Some(Call::Create {
             kind,
-            routine: routine_by(line),
-            context: line.number,
-            env: environ_by(line),
+            routine: routine_by(*line),
+            context: same(line.number),
+            env: environ_by(*line),
         }),
         Word::Submit => Some(Call::SubmitWork {
-            object: object_at(line, locals),
+            object: object_at(*line, locals),
         }),
         Word::Simple => Some(Call::SubmitSimple {
-            routine: routine_by(line),
-            context: line.number,
-            env: environ_by(line),
+            routine: routine_by(*line),
+            context: same(line.number),
+            env: environ_by(*line),
         }),
         Word::SetTimer => Some(Call::SetTimer {
-            object: object_at(line, locals),
-            due: line.due,
+            object: object_at(*line, locals),
+            due: same_due(line.due),
             period: small_of(line.before),
             window: small_of(line.number),
         }),
         Word::SetTimerEx => Some(Call::SetTimerEx {
-            object: object_at(line, locals),
-            due: line.due,
+            object: object_at(*line, locals),
+            due: same_due(line.due),
             period: small_of(line.before),
             window: small_of(line.number),
         }),
         Word::IsTimerSet => Some(Call::IsTimerSet {
-            object: object_at(line, locals),
+            object: object_at(*line, locals),
         }),
         Word::SetWait => Some(Call::SetWait {
-            object: object_at(line, locals),
-            kernel: armed_by(line),
-            timeout: line.due,
+            object: object_at(*line, locals),
+            kernel: armed_by(*line),
+            timeout: same_due(line.due),
         }),
         Word::StartIo => Some(Call::StartIo {
-            object: object_at(line, locals),
+            object: object_at(*line, locals),
         }),
         Word::CancelIo => Some(Call::CancelIo {
-            object: object_at(line, locals),
+            object: object_at(*line, locals),
         }),
         Word::IssueIo => Some(Call::IssueIo {
-            object: object_at(line, locals),
+            object: object_at(*line, locals),
         }),
         Word::CompleteIo => Some(Call::CompleteIo {
             callback: number_at(line.object, locals),
             error: small_of(line.before),
-            bytes: line.number,
+            bytes: same(line.number),
         }),
         Word::Let => Some(Call::Create {
             kind: line.kind,
-            routine: routine_by(line),
-            context: line.number,
-            env: environ_by(line),
+            routine: routine_by(*line),
+            context: same(line.number),
+            env: environ_by(*line),
         }),
         Word::Close => Some(Call::CloseObject {
             kind: kind_of_sort(line.object.sort),
-            object: object_at(line, locals),
+            object: object_at(*line, locals),
         }),
         Word::BeginWait => Some(Call::BeginWait {
             kind: kind_of_sort(line.object.sort),
-            object: object_at(line, locals),
+            object: object_at(*line, locals),
             cancel: line.cancels,
         }),
         Word::CloseMembers => Some(Call::BeginClose {
             group: group_of(line.group),
             cancel: line.cancels,
-            context: line.number,
+            context: same(line.number),
         }),
         Word::CloseGroup => Some(Call::CloseGroup {
             group: group_of(line.group),
@@ -119,21 +120,21 @@ pub fn call_of(line: Line, done: u32, locals: &[u64; 32]) -> Option<Call>
             value: small_of(line.number),
         }),
         Word::SetEvent => Some(Call::SetEvent {
-            kernel: kernel_of(line),
+            kernel: kernel_of(*line),
         }),
         Word::ResetEvent => Some(Call::ResetEvent {
-            kernel: kernel_of(line),
+            kernel: kernel_of(*line),
         }),
         Word::ReleaseSemaphore => Some(Call::ReleaseSemaphore {
-            kernel: kernel_of(line),
+            kernel: kernel_of(*line),
             count: units_of(line.number),
         }),
         Word::Release => Some(Call::ReleaseLock {
             lock: lock_of_sort(line.kernel.sort),
-            kernel: kernel_of(line),
+            kernel: kernel_of(*line),
         }),
         Word::Acquire => Some(Call::BeginAcquire {
-            kernel: kernel_of(line),
+            kernel: kernel_of(*line),
         }),
         Word::Advance => Some(Call::Advance {
             ticks: ticks_of(line.number),
@@ -142,11 +143,27 @@ pub fn call_of(line: Line, done: u32, locals: &[u64; 32]) -> Option<Call>
         Word::Disassociate => Some(Call::Disassociate),
         Word::OnReturn => Some(Call::OnReturn {
             kind: action_of_sort(line.kernel.sort),
-            kernel: kernel_of(line),
+            kernel: kernel_of(*line),
             count: units_of(line.number),
         }),
         _ => None,
     }
+}
+
+// What is passed by itself is known to be in the range of its type.
+
+fn same(number: u64) -> u64
+    ensures value { result ≡ number }
+    ensures in_range { result < 2 ^ 64 }
+{
+    number
+}
+
+fn same_due(due: Option<i64>) -> Option<i64>
+    ensures value { result ≡ due }
+    ensures in_range { IsDueInRange result }
+{
+    due
 }
 
 // The calls of a pool's declaration: the pool, its maximum, its minimum.

@@ -1,6 +1,7 @@
 //! A script, whose parts are read from its lines.
 
 ghost use Rattle.std.specs.Prelude.{◌≡◌, ◌+◌, ◌<◌, ◌≤◌, ◌^◌, ◌++◌, ◌∷◌, [], IfOk, IfSome, ℕ, List, IfErr, OnOk, if◌then◌else◌, length, vec_len};
+ghost use Rattle.std.specs.Option.{option_copied};
 ghost use Rattle.tp_script.specs.declared.fault.ScriptKind.{ScriptKind};
 ghost use Rattle.tp_script.specs.declared.judge.Known.{Known};
 ghost use Rattle.tp_script.specs.declared.line.Line.{Line};
@@ -79,12 +80,13 @@ impl Script {
     }
 
     // The line of a part that is so many lines behind its first, if it makes a call.
-    fn line_at(&self, part: Part, op: u32) -> Option<Line>
-        ensures value { result ≡ line_at self.now part op }
+    #[inline(always)]
+    fn line_at(&self, part: Part, op: u32) -> Option<&Line>
+        ensures value { option_copied result ≡ line_at self.now part op }
         ensures small { IfSome result (λ _. op + 1 < 2 ^ 32) }
     {
         let place = self.place_of(part)?;
-        let line = self.lines.get(place as usize + op as usize).copied()?;
+        let line = self.lines.get(place as usize + op as usize)?;
         acting(line)
     }
 
@@ -151,6 +153,7 @@ impl Routines for Script {
 
     ghost after_of = { progress_after };
 
+    #[inline(always)]
     fn next(&self, part: Part, at: &Progress) -> Option<Call> {
         let line = self.line_at(part, at.op)?;
         call_at(line, at)
@@ -208,15 +211,16 @@ fn numbered_place(places: &[u32], number: u32) -> Option<u32>
     places.get(number as usize - 1).copied()
 }
 
-fn acting(line: Line) -> Option<Line>
-    ensures { result ≡ acting line }
+fn acting(line: &Line) -> Option<&Line>
+    ensures { option_copied result ≡ acting line.now }
 {
     if acts(line.head) { Some(line) } else { None }
 }
 
 // The end of a wait that was begun, or the next call of the line.
-fn call_at(line: Line, at: &Progress) -> Option<Call>
-    ensures value { result ≡ call_at line at.now }
+#[inline(always)]
+fn call_at(line: &Line, at: &Progress) -> Option<Call>
+    ensures value { result ≡ call_at line.now at.now }
     ensures in_range { IfSome result IsCallInRange }
     ensures of_part { IfSome result IsOfPart }
 {
@@ -228,15 +232,15 @@ fn call_at(line: Line, at: &Progress) -> Option<Call>
 }
 
 // Goes on behind the answer to the line's call.
-fn line_after(line: Line, at: &mut Progress, answer: Answer)
+fn line_after(line: &Line, at: &mut Progress, answer: Answer)
     requires { at.old.op + 1 < 2 ^ 32 }
-    ensures { at.new ≡ line_after line at.old answer }
+    ensures { at.new ≡ line_after line.now at.old answer }
 {
     if begins_wait(line.head) {
-        waited(calls_in(line), at, answer);
+        waited(calls_in(*line), at, answer);
     } else {
-        noted(line, at, answer);
-        stepped(calls_in(line), at);
+        noted(*line, at, answer);
+        stepped(calls_in(*line), at);
     }
 }
 

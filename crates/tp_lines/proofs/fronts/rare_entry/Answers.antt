@@ -1,6 +1,7 @@
-use Rattle.tp_lines.proofs.FrontFacts.{entry_front}
+use Rattle.tp_lines.proofs.FrontFacts.{entry_front, line_front}
 use Rattle.tp_lines.proofs.fronts.rare_entry.Goals as goal
 
 pub returns : goal.returns
 returns c =
-    entry_front c.args.text.now c.in_ok-who.who c.in_ok-who.call c.in_ok-who.arrow.now c.in_ok-start.start.now c.in_ok-who.ensures c.in_ok-start.ensures c.in_ok-answer.answer c.in_ok-answer.rest.now c.in_ok-answer.ensures
+    let line = line_front c.args.text.now c.in_ok-who.start.now c.in_ok-arrow.arrow.now c.in_ok-who.who c.any_call.new.call c.in_ok-who.ensures c.in_ok-arrow.ensures in
+    entry_front c.args.text.now c.in_ok-who.who c.any_call.new.call c.in_ok-arrow.arrow.now c.in_ok-answer.answer.now line c.in_ok-answer.ensures c.any_answer.new.answer c.in_ok-rest.rest.now c.in_ok-rest.ensures

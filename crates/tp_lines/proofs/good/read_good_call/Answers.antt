@@ -3,4 +3,4 @@ use Rattle.tp_lines.specs.Calls.{CallLines}
 use Rattle.tp_lines.proofs.good.read_good_call.Goals as goal
 
 pub returns : goal.returns
-returns c = front_ahead CallLines c.args.text.now c.in_ok-line.line c.in_ok-line.rest.now c.in_ok-more.more.now c.in_ok-line.ensures c.in_ok-more.ensures
+returns c = front_ahead CallLines c.args.text.now c.front_line.new.made c.in_ok-rest.rest.now c.in_ok-more.more.now c.in_ok-rest.ensures c.in_ok-more.ensures

@@ -3,4 +3,4 @@ use Rattle.tp_lines.specs.Calls.{CallLines}
 use Rattle.tp_lines.proofs.good.read_rare_call.Goals as goal
 
 pub returns : goal.returns
-returns c = front_ahead CallLines c.args.text.now c.in_ok-made.made c.in_ok-made.rest.now c.in_ok-more.more.now c.in_ok-made.ensures c.in_ok-more.ensures
+returns c = front_ahead CallLines c.args.text.now c.rare_line.new.made c.in_ok-rest.rest.now c.in_ok-more.more.now c.in_ok-rest.ensures c.in_ok-more.ensures

@@ -3,4 +3,4 @@ use Rattle.tp_lines.specs.Answers.{EntryLines}
 use Rattle.tp_lines.proofs.good.read_rare_entry.Goals as goal
 
 pub returns : goal.returns
-returns c = front_ahead EntryLines c.args.text.now c.in_ok-entry.entry c.in_ok-entry.rest.now c.in_ok-more.more.now c.in_ok-entry.ensures c.in_ok-more.ensures
+returns c = front_ahead EntryLines c.args.text.now c.rare_entry.new.entry c.in_ok-rest.rest.now c.in_ok-more.more.now c.in_ok-rest.ensures c.in_ok-more.ensures

@@ -12,20 +12,20 @@ pub loop-book-preserved : goal.loop-book-preserved
 loop-book-preserved g c =
     let l = c.loop-book in
     rw c.split_at.ensures.back
-    (checked_next c.args.header c.args.text.now (g.B.Recorded.recording l.book) l.verdict l.len l.rest.now l.invariant c.requires.events_most (g.B.Recorded.recording c.judge-verdict.new.book) c.judge-verdict.result c.in-Another.entry c.in-Another.size
-    (subst (λ n. IsNext c.args.header.events l.len l.rest.now n) c.in-Another.is c.in_ok-entry.ensures) c.judge-verdict.ensures.same c.judge-verdict.ensures.judged)
+    (checked_next c.args.header c.args.text.now (g.B.Recorded.recording l.book) l.verdict l.len l.rest.now l.invariant c.requires.events_most (g.B.Recorded.recording c.judge.new.book) c.judge.new.verdict c.read_next_line.new.entry c.in-Another.size
+    (subst (λ n. IsNext c.args.header.events l.len l.rest.now c.read_next_line.new.entry n) c.in-Another.is c.in_ok-size.ensures) c.judge.ensures.same c.judge.ensures.judged)
 
 pub returns-in-End-clause-ok : goal.returns-in-End-clause-ok
 returns-in-End-clause-ok g c =
     let l = c.loop-book in
-    checked_all c.args.header c.args.text.now (g.B.Recorded.recording l.book) l.verdict l.len l.rest.now l.invariant c.requires.events_most
-    (subst (λ n. IsNext c.args.header.events l.len l.rest.now n) c.in-End.is c.in_ok-entry.ensures)
+    checked_all c.args.header c.args.text.now (g.B.Recorded.recording l.book) l.verdict l.len l.rest.now l.invariant c.requires.events_most c.read_next_line.new.entry
+    (subst (λ n. IsNext c.args.header.events l.len l.rest.now c.read_next_line.new.entry n) c.in-End.is c.in_ok-size.ensures)
 
 pub returns-in-End-clause-only : goal.returns-in-End-clause-only
 returns-in-End-clause-only g c =
     let l = c.loop-book in
-    checked_only c.args.header c.args.text.now (g.B.Recorded.recording l.book) l.verdict l.len l.rest.now l.invariant c.requires.events_most
-    (subst (λ n. IsNext c.args.header.events l.len l.rest.now n) c.in-End.is c.in_ok-entry.ensures)
+    checked_only c.args.header c.args.text.now (g.B.Recorded.recording l.book) l.verdict l.len l.rest.now l.invariant c.requires.events_most c.read_next_line.new.entry
+    (subst (λ n. IsNext c.args.header.events l.len l.rest.now c.read_next_line.new.entry n) c.in-End.is c.in_ok-size.ensures)
 
 pub fault_behind-requires-clause-place : goal.fault_behind-requires-clause-place
 fault_behind-requires-clause-place g c =
@@ -34,23 +34,23 @@ fault_behind-requires-clause-place g c =
     omega (
       arith,
       next_place c.args.header.events l.len (omega (arith, few.0)) l.rest.now c.in-Fault.place
-          (subst (λ n. IsNext c.args.header.events l.len l.rest.now n) c.in-Fault.is c.in_ok-entry.ensures),
+          (subst (λ n. IsNext c.args.header.events l.len l.rest.now c.read_next_line.new.entry n) c.in-Fault.is c.in_ok-size.ensures),
     )
 
 pub returns-in-Fault-clause-only : goal.returns-in-Fault-clause-only
 returns-in-Fault-clause-only g c = λ all a.
     let l = c.loop-book in
     absurd
-    (checked_no c.args.header c.args.text.now (g.B.Recorded.recording l.book) l.verdict l.len l.rest.now l.invariant c.requires.events_most c.in-Fault.place
-    (subst (λ n. IsNext c.args.header.events l.len l.rest.now n) c.in-Fault.is c.in_ok-entry.ensures) all a)
+    (checked_no c.args.header c.args.text.now (g.B.Recorded.recording l.book) l.verdict l.len l.rest.now l.invariant c.requires.events_most c.read_next_line.new.entry c.in-Fault.place
+    (subst (λ n. IsNext c.args.header.events l.len l.rest.now c.read_next_line.new.entry n) c.in-Fault.is c.in_ok-size.ensures) all a)
 
 pub returns-in-Fault-clause-err : goal.returns-in-Fault-clause-err
 returns-in-Fault-clause-err g c =
     let l = c.loop-book in
     subst (λ f. IsPlace (IsEntriesFault c.args.header.events c.args.text.now) f) (sym c.fault_behind.ensures)
-    (checked_fault c.args.header c.args.text.now (g.B.Recorded.recording l.book) l.verdict l.len l.rest.now l.invariant c.requires.events_most c.in-Fault.place
-    (subst (λ n. IsNext c.args.header.events l.len l.rest.now n) c.in-Fault.is c.in_ok-entry.ensures))
+    (checked_fault c.args.header c.args.text.now (g.B.Recorded.recording l.book) l.verdict l.len l.rest.now l.invariant c.requires.events_most c.read_next_line.new.entry c.in-Fault.place
+    (subst (λ n. IsNext c.args.header.events l.len l.rest.now c.read_next_line.new.entry n) c.in-Fault.is c.in_ok-size.ensures))
 
-pub returns-in_err-entry-clause-only : goal.returns-in_err-entry-clause-only
-returns-in_err-entry-clause-only g c = λ all a.
-    let told = c.from_residual-in_err-entry in or_no_memory (IsVerdict (limits_of c.args.header) c.args.header.events all) told.result told.ensures.1
+pub returns-in_err-size-clause-only : goal.returns-in_err-size-clause-only
+returns-in_err-size-clause-only g c = λ all a.
+    let told = c.from_residual-in_err-size in or_no_memory (IsVerdict (limits_of c.args.header) c.args.header.events all) told.result told.ensures.1

@@ -4,7 +4,7 @@ use Rattle.std.proofs.lemmas.List.{map-append}
 use Rattle.recorded.specs.Recordings.{world_behind}
 use Rattle.tp_model.specs.Laws.Once.{left}
 use Rattle.tp_model.specs.Over.{row_of}
-use Rattle.tp_report.proofs.Counted.{left_rise}
+use Rattle.tp_report.proofs.NoneLost.{left_rise}
 use Rattle.tp_report.proofs.Walks.{IsWalked, walk_begins, walk_next, walk_ends}
 use Rattle.tp_report.proofs.left.left_callbacks.Goals as goal
 

@@ -4,4 +4,4 @@ use Rattle.tp_report.proofs.Places.{call_part}
 use Rattle.tp_report.proofs.lines.read_call.Goals as goal
 
 pub returns-in-Some : goal.returns-in-Some
-returns-in-Some c = ahead_read CallLines call_part c.args.text.now c.in-Some.read.0 c.in-Some.read.1 c.in-Some.ensures
+returns-in-Some c = ahead_read CallLines call_part c.args.text.now c.read_good_call.new.made c.in-Some.size c.in-Some.ensures

@@ -6,10 +6,10 @@ use Rattle.tp_report.proofs.lines.read_next_line.Goals as goal
 
 pub returns-then-len-events : goal.returns-then-len-events
 returns-then-len-events c =
-    subst (λ n. IfOk c.read_last_line.result (IsNext n c.args.len c.args.text.now)) c.if-len-events.true c.read_last_line.ensures
+    subst (λ n. IfOk c.read_last_line.result (IsNext n c.args.len c.args.text.now c.args.entry.now)) c.if-len-events.true (c.read_last_line.ensures c.args.entry.now)
 
 pub returns-in-Ok : goal.returns-in-Ok
-returns-in-Ok c = next_entry c.args.events c.args.len c.args.text.now c.in-Ok.entry c.in-Ok.size (omega arith) c.in-Ok.ensures
+returns-in-Ok c = next_entry c.args.events c.args.len c.args.text.now c.read_entry_line.new.entry c.in-Ok.size (omega arith) c.in-Ok.ensures
 
 pub returns-in-None : goal.returns-in-None
 returns-in-None c =

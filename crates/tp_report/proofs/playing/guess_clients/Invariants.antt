@@ -1,8 +1,8 @@
 use Rattle.std.proofs.Common.{◌≤◌, length}
 use Rattle.tp_report.proofs.playing.guess_clients.Given as goal
 
-abbrev pub invariant-loop-who : goal.invariant-loop-who
-invariant-loop-who l = l.greatest ≤ 16
+abbrev pub invariant-loop-size : goal.invariant-loop-size
+invariant-loop-size l = l.greatest ≤ 16
 
-abbrev pub decreases-loop-who : goal.decreases-loop-who
-decreases-loop-who l = length l.rest
+abbrev pub decreases-loop-size : goal.decreases-loop-size
+decreases-loop-size l = length l.rest

@@ -38,20 +38,23 @@ pub loop-rest-preserved : goal.loop-rest-preserved
 loop-rest-preserved g c =
     let l = c.loop-rest in
     rw c.split_at.ensures.back
-    (played_next (size_of (g.B.Recorded.recording c.args.book.now)) (g.B.Recorded.recording c.args.book.now).limits.clients c.args.bytes.now (g.B.Recorded.recording l.book) l.text l.greatest l.lines l.rest.now l.invariant (g.B.Recorded.recording c.play_call.new.book) (c.in-Ok.who, c.in-Ok.call) c.in-Ok.size c.greater_client-greatest.result (outcome_behind (g.B.Recorded.recording l.book) c.in-Ok.who c.in-Ok.call)
+    (played_next (size_of (g.B.Recorded.recording c.args.book.now)) (g.B.Recorded.recording c.args.book.now).limits.clients c.args.bytes.now (g.B.Recorded.recording l.book) l.text l.greatest l.lines l.rest.now l.invariant
+    (g.B.Recorded.recording c.play_call.new.book) c.read_call.new.made c.in-Ok.size c.greater_client-greatest.result (outcome_behind (g.B.Recorded.recording l.book) c.read_call.new.made.0 c.read_call.new.made.1)
     c.play_call.new.lines c.in-Ok.ensures c.play_call.ensures.first c.in_ok-play_call-in-Ok.ensures.printed c.greater_client-greatest.ensures)
 
 pub returns-clause-ok : goal.returns-clause-ok
 returns-clause-ok g c =
     let l = c.loop-rest in
     let none : length l.rest.now ≡ 0 = eqb-true (length l.rest.now) 0 (sym c.is_empty.ensures ∙ c.loop-rest-test.false) in
-    played_all (size_of (g.B.Recorded.recording c.args.book.now)) (g.B.Recorded.recording c.args.book.now).limits.clients c.args.bytes.now (g.B.Recorded.recording l.book) l.text l.greatest l.lines l.rest.now l.invariant (record { text = c.into_text.result; clients = l.greatest }) c.into_text.ensures refl none
+    played_all (size_of (g.B.Recorded.recording c.args.book.now)) (g.B.Recorded.recording c.args.book.now).limits.clients c.args.bytes.now (g.B.Recorded.recording l.book) l.text l.greatest l.lines l.rest.now l.invariant
+    (record { text = c.into_text.result; clients = l.greatest }) c.into_text.ensures refl none
 
 pub returns-clause-only : goal.returns-clause-only
 returns-clause-only g c =
     let l = c.loop-rest in
     let none : length l.rest.now ≡ 0 = eqb-true (length l.rest.now) 0 (sym c.is_empty.ensures ∙ c.loop-rest-test.false) in
-    played_only (size_of (g.B.Recorded.recording c.args.book.now)) (g.B.Recorded.recording c.args.book.now).limits.clients c.args.bytes.now (g.B.Recorded.recording l.book) l.text l.greatest l.lines l.rest.now l.invariant (record { text = c.into_text.result; clients = l.greatest }) c.into_text.ensures refl none
+    played_only (size_of (g.B.Recorded.recording c.args.book.now)) (g.B.Recorded.recording c.args.book.now).limits.clients c.args.bytes.now (g.B.Recorded.recording l.book) l.text l.greatest l.lines l.rest.now l.invariant
+    (record { text = c.into_text.result; clients = l.greatest }) c.into_text.ensures refl none
 
 pub returns-in_err-play_call-in-Ok-clause-only : goal.returns-in_err-play_call-in-Ok-clause-only
 returns-in_err-play_call-in-Ok-clause-only g c = λ all trace.

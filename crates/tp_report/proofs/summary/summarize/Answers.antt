@@ -3,7 +3,7 @@ use Rattle.std.specs.Prelude.{map}
 use Rattle.std.proofs.lemmas.List.{length-map}
 use Rattle.tp_model.specs.Over.{row_of}
 use Rattle.tp_report.specs.Summaries.{totals_behind}
-use Rattle.tp_report.proofs.Counted.{made_counted, none_lost}
+use Rattle.tp_report.proofs.NoneLost.{made_counted, none_lost}
 use Rattle.tp_report.proofs.Summed.{same_totals}
 use Rattle.tp_report.proofs.summary.summarize.Goals as goal
 
@@ -16,8 +16,8 @@ overflow_sub-result g c =
     omega (
       arith,
       c.from.ensures,
-      c.count_entries-counts.ensures.made,
-      c.count_entries-counts.ensures.taken,
+      c.counts-counts.ensures.made,
+      c.counts-counts.ensures.taken,
       made_counted r.limits r.capacity r.history c.len-entries.ensures.legal,
       none_lost r.limits r.capacity r.history c.len-entries.ensures.legal,
     )
@@ -31,8 +31,8 @@ overflow_sub-result-2 g c =
       c.len.ensures,
       length-map c.in_ok-left.left.items row_of,
       ap length c.in_ok-left.ensures,
-      c.count_entries-counts.ensures.made,
-      c.count_entries-counts.ensures.taken,
+      c.counts-counts.ensures.made,
+      c.counts-counts.ensures.taken,
       made_counted r.limits r.capacity r.history c.len-entries.ensures.legal,
       none_lost r.limits r.capacity r.history c.len-entries.ensures.legal,
     )
@@ -40,7 +40,7 @@ overflow_sub-result-2 g c =
 pub returns-clause-ok : goal.returns-clause-ok
 returns-clause-ok g c =
     let r = c.args.book.now in
-    let told = c.count_entries-counts in
+    let told = c.counts-counts in
     let size : c.len.result ≡ length (map row_of c.in_ok-left.left.items) = omega (arith, c.len.ensures, length-map c.in_ok-left.left.items row_of) in
     same_totals c.len-entries.result told.result.made told.result.taken (told.result.made - c.from.result - c.len.result) (map row_of c.in_ok-left.left.items) told.result.refused (totals_behind r)
     (none_lost r.limits r.capacity r.history c.len-entries.ensures.legal) c.len-entries.ensures.len (told.ensures.made ∙ made_counted r.limits r.capacity r.history c.len-entries.ensures.legal) told.ensures.taken

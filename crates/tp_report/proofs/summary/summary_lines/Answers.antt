@@ -24,5 +24,6 @@ returns c =
     let text_3 = line_next (entries ∷ callbacks ∷ []) taken c.append_count-2.new.text.items c.append_count-3.new.text.items text_2 (c.in_ok-append_count-3.ensures ∙ ap (λ n. c.append_count-2.new.text.items ++ (count_line (codes "taken") n ++ 10 ∷ [])) c.from-2.ensures) in
     let text_4 = line_next (entries ∷ callbacks ∷ taken ∷ []) cancelled c.append_count-3.new.text.items c.append_count-4.new.text.items text_3 c.in_ok-append_count-4.ensures in
     let text_5 = line_next (entries ∷ callbacks ∷ taken ∷ cancelled ∷ []) left c.append_count-4.new.text.items c.append_count-5.new.text.items text_4 (c.in_ok-append_count-5.ensures ∙ ap (λ n. c.append_count-4.new.text.items ++ (count_line (codes "left") n ++ 10 ∷ [])) size) in
-    let text_6 = lines_next (entries ∷ callbacks ∷ taken ∷ cancelled ∷ left ∷ []) each c.append_count-5.new.text.items c.append_left.new.text.items text_5 (c.in_ok-append_left.ensures ∙ ap (λ rows. c.append_count-5.new.text.items ++ trace_text (map left_line (map row_of rows))) c.deref.ensures.value) in
+    let text_6 = lines_next (entries ∷ callbacks ∷ taken ∷ cancelled ∷ left ∷ []) each c.append_count-5.new.text.items c.append_left.new.text.items text_5
+    (c.in_ok-append_left.ensures ∙ ap (λ rows. c.append_count-5.new.text.items ++ trace_text (map left_line (map row_of rows))) c.deref.ensures.value) in
     line_next (entries ∷ callbacks ∷ taken ∷ cancelled ∷ left ∷ each) refused c.append_left.new.text.items c.append_count-6.new.text.items text_6 (c.in_ok-append_count-6.ensures ∙ ap (λ n. c.append_left.new.text.items ++ (count_line (codes "refused") n ++ 10 ∷ [])) c.from-3.ensures)
