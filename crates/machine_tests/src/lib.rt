@@ -19,3 +19,5 @@ mod reports;
 mod sharing;
 #[cfg(test)]
 mod streams;
+#[cfg(test)]
+mod takes;

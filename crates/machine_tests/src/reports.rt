@@ -1,13 +1,12 @@
 //! What is told of histories that were made on the machine.
 
 use crate::expect::{expect_eq, expect_ok};
-use kept_book::Kept;
 use pool_book::Book;
 use recorded::{Recorded, program_limits};
 use std::alloc::Global;
 use std::process::Abort;
 use tp_lines::parse::parse_call;
-use tp_report::{Verdict, check, print_history, print_json, print_summary};
+use tp_report::{Counted, Verdict, Written, check, print_json, print_summary};
 
 /// A client waits for one callback of a work object that another client made.
 const ONE_WAIT: [&[u8]; 9] = [
@@ -45,18 +44,18 @@ const SOME_LEFT: [&[u8]; 18] = [
     b"c1 end",
 ];
 
-// A book on which these calls were made.
-fn played(rt: &impl Abort, alloc: Global, workers: u32, lines: &[&[u8]]) -> Kept<Book> {
+// A machine on which these calls were made.
+fn played<B: Recorded>(rt: &impl Abort, alloc: Global, workers: u32, lines: &[&[u8]]) -> B {
     assert!(rt; workers == 1 || workers == 2);
     let limits = program_limits(2, workers);
-    let mut book = expect_ok(rt, Kept::<Book>::open(alloc, limits, 65_536));
+    let mut book = expect_ok(rt, B::open(alloc, limits, 65_536));
     for line in lines {
         make_call(rt, &mut book, line);
     }
     book
 }
 
-fn make_call(rt: &impl Abort, book: &mut Kept<Book>, line: &[u8]) {
+fn make_call<B: Recorded>(rt: &impl Abort, book: &mut B, line: &[u8]) {
     let (who, call) = expect_ok(rt, parse_call(line));
     assert!(rt; call.in_range());
     book.step(who, call);
@@ -70,9 +69,8 @@ fn expect_text(rt: &impl Abort, told: &[u8], wanted: &str) {
 #[test]
 fn a_history_is_told(rt: HostRuntime) {
     let alloc = rt.alloc();
-    let book = played(&rt, alloc, 1, &ONE_WAIT);
-    let mut text = Vec::new(alloc);
-    expect_ok(&rt, print_history(alloc, &book, &mut text));
+    let book = played::<Written<Book>>(&rt, alloc, 1, &ONE_WAIT);
+    let (book, text) = expect_ok(&rt, book.into_history(alloc));
     expect_text(
         &rt,
         &text,
@@ -105,7 +103,7 @@ fn legal_len(verdict: Verdict) -> Option<u32> {
 #[test]
 fn a_summary_is_told(rt: HostRuntime) {
     let alloc = rt.alloc();
-    let book = played(&rt, alloc, 1, &ONE_WAIT);
+    let book = played::<Counted<Book>>(&rt, alloc, 1, &ONE_WAIT);
     let mut text = expect_ok(&rt, Vec::from_slice(alloc, b"end 9\n"));
     expect_ok(&rt, print_summary(alloc, &book, &mut text));
     expect_ok(&rt, print_json(alloc, &book, &mut text));
@@ -129,7 +127,7 @@ refused 0
 #[test]
 fn callbacks_that_are_left_are_told(rt: HostRuntime) {
     let alloc = rt.alloc();
-    let book = played(&rt, alloc, 2, &SOME_LEFT);
+    let book = played::<Counted<Book>>(&rt, alloc, 2, &SOME_LEFT);
     let mut text = Vec::new(alloc);
     expect_ok(&rt, print_summary(alloc, &book, &mut text));
     expect_ok(&rt, print_json(alloc, &book, &mut text));

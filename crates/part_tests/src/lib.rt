@@ -12,8 +12,6 @@ mod actions;
 #[cfg(test)]
 mod barriers;
 #[cfg(test)]
-mod callbacks;
-#[cfg(test)]
 mod checks;
 #[cfg(test)]
 mod columns;
@@ -35,10 +33,6 @@ mod kernels;
 mod lines;
 #[cfg(test)]
 mod linked;
-#[cfg(test)]
-mod lists;
-#[cfg(test)]
-mod numbers;
 #[cfg(test)]
 mod operations;
 #[cfg(test)]

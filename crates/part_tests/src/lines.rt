@@ -6,6 +6,8 @@ use crate::checks::{expect_eq, expect_ok};
 use std::alloc::Global;
 use std::process::Abort;
 use tp_base::answers::{Answer, Entry, Look, Outcome};
+use tp_base::calls::Call;
+use tp_base::ids::Who;
 use tp_lines::good::{read_good_call, read_good_entry};
 use tp_lines::parse::{parse_call, parse_entry};
 use tp_lines::print::{Lines, print_answer, print_entry, print_full, print_look, print_outcome};
@@ -87,6 +89,7 @@ fn check_printed(rt: &impl Abort, alloc: Global, line: &str, entry: &Entry) {
 /// What is found is the line, by contract; but nothing may be found.
 #[test]
 fn frequent_lines_are_found(rt: HostRuntime) {
+    let mut made = (Who::Client(0), Call::Finish);
     for line in [
         "c1 submit 12\n",
         "c1 end\n",
@@ -95,16 +98,21 @@ fn frequent_lines_are_found(rt: HostRuntime) {
         "w9 take\n",
         "w9 return\n",
     ] {
-        let found = read_good_call(line.as_bytes()).is_some();
+        let found = read_good_call(line.as_bytes(), &mut made).is_some();
         expect_eq(&rt, (line, found), (line, true));
     }
+    let mut entry = Entry {
+        who: Who::Client(0),
+        call: Call::Finish,
+        answer: Answer::Done,
+    };
     for line in [
         "c1 submit 12 -> queued 4 1\n",
         "w1 detach -> ok\n",
         "w9 take -> taken 70 o1 r2 x9 plain\n",
         "w9 return -> returned - - - - 0 0\n",
     ] {
-        let found = read_good_entry(line.as_bytes()).is_some();
+        let found = read_good_entry(line.as_bytes(), &mut entry).is_some();
         expect_eq(&rt, (line, found), (line, true));
     }
 }
