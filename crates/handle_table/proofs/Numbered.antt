@@ -38,7 +38,9 @@ module _ {T : Type 0} (limit : ℕ) (rows : List (Row T)) (number : ℕ) where
       is ∙ found_some row (slice_get rows (number - 1)) (ap is_some (sym is) ∙ some) refl here
 
   -- another row in its place is the change of the table
-  pub changed_at : (row new : Row T) (f : Marked T → Marked T) → is_some (numbered (table_of limit rows) number) ≡ true → row ≡ get_or rows (number - 1) row → marked new ≡ f (marked row) → table_of limit (set rows (number - 1) new) ≡ option_map_or (λ m. record (table_of limit rows) { rows = set (map marked rows) (number - 1) (f m) }) (numbered (table_of limit rows) number) (table_of limit rows)
+  pub changed_at : (row new : Row T) (f : Marked T → Marked T) → is_some (numbered (table_of limit rows) number) ≡ true → row ≡ get_or rows (number - 1) row
+      → marked new ≡ f (marked row) → table_of limit (set rows (number - 1) new) ≡ option_map_or
+      (λ m. record (table_of limit rows) { rows = set (map marked rows) (number - 1) (f m) }) (numbered (table_of limit rows) number) (table_of limit rows)
   changed_at row new f some here is =
       let with_rows : List (Marked T) → Table T = λ kept. record { limit = limit; rows = kept } in
       rw (row_at row some here)

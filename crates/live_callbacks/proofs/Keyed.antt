@@ -217,7 +217,8 @@ module _ (new : Keyed) where
 
       lows : (ys : List Keyed) → numbers_in (low ys) ≡ filter (λ n. nat_lt n new.number) (numbers_in ys)
       lows [] = refl
-      lows (y ∷ ys) = elim (nat_lt y.number new.number) as (λ b. numbers_in (if b then y ∷ low ys else low ys) ≡ (if b then y.number ∷ filter (λ n. nat_lt n new.number) (numbers_in ys) else filter (λ n. nat_lt n new.number) (numbers_in ys))) [ true ↦ ap (λ ns. y.number ∷ ns) (lows ys) | false ↦ lows ys ]
+      lows (y ∷ ys) = elim (nat_lt y.number new.number) as (λ b. numbers_in (if b then y ∷ low ys else low ys) ≡
+          (if b then y.number ∷ filter (λ n. nat_lt n new.number) (numbers_in ys) else filter (λ n. nat_lt n new.number) (numbers_in ys))) [ true ↦ ap (λ ns. y.number ∷ ns) (lows ys) | false ↦ lows ys ]
 
       highs : (ys : List Keyed) → AreOther new.number ys → numbers_in (high ys) ≡ filter (λ n. nat_lt new.number n) (numbers_in ys)
       highs [] apart = refl

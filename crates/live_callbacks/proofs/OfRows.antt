@@ -251,13 +251,17 @@ of_rows_put n r hs lists own all = along hs (map put hs) lists (λ x is. same_fo
         ⊎_elim
         (λ (same : g.row.number ≡ n).
         ap (λ b. number_in x.key ((if b then record { key = g.key; row = r } else g) ∷ map (λ (f : Held). if f.row.number == n then record { key = f.key; row = r } else f) gs)) (eq-eqb g.row.number n same)
-        ∙ elim (g.key == x.key) as (λ b. option_map (λ (f : Held). f.row.number) (if b then Some (record { key = g.key; row = r }) else find (λ (f : Held). f.key == x.key) (map (λ (f : Held). if f.row.number == n then record { key = f.key; row = r } else f) gs)) ≡ option_map (λ (f : Held). f.row.number) (if b then Some g else find (λ (f : Held). f.key == x.key) gs)) [
+        ∙ elim (g.key == x.key) as (λ b. option_map (λ (f : Held). f.row.number)
+        (if b then Some (record { key = g.key; row = r }) else find (λ (f : Held). f.key == x.key)
+        (map (λ (f : Held). if f.row.number == n then record { key = f.key; row = r } else f) gs)) ≡ option_map (λ (f : Held). f.row.number) (if b then Some g else find (λ (f : Held). f.key == x.key) gs)) [
           | true ↦ ap Some (own ∙ sym same)
           | false ↦ same_found x gs
         ])
         (λ (apart : g.row.number ≢ n).
         ap (λ b. number_in x.key ((if b then record { key = g.key; row = r } else g) ∷ map (λ (f : Held). if f.row.number == n then record { key = f.key; row = r } else f) gs)) (ne_eqb g.row.number n apart)
-        ∙ elim (g.key == x.key) as (λ b. option_map (λ (f : Held). f.row.number) (if b then Some g else find (λ (f : Held). f.key == x.key) (map (λ (f : Held). if f.row.number == n then record { key = f.key; row = r } else f) gs)) ≡ option_map (λ (f : Held). f.row.number) (if b then Some g else find (λ (f : Held). f.key == x.key) gs)) [
+        ∙ elim (g.key == x.key) as (λ b. option_map (λ (f : Held). f.row.number)
+        (if b then Some g else find (λ (f : Held). f.key == x.key) (map (λ (f : Held). if f.row.number == n then record { key = f.key; row = r } else f) gs))
+        ≡ option_map (λ (f : Held). f.row.number) (if b then Some g else find (λ (f : Held). f.key == x.key) gs)) [
           | true ↦ refl
           | false ↦ same_found x gs
         ])

@@ -83,7 +83,8 @@ module _ (w : ℕ) where
   shown_filter f ns ms n [] alike = refl
   shown_filter f ns ms n (p ∷ ps) alike =
       let rest = shown_filter f ns ms n ps alike.1 in
-      elim (f (is_below ns n p)) as (λ b. shown_list w ms (if b then p ∷ filter (λ q. f (is_below ns n q)) ps else filter (λ q. f (is_below ns n q)) ps) ≡ (if b then keyed_at w ns p ∷ filter (λ (x : Keyed). f (nat_lt x.number n)) (shown_list w ns ps) else filter (λ (x : Keyed). f (nat_lt x.number n)) (shown_list w ns ps))) [
+      elim (f (is_below ns n p)) as (λ b. shown_list w ms (if b then p ∷ filter (λ q. f (is_below ns n q)) ps else filter (λ q. f (is_below ns n q)) ps) ≡
+      (if b then keyed_at w ns p ∷ filter (λ (x : Keyed). f (nat_lt x.number n)) (shown_list w ns ps) else filter (λ (x : Keyed). f (nat_lt x.number n)) (shown_list w ns ps))) [
         | true ↦ ap₂ (λ (m : ℕ) (xs : List Keyed). let x : Keyed = record { key = key_at w p; number = m } in x ∷ xs) alike.0 rest
         | false ↦ rest
       ]

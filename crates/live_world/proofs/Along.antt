@@ -171,7 +171,8 @@ pub record CountsOne (w : World) (object : ObjectId) (c : CallbackRow) (next : O
   pub goes_on : (after : Option CallbackRow) (more waiting busy : ℕ) → after ≡ find (λ (x : CallbackRow). nat_lt c.number x.number) (outstanding_of w c.object) → more ≡ all + 1 → waiting ≡ pending + cond (is_pending_callback c) 1 0 → busy ≡ running + cond (is_running_callback c) 1 0
       → Counting (outstanding_of w object) after more waiting busy
 
-pub counts_one : (w : World) (next_number : ℕ) (object : ObjectId) (c : CallbackRow) (next : Option CallbackRow) (all pending running : ℕ) → IsRising 1 next_number w.callbacks → next ≡ Some c → Counting (outstanding_of w object) next all pending running → CountsOne w object c next all pending running
+pub counts_one : (w : World) (next_number : ℕ) (object : ObjectId) (c : CallbackRow) (next : Option CallbackRow) (all pending running : ℕ)
+    → IsRising 1 next_number w.callbacks → next ≡ Some c → Counting (outstanding_of w object) next all pending running → CountsOne w object c next all pending running
 counts_one w next_number object c next all pending running rising is k =
     let ys : List CallbackRow = outstanding_of w object in
     let at = at_next w next_number object c next rising is k.among in

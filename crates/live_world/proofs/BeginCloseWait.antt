@@ -89,7 +89,8 @@ holds_group next_number group cs rising living =
 -- ---- the wait begins
 
 -- before the members are released
-sound_begin_close_wait : (next_number : ℕ) (w : World) (who : Who) (group : GroupId) (cancel : Bool) (context : ℕ) (n : ℕ) → MayClose w who group cancel n → filter (is_cancelled_by (Group group) cancel) w.callbacks ≡ [] → IsSound next_number w → IsSound next_number (begin_close_wait w who group cancel context)
+sound_begin_close_wait : (next_number : ℕ) (w : World) (who : Who) (group : GroupId) (cancel : Bool) (context : ℕ) (n : ℕ) → MayClose w who group cancel n
+    → filter (is_cancelled_by (Group group) cancel) w.callbacks ≡ [] → IsSound next_number w → IsSound next_number (begin_close_wait w who group cancel context)
 sound_begin_close_wait next_number w who group cancel context n may settled s =
     let test : CallbackRow → Bool = is_cancelled_by (Group group) cancel in
     let still = none_where w.callbacks test (none_passes test w.callbacks settled) in
@@ -186,7 +187,8 @@ noted_sound next_number w who object may told s = sound_waits next_number w f sa
       each bs all.1 may_have.1,
     )
 
-    named : (bs : List BegunWait) → AllByRecursion (λ (b : BegunWait). AllByRecursion (λ (o : ObjectId). is_object_that is_told w.objects o.0 ≡ true) b.notices) bs → AllByRecursion (λ (b : BegunWait). AllByRecursion (λ (o : ObjectId). is_object_that is_told w.objects o.0 ≡ true) b.notices) (map f bs)
+    named : (bs : List BegunWait) → AllByRecursion (λ (b : BegunWait). AllByRecursion (λ (o : ObjectId). is_object_that is_told w.objects o.0 ≡ true) b.notices) bs
+        → AllByRecursion (λ (b : BegunWait). AllByRecursion (λ (o : ObjectId). is_object_that is_told w.objects o.0 ≡ true) b.notices) (map f bs)
     named [] all = tt
     named (b ∷ bs) all = (
       elim (is_same_actor b.actor who) as (λ t. AllByRecursion (λ (o : ObjectId). is_object_that is_told w.objects o.0 ≡ true) (cond t (record b { notices = b.notices ++ object ∷ [] }) b).notices) [

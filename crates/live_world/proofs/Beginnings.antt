@@ -98,7 +98,9 @@ covers_running object cs = length-map (filter covers (cancel_where test cs)) num
         ap (λ b. length (cond b (cond (test d) (cancelled d) d ∷ filter covers (cancel_where test ds)) (filter covers (cancel_where test ds))))
         (elim (test d) as (λ t. covers (cond t (cancelled d) d) ≡ cond t (((d.object.0 == object.0) && false) && (false || false)) (((d.object.0 == object.0) && is_held_for (Object object) d.status) && (is_running d.status || false))) [ true ↦ refl | false ↦ refl ]
         ∙ one (d.object.0 == object.0) (test d) d.status refl)
-        ∙ elim (p d && is_running_callback d) as (λ b. length (cond b (cond (test d) (cancelled d) d ∷ filter covers (cancel_where test ds)) (filter covers (cancel_where test ds))) ≡ length (cond b (d ∷ filter (λ c. p c && is_running_callback c) ds) (filter (λ c. p c && is_running_callback c) ds))) [
+        ∙ elim (p d && is_running_callback d) as (λ b. length
+        (cond b (cond (test d) (cancelled d) d ∷ filter covers (cancel_where test ds)) (filter covers (cancel_where test ds))) ≡ length
+        (cond b (d ∷ filter (λ c. p c && is_running_callback c) ds) (filter (λ c. p c && is_running_callback c) ds))) [
           | true ↦ ap suc (each ds)
           | false ↦ each ds
         ]

@@ -132,7 +132,8 @@ module _ (object : ObjectId) (next_number : ℕ) (now : Live) (c : CallbackRow) 
         same = same_rest;
       }
     where
-      left : Seeks object now.world c next → Cancelling object before now next → is_pending_callback c ≡ true → (after : Option CallbackRow) → after ≡ find (λ (x : CallbackRow). nat_lt c.number x.number) (outstanding_of now.world c.object) → (new : Live) → new ≡ with_world now (with_callback now.world r)
+      left : Seeks object now.world c next → Cancelling object before now next → is_pending_callback c ≡ true → (after : Option CallbackRow)
+          → after ≡ find (λ (x : CallbackRow). nat_lt c.number x.number) (outstanding_of now.world c.object) → (new : Live) → new ≡ with_world now (with_callback now.world r)
           → filter is_pending_callback (rest number_of (outstanding_of new.world object) after) ≡ pending_of new.world object
       left s k pends after found new becomes =
           let tail : List CallbackRow = filter is_pending_callback (rest number_of ys after) in

@@ -232,7 +232,8 @@ module _ {limits : Limits} {cs : List CallbackRow} {waits : Begun} {held : List 
       (λ other e. ended_elsewhere who other e waits.waits) k
 
   -- what a wait holds is nothing that its notices tell
-  pub covered_noted : (who : Who) (f : BegunWait → BegunWait) → ((b : BegunWait) → (f b).actor ≡ b.actor) → ((b : BegunWait) → held_among cs (f b) ≡ held_among cs b) → AreCovered limits cs waits held → AreCovered limits cs (record waits { waits = map (λ (b : BegunWait). cond (is_same_actor b.actor who) (f b) b) waits.waits }) held
+  pub covered_noted : (who : Who) (f : BegunWait → BegunWait) → ((b : BegunWait) → (f b).actor ≡ b.actor) → ((b : BegunWait) → held_among cs (f b) ≡ held_among cs b)
+      → AreCovered limits cs waits held → AreCovered limits cs (record waits { waits = map (λ (b : BegunWait). cond (is_same_actor b.actor who) (f b) b) waits.waits }) held
   covered_noted who f stays same k =
       record {
         wait_limits = k.wait_limits;

@@ -111,7 +111,9 @@ same_first now (s ∷ ss) none = known (is_due now s) none
     known true h = absurd cc
     known false h = refl
 
-pub nothing_expired : (i : Inside) (l : Live) (timers : Timers) → shown i ≡ l → IsLiveWorld i → timers ≡ record i.timers { settings = after_first i.clock i.timers.settings } → first_expired i.clock i.timers.settings ≡ None → expired i.clock i.timers.settings ≡ [] → after_expiry i.clock timers.settings ≡ timers.settings
+pub nothing_expired : (i : Inside) (l : Live) (timers : Timers) → shown i ≡ l → IsLiveWorld i
+    → timers ≡ record i.timers { settings = after_first i.clock i.timers.settings } → first_expired i.clock i.timers.settings ≡ None
+    → expired i.clock i.timers.settings ≡ [] → after_expiry i.clock timers.settings ≡ timers.settings
     → IsOver l (shown (record i { timers = timers }))
 nothing_expired i l timers is k now none over left =
     let same : timers ≡ i.timers = now ∙ ap (λ ss. record i.timers { settings = ss }) (same_first i.clock i.timers.settings none) in

@@ -37,7 +37,8 @@ set_told o (s ∷ ss) = ap (λ b. (s.object.0 == o) || b) (set_told o ss)
 pub count_told : (o : ℕ) (ss : List TimerSetting) → count_set o ss ≡ length (filter (λ (p : ℕ × ObjectId). p.1.0 == o) (map told ss))
 count_told o [] = refl
 count_told o (s ∷ ss) =
-    elim (s.object.0 == o) as (λ b. length (cond b (s ∷ filter (λ (t : TimerSetting). t.object.0 == o) ss) (filter (λ (t : TimerSetting). t.object.0 == o) ss)) ≡ length (cond b (told s ∷ filter (λ (p : ℕ × ObjectId). p.1.0 == o) (map told ss)) (filter (λ (p : ℕ × ObjectId). p.1.0 == o) (map told ss)))) [
+    elim (s.object.0 == o) as (λ b. length (cond b (s ∷ filter (λ (t : TimerSetting). t.object.0 == o) ss) (filter (λ (t : TimerSetting). t.object.0 == o) ss)) ≡ length
+    (cond b (told s ∷ filter (λ (p : ℕ × ObjectId). p.1.0 == o) (map told ss)) (filter (λ (p : ℕ × ObjectId). p.1.0 == o) (map told ss)))) [
       | true ↦ ap suc (count_told o ss)
       | false ↦ count_told o ss
     ]
@@ -90,7 +91,9 @@ module _ (armings : List Arming) (ss left : List TimerSetting) (due : ℕ) (obje
           one_told = ap one_if (eq-eqb object.0 object.0 refl)
 
           count_pair : (p : ℕ × ObjectId) (ps : List (ℕ × ObjectId)) → length (filter (λ (q : ℕ × ObjectId). q.1.0 == object.0) (p ∷ ps)) ≡ one_if (p.1.0 == object.0) + length (filter (λ (q : ℕ × ObjectId). q.1.0 == object.0) ps)
-          count_pair p ps = elim (p.1.0 == object.0) as (λ b. length (cond b (p ∷ filter (λ (q : ℕ × ObjectId). q.1.0 == object.0) ps) (filter (λ (q : ℕ × ObjectId). q.1.0 == object.0) ps)) ≡ one_if b + length (filter (λ (q : ℕ × ObjectId). q.1.0 == object.0) ps)) [ true ↦ omega arith | false ↦ omega arith ]
+          count_pair p ps = elim (p.1.0 == object.0) as (λ b. length
+              (cond b (p ∷ filter (λ (q : ℕ × ObjectId). q.1.0 == object.0) ps) (filter (λ (q : ℕ × ObjectId). q.1.0 == object.0) ps)) ≡ one_if b + length
+              (filter (λ (q : ℕ × ObjectId). q.1.0 == object.0) ps)) [ true ↦ omega arith | false ↦ omega arith ]
 
   pub jobs_first : (is_armed object.0 armings ≡ true → count_set object.0 ss ≤ 1) → map (expiry_job armings) ss ≡ job object (result_of armings object) ∷ map (expiry_job fewer) left
   jobs_first once =
@@ -104,7 +107,9 @@ module _ (armings : List Arming) (ss left : List TimerSetting) (due : ℕ) (obje
 
 -- ---- the world
 
-module _ (l : Live) (left : List TimerSetting) (due : ℕ) (object : ObjectId) (fired : map told (expired l.world.now l.world.settings) ≡ (due, object) ∷ map told (expired l.world.now left)) (after : after_expiry l.world.now left ≡ after_expiry l.world.now l.world.settings) (once : is_armed object.0 l.world.armings ≡ true → count_set object.0 (expired l.world.now l.world.settings) ≤ 1) where
+module _ (l : Live) (left : List TimerSetting) (due : ℕ) (object : ObjectId)
+    (fired : map told (expired l.world.now l.world.settings) ≡ (due, object) ∷ map told (expired l.world.now left))
+    (after : after_expiry l.world.now left ≡ after_expiry l.world.now l.world.settings) (once : is_armed object.0 l.world.armings ≡ true → count_set object.0 (expired l.world.now l.world.settings) ≤ 1) where
   abbrev over : List TimerSetting
   over = expired l.world.now l.world.settings
 

@@ -54,7 +54,17 @@ pub sources_over : (l : Live) (s t : Sources) → with_sources (with_sources l s
 sources_over l s t = ap (λ cs. with_all l t cs l.made) (live_again l.world.callbacks)
 
 -- and nor is what was over
-pub fired_became : (l : Live) (v : World) (f : Firing) → fired_to (with_world l v) f ≡ record { world = forget (record v { settings = f.sources.settings; armings = f.sources.armings; kernels = f.sources.kernels; now = f.sources.now; callbacks = v.callbacks ++ rows_of v.objects (l.made + 1) f.jobs }); made = l.made + length f.jobs }
+pub fired_became : (l : Live) (v : World) (f : Firing) → fired_to (with_world l v)
+    f ≡ record {
+      world = forget (record v {
+        settings = f.sources.settings;
+        armings = f.sources.armings;
+        kernels = f.sources.kernels;
+        now = f.sources.now;
+        callbacks = v.callbacks ++ rows_of v.objects (l.made + 1) f.jobs;
+      });
+      made = l.made + length f.jobs;
+    }
 fired_became l v f = ap (λ cs. with_all (record { world = v; made = l.made }) f.sources cs (l.made + length f.jobs)) (live_appended v.callbacks (rows_of v.objects (l.made + 1) f.jobs))
 
 -- a return, as its change says it

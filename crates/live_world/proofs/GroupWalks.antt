@@ -142,7 +142,9 @@ pub record CancelsRow (group : GroupId) (before now : Live) (c : CallbackRow) (n
   pub passed : is_pending c.status ≡ false → (after : Option CallbackRow) → after ≡ after_of (filter (is_of_group group) now.world.callbacks) c → CancellingGroup group before now after
   pub cancels : is_pending c.status ≡ true → (after : Option CallbackRow) → after ≡ after_of (filter (is_of_group group) now.world.callbacks) c → (new : Live) → new ≡ with_world now (with_callback now.world (cancelled c)) → CancellingGroup group before new after
   -- as much is left without it
-  pub same : (after : Option CallbackRow) → after ≡ after_of (filter (is_of_group group) now.world.callbacks) c → (new : Live) → new ≡ with_world now (with_callback now.world (cancelled c)) → rest number_of (filter (is_of_group group) new.world.callbacks) after ≡ rest number_of (filter (is_of_group group) now.world.callbacks) after
+  pub same : (after : Option CallbackRow) → after ≡ after_of (filter (is_of_group group) now.world.callbacks) c → (new : Live)
+      → new ≡ with_world now (with_callback now.world (cancelled c))
+      → rest number_of (filter (is_of_group group) new.world.callbacks) after ≡ rest number_of (filter (is_of_group group) now.world.callbacks) after
 
 module _ (group : GroupId) (next_number : ℕ) (now : Live) (c : CallbackRow) (rising : IsRising 1 next_number now.world.callbacks) (living : forget now.world ≡ now.world) where
   abbrev cs : List CallbackRow

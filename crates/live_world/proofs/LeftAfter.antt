@@ -23,15 +23,19 @@ left_row c = (c.number, c.object, c.status)
 found_in : (n : ℕ) (cs : List CallbackRow) → find (λ (row : ℕ × ObjectId × Status). nat_lt n row.0) (map left_row (filter is_left_callback cs)) ≡ option_map left_row (find is_left_callback (filter (λ c. nat_lt n c.number) cs))
 found_in n [] = refl
 found_in n (c ∷ cs) =
-    elim (is_left c.status) as (λ b. is_left c.status ≡ b → find (λ (row : ℕ × ObjectId × Status). nat_lt n row.0) (map left_row (cond b (c ∷ filter is_left_callback cs) (filter is_left_callback cs))) ≡ option_map left_row (find is_left_callback (filter (λ (x : CallbackRow). nat_lt n x.number) (c ∷ cs)))) [
-      | true ↦ λ e. elim (nat_lt n c.number) as (λ t. cond t (Some (left_row c)) (find (λ (row : ℕ × ObjectId × Status). nat_lt n row.0) (map left_row (filter is_left_callback cs))) ≡ option_map left_row (find is_left_callback (cond t (c ∷ filter (λ (x : CallbackRow). nat_lt n x.number) cs) (filter (λ (x : CallbackRow). nat_lt n x.number) cs)))) [
-        | true ↦ ap (λ t. option_map left_row (cond t (Some c) (find is_left_callback (filter (λ (x : CallbackRow). nat_lt n x.number) cs)))) (sym e)
-        | false ↦ found_in n cs
-      ]
-      | false ↦ λ e. elim (nat_lt n c.number) as (λ t. find (λ (row : ℕ × ObjectId × Status). nat_lt n row.0) (map left_row (filter is_left_callback cs)) ≡ option_map left_row (find is_left_callback (cond t (c ∷ filter (λ (x : CallbackRow). nat_lt n x.number) cs) (filter (λ (x : CallbackRow). nat_lt n x.number) cs)))) [
-        | true ↦ found_in n cs ∙ ap (λ t. option_map left_row (cond t (Some c) (find is_left_callback (filter (λ (x : CallbackRow). nat_lt n x.number) cs)))) (sym e)
-        | false ↦ found_in n cs
-      ]
+    elim (is_left c.status) as (λ b. is_left c.status ≡ b → find (λ (row : ℕ × ObjectId × Status). nat_lt n row.0)
+    (map left_row (cond b (c ∷ filter is_left_callback cs) (filter is_left_callback cs))) ≡ option_map left_row (find is_left_callback (filter (λ (x : CallbackRow). nat_lt n x.number) (c ∷ cs)))) [
+      | true ↦ λ e. elim (nat_lt n c.number) as (λ t. cond t (Some (left_row c))
+          (find (λ (row : ℕ × ObjectId × Status). nat_lt n row.0) (map left_row (filter is_left_callback cs))) ≡ option_map left_row
+          (find is_left_callback (cond t (c ∷ filter (λ (x : CallbackRow). nat_lt n x.number) cs) (filter (λ (x : CallbackRow). nat_lt n x.number) cs)))) [
+            | true ↦ ap (λ t. option_map left_row (cond t (Some c) (find is_left_callback (filter (λ (x : CallbackRow). nat_lt n x.number) cs)))) (sym e)
+            | false ↦ found_in n cs
+          ]
+      | false ↦ λ e. elim (nat_lt n c.number) as (λ t. find (λ (row : ℕ × ObjectId × Status). nat_lt n row.0) (map left_row (filter is_left_callback cs))
+          ≡ option_map left_row (find is_left_callback (cond t (c ∷ filter (λ (x : CallbackRow). nat_lt n x.number) cs) (filter (λ (x : CallbackRow). nat_lt n x.number) cs)))) [
+            | true ↦ found_in n cs ∙ ap (λ t. option_map left_row (cond t (Some c) (find is_left_callback (filter (λ (x : CallbackRow). nat_lt n x.number) cs)))) (sym e)
+            | false ↦ found_in n cs
+          ]
     ] refl
 
 -- from the first callback above a number on there are those above it

@@ -27,7 +27,8 @@ object_made objects c sound =
     (cases_eq c.object.0 0)
 
 -- the next callback of an object that isn't released
-pub next_is_new : (w : World) (next_number : ℕ) (object : ObjectId) (told : TakeResult) (row : ObjectRow) (c : CallbackRow) → c ≡ new_callback next_number object row told → numbered w.objects object.0 ≡ Some row → is_standing w.objects object.0 ≡ true → IsSound next_number w → lacks_slots_for w 1 ≡ false → IsNewCallback next_number w c
+pub next_is_new : (w : World) (next_number : ℕ) (object : ObjectId) (told : TakeResult) (row : ObjectRow) (c : CallbackRow) → c ≡ new_callback next_number object row told
+    → numbered w.objects object.0 ≡ Some row → is_standing w.objects object.0 ≡ true → IsSound next_number w → lacks_slots_for w 1 ≡ false → IsNewCallback next_number w c
 next_is_new w next_number object told row c is found stands sound room =
     subst (IsNewCallback next_number w) (sym is) (record {
       number = refl;

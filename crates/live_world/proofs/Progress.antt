@@ -75,7 +75,8 @@ begun_acquires w room who kernel wanted = known (wait_of w who) wanted
     known None e = absurd cc
     known (Some b) e = of_target b b.target e
 
-pub begun_free : (w : World) (room : ℕ) (who : Who) (has : List ℕ) (first : Option ℕ) → list_any (λ (b : BegunWait). is_same_actor b.actor who) w.waits ≡ true → wanted_by (wait_of w who) ≡ None → has ≡ held_by w who → first ≡ slice_get has 0 → first ≡ None → progress_free w (wait_of w who) ≡ progress_of w room who
+pub begun_free : (w : World) (room : ℕ) (who : Who) (has : List ℕ) (first : Option ℕ) → list_any (λ (b : BegunWait). is_same_actor b.actor who) w.waits ≡ true
+    → wanted_by (wait_of w who) ≡ None → has ≡ held_by w who → first ≡ slice_get has 0 → first ≡ None → progress_free w (wait_of w who) ≡ progress_of w room who
 begun_free w room who has first some wants same is none = of_wait (wait_of w who) has (sym is ∙ none) ∙ ap (progress_held w room (wait_of w who)) same ∙ begun_one w room who some wants
   where
     of_wait : (o : Option BegunWait) (ns : List ℕ) → slice_get ns 0 ≡ None → progress_free w o ≡ progress_held w room o ns

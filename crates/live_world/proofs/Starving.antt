@@ -210,7 +210,8 @@ first_held w who next_number first sound is = of_wait (wait_of w who) refl is
         }
 
 -- its row is of the object that the wait is for
-pub starved_by_first : (w : World) (who : Who) (next_number room first : ℕ) (row : CallbackRow) (pending : Option CallbackRow) → IsSound next_number w → IsFirstHeld w who next_number first → closing_by (wait_of w who) ≡ None → callback_of w first ≡ Some row → pending ≡ slice_get (pending_of w row.object) 0
+pub starved_by_first : (w : World) (who : Who) (next_number room first : ℕ) (row : CallbackRow) (pending : Option CallbackRow) → IsSound next_number w
+    → IsFirstHeld w who next_number first → closing_by (wait_of w who) ≡ None → callback_of w first ≡ Some row → pending ≡ slice_get (pending_of w row.object) 0
     → option_map_or (λ c. is_starved w room c && is_among c.number (held_by w who)) pending false ≡ holds_starved w room (held_by w who)
 starved_by_first w who next_number room first row pending sound h closes found is = of_target h.wait.target refl (ap closing_by (sym h.begun) ∙ closes)
   where

@@ -90,7 +90,9 @@ module _ (there : List Bool) (dues : Dues) (paces : List Pace) (now key due : �
   first_pace pace here = get_or_default paces key _ pace (omega (arith, first_within, kept.paced)) ∙ sym here
 
 -- a timer whose object is there, and which isn't set, can be set
-pub can_begin : (there : List Bool) (dues : Dues) (paces : List Pace) (old : Timers) (key : ℕ) (setting : TimerSetting) → IsKept there dues paces → ◌≡◌ {A = Timers} (record { limit = dues.keys; there = there; settings = settings_of paces dues.entries }) old → setting.object.0 ≡ key + 1 → is_there old setting.object.0 ≡ true → is_set setting.object.0 old.settings ≡ false → IsUnset paces key setting dues.entries
+pub can_begin : (there : List Bool) (dues : Dues) (paces : List Pace) (old : Timers) (key : ℕ) (setting : TimerSetting) → IsKept there dues paces
+    → ◌≡◌ {A = Timers} (record { limit = dues.keys; there = there; settings = settings_of paces dues.entries }) old → setting.object.0 ≡ key + 1
+    → is_there old setting.object.0 ≡ true → is_set setting.object.0 old.settings ≡ false → IsUnset paces key setting dues.entries
 can_begin there dues paces old key setting kept shown named alive unset = record {
   named = named;
   within =

@@ -31,5 +31,7 @@ returns c =
     let lists = c.self.inside.covered.lists in
     let within : c.args.waiter < length begun = omega (arith, c.if-len-waiter.false, c.len.ensures, c.self.inside.begun.ok.0) in
     let less = all_but c.args.number (get_or lists c.args.waiter []) in
-    let now = ap (λ l. if get_or begun c.args.waiter false then Some l else None) (get_or-set_same lists c.args.waiter less [] (omega (arith, within, c.self.invariant.many))) ∙ less_shown c.args.number (get_or begun c.args.waiter false) (get_or lists c.args.waiter []) ∙ ap (option_map (all_but c.args.number)) (sym (seen begun lists c.args.waiter)) in
+    let now = ap (λ l. if get_or begun c.args.waiter false then Some l else None)
+    (get_or-set_same lists c.args.waiter less [] (omega (arith, within, c.self.invariant.many)))
+    ∙ less_shown c.args.number (get_or begun c.args.waiter false) (get_or lists c.args.waiter []) ∙ ap (option_map (all_but c.args.number)) (sym (seen begun lists c.args.waiter)) in
     rw (← c.self.view_is, c.take_out.ensures.after) (shown_with begun begun lists (set lists c.args.waiter less) c.args.waiter within refl (else_list begun lists c.args.waiter less) c.self.inside.slots _ now)

@@ -11,7 +11,8 @@ use Rattle.io_objects.proofs.IoObjects.cancel.Goals as goal
 pub invariant_of-self : goal.invariant_of-self
 invariant_of-self c =
     let same : c.key_of-in-Some.result ≡ c.key_of.result = omega (arith, c.key_of.ensures, c.key_of-in-Some.ensures) in
-    let has_it : has c.self.inside.started.lists c.key_of-in-Some.result c.in-Some.cancelled ≡ true = ap (λ k. has c.self.inside.started.lists k c.in-Some.cancelled) same ∙ first_there c.in-Some.cancelled (numbers_at c.self.inside.started c.key_of.result) (sym c.first.ensures.value ∙ c.in-Some.is) in
+    let has_it : has c.self.inside.started.lists c.key_of-in-Some.result c.in-Some.cancelled ≡ true = ap (λ k. has c.self.inside.started.lists k c.in-Some.cancelled) same
+    ∙ first_there c.in-Some.cancelled (numbers_at c.self.inside.started c.key_of.result) (sym c.first.ensures.value ∙ c.in-Some.is) in
     let inside = within _ _ _ _ c.self.invariant c.args.object.0 c.key_of-in-Some.result c.key_of-in-Some.ensures (rw (← c.self.view_is) at c.requires) in
     rw c.take_out.ensures.after (kept_cancelled _ _ _ _ c.self.invariant c.in-Some.cancelled c.key_of-in-Some.result inside has_it)
 
@@ -23,7 +24,8 @@ returns-in-Some-clause-answer c =
 pub returns-in-Some-clause-cancelled : goal.returns-in-Some-clause-cancelled
 returns-in-Some-clause-cancelled c =
     let same : c.key_of-in-Some.result ≡ c.key_of.result = omega (arith, c.key_of.ensures, c.key_of-in-Some.ensures) in
-    let has_it : has c.self.inside.started.lists c.key_of-in-Some.result c.in-Some.cancelled ≡ true = ap (λ k. has c.self.inside.started.lists k c.in-Some.cancelled) same ∙ first_there c.in-Some.cancelled (numbers_at c.self.inside.started c.key_of.result) (sym c.first.ensures.value ∙ c.in-Some.is) in
+    let has_it : has c.self.inside.started.lists c.key_of-in-Some.result c.in-Some.cancelled ≡ true = ap (λ k. has c.self.inside.started.lists k c.in-Some.cancelled) same
+    ∙ first_there c.in-Some.cancelled (numbers_at c.self.inside.started c.key_of.result) (sym c.first.ensures.value ∙ c.in-Some.is) in
     let inside = within _ _ _ _ c.self.invariant c.args.object.0 c.key_of-in-Some.result c.key_of-in-Some.ensures (rw (← c.self.view_is) at c.requires) in
     let make : ℕ → List Operation → Ios = λ limit operations. record { limit = limit; slots = c.self.inside.started.room; there = c.self.inside.there.items; operations = operations } in
     let long = length-set c.self.inside.started.lists c.key_of-in-Some.result (all_but c.in-Some.cancelled (numbers_at c.self.inside.started c.key_of-in-Some.result)) in

@@ -27,7 +27,9 @@ note-requires c =
     }
 
 with_notice : (c : After-note) → ClosesMember c.args.who c.args.group c.args.cancel c.args.self.now c.loop-number.self c.release_object.new.self c.in-Some.number (sym c.first_member.ensures ∙ c.in-Some.is) c.is_reachable.ensures.living c.release_object.ensures c.loop-number.invariant c.note.new.self
-with_notice c = member_noted c.args.who c.args.group c.args.cancel c.args.self.now c.loop-number.self c.release_object.new.self c.in-Some.number (sym c.first_member.ensures ∙ c.in-Some.is) c.is_reachable.ensures.living c.release_object.ensures c.loop-number.invariant c.note.new.self (rw (← c.self.view_is) (sym c.is_noticed-noticed.ensures ∙ c.if-noticed.true)) c.note.ensures
+with_notice c = member_noted c.args.who c.args.group c.args.cancel c.args.self.now c.loop-number.self c.release_object.new.self c.in-Some.number
+    (sym c.first_member.ensures ∙ c.in-Some.is) c.is_reachable.ensures.living c.release_object.ensures c.loop-number.invariant c.note.new.self
+    (rw (← c.self.view_is) (sym c.is_noticed-noticed.ensures ∙ c.if-noticed.true)) c.note.ensures
 
 pub loop-number-smaller-then-noticed : goal.loop-number-smaller-then-noticed
 loop-number-smaller-then-noticed c = (with_notice c).smaller
@@ -35,8 +37,10 @@ loop-number-smaller-then-noticed c = (with_notice c).smaller
 pub loop-number-preserved-then-noticed : goal.loop-number-preserved-then-noticed
 loop-number-preserved-then-noticed c = (with_notice c).goes_on
 
-without : (c : Else-noticed) → ClosesMember c.args.who c.args.group c.args.cancel c.args.self.now c.loop-number.self c.release_object.new.self c.in-Some.number (sym c.first_member.ensures ∙ c.in-Some.is) c.is_reachable.ensures.living c.release_object.ensures c.loop-number.invariant c.release_object.new.self
-without c = member_closed c.args.who c.args.group c.args.cancel c.args.self.now c.loop-number.self c.release_object.new.self c.in-Some.number (sym c.first_member.ensures ∙ c.in-Some.is) c.is_reachable.ensures.living c.release_object.ensures c.loop-number.invariant (rw (← c.self.view_is) (sym c.is_noticed-noticed.ensures ∙ c.if-noticed.false))
+without : (c : Else-noticed) → ClosesMember c.args.who c.args.group c.args.cancel c.args.self.now c.loop-number.self c.release_object.new.self c.in-Some.number
+    (sym c.first_member.ensures ∙ c.in-Some.is) c.is_reachable.ensures.living c.release_object.ensures c.loop-number.invariant c.release_object.new.self
+without c = member_closed c.args.who c.args.group c.args.cancel c.args.self.now c.loop-number.self c.release_object.new.self c.in-Some.number
+    (sym c.first_member.ensures ∙ c.in-Some.is) c.is_reachable.ensures.living c.release_object.ensures c.loop-number.invariant (rw (← c.self.view_is) (sym c.is_noticed-noticed.ensures ∙ c.if-noticed.false))
 
 pub loop-number-smaller : goal.loop-number-smaller
 loop-number-smaller c = (without c).smaller

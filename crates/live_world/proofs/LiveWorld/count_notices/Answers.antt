@@ -26,7 +26,8 @@ noticed c = ap (λ (l : Live). is_object_that (gets_notice c.args.group.0) l.wor
 
 counted : (c : After-from-count) (after : Option ℕ) → after ≡ find (λ n. nat_lt c.in-Some.number n) (members c.args.self.now.world c.args.group.0) → CountingNoticed c.args.self.now.world c.args.group.0 after (c.loop-next.count + c.from-count.result)
 counted c after found =
-    counts_noticed c.args.self.now.world c.args.group.0 c.in-Some.number c.loop-next.next after c.loop-next.count (c.loop-next.count + c.from-count.result) c.gets_notice.result c.in-Some.is (noticed c) (ap (λ n. c.loop-next.count + n) (c.from-count.ensures ∙ as_number c.gets_notice.result)) found c.loop-next.invariant
+    counts_noticed c.args.self.now.world c.args.group.0 c.in-Some.number c.loop-next.next after c.loop-next.count (c.loop-next.count + c.from-count.result)
+    c.gets_notice.result c.in-Some.is (noticed c) (ap (λ n. c.loop-next.count + n) (c.from-count.ensures ∙ as_number c.gets_notice.result)) found c.loop-next.invariant
 
 pub overflow_add-count : goal.overflow_add-count
 overflow_add-count c =

@@ -4,19 +4,23 @@ use Rattle.live_world.proofs.LiveWorld.expire.Goals as goal
 
 pub invariant_of-self-then-disarm : goal.invariant_of-self-then-disarm
 invariant_of-self-then-disarm c =
-    (timeout_expired c.self.inside c.args.self.now c.expire.new.self c.disarm.new.self c.disarm.result c.in_ok-object.field-0-0 c.in_ok-object.object c.self.view_is c.self.invariant c.expire.ensures.after c.in_ok-object.ensures.fired c.expire.ensures.left c.disarm.ensures.was c.disarm.ensures.after c.if-disarm.true).keeps
+    (timeout_expired c.self.inside c.args.self.now c.expire.new.self c.disarm.new.self c.disarm.result c.in_ok-object.field-0-0 c.in_ok-object.object c.self.view_is
+    c.self.invariant c.expire.ensures.after c.in_ok-object.ensures.fired c.expire.ensures.left c.disarm.ensures.was c.disarm.ensures.after c.if-disarm.true).keeps
 
 pub returns-then-disarm : goal.returns-then-disarm
 returns-then-disarm c =
-    timeout_expires c.self.inside c.args.self.now c.expire.new.self c.disarm.new.self c.disarm.result c.in_ok-object.field-0-0 c.in_ok-object.object c.self.view_is c.self.invariant c.expire.ensures.after c.in_ok-object.ensures.fired c.expire.ensures.left c.disarm.ensures.was c.disarm.ensures.after c.if-disarm.true
+    timeout_expires c.self.inside c.args.self.now c.expire.new.self c.disarm.new.self c.disarm.result c.in_ok-object.field-0-0 c.in_ok-object.object c.self.view_is
+    c.self.invariant c.expire.ensures.after c.in_ok-object.ensures.fired c.expire.ensures.left c.disarm.ensures.was c.disarm.ensures.after c.if-disarm.true
 
 pub invariant_of-self-else-disarm : goal.invariant_of-self-else-disarm
 invariant_of-self-else-disarm c =
-    (timer_expired c.self.inside c.args.self.now c.expire.new.self c.disarm.new.self c.disarm.result c.in_ok-object.field-0-0 c.in_ok-object.object c.self.view_is c.self.invariant c.expire.ensures.after c.in_ok-object.ensures.fired c.expire.ensures.left c.disarm.ensures.was c.disarm.ensures.after c.if-disarm.false).keeps
+    (timer_expired c.self.inside c.args.self.now c.expire.new.self c.disarm.new.self c.disarm.result c.in_ok-object.field-0-0 c.in_ok-object.object c.self.view_is
+    c.self.invariant c.expire.ensures.after c.in_ok-object.ensures.fired c.expire.ensures.left c.disarm.ensures.was c.disarm.ensures.after c.if-disarm.false).keeps
 
 pub returns-else-disarm : goal.returns-else-disarm
 returns-else-disarm c =
-    timer_expires c.self.inside c.args.self.now c.expire.new.self c.disarm.new.self c.disarm.result c.in_ok-object.field-0-0 c.in_ok-object.object c.self.view_is c.self.invariant c.expire.ensures.after c.in_ok-object.ensures.fired c.expire.ensures.left c.disarm.ensures.was c.disarm.ensures.after c.if-disarm.false
+    timer_expires c.self.inside c.args.self.now c.expire.new.self c.disarm.new.self c.disarm.result c.in_ok-object.field-0-0 c.in_ok-object.object c.self.view_is
+    c.self.invariant c.expire.ensures.after c.in_ok-object.ensures.fired c.expire.ensures.left c.disarm.ensures.was c.disarm.ensures.after c.if-disarm.false
 
 pub returns-in_err-object : goal.returns-in_err-object
 returns-in_err-object c =

@@ -19,7 +19,8 @@ loop-next-init c =
     looking_first number_of (λ x. x.pool.0 == c.args.pool.0) rows 1 c.callback_after-next.result (rows_rise 1 (c.args.self.now.made + 1) rows rising) (first_row_is (c.args.self.now.made + 1) rows c.callback_after-next.result rising c.callback_after-next.ensures)
 
 pub returns-then-callback-pool : goal.returns-then-callback-pool
-returns-then-callback-pool c = sym ((one (goal.at.returns-then-callback-pool c).In-Some).passes (eq-eqb c.in-Some.callback.pool.0 c.args.pool.0 c.if-callback-pool.true)) ∙ all_live (λ x. x.pool.0 == c.args.pool.0) c.args.self.now.world.callbacks (ap (λ (w : World). w.callbacks) c.is_reachable.ensures.living)
+returns-then-callback-pool c = sym ((one (goal.at.returns-then-callback-pool c).In-Some).passes (eq-eqb c.in-Some.callback.pool.0 c.args.pool.0 c.if-callback-pool.true))
+    ∙ all_live (λ x. x.pool.0 == c.args.pool.0) c.args.self.now.world.callbacks (ap (λ (w : World). w.callbacks) c.is_reachable.ensures.living)
 
 pub loop-next-smaller : goal.loop-next-smaller
 loop-next-smaller c = (one (goal.at.loop-next-smaller c).In-Some).later c.callback_after-next-in-Some.result c.callback_after-next-in-Some.ensures

@@ -21,10 +21,12 @@ pub returns-else-is_starved : goal.returns-else-is_starved
 returns-else-is_starved c =
     c.if-is_starved.false
     ∙ ap (λ b. b && is_among c.in-Some-first_pending.callback.number (held_by c.args.self.now.world c.args.who)) (sym c.if-is_starved.false ∙ c.is_starved.ensures)
-    ∙ starved_where c.self.inside c.args.self.now c.args.who c.args.first c.self.view_is c.self.invariant c.requires.first c.args.room c.in-Some.held (Some c.in-Some-first_pending.callback) c.requires.closes (sym c.find.ensures ∙ c.in-Some.is) (sym c.in-Some-first_pending.is ∙ c.first_pending.ensures)
+    ∙ starved_where c.self.inside c.args.self.now c.args.who c.args.first c.self.view_is c.self.invariant c.requires.first c.args.room c.in-Some.held
+    (Some c.in-Some-first_pending.callback) c.requires.closes (sym c.find.ensures ∙ c.in-Some.is) (sym c.in-Some-first_pending.is ∙ c.first_pending.ensures)
 
 pub returns-then-is_starved : goal.returns-then-is_starved
 returns-then-is_starved c =
     c.holds.ensures
     ∙ ap₂ (λ b ns. b && is_among c.in-Some-first_pending.callback.number ns) (sym c.if-is_starved.true ∙ c.is_starved.ensures) (covered_here c.self.inside c.args.self.now c.args.who c.args.waiter c.self.view_is c.self.invariant c.requires.at)
-    ∙ starved_where c.self.inside c.args.self.now c.args.who c.args.first c.self.view_is c.self.invariant c.requires.first c.args.room c.in-Some.held (Some c.in-Some-first_pending.callback) c.requires.closes (sym c.find.ensures ∙ c.in-Some.is) (sym c.in-Some-first_pending.is ∙ c.first_pending.ensures)
+    ∙ starved_where c.self.inside c.args.self.now c.args.who c.args.first c.self.view_is c.self.invariant c.requires.first c.args.room c.in-Some.held
+    (Some c.in-Some-first_pending.callback) c.requires.closes (sym c.find.ensures ∙ c.in-Some.is) (sym c.in-Some-first_pending.is ∙ c.first_pending.ensures)

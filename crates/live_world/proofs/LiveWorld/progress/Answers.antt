@@ -25,7 +25,9 @@ progress_free-requires c =
 pub returns-in-None : goal.returns-in-None
 returns-in-None c =
     c.progress_free.ensures
-    ∙ rw (← c.self.view_is) (begun_free (shown c.self.inside).world c.args.room c.args.who (held_of c.self.inside.callbacks c.unwrap-waiter.result) (option_map number_of c.first_held.result) (sym c.is_begun.ensures ∙ c.if-not-is_begun.false) (sym c.wanted.ensures ∙ c.in_default.is) (covered_is c.self.inside c.args.who c.unwrap-waiter.result c.self.invariant (sym c.place.ensures.value ∙ c.unwrap-waiter.ensures)) c.first_held.ensures.first (ap (option_map number_of) c.in-None.is))
+    ∙ rw (← c.self.view_is) (begun_free (shown c.self.inside).world c.args.room c.args.who (held_of c.self.inside.callbacks c.unwrap-waiter.result)
+    (option_map number_of c.first_held.result) (sym c.is_begun.ensures ∙ c.if-not-is_begun.false) (sym c.wanted.ensures ∙ c.in_default.is)
+    (covered_is c.self.inside c.args.who c.unwrap-waiter.result c.self.invariant (sym c.place.ensures.value ∙ c.unwrap-waiter.ensures)) c.first_held.ensures.first (ap (option_map number_of) c.in-None.is))
 
 pub is_wait_starved-requires-clause-at : goal.is_wait_starved-requires-clause-at
 is_wait_starved-requires-clause-at c = rw (← c.self.view_is) (placed c.args.who (Some c.unwrap-waiter.result) (sym c.place.ensures.value ∙ c.unwrap-waiter.ensures) c.self.invariant.covered)
@@ -37,9 +39,15 @@ is_wait_starved-requires-clause-first c =
 pub returns-else-is_wait_starved : goal.returns-else-is_wait_starved
 returns-else-is_wait_starved c =
     ap (λ b. cond b Starved (Holds c.in-Some-first_held.first.number)) (sym c.if-is_wait_starved.false ∙ c.is_wait_starved.ensures)
-    ∙ rw (← c.self.view_is) (begun_holds (shown c.self.inside).world c.args.room c.args.who (held_of c.self.inside.callbacks c.unwrap-waiter.result) (option_map number_of c.first_held.result) c.in-Some-first_held.first.number (sym c.is_begun.ensures ∙ c.if-not-is_begun.false) (sym c.wanted.ensures ∙ c.in_default.is) (covered_is c.self.inside c.args.who c.unwrap-waiter.result c.self.invariant (sym c.place.ensures.value ∙ c.unwrap-waiter.ensures)) c.first_held.ensures.first (ap (option_map number_of) c.in-Some-first_held.is))
+    ∙ rw (← c.self.view_is) (begun_holds (shown c.self.inside).world c.args.room c.args.who (held_of c.self.inside.callbacks c.unwrap-waiter.result)
+    (option_map number_of c.first_held.result) c.in-Some-first_held.first.number (sym c.is_begun.ensures ∙ c.if-not-is_begun.false)
+    (sym c.wanted.ensures ∙ c.in_default.is) (covered_is c.self.inside c.args.who c.unwrap-waiter.result c.self.invariant
+    (sym c.place.ensures.value ∙ c.unwrap-waiter.ensures)) c.first_held.ensures.first (ap (option_map number_of) c.in-Some-first_held.is))
 
 pub returns-then-is_wait_starved : goal.returns-then-is_wait_starved
 returns-then-is_wait_starved c =
     ap (λ b. cond b Starved (Holds c.in-Some-first_held.first.number)) (sym c.if-is_wait_starved.true ∙ c.is_wait_starved.ensures)
-    ∙ rw (← c.self.view_is) (begun_holds (shown c.self.inside).world c.args.room c.args.who (held_of c.self.inside.callbacks c.unwrap-waiter.result) (option_map number_of c.first_held.result) c.in-Some-first_held.first.number (sym c.is_begun.ensures ∙ c.if-not-is_begun.false) (sym c.wanted.ensures ∙ c.in_default.is) (covered_is c.self.inside c.args.who c.unwrap-waiter.result c.self.invariant (sym c.place.ensures.value ∙ c.unwrap-waiter.ensures)) c.first_held.ensures.first (ap (option_map number_of) c.in-Some-first_held.is))
+    ∙ rw (← c.self.view_is) (begun_holds (shown c.self.inside).world c.args.room c.args.who (held_of c.self.inside.callbacks c.unwrap-waiter.result)
+    (option_map number_of c.first_held.result) c.in-Some-first_held.first.number (sym c.is_begun.ensures ∙ c.if-not-is_begun.false)
+    (sym c.wanted.ensures ∙ c.in_default.is) (covered_is c.self.inside c.args.who c.unwrap-waiter.result c.self.invariant
+    (sym c.place.ensures.value ∙ c.unwrap-waiter.ensures)) c.first_held.ensures.first (ap (option_map number_of) c.in-Some-first_held.is))

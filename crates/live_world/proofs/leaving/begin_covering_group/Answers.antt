@@ -29,7 +29,9 @@ same_rows : (c : In-Some) → c.loop-next.callbacks.rows ≡ c.args.callbacks.no
 same_rows c = ap (λ (x : Callbacks). x.rows) c.loop-next.invariant.covers
 
 -- what follows it, among the rows as they were
-next_here : (c : In-Some) (after : Option CallbackRow) → after ≡ find (λ x. nat_lt c.in-Some.callback.number x.number) (filter (λ x. x.group.0 == c.in-Some.callback.group.0) c.loop-next.callbacks.rows) → after ≡ find (λ x. nat_lt c.in-Some.callback.number x.number) (filter (is_of_group c.args.group) c.args.callbacks.now.rows)
+next_here : (c : In-Some) (after : Option CallbackRow) → after ≡ find (λ x. nat_lt c.in-Some.callback.number x.number)
+    (filter (λ x. x.group.0 == c.in-Some.callback.group.0) c.loop-next.callbacks.rows)
+    → after ≡ find (λ x. nat_lt c.in-Some.callback.number x.number) (filter (is_of_group c.args.group) c.args.callbacks.now.rows)
 next_here c after is = (here c).next after (is ∙ ap (λ cs. find (λ x. nat_lt c.in-Some.callback.number x.number) (filter (λ x. x.group.0 == c.in-Some.callback.group.0) cs)) (same_rows c))
 
 filter_every : (xs : List CallbackRow) → filter every xs ≡ xs

@@ -10,8 +10,12 @@ loop-place-init c = leaving_first c.args.number c.args.waits.now c.args.callback
 
 pub loop-place-preserved : goal.loop-place-preserved
 loop-place-preserved c = elim c.if-is_none.branch [
-  | then-is_none w ↦ subst (to c) (sym (w.callbacks-is ∙ w.let_go.ensures)) (leaves c.args.number c.args.waits.now c.args.callbacks.now c.loop-place.callbacks c.loop-place.place c.loop-place.invariant (there c) c.closing_at.result c.closing_at.ensures (none c.closing_at.result (c.is_none.ensures ∙ ap not w.if-is_none.true)))
-  | else-is_none w ↦ let some = is_one c.closing_at.result (c.is_none.ensures ∙ ap not w.if-is_none.false) in subst (to c) (sym w.callbacks-is) (stays c.args.number c.args.waits.now c.args.callbacks.now c.loop-place.callbacks c.loop-place.place c.loop-place.invariant (there c) c.closing_at.result c.closing_at.ensures some.0 some.1)
+  | then-is_none w ↦ subst (to c) (sym (w.callbacks-is ∙ w.let_go.ensures))
+      (leaves c.args.number c.args.waits.now c.args.callbacks.now c.loop-place.callbacks c.loop-place.place c.loop-place.invariant (there c)
+      c.closing_at.result c.closing_at.ensures (none c.closing_at.result (c.is_none.ensures ∙ ap not w.if-is_none.true)))
+  | else-is_none w ↦ let some = is_one c.closing_at.result (c.is_none.ensures ∙ ap not w.if-is_none.false) in
+      subst (to c) (sym w.callbacks-is) (stays c.args.number c.args.waits.now c.args.callbacks.now c.loop-place.callbacks c.loop-place.place c.loop-place.invariant
+      (there c) c.closing_at.result c.closing_at.ensures some.0 some.1)
 ]
   where
     there : (c : Joined-is_none) → c.loop-place.place < length c.args.callbacks.now.held

@@ -99,7 +99,8 @@ loop-preserved g c =
           let owned = owned_gone c.loop.self-inside.index c.loop.invariant.indexed c.in-Some.place (omega (arith, is, within)) (omega (arith, held.there, c.loop.invariant.kept.index_owners)) in
           let fewer = list_gone _ _ _ _ _ _ _ c.loop.invariant.kept c.args.number c.bucket_of-bucket.result bucket_is c.loop.invariant.indexed c.in-Some.place there has in
           rw w.self-inside-is (record {
-            kept = rw (w.release.ensures.order, w.release.ensures.index, w.release.ensures.free, w.release.ensures.capacity) (kept_taken _ _ _ _ _ _ _ c.loop.invariant.kept c.in-Some.place held _ (rw w.release.ensures.order at w.release.ensures.owned) (rw w.release.ensures.order at w.release.ensures.firsts));
+            kept = rw (w.release.ensures.order, w.release.ensures.index, w.release.ensures.free, w.release.ensures.capacity)
+                (kept_taken _ _ _ _ _ _ _ c.loop.invariant.kept c.in-Some.place held _ (rw w.release.ensures.order at w.release.ensures.owned) (rw w.release.ensures.order at w.release.ensures.firsts));
             indexed = rw w.release.ensures.index owned;
             walk = rw (w.release.ensures.order, w.release.ensures.index, fewer) (leaving_gone _ _ _ _ _ c.loop.invariant.walk c.in-Some.place _ c.after-next.result once one c.in-Some.is here);
             leads = rw w.release.ensures.order (leads_gone _ _ _ _ _ _ _ c.loop.invariant.kept c.args.number c.bucket_of-bucket.result bucket_is c.loop.invariant.indexed c.in-Some.place there has ∙ c.loop.invariant.leads);

@@ -17,7 +17,8 @@ overflow_sub-result c =
     let waiter : c.args.waiter < i.waiters = omega (arith, rw (← c.self.view_is) at c.requires.waiter, shown_many i.waiters i.lists, c.self.invariant.many) in
     let own = held_owner i.waiters i.awaited.items i.lists c.self.invariant c.owner-known.ensures.owned c.args.key c.args.waiter waiter (rw (← c.self.view_is) at c.requires.held) in
     let next = rw (c.place_of-place.ensures, own) at c.in-Some.ensures in
-    let placed = after_all (λ p. p ≡ place_at i.waiters (key_at i.waiters p) c.args.waiter) (place_at i.waiters c.args.key c.args.waiter) c.in-Some.place (list_of i.lists c.args.waiter) (places_of i.waiters i.awaited.items i.lists c.self.invariant c.owner-known.ensures.owned c.args.waiter waiter) (sym next) in
+    let placed = after_all (λ p. p ≡ place_at i.waiters (key_at i.waiters p) c.args.waiter) (place_at i.waiters c.args.key c.args.waiter) c.in-Some.place
+    (list_of i.lists c.args.waiter) (places_of i.waiters i.awaited.items i.lists c.self.invariant c.owner-known.ensures.owned c.args.waiter waiter) (sym next) in
     omega (arith, placed)
 
 pub returns-in-Some : goal.returns-in-Some
