@@ -22,8 +22,8 @@ use tp_base::calls::Call;
 use tp_base::ids::Who;
 use tp_lines::print::Lines;
 
-/// Where the greatest client of a trace is looked for first.
-const FRONT: usize = 65_536;
+/// How many bytes at each end of a trace are looked at for its greatest client, before it is played.
+const LOOKED_AT: usize = 32_768;
 
 /// How large the machine of a trace is. Its clients are told by the trace.
 #[derive(Clone, Copy)]
@@ -114,9 +114,8 @@ fn play_calls<B: Recorded>(alloc: Global, book: &mut B, bytes: &[u8]) -> Result<
         match read_call(rest, &mut made) {
             Err(place) => return Err(fault_behind(lines, place)),
             Ok(size) => {
-                let (who, call) = made;
-                play_call(book, who, call, &mut outcome, &mut text)?;
-                greatest = greater_client(greatest, who);
+                play_call(book, made.0, &made.1, &mut outcome, &mut text)?;
+                greatest = greater_client(greatest, made.0);
                 lines += 1;
                 (_, rest) = rest.split_at(size);
             }
@@ -134,24 +133,42 @@ fn play_calls<B: Recorded>(alloc: Global, book: &mut B, bytes: &[u8]) -> Result<
 fn play_call<B: Recorded>(
     book: &mut B,
     who: Who,
-    call: Call,
+    call: &Call,
     outcome: &mut Outcome,
     lines: &mut Lines,
 ) -> Result<(), AllocError>
-    requires { IsCallInRange call }
-    ensures first { IsFirstOf (B.recording book.old) (B.recording book.new) who call (outcome_behind (B.recording book.old) who call) }
-    ensures printed { OnOk result (lines.new ≡ lines.old ++ (text_of_outcome (outcome_behind (B.recording book.old) who call) ++ 10 ∷ [])) }
+    requires { IsCallInRange call.now }
+    ensures first { IsFirstOf (B.recording book.old) (B.recording book.new) who call.now (outcome_behind (B.recording book.old) who call.now) }
+    ensures printed { OnOk result (lines.new ≡ lines.old ++ (text_of_outcome (outcome_behind (B.recording book.old) who call.now) ++ 10 ∷ [])) }
 {
-    book.step_into(who, &call, outcome);
+    book.step_into(who, call, outcome);
     lines.outcome(outcome)
 }
 
-// The greatest client of the good lines at the front of a text. The play shows whether it is the
+// The greatest client of the good lines at both ends of a trace. The play shows whether it is the
 // greatest of all.
 fn guess_clients(bytes: &[u8]) -> u32
     ensures { result ≤ 16 }
 {
-    let (mut rest, _) = bytes.split_at(bytes.len().min(FRONT));
+    let (front, rest) = bytes.split_at(bytes.len().min(LOOKED_AT));
+    let (_, back) = rest.split_at(rest.len().saturating_sub(LOOKED_AT));
+    greatest_at_front(front).max(greatest_at_front(behind_line(back)))
+}
+
+// What stands behind the first line feed of a text.
+fn behind_line(text: &[u8]) -> &[u8] {
+    let size = text
+        .iter()
+        .position(|byte| *byte == b'\n')
+        .map_or(text.len(), |place| place + 1);
+    text.split_at(size).1
+}
+
+// The greatest client of the good lines at the front of a text, or 0.
+fn greatest_at_front(text: &[u8]) -> u32
+    ensures { result ≤ 16 }
+{
+    let mut rest = text;
     let mut greatest = 0;
     let mut made = (Who::Client(0), Call::Take);
     while let Ok(size) = read_call(rest, &mut made) {

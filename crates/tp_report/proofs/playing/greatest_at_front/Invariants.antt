@@ -1,5 +1,5 @@
 use Rattle.std.proofs.Common.{◌≤◌, length}
-use Rattle.tp_report.proofs.playing.guess_clients.Given as goal
+use Rattle.tp_report.proofs.playing.greatest_at_front.Given as goal
 
 abbrev pub invariant-loop-size : goal.invariant-loop-size
 invariant-loop-size l = l.greatest ≤ 16
