@@ -3,12 +3,12 @@
 //! What a line stands for is said by the definitions, and shown by examples in the proofs of `tp_lines`.
 
 use crate::checks::{expect_eq, expect_ok};
+use frequent_lines::{read_good_call, read_good_entry};
 use std::alloc::Global;
 use std::process::Abort;
 use tp_base::answers::{Answer, Entry, Look, Outcome};
 use tp_base::calls::Call;
 use tp_base::ids::Who;
-use tp_lines::good::{read_good_call, read_good_entry};
 use tp_lines::parse::{parse_call, parse_entry};
 use tp_lines::print::{Lines, print_answer, print_entry, print_full, print_look, print_outcome};
 

@@ -7,7 +7,6 @@ mod DueFacts
 pub mod EntryFacts
 mod Examples
 pub mod Feeds
-mod FrontFacts
 mod NamedFacts
 mod Outcomes
 mod PartFacts

@@ -23,8 +23,6 @@
 mod answers;
 pub mod calls;
 pub mod entries;
-mod fronts;
-pub mod good;
 mod line;
 pub mod parse;
 mod parts;

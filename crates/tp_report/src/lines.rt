@@ -9,6 +9,7 @@ ghost use Rattle.tp_report.specs.Histories.{end_line, HeaderLines};
 ghost use Rattle.tp_report.specs.Readings.{Ended, IsEndRead, IsNext, read_as};
 
 use crate::headers::{Header, read_header};
+use frequent_lines::{read_good_call, read_good_entry, read_rare_call, read_rare_entry};
 use line_grammar::words::{behind, read_word};
 use std::alloc::{AllocError, Global};
 use tp_base::answers::Entry;
@@ -16,7 +17,6 @@ use tp_base::calls::Call;
 use tp_base::ids::Who;
 use tp_lines::calls::read_call_line;
 use tp_lines::entries::read_entry;
-use tp_lines::good::{read_good_call, read_good_entry, read_rare_call, read_rare_entry};
 
 /// What a line behind the header is.
 #[derive(Clone, Copy)]

@@ -1,0 +1,6 @@
+use Rattle.line_grammar.proofs.TraceFacts.{front_ahead}
+use Rattle.tp_lines.specs.Answers.{EntryLines}
+use Rattle.frequent_lines.proofs.read_good_entry.Goals as goal
+
+pub returns : goal.returns
+returns c = front_ahead EntryLines c.args.text.now c.front_entry.new.entry c.in_ok-rest.rest.now c.in_ok-more.more.now c.in_ok-rest.ensures c.in_ok-more.ensures

@@ -1,7 +1,0 @@
-use Rattle.std.proofs.Common.{arith}
-use Rattle.tp_lines.proofs.FrontFacts.{number_front}
-use Rattle.tp_lines.proofs.fronts.front_number.Goals as goal
-
-pub returns : goal.returns
-returns c =
-    (omega arith, number_front c.args.text.now c.front_digits-number.result.0 c.front_digits-number.result.1 (c.front_digits-number.ensures.number (omega arith)) c.split_at.result.1.now c.split_at.ensures.back)

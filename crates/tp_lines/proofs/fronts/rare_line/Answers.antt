@@ -1,6 +1,0 @@
-use Rattle.tp_lines.proofs.FrontFacts.{line_front}
-use Rattle.tp_lines.proofs.fronts.rare_line.Goals as goal
-
-pub returns : goal.returns
-returns c =
-    line_front c.args.text.now c.in_ok-who.start.now c.in_ok-rest.rest.now c.in_ok-who.who c.any_call.new.call c.in_ok-who.ensures c.in_ok-rest.ensures
