@@ -3,7 +3,7 @@
 //! What a line stands for is said by the definitions, and shown by examples in the proofs of `tp_lines`.
 
 use crate::checks::{expect_eq, expect_ok};
-use frequent_lines::{read_good_call, read_good_entry};
+use frequent_lines::{read_good_call, read_good_entry, read_rare_call, read_rare_entry};
 use std::alloc::Global;
 use std::process::Abort;
 use tp_base::answers::{Answer, Entry, Look, Outcome};
@@ -113,6 +113,50 @@ fn frequent_lines_are_found(rt: HostRuntime) {
         "w9 return -> returned - - - - 0 0\n",
     ] {
         let found = read_good_entry(line.as_bytes(), &mut entry).is_some();
+        expect_eq(&rt, (line, found), (line, true));
+    }
+}
+
+/// The same of lines that are less frequent.
+#[test]
+fn rare_lines_are_found(rt: HostRuntime) {
+    let mut made = (Who::Client(0), Call::Finish);
+    for line in [
+        "c1 submit 12\n",
+        "c1 create work r1 x0 p0 normal short g0 q0\n",
+        "c1 create timer r2 x7 p3 high long g2 q9\n",
+        "c1 create wait r1 x18446744073709551615 p0 low short g1 q0\n",
+        "c1 create io r65535 x0 p65535 normal short g65535 q65535\n",
+        "c1 close-members 2 cancel y7\n",
+        "c1 close-members 2 keep y0\n",
+        "c1 set-timer 5 -10 0 0\n",
+        "c1 set-wait 4 1 -10\n",
+        "c1 set-event 1\n",
+        "c1 set-maximum 1 4\n",
+        "c1 start-io 3\n",
+        "c1 issue-io 3\n",
+        "c1 complete-io 8 995 0\n",
+        "c1 advance 10\n",
+        "c1 is-timer-set 5\n",
+        "c1 wait work 1 keep\n",
+    ] {
+        let found = read_rare_call(line.as_bytes(), &mut made).is_some();
+        expect_eq(&rt, (line, found), (line, true));
+    }
+    let mut entry = Entry {
+        who: Who::Client(0),
+        call: Call::Finish,
+        answer: Answer::Done,
+    };
+    for line in [
+        "c1 create work r1 x0 p0 normal short g0 q0 -> made 1\n",
+        "c1 advance 10 -> advanced 10 3 2\n",
+        "c1 wait work 1 keep -> begun 3 0\n",
+        "c1 end -> ended\n",
+        "c1 is-timer-set 5 -> flag yes\n",
+        "c1 submit 9 -> refused no-such\n",
+    ] {
+        let found = read_rare_entry(line.as_bytes(), &mut entry).is_some();
         expect_eq(&rt, (line, found), (line, true));
     }
 }

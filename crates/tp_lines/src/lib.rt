@@ -2,8 +2,7 @@
 //! the machine answers.
 //!
 //! A text is a line without its line feed. `parse_call` and `parse_entry` read a line, or tell the place
-//! of its fault; `read_entry` reads the entry at the front of a longer text, and `read_good_call` and
-//! `read_good_entry` a line with its line feed, where a frequent one stands there. `print_entry`,
+//! of its fault; `read_entry` reads the entry at the front of a longer text. `print_entry`,
 //! `print_outcome` and the like append one, and `Lines` has many.
 //!
 //! A call, an answer, a look and full is a row: a word, and parts that describe themselves (`row_of`,

@@ -193,7 +193,7 @@ pub enum Word {
 }
 
 // All words by the field in which each stands: the word, its text, and the fields behind it. Calls stand in their
-// groups: the lines that come most often are read by `fronts`, before a word is searched for here.
+// groups: the lines that come most often are read by frequent_lines, before a word is searched for here.
 macro_rules! words {
     ($then:ident, $($given:tt)+) => {
         $then! {
