@@ -24,6 +24,7 @@ use Rattle.tp_run.specs.declared.status.Status.{Status}
 use Rattle.tp_run.specs.declared.status.Status.TheVariants as end
 use Rattle.tp_run.specs.declared.status.Status.TheVariants.{BadLine}
 use Rattle.tp_run.specs.declared.top.Output.{Output}
+use Rattle.script_lines.specs.declared.line.Line.{Line}
 use Rattle.tp_script.specs.Answers.{IsScriptFault, IsThat}
 use Rattle.tp_script.specs.Scripts.{IsScript}
 use Rattle.tp_script.specs.declared.fault.ScriptFault.{ScriptFault}
@@ -33,7 +34,6 @@ use Rattle.tp_run.specs.declared.status.Ending.TheVariants.{Fine, NotLegal, Exha
 use Rattle.tp_script.specs.Calls.{begins_wait_call}
 use Rattle.tp_script.specs.Machines.{NeverWaitsAtFirst}
 use Rattle.tp_script.specs.Nexts.{first_progress, next_call}
-use Rattle.tp_script.specs.declared.line.Line.{Line}
 use Rattle.tp_script.specs.declared.routines.Part.TheVariants as part
 use Rattle.worker_gate.specs.Alone.{IsAlone}
 use Rattle.worker_gate.specs.Places.{Given}

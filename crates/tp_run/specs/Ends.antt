@@ -14,8 +14,8 @@ use Rattle.tp_run.specs.declared.status.Ending.TheVariants as ending
 use Rattle.tp_run.specs.declared.status.Status.{Status}
 use Rattle.tp_run.specs.declared.status.Status.TheVariants.{Fine, Words, BadLine, ReadFault, WriteFault, NoMemory, TooLong, NotLegal, Exhausted, Stalled}
 use Rattle.tp_run.specs.declared.top.Output.{Output}
+use Rattle.script_lines.specs.declared.line.Line.{Line}
 use Rattle.tp_script.specs.Scripts.{IsScript}
-use Rattle.tp_script.specs.declared.line.Line.{Line}
 use Rattle.tp_script.specs.declared.fault.ScriptFault.{ScriptFault}
 use Rattle.tp_script.specs.declared.fault.ScriptFault.TheVariants as script
 

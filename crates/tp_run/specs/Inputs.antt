@@ -20,9 +20,9 @@ use Rattle.tp_report.specs.declared.headers.Header.{Header}
 use Rattle.tp_report.specs.declared.playing.MachineSize.{MachineSize}
 use Rattle.tp_report.specs.declared.verdict.Verdict.{Verdict}
 use Rattle.tp_report.specs.declared.verdict.Verdict.TheVariants as verdict
+use Rattle.script_lines.specs.declared.fault.ScriptKind.{ScriptKind}
+use Rattle.script_lines.specs.declared.line.Line.{Line}
 use Rattle.tp_script.specs.Scripts.{IsFaultIn, IsScript}
-use Rattle.tp_script.specs.declared.fault.ScriptKind.{ScriptKind}
-use Rattle.tp_script.specs.declared.line.Line.{Line}
 
 abbrev pub ending_of : Verdict → Ending
 ending_of (verdict.Legal len) = Fine

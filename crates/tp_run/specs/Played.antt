@@ -22,8 +22,8 @@ use Rattle.tp_run.specs.declared.played.Layout.{Layout}
 use Rattle.tp_run.specs.declared.top.Output.{Output}
 use Rattle.tp_run.specs.declared.status.Ending.{Ending}
 use Rattle.tp_run.specs.declared.status.Ending.TheVariants.{Fine, NotLegal, Exhausted, Stalled}
+use Rattle.script_lines.specs.declared.line.Line.{Line}
 use Rattle.tp_script.specs.Nexts.{clients_of, next_at, progress_after}
-use Rattle.tp_script.specs.declared.line.Line.{Line}
 use Rattle.worker_gate.specs.Alone.{IsAlone}
 use Rattle.worker_gate.specs.Places.{given, Given}
 use Rattle.worker_gate.specs.Runs.{IsCutShort, Runs}

@@ -1,16 +1,16 @@
 -- How many clients a script has.
 use Rattle.std.proofs.Common.{◌≡◌, ℕ, ◌+◌, ◌≤◌, Bool, true, false, List, [], ◌∷◌, length, nat_lt, if◌then◌else◌, refl, sym, subst, arith, inl, inr, length-append, ltb-true}
-use Rattle.tp_script.specs.declared.judge.Known.{Known}
-use Rattle.tp_script.specs.declared.line.Line.{Line}
+use Rattle.script_lines.specs.declared.judge.Known.{Known}
+use Rattle.script_lines.specs.declared.line.Line.{Line}
+use Rattle.script_lines.specs.declared.state.State.{State}
+use Rattle.script_lines.specs.declared.words.Word.{Word}
+use Rattle.script_lines.specs.declared.words.Word.TheVariants as word
+use Rattle.script_lines.specs.States.{state_after}
+use Rattle.script_lines.specs.Texts.{lines_of}
+use Rattle.script_lines.proofs.HeadFacts.{MayHead, line_head}
 use Rattle.tp_script.specs.declared.script.Opening.TheVariants as opening
-use Rattle.tp_script.specs.declared.state.State.{State}
-use Rattle.tp_script.specs.declared.words.Word.{Word}
-use Rattle.tp_script.specs.declared.words.Word.TheVariants as word
 use Rattle.tp_script.specs.Nexts.{clients_of, opens, places_behind}
 use Rattle.tp_script.specs.Scripts.{IsScript, Reads, first_known, known_after, words_of}
-use Rattle.tp_script.specs.States.{state_after}
-use Rattle.tp_script.specs.Texts.{lines_of}
-use Rattle.tp_script.proofs.HeadFacts.{MayHead, line_head}
 
 with_one : Bool → ℕ → ℕ
 with_one true count = count + 1

@@ -2,25 +2,25 @@
 use Rattle.std.proofs.Common.{◌≡◌, ℕ, zero, suc, ◌+◌, Bool, true, false, List, [], ◌∷◌, Option, Some, None, IfSome, ◌⊎◌, ◌&&◌, fold, nat_eq, nat_lt, option_and_then, slice_get, if◌then◌else◌, refl, sym, ap, ◌∙◌, subst, arith, inl, inr}
 use Rattle.tp_base.specs.declared.answers.Answer.{Answer}
 use Rattle.tp_base.specs.declared.calls.Call.TheVariants as call
-use Rattle.tp_script.specs.declared.judge.Known.{Known}
-use Rattle.tp_script.specs.declared.line.Line.{Line}
+use Rattle.script_lines.specs.declared.judge.Known.{Known}
+use Rattle.script_lines.specs.declared.line.Line.{Line}
+use Rattle.script_lines.specs.declared.state.Place.{Place}
+use Rattle.script_lines.specs.declared.state.Place.TheVariants.{Declarations}
+use Rattle.script_lines.specs.declared.state.State.{State}
+use Rattle.script_lines.specs.declared.words.Class.{Class}
+use Rattle.script_lines.specs.declared.words.Class.TheVariants as class
+use Rattle.script_lines.specs.declared.words.Word.{Word}
+use Rattle.script_lines.specs.declared.words.Word.TheVariants as word
+use Rattle.script_lines.specs.Shapes.{class_of}
+use Rattle.script_lines.specs.States.{state_after}
+use Rattle.script_lines.specs.Texts.{lines_of}
+use Rattle.script_lines.specs.Tokens.{is_head, is_repeated}
+use Rattle.script_lines.proofs.HeadFacts.{MayHead, line_head}
 use Rattle.tp_script.specs.declared.routines.Part.TheVariants.{Client}
 use Rattle.tp_script.specs.declared.routines.Progress.{Progress}
-use Rattle.tp_script.specs.declared.state.Place.{Place}
-use Rattle.tp_script.specs.declared.state.Place.TheVariants.{Declarations}
-use Rattle.tp_script.specs.declared.state.State.{State}
-use Rattle.tp_script.specs.declared.words.Class.{Class}
-use Rattle.tp_script.specs.declared.words.Class.TheVariants as class
-use Rattle.tp_script.specs.declared.words.Word.{Word}
-use Rattle.tp_script.specs.declared.words.Word.TheVariants as word
 use Rattle.tp_script.specs.Calls.{acts, begins_wait, begins_wait_call, call_by, calls_in, maximum_of, small_of}
 use Rattle.tp_script.specs.Nexts.{acting, after_at, call_at, first_progress, line_after, line_at, next_at, noted, number_in, progress_after, stepped, waited, with_local}
 use Rattle.tp_script.specs.Scripts.{IsScript, Reads, first_known, is_local, known_after, words_of}
-use Rattle.tp_script.specs.Shapes.{class_of}
-use Rattle.tp_script.specs.States.{state_after}
-use Rattle.tp_script.specs.Texts.{lines_of}
-use Rattle.tp_script.specs.Tokens.{is_head, is_repeated}
-use Rattle.tp_script.proofs.HeadFacts.{MayHead, line_head}
 
 -- no call of such a line begins a wait
 record IsCalm (head : Word) : Type 0 where

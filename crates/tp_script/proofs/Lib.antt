@@ -1,9 +1,5 @@
 pub mod ClientFacts
 pub mod DeclarationFacts
-mod HeadFacts
-mod NameFacts
 mod Parsing
 mod Places
-mod TextFacts
-mod TokenFacts
 mod Unique

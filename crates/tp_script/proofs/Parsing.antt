@@ -1,9 +1,9 @@
 -- One more text of a script.
 use Rattle.std.proofs.Common.{ℕ, ◌+◌, List, [], ◌∷◌, ◌++◌, refl, sym, subst, inl, inr}
 use Rattle.std.proofs.lemmas.List.{append_assoc}
-use Rattle.tp_script.specs.declared.fault.ScriptKind.{ScriptKind}
-use Rattle.tp_script.specs.declared.judge.Known.{Known}
-use Rattle.tp_script.specs.declared.line.Line.{Line}
+use Rattle.script_lines.specs.declared.fault.ScriptKind.{ScriptKind}
+use Rattle.script_lines.specs.declared.judge.Known.{Known}
+use Rattle.script_lines.specs.declared.line.Line.{Line}
 use Rattle.tp_script.specs.Answers.{IsAdded}
 use Rattle.tp_script.specs.Scripts.{Faults, Reads}
 

@@ -1,7 +1,7 @@
 -- Where the parts of a script begin.
 use Rattle.std.proofs.Common.{ℕ, ◌+◌, ◌≤◌, Bool, true, false, List, [], ◌∷◌, length, arith, if◌then◌else◌}
 use Rattle.std.proofs.lemmas.List.{length-append}
-use Rattle.tp_script.specs.declared.line.Line.{Line}
+use Rattle.script_lines.specs.declared.line.Line.{Line}
 use Rattle.tp_script.specs.declared.script.Opening.{Opening}
 use Rattle.tp_script.specs.Nexts.{opens, places_behind}
 

@@ -1,12 +1,12 @@
 -- What the reading of a script answers.
 use Rattle.std.specs.Prelude.{◌≡◌, ℕ, true, false, List, [], ◌∷◌, ◌++◌, Result, Ok, Err, ◌⊎◌}
-use Rattle.tp_script.specs.declared.judge.Known.{Known}
-use Rattle.tp_script.specs.declared.line.Line.{Line}
+use Rattle.script_lines.specs.declared.judge.Known.{Known}
+use Rattle.script_lines.specs.declared.line.Line.{Line}
+use Rattle.script_lines.specs.Readings.{IsLineFault, IsLineRead}
+use Rattle.script_lines.specs.Texts.{is_blank}
 use Rattle.tp_script.specs.declared.fault.ScriptFault.{ScriptFault}
 use Rattle.tp_script.specs.declared.fault.ScriptFault.TheVariants.{NoMemory, At}
-use Rattle.tp_script.specs.Readings.{IsLineFault, IsLineRead}
 use Rattle.tp_script.specs.Scripts.{IsFaultIn, known_after, words_of}
-use Rattle.tp_script.specs.Texts.{is_blank}
 
 -- the fault is that of the text, or memory was refused
 abbrev pub IsScriptFault : List ℕ → ScriptFault → Type 0

@@ -14,12 +14,12 @@ use Rattle.tp_base.specs.declared.calls.Lock.TheVariants as lock
 use Rattle.tp_base.specs.declared.ids.KernelId.{KernelId}
 use Rattle.tp_base.specs.declared.ids.ObjectId.{ObjectId}
 use Rattle.tp_base.specs.declared.ids.RoutineId.{RoutineId}
-use Rattle.tp_script.specs.declared.line.Line.{Line}
-use Rattle.tp_script.specs.declared.line.Meaning.{Meaning}
-use Rattle.tp_script.specs.declared.words.Sort.{Sort}
-use Rattle.tp_script.specs.declared.words.Sort.TheVariants as sort
-use Rattle.tp_script.specs.declared.words.Word.{Word}
-use Rattle.tp_script.specs.declared.words.Word.TheVariants as word
+use Rattle.script_lines.specs.declared.line.Line.{Line}
+use Rattle.script_lines.specs.declared.line.Meaning.{Meaning}
+use Rattle.script_lines.specs.declared.words.Sort.{Sort}
+use Rattle.script_lines.specs.declared.words.Sort.TheVariants as sort
+use Rattle.script_lines.specs.declared.words.Word.{Word}
+use Rattle.script_lines.specs.declared.words.Word.TheVariants as word
 
 -- a number of 32 bits, the number of an object, a routine's, the count of a semaphore, by how much it is raised, and a time: what a
 -- script can say is in these ranges, and stays as it is

@@ -1,6 +1,6 @@
 -- What a script keeps beside its lines.
 use Rattle.std.specs.Prelude.{◌≡◌, ℕ, ◌+◌, ◌<◌, ◌^◌, List, length}
-use Rattle.tp_script.specs.declared.line.Line.{Line}
+use Rattle.script_lines.specs.declared.line.Line.{Line}
 use Rattle.tp_script.specs.Nexts.{client_places, routine_places}
 
 -- where the clients and the routines begin; and there are fewer lines than a place can tell

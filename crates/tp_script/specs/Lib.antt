@@ -1,15 +1,6 @@
 pub mod Answers
 pub mod Calls
 pub mod Kept
-pub mod Known
-pub mod Lines
 pub mod Machines
-pub mod Names
 pub mod Nexts
-pub mod Readings
 pub mod Scripts
-pub mod Seen
-pub mod Shapes
-pub mod States
-pub mod Texts
-pub mod Tokens

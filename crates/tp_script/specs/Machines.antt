@@ -1,7 +1,7 @@
 -- What a machine has to know of a script that is played on it.
 use Rattle.std.specs.Prelude.{◌≡◌, ◌≤◌, false, List, IfSome}
 use Rattle.tp_base.specs.declared.answers.Answer.{Answer}
-use Rattle.tp_script.specs.declared.line.Line.{Line}
+use Rattle.script_lines.specs.declared.line.Line.{Line}
 use Rattle.tp_script.specs.declared.routines.Part.TheVariants.{Client}
 use Rattle.tp_script.specs.Calls.{begins_wait_call}
 use Rattle.tp_script.specs.Nexts.{clients_of, next_call}

@@ -4,14 +4,14 @@ use Rattle.tp_base.specs.declared.answers.Answer.{Answer}
 use Rattle.tp_base.specs.declared.answers.Answer.TheVariants as answer
 use Rattle.tp_base.specs.declared.calls.Call.{Call}
 use Rattle.tp_base.specs.declared.calls.Call.TheVariants as call
-use Rattle.tp_script.specs.declared.line.Line.{Line}
+use Rattle.script_lines.specs.declared.line.Line.{Line}
+use Rattle.script_lines.specs.declared.words.Word.{Word}
+use Rattle.script_lines.specs.declared.words.Word.TheVariants as word
 use Rattle.tp_script.specs.declared.routines.Part.{Part}
 use Rattle.tp_script.specs.declared.routines.Part.TheVariants.{Client, Routine}
 use Rattle.tp_script.specs.declared.routines.Progress.{Progress}
 use Rattle.tp_script.specs.declared.script.Opening.{Opening}
 use Rattle.tp_script.specs.declared.script.Opening.TheVariants as opening
-use Rattle.tp_script.specs.declared.words.Word.{Word}
-use Rattle.tp_script.specs.declared.words.Word.TheVariants as word
 use Rattle.tp_script.specs.Calls.{acts, begins_wait, call_of, calls_in}
 use Rattle.tp_script.specs.Scripts.{is_local}
 

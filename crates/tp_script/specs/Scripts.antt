@@ -2,22 +2,22 @@
 use Rattle.std.specs.Prelude.{◌≡◌, ℕ, ◌+◌, Bool, true, false, List, [], ◌∷◌, length, codes, bytes_eq, is_some, nat_eq, nat_lt, not, ◌&&◌, ◌⊎◌, if◌then◌else◌}
 use Rattle.std.specs.Map.{lookup}
 use Rattle.indexmap.specs.IndexMap.{insert_entry}
-use Rattle.tp_script.specs.declared.judge.Known.{Known}
-use Rattle.tp_script.specs.declared.fault.ScriptKind.{ScriptKind}
-use Rattle.tp_script.specs.declared.fault.ScriptKind.TheVariants.{Unclosed}
-use Rattle.tp_script.specs.declared.line.Line.{Line}
-use Rattle.tp_script.specs.declared.names.Named.{Named}
-use Rattle.tp_script.specs.declared.state.State.{State}
-use Rattle.tp_script.specs.declared.words.Sort.{Sort}
-use Rattle.tp_script.specs.declared.words.Sort.TheVariants as sort
-use Rattle.tp_script.specs.declared.words.Word.{Word}
-use Rattle.tp_script.specs.declared.words.Word.TheVariants as word
+use Rattle.script_lines.specs.declared.judge.Known.{Known}
+use Rattle.script_lines.specs.declared.fault.ScriptKind.{ScriptKind}
+use Rattle.script_lines.specs.declared.fault.ScriptKind.TheVariants.{Unclosed}
+use Rattle.script_lines.specs.declared.line.Line.{Line}
+use Rattle.script_lines.specs.declared.names.Named.{Named}
+use Rattle.script_lines.specs.declared.state.State.{State}
+use Rattle.script_lines.specs.declared.words.Sort.{Sort}
+use Rattle.script_lines.specs.declared.words.Sort.TheVariants as sort
+use Rattle.script_lines.specs.declared.words.Word.{Word}
+use Rattle.script_lines.specs.declared.words.Word.TheVariants as word
 use Rattle.tp_base.specs.declared.calls.Kind.{Kind}
 use Rattle.tp_base.specs.declared.calls.Kind.TheVariants as kind
-use Rattle.tp_script.specs.Names.{Names}
-use Rattle.tp_script.specs.Readings.{IsLineFault, IsLineRead}
-use Rattle.tp_script.specs.States.{first_state, is_inside, state_after}
-use Rattle.tp_script.specs.Texts.{Spot, is_blank, is_name, lines_of, words_from}
+use Rattle.script_lines.specs.Names.{Names}
+use Rattle.script_lines.specs.Readings.{IsLineFault, IsLineRead}
+use Rattle.script_lines.specs.States.{first_state, is_inside, state_after}
+use Rattle.script_lines.specs.Texts.{Spot, is_blank, is_name, lines_of, words_from}
 
 -- the words of a line
 abbrev pub words_of : List ℕ → List Spot

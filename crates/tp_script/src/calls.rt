@@ -5,8 +5,7 @@ ghost use Rattle.tp_base.specs.Ranges.{IsCallInRange, IsDueInRange, IsEnvironInR
 ghost use Rattle.tp_base.specs.Timers.{clock_end};
 ghost use Rattle.tp_script.specs.Calls.{IsOfPart, action_of_sort, acts, armed_by, begins_wait, call_of, calls_in, environ_by, id_of, kernel_of, kind_of_sort, level_of, local_number, lock_of_sort, maximum_of, number_at, object_at, pool_call, routine_by, small_of, ticks_of, units_of};
 
-use crate::line::{Line, Meaning};
-use crate::words::{Sort, Word};
+use script_lines::{Line, Meaning, Sort, Word};
 use tp_base::answers::ActionKind;
 use tp_base::calls::{CLOCK_END, Call, Environ, Kind, Lock};
 use tp_base::ids::{GroupId, KernelId, ObjectId, PoolId, RoutineId};

@@ -2,8 +2,8 @@
 //!
 //! A script declares pools, groups, kernel objects and objects, and says what its routines and clients do
 //! (docs/FORMATS.md). `parse_script` reads one, or tells the line, the column and the kind of its first fault.
-//! A `Script` is seen as the list of its lines, each of which is the record of what its words say. It is a
-//! `Routines`: `next` tells the call of a part that has come so far, and `after` takes note of its answer. A part
+//! A `Script` is seen as the list of its lines, each of which is the record of what its words say (script_lines).
+//! It is a `Routines`: `next` tells the call of a part that has come so far, and `after` takes note of its answer. A part
 //! is a client or a routine, and client 1 makes the declarations. No call but `parse_script` takes memory.
 //!
 //! ```text
@@ -14,28 +14,19 @@
 //! script.after(Part::Client(2), &mut at, Answer::Queued { first: 0, count: 0 });
 //! script.next(Part::Client(2), &at)               // None
 //! ```
-//!
-//! A word of a line is judged by itself: by the fields that are left, which a table of words says (`words`), by
-//! what the line says so far, and by the names that are known (`judge`). So a line has one reading and one fault.
 
 #![tactic(auto)]
 
 mod calls;
 mod fault;
-mod judge;
-mod line;
-mod names;
 mod parse;
-mod reading;
 mod routines;
 mod script;
-mod state;
-mod texts;
-mod words;
 
-pub use fault::{ScriptFault, ScriptKind};
+pub use fault::ScriptFault;
 pub use routines::{Part, Progress, Routines};
 pub use script::{
     Script, no_fault_in_a_script, no_line_begins_so, one_fault_a_text, one_script_a_text,
     parse_script,
 };
+pub use script_lines::ScriptKind;

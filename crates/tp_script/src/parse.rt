@@ -1,18 +1,15 @@
 //! Whole scripts.
 
 ghost use Rattle.std.specs.Prelude.{◌≡◌, ◌+◌, ◌≤◌, ◌<◌, ◌^◌, [], IfErr, IfOk, MatchResult, OnOk, length, vec_len};
+ghost use Rattle.script_lines.specs.Texts.{lines_of, words_from};
 ghost use Rattle.tp_script.specs.Answers.{IsAdded, IsLineFaultAt, IsScriptFault};
 ghost use Rattle.tp_script.specs.Scripts.{IsScript, is_local, known_after, named_by, routine_number, section_of, sort_made, sort_of_kind, with_routine, with_routine_behind, with_routine_name, with_routines};
-ghost use Rattle.tp_script.specs.Texts.{lines_of, words_from};
 
-use crate::fault::{ScriptFault, ScriptKind};
-use crate::judge::Known;
-use crate::line::{Line, Meaning};
-use crate::names::{Named, Table};
-use crate::reading::read_line;
-use crate::state::State;
-use crate::texts::{is_blank, is_name, next_line, next_word};
-use crate::words::{Sort, Word};
+use crate::fault::ScriptFault;
+use script_lines::{
+    Known, Line, Meaning, Named, ScriptKind, Sort, State, Table, Word, is_blank, is_name,
+    next_line, next_word, read_line,
+};
 use std::alloc::{AllocError, Global};
 use tp_base::calls::Kind;
 

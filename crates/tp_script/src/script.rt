@@ -2,13 +2,13 @@
 
 ghost use Rattle.std.specs.Prelude.{◌≡◌, ◌+◌, ◌<◌, ◌≤◌, ◌^◌, ◌++◌, ◌∷◌, [], IfOk, IfSome, ℕ, List, IfErr, OnOk, if◌then◌else◌, length, vec_len};
 ghost use Rattle.std.specs.Option.{option_copied};
-ghost use Rattle.tp_script.specs.declared.fault.ScriptKind.{ScriptKind};
-ghost use Rattle.tp_script.specs.declared.judge.Known.{Known};
-ghost use Rattle.tp_script.specs.declared.line.Line.{Line};
+ghost use Rattle.script_lines.specs.declared.fault.ScriptKind.{ScriptKind};
+ghost use Rattle.script_lines.specs.declared.judge.Known.{Known};
+ghost use Rattle.script_lines.specs.declared.line.Line.{Line};
+ghost use Rattle.script_lines.specs.Readings.{Goes, IsLineRead, Steps, Trail, first_trail};
+ghost use Rattle.script_lines.specs.Texts.{Spot};
 ghost use Rattle.tp_script.specs.Answers.{IsScriptFault, IsThat};
-ghost use Rattle.tp_script.specs.Readings.{Goes, IsLineRead, Steps, Trail, first_trail};
 ghost use Rattle.tp_script.specs.Scripts.{IsFaultIn, IsScript, is_local};
-ghost use Rattle.tp_script.specs.Texts.{Spot};
 ghost use Rattle.tp_base.specs.Ranges.{IsCallInRange};
 ghost use Rattle.tp_script.specs.Calls.{IsOfPart};
 ghost use Rattle.tp_script.specs.Machines.{HasFewClients, NeverWaitsAtFirst};
@@ -16,10 +16,9 @@ ghost use Rattle.tp_script.specs.Nexts.{acting, call_at, clients_of, is_end, is_
 
 use crate::calls::{acts, begins_wait, call_of, calls_in};
 use crate::fault::ScriptFault;
-use crate::line::Line;
 use crate::parse::{is_local, read_lines};
 use crate::routines::{Part, Progress, Routines};
-use crate::words::Word;
+use script_lines::{Line, Word};
 use std::alloc::{AllocError, Global};
 use std::marker::Model;
 use tp_base::answers::Answer;
@@ -42,7 +41,7 @@ pub struct Script {
 
 impl Model for Script {
     ghost use Rattle.std.specs.Prelude.{List};
-    ghost use Rattle.tp_script.specs.declared.line.Line.{Line};
+    ghost use Rattle.script_lines.specs.declared.line.Line.{Line};
 
     ghost Value = { List Line };
 

@@ -1,6 +1,6 @@
 use Rattle.std.proofs.Common.{◌≡◌, ◌+◌, ◌≤◌, length}
+use Rattle.script_lines.specs.Texts.{lines_of}
 use Rattle.tp_script.specs.Scripts.{with_routines}
-use Rattle.tp_script.specs.Texts.{lines_of}
 use Rattle.tp_script.proofs.parse.add_routines.Given as goal
 
 abbrev pub invariant-loop-text : goal.invariant-loop-text

@@ -1,8 +1,8 @@
 use Rattle.std.proofs.Common.{ℕ, List, [], refl, sym, subst, ◌∙◌, arith}
 use Rattle.std.proofs.lemmas.List.{append-nil}
-use Rattle.tp_script.specs.declared.line.Line.{Line}
+use Rattle.script_lines.specs.declared.line.Line.{Line}
+use Rattle.script_lines.specs.Texts.{lines_of}
 use Rattle.tp_script.specs.Scripts.{Faults, Reads, first_known}
-use Rattle.tp_script.specs.Texts.{lines_of}
 use Rattle.tp_script.proofs.Parsing.{one_more_fault, one_text}
 use Rattle.tp_script.proofs.parse.read_lines.Goals as goal
 

@@ -1,9 +1,9 @@
 use Rattle.std.proofs.Common.{ℕ, ◌+◌, ◌≤◌, List, ◌++◌, length, vec_len}
-use Rattle.tp_script.specs.declared.fault.ScriptKind.{ScriptKind}
-use Rattle.tp_script.specs.declared.judge.Known.{Known}
-use Rattle.tp_script.specs.declared.line.Line.{Line}
+use Rattle.script_lines.specs.declared.fault.ScriptKind.{ScriptKind}
+use Rattle.script_lines.specs.declared.judge.Known.{Known}
+use Rattle.script_lines.specs.declared.line.Line.{Line}
+use Rattle.script_lines.specs.Texts.{lines_of}
 use Rattle.tp_script.specs.Scripts.{Faults, Reads, first_known}
-use Rattle.tp_script.specs.Texts.{lines_of}
 use Rattle.tp_script.proofs.parse.read_lines.Given as goal
 
 -- where the texts that are left lead, behind the lines so far, all lead; and their fault is that of all

@@ -1,5 +1,5 @@
-use Rattle.tp_script.specs.Readings.{first_trail}
-use Rattle.tp_script.proofs.Unique.{no_way}
+use Rattle.script_lines.specs.Readings.{first_trail}
+use Rattle.script_lines.proofs.LineFacts.{no_way}
 use Rattle.tp_script.proofs.script.no_line_begins_so.Goals as goal
 
 pub returns : goal.returns

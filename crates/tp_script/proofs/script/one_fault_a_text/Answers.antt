@@ -1,5 +1,5 @@
+use Rattle.script_lines.specs.Texts.{lines_of}
 use Rattle.tp_script.specs.Scripts.{first_known}
-use Rattle.tp_script.specs.Texts.{lines_of}
 use Rattle.tp_script.proofs.Unique.{one_fault}
 use Rattle.tp_script.proofs.script.one_fault_a_text.Goals as goal
 

@@ -1,0 +1,5 @@
+pub mod HeadFacts
+pub mod LineFacts
+mod NameFacts
+mod TextFacts
+mod TokenFacts

@@ -1,0 +1,9 @@
+pub mod Known
+pub mod Lines
+pub mod Names
+pub mod Readings
+pub mod Seen
+pub mod Shapes
+pub mod States
+pub mod Texts
+pub mod Tokens

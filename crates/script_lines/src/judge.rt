@@ -1,0 +1,421 @@
+//! One word of a line: what it says in its field, or why it may not stand there.
+
+ghost use Rattle.std.specs.Prelude.{◌≡◌, ◌∷◌, ℕ, List, MatchOption, find};
+ghost use Rattle.script_lines.specs.declared.state.Place.{Place};
+ghost use Rattle.script_lines.specs.declared.words.Field.{Field};
+ghost use Rattle.script_lines.specs.declared.line.Token.{Token};
+ghost use Rattle.script_lines.specs.Known.{found_in, is_known, is_standing, within_section};
+ghost use Rattle.script_lines.specs.Tokens.{Fits, IsDueToken, IsNumberToken, armed_of, choice_of, fresh_kind, fresh_of, has_room, head_kind, is_at, is_head, is_option, is_pool_option, is_repeated, kind_of_field, may_stand, name_kind, name_of, numbered, routine_of, suits, token_of_word, word_at};
+
+use crate::fault::ScriptKind;
+use crate::line::{Form, Line, Meaning, Token, form_of};
+use crate::names::{Named, Table};
+use crate::state::{Place, State, limit_of};
+use crate::texts::is_name;
+use crate::words::{Class, Field, Sort, Tally, WORDS, Want, Word, class_of, word_text};
+use line_grammar::numbers::{read_number, read_signed};
+use tp_base::calls::{Kind, Priority};
+
+/// What is known of a script so far.
+#[derive(Drop)]
+pub struct Known<'a> {
+    /// The names that were declared so far.
+    pub names: Table<'a>,
+    /// The names of all routines of the script.
+    pub routines: Table<'a>,
+    pub state: State,
+}
+
+/// What a word of this field says, or None where it may not stand there.
+pub fn judge(known: &Known<'_>, field: Field, line: Line, word: &[u8]) -> Option<Token>
+    ensures { MatchOption result
+        ((token : Token) → Fits known.now field line word.now token → ⊥)
+        (λ token. Fits known.now field line word.now token) }
+{
+    match form_of(field, line) {
+        Form::Choice => choice_of(known.state, field, word),
+        Form::Number { least, most } => read_within(word, least, most),
+        Form::Due => read_due(word),
+        Form::Fresh(tally) => fresh_of(known, tally, word),
+        Form::Name(want) => name_of(known, want, word),
+        Form::Armed => armed_of(known, word),
+        Form::Routine => routine_of(known, word),
+    }
+}
+
+/// Why a word may not stand in this field, where it may not.
+pub fn kind_of_field(known: &Known<'_>, field: Field, word: &[u8]) -> ScriptKind
+    ensures { result ≡ kind_of_field known.now field word.now }
+{
+    match field {
+        Field::Head => head_kind(known.state, word),
+        Field::Fresh(tally) => fresh_kind(known, tally, word),
+        Field::Name(_) | Field::Armed | Field::Routine => name_kind(known, word),
+        _ => ScriptKind::Unexpected,
+    }
+}
+
+// A word that may begin a line here, and may not, is one more client.
+fn head_kind(state: State, word: &[u8]) -> ScriptKind
+    ensures { result ≡ head_kind state word.now }
+{
+    match word_at(state.place, Field::Head, word) {
+        Some(_) => ScriptKind::TooMany,
+        None => ScriptKind::Unexpected,
+    }
+}
+
+fn fresh_kind(known: &Known<'_>, tally: Tally, word: &[u8]) -> ScriptKind
+    ensures { result ≡ fresh_kind known.now tally word.now }
+{
+    if !is_name(word) {
+        ScriptKind::Unexpected
+    } else if is_standing(known, tally, word) {
+        ScriptKind::NameTwice
+    } else {
+        ScriptKind::TooMany
+    }
+}
+
+fn name_kind(known: &Known<'_>, word: &[u8]) -> ScriptKind
+    ensures { result ≡ name_kind known.now word.now }
+{
+    if !is_name(word) {
+        ScriptKind::Unexpected
+    } else if is_known(known, word) {
+        ScriptKind::WrongName
+    } else {
+        ScriptKind::UnknownName
+    }
+}
+
+// The word of the table that may stand in the field.
+fn choice_of(state: State, field: Field, word: &[u8]) -> Option<Token>
+    ensures { result ≡ choice_of state field word.now }
+{
+    let found = word_at(state.place, field, word)?;
+    if has_room(state, found) {
+        Some(token_of_word(field, found))
+    } else {
+        None
+    }
+}
+
+fn word_at(place: Place, field: Field, word: &[u8]) -> Option<Word>
+    ensures { result ≡ word_at place field word.now }
+{
+    first_at(place, field, word, words_like(word))
+}
+
+fn first_at(place: Place, field: Field, word: &[u8], words: &[Word]) -> Option<Word>
+    ensures { result ≡ find (is_at place field word.now) words.now }
+{
+    words
+        .iter()
+        .copied()
+        .find(|known| is_at(place, field, word, *known))
+}
+
+// The words of the table among which a word is, if it is one.
+fn words_like(word: &[u8]) -> &'static [Word]
+    ensures { (place : Place) (field : Field) → find (is_at place field word.now) result.now ≡ word_at place field word.now }
+{
+    match word {
+        [letter, ..] => words_with(*letter),
+        [] => &WORDS,
+    }
+}
+
+// The words of the table that begin with a letter, in their order there; or all of them.
+fn words_with(letter: u8) -> &'static [Word]
+    ensures { (place : Place) (field : Field) (rest : List ℕ) → find (is_at place field (letter ∷ rest)) result.now ≡ word_at place field (letter ∷ rest) }
+{
+    match letter {
+        b'a' => &[Word::Acquire, Word::Advance, Word::Reset(false)],
+        b'c' => &[
+            Word::Client,
+            Word::CancelIo,
+            Word::CompleteIo,
+            Word::Close,
+            Word::CloseMembers,
+            Word::CloseGroup,
+            Word::ClosePool,
+            Word::Context,
+            Word::CancelBy,
+            Word::How(true),
+            Word::Signal(false),
+        ],
+        b'd' => &[Word::Done, Word::Disassociate],
+        b'g' => &[Word::Group, Word::InGroup],
+        b'i' => &[
+            Word::Object(Kind::Io),
+            Word::IsTimerSet,
+            Word::IssueIo,
+            Word::In,
+            Word::Kind(Kind::Io),
+        ],
+        b'l' => &[Word::Let, Word::Long, Word::Priority(Priority::Low)],
+        b'r' => &[
+            Word::Routine,
+            Word::ResetEvent,
+            Word::ReleaseSemaphore,
+            Word::Release,
+        ],
+        b's' => &[
+            Word::Semaphore,
+            Word::Section,
+            Word::Submit,
+            Word::Simple,
+            Word::SetTimer,
+            Word::SetTimerEx,
+            Word::SetWait,
+            Word::StartIo,
+            Word::SetMaximum,
+            Word::SetMinimum,
+            Word::SetEvent,
+            Word::Signal(true),
+        ],
+        b't' => &[
+            Word::Object(Kind::Timer),
+            Word::Times,
+            Word::Kind(Kind::Timer),
+        ],
+        b'w' => &[
+            Word::Object(Kind::Work),
+            Word::Object(Kind::Wait),
+            Word::BeginWait,
+            Word::Kind(Kind::Work),
+            Word::Kind(Kind::Wait),
+        ],
+        _ => &WORDS,
+    }
+}
+
+fn is_at(place: Place, field: Field, text: &[u8], word: Word) -> bool
+    ensures { result ≡ is_at place field text.now word }
+{
+    word_text(word) == text && may_stand(place, field, class_of(word))
+}
+
+// Whether there may be one more of what the word begins.
+fn has_room(state: State, word: Word) -> bool
+    ensures { result ≡ has_room state word }
+{
+    match word {
+        Word::Client => state.clients < 15,
+        _ => true,
+    }
+}
+
+fn token_of_word(field: Field, word: Word) -> Token
+    ensures { result ≡ token_of_word field word }
+{
+    match field {
+        Field::Head | Field::Repeated => Token::Head(word),
+        _ => Token::Word(word),
+    }
+}
+
+// Whether words of the class may stand in the field.
+fn may_stand(place: Place, field: Field, class: Class) -> bool
+    ensures { result ≡ may_stand place field class }
+{
+    match field {
+        Field::Head => is_head(place, class),
+        Field::Repeated => is_repeated(place, class),
+        Field::Options(first) => is_option(first, class),
+        Field::CancelOption => matches!(class, Class::Cancel),
+        Field::PoolOptions(first) => is_pool_option(first, class),
+        Field::Kind => matches!(class, Class::Kind),
+        Field::Priority => matches!(class, Class::Priority),
+        Field::How => matches!(class, Class::How),
+        Field::Reset => matches!(class, Class::Reset),
+        Field::Signal => matches!(class, Class::Signal),
+        _ => false,
+    }
+}
+
+// Whether words of the class may begin a line.
+fn is_head(place: Place, class: Class) -> bool
+    ensures { result ≡ is_head place class }
+{
+    match class {
+        Class::Declaration => place.is_declaring(),
+        Class::Routine => place.is_before_clients(),
+        Class::Client => place.is_outside(),
+        Class::Done | Class::Operation | Class::Making | Class::Times => place.is_inside(),
+        Class::Own => place.is_in_routine(),
+        _ => false,
+    }
+}
+
+// Whether words of the class may be repeated.
+fn is_repeated(place: Place, class: Class) -> bool
+    ensures { result ≡ is_repeated place class }
+{
+    match class {
+        Class::Operation => place.is_inside(),
+        Class::Own => place.is_in_routine(),
+        _ => false,
+    }
+}
+
+fn is_option(first: u8, class: Class) -> bool
+    ensures { result ≡ is_option first class }
+{
+    match class {
+        Class::Option(order) => first <= order,
+        _ => false,
+    }
+}
+
+fn is_pool_option(first: u8, class: Class) -> bool
+    ensures { result ≡ is_pool_option first class }
+{
+    match class {
+        Class::PoolOption(order) => first <= order,
+        _ => false,
+    }
+}
+
+fn read_within(word: &[u8], least: u64, most: u64) -> Option<Token>
+    ensures { MatchOption result
+        ((token : Token) → IsNumberToken least most word.now token → ⊥)
+        (λ token. IsNumberToken least most word.now token) }
+{
+    let Ok((number, size)) = read_number(word, 0, most) else {
+        return None;
+    };
+    if size != word.len() {
+        return None;
+    }
+    if number < least {
+        return None;
+    }
+    Some(Token::Number(number))
+}
+
+fn read_due(word: &[u8]) -> Option<Token>
+    ensures { MatchOption result
+        ((token : Token) → IsDueToken word.now token → ⊥)
+        (λ token. IsDueToken word.now token) }
+{
+    if word == b"none".as_slice() {
+        return Some(Token::Due(None));
+    }
+    let Ok((due, size)) = read_signed(word) else {
+        return None;
+    };
+    if size != word.len() {
+        return None;
+    }
+    Some(Token::Due(Some(due)))
+}
+
+// A new name, and the number of what it stands for.
+fn fresh_of(known: &Known<'_>, tally: Tally, word: &[u8]) -> Option<Token>
+    ensures { result ≡ fresh_of known.now tally word.now }
+{
+    if !is_name(word) {
+        return None;
+    }
+    if is_standing(known, tally, word) {
+        return None;
+    }
+    numbered(known.state.count_of(tally), limit_of(tally))
+}
+
+fn numbered(count: u16, limit: u16) -> Option<Token>
+    ensures { result ≡ numbered count limit }
+{
+    if count < limit {
+        Some(Token::Fresh(count + 1))
+    } else {
+        None
+    }
+}
+
+// Whether a new name of this tally would stand twice.
+fn is_standing(known: &Known<'_>, tally: Tally, word: &[u8]) -> bool
+    ensures { result ≡ is_standing known.now tally word.now }
+{
+    match tally {
+        Tally::Locals => found_in(known, word).is_some(),
+        _ => known.names.find(word).is_some(),
+    }
+}
+
+// Whether the word is a name here, or that of a routine.
+fn is_known(known: &Known<'_>, word: &[u8]) -> bool
+    ensures { result ≡ is_known known.now word.now }
+{
+    found_in(known, word).is_some() || known.routines.find(word).is_some()
+}
+
+// What the word stands for here.
+fn found_in(known: &Known<'_>, word: &[u8]) -> Option<Meaning>
+    ensures { result ≡ found_in known.now word.now }
+{
+    within_section(known.names.find(word)?, known.state.section)
+}
+
+fn within_section(named: Named, section: u32) -> Option<Meaning>
+    ensures { result ≡ within_section named section }
+{
+    if named.section == 0 || named.section == section {
+        Some(named.meaning)
+    } else {
+        None
+    }
+}
+
+fn name_of(known: &Known<'_>, want: Want, word: &[u8]) -> Option<Token>
+    ensures { result ≡ name_of known.now want word.now }
+{
+    let meaning = found_in(known, word)?;
+    if suits(want, meaning.sort) {
+        Some(Token::Name(meaning))
+    } else {
+        None
+    }
+}
+
+fn armed_of(known: &Known<'_>, word: &[u8]) -> Option<Token>
+    ensures { result ≡ armed_of known.now word.now }
+{
+    if word == b"none".as_slice() {
+        Some(Token::NoName)
+    } else {
+        name_of(known, Want::Kernel, word)
+    }
+}
+
+fn routine_of(known: &Known<'_>, word: &[u8]) -> Option<Token>
+    ensures { result ≡ routine_of known.now word.now }
+{
+    let named = known.routines.find(word)?;
+    Some(Token::Routine(named.meaning.number))
+}
+
+// Whether what the name stands for is what is wanted.
+fn suits(want: Want, sort: Sort) -> bool
+    ensures { result ≡ suits want sort }
+{
+    match want {
+        Want::Pool => matches!(sort, Sort::Pool),
+        Want::Group => matches!(sort, Sort::Group),
+        Want::Event => matches!(sort, Sort::Event),
+        Want::Semaphore => matches!(sort, Sort::Semaphore),
+        Want::Lock => matches!(sort, Sort::Mutex | Sort::Section),
+        Want::Kernel => matches!(
+            sort,
+            Sort::Event | Sort::Semaphore | Sort::Mutex | Sort::Section
+        ),
+        Want::Work => matches!(sort, Sort::Work),
+        Want::Timer => matches!(sort, Sort::Timer),
+        Want::Wait => matches!(sort, Sort::Wait),
+        Want::Io => matches!(sort, Sort::Io),
+        Want::Object => matches!(sort, Sort::Work | Sort::Timer | Sort::Wait | Sort::Io),
+        Want::Operation => matches!(sort, Sort::Operation),
+    }
+}

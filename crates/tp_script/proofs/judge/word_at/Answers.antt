@@ -1,5 +1,0 @@
-use Rattle.std.proofs.Common.{◌∙◌}
-use Rattle.tp_script.proofs.judge.word_at.Goals as goal
-
-pub returns : goal.returns
-returns c = c.first_at.ensures ∙ c.words_like.ensures c.args.place c.args.field

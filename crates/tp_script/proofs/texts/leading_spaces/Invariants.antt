@@ -1,6 +1,0 @@
-use Rattle.std.proofs.Common.{◌≡◌, ℕ, ◌+◌, drop}
-use Rattle.tp_script.specs.Texts.{words_from}
-use Rattle.tp_script.proofs.texts.leading_spaces.Given as goal
-
-abbrev pub invariant-loop-index : goal.invariant-loop-index
-invariant-loop-index l = (column : ℕ) → words_from (column + l.index) (drop l.index l.text) ≡ words_from column l.text

@@ -1,6 +1,0 @@
--- How far a line was read, as the code keeps it.
-use Rattle.tp_script.specs.declared.reading.Trail.{Trail as Kept}
-use Rattle.tp_script.specs.Readings.{Trail}
-
-abbrev pub seen : Kept → Trail
-seen kept = record { left = kept.left.now; line = kept.line; name = kept.name.now }
