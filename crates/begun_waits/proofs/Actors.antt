@@ -1,5 +1,6 @@
 -- The places of actors, and what is kept by them as waits begin, change and end.
-use Rattle.std.proofs.Common.{◌≡◌, ◌≢◌, ℕ, ◌+◌, ◌-◌, ◌<◌, ◌≤◌, Bool, true, false, cond, not, ◌&&◌, ◌||◌, List, [], ◌∷◌, ◌++◌, length, map, nat_le, nat_lt, get_or, slice_set, Option, Some, None, is_some, refl, sym, ap, ◌∙◌, subst, arith, find, option_map, get_or-set_same, get_or-set_other, ltb-true, ltb-false}
+use Rattle.std.proofs.Common.{◌≡◌, ◌≢◌, ℕ, ◌+◌, ◌-◌, ◌<◌, ◌≤◌, Bool, true, false, cond, not, ◌&&◌, ◌||◌, List, [], ◌∷◌, ◌++◌, length, map}
+use Rattle.std.proofs.Common.{nat_le, nat_lt, get_or, slice_set, Option, Some, None, is_some, refl, sym, ap, ◌∙◌, subst, arith, find, option_map, get_or-set_same, get_or-set_other, ltb-true, ltb-false}
 use Rattle.std.specs.List.{AllByRecursion, list_any}
 use Rattle.std.proofs.lemmas.Bool.{leb-true, le-leb, and_parts, false≢true}
 use Rattle.tp_base.specs.declared.ids.Who.{Who}

@@ -3,7 +3,8 @@
 
 ghost use Rattle.std.specs.Prelude.{◌≡◌, ◌+◌, ◌<◌, ◌^◌};
 ghost use Rattle.tp_base.specs.Actors.{is_same_actor as same_actor};
-ghost use Rattle.tp_base.specs.Kernels.{count_of, is_event as event, is_lock as lock_of, is_owner as owner_is, is_semaphore as semaphore, is_signalled as signalled_is, lock_made as made_lock, may_take as takes, new_lock, owner_left as left_owner, owns as owned_by, passes_by, state_after as after_change, taken as after_release, taken_by as after_taking, takings_of};
+ghost use Rattle.tp_base.specs.Kernels.{count_of, is_event as event, is_lock as lock_of, is_owner as owner_is, is_semaphore as semaphore, is_signalled as signalled_is, lock_made as made_lock, may_take as takes};
+ghost use Rattle.tp_base.specs.Kernels.{new_lock, owner_left as left_owner, owns as owned_by, passes_by, state_after as after_change, taken as after_release, taken_by as after_taking, takings_of};
 ghost use Rattle.kernel_events.specs.Kernels.{Suits};
 
 use tp_base::calls::Lock;

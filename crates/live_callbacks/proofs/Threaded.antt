@@ -1,5 +1,6 @@
 -- How the lists of waiters are threaded, and what they show as keys come and go.
-use Rattle.std.proofs.Common.{◌≡◌, ◌≢◌, ◌==◌, ◌||◌, ◌+◌, ◌-◌, ◌*◌, ◌/◌, ℕ, zero, suc, ◌<◌, ◌≤◌, ◌^◌, Bool, true, false, not, nat_lt, List, [], ◌∷◌, ◌++◌, Some, filter, get_or, if◌then◌else◌, length, map, option_map, replicate, slice_get, slice_index, slice_set, refl, sym, ap, ap₂, ◌∙◌, arith, ⊎_elim}
+use Rattle.std.proofs.Common.{◌≡◌, ◌≢◌, ◌==◌, ◌||◌, ◌+◌, ◌-◌, ◌*◌, ◌/◌, ℕ, zero, suc, ◌<◌, ◌≤◌, ◌^◌, Bool, true, false, not, nat_lt, List}
+use Rattle.std.proofs.Common.{[], ◌∷◌, ◌++◌, Some, filter, get_or, if◌then◌else◌, length, map, option_map, replicate, slice_get, slice_index, slice_set, refl, sym, ap, ap₂, ◌∙◌, arith, ⊎_elim}
 use Rattle.std.specs.List.{AllByRecursion}
 use Rattle.std.proofs.lemmas.Bool.{cases_eq, cases_lt, eq-eqb, eqb-true, false≢true, lt-ltb, ne_eqb}
 use Rattle.std.proofs.lemmas.List.{ext_get_or, get_or_past, get_or-set_same, get_or-set_other, length-map, length-set, map-append}

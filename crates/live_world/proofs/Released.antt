@@ -1,6 +1,7 @@
 -- How many waits a kernel object releases, and that it leaves alone what is armed on others. So the actions of a return
 -- release as many together as each of them would by itself.
-use Rattle.std.proofs.Common.{◌≡◌, ◌≢◌, ℕ, zero, suc, ◌+◌, ◌-◌, ◌≤◌, ◌==◌, min, Bool, true, false, cond, not, List, [], ◌∷◌, length, slice_get, slice_set, option_map, Option, Some, None, refl, sym, ap, ap₂, ◌∙◌, subst, arith, filter, find, eq-eqb, eqb-true, false-eqb, ne_eqb, ltb-false, ltb-true, length-append}
+use Rattle.std.proofs.Common.{◌≡◌, ◌≢◌, ℕ, zero, suc, ◌+◌, ◌-◌, ◌≤◌, ◌==◌, min, Bool, true, false, cond, not, List, [], ◌∷◌, length, slice_get}
+use Rattle.std.proofs.Common.{slice_set, option_map, Option, Some, None, refl, sym, ap, ap₂, ◌∙◌, subst, arith, filter, find, eq-eqb, eqb-true, false-eqb, ne_eqb, ltb-false, ltb-true, length-append}
 use Rattle.std.specs.Option.{option_map_or}
 use Rattle.std.proofs.lemmas.List.{length-map}
 use Rattle.tp_base.specs.declared.ids.Who.{Who}
