@@ -2,7 +2,7 @@
 
 use crate::answers::{ActionKind, Answer, Look, Refusal, SlotWord};
 use crate::ids::{GroupId, KernelId, ObjectId, PoolId, RoutineId, Who};
-use crate::rows::{Action, CallbackRow, KernelState, ObjectRow, WaitTarget};
+use crate::rows::{Action, CallbackRow, KernelState, ObjectRow};
 
 /// A worker that is attached to a pool and runs nothing.
 #[derive(Clone, Copy)]
@@ -63,6 +63,15 @@ pub struct ActionWords {
     pub mutex: SlotWord,
     pub semaphore: SlotWord,
     pub event: SlotWord,
+}
+
+/// What an actor may begin to wait for. A wait for a group begins with the group's close instead.
+#[derive(Clone, Copy)]
+pub enum Awaited {
+    /// The callbacks of an object.
+    Object(ObjectId),
+    /// A kernel object.
+    Kernel(KernelId),
 }
 
 /// How a begun wait ends.
@@ -204,7 +213,7 @@ pub enum Change {
     /// is cancelled first. A wait for a kernel object covers nothing.
     BeginWait {
         who: Who,
-        target: WaitTarget,
+        awaited: Awaited,
         cancel: bool,
     },
     /// The members of a group are released, and an actor begins a wait for the group, which covers

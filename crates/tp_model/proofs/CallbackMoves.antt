@@ -26,7 +26,7 @@ use Rattle.tp_model.specs.Sources.{Job, firing, sources_of, rows_of}
 use Rattle.tp_model.specs.World.{World, unattached}
 use Rattle.tp_model.specs.Counts.{is_expected, is_pending, numbered}
 use Rattle.tp_model.specs.Changes.{returned, change_pool, pool_after, with_pool, marked, changed, replaced, loosened, release_object, end_wait}
-use Rattle.tp_model.specs.Waits.{is_cancelled_by}
+use Rattle.tp_model.specs.Waits.{target_of, is_cancelled_by}
 use Rattle.tp_model.specs.Support.Sound.{IsSound, is_wait_at, may_be_armed, count_armed, is_standing}
 use Rattle.tp_model.specs.Support.Allowed.{IsAllowed, IsMadeBy, Runs, MayMark}
 use Rattle.tp_model.specs.Laws.Entries.{made_by, queued_new, started_by, Sets, sets_by, set_on, simple_by, is_for_group}
@@ -281,9 +281,10 @@ module _ (next_number : ℕ) (w : World) (entry : Entry) where
         homes = homes_rows w.objects first jobs made.jobs;
         simples = unsimple (ap (λ (t : Told). t.simple) tells) (rows_of w.objects first jobs);
       }
-  change_moves (change.BeginWait who target cancel) s a by tells =
-      unmade (changed w (change.BeginWait who target cancel)) (ap (λ (t : Told). t.made) tells) (ap (λ (t : Told). t.queued) tells) (same_armed (changed w (change.BeginWait who target cancel)) (ap (λ (t : Told). t.sets) tells) refl)
-      (Cancel (record { test = is_cancelled_by target cancel; tells = ap (λ (t : Told). t.deed) tells; waits = cancelled_pending target cancel; callbacks = refl; workers = refl }))
+  change_moves (change.BeginWait who awaited cancel) s a by tells =
+      let after : World = changed w (change.BeginWait who awaited cancel) in
+      unmade after (ap (λ (t : Told). t.made) tells) (ap (λ (t : Told). t.queued) tells) (same_armed after (ap (λ (t : Told). t.sets) tells) refl)
+      (Cancel (record { test = is_cancelled_by (target_of awaited) cancel; tells = ap (λ (t : Told). t.deed) tells; waits = cancelled_pending (target_of awaited) cancel; callbacks = refl; workers = refl }))
   change_moves change.CreateGroup s a by tells = still (changed w change.CreateGroup) tells refl refl refl
   change_moves (change.CloseGroup group) s a by tells = still (changed w (change.CloseGroup group)) tells refl refl refl
   change_moves (change.BeginClose who group cancel context notices) s a by tells =

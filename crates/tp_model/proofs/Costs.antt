@@ -13,6 +13,7 @@ use Rattle.tp_base.specs.declared.plans.PoolChange.{PoolChange}
 use Rattle.tp_base.specs.declared.ids.Who.{Who}
 use Rattle.tp_base.specs.declared.rows.PoolRow.{PoolRow}
 use Rattle.tp_base.specs.declared.rows.ObjectRow.{ObjectRow}
+use Rattle.tp_base.specs.declared.plans.Awaited.{Awaited}
 use Rattle.tp_base.specs.declared.rows.WaitTarget.{WaitTarget}
 use Rattle.tp_base.specs.declared.rows.Status.{Status}
 use Rattle.tp_base.specs.declared.rows.Status.TheVariants.{Running}
@@ -22,7 +23,7 @@ use Rattle.tp_base.specs.declared.rows.ClientRow.{ClientRow}
 use Rattle.std.specs.List.{list_any}
 use Rattle.std.proofs.lemmas.List.Sums.{sum_by-cons}
 use Rattle.tp_base.specs.Actors.{is_same_actor}
-use Rattle.tp_model.specs.Waits.{is_cancelled_by, cancel_where, wait_of}
+use Rattle.tp_model.specs.Waits.{target_of, is_cancelled_by, cancel_where, wait_of}
 use Rattle.tp_base.specs.declared.ids.ObjectId.{ObjectId}
 use Rattle.tp_model.specs.Sources.{firing, sources_of}
 use Rattle.tp_model.specs.World.{World, BegunWait, unattached, unfinished}
@@ -164,8 +165,9 @@ owed_begun w v test b only callbacks workers clients given =
       given,
     )
 
-owed_begin_wait : (w : World) (who : Who) (target : WaitTarget) (cancel : Bool) → owed (changed w (change.BeginWait who target cancel)) ≡ owed w + 1
-owed_begin_wait w who target cancel =
+owed_begin_wait : (w : World) (who : Who) (awaited : Awaited) (cancel : Bool) → owed (changed w (change.BeginWait who awaited cancel)) ≡ owed w + 1
+owed_begin_wait w who awaited cancel =
+    let target : WaitTarget = target_of awaited in
     let test : CallbackRow → Bool = is_cancelled_by target cancel in
     omega (arith, owed_begun w w test (new_wait who target cancel (cancel_where test w.callbacks)) (cancelled_pending target cancel) refl refl refl refl)
 
@@ -296,7 +298,7 @@ paid next_number w (change.Return by words first count) s a =
       ap length (running_appended (replaced (returned by.callback) w.callbacks) w.objects first (returning w words (slots_of by.callback.status)).jobs),
       owed_returned next_number w by.worker (record { pool = Some by.pool; callback = Some by.callback.number }) by.callback s a.runs.stands a.runs.found (ap is_running a.runs.running),
     )
-paid next_number w (change.BeginWait who target cancel) s a = omega (arith, owed_begin_wait w who target cancel)
+paid next_number w (change.BeginWait who awaited cancel) s a = omega (arith, owed_begin_wait w who awaited cancel)
 paid next_number w change.CreateGroup s a = omega arith
 paid next_number w (change.CloseGroup group) s a = omega arith
 paid next_number w (change.BeginClose who group cancel context notices) s a = omega (arith, owed_begin_close w who group cancel context notices, a.counted)

@@ -32,7 +32,7 @@ use Rattle.tp_model.specs.Changes.{with_new_pool, with_object, with_worker, with
 use Rattle.tp_base.specs.declared.plans.WaitEnd.{WaitEnd}
 use Rattle.tp_base.specs.declared.plans.WaitEnd.TheVariants.{Free, Exhausted, Stalled}
 use Rattle.tp_model.specs.Actions.{slots_of, returning}
-use Rattle.tp_model.specs.Waits.{is_of, is_held_for, is_outstanding_for, count_outstanding, is_cancelled_by, cancelled, cancel_where, is_object_target, is_covered_by, covered_of, wait_of}
+use Rattle.tp_model.specs.Waits.{target_of, is_of, is_held_for, is_outstanding_for, count_outstanding, is_cancelled_by, cancelled, cancel_where, is_object_target, is_covered_by, covered_of, wait_of}
 use Rattle.tp_model.specs.Support.Sound.{IsSound, IsWorkerSound, AreWorkersSound, RunsOn, IsRising, IsCallbackSound, is_left_of, is_standing}
 use Rattle.tp_model.specs.Support.Allowed.{IsAllowed}
 use Rattle.tp_model.specs.Support.Remembered.{lives, forget}
@@ -287,7 +287,8 @@ changed_forget next_number w (change.Return by words first count) s a =
     as_live (record (with_worker w by.worker (record { pool = Some by.pool; callback = None })) { settings = f.sources.settings; armings = f.sources.armings; kernels = f.sources.kernels; now = f.sources.now })
     (replaced r (filter lives w.callbacks) ++ rows) (replaced r w.callbacks ++ rows)
     (filter-append lives (replaced r (filter lives w.callbacks)) rows ∙ ap (λ t. t ++ filter lives rows) same ∙ sym (filter-append lives (replaced r w.callbacks) rows))
-changed_forget next_number w (change.BeginWait who target cancel) s a =
+changed_forget next_number w (change.BeginWait who awaited cancel) s a =
+    let target : WaitTarget = target_of awaited in
     ap₂ (λ cs covered. record w { callbacks = cs; waits = w.waits ++ (record { actor = who; target = target; covered = covered; notices = []; cleanup = 0 }) ∷ [] })
     (cancel_forget lives (is_cancelled_by target cancel) (cancelled_pending target cancel) (λ c e. e) w.callbacks) (covered_forget w target cancel)
 changed_forget next_number w (change.BeginClose who group cancel context notices) s a =

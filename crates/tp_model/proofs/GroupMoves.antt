@@ -7,6 +7,8 @@ use Rattle.tp_base.specs.declared.plans.Change.TheVariants as change
 use Rattle.tp_base.specs.declared.answers.Entry.{Entry}
 use Rattle.tp_base.specs.declared.ids.Who.{Who}
 use Rattle.tp_base.specs.declared.rows.ObjectRow.{ObjectRow}
+use Rattle.tp_base.specs.declared.plans.Awaited.{Awaited}
+use Rattle.tp_base.specs.declared.plans.Awaited.TheVariants as awaited
 use Rattle.tp_base.specs.declared.rows.WaitTarget.{WaitTarget}
 use Rattle.tp_base.specs.declared.rows.WaitTarget.TheVariants.{Object, Group, Kernel}
 use Rattle.tp_base.specs.declared.rows.PoolRow.{PoolRow}
@@ -28,6 +30,11 @@ use Rattle.tp_model.specs.Laws.Notices.{is_close_of}
 use Rattle.tp_model.proofs.Due.{due_made, due_closed, due_cleared}
 use Rattle.tp_model.proofs.ObjectMoves.{appended_own}
 use Rattle.tp_model.proofs.SoundObjects.{numbered_append}
+
+-- a BeginWait is for no group
+of_no_group : (t : Awaited) (cancel : Bool) (x : Begins) → begins_of t cancel ≡ Some x → is_group_target x.target ≡ false
+of_no_group (awaited.Object object) cancel x e = let is : record { target = Object object; cancel = cancel; cleanup = 0 } ≡ x = cc in ap (λ (y : Begins). is_group_target y.target) (sym is)
+of_no_group (awaited.Kernel kernel) cancel x e = absurd cc
 
 module _ (next_number : ℕ) (w : World) (entry : Entry) where
   unclosed_due : (b : Option Begins) → ((x : Begins) → b ≡ Some x → is_group_target x.target ≡ false) → (group : ℕ) (due : List Creation) → without_released group b due ≡ due
@@ -163,13 +170,8 @@ module _ (next_number : ℕ) (w : World) (entry : Entry) where
   change_groups (change.CreateObject row) a tells = made_groups row a.unreleased tells
   change_groups (change.ReleaseObject object) a tells = closed_groups object (numbered w.objects object.0) refl a tells
   change_groups (change.BeginClose who group cancel context notices) a tells = cleared_groups who group cancel context notices tells
-  change_groups (change.BeginWait who target cancel) a tells =
-      same_groups (changed w (change.BeginWait who target cancel)) refl (ap (λ (t : Told). t.created) tells) (ap (λ (t : Told). t.closed) tells) (λ x e. of_target target x (sym (ap (λ (t : Told). t.begun) tells) ∙ e))
-    where
-      of_target : (t : WaitTarget) (x : Begins) → begins_of t cancel ≡ Some x → is_group_target x.target ≡ false
-      of_target (Object object) x e = let is : record { target = Object object; cancel = cancel; cleanup = 0 } ≡ x = cc in ap (λ (y : Begins). is_group_target y.target) (sym is)
-      of_target (Group group) x e = absurd cc
-      of_target (Kernel kernel) x e = absurd cc
+  change_groups (change.BeginWait who awaited cancel) a tells =
+      same_groups (changed w (change.BeginWait who awaited cancel)) refl (ap (λ (t : Told). t.created) tells) (ap (λ (t : Told). t.closed) tells) (λ x e. of_no_group awaited cancel x (sym (ap (λ (t : Told). t.begun) tells) ∙ e))
   change_groups (change.ChangePool pool how) a tells = of_row (slice_get w.pools pool.0)
     where
       of_row : (row : Option PoolRow) → GroupsMove w entry (change_pool w pool.0 how row)

@@ -12,7 +12,7 @@ use Rattle.tp_model.specs.Sources.{Job, firing, sources_of, rows_of}
 use Rattle.tp_model.specs.Changes.{change_pool, replaced, taken, marked, operated, returned, changed, release_object}
 use Rattle.tp_model.specs.Actions.{slots_of, returning}
 use Rattle.tp_model.specs.Counts.{numbered}
-use Rattle.tp_model.specs.Waits.{is_cancelled_by}
+use Rattle.tp_model.specs.Waits.{target_of, is_cancelled_by}
 use Rattle.tp_model.specs.Support.Allowed.{IsAllowed, news}
 use Rattle.tp_model.proofs.Firing.{length_rows}
 use Rattle.tp_model.proofs.Cancelling.{length_cancelled}
@@ -47,7 +47,7 @@ grows next_number w (change.Mark by mark) a = omega (arith, length_replaced (mar
 grows next_number w (change.Return by words first count) a =
     let jobs : List Job = (returning w words (slots_of by.callback.status)).jobs in
     omega (arith, length-append (replaced (returned by.callback) w.callbacks) (rows_of w.objects first jobs), length_rows w.objects first jobs, length_replaced (returned by.callback) w.callbacks, a.counted)
-grows next_number w (change.BeginWait who target cancel) a = omega (arith, length_cancelled (is_cancelled_by target cancel) w.callbacks)
+grows next_number w (change.BeginWait who awaited cancel) a = omega (arith, length_cancelled (is_cancelled_by (target_of awaited) cancel) w.callbacks)
 grows next_number w change.CreateGroup a = omega arith
 grows next_number w (change.CloseGroup group) a = omega arith
 grows next_number w (change.BeginClose who group cancel context notices) a = omega (arith, length_cancelled (is_cancelled_by (Group group) cancel) w.callbacks)

@@ -28,7 +28,7 @@ use Rattle.tp_model.specs.Support.Allowed.{IsAllowed, IsMadeBy}
 use Rattle.tp_model.specs.Support.Sound.{IsSound, IsWorkerSound}
 use Rattle.tp_model.specs.Support.Standing.{Moved, client_stage, moved_stage, moved_wait, routine_at, stage_at, stage_in, worker_stage}
 use Rattle.tp_model.specs.Support.Told.{told_by_change}
-use Rattle.tp_model.specs.Waits.{cancel_where, cancelled, is_cancelled_by}
+use Rattle.tp_model.specs.Waits.{target_of, cancel_where, cancelled, is_cancelled_by}
 use Rattle.tp_model.specs.World.{BegunWait, World, unattached, unfinished}
 use Rattle.tp_model.proofs.Callbacks.{find_replaced, find_replaced_other}
 use Rattle.tp_model.proofs.Cancelling.{cancelled_found, find_cancelled}
@@ -291,10 +291,10 @@ change_moved next_number w actor (change.Return at words first count) s a by =
           (ap (option_map (λ (routine : RoutineId). stage.Busy routine)) (same_routines w at.callback.number at.callback a.runs.found)) refl;
       waits = waits_kept w next_number actor after s refl;
     }
-change_moved next_number w actor (change.BeginWait who target cancel) s a by =
-    let after : World = changed w (change.BeginWait who target cancel) in
+change_moved next_number w actor (change.BeginWait who awaited cancel) s a by =
+    let after : World = changed w (change.BeginWait who awaited cancel) in
     record {
-      stages = stages_kept w next_number actor after s refl refl (cancelled_routines w (is_cancelled_by target cancel));
+      stages = stages_kept w next_number actor after s refl refl (cancelled_routines w (is_cancelled_by (target_of awaited) cancel));
       waits = waits_more w next_number actor after s _ (sym by) refl;
     }
 change_moved next_number w actor (change.BeginClose who group cancel context notices) s a by =

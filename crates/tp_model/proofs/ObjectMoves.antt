@@ -144,7 +144,7 @@ module _ (next_number : ℕ) (w : World) (entry : Entry) where
   change_objects (change.Detach at) tells = same_objects (changed w (change.Detach at)) (ap (λ (t : Told). t.wait) tells) (λ n. refl)
   change_objects (change.Take at c) tells = same_objects (changed w (change.Take at c)) (ap (λ (t : Told). t.wait) tells) (λ n. refl)
   change_objects (change.Return at words first count) tells = same_objects (changed w (change.Return at words first count)) (ap (λ (t : Told). t.wait) tells) (λ n. refl)
-  change_objects (change.BeginWait who target cancel) tells = same_objects (changed w (change.BeginWait who target cancel)) (ap (λ (t : Told). t.wait) tells) (λ n. refl)
+  change_objects (change.BeginWait who awaited cancel) tells = same_objects (changed w (change.BeginWait who awaited cancel)) (ap (λ (t : Told). t.wait) tells) (λ n. refl)
   change_objects change.CreateGroup tells = same_objects (changed w change.CreateGroup) (ap (λ (t : Told). t.wait) tells) (λ n. refl)
   change_objects (change.CloseGroup group) tells = same_objects (changed w (change.CloseGroup group)) (ap (λ (t : Told). t.wait) tells) (λ n. refl)
   change_objects (change.BeginClose who group cancel context notices) tells =

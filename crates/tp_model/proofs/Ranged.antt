@@ -29,7 +29,7 @@ use Rattle.tp_model.specs.Kernels.{is_one_that, new_kernel, kernel_changed}
 use Rattle.tp_base.specs.declared.rows.PoolRow.{PoolRow}
 use Rattle.tp_base.specs.declared.rows.ObjectRow.{ObjectRow}
 use Rattle.tp_base.specs.declared.rows.CallbackRow.{CallbackRow}
-use Rattle.tp_model.specs.Waits.{cancel_where, is_cancelled_by, cancelled, wait_of}
+use Rattle.tp_model.specs.Waits.{target_of, cancel_where, is_cancelled_by, cancelled, wait_of}
 use Rattle.tp_base.specs.declared.plans.Trigger.{Trigger}
 use Rattle.tp_base.specs.declared.plans.Trigger.TheVariants.{SetTimer, Advance, SetWait, SetEvent, ReleaseSemaphore}
 use Rattle.tp_base.specs.declared.plans.KernelChange.{KernelChange}
@@ -320,7 +320,8 @@ changed_rows next_number w (change.Return by words first count) s a r rows =
       waits = rows.waits;
       few = rows.few;
     }
-changed_rows next_number w (change.BeginWait who target cancel) s a r rows =
+changed_rows next_number w (change.BeginWait who awaited cancel) s a r rows =
+    let target : WaitTarget = target_of awaited in
     record {
       objects = rows.objects;
       callbacks = cancel_rows (is_cancelled_by target cancel) w.callbacks rows.callbacks;

@@ -204,7 +204,7 @@ changed_sound next_number w (change.Return by words first count) s a =
     renumbered v f next_number first count a.number a.counted
     (sound_rows next_number (record v { settings = f.sources.settings; armings = f.sources.armings; kernels = f.sources.kernels; now = f.sources.now }) f.jobs (jobs_made w.objects f.jobs made.jobs)
     (sound_sources next_number v f.sources made.sources (λ object wait. (returning_counted object w words of (s.timeouts object wait)).timed) (omega (arith, s.clock, returning_now w words of)) sound))
-changed_sound next_number w (change.BeginWait who target cancel) s a = none_made next_number (changed w (change.BeginWait who target cancel)) (sound_begin_wait next_number w who target cancel a.none a.made s)
+changed_sound next_number w (change.BeginWait who awaited cancel) s a = none_made next_number (changed w (change.BeginWait who awaited cancel)) (sound_begin_wait next_number w who awaited cancel a.none a.made s)
 changed_sound next_number w change.CreateGroup s a = none_made next_number (changed w change.CreateGroup) (sound_groups next_number w (w.groups ++ new_group ∷ []) s)
 changed_sound next_number w (change.CloseGroup group) s a = none_made next_number (changed w (change.CloseGroup group)) (sound_groups next_number w (close_row w.groups group.0 (numbered w.groups group.0)) s)
 changed_sound next_number w (change.BeginClose who group cancel context notices) s a = none_made next_number (changed w (change.BeginClose who group cancel context notices)) (sound_begin_close next_number w who group cancel context a.none a.idle s)

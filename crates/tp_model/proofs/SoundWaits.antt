@@ -9,9 +9,10 @@ use Rattle.tp_base.specs.declared.rows.Status.TheVariants.{Expected, Issued, Pen
 use Rattle.tp_base.specs.declared.rows.ObjectRow.{ObjectRow}
 use Rattle.tp_base.specs.declared.rows.CallbackRow.{CallbackRow}
 use Rattle.tp_base.specs.declared.ids.Who.{Who}
+use Rattle.tp_base.specs.declared.plans.Awaited.{Awaited}
 use Rattle.tp_base.specs.declared.rows.WaitTarget.{WaitTarget}
 use Rattle.tp_base.specs.declared.rows.WaitTarget.TheVariants.{Group}
-use Rattle.tp_model.specs.Waits.{is_of, is_cancelled_by, cancelled, cancel_where}
+use Rattle.tp_model.specs.Waits.{target_of, is_of, is_cancelled_by, cancelled, cancel_where}
 use Rattle.tp_base.specs.Actors.{is_same_actor}
 use Rattle.tp_model.specs.Conditions.{is_in_wait, is_operation_of}
 use Rattle.tp_model.specs.World.{World, BegunWait}
@@ -63,12 +64,14 @@ sound_begun next_number w test b only none sound named s =
       notices = all_append (λ (x : BegunWait). AreNamed w.objects x.notices) w.waits b s.notices named;
     }
 
-pub sound_begin_wait : (next_number : ℕ) (w : World) (who : Who) (target : WaitTarget) (cancel : Bool) → is_in_wait w who ≡ false → IsTargetMade w target → IsSound next_number w → IsSound next_number (begin_wait w who target cancel (cancel_where (is_cancelled_by target cancel) w.callbacks))
-sound_begin_wait next_number w who target cancel none made s =
+pub sound_begin_wait : (next_number : ℕ) (w : World) (who : Who) (awaited : Awaited) (cancel : Bool) → is_in_wait w who ≡ false → IsTargetMade w awaited → IsSound next_number w
+    → IsSound next_number (begin_wait w who (target_of awaited) cancel (cancel_where (is_cancelled_by (target_of awaited) cancel) w.callbacks))
+sound_begin_wait next_number w who awaited cancel none made s =
+    let target : WaitTarget = target_of awaited in
     let test : CallbackRow → Bool = is_cancelled_by target cancel in
     let rising : IsRising 1 next_number (cancel_where test w.callbacks) = rising_map (cancelled_if test) (cancelled_number test) 1 next_number w.callbacks s.numbers in
     sound_begun next_number w test (new_wait who target cancel (cancel_where test w.callbacks)) (cancelled_pending target cancel) none
-    (new_wait_sound next_number who target cancel (cancel_where test w.callbacks) (target_named w target made) rising) tt s
+    (new_wait_sound next_number who target cancel (cancel_where test w.callbacks) (target_named w awaited made) rising) tt s
 
 -- no callback of the group has an operation under way
 pub group_idle : (next_number : ℕ) (w : World) (group : ℕ) → first_operating w group ≡ None → IsSound next_number w → (n : ℕ) (c : CallbackRow) → find (has_number n) w.callbacks ≡ Some c → (c.group.0 == group) ≡ true → is_operating c.status ≡ false

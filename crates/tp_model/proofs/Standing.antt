@@ -173,7 +173,7 @@ begin_ready w left who _ a ch begins is = absurd (false_true begins)
 
 -- a change by which a wait begins is that of a call that begins one
 change_begins : (next_number : ℕ) (w : World) (ch : Change) → (told_by_change next_number w ch).waiting ≡ Some true → (told_by_change next_number w ch).begins ≡ true
-change_begins next_number w (change.BeginWait who target cancel) e = refl
+change_begins next_number w (change.BeginWait who awaited cancel) e = refl
 change_begins next_number w (change.BeginClose who group cancel context notices) e = refl
 change_begins next_number w (change.Mark by Long) e = absurd cc
 change_begins next_number w (change.Mark by Loose) e = absurd cc

@@ -10,6 +10,8 @@ use Rattle.tp_base.specs.declared.ids.Who.{Who}
 use Rattle.tp_base.specs.declared.plans.WaitEnd.{WaitEnd}
 use Rattle.tp_base.specs.declared.plans.WaitEnd.TheVariants.{Free, Exhausted, Stalled}
 use Rattle.tp_base.specs.declared.rows.ObjectRow.{ObjectRow}
+use Rattle.tp_base.specs.declared.plans.Awaited.{Awaited}
+use Rattle.tp_base.specs.declared.plans.Awaited.TheVariants as awaited
 use Rattle.tp_base.specs.declared.rows.WaitTarget.{WaitTarget}
 use Rattle.tp_base.specs.declared.rows.WaitTarget.TheVariants.{Object, Group, Kernel}
 use Rattle.tp_base.specs.declared.rows.PoolRow.{PoolRow}
@@ -20,7 +22,7 @@ use Rattle.tp_base.specs.Actors.{is_same_actor}
 use Rattle.tp_model.specs.Conditions.{is_in_wait}
 use Rattle.tp_model.specs.Waits.{is_of, is_cancelled_by, cancel_where, is_covered_by, wait_of, cancelled}
 use Rattle.tp_model.specs.Support.Sound.{IsSound}
-use Rattle.tp_model.specs.Support.Allowed.{IsAllowed, IsMadeBy, MayEnd, IsTarget, MayClose, MayNotify}
+use Rattle.tp_model.specs.Support.Allowed.{IsAllowed, IsMadeBy, MayEnd, MayClose, MayNotify}
 use Rattle.tp_model.specs.Laws.Entries.{begins_by, is_ending, Notice, notice_by}
 use Rattle.tp_model.specs.Support.Told.{Told, told_by_change, told_by, is_free, notice_at, next_notice, first_left}
 use Rattle.tp_model.specs.Support.Moves.{WaitsMove, Keep, Begin, End, due_from, Notify}
@@ -70,10 +72,9 @@ module _ (next_number : ℕ) (w : World) (entry : Entry) where
         was = λ who wait found. inl (sym (ap (λ bs. find (λ (b : BegunWait). is_same_actor b.actor who) bs) same) ∙ found);
       })
 
-  begin_moves : (who : Who) (target : WaitTarget) (cancel : Bool) → IsSound next_number w → is_in_wait w who ≡ false → entry.who ≡ who → told_by entry ≡ told_by_change next_number w (change.BeginWait who target cancel) → IsTarget target
-      → WaitsMove w entry (changed w (change.BeginWait who target cancel))
-  begin_moves who (Group group) cancel s none by tells is = absurd is
-  begin_moves who (Kernel kernel) cancel s none by tells is =
+  begin_moves : (who : Who) (awaited : Awaited) (cancel : Bool) → IsSound next_number w → is_in_wait w who ≡ false → entry.who ≡ who → told_by entry ≡ told_by_change next_number w (change.BeginWait who awaited cancel)
+      → WaitsMove w entry (changed w (change.BeginWait who awaited cancel))
+  begin_moves who (awaited.Kernel kernel) cancel s none by tells =
       Keep (record {
         begins = ap (λ (t : Told). t.begun) tells;
         ends = ap (λ (t : Told). t.ending) tells;
@@ -93,7 +94,7 @@ module _ (next_number : ℕ) (w : World) (entry : Entry) where
           → (wait_of w other ≡ Some wait) ⊎ (wait.notices ≡ [])
       of_found other wait (Some b) there e = inl (there ∙ e)
       of_found other wait None there e = inr (of_own wait (is_same_actor begun.actor other) e)
-  begin_moves who (Object object) cancel s none by tells is =
+  begin_moves who (awaited.Object object) cancel s none by tells =
       let kept : List CallbackRow = cancel_where (is_cancelled_by (Object object) cancel) w.callbacks in
       Begin (record {
         wait = new_wait who (Object object) cancel kept;
@@ -177,7 +178,7 @@ module _ (next_number : ℕ) (w : World) (entry : Entry) where
       free_not_stalled h free stalled = let same : Free ≡ Stalled = sym free ∙ stalled in cc
 
   pub change_waits : (ch : Change) → IsSound next_number w → IsAllowed next_number w ch → IsMadeBy w entry.who ch → told_by entry ≡ told_by_change next_number w ch → WaitsMove w entry (changed w ch)
-  change_waits (change.BeginWait who target cancel) s a by tells = begin_moves who target cancel s a.none by tells a.object
+  change_waits (change.BeginWait who awaited cancel) s a by tells = begin_moves who awaited cancel s a.none by tells
   change_waits change.CreateGroup s a by tells = waits_same change.CreateGroup refl refl refl tells refl
   change_waits (change.CloseGroup group) s a by tells = waits_same (change.CloseGroup group) refl refl refl tells refl
   change_waits (change.BeginClose who group cancel context notices) s a by tells = close_moves who group cancel context notices s a by tells

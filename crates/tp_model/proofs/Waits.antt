@@ -5,15 +5,17 @@ use Rattle.std.specs.Option.{option_map_or}
 use Rattle.tp_base.specs.declared.rows.Status.{Status}
 use Rattle.tp_base.specs.declared.rows.Status.TheVariants.{Expected, Issued, Pending, Running, Returned, Cancelled}
 use Rattle.tp_base.specs.declared.rows.CallbackRow.{CallbackRow}
+use Rattle.tp_base.specs.declared.plans.Awaited.{Awaited}
+use Rattle.tp_base.specs.declared.plans.Awaited.TheVariants as awaited
 use Rattle.tp_base.specs.declared.rows.WaitTarget.{WaitTarget}
-use Rattle.tp_base.specs.declared.rows.WaitTarget.TheVariants.{Object, Group, Kernel}
+use Rattle.tp_base.specs.declared.rows.WaitTarget.TheVariants.{Group}
 use Rattle.tp_base.specs.declared.ids.Who.{Who}
 use Rattle.tp_base.specs.declared.ids.GroupId.{GroupId}
 use Rattle.tp_base.specs.declared.ids.ObjectId.{ObjectId}
 use Rattle.tp_model.specs.World.{World, BegunWait}
 use Rattle.tp_model.specs.Counts.{numbered, has_number, is_running}
 use Rattle.tp_model.specs.Changes.{replaced, new_wait, new_close}
-use Rattle.tp_model.specs.Waits.{is_of, is_held_for, is_outstanding_for, is_object_target, is_covered_by, cancelled, cancel_where, covered_of}
+use Rattle.tp_model.specs.Waits.{target_of, is_of, is_held_for, is_outstanding_for, is_object_target, is_covered_by, cancelled, cancel_where, covered_of}
 use Rattle.tp_model.specs.Laws.Entries.{is_among}
 use Rattle.tp_model.specs.Laws.Once.{is_left}
 use Rattle.tp_model.specs.Support.Sound.{IsRising, IsNamed, IsWaitSound, is_left_of, is_left_among}
@@ -92,10 +94,9 @@ waits_longer next_number c cs number (b ∷ bs) all = (
 
 -- ---- a wait begins
 
-pub target_named : (w : World) (target : WaitTarget) → IsTargetMade w target → IsNamed target
-target_named w (Object object) made = λ is. false_true (sym (ap (λ n. is_some (numbered w.objects n)) is) ∙ made)
-target_named w (Group group) made = tt
-target_named w (Kernel kernel) made = tt
+pub target_named : (w : World) (awaited : Awaited) → IsTargetMade w awaited → IsNamed (target_of awaited)
+target_named w (awaited.Object object) made = λ is. false_true (sym (ap (λ n. is_some (numbered w.objects n)) is) ∙ made)
+target_named w (awaited.Kernel kernel) made = tt
 
 -- the numbers of rows are below the next
 numbers_below : (p : CallbackRow → Bool) (low next_number : ℕ) (cs : List CallbackRow) → IsRising low next_number cs → AllByRecursion (λ n. n < next_number) (map (λ (c : CallbackRow). c.number) (filter p cs))

@@ -38,7 +38,7 @@ use Rattle.tp_model.specs.Actions.{no_actions, slots_of, asking, returning}
 use Rattle.tp_model.specs.Groups.{new_group, close_row, notices_of, without_members}
 use Rattle.tp_model.specs.Kernels.{new_kernel, kernel_changed}
 use Rattle.tp_model.specs.Sources.{sources_of, firing, fired}
-use Rattle.tp_model.specs.Waits.{is_cancelled_by, cancel_where, covered_of, wait_of}
+use Rattle.tp_model.specs.Waits.{target_of, is_cancelled_by, cancel_where, covered_of, wait_of}
 
 -- ---- one list of a world
 
@@ -209,7 +209,8 @@ changed w (change.Take by callback) =
     with_worker (with_callback w (taken callback by.worker)) by.worker (record { pool = Some by.pool; callback = Some callback.number })
 changed w (change.Mark by mark) = with_callback w (marked mark by.callback)
 changed w (change.Return by words first count) = return_callback w by words first
-changed w (change.BeginWait who target cancel) = begin_wait w who target cancel (cancel_where (is_cancelled_by target cancel) w.callbacks)
+changed w (change.BeginWait who awaited cancel) =
+    begin_wait w who (target_of awaited) cancel (cancel_where (is_cancelled_by (target_of awaited) cancel) w.callbacks)
 changed w (change.BeginClose who group cancel context notices) =
     begin_close w who group cancel context (notices_of w group.0 cancel) (cancel_where (is_cancelled_by (Group group) cancel) w.callbacks)
 changed w (change.GiveNotice who) = record w { waits = give_notice who w.waits }

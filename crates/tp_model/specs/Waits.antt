@@ -3,6 +3,8 @@ use Rattle.std.specs.Prelude.{ℕ, Bool, true, false, not, ◌&&◌, ◌||◌, �
 use Rattle.std.specs.List.{filter, find}
 use Rattle.std.specs.Option.{option_map_or}
 use Rattle.tp_base.specs.declared.ids.Who.{Who}
+use Rattle.tp_base.specs.declared.plans.Awaited.{Awaited}
+use Rattle.tp_base.specs.declared.plans.Awaited.TheVariants as awaited
 use Rattle.tp_base.specs.declared.rows.Status.{Status}
 use Rattle.tp_base.specs.declared.rows.Status.TheVariants.{Expected, Issued, Pending, Running, Returned, Cancelled}
 use Rattle.tp_base.specs.declared.rows.CallbackRow.{CallbackRow}
@@ -11,6 +13,11 @@ use Rattle.tp_base.specs.declared.rows.WaitTarget.TheVariants.{Object, Group, Ke
 use Rattle.tp_model.specs.World.{World, BegunWait}
 use Rattle.tp_model.specs.Counts.{callback_of, is_pending, is_running}
 use Rattle.tp_base.specs.Actors.{is_same_actor}
+
+-- what a wait is for, by what it was begun for
+abbrev pub target_of : Awaited → WaitTarget
+target_of (awaited.Object object) = Object object
+target_of (awaited.Kernel kernel) = Kernel kernel
 
 -- the callback is of what the wait is for
 abbrev pub is_of : WaitTarget → CallbackRow → Bool

@@ -16,6 +16,7 @@ use Rattle.tp_base.specs.declared.plans.Plan.TheVariants as plan
 use Rattle.tp_base.specs.declared.rows.CallbackRow.{CallbackRow}
 use Rattle.tp_base.specs.declared.plans.WaitEnd.TheVariants as how
 use Rattle.tp_base.specs.declared.answers.Refusal.TheVariants.{NoSuch, WrongKind, Released, NotRunning, InWait, OwnCallback}
+use Rattle.tp_base.specs.declared.plans.Awaited.TheVariants as awaited
 use Rattle.tp_base.specs.declared.rows.WaitTarget.{WaitTarget}
 use Rattle.tp_base.specs.declared.rows.WaitTarget.TheVariants.{Object, Group, Kernel}
 use Rattle.tp_base.specs.Ranges.{IsCallInRange, IsAnswerInRange}
@@ -62,7 +63,7 @@ unfolding begin_wait_plan
 begin_wait_safe next_number w who kind object cancel =
     safe_unless next_number w who (BeginWait kind object cancel) (begin_wait_refusals w who kind object.0) _ (λ none.
     let there = neither (not (is_actor w who)) (not (is_object w object.0)) none.0 in
-    record { allowed = record { actor = not_false (is_actor w who) there.0; none = none.1.1.1.1.0; object = tt; made = not_false (is_object w object.0) there.1 }; made_by = refl; accepted = refl; tells = refl })
+    record { allowed = record { actor = not_false (is_actor w who) there.0; none = none.1.1.1.1.0; made = not_false (is_object w object.0) there.1 }; made_by = refl; accepted = refl; tells = refl })
 
 begun_forget : (w : World) (target : WaitTarget) (cancel : Bool) → answer.Begun (count_covered (forget w) target cancel) (count_cancelled_by (forget w) target cancel) ≡ answer.Begun (count_covered w target cancel) (count_cancelled_by w target cancel)
 begun_forget w target cancel =
@@ -86,7 +87,7 @@ own_refusals_forget next_number w who kind object s =
 pub begin_wait_forget : (next_number : ℕ) (w : World) (who : Who) (kind : Kind) (object : ObjectId) (cancel : Bool) → IsSound next_number w → begin_wait_plan (forget w) who kind object cancel ≡ begin_wait_plan w who kind object cancel
 unfolding begin_wait_plan
 begin_wait_forget next_number w who kind object cancel s =
-    ap₂ (λ r a. unless_refused r (plan.Does a (change.BeginWait who (Object object) cancel))) (own_refusals_forget next_number w who kind object.0 s) (begun_forget w (Object object) cancel)
+    ap₂ (λ r a. unless_refused r (plan.Does a (change.BeginWait who (awaited.Object object) cancel))) (own_refusals_forget next_number w who kind object.0 s) (begun_forget w (Object object) cancel)
 
 covers_within : (q test : CallbackRow → Bool) (cs : List CallbackRow) → length (filter q (cancel_where test cs)) ≤ length (filter (λ c. q (cancelled_if test c)) cs)
 covers_within q test [] = omega arith
@@ -126,7 +127,7 @@ begin_acquire_safe next_number w who kernel =
     safe_unless next_number w who (BeginAcquire kernel) (begin_acquire_refusals w who kernel.0) _ (λ none.
     let there = neither (not (is_actor w who)) (not (is_kernel w kernel.0)) none.0 in
     record {
-      allowed = record { actor = not_false (is_actor w who) there.0; none = none.1.1.1.0; object = tt; made = not_false (is_kernel w kernel.0) there.1 };
+      allowed = record { actor = not_false (is_actor w who) there.0; none = none.1.1.1.0; made = not_false (is_kernel w kernel.0) there.1 };
       made_by = refl;
       accepted = refl;
       tells = ap (λ n. record silent { deed = record nothing { count = n }; waiting = Some true; begins = true }) (sym (none_cancelled (Kernel kernel) w.callbacks));

@@ -13,6 +13,7 @@ use Rattle.tp_base.specs.declared.answers.Refusal.TheVariants.{NoSuch, Released,
 use Rattle.tp_base.specs.declared.answers.Answer.{Answer}
 use Rattle.tp_base.specs.declared.answers.Answer.TheVariants as answer
 use Rattle.tp_base.specs.declared.answers.Look.TheVariants as look
+use Rattle.tp_base.specs.declared.plans.Awaited.TheVariants as awaited
 use Rattle.tp_base.specs.declared.plans.WaitEnd.TheVariants.{Free, Exhausted}
 use Rattle.tp_base.specs.declared.plans.Plan.{Plan}
 use Rattle.tp_base.specs.declared.plans.Plan.TheVariants.{Refused, Looked, Does}
@@ -45,7 +46,7 @@ count_cancelled_by w target cancel = length (filter (is_cancelled_by target canc
 unfoldable pub begin_wait_plan : World → Who → Kind → ObjectId → Bool → Plan
 begin_wait_plan w who kind object cancel =
     unless_refused (first_refusal (begin_wait_refusals w who kind object.0))
-    (Does (answer.Begun (count_covered w (Object object) cancel) (count_cancelled_by w (Object object) cancel)) (change.BeginWait who (Object object) cancel))
+    (Does (answer.Begun (count_covered w (Object object) cancel) (count_cancelled_by w (Object object) cancel)) (change.BeginWait who (awaited.Object object) cancel))
 
 -- ---- BeginAcquire
 
@@ -59,7 +60,7 @@ begin_acquire_refusals w who kernel =
 
 unfoldable pub begin_acquire_plan : World → Who → KernelId → Plan
 begin_acquire_plan w who kernel =
-    unless_refused (first_refusal (begin_acquire_refusals w who kernel.0)) (Does answer.Done (change.BeginWait who (Kernel kernel) false))
+    unless_refused (first_refusal (begin_acquire_refusals w who kernel.0)) (Does answer.Done (change.BeginWait who (awaited.Kernel kernel) false))
 
 -- ---- End, but for the machine being stalled
 

@@ -5,9 +5,11 @@ use Rattle.tp_base.specs.declared.ids.Who.TheVariants.{Client, Worker}
 use Rattle.tp_base.specs.declared.ids.GroupId.{GroupId}
 use Rattle.tp_base.specs.declared.ids.ObjectId.{ObjectId}
 use Rattle.tp_base.specs.declared.ids.PoolId.{PoolId}
+use Rattle.tp_base.specs.declared.plans.Awaited.{Awaited}
+use Rattle.tp_base.specs.declared.plans.Awaited.TheVariants as awaited
 use Rattle.tp_base.specs.declared.plans.WaitEnd.{WaitEnd}
 use Rattle.tp_base.specs.declared.rows.WaitTarget.{WaitTarget}
-use Rattle.tp_base.specs.declared.rows.WaitTarget.TheVariants.{Object, Group, Kernel}
+use Rattle.tp_base.specs.declared.rows.WaitTarget.TheVariants.{Kernel}
 use Rattle.tp_base.specs.declared.rows.KernelState.{KernelState}
 use Rattle.tp_base.specs.declared.rows.KernelState.TheVariants as state
 use Rattle.tp_base.specs.declared.rows.KernelRow.{KernelRow}
@@ -181,15 +183,10 @@ pub record IsNewKernel (w : World) (state : KernelState) : Type 0 where
   pub room : length w.kernels < w.limits.kernels
   pub takings : takings_of state ≤ 1
 
--- a BeginWait is for no group
-abbrev pub IsTarget : WaitTarget → Type 0
-IsTarget (Group group) = ⊥
-IsTarget _ = Unit {0}
-
-abbrev pub IsTargetMade : World → WaitTarget → Type 0
-IsTargetMade w (Object object) = is_object w object.0 ≡ true
-IsTargetMade w (Group group) = ⊥
-IsTargetMade w (Kernel kernel) = is_kernel w kernel.0 ≡ true
+-- what is awaited was made
+abbrev pub IsTargetMade : World → Awaited → Type 0
+IsTargetMade w (awaited.Object object) = is_object w object.0 ≡ true
+IsTargetMade w (awaited.Kernel kernel) = is_kernel w kernel.0 ≡ true
 
 -- what a wait is for may be taken by the actor, if it is a kernel object
 abbrev pub IsTakeable : World → Who → WaitTarget → Type 0
@@ -197,11 +194,10 @@ IsTakeable w who (Kernel kernel) = is_kernel_that (may_take who) w kernel.0 ≡ 
 IsTakeable w who _ = Unit {0}
 
 -- an actor that has no wait begun, and something to wait for
-pub record MayBegin (w : World) (who : Who) (target : WaitTarget) : Type 0 where
+pub record MayBegin (w : World) (who : Who) (awaited : Awaited) : Type 0 where
   pub actor : is_actor w who ≡ true
   pub none : is_in_wait w who ≡ false
-  pub object : IsTarget target
-  pub made : IsTargetMade w target
+  pub made : IsTargetMade w awaited
 
 -- an actor that has no wait begun, and a group no member of which has an operation under way; so many notices
 pub record MayClose (w : World) (who : Who) (group : GroupId) (cancel : Bool) (notices : ℕ) : Type 0 where
@@ -249,7 +245,7 @@ IsAllowed next_number w (change.Detach by) = Idles w by
 IsAllowed next_number w (change.Take by callback) = MayTake w by callback
 IsAllowed next_number w (change.Mark by mark) = MayMark w by mark
 IsAllowed next_number w (change.Return by words first count) = MayReturn next_number w by words first count
-IsAllowed next_number w (change.BeginWait who target cancel) = MayBegin w who target
+IsAllowed next_number w (change.BeginWait who awaited cancel) = MayBegin w who awaited
 IsAllowed next_number w (change.BeginClose who group cancel context notices) = MayClose w who group cancel notices
 IsAllowed next_number w (change.GiveNotice who) = MayNotify w who
 IsAllowed next_number w (change.EndWait who how) = MayEnd w who how
@@ -259,7 +255,7 @@ IsAllowed next_number w (change.Finish client) = numbered w.clients client ≡ S
 abbrev pub price : Change → ℕ
 price (change.Attach worker pool) = 2
 price (change.Take by callback) = 2
-price (change.BeginWait who target cancel) = 2
+price (change.BeginWait who awaited cancel) = 2
 price (change.BeginClose who group cancel context notices) = 2 + notices
 price (change.GiveNotice who) = 0
 price (change.EndWait who how) = 0
@@ -285,7 +281,7 @@ IsMadeBy w who (change.Detach by) = who ≡ Worker by.worker
 IsMadeBy w who (change.Take by callback) = who ≡ Worker by.worker
 IsMadeBy w who (change.Mark by mark) = who ≡ Worker by.worker
 IsMadeBy w who (change.Return by words first count) = who ≡ Worker by.worker
-IsMadeBy w who (change.BeginWait actor target cancel) = who ≡ actor
+IsMadeBy w who (change.BeginWait actor awaited cancel) = who ≡ actor
 IsMadeBy w who (change.BeginClose actor group cancel context notices) = who ≡ actor
 IsMadeBy w who (change.GiveNotice actor) = who ≡ actor
 IsMadeBy w who (change.EndWait actor how) = who ≡ actor

@@ -23,6 +23,7 @@ use Rattle.tp_base.specs.declared.rows.Arming.{Arming}
 use Rattle.tp_base.specs.Kernels.{takings_of}
 use Rattle.tp_model.specs.World.{World, BegunWait}
 use Rattle.tp_model.specs.Counts.{running, slots}
+use Rattle.tp_model.specs.Waits.{target_of}
 
 pub record IsObjectInRange (o : ObjectRow) : Type 0 where
   pub routine : IsRoutineInRange o.routine.0
@@ -81,7 +82,7 @@ IsChangeInRange (change.Operate callback how) = IsStepInRange how
 IsChangeInRange (change.Fire trigger first count) = IsTriggerInRange trigger × (first + count ≤ 2 ^ 64)
 IsChangeInRange (change.Return by words first count) = first + count ≤ 2 ^ 64
 IsChangeInRange (change.CreateKernel state) = IsStateInRange state
-IsChangeInRange (change.BeginWait who target cancel) = IsTargetInRange target
+IsChangeInRange (change.BeginWait who awaited cancel) = IsTargetInRange (target_of awaited)
 IsChangeInRange (change.BeginClose who group cancel context notices) = context < 2 ^ 64
 IsChangeInRange _ = Unit {0}
 

@@ -9,9 +9,10 @@ use Rattle.std.specs.List.{filter, range_with_len}
 use Rattle.tp_base.specs.declared.plans.Mark.TheVariants.{Loose, Asks}
 use Rattle.tp_base.specs.declared.answers.ActionKind.{ActionKind}
 use Rattle.tp_base.specs.declared.plans.ActionWords.{ActionWords}
+use Rattle.tp_base.specs.declared.plans.Awaited.{Awaited}
+use Rattle.tp_base.specs.declared.plans.Awaited.TheVariants as awaited
 use Rattle.tp_base.specs.declared.plans.WaitEnd.{WaitEnd}
 use Rattle.tp_base.specs.declared.plans.WaitEnd.TheVariants.{Free, Exhausted, Stalled}
-use Rattle.tp_base.specs.declared.rows.WaitTarget.{WaitTarget}
 use Rattle.tp_base.specs.declared.rows.WaitTarget.TheVariants.{Object, Group}
 use Rattle.tp_base.specs.declared.plans.IoStep.{IoStep}
 use Rattle.tp_base.specs.declared.plans.IoStep.TheVariants.{Issue, GiveUp, Complete}
@@ -27,7 +28,7 @@ use Rattle.tp_base.specs.declared.rows.ObjectRow.{ObjectRow}
 use Rattle.tp_base.specs.declared.rows.CallbackRow.{CallbackRow}
 use Rattle.tp_model.specs.World.{World, BegunWait}
 use Rattle.tp_model.specs.Sources.{object_row}
-use Rattle.tp_model.specs.Waits.{is_cancelled_by, wait_of}
+use Rattle.tp_model.specs.Waits.{target_of, is_cancelled_by, wait_of}
 use Rattle.tp_model.specs.Laws.Entries.{Begins, begins_by, is_ending, is_freeing, Notice, notice_by, Creation, created_by, closed_by, simple_by, wait_made, wait_numbered, Sets, sets_by}
 use Rattle.tp_model.specs.Laws.Entries.{Run, run_by, made_by, queued_new, completed_by, started_by, taken_by, cancelled_by, cancelled_count, attached_by, is_returned, maximum_after, is_loosened, asked_by, words_by}
 use Rattle.tp_model.specs.Laws.Entries.{Happening, Event, event, event_by, Issues, GivesUp, Completes, Runs as Taking}
@@ -127,9 +128,10 @@ maxima_by pool Close other maximum = maximum
 maxima_by pool (Maximum value) other maximum = if pool == other then max value 1 else maximum
 maxima_by pool (Minimum value) other maximum = if pool == other then max maximum value else maximum
 
-abbrev pub begins_of : WaitTarget → Bool → Option Begins
-begins_of (Object object) cancel = Some (record { target = Object object; cancel = cancel; cleanup = 0 })
-begins_of _ cancel = None
+-- a wait for a kernel object is for no callbacks
+abbrev pub begins_of : Awaited → Bool → Option Begins
+begins_of (awaited.Object object) cancel = Some (record { target = Object object; cancel = cancel; cleanup = 0 })
+begins_of (awaited.Kernel kernel) cancel = None
 
 -- an object of a number with this row
 abbrev pub creation_of : ℕ → ObjectRow → Creation
@@ -192,8 +194,8 @@ told_by_change next_number w (change.Take by callback) =
     record silent { deed = record nothing { taken = Some callback.number; run = Some (record { number = callback.number; object = callback.object }); event = event callback.number (Taking callback.result) }; stage = Starts callback.routine }
 told_by_change next_number w (change.Mark by Loose) = record silent { deed = record nothing { loosened = true } }
 told_by_change next_number w (change.Mark by (Asks kind action)) = record silent { deed = record nothing { asked = Some kind } }
-told_by_change next_number w (change.BeginWait who target cancel) =
-    record silent { deed = record nothing { count = length (filter (is_cancelled_by target cancel) w.callbacks) }; begun = begins_of target cancel; waiting = Some true; begins = true }
+told_by_change next_number w (change.BeginWait who awaited cancel) =
+    record silent { deed = record nothing { count = length (filter (is_cancelled_by (target_of awaited) cancel) w.callbacks) }; begun = begins_of awaited cancel; waiting = Some true; begins = true }
 told_by_change next_number w (change.BeginClose who group cancel context notices) =
     record silent { deed = record nothing { count = length (filter (is_cancelled_by (Group group) cancel) w.callbacks) }; begun = Some (record { target = Group group; cancel = cancel; cleanup = context }); waiting = Some true; begins = true }
 told_by_change next_number w (change.GiveNotice who) = record silent { notice = next_notice w.objects (wait_of w who) }
