@@ -1,0 +1,3 @@
+pub mod MembersChanged
+pub mod Listed
+pub mod Walked

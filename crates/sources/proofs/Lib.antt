@@ -1,0 +1,5 @@
+pub mod Armed
+pub mod Expiring
+pub mod Keeping
+pub mod Released
+pub mod Releasing

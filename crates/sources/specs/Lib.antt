@@ -1,0 +1,4 @@
+pub mod Counts
+pub mod Firing
+pub mod Kept
+pub mod Rows
