@@ -17,6 +17,9 @@ use Rattle.live_world.specs.Invariant.{is_pending_callback, is_running_callback}
 use Rattle.live_world.specs.Waiting.{outstanding_of, is_pending_for, pending_of}
 use Rattle.live_world.proofs.Lists.{all_pass, filter_both}
 use Rattle.live_world.proofs.Walks.{Rises, rest, IsAmong, rises_filter, rest_first, first_among, found_among, Onward, onward}
+use Rattle.live_world.specs.declared.LiveWorld.TheInside.{Inside}
+use Rattle.live_world.specs.Live.{Live}
+use Rattle.live_world.specs.View.{shown}
 
 abbrev pub number_of : CallbackRow → ℕ
 number_of c = c.number
@@ -115,6 +118,17 @@ in_object object cs c next is among =
     let found : find (has_number c.number) (outstanding_among cs object) ≡ Some c = subst (IsAmong number_of (outstanding_among cs object)) is among in
     let same : c.object ≡ object = of_object object cs (has_number c.number) c found in
     record { there = ap (λ o. find (has_number c.number) (outstanding_among cs o)) same ∙ found; next = λ after e. e ∙ ap (λ o. after_of (outstanding_among cs o) c) same }
+
+-- what the part tells is so of the world
+module _ (i : Inside) {l : Live} (is : shown i ≡ l) where
+  pub first_here : (object : ObjectId) {first : Option CallbackRow} → first ≡ slice_get (outstanding_among i.callbacks.rows object) 0 → first ≡ slice_get (outstanding_of l.world object) 0
+  first_here object e = e ∙ ap (λ (x : Live). slice_get (outstanding_of x.world object) 0) is
+
+  pub after_here : (c : CallbackRow) {after : Option CallbackRow} → after ≡ after_of (outstanding_among i.callbacks.rows c.object) c → after ≡ after_of (outstanding_of l.world c.object) c
+  after_here c e = e ∙ ap (λ (x : Live). after_of (outstanding_of x.world c.object) c) is
+
+  pub there_here : (c : CallbackRow) → find (has_number c.number) (outstanding_of l.world c.object) ≡ Some c → find (has_number c.number) (outstanding_among i.callbacks.rows c.object) ≡ Some c
+  there_here c e = ap (λ (x : Live). find (has_number c.number) (outstanding_of x.world c.object)) is ∙ e
 
 -- where one of them is next
 pub record AtNext (w : World) (object : ObjectId) (c : CallbackRow) (next : Option CallbackRow) : Type 0 where

@@ -202,7 +202,7 @@ noted_sound next_number w who object may told s = sound_waits next_number w f sa
 still_held : (i : Inside) (who : Who) (f : BegunWait → BegunWait) (waits : Begun) → ((b : BegunWait) → (f b).actor ≡ b.actor) → ((b : BegunWait) → held_among i.callbacks.rows (f b) ≡ held_among i.callbacks.rows b) → IsLiveWorld i
     → waits ≡ record i.waits { waits = map (λ (b : BegunWait). cond (is_same_actor b.actor who) (f b) b) i.waits.waits } → After (record i { waits = waits }) (record (shown i).world { waits = map (λ (b : BegunWait). cond (is_same_actor b.actor who) (f b) b) i.waits.waits })
 still_held i who f waits stays same k waits_now =
-    rw waits_now (waits_after i i.callbacks.held (record i.waits { waits = map (λ (b : BegunWait). cond (is_same_actor b.actor who) (f b) b) i.waits.waits }) i.kernels k k.kernels k.slotted (covered_noted who f stays same k.covered))
+    rw waits_now (waits_after i i.callbacks.held (record i.waits { waits = map (λ (b : BegunWait). cond (is_same_actor b.actor who) (f b) b) i.waits.waits }) i.sources.sources.kernels k (covered_noted who f stays same k.covered))
 
 pub noted_by : (i : Inside) (l : Live) (who : Who) (object : ObjectId) (waits : Begun) → shown i ≡ l → IsLiveWorld i → MayNote l.world who → is_object_that is_told l.world.objects object.0 ≡ true
     → waits ≡ record i.waits { waits = with_notices who (object ∷ []) i.waits.waits } → Becomes (record i { waits = waits }) (noted l who (object ∷ []))

@@ -10,6 +10,7 @@ use Rattle.tp_base.specs.declared.rows.Status.{Status}
 use Rattle.tp_base.specs.declared.rows.Status.TheVariants.{Expected, Issued, Pending, Running, Returned, Cancelled}
 use Rattle.tp_base.specs.declared.rows.CallbackRow.{CallbackRow}
 use Rattle.tp_base.specs.declared.rows.WaitTarget.TheVariants.{Object, Kernel}
+use Rattle.tp_base.specs.declared.plans.Awaited.TheVariants as awaited
 use Rattle.tp_model.specs.World.{World, BegunWait}
 use Rattle.tp_model.specs.Counts.{has_number, is_pending, is_running}
 use Rattle.tp_model.specs.Changes.{new_wait, begin_wait}
@@ -148,10 +149,10 @@ all_held next_number object cancel cs rising =
 pub begins_with : (i : Inside) (b : BegunWait) (place : ℕ) (callbacks : Callbacks) (waits : Begun) → IsLiveWorld i → place_of i.waits.limits b.actor ≡ Some place → is_waiting i.waits.waits b.actor ≡ false → held_among i.callbacks.rows b ≡ b.covered
     → callbacks ≡ with_held i.callbacks place b.covered → waits ≡ record i.waits { waits = i.waits.waits ++ b ∷ [] } → After (record i { callbacks = callbacks; waits = waits }) (record (shown i).world { waits = i.waits.waits ++ b ∷ [] })
 begins_with i b place callbacks waits k at none held held_now waits_now =
-    rw (held_now, waits_now) (waits_after i (slice_set i.callbacks.held place b.covered) (record i.waits { waits = i.waits.waits ++ b ∷ [] }) i.kernels k k.kernels k.slotted (covered_begun place b (placed b.actor (Some place) at k.covered) none held k.covered))
+    rw (held_now, waits_now) (waits_after i (slice_set i.callbacks.held place b.covered) (record i.waits { waits = i.waits.waits ++ b ∷ [] }) i.sources.sources.kernels k (covered_begun place b (placed b.actor (Some place) at k.covered) none held k.covered))
 
 pub begun_by : (i : Inside) (l : Live) (who : Who) (object : ObjectId) (cancel : Bool) (place : ℕ) (callbacks : Callbacks) (waits : Begun) → shown i ≡ l → IsLiveWorld i
-    → MayBegin l.world who (Object object) → filter (is_cancelled_by (Object object) cancel) l.world.callbacks ≡ [] → place_of i.waits.limits who ≡ Some place
+    → MayBegin l.world who (awaited.Object object) → filter (is_cancelled_by (Object object) cancel) l.world.callbacks ≡ [] → place_of i.waits.limits who ≡ Some place
     → callbacks ≡ with_held i.callbacks place (covered_of (Object object) cancel i.callbacks.rows) → waits ≡ record i.waits { waits = i.waits.waits ++ new_wait who (Object object) cancel i.callbacks.rows ∷ [] }
     → Becomes (record i { callbacks = callbacks; waits = waits }) (with_world l (begin_wait l.world who (Object object) cancel l.world.callbacks))
 begun_by i l who object cancel place callbacks waits is k may settled at held_now waits_now =
@@ -159,10 +160,10 @@ begun_by i l who object cancel place callbacks waits is k may settled at held_no
     let w : World = (shown i).world in
     let v : World = begin_wait w who (Object object) cancel cs in
     let b : BegunWait = new_wait who (Object object) cancel cs in
-    let may_here : MayBegin w who (Object object) = subst (λ (x : Live). MayBegin x.world who (Object object)) (sym is) may in
+    let may_here : MayBegin w who (awaited.Object object) = subst (λ (x : Live). MayBegin x.world who (awaited.Object object)) (sym is) may in
     let left : AllByRecursion (λ c. is_cancelled_by (Object object) cancel c ≡ false) cs = none_passes (is_cancelled_by (Object object) cancel) cs (ap (λ (x : Live). filter (is_cancelled_by (Object object) cancel) x.world.callbacks) is ∙ settled) in
     let held : held_among cs b ≡ b.covered = filter_all (is_held_among cs (Object object)) b.covered (all_held (i.made + 1) object cancel cs k.sound.numbers) in
-    let sound : IsSound (i.made + 1) v = subst (λ ds. IsSound (i.made + 1) (begin_wait w who (Object object) cancel ds)) (none_where cs (is_cancelled_by (Object object) cancel) left) (sound_begin_wait (i.made + 1) w who (Object object) cancel may_here.none may_here.made k.sound) in
+    let sound : IsSound (i.made + 1) v = subst (λ ds. IsSound (i.made + 1) (begin_wait w who (Object object) cancel ds)) (none_where cs (is_cancelled_by (Object object) cancel) left) (sound_begin_wait (i.made + 1) w who (awaited.Object object) cancel may_here.none may_here.made k.sound) in
     let r = became_by (record i { callbacks = callbacks; waits = waits }) v sound (begins_with i b place callbacks waits k at may_here.none held held_now waits_now) in
     record { keeps = r.keeps; becomes = r.becomes ∙ ap (λ (x : Live). with_world x (begin_wait x.world who (Object object) cancel x.world.callbacks)) is }
 
@@ -183,12 +184,12 @@ all_settled l m object cancel is =
     ∙ filter_filter (is_cancelled_by (Object object) cancel) lives (over_not_cancelled (Object object) cancel) kept
     ∙ nothing_left object cancel l.world.callbacks
 
-pub may_settled : (l m : Live) (who : Who) (object : ObjectId) (cancel : Bool) → m ≡ settled l object cancel → MayBegin l.world who (Object object) → MayBegin m.world who (Object object)
+pub may_settled : (l m : Live) (who : Who) (object : ObjectId) (cancel : Bool) → m ≡ settled l object cancel → MayBegin l.world who (awaited.Object object) → MayBegin m.world who (awaited.Object object)
 may_settled l m who object cancel is a =
-    subst (λ (x : Live). MayBegin x.world who (Object object)) (sym is) (record { actor = a.actor; none = a.none; object = a.object; made = a.made })
+    subst (λ (x : Live). MayBegin x.world who (awaited.Object object)) (sym is) (record { actor = a.actor; none = a.none; made = a.made })
 
 -- to cancel and then to begin is the whole change
-pub begins : (l m : Live) (who : Who) (object : ObjectId) (cancel : Bool) → m ≡ settled l object cancel → with_world m (begin_wait m.world who (Object object) cancel m.world.callbacks) ≡ moved l (change.BeginWait who (Object object) cancel)
+pub begins : (l m : Live) (who : Who) (object : ObjectId) (cancel : Bool) → m ≡ settled l object cancel → with_world m (begin_wait m.world who (Object object) cancel m.world.callbacks) ≡ moved l (change.BeginWait who (awaited.Object object) cancel)
 begins l m who object cancel is =
     let kept : List CallbackRow = cancel_where (is_cancelled_by (Object object) cancel) l.world.callbacks in
     ap (λ (x : Live). with_world x (begin_wait x.world who (Object object) cancel x.world.callbacks)) is
@@ -213,13 +214,13 @@ none_cancelled kernel cancel [] = tt
 none_cancelled kernel cancel (c ∷ cs) = (ap (λ b. cancel && b) (and_false (is_pending c.status)) ∙ and_false cancel, none_cancelled kernel cancel cs)
 
 pub acquires : (i : Inside) (l : Live) (who : Who) (kernel : KernelId) (cancel : Bool) (waits : Begun) → shown i ≡ l → IsLiveWorld i
-    → IsAllowed (l.made + 1) l.world (change.BeginWait who (Kernel kernel) cancel) → waits ≡ record i.waits { waits = i.waits.waits ++ new_wait who (Kernel kernel) cancel i.callbacks.rows ∷ [] }
-    → Becomes (record i { waits = waits }) (moved l (change.BeginWait who (Kernel kernel) cancel))
+    → IsAllowed (l.made + 1) l.world (change.BeginWait who (awaited.Kernel kernel) cancel) → waits ≡ record i.waits { waits = i.waits.waits ++ new_wait who (Kernel kernel) cancel i.callbacks.rows ∷ [] }
+    → Becomes (record i { waits = waits }) (moved l (change.BeginWait who (awaited.Kernel kernel) cancel))
 acquires i l who kernel cancel waits is k allowed waits_now =
-    moved_by i (record i { waits = waits }) l (change.BeginWait who (Kernel kernel) cancel) is k allowed (omega arith) (λ a.
+    moved_by i (record i { waits = waits }) l (change.BeginWait who (awaited.Kernel kernel) cancel) is k allowed (omega arith) (λ a.
     let cs : List CallbackRow = i.callbacks.rows in
     let b : BegunWait = new_wait who (Kernel kernel) cancel cs in
     let kept : cancel_where (is_cancelled_by (Kernel kernel) cancel) cs ≡ cs = none_where cs (is_cancelled_by (Kernel kernel) cancel) (none_cancelled kernel cancel cs) in
     let nothing : held_among cs b ≡ [] = ap (filter (is_held_among cs (Kernel kernel))) (covers_none kernel cancel cs) in
     subst (λ ds. After (record i { waits = waits }) (begin_wait (shown i).world who (Kernel kernel) cancel ds)) (sym kept)
-    (rw waits_now (waits_after i i.callbacks.held (record i.waits { waits = i.waits.waits ++ b ∷ [] }) i.kernels k k.kernels k.slotted (covered_idle b a.none nothing k.covered))))
+    (rw waits_now (waits_after i i.callbacks.held (record i.waits { waits = i.waits.waits ++ b ∷ [] }) i.sources.sources.kernels k (covered_idle b a.none nothing k.covered))))

@@ -19,7 +19,7 @@ use Rattle.tp_model.specs.Counts.{has_number, is_live, numbered}
 use Rattle.tp_base.specs.Actors.{is_same_actor}
 use Rattle.tp_model.specs.Conditions.{is_actor}
 use Rattle.tp_model.specs.Changes.{replaced}
-use Rattle.tp_model.specs.Support.Sound.{IsRising, IsWaitSound}
+use Rattle.tp_model.specs.Support.Sound.{IsRising}
 use Rattle.tp_model.specs.Support.Remembered.{lives}
 use Rattle.tp_model.specs.Waits.{is_held_for, is_outstanding_for, is_group_target}
 use Rattle.tp_model.proofs.Lists.{find_all, filter_agree}
@@ -130,6 +130,10 @@ held_left r c cs target found out n =
     and_true true = refl
     and_true false = refl
 
+-- what the wait covers was made before the next number
+abbrev pub CoversBelow : ℕ → BegunWait → Type 0
+CoversBelow next_number b = AllByRecursion (λ n. n < next_number) b.covered
+
 module _ {limits : Limits} {cs : List CallbackRow} {waits : Begun} {held : List (List ℕ)} where
   pub covered_replaced : (r c : CallbackRow) → r.object ≡ c.object → r.group ≡ c.group → is_tied r ≡ is_tied c → lives r ≡ lives c → find (has_number r.number) cs ≡ Some c → AreCovered limits cs waits held → AreCovered limits (replaced r cs) waits held
   covered_replaced r c object group tied live found k =
@@ -150,10 +154,10 @@ module _ {limits : Limits} {cs : List CallbackRow} {waits : Begun} {held : List 
       (λ n. sym (over_forget (is_outstanding_for b.target) (over_not_outstanding b.target) 1 next_number n cs rising)) b.covered) k
 
   -- no wait holds a callback that is made later
-  pub covered_more : (next_number : ℕ) (c : CallbackRow) → c.number ≡ next_number → AllByRecursion (IsWaitSound next_number cs) waits.waits → AreCovered limits cs waits held → AreCovered limits (cs ++ c ∷ []) waits held
-  covered_more next_number c number sound k =
+  pub covered_more : (next_number : ℕ) (c : CallbackRow) → c.number ≡ next_number → AllByRecursion (CoversBelow next_number) waits.waits → AreCovered limits cs waits held → AreCovered limits (cs ++ c ∷ []) waits held
+  covered_more next_number c number made k =
       covered_same (cs ++ c ∷ [])
-      (λ who b is. held_agree (is_held_among cs b.target) (is_held_among (cs ++ c ∷ []) b.target) next_number b.covered (find_all (IsWaitSound next_number cs) (λ (x : BegunWait). is_same_actor x.actor who) b waits.waits sound is).made
+      (λ who b is. held_agree (is_held_among cs b.target) (is_held_among (cs ++ c ∷ []) b.target) next_number b.covered (find_all (CoversBelow next_number) (λ (x : BegunWait). is_same_actor x.actor who) b waits.waits made is)
       (λ n lt. ap (λ o. option_map_or (is_outstanding_for b.target) o false) (sym (appended n cs (ne_eqb c.number n (λ e. omega (arith, e, number, lt))))))) k
     where
       appended : (n : ℕ) (ds : List CallbackRow) → has_number n c ≡ false → find (has_number n) (ds ++ c ∷ []) ≡ find (has_number n) ds

@@ -1,159 +1,186 @@
--- What triggers and returns come to, as one callback after another: what is left to do leads to where all of it leads.
-use Rattle.std.proofs.Common.{◌≡◌, ℕ, zero, suc, ◌+◌, ◌≤◌, ◌^◌, true, false, cond, List, [], ◌∷◌, ◌++◌, length, Option, Some, None, refl, sym, ap, ap₂, ◌∙◌, arith, filter, find, length-append}
+-- What the parts show after a trigger or a return, of which all callbacks were made.
+use Rattle.std.proofs.Common.{◌≡◌, ℕ, ◌+◌, ◌<◌, ◌≤◌, true, List, [], ◌∷◌, ◌++◌, length, refl, sym, ap, ap₂, ◌∙◌, subst, arith, filter, length-append}
+use Rattle.std.specs.List.{AllByRecursion}
 use Rattle.std.proofs.lemmas.List.{append_assoc, append-nil}
 use Rattle.std.proofs.lemmas.List.Elements.{filter-append}
+use Rattle.tp_base.specs.declared.limits.Limits.{Limits}
 use Rattle.tp_base.specs.declared.ids.ObjectId.{ObjectId}
-use Rattle.tp_base.specs.declared.answers.TakeResult.{TakeResult}
-use Rattle.tp_base.specs.declared.answers.TakeResult.TheVariants.{WaitObject0}
 use Rattle.tp_base.specs.declared.plans.ActionWords.{ActionWords}
 use Rattle.tp_base.specs.declared.plans.Busy.{Busy}
 use Rattle.tp_base.specs.declared.plans.Change.TheVariants as change
-use Rattle.tp_base.specs.declared.rows.Arming.{Arming}
+use Rattle.tp_base.specs.declared.plans.Trigger.{Trigger}
 use Rattle.tp_base.specs.declared.rows.CallbackRow.{CallbackRow}
 use Rattle.tp_base.specs.declared.rows.ObjectRow.{ObjectRow}
-use Rattle.tp_base.specs.Armings.{is_arming_on}
-use Rattle.tp_base.specs.Kernels.{is_signalled}
+use Rattle.tp_base.specs.declared.rows.Slots.{Slots}
+use Rattle.live_callbacks.specs.Callbacks.{Callbacks}
+use Rattle.begun_waits.specs.Begun.{Begun}
+use Rattle.pool_rows.specs.declared.WorkerRow as kept
+use Rattle.sources.specs.Rows.{SourceRows}
 use Rattle.tp_model.specs.World.{World}
-use Rattle.tp_model.specs.Counts.{slots}
-use Rattle.tp_model.specs.Kernels.{is_one_that}
-use Rattle.tp_model.specs.Sources.{Sources, Job, Firing, fired, job, jobless, sources_of, rows_of, new_callback, object_row, release_to, release_first, release_times}
-use Rattle.tp_model.specs.Actions.{returning, slots_of}
+use Rattle.tp_model.specs.Actions.{performed, returning, slots_of}
 use Rattle.tp_model.specs.Changes.{without_run}
+use Rattle.tp_model.specs.Sources.{Firing, Job, fired, firing, jobless, new_callback, object_row, rows_of, sources_of}
+use Rattle.tp_model.specs.Support.Allowed.{IsAllowed}
 use Rattle.tp_model.specs.Support.Remembered.{lives, forget}
-use Rattle.tp_model.proofs.Firing.{length_rows}
+use Rattle.tp_model.specs.Support.Sound.{IsSound, IsWaitSound, is_standing, may_be_armed}
+use Rattle.tp_model.proofs.Firing.{AreJobsOf, armable_stands, fired_in, length_rows, row_of_made, standing_made}
 use Rattle.tp_model.proofs.Forgetting.{live_again}
-use Rattle.live_world.specs.Live.{Live, moved, with_world, fired_to, next_of_object, unfired, with_sources}
+use Rattle.tp_model.proofs.Lists.{all_along}
+use Rattle.tp_model.proofs.Performing.{returning_of, returning_within}
+use Rattle.tp_model.proofs.Sound.{changed_sound, sources_in}
+use Rattle.live_world.specs.declared.LiveWorld.TheInside.{Inside}
+use Rattle.live_world.specs.Invariant.{AreCovered, AreTallied}
+use Rattle.live_world.specs.Live.{Live, moved, with_world}
+use Rattle.live_world.specs.Making.{CanMake, IsFired, IsUsable}
+use Rattle.live_world.specs.View.{shown, IsLiveWorld}
+use Rattle.live_world.proofs.Covered.{CoversBelow, covered_more}
+use Rattle.live_world.proofs.Moving.{After, Becomes, became_by, moved_by}
+use Rattle.live_world.proofs.NewRow.{below_next}
+use Rattle.live_world.proofs.Tallied.{tallied_more}
+
+-- ---- all of it can be made
+
+abbrev pub Stands : List ObjectRow → ℕ → Type 0
+Stands objects n = is_standing objects n ≡ true
+
+pub can_make : (i : Inside) (jobs : List Job) → IsLiveWorld i → AreJobsOf (Stands i.objects.objects) jobs → length i.callbacks.rows + length jobs ≤ i.limits.slots → CanMake i.callbacks i.objects.objects (i.made + 1) jobs
+can_make i jobs k stand room =
+    record {
+      room = omega (arith, room, k.alive.slot_limit);
+      last = below_next 1 (i.made + 1) i.callbacks.rows k.sound.numbers;
+      usable = all_along (λ (j : Job). Stands i.objects.objects j.object.0 × _) (λ (j : Job). IsUsable i.callbacks i.objects.objects j.object) (λ j s. usable j.object s.0) jobs stand;
+    }
+  where
+    usable : (object : ObjectId) → Stands i.objects.objects object.0 → IsUsable i.callbacks i.objects.objects object
+    usable object stands =
+        let made = standing_made i.objects.objects object.0 stands in
+        record {
+          made = made;
+          known = omega (arith, made.1, k.sized.objects_within, k.alive.object_limit);
+          pool = omega (
+            arith,
+            row_of_made (λ (o : ObjectRow). o.env.pool.0 < length i.pools.pools) i.objects.objects object k.sound.object_pools made,
+            k.sized.pools_within,
+            k.alive.pool_limit,
+          );
+        }
+
+-- ---- and once it was
+
+rows_live : (objects : List ObjectRow) (number : ℕ) (jobs : List Job) → filter lives (rows_of objects number jobs) ≡ rows_of objects number jobs
+rows_live objects number [] = refl
+rows_live objects number (j ∷ js) = ap (λ cs. new_callback number j.object (object_row objects j.object) j.result ∷ cs) (rows_live objects (number + 1) js)
 
 -- what lives of callbacks of which some are appended
-pub live_appended : (cs ds : List CallbackRow) → filter lives (filter lives cs ++ ds) ≡ filter lives (cs ++ ds)
+live_appended : (cs ds : List CallbackRow) → filter lives (filter lives cs ++ ds) ≡ filter lives (cs ++ ds)
 live_appended cs ds =
     filter-append lives (filter lives cs) ds ∙ ap (λ ls. ls ++ filter lives ds) (live_again cs) ∙ sym (filter-append lives cs ds)
 
--- where nothing changes
-pub kept : (l : Live) → forget l.world ≡ l.world → l ≡ moved l change.Keep
-kept l living = ap₂ (λ (w : World) (n : ℕ). record { world = w; made = n }) (sym living) (omega arith)
+tallied_jobs : (objects : List ObjectRow) (number : ℕ) (jobs : List Job) (cs : List CallbackRow) (ws : List kept.WorkerRow) → AreTallied cs ws → AreTallied (cs ++ rows_of objects number jobs) ws
+tallied_jobs objects number [] cs ws k = subst (λ xs. AreTallied xs ws) (sym (append-nil cs)) k
+tallied_jobs objects number (j ∷ js) cs ws k =
+    let c : CallbackRow = new_callback number j.object (object_row objects j.object) j.result in
+    subst (λ xs. AreTallied xs ws) (append_assoc cs (c ∷ []) (rows_of objects (number + 1) js)) (tallied_jobs objects (number + 1) js (cs ++ c ∷ []) ws (tallied_more c cs ws refl k))
 
--- ---- one after another
+covered_jobs : (limits : Limits) (objects : List ObjectRow) (number : ℕ) (jobs : List Job) (cs : List CallbackRow) (waits : Begun) (held : List (List ℕ)) → AllByRecursion (CoversBelow number) waits.waits → AreCovered limits cs waits held
+    → AreCovered limits (cs ++ rows_of objects number jobs) waits held
+covered_jobs limits objects number [] cs waits held below k = subst (λ xs. AreCovered limits xs waits held) (sym (append-nil cs)) k
+covered_jobs limits objects number (j ∷ js) cs waits held below k =
+    let c : CallbackRow = new_callback number j.object (object_row objects j.object) j.result in
+    subst (λ xs. AreCovered limits xs waits held) (append_assoc cs (c ∷ []) (rows_of objects (number + 1) js))
+    (covered_jobs limits objects (number + 1) js (cs ++ c ∷ []) waits held
+    (all_along (CoversBelow number) (CoversBelow (number + 1)) (λ b made. all_along (λ n. n < number) (λ n. n < number + 1) (λ n lt. omega (arith, lt)) b.covered made) waits.waits below)
+    (covered_more number c refl below k))
 
--- the rows of jobs and of further ones
-rows_append : (objects : List ObjectRow) (next_number : ℕ) (js ks : List Job) → rows_of objects next_number (js ++ ks) ≡ rows_of objects next_number js ++ rows_of objects (next_number + length js) ks
-rows_append objects next_number [] ks = ap (λ n. rows_of objects n ks) (omega arith)
-rows_append objects next_number (j ∷ js) ks =
-    ap (λ cs. new_callback next_number j.object (object_row objects j.object) j.result ∷ cs)
-    (rows_append objects (next_number + 1) js ks ∙ ap (λ n. rows_of objects (next_number + 1) js ++ rows_of objects n ks) (omega arith))
+abbrev pub with_fired : Inside → SourceRows → Callbacks → ℕ → Inside
+with_fired i sources callbacks made = record i { sources = sources; callbacks = callbacks; made = made }
 
--- the live world with these sources, callbacks and number of callbacks
-abbrev pub with_all : Live → Sources → List CallbackRow → ℕ → Live
-with_all l s cs made = record { world = record l.world { settings = s.settings; armings = s.armings; kernels = s.kernels; now = s.now; callbacks = cs }; made = made }
-
--- which sources there were before is no matter
-pub fired_over : (l : Live) (s : Sources) (f : Firing) → fired_to (with_sources l s) f ≡ fired_to l f
-fired_over l s f = ap (λ cs. with_all l f.sources cs (l.made + length f.jobs)) (live_appended l.world.callbacks (rows_of l.world.objects (l.made + 1) f.jobs))
-
-pub sources_over : (l : Live) (s t : Sources) → with_sources (with_sources l s) t ≡ with_sources l t
-sources_over l s t = ap (λ cs. with_all l t cs l.made) (live_again l.world.callbacks)
-
--- and nor is what was over
-pub fired_became : (l : Live) (v : World) (f : Firing) → fired_to (with_world l v)
-    f ≡ record {
-      world = forget (record v {
-        settings = f.sources.settings;
-        armings = f.sources.armings;
-        kernels = f.sources.kernels;
-        now = f.sources.now;
-        callbacks = v.callbacks ++ rows_of v.objects (l.made + 1) f.jobs;
-      });
-      made = l.made + length f.jobs;
-    }
-fired_became l v f = ap (λ cs. with_all (record { world = v; made = l.made }) f.sources cs (l.made + length f.jobs)) (live_appended v.callbacks (rows_of v.objects (l.made + 1) f.jobs))
-
--- a return, as its change says it
-pub return_moved : (l : Live) (by : Busy) (words : ActionWords) (first count : ℕ) → first ≡ l.made + 1 → count ≡ length (returning l.world words (slots_of by.callback.status)).jobs
-    → fired_to (with_world l (without_run l.world by)) (returning l.world words (slots_of by.callback.status)) ≡ moved l (change.Return by words first count)
-return_moved l by words first count number counted =
-    let f : Firing = returning l.world words (slots_of by.callback.status) in
-    fired_became l (without_run l.world by) f ∙ ap₂ (λ (n m : ℕ). record { world = forget (fired (without_run l.world by) n f); made = l.made + m }) (sym number) (sym counted)
-
--- one firing behind another
-abbrev pub behind : Firing → Firing → Firing
-behind f g = record { sources = g.sources; jobs = f.jobs ++ g.jobs }
-
-pub fired_twice : (l : Live) (f g : Firing) → fired_to (fired_to l f) g ≡ fired_to l (behind f g)
-fired_twice l f g =
-    let w : World = l.world in
-    let first : List CallbackRow = rows_of w.objects (l.made + 1) f.jobs in
-    let second : List CallbackRow = rows_of w.objects ((l.made + length f.jobs) + 1) g.jobs in
-    ap₂ (λ cs (n : ℕ). with_all l g.sources cs n)
-    (live_appended (w.callbacks ++ first) second
-    ∙ ap (filter lives) (append_assoc w.callbacks first second ∙ ap (λ rs. w.callbacks ++ rs) (ap (λ n. first ++ rows_of w.objects n g.jobs) (omega arith) ∙ sym (rows_append w.objects (l.made + 1) f.jobs g.jobs))))
-    (omega (arith, length-append f.jobs g.jobs))
-
-pub fired_none : (l : Live) (s : Sources) → fired_to l (jobless s) ≡ with_sources l s
-fired_none l s = ap₂ (λ cs (n : ℕ). with_all l s cs n) (ap (filter lives) (append-nil l.world.callbacks)) (omega arith)
-
--- the sources that there are
-pub same_sources : (l : Live) → forget l.world ≡ l.world → with_sources l (sources_of l.world) ≡ l
-same_sources l living = ap (λ (w : World). record { world = w; made = l.made }) living
-
-abbrev pub one : Sources → ObjectId → TakeResult → Firing
-one s object result = record { sources = s; jobs = job object result ∷ [] }
-
-pub next_fired : (l : Live) (object : ObjectId) (result : TakeResult) → next_of_object l object result ≡ fired_to l (one (sources_of l.world) object result)
-next_fired l object result = refl
-
--- other sources, and the callback of a job
-pub next_over : (l : Live) (s : Sources) (object : ObjectId) (result : TakeResult) → next_of_object (with_sources l s) object result ≡ fired_to l (one s object result)
-next_over l s object result = next_fired (with_sources l s) object result ∙ fired_over l s (one s object result)
-
--- ---- slots
-
-pub slots_fired : (l : Live) (f : Firing) → slots (fired_to l f).world ≡ length (filter lives l.world.callbacks) + length f.jobs + length f.sources.armings
-slots_fired l f =
-    let rows : List CallbackRow = rows_of l.world.objects (l.made + 1) f.jobs in
-    omega (
-      arith,
-      ap length (live_again (l.world.callbacks ++ rows) ∙ filter-append lives l.world.callbacks rows),
-      length-append (filter lives l.world.callbacks) (filter lives rows),
-      ap length (rows_live l.world.objects (l.made + 1) f.jobs),
-      length_rows l.world.objects (l.made + 1) f.jobs,
-    )
+pub fired_after : (i : Inside) (u : World) (f : Firing) (sources : SourceRows) (callbacks : Callbacks) (made : ℕ) → IsLiveWorld i → (shown i).world ≡ forget u → length i.callbacks.rows + length f.jobs + length f.sources.armings ≤ i.limits.slots
+    → IsFired f i.objects.objects i.made made i.sources sources i.callbacks callbacks → After (with_fired i sources callbacks made) (fired u (i.made + 1) f)
+fired_after i u f sources callbacks made k is room h =
+    subst (λ (s : SourceRows). After (with_fired i s callbacks made) (fired u (i.made + 1) f)) (sym h.sources)
+    (subst (λ (c : Callbacks). After (with_fired i (record i.sources { sources = f.sources }) c made) (fired u (i.made + 1) f)) (sym h.callbacks)
+    (record {
+      shows =
+          ap (λ cs. record (fired (shown i).world (i.made + 1) f) { callbacks = cs }) (sym living)
+          ∙ ap (λ w. forget (fired w (i.made + 1) f)) is
+          ∙ ap (λ cs. record (fired u (i.made + 1) f) { callbacks = cs }) (live_appended u.callbacks (rows_of u.objects (i.made + 1) f.jobs));
+      sized = k.sized;
+      alive = record { slot_limit = k.alive.slot_limit; pool_limit = k.alive.pool_limit; object_limit = k.alive.object_limit; live = living };
+      tallied = tallied_jobs i.objects.objects (i.made + 1) f.jobs i.callbacks.rows i.pools.workers k.tallied;
+      covered = covered_jobs i.limits i.objects.objects (i.made + 1) f.jobs i.callbacks.rows i.waits i.callbacks.held
+          (all_along (IsWaitSound (i.made + 1) i.callbacks.rows) (CoversBelow (i.made + 1)) (λ b s. s.made) i.waits.waits k.sound.waits) k.covered;
+      timed = record { object_limit = k.timed.object_limit; kernel_limit = k.timed.kernel_limit; places = k.timed.places; there = k.timed.there };
+      slotted = record { slots = omega (arith, room, length-append i.callbacks.rows rows, length_rows i.objects.objects (i.made + 1) f.jobs) };
+    }))
   where
-    rows_live : (objects : List ObjectRow) (next_number : ℕ) (jobs : List Job) → filter lives (rows_of objects next_number jobs) ≡ rows_of objects next_number jobs
-    rows_live objects next_number [] = refl
-    rows_live objects next_number (j ∷ js) = ap (λ cs. new_callback next_number j.object (object_row objects j.object) j.result ∷ cs) (rows_live objects (next_number + 1) js)
+    rows : List CallbackRow
+    rows = rows_of i.objects.objects (i.made + 1) f.jobs
 
--- ---- releases, one after another
+    living : filter lives (i.callbacks.rows ++ rows) ≡ i.callbacks.rows ++ rows
+    living = filter-append lives i.callbacks.rows rows ∙ ap₂ (λ xs ys. xs ++ ys) k.alive.live (rows_live i.objects.objects (i.made + 1) f.jobs)
 
--- the jobs that there were before
-abbrev pub before : List Job → Firing → Firing
-before jobs f = record f { jobs = jobs ++ f.jobs }
+-- ---- a trigger
 
-first_before : (jobs : List Job) (kernel : ℕ) (f : Firing) → release_first kernel (before jobs f) ≡ before jobs (release_first kernel f)
-first_before jobs kernel f =
-    elim (is_one_that is_signalled f.sources.kernels kernel) as (λ b. cond b (release_to kernel (before jobs f) (find (is_arming_on kernel) f.sources.armings)) (before jobs f) ≡ before jobs (cond b (release_to kernel f (find (is_arming_on kernel) f.sources.armings)) f)) [
-      | true ↦ of_first (find (is_arming_on kernel) f.sources.armings)
-      | false ↦ refl
-    ]
-  where
-    of_first : (first : Option Arming) → release_to kernel (before jobs f) first ≡ before jobs (release_to kernel f first)
-    of_first None = refl
-    of_first (Some a) = ap (λ js. record { sources = (release_to kernel f (Some a)).sources; jobs = js }) (append_assoc jobs f.jobs (job a.object WaitObject0 ∷ []))
+module _ (i : Inside) (l : Live) (trigger : Trigger) (first count : ℕ) (is : shown i ≡ l) (k : IsLiveWorld i) (allowed : IsAllowed (l.made + 1) l.world (change.Fire trigger first count)) where
+  here : IsAllowed (i.made + 1) (shown i).world (change.Fire trigger first count)
+  here = subst (λ (x : Live). IsAllowed (x.made + 1) x.world (change.Fire trigger first count)) (sym is) allowed
 
-pub times_before : (jobs : List Job) (n kernel : ℕ) (f : Firing) → release_times n kernel (before jobs f) ≡ before jobs (release_times n kernel f)
-times_before jobs zero kernel f = refl
-times_before jobs (suc n) kernel f = ap (release_times n kernel) (first_before jobs kernel f) ∙ times_before jobs n kernel (release_first kernel f)
+  abbrev f : Firing
+  f = firing trigger i.sources.sources
 
--- the first, and then the rest
-pub times_behind : (n kernel : ℕ) (f : Firing) → release_times n kernel f ≡ behind f (release_times n kernel (jobless f.sources))
-times_behind n kernel f = ap (release_times n kernel) (ap (λ js. record { sources = f.sources; jobs = js }) (sym (append-nil f.jobs))) ∙ times_before f.jobs n kernel (jobless f.sources)
+  room : length i.callbacks.rows + length f.jobs + length f.sources.armings ≤ i.limits.slots
+  room =
+      let living : length (filter lives i.callbacks.rows) ≡ length i.callbacks.rows = ap length k.alive.live in
+      omega (arith, living, here.room (omega (arith, living, k.slotted.slots)))
 
-pub times_idle : (n kernel : ℕ) (f : Firing) → release_first kernel f ≡ f → release_times n kernel f ≡ f
-times_idle zero kernel f idle = refl
-times_idle (suc n) kernel f idle = ap (release_times n kernel) idle ∙ times_idle n kernel f idle
+  pub fire_can : CanMake i.callbacks i.objects.objects (i.made + 1) f.jobs
+  fire_can = can_make i f.jobs k (fired_in (shown i).world trigger here.ready (sources_in (i.made + 1) (shown i).world k.sound)).jobs (omega (arith, room))
 
--- while waits are released: what is left leads to where all of it led, and there are numbers for it
-pub record IsReleasing (kernel : ℕ) (start l : Live) : Type 0 where
-  pub times : ℕ
-  pub enough : length l.world.armings ≤ times
-  pub onwards : fired_to l (release_times times kernel (unfired l)) ≡ fired_to start (release_times (length start.world.armings) kernel (unfired start))
-  pub young : l.made + length l.world.armings ≤ 2 ^ 63
+  pub fire_fits : length f.jobs ≤ i.limits.slots
+  fire_fits = omega (arith, room)
+
+  pub fired_by : (sources : SourceRows) (callbacks : Callbacks) (made : ℕ) → IsFired f i.objects.objects i.made made i.sources sources i.callbacks callbacks → Becomes (with_fired i sources callbacks made) (moved l (change.Fire trigger first count))
+  fired_by sources callbacks made h =
+      moved_by i (with_fired i sources callbacks made) l (change.Fire trigger first count) is k allowed (omega (arith, h.number, here.counted)) (λ a.
+      subst (λ n. After (with_fired i sources callbacks made) (fired (shown i).world n f)) (sym a.number)
+      (fired_after i (shown i).world f sources callbacks made k (ap (λ cs. record (shown i).world { callbacks = cs }) (sym k.alive.live)) room h))
+
+-- ---- a return, of a callback that has ended
+
+module _ (i : Inside) (old : Live) (by : Busy) (words : ActionWords) (slots : Slots) (first count : ℕ) (is : shown i ≡ with_world old (without_run old.world by)) (k : IsLiveWorld i) (sound : IsSound (old.made + 1) old.world)
+    (allowed : IsAllowed (old.made + 1) old.world (change.Return by words first count)) (same : slots ≡ slots_of by.callback.status) where
+  abbrev v : World
+  v = old.world
+
+  abbrev g : Firing
+  g = performed words slots (jobless i.sources.sources)
+
+  -- the sources are as they were
+  all_of : g ≡ returning v words (slots_of by.callback.status)
+  all_of = ap₂ (λ (s : Slots) (x : Live). performed words s (jobless (sources_of x.world))) same is
+
+  return_room : length i.callbacks.rows + length g.jobs + length g.sources.armings ≤ i.limits.slots
+  return_room =
+      let left = returning_within (shown i).world words slots in
+      omega (arith, left, k.slotted.slots)
+
+  pub return_can : CanMake i.callbacks i.objects.objects (i.made + 1) g.jobs
+  return_can =
+      let objects = i.objects.objects in
+      can_make i g.jobs k (returning_of (Stands objects) (λ n. may_be_armed objects n ≡ true) (λ n may. armable_stands objects n may) (shown i).world words slots (sources_in (i.made + 1) (shown i).world k.sound)).jobs (omega (arith, return_room))
+
+  pub return_fits : length g.jobs ≤ i.limits.slots
+  return_fits = omega (arith, return_room)
+
+  pub returned_by : (sources : SourceRows) (callbacks : Callbacks) (made : ℕ) → IsFired g i.objects.objects i.made made i.sources sources i.callbacks callbacks → Becomes (with_fired i sources callbacks made) (moved old (change.Return by words first count))
+  returned_by sources callbacks made h =
+      let after : World = fired (without_run v by) first (returning v words (slots_of by.callback.status)) in
+      let numbers : i.made ≡ old.made = ap (λ (x : Live). x.made) is in
+      let counts : made ≡ old.made + count = omega (arith, h.number, numbers, allowed.counted, ap (λ (x : Firing). length x.jobs) all_of) in
+      let b = became_by (with_fired i sources callbacks made) after
+      (subst (λ n. IsSound n after) (omega (arith, counts)) (changed_sound (old.made + 1) v (change.Return by words first count) sound allowed))
+      (subst (λ n. After (with_fired i sources callbacks made) (fired (without_run v by) n (returning v words (slots_of by.callback.status)))) (omega (arith, numbers, allowed.number))
+      (subst (λ (x : Firing). After (with_fired i sources callbacks made) (fired (without_run v by) (i.made + 1) x)) all_of
+      (fired_after i (without_run v by) g sources callbacks made k (ap (λ (x : Live). x.world) is) return_room h))) in
+      record { keeps = b.keeps; becomes = b.becomes ∙ ap (λ n. record { world = forget after; made = n }) counts }

@@ -17,14 +17,6 @@ use Rattle.live_world.proofs.Lists.{all_pass}
 use Rattle.live_world.proofs.Covering.{itself}
 use Rattle.live_world.proofs.Walks.{Rises, rest, IsAmong, all_least, rest_first, first_among, rises_pairs, onward}
 
--- what is kept lives
-pub all_live : (t : CallbackRow → Bool) (cs : List CallbackRow) → filter lives cs ≡ cs → list_any t cs ≡ list_any (λ c. is_live c.status && t c) cs
-all_live t cs living = each cs (subst (AllByRecursion (λ c. lives c ≡ true)) living (all_pass lives cs))
-  where
-    each : (ds : List CallbackRow) → AllByRecursion (λ c. lives c ≡ true) ds → list_any t ds ≡ list_any (λ c. is_live c.status && t c) ds
-    each [] all = refl
-    each (d ∷ ds) all = ap₂ (λ a b. (a && t d) || b) (sym all.0) (each ds all.1)
-
 -- a callback of the group that has no object and is kept is outstanding for the group, disassociated or not
 pub simple_live : (group : GroupId) (cs : List CallbackRow) → filter lives cs ≡ cs → list_any (λ c. c.object.0 == 0) (filter (is_of_group group) cs) ≡ list_any (is_simple_of group) cs
 simple_live group cs living = each cs (subst (AllByRecursion (λ c. lives c ≡ true)) living (all_pass lives cs))

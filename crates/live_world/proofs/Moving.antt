@@ -1,5 +1,5 @@
 -- What the parts show after each change, and that they keep their invariant.
-use Rattle.std.proofs.Common.{◌≡◌, ◌≢◌, ℕ, ◌+◌, ◌-◌, ◌<◌, ◌≤◌, Bool, true, false, cond, not, ◌&&◌, ◌==◌, List, [], ◌∷◌, ◌++◌, length, map, slice_get, slice_set, Option, Some, None, is_some, IsSomeAnd, refl, sym, ap, ap₂, ◌∙◌, subst, arith, filter, find, length-set, length-append, ltb-false}
+use Rattle.std.proofs.Common.{◌≡◌, ◌≢◌, ℕ, ◌+◌, ◌-◌, ◌<◌, Bool, true, false, cond, not, ◌&&◌, ◌==◌, List, [], ◌∷◌, ◌++◌, length, map, slice_get, slice_set, Option, Some, None, is_some, IsSomeAnd, refl, sym, ap, ap₂, ◌∙◌, subst, arith, filter, find, length-set, length-append, ltb-false}
 use Rattle.std.proofs.lemmas.List.{length-map, map-set}
 use Rattle.std.proofs.lemmas.List.Sums.{length-filter, count_by-le-length}
 use Rattle.tp_base.specs.declared.ids.PoolId.{PoolId}
@@ -8,16 +8,17 @@ use Rattle.tp_base.specs.declared.plans.Idle.{Idle}
 use Rattle.tp_base.specs.declared.plans.Busy.{Busy}
 use Rattle.tp_base.specs.declared.plans.Change.{Change}
 use Rattle.tp_base.specs.declared.plans.Change.TheVariants as change
+use Rattle.tp_base.specs.declared.rows.Arming.{Arming}
 use Rattle.tp_base.specs.declared.rows.CallbackRow.{CallbackRow}
+use Rattle.tp_base.specs.declared.rows.KernelRow.{KernelRow}
 use Rattle.tp_base.specs.declared.rows.WorkerRow.{WorkerRow}
 use Rattle.tp_base.specs.declared.rows.ClientRow.{ClientRow}
 use Rattle.live_callbacks.specs.Callbacks.{Callbacks, MovesOn, all_but, is_tied}
-use Rattle.handle_table.specs.Table.{Table}
 use Rattle.pool_rows.specs.Pools.{Pools, worker_of, with_worker as with_kept_worker}
 use Rattle.pool_rows.specs.Workers.{IsIdle, idle_in, unattached as unattached_row}
 use Rattle.pool_rows.specs.declared.WorkerRow as kept
 use Rattle.begun_waits.specs.Begun.{Begun}
-use Rattle.kernel_events.specs.Kernels.{Kernels}
+use Rattle.sources.specs.Rows.{with_sources}
 use Rattle.tp_base.specs.declared.answers.TakeResult.{TakeResult}
 use Rattle.tp_base.specs.declared.ids.ObjectId.{ObjectId}
 use Rattle.tp_base.specs.declared.rows.Status.{Status}
@@ -29,21 +30,21 @@ use Rattle.tp_model.specs.Conditions.{lacks_slots_for}
 use Rattle.tp_model.specs.Changes.{changed, replaced}
 use Rattle.tp_model.specs.Waits.{is_held_for}
 use Rattle.tp_model.specs.Support.Allowed.{IsAllowed, Idles, Runs, news}
-use Rattle.tp_model.specs.Support.Sound.{IsSound}
+use Rattle.tp_model.specs.Support.Sound.{IsSound, IsWaitSound}
 use Rattle.tp_model.specs.Support.Remembered.{lives, forget}
-use Rattle.tp_model.proofs.Lists.{all_set, all_get}
+use Rattle.tp_model.proofs.Lists.{all_along, all_set, all_get}
 use Rattle.tp_model.proofs.Callbacks.{rising_replaced}
 use Rattle.tp_model.proofs.Refusals.{numbered_at}
 use Rattle.tp_model.proofs.Sound.{changed_sound}
 use Rattle.tp_model.proofs.Forgetting.{forget_sound}
-use Rattle.live_world.specs.declared.objects.Object.{Object}
+use Rattle.object_rows.specs.Objects.{ObjectTable}
 use Rattle.live_world.specs.declared.LiveWorld.TheInside.{Inside}
 use Rattle.live_world.specs.Live.{Live, moved}
 use Rattle.live_world.specs.Parts.{world_of, shown_worker}
 use Rattle.live_world.specs.View.{shown, IsLiveWorld}
-use Rattle.live_world.specs.Invariant.{AreSized, AreLive, AreTallied, AreCovered, AreTimed, AreKernels, AreSlotted, AreGrouped, AreMembered, IsHome, AreMarked}
+use Rattle.live_world.specs.Invariant.{AreSized, AreLive, AreTallied, AreCovered, AreTimed, AreSlotted, IsHome, AreMarked}
 use Rattle.live_world.proofs.Alive.{alive_more, alive_replaced, alive_less, removed_rows}
-use Rattle.live_world.proofs.Covered.{covered_less, covered_lives, covered_more}
+use Rattle.live_world.proofs.Covered.{CoversBelow, covered_less, covered_lives, covered_more}
 use Rattle.live_world.proofs.Tallied.{AreApart, is_behind, runs_nothing, runs_this, worker_changed, tallied_more, tallied_free, tallied_still, tallied_lives, still_apart, marked_replaced, marked_others}
 
 -- ---- what every change shows
@@ -55,11 +56,8 @@ pub record After (i : Inside) (v : World) : Type 0 where
   pub alive : AreLive i.limits i.callbacks
   pub tallied : AreTallied i.callbacks.rows i.pools.workers
   pub covered : AreCovered i.limits i.callbacks.rows i.waits i.callbacks.held
-  pub timed : AreTimed i.limits i.objects i.timers
-  pub kernels : AreKernels i.limits i.kernels
-  pub slotted : AreSlotted i.limits i.callbacks.rows i.kernels i.armed
-  pub grouped : AreGrouped i.limits i.groups
-  pub membered : AreMembered i.limits i.objects i.members
+  pub timed : AreTimed i.limits i.objects.objects i.sources
+  pub slotted : AreSlotted i.limits i.callbacks.rows i.sources.sources.armings
 
 -- they keep their invariant, and show this
 pub record Becomes (i : Inside) (l : Live) : Type 0 where
@@ -75,10 +73,7 @@ became_by j v s a =
         tallied = a.tallied;
         covered = a.covered;
         timed = a.timed;
-        kernels = a.kernels;
         slotted = a.slotted;
-        grouped = a.grouped;
-        membered = a.membered;
         sound = subst (λ w. IsSound (j.made + 1) w) (sym a.shows) (forget_sound (j.made + 1) v s);
       };
       becomes = ap (λ (w : World). record { world = w; made = j.made }) a.shows;
@@ -98,46 +93,37 @@ moved_by i j l ch is k allowed counts after =
     }
 
 -- the waits change, what they hold, and the kernel objects that they take
-pub waits_after : (i : Inside) (held : List (List ℕ)) (waits : Begun) (kernels : Kernels) → IsLiveWorld i → AreKernels i.limits kernels → AreSlotted i.limits i.callbacks.rows kernels i.armed → AreCovered i.limits i.callbacks.rows waits held
-    → After (record i { callbacks = record i.callbacks { held = held }; waits = waits; kernels = kernels }) (record (shown i).world { waits = waits.waits; given_up = waits.given_up; kernels = kernels.rows; armings = kernels.armed })
-waits_after i held waits kernels k standing slotted covered =
+pub waits_after : (i : Inside) (held : List (List ℕ)) (waits : Begun) (kernels : List KernelRow) → IsLiveWorld i → AreCovered i.limits i.callbacks.rows waits held
+    → After (record i { callbacks = record i.callbacks { held = held }; waits = waits; sources = with_sources i.sources (record i.sources.sources { kernels = kernels }) }) (record (shown i).world { waits = waits.waits; given_up = waits.given_up; kernels = kernels })
+waits_after i held waits kernels k covered =
     record {
-      shows = ap (λ ds. record (shown i).world { callbacks = ds; waits = waits.waits; given_up = waits.given_up; kernels = kernels.rows; armings = kernels.armed }) (sym k.alive.live);
+      shows = ap (λ ds. record (shown i).world { callbacks = ds; waits = waits.waits; given_up = waits.given_up; kernels = kernels }) (sym k.alive.live);
       sized = k.sized;
       alive = record { slot_limit = k.alive.slot_limit; pool_limit = k.alive.pool_limit; object_limit = k.alive.object_limit; live = k.alive.live };
       tallied = k.tallied;
       covered = covered;
-      timed = k.timed;
-      kernels = standing;
-      slotted = slotted;
-      grouped = k.grouped;
-      membered = k.membered;
+      timed = record { object_limit = k.timed.object_limit; kernel_limit = k.timed.kernel_limit; places = k.timed.places; there = k.timed.there };
+      slotted = k.slotted;
     }
 
 -- ---- slots
 
-pub slots_replaced : {limits : Limits} {callbacks : List CallbackRow} {kernels : Kernels} {armed : ℕ} (r : CallbackRow) → AreSlotted limits callbacks kernels armed → AreSlotted limits (replaced r callbacks) kernels armed
-slots_replaced {callbacks = callbacks} r k = record { counted = k.counted; slots = omega (arith, length-map callbacks (λ (c : CallbackRow). cond (has_number r.number c) r c), k.slots) }
+pub slots_replaced : {limits : Limits} {callbacks : List CallbackRow} {armings : List Arming} (r : CallbackRow) → AreSlotted limits callbacks armings → AreSlotted limits (replaced r callbacks) armings
+slots_replaced {callbacks = callbacks} r k = record { slots = omega (arith, length-map callbacks (λ (c : CallbackRow). cond (has_number r.number c) r c), k.slots) }
 
-pub slots_fewer : {limits : Limits} {callbacks : List CallbackRow} {kernels : Kernels} {armed : ℕ} (p : CallbackRow → Bool) → AreSlotted limits callbacks kernels armed → AreSlotted limits (filter p callbacks) kernels armed
-slots_fewer {callbacks = callbacks} p k = record { counted = k.counted; slots = omega (arith, length-filter p callbacks, count_by-le-length p callbacks, k.slots) }
-
-pub slots_more : {limits : Limits} {callbacks : List CallbackRow} {kernels : Kernels} {armed : ℕ} (c : CallbackRow) → length callbacks + length kernels.armed + 1 ≤ limits.slots → AreSlotted limits callbacks kernels armed → AreSlotted limits (callbacks ++ c ∷ []) kernels armed
-slots_more {callbacks = callbacks} c room k = record { counted = k.counted; slots = omega (arith, length-append callbacks (c ∷ []), room) }
-
-pub slots_here : {callbacks : List CallbackRow} (n most : ℕ) → filter lives callbacks ≡ callbacks → length (filter lives callbacks) + n + 1 ≤ most → length callbacks + n + 1 ≤ most
-slots_here n most living room = omega (arith, ap length living, room)
+pub slots_fewer : {limits : Limits} {callbacks : List CallbackRow} {armings : List Arming} (p : CallbackRow → Bool) → AreSlotted limits callbacks armings → AreSlotted limits (filter p callbacks) armings
+slots_fewer {callbacks = callbacks} p k = record { slots = omega (arith, length-filter p callbacks, count_by-le-length p callbacks, k.slots) }
 
 -- callbacks and workers alone change
 shows_along : (i : Inside) (workers : List kept.WorkerRow) (now after : List CallbackRow) (workers_after : List WorkerRow) → now ≡ filter lives after → map shown_worker workers ≡ workers_after
-    → world_of i.limits (record i.pools { workers = workers }) i.groups i.objects now i.kernels i.clients.items i.waits.waits i.timers.settings i.clock i.waits.given_up ≡ forget (record (shown i).world { callbacks = after; workers = workers_after })
+    → world_of i.limits (record i.pools { workers = workers }) i.objects now i.sources.sources i.clients.items i.waits.waits i.waits.given_up ≡ forget (record (shown i).world { callbacks = after; workers = workers_after })
 shows_along i workers now after workers_after ec ew = ap₂ (λ cs ws. record (shown i).world { callbacks = cs; workers = ws }) ec ew
 
 pub set_shown : (workers : List kept.WorkerRow) (number : ℕ) (new : kept.WorkerRow) (target : WorkerRow) → shown_worker new ≡ target → map shown_worker (slice_set workers (number - 1) new) ≡ slice_set (map shown_worker workers) (number - 1) target
 set_shown workers number new target shows = map-set shown_worker workers (number - 1) new ∙ ap (λ t. slice_set (map shown_worker workers) (number - 1) t) shows
 
 -- another row of a worker
-pub sized_worker : {limits : Limits} {objects : Table Object} {clients : List ClientRow} (pools : Pools) (place : ℕ) (new : kept.WorkerRow)
+pub sized_worker : {limits : Limits} {objects : ObjectTable} {clients : List ClientRow} (pools : Pools) (place : ℕ) (new : kept.WorkerRow)
     → IsHome (length pools.pools) new → AreSized limits pools objects clients → AreSized limits (record pools { workers = slice_set pools.workers place new }) objects clients
 sized_worker pools place new home k =
     record {
@@ -147,13 +133,14 @@ sized_worker pools place new home k =
       pools_within = k.pools_within;
       worker_count = length-set pools.workers place new ∙ k.worker_count;
       homes = all_set (IsHome (length pools.pools)) pools.workers place new home k.homes;
+      group_limit = k.group_limit;
       object_limit = k.object_limit;
       objects_within = k.objects_within;
       client_count = k.client_count;
     }
 
 -- of the same pool as the row before
-pub same_home : {limits : Limits} {objects : Table Object} {clients : List ClientRow} (pools : Pools) (place : ℕ) (row new : kept.WorkerRow) → slice_get pools.workers place ≡ Some row → new.pool ≡ row.pool → AreSized limits pools objects clients → IsHome (length pools.pools) new
+pub same_home : {limits : Limits} {objects : ObjectTable} {clients : List ClientRow} (pools : Pools) (place : ℕ) (row new : kept.WorkerRow) → slice_get pools.workers place ≡ Some row → new.pool ≡ row.pool → AreSized limits pools objects clients → IsHome (length pools.pools) new
 same_home pools place row new is same k = subst (λ p. IsHome (length pools.pools) (record new { pool = p })) (sym same) (all_get (IsHome (length pools.pools)) pools.workers place row k.homes is)
 
 -- ---- a worker that runs nothing
@@ -166,10 +153,7 @@ free_after i number row new target k is idle none home shows =
       sized = sized_worker i.pools (number - 1) new home k.sized;
       alive = k.alive;
       timed = k.timed;
-      kernels = k.kernels;
       slotted = k.slotted;
-      grouped = k.grouped;
-      membered = k.membered;
       covered = k.covered;
       tallied = tallied_free i.callbacks.rows i.pools.workers (number - 1) row new is idle none k.tallied;
     }
@@ -245,7 +229,7 @@ record Shows (i : Inside) (workers : List kept.WorkerRow) (rows after : List Cal
   sized : AreSized i.limits (with_workers i workers) i.objects i.clients.items
   alive : AreLive i.limits (record i.callbacks { rows = rows; held = held })
   tallied : AreTallied rows workers
-  slotted : AreSlotted i.limits rows i.kernels i.armed
+  slotted : AreSlotted i.limits rows i.sources.sources.armings
   covered : AreCovered i.limits rows i.waits held
 
 changed_after : (i : Inside) (pools : Pools) (workers : List kept.WorkerRow) (callbacks : Callbacks) (rows after : List CallbackRow) (ws : List WorkerRow) (held : List (List ℕ)) (n : ℕ) → IsLiveWorld i
@@ -260,10 +244,7 @@ changed_after i pools workers callbacks rows after ws held n k ep ec s =
       tallied = s.tallied;
       covered = s.covered;
       timed = k.timed;
-      kernels = k.kernels;
       slotted = s.slotted;
-      grouped = k.grouped;
-      membered = k.membered;
     }))
 
 -- whatever waits hold
@@ -326,8 +307,15 @@ comes i c callbacks k number live still room ec =
       sized = k.sized;
       alive = alive_now;
       tallied = tallied_more c i.callbacks.rows i.pools.workers still k.tallied;
-      slotted = slots_more c (slots_here (length i.kernels.armed) i.limits.slots k.alive.live (ltb-false i.limits.slots (length (filter lives i.callbacks.rows) + length i.kernels.armed + 1) room)) k.slotted;
-      covered = covered_more (i.made + 1) c number k.sound.waits k.covered;
+      slotted = record {
+        slots = omega (
+          arith,
+          length-append i.callbacks.rows (c ∷ []),
+          ap length k.alive.live,
+          ltb-false i.limits.slots (length (filter lives i.callbacks.rows) + length i.sources.sources.armings + 1) room,
+        );
+      };
+      covered = covered_more (i.made + 1) c number (all_along (IsWaitSound (i.made + 1) i.callbacks.rows) (CoversBelow (i.made + 1)) (λ b s. s.made) i.waits.waits k.sound.waits) k.covered;
     })
 
 -- a row that goes on, as the lists ask for it

@@ -1,7 +1,6 @@
 -- What is known of a callback that is made, in terms of the parts.
 use Rattle.std.proofs.Common.{◌≡◌, ◌+◌, ◌<◌, ◌≤◌, ℕ, List, [], ◌∷◌, false, length, ap, sym, subst, arith, filter, ltb-false}
 use Rattle.std.specs.List.{All, AllByRecursion}
-use Rattle.std.proofs.lemmas.List.{length-map}
 use Rattle.std.proofs.lemmas.List.Elements.{All-from_recursion}
 use Rattle.tp_base.specs.declared.rows.CallbackRow.{CallbackRow}
 use Rattle.tp_model.specs.Conditions.{lacks_slots_for}
@@ -9,7 +8,6 @@ use Rattle.tp_model.specs.Support.Remembered.{lives}
 use Rattle.tp_model.specs.Support.Sound.{IsCallbackSound, IsRising}
 use Rattle.tp_model.proofs.Callbacks.{rising_bound}
 use Rattle.live_world.specs.Live.{Live}
-use Rattle.live_world.specs.Parts.{shown_object}
 use Rattle.live_world.specs.View.{shown, IsLiveWorld}
 use Rattle.live_world.specs.declared.LiveWorld.TheInside.{Inside}
 use Rattle.live_world.proofs.ObjectsMade.{object_made}
@@ -28,17 +26,17 @@ pub record IsNext (l : Live) (c : CallbackRow) : Type 0 where
   pub object : IsCallbackSound l.world.objects c
   pub room : lacks_slots_for l.world 1 ≡ false
 
-below_next : (low next_number : ℕ) (cs : List CallbackRow) → IsRising low next_number cs → AllByRecursion (λ (c : CallbackRow). c.number < next_number) cs
+pub below_next : (low next_number : ℕ) (cs : List CallbackRow) → IsRising low next_number cs → AllByRecursion (λ (c : CallbackRow). c.number < next_number) cs
 below_next low next_number [] h = tt
 below_next low next_number (c ∷ cs) h = (omega (arith, rising_bound (c.number + 1) next_number cs h.1), below_next (c.number + 1) next_number cs h.1)
 
 pub may_come : (i : Inside) (l : Live) (c : CallbackRow) → shown i ≡ l → IsLiveWorld i → IsNext l c → MayCome i c
 may_come i l c is k next =
     let a = subst (λ (x : Live). IsNext x c) (sym is) next in
-    let fits : length (filter lives i.callbacks.rows) + length i.kernels.armed + 1 ≤ i.limits.slots = ltb-false i.limits.slots (length (filter lives i.callbacks.rows) + length i.kernels.armed + 1) a.room in
+    let fits : length (filter lives i.callbacks.rows) + length i.sources.sources.armings + 1 ≤ i.limits.slots = ltb-false i.limits.slots (length (filter lives i.callbacks.rows) + length i.sources.sources.armings + 1) a.room in
     record {
       room = omega (arith, fits, ap length k.alive.live, k.alive.slot_limit);
       pool = omega (arith, a.home, k.sized.pools_within, k.alive.pool_limit);
-      object = omega (arith, object_made (shown i).world.objects c a.object, length-map i.objects.rows shown_object, k.sized.objects_within, k.alive.object_limit);
+      object = omega (arith, object_made (shown i).world.objects c a.object, k.sized.objects_within, k.alive.object_limit);
       last = All-from_recursion (λ (x : CallbackRow). x.number < c.number) i.callbacks.rows (subst (λ n. AllByRecursion (λ (x : CallbackRow). x.number < n) i.callbacks.rows) (sym a.number) (below_next 1 (i.made + 1) i.callbacks.rows k.sound.numbers));
     }

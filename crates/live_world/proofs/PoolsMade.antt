@@ -39,6 +39,7 @@ pools_moved i l ch pools rows is k allowed none same now more within =
         pools_within = within;
         worker_count = k.sized.worker_count;
         homes = all_along (IsHome (length i.pools.pools)) (IsHome (length rows)) (λ (w : kept.WorkerRow) home. home_along (length i.pools.pools) (length rows) more w.pool home) i.pools.workers k.sized.homes;
+        group_limit = k.sized.group_limit;
         object_limit = k.sized.object_limit;
         objects_within = k.sized.objects_within;
         client_count = k.sized.client_count;
@@ -47,10 +48,7 @@ pools_moved i l ch pools rows is k allowed none same now more within =
       tallied = k.tallied;
       covered = k.covered;
       timed = k.timed;
-      kernels = k.kernels;
       slotted = k.slotted;
-      grouped = k.grouped;
-      membered = k.membered;
     })))
 
 pub pool_made : (i : Inside) (l : Live) (pools : Pools) → shown i ≡ l → IsLiveWorld i → IsAllowed (l.made + 1) l.world change.CreatePool → pools ≡ record i.pools { pools = i.pools.pools ++ made_pool (length i.pools.workers) ∷ [] }

@@ -1,6 +1,5 @@
 -- The kernel objects, as they are made and changed and as waits for them end.
-use Rattle.std.proofs.Common.{◌≡◌, ℕ, ◌+◌, ◌<◌, ◌≤◌, ◌^◌, ◌-◌, true, List, length, slice_set, Option, Some, None, IfSome, is_some, refl, sym, ap, subst, arith, length-set}
-use Rattle.std.specs.Option.{option_map_or}
+use Rattle.std.proofs.Common.{◌≡◌, ℕ, ◌+◌, ◌<◌, ◌≤◌, ◌^◌, ◌-◌, true, List, length, Option, Some, None, IfSome, is_some, refl, sym, ap, subst, arith, length-set}
 use Rattle.tp_base.specs.declared.ids.Who.{Who}
 use Rattle.tp_base.specs.declared.ids.KernelId.{KernelId}
 use Rattle.tp_base.specs.declared.plans.WaitEnd.{WaitEnd}
@@ -9,8 +8,7 @@ use Rattle.tp_base.specs.declared.rows.KernelState.{KernelState}
 use Rattle.tp_base.specs.declared.rows.KernelRow.{KernelRow}
 use Rattle.tp_base.specs.declared.rows.WaitTarget.{WaitTarget}
 use Rattle.tp_base.specs.declared.rows.WaitTarget.TheVariants.{Object, Group, Kernel}
-use Rattle.tp_base.specs.Kernels.{may_take, taken_by, takings_of}
-use Rattle.kernel_events.specs.Kernels.{rows_with}
+use Rattle.tp_base.specs.Kernels.{may_take, takings_of}
 use Rattle.tp_model.specs.World.{World, BegunWait}
 use Rattle.tp_model.specs.Counts.{numbered}
 use Rattle.tp_model.specs.Kernels.{with_row, kernel_changed}
@@ -24,14 +22,7 @@ use Rattle.tp_model.proofs.Refusals.{numbered_some}
 use Rattle.begun_waits.specs.Begun.{kernel_in, wanted_by}
 use Rattle.live_world.specs.Taking.{IsFreeFor, rows_left}
 
--- a changed row, as the table tells it and as the model does
-pub same_rows : (f : KernelState → KernelState) (rows : List KernelRow) (kernel : ℕ) → rows_with f rows kernel ≡ kernel_changed f rows kernel
-same_rows f rows kernel = known (numbered rows kernel)
-  where
-    known : (o : Option KernelRow) → option_map_or (λ (row : KernelRow). slice_set rows (kernel - 1) (record row { state = f row.state })) o rows ≡ with_row f rows kernel o
-    known None = refl
-    known (Some row) = refl
-
+-- there are as many as before
 pub changed_length : (f : KernelState → KernelState) (rows : List KernelRow) (kernel : ℕ) → length (kernel_changed f rows kernel) ≡ length rows
 changed_length f rows kernel = known (numbered rows kernel)
   where
@@ -55,19 +46,7 @@ free_for w who (Kernel other) kernel is takes most =
       few = subst (λ (o : Option KernelRow). IfSome o (λ row. takings_of row.state + 1 < 2 ^ 64)) (sym s.stands) (omega (arith, few));
     })
 
--- there are as many as before
-pub left_length : (w : World) (who : Who) (how : WaitEnd) (wait : Option BegunWait) → length (kernels_left w who how wait) ≡ length w.kernels
-left_length w who Exhausted wait = refl
-left_length w who Stalled wait = refl
-left_length w who Free None = refl
-left_length w who Free (Some b) = of_target b.target
-  where
-    of_target : (t : WaitTarget) → length (kernels_taken w who t) ≡ length w.kernels
-    of_target (Object object) = refl
-    of_target (Group group) = refl
-    of_target (Kernel kernel) = changed_length (taken_by who) w.kernels kernel.0
-
--- and they are those that the table has
+-- what the wait was for is taken, as the model says
 pub left_here : (w : World) (who : Who) (how : WaitEnd) → rows_left who how (wanted_by (wait_of w who)) w.kernels ≡ kernels_left w who how (wait_of w who)
 left_here w who Exhausted = refl
 left_here w who Stalled = refl
@@ -76,7 +55,7 @@ left_here w who Free = known (wait_of w who)
     of_target : (t : WaitTarget) → rows_left who Free (kernel_in t) w.kernels ≡ kernels_taken w who t
     of_target (Object object) = refl
     of_target (Group group) = refl
-    of_target (Kernel kernel) = same_rows (taken_by who) w.kernels kernel.0
+    of_target (Kernel kernel) = refl
 
     known : (o : Option BegunWait) → rows_left who Free (wanted_by o) w.kernels ≡ kernels_left w who Free o
     known None = refl

@@ -1,15 +1,13 @@
-pub mod Actors
 pub mod Bounds
 pub mod Closing
-pub mod Firing
 pub mod Invariant
 pub mod Live
+pub mod Making
 pub mod Opening
 pub mod Parts
 pub mod Performing
 pub mod Steps
 pub mod Taking
 pub mod Tally
-pub mod Uses
 pub mod View
 pub mod Waiting

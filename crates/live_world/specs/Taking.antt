@@ -6,7 +6,8 @@ use Rattle.tp_base.specs.declared.plans.WaitEnd.{WaitEnd}
 use Rattle.tp_base.specs.declared.plans.WaitEnd.TheVariants.{Free, Exhausted, Stalled}
 use Rattle.tp_base.specs.declared.rows.KernelRow.{KernelRow}
 use Rattle.tp_base.specs.Kernels.{may_take, taken_by, takings_of}
-use Rattle.kernel_events.specs.Kernels.{numbered, rows_with}
+use Rattle.tp_model.specs.Counts.{numbered}
+use Rattle.tp_model.specs.Kernels.{kernel_changed}
 
 -- the actor may take the kernel object of this number, and it wasn't taken too often
 pub record IsFreeFor (who : Who) (rows : List KernelRow) (kernel : ℕ) : Type 0 where
@@ -17,6 +18,6 @@ pub record IsFreeFor (who : Who) (rows : List KernelRow) (kernel : ℕ) : Type 0
 -- the one that a wait is for, if it is for one, is taken at its end
 abbrev pub rows_left : Who → WaitEnd → Option KernelId → List KernelRow → List KernelRow
 rows_left who Free None rows = rows
-rows_left who Free (Some kernel) rows = rows_with (taken_by who) rows kernel.0
+rows_left who Free (Some kernel) rows = kernel_changed (taken_by who) rows kernel.0
 rows_left who Exhausted wanted rows = rows
 rows_left who Stalled wanted rows = rows

@@ -2,13 +2,13 @@
 use Rattle.std.specs.Prelude.{◌+◌}
 use Rattle.tp_model.specs.Support.Sound.{IsSound}
 use Rattle.live_world.specs.Live.{Live}
-use Rattle.live_world.specs.Invariant.{AreSized, AreLive, AreTallied, AreCovered, AreTimed, AreKernels, AreSlotted, AreGrouped, AreMembered}
+use Rattle.live_world.specs.Invariant.{AreSized, AreLive, AreTallied, AreCovered, AreTimed, AreSlotted}
 use Rattle.live_world.specs.Parts.{world_of}
 use Rattle.live_world.specs.declared.LiveWorld.TheInside.{Inside}
 
 abbrev pub shown : Inside → Live
 shown a = record {
-  world = world_of a.limits a.pools a.groups a.objects a.callbacks.rows a.kernels a.clients.items a.waits.waits a.timers.settings a.clock a.waits.given_up;
+  world = world_of a.limits a.pools a.objects a.callbacks.rows a.sources.sources a.clients.items a.waits.waits a.waits.given_up;
   made = a.made;
 }
 
@@ -17,9 +17,6 @@ pub record IsLiveWorld (a : Inside) : Type 0 where
   pub alive : AreLive a.limits a.callbacks
   pub tallied : AreTallied a.callbacks.rows a.pools.workers
   pub covered : AreCovered a.limits a.callbacks.rows a.waits a.callbacks.held
-  pub timed : AreTimed a.limits a.objects a.timers
-  pub kernels : AreKernels a.limits a.kernels
-  pub slotted : AreSlotted a.limits a.callbacks.rows a.kernels a.armed
-  pub grouped : AreGrouped a.limits a.groups
-  pub membered : AreMembered a.limits a.objects a.members
+  pub timed : AreTimed a.limits a.objects.objects a.sources
+  pub slotted : AreSlotted a.limits a.callbacks.rows a.sources.sources.armings
   pub sound : IsSound (a.made + 1) (shown a).world

@@ -1,19 +1,21 @@
-//! Callbacks: a new one, and those that wait for a worker.
+//! Callbacks: a new one, one that is cancelled, and the slots that they take.
 
-ghost use Rattle.std.specs.Prelude.{◌≡◌, ◌+◌, ◌^◌, ◌<◌, ◌≤◌, find, if◌then◌else◌, nat_lt, option_map, None, Some};
-ghost use Rattle.tp_model.specs.Counts.{next};
+ghost use Rattle.std.specs.Prelude.{◌≡◌, ◌+◌, ◌^◌, ◌<◌, true, Some};
+ghost use Rattle.tp_model.specs.Changes.{with_callback};
 ghost use Rattle.tp_model.specs.Conditions.{lacks_slots_for};
-ghost use Rattle.tp_model.specs.Laws.Once.{is_left};
-ghost use Rattle.tp_model.specs.Over.{left_after, row_of, status_of};
+ghost use Rattle.tp_model.specs.Counts.{callback_of, is_operating as is_operating_by, is_pending as is_pending_by, is_running as is_running_by};
+ghost use Rattle.tp_model.specs.Support.Allowed.{IsAllowed};
+ghost use Rattle.tp_model.specs.Waits.{cancelled};
+ghost use Rattle.live_world.specs.Live.{moved, with_world};
 ghost use Rattle.tp_model.specs.Sources.{new_callback as new_callback_of};
+ghost use Rattle.tp_model.specs.Calls.Timers.{count_expiring};
+ghost use Rattle.tp_model.specs.Calls.WaitObjects.{lacks_slots_after};
 
 use crate::LiveWorld;
-use std::sync::ledger::Ledger;
-use steps::Steps;
 use tp_base::answers::TakeResult;
-use tp_base::ids::{ObjectId, PoolId};
+use tp_base::ids::{KernelId, ObjectId};
+use tp_base::plans::{Change, Trigger};
 use tp_base::rows::{CallbackRow, ObjectRow, Status};
-use tp_model::Left;
 
 /// A callback of an object, as the object's environment was when the object was made. It waits for a
 /// worker.
@@ -34,52 +36,28 @@ pub fn new_callback(number: u64, object: ObjectId, row: &ObjectRow, told: TakeRe
     }
 }
 
-// How far a callback has come that may still run.
-fn left(status: Status) -> Option<Left>
-    ensures { option_map status_of result ≡ (if is_left status then Some status else None) }
+// The callback waits for a worker.
+pub(crate) fn is_pending(callback: &CallbackRow) -> bool
+    ensures { result ≡ is_pending_by callback.now.status }
 {
-    match status {
-        Status::Expected => Some(Left::Expected),
-        Status::Issued => Some(Left::Issued),
-        Status::Pending => Some(Left::Pending),
-        Status::Running { .. } | Status::Returned | Status::Cancelled => None,
-    }
+    matches!(callback.status, Status::Pending)
+}
+
+// An operation of the callback is expected or under way.
+pub(crate) fn is_operating(callback: &CallbackRow) -> bool
+    ensures { result ≡ is_operating_by callback.now.status }
+{
+    matches!(callback.status, Status::Expected | Status::Issued)
+}
+
+// A worker runs the callback.
+pub(crate) fn is_running(callback: &CallbackRow) -> bool
+    ensures { result ≡ is_running_by callback.now.status }
+{
+    matches!(callback.status, Status::Running { .. })
 }
 
 impl LiveWorld {
-    /// The callback of a pool that is taken next, if one is pending. `steps` counts the nodes that it reads:
-    /// one at most, however many are pending.
-    pub fn next<L: Ledger>(&self, pool: PoolId, steps: &mut Steps<L>) -> Option<CallbackRow>
-        ensures value { result ≡ next self.now.world pool.0 }
-        ensures counted { steps.old ≤ steps.new }
-        ensures bound { steps.new ≤ steps.old + 1 }
-    {
-        self.callbacks.next(pool, steps)
-    }
-
-    // The callback of least number above this one, if one is kept.
-    pub(crate) fn callback_after(&self, number: u64) -> Option<CallbackRow>
-        ensures { result ≡ find (λ c. nat_lt number c.number) self.now.world.callbacks }
-    {
-        self.callbacks.after(number)
-    }
-
-    /// The number, the object and the status of the callback of least number above this one that may
-    /// still run, if there is one. Walks the callbacks that run before it.
-    pub fn left_after(&self, number: u64) -> Option<(u64, ObjectId, Left)>
-        ensures { option_map row_of result ≡ left_after self.now.world number }
-    {
-        self.is_reachable();
-        let mut next = self.callback_after(number);
-        while let Some(callback) = next {
-            if let Some(left) = left(callback.status) {
-                return Some((callback.number, callback.object, left));
-            }
-            next = self.callback_after(callback.number);
-        }
-        None
-    }
-
     /// The number that the next callback gets.
     pub fn next_number(&self) -> u64
         requires { self.now.made < 2 ^ 63 }
@@ -94,6 +72,61 @@ impl LiveWorld {
         ensures { result ≡ lacks_slots_for self.now.world count }
     {
         self.is_reachable();
-        self.limits.slots - self.callbacks.len() - self.armed < count
+        self.limits.slots - self.callbacks.len() - self.sources.armed() < count
+    }
+
+    /// Whether there would be no slot for what is there once a wait is set: with a kernel object it
+    /// has one, as a callback or as an armed wait, and the one of its old arming is free.
+    pub fn lacks_slots_to_set(
+        &self,
+        object: ObjectId,
+        kernel: Option<KernelId>,
+        timeout: Option<i64>,
+    ) -> bool
+        ensures { result ≡ lacks_slots_after self.now.world (Trigger.SetWait object kernel timeout) }
+    {
+        self.is_reachable();
+        let needed = if kernel.is_some() { 1 } else { 0 };
+        self.limits.slots < self.callbacks.len() + self.sources.armed_without(object) + needed
+    }
+
+    /// Whether there is no slot for all that would expire, if the clock came to a moment. An armed
+    /// wait whose timeout is due has one. Walks what is due, if that isn't noted, and once more if
+    /// there are too few slots for all of it, but enough for all of it less one for each armed wait.
+    pub fn lacks_slots_at(&self, now: u64) -> bool
+        ensures { result ≡ lacks_slots_for self.now.world (count_expiring self.now.world now) }
+    {
+        self.is_reachable();
+        let due = self.sources.count_due(now);
+        self.lacks_slots(due)
+            && (self.lacks_slots(due.saturating_sub(self.sources.armed()))
+                || self.lacks_slots(self.sources.count_expiring(now)))
+    }
+
+    /// Notes how many timers and timeouts are due at a moment, for `lacks_slots_at`: until one is set
+    /// or ends, that counts them for this moment at once.
+    pub fn note_due(&mut self, now: u64)
+        ensures { self.new ≡ self.old }
+    {
+        self.sources.note_due(now);
+    }
+
+    // Makes a callback that waits for a worker.
+    pub(crate) fn queue_callback(&mut self, callback: CallbackRow)
+        requires allowed { IsAllowed (self.old.made + 1) self.old.world (Change.QueueCallback callback) }
+        requires young { self.old.made < 2 ^ 63 }
+        ensures { self.new ≡ moved self.old (Change.QueueCallback callback) }
+    {
+        self.callbacks.push(callback);
+        self.made += 1;
+    }
+
+    // Cancels a callback that waits for a worker.
+    pub(crate) fn cancel_callback(&mut self, callback: CallbackRow)
+        requires found { callback_of self.old.world callback.number ≡ Some callback }
+        requires pending { is_pending_by callback.status ≡ true }
+        ensures { self.new ≡ with_world self.old (with_callback self.old.world (cancelled callback)) }
+    {
+        self.callbacks.remove(&callback);
     }
 }

@@ -1,28 +1,26 @@
 //! Closes of groups: `CloseThreadpoolCleanupGroupMembers`.
 
-ghost use Rattle.std.specs.Prelude.{◌≡◌, ◌+◌, ◌∷◌, ◌&&◌, None, [], false, filter, length, map, true};
+ghost use Rattle.std.specs.Prelude.{◌≡◌, ◌+◌, ◌∷◌, ◌&&◌, None, [], false, filter, length, true};
 ghost use Rattle.tp_model.specs.Groups.{first_operating, gets_notice as gets_notice_of, is_group, is_object_that, notices_of};
 ghost use Rattle.tp_model.specs.Waits.{is_cancelled_by};
 ghost use Rattle.tp_model.specs.Support.Allowed.{IsAllowed, MayClose};
 ghost use Rattle.tp_model.specs.Support.Sound.{is_told};
 ghost use Rattle.begun_waits.specs.Begun.{is_noticed as is_noticed_by};
-ghost use Rattle.live_world.specs.Parts.{shown_object};
 ghost use Rattle.live_world.specs.Live.{with_world, moved};
 
 use crate::LiveWorld;
-use crate::leaving::{begin_covering_group, gets_notice};
-use crate::objects::Object;
-use crate::waits::is_pending;
-use handle_table::Rows;
+use crate::callbacks::is_pending;
+use crate::leaving::begin_covering_group;
+use object_rows::ObjectRows;
 use tp_base::ids::{GroupId, ObjectId, Who};
 use tp_base::plans::Change;
 use tp_base::rows::WaitTarget;
 
 // Whether a close of the group gives a notice of this object.
-fn is_noticed(objects: &Rows<Object>, group: GroupId, cancel: bool, number: u32) -> bool
-    ensures { result ≡ (cancel && is_object_that (gets_notice_of group.0) (map shown_object objects.now.rows) number) }
+fn is_noticed(objects: &ObjectRows, group: GroupId, cancel: bool, number: u32) -> bool
+    ensures { result ≡ (cancel && is_object_that (gets_notice_of group.0) objects.now.objects number) }
 {
-    cancel && gets_notice(objects, group, number)
+    cancel && objects.gets_notice(group, number)
 }
 
 impl LiveWorld {
@@ -72,7 +70,7 @@ impl LiveWorld {
         requires may { cancel ≡ true → MayNote self.old.world who }
         ensures { self.new ≡ closed_members self.old who group cancel }
     {
-        while let Some(number) = self.first_member(group) {
+        while let Some(number) = self.objects.first_member(group) {
             self.is_reachable();
             let noticed = is_noticed(&self.objects, group, cancel, number);
             self.release_object(ObjectId(number));

@@ -1,234 +1,284 @@
-//! What triggers do: a timer or a wait is set, time passes, or a kernel object is signalled. The
-//! callbacks are made one after another.
+//! What triggers do, and the actions on return: a timer or a wait is set, time passes, or a kernel object is
+//! signalled, and the callbacks of that are made one after another. Each step changes the sources and the
+//! callbacks alone; all of them are one change of the world (`fire`, `return_callback`).
 
-ghost use Rattle.std.specs.Prelude.{◌≡◌, ◌+◌, ◌^◌, ◌<◌, ◌≤◌, MatchOption, Some, false, true, length, if◌then◌else◌};
-ghost use Rattle.tp_base.specs.Kernels.{is_signalled, state_after};
-ghost use Rattle.tp_base.specs.Timers.{expires_at_once};
-ghost use Rattle.tp_base.specs.declared.calls.Kind.TheVariants.{Wait};
-ghost use Rattle.tp_model.specs.Conditions.{lacks_slots_for};
-ghost use Rattle.tp_model.specs.Counts.{slots};
-ghost use Rattle.tp_model.specs.Kernels.{is_kernel_that, kernel_changed};
-ghost use Rattle.tp_model.specs.Sources.{arm, disarmed, firing, release, set_wait, signal, slots_after, sources_of};
-ghost use Rattle.tp_model.specs.Support.Allowed.{IsObjectOf, IsTimer, IsReady, IsWaitable, MayAdvance};
-ghost use Rattle.tp_model.specs.Support.Sound.{is_standing};
-ghost use Rattle.live_world.specs.Firing.{IsUnarmed, armed_on, set_to, taken_at};
-ghost use Rattle.live_world.specs.Live.{at_time, fired_to, next_of_object, unfired, with_kernels, with_sources, Expires, IsOver, Releases, ReleasesNone};
-ghost use Rattle.live_world.specs.Performing.{suits_state};
+ghost use Rattle.std.specs.Prelude.{◌≡◌, ◌+◌, ◌^◌, ◌≤◌, [], ◌∷◌, length};
+ghost use Rattle.tp_base.specs.Actions.{change_asked as change_asked_by};
+ghost use Rattle.tp_base.specs.Kernels.{state_after};
+ghost use Rattle.tp_model.specs.Actions.{act as act_of, perform as perform_of, performed};
+ghost use Rattle.tp_model.specs.Sources.{firing, job, jobless, new_callback as new_callback_of, object_row, signal as signal_of};
+ghost use Rattle.tp_model.specs.Support.Allowed.{IsAllowed};
+ghost use Rattle.sources.specs.Firing.{rest_of};
+ghost use Rattle.live_world.specs.Live.{moved};
+ghost use Rattle.live_world.specs.Making.{CanMake, IsFired, with_jobs};
+ghost use Rattle.live_world.specs.Performing.{MayAlter, MayPerform, MayPerformAll, MayTrigger};
 
 use crate::LiveWorld;
 use crate::callbacks::new_callback;
-use tp_base::answers::TakeResult;
+use crate::slots::slots_of;
+use live_callbacks::LiveCallbacks;
+use object_rows::ObjectRows;
+use sources::{Cause, LiveSources};
+use tp_base::answers::{ActionKind, SlotWord, TakeResult};
 use tp_base::ids::{KernelId, ObjectId};
-use tp_base::plans::{KernelChange, Trigger};
+use tp_base::plans::{ActionWords, Busy, Change, KernelChange, Trigger};
+use tp_base::rows::{Action, Slots};
 
-impl LiveWorld {
-    // Makes the next callback of an object that isn't released. It waits for a worker.
-    fn queue_next(&mut self, object: ObjectId, told: TakeResult)
-        requires stands { is_standing self.old.world.objects object.0 ≡ true }
-        requires room { lacks_slots_for self.old.world 1 ≡ false }
-        requires young { self.old.made < 2 ^ 63 }
-        ensures { self.new ≡ next_of_object self.old object told }
-    {
-        self.is_reachable();
-        let Some(row) = self.object(object) else {
-            unreachable!()
-        };
-        let callback = new_callback(self.made + 1, object, &row, told);
-        self.queue_callback(callback);
+// Makes a callback of an object, which waits for a worker. So many were made before, and as many are after as it
+// answers; so do the functions below.
+fn make(
+    callbacks: &mut LiveCallbacks,
+    objects: &ObjectRows,
+    made: u64,
+    object: ObjectId,
+    told: TakeResult,
+) -> u64
+    requires can { CanMake callbacks.old objects.now.objects (made + 1) (job object told ∷ []) }
+    requires young { made + 1 ≤ 2 ^ 63 }
+    ensures number { result ≡ made + 1 }
+    ensures after { callbacks.new ≡ with_jobs callbacks.old objects.now.objects (made + 1) (job object told ∷ []) }
+{
+    let Some(row) = objects.object(object) else {
+        unreachable!()
+    };
+    callbacks.push(new_callback(made + 1, object, &row, told));
+    made + 1
+}
+
+// Makes the callbacks of all that fires by a cause, one after another.
+fn fire_all(
+    sources: &mut LiveSources,
+    callbacks: &mut LiveCallbacks,
+    objects: &ObjectRows,
+    made: u64,
+    cause: Cause,
+) -> u64
+    requires can { CanMake callbacks.old objects.now.objects (made + 1) (rest_of cause sources.old.sources).jobs }
+    requires young { made + length (rest_of cause sources.old.sources).jobs ≤ 2 ^ 63 }
+    ensures { IsFired (rest_of cause sources.old.sources) objects.now.objects made result sources.old sources.new callbacks.old callbacks.new }
+{
+    let mut made = made;
+    while let Some((object, told)) = sources.fire_next(cause) {
+        made = make(callbacks, objects, made, object, told);
     }
+    made
+}
 
-    // Sets a timer, and says whether it expires at once. Its callback isn't made.
-    fn put_setting(&mut self, object: ObjectId, due: Option<i64>, period: u32, window: u32) -> bool
-        requires { IsTimer self.old.world object }
-        ensures fires { result ≡ expires_at_once self.old.world.now due }
-        ensures after { self.new ≡ with_sources self.old (set_to object due period window (sources_of self.old.world)) }
-    {
-        self.timers
-            .set(object, self.clock, due, period, window)
-            .fires
-    }
+// Changes a kernel object, and releases the waits that are armed on it as long as it is signalled.
+fn signal(
+    sources: &mut LiveSources,
+    callbacks: &mut LiveCallbacks,
+    objects: &ObjectRows,
+    made: u64,
+    kernel: KernelId,
+    how: KernelChange,
+) -> u64
+    requires may { MayAlter sources.old.sources kernel how }
+    requires can { CanMake callbacks.old objects.now.objects (made + 1) (signal_of how kernel.0 (jobless sources.old.sources)).jobs }
+    requires young { made + length (signal_of how kernel.0 (jobless sources.old.sources)).jobs ≤ 2 ^ 63 }
+    ensures { IsFired (signal_of how kernel.0 (jobless sources.old.sources)) objects.now.objects made result sources.old sources.new callbacks.old callbacks.new }
+{
+    sources.change(kernel, how);
+    fire_all(sources, callbacks, objects, made, Cause::Kernel(kernel))
+}
 
-    // Sets a timer, and makes its callback if it expires at once.
-    fn set_timer(&mut self, object: ObjectId, due: Option<i64>, period: u32, window: u32)
-        requires ready { IsTimer self.old.world object }
-        requires room { slots_after self.old.world (Trigger.SetTimer object due period window) ≤ self.old.world.limits.slots }
-        requires young { self.old.made < 2 ^ 63 }
-        ensures { self.new ≡ fired_to self.old (firing (Trigger.SetTimer object due period window) (sources_of self.old.world)) }
-    {
-        if self.put_setting(object, due, period, window) {
-            self.queue_next(object, TakeResult::Plain);
-        }
-    }
-
-    // The clock comes to a moment. What is due then hasn't expired yet.
-    fn set_clock(&mut self, now: u64)
-        requires { MayAdvance self.old.world now }
-        ensures { self.new ≡ at_time self.old now }
-    {
-        self.clock = now;
-    }
-
-    // What expires first, if anything is due: a timer, or the timeout of an armed wait, which is
-    // disarmed. Its callback isn't made.
-    fn expire(&mut self) -> Option<(ObjectId, TakeResult)>
-        ensures { MatchOption result (IsOver self.old self.new) (Expires self.old self.new) }
-    {
-        let (_, object) = self.timers.expire(self.clock)?;
-        // None is armed twice.
-        let _ = self.kernels.is_armed(object);
-        if self.kernels.disarm(object) {
-            self.armed -= 1;
-            Some((object, TakeResult::WaitTimeout))
-        } else {
-            Some((object, TakeResult::Plain))
-        }
-    }
-
-    // The clock comes to a moment, and each timer and each timeout that is due then makes a callback.
-    fn advance(&mut self, now: u64)
-        requires ready { MayAdvance self.old.world now }
-        requires room { slots_after self.old.world (Trigger.Advance now) ≤ self.old.world.limits.slots }
-        requires young { self.old.made + 65536 ≤ 2 ^ 63 }
-        ensures { self.new ≡ fired_to self.old (firing (Trigger.Advance now) (sources_of self.old.world)) }
-    {
-        self.is_reachable();
-        self.set_clock(now);
-        while let Some((object, told)) = self.expire() {
-            self.queue_next(object, told);
-        }
-    }
-
-    // The wait that a kernel object releases, if it is signalled and one is armed on it: the earliest
-    // one, which is disarmed and takes it. Its callback isn't made.
-    fn release_next(&mut self, kernel: KernelId) -> Option<ObjectId>
-        ensures { MatchOption result (ReleasesNone kernel.0 self.old self.new) (Releases kernel.0 self.old self.new) }
-    {
-        let object = self.kernels.next_released(kernel)?;
-        self.timers.unset(object);
-        self.armed -= 1;
-        Some(object)
-    }
-
-    // As long as a kernel object is signalled and a wait is armed on it, the earliest one is released,
-    // and makes a callback.
-    fn release(&mut self, kernel: KernelId)
-        requires { self.old.made + length self.old.world.armings ≤ 2 ^ 63 }
-        ensures { self.new ≡ fired_to self.old (release kernel.0 (unfired self.old)) }
-    {
-        self.is_reachable();
-        while let Some(object) = self.release_next(kernel) {
-            self.queue_next(object, TakeResult::WaitObject0);
-        }
-    }
-
-    // Changes a kernel object. What is armed on it isn't released yet.
-    pub(crate) fn change_state(&mut self, kernel: KernelId, how: KernelChange)
-        requires { is_kernel_that (suits_state how) self.old.world kernel.0 ≡ true }
-        ensures { self.new ≡ with_kernels self.old (kernel_changed (state_after how) self.old.world.kernels kernel.0) }
-    {
-        self.kernels.change(kernel, how);
-    }
-
-    // Changes a kernel object that may become signalled, which then releases waits.
-    pub(crate) fn signal(&mut self, kernel: KernelId, how: KernelChange)
-        requires suits { is_kernel_that (suits_state how) self.old.world kernel.0 ≡ true }
-        requires young { self.old.made + length self.old.world.armings ≤ 2 ^ 63 }
-        ensures { self.new ≡ fired_to self.old (signal how kernel.0 (unfired self.old)) }
-    {
-        self.change_state(kernel, how);
-        self.release(kernel);
-    }
-
-    // Disarms a wait object, and ends its timeout.
-    fn disarm(&mut self, object: ObjectId)
-        requires { IsObjectOf Wait self.old.world object }
-        ensures { self.new ≡ with_sources self.old (disarmed object (sources_of self.old.world)) }
-    {
-        self.timers.unset(object);
-        if self.kernels.disarm(object) {
-            self.armed -= 1;
-        }
-    }
-
-    // A wait takes a kernel object that is signalled, and says whether it was.
-    fn take_signal(&mut self, kernel: KernelId) -> bool
-        ensures was { result ≡ is_kernel_that is_signalled self.old.world kernel.0 }
-        ensures after { self.new ≡ with_sources self.old (if is_kernel_that is_signalled self.old.world kernel.0 then taken_at kernel.0 (sources_of self.old.world) else sources_of self.old.world) }
-    {
-        self.kernels.take_signal(kernel)
-    }
-
-    // Arms a wait object that isn't armed, and begins its timeout.
-    fn put_arming(&mut self, object: ObjectId, kernel: KernelId, timeout: Option<i64>)
-        requires wait { IsObjectOf Wait self.old.world object }
-        requires waitable { IsWaitable self.old.world (Some kernel) }
-        requires unarmed { IsUnarmed self.old.world object.0 }
-        requires room { lacks_slots_for self.old.world 1 ≡ false }
-        requires later { expires_at_once self.old.world.now timeout ≡ false }
-        ensures { self.new ≡ with_sources self.old (armed_on object kernel timeout (sources_of self.old.world)) }
-    {
-        self.kernels.arm(object, kernel);
-        self.timers.set(object, self.clock, timeout, 0, 0);
-        self.armed += 1;
-    }
-
-    // A wait object that isn't armed takes a kernel object, times out at once, or is armed on it.
-    fn arm(&mut self, object: ObjectId, kernel: KernelId, timeout: Option<i64>)
-        requires wait { IsObjectOf Wait self.old.world object }
-        requires waitable { IsWaitable self.old.world (Some kernel) }
-        requires unarmed { IsUnarmed self.old.world object.0 }
-        requires room { lacks_slots_for self.old.world 1 ≡ false }
-        requires young { self.old.made < 2 ^ 63 }
-        ensures { self.new ≡ fired_to self.old (arm object kernel timeout (sources_of self.old.world)) }
-    {
-        if self.take_signal(kernel) {
-            self.queue_next(object, TakeResult::WaitObject0);
-        } else if self.expires_at_once(timeout) {
-            self.queue_next(object, TakeResult::WaitTimeout);
-        } else {
-            self.put_arming(object, kernel, timeout);
-        }
-    }
-
-    // Sets a wait: its old arming ends, and with a kernel object a new one begins.
-    fn set_wait(&mut self, object: ObjectId, kernel: Option<KernelId>, timeout: Option<i64>)
-        requires ready { IsReady self.old.world (Trigger.SetWait object kernel timeout) }
-        requires room { slots_after self.old.world (Trigger.SetWait object kernel timeout) ≤ self.old.world.limits.slots }
-        requires young { self.old.made < 2 ^ 63 }
-        ensures { self.new ≡ fired_to self.old (set_wait object kernel timeout (sources_of self.old.world)) }
-    {
-        self.is_reachable();
-        self.disarm(object);
-        if let Some(kernel) = kernel {
-            self.arm(object, kernel, timeout);
-        }
-    }
-
-    // Does what a trigger does, and makes its callbacks.
-    pub(crate) fn fire(&mut self, trigger: Trigger)
-        requires ready { IsReady self.old.world trigger }
-        requires room { slots self.old.world ≤ self.old.world.limits.slots → slots_after self.old.world trigger ≤ self.old.world.limits.slots }
-        requires young { self.old.made + 65536 ≤ 2 ^ 63 }
-        ensures { self.new ≡ fired_to self.old (firing trigger (sources_of self.old.world)) }
-    {
-        self.is_reachable();
-        match trigger {
-            Trigger::SetTimer {
-                object,
-                due,
-                period,
-                window,
-            } => self.set_timer(object, due, period, window),
-            Trigger::Advance { now } => self.advance(now),
-            Trigger::SetWait {
-                object,
-                kernel,
-                timeout,
-            } => self.set_wait(object, kernel, timeout),
-            Trigger::SetEvent { kernel } => self.signal(kernel, KernelChange::Set),
-            Trigger::ReleaseSemaphore { kernel, count } => {
-                self.signal(kernel, KernelChange::Raise(count))
+// Does what a trigger does.
+fn fire(
+    sources: &mut LiveSources,
+    callbacks: &mut LiveCallbacks,
+    objects: &ObjectRows,
+    made: u64,
+    trigger: Trigger,
+) -> u64
+    requires may { MayTrigger sources.old trigger }
+    requires can { CanMake callbacks.old objects.now.objects (made + 1) (firing trigger sources.old.sources).jobs }
+    requires young { made + length (firing trigger sources.old.sources).jobs ≤ 2 ^ 63 }
+    ensures { IsFired (firing trigger sources.old.sources) objects.now.objects made result sources.old sources.new callbacks.old callbacks.new }
+{
+    match trigger {
+        Trigger::SetTimer {
+            object,
+            due,
+            period,
+            window,
+        } => {
+            if sources.set_timer(object, due, period, window) {
+                make(callbacks, objects, made, object, TakeResult::Plain)
+            } else {
+                made
             }
         }
+        Trigger::Advance { now } => {
+            sources.set_clock(now);
+            fire_all(sources, callbacks, objects, made, Cause::Clock)
+        }
+        Trigger::SetWait {
+            object,
+            kernel,
+            timeout,
+        } => match sources.set_wait(object, kernel, timeout) {
+            Some(told) => make(callbacks, objects, made, object, told),
+            None => made,
+        },
+        Trigger::SetEvent { kernel } => {
+            signal(sources, callbacks, objects, made, kernel, KernelChange::Set)
+        }
+        Trigger::ReleaseSemaphore { kernel, count } => signal(
+            sources,
+            callbacks,
+            objects,
+            made,
+            kernel,
+            KernelChange::Raise(count),
+        ),
+    }
+}
+
+// What an action on return does to its kernel object.
+fn change_asked(kind: ActionKind, count: u32) -> KernelChange
+    ensures { result ≡ change_asked_by kind count }
+{
+    match kind {
+        ActionKind::Section | ActionKind::Mutex => KernelChange::Leave,
+        ActionKind::Semaphore => KernelChange::Raise(count),
+        ActionKind::Event => KernelChange::Set,
+    }
+}
+
+// Does what an action on return asks for.
+fn act(
+    sources: &mut LiveSources,
+    callbacks: &mut LiveCallbacks,
+    objects: &ObjectRows,
+    made: u64,
+    kind: ActionKind,
+    action: Action,
+) -> u64
+    requires may { MayAlter sources.old.sources action.kernel (change_asked_by kind action.count) }
+    requires can { CanMake callbacks.old objects.now.objects (made + 1) (act_of kind action (jobless sources.old.sources)).jobs }
+    requires young { made + length (act_of kind action (jobless sources.old.sources)).jobs ≤ 2 ^ 63 }
+    ensures { IsFired (act_of kind action (jobless sources.old.sources)) objects.now.objects made result sources.old sources.new callbacks.old callbacks.new }
+{
+    let how = change_asked(kind, action.count);
+    match kind {
+        ActionKind::Section | ActionKind::Mutex => {
+            sources.change(action.kernel, how);
+            made
+        }
+        ActionKind::Semaphore | ActionKind::Event => {
+            signal(sources, callbacks, objects, made, action.kernel, how)
+        }
+    }
+}
+
+// Performs an action on return, if its word says so.
+fn perform(
+    sources: &mut LiveSources,
+    callbacks: &mut LiveCallbacks,
+    objects: &ObjectRows,
+    made: u64,
+    kind: ActionKind,
+    word: SlotWord,
+    action: Option<Action>,
+) -> u64
+    requires may { MayPerform sources.old.sources kind word action }
+    requires can { CanMake callbacks.old objects.now.objects (made + 1) (perform_of kind word action (jobless sources.old.sources)).jobs }
+    requires young { made + length (perform_of kind word action (jobless sources.old.sources)).jobs ≤ 2 ^ 63 }
+    ensures { IsFired (perform_of kind word action (jobless sources.old.sources)) objects.now.objects made result sources.old sources.new callbacks.old callbacks.new }
+{
+    match (word, action) {
+        (SlotWord::Performed, Some(action)) => {
+            act(sources, callbacks, objects, made, kind, action)
+        }
+        _ => made,
+    }
+}
+
+// Performs all actions on return that were asked for, as their words say.
+fn perform_all(
+    sources: &mut LiveSources,
+    callbacks: &mut LiveCallbacks,
+    objects: &ObjectRows,
+    made: u64,
+    words: ActionWords,
+    slots: Slots,
+) -> u64
+    requires may { MayPerformAll sources.old.sources words slots }
+    requires can { CanMake callbacks.old objects.now.objects (made + 1) (performed words slots (jobless sources.old.sources)).jobs }
+    requires young { made + length (performed words slots (jobless sources.old.sources)).jobs ≤ 2 ^ 63 }
+    ensures { IsFired (performed words slots (jobless sources.old.sources)) objects.now.objects made result sources.old sources.new callbacks.old callbacks.new }
+{
+    let made = perform(
+        sources,
+        callbacks,
+        objects,
+        made,
+        ActionKind::Section,
+        words.section,
+        slots.section,
+    );
+    let made = perform(
+        sources,
+        callbacks,
+        objects,
+        made,
+        ActionKind::Mutex,
+        words.mutex,
+        slots.mutex,
+    );
+    let made = perform(
+        sources,
+        callbacks,
+        objects,
+        made,
+        ActionKind::Semaphore,
+        words.semaphore,
+        slots.semaphore,
+    );
+    perform(
+        sources,
+        callbacks,
+        objects,
+        made,
+        ActionKind::Event,
+        words.event,
+        slots.event,
+    )
+}
+
+impl LiveWorld {
+    // Does what a trigger does, and makes its callbacks: so many, from the next number on.
+    pub(crate) fn fire(&mut self, trigger: Trigger, _first: u64, _count: u32)
+        requires allowed { IsAllowed (self.old.made + 1) self.old.world (Change.Fire trigger _first _count) }
+        requires young { self.old.made + 65536 ≤ 2 ^ 63 }
+        ensures { self.new ≡ moved self.old (Change.Fire trigger _first _count) }
+    {
+        self.sources.is_reachable();
+        self.made = fire(
+            &mut self.sources,
+            &mut self.callbacks,
+            &self.objects,
+            self.made,
+            trigger,
+        );
+    }
+
+    // A worker's callback returns: the actions that it asked for are performed as their words say, and
+    // the waits that they release make callbacks: so many, from the next number on.
+    pub(crate) fn return_callback(&mut self, by: Busy, words: ActionWords, _first: u64, _count: u32)
+        requires allowed { IsAllowed (self.old.made + 1) self.old.world (Change.Return by words _first _count) }
+        requires young { self.old.made + 65536 ≤ 2 ^ 63 }
+        ensures { self.new ≡ moved self.old (Change.Return by words _first _count) }
+    {
+        self.is_reachable();
+        self.end_callback(by);
+        self.made = perform_all(
+            &mut self.sources,
+            &mut self.callbacks,
+            &self.objects,
+            self.made,
+            words,
+            slots_of(by.callback.status),
+        );
     }
 }

@@ -1,32 +1,16 @@
 //! Operations of I/O objects: a callback expects one, it is issued or given up, and it completes.
 
 ghost use Rattle.std.specs.Prelude.{◌≡◌, ◌+◌, ◌^◌, ◌<◌};
-ghost use Rattle.tp_model.specs.Calls.Io.{first_expected, issued_of};
-ghost use Rattle.tp_model.specs.Conditions.{has_operations};
+ghost use Rattle.tp_model.specs.Calls.Io.{issued_of};
 ghost use Rattle.tp_model.specs.Support.Allowed.{IsAllowed};
 ghost use Rattle.live_world.specs.Live.{moved};
 
 use crate::LiveWorld;
 use tp_base::answers::TakeResult;
-use tp_base::ids::ObjectId;
 use tp_base::plans::{Change, IoStep};
 use tp_base::rows::{CallbackRow, Status};
 
 impl LiveWorld {
-    /// The callback of an object that has expected its operation longest, if one expects it.
-    pub fn first_expected(&self, object: ObjectId) -> Option<CallbackRow>
-        ensures { result ≡ first_expected self.now.world object.0 }
-    {
-        self.callbacks.first_expected(object)
-    }
-
-    /// Whether a callback of the object expects an operation or has it under way.
-    pub fn has_operations(&self, object: ObjectId) -> bool
-        ensures { result ≡ has_operations self.now.world object.0 }
-    {
-        self.callbacks.is_operating(object)
-    }
-
     /// The callback of a number, if its operation is under way.
     pub fn issued(&self, callback: u64) -> Option<CallbackRow>
         ensures { result ≡ issued_of self.now.world callback }

@@ -1,37 +1,13 @@
 //! A callback leaves begun waits, and waits for groups begin.
 
 ghost use Rattle.tp_model.specs.Support.Sound.{IsRising};
-ghost use Rattle.std.specs.Prelude.{◌≡◌, ℕ, ◌+◌, ◌<◌, [], length, map};
+ghost use Rattle.std.specs.Prelude.{◌≡◌, ℕ, ◌+◌, ◌<◌, [], length};
 ghost use Rattle.live_callbacks.specs.Callbacks.{held_of, with_held};
-ghost use Rattle.tp_model.specs.Groups.{gets_notice as gets_notice_of, is_member, is_object_that};
-ghost use Rattle.live_world.specs.Parts.{shown_object};
 ghost use Rattle.live_world.specs.Closing.{IsLeft, numbers_of_group};
 
-use crate::objects::Object;
 use begun_waits::BegunWaits;
-use handle_table::{Found, Rows};
 use live_callbacks::LiveCallbacks;
 use tp_base::ids::GroupId;
-
-// The object of this number is a member of the group.
-pub(crate) fn is_member(objects: &Rows<Object>, group: GroupId, number: u32) -> bool
-    ensures { result ≡ is_object_that (is_member group.0) (map shown_object objects.now.rows) number }
-{
-    match objects.get(number) {
-        Found::Live(object) => object.env.group.0 == group.0,
-        Found::Absent | Found::Released(_) => false,
-    }
-}
-
-// The object of this number is a member of the group, and has a cancel routine.
-pub(crate) fn gets_notice(objects: &Rows<Object>, group: GroupId, number: u32) -> bool
-    ensures { result ≡ is_object_that (gets_notice_of group.0) (map shown_object objects.now.rows) number }
-{
-    match objects.get(number) {
-        Found::Live(object) => object.env.group.0 == group.0 && 0 < object.env.cancel.0,
-        Found::Absent | Found::Released(_) => false,
-    }
-}
 
 // Each wait that closes no group lets go of a callback.
 pub(crate) fn leave_unclosed(

@@ -1,35 +1,31 @@
 //! A live world: what an engine keeps of the thread pool machine's world, seen as the world without
 //! the callbacks that are over and the number of callbacks that were ever made.
 //!
-//! `open` takes all memory. The queries (`actor`, `idle`, `busy`, `object`, `next`, ..) answer the
-//! conditions and counts of the model, each by its name there, and ask nothing of the caller;
-//! `wait_counts` and `progress` say what a wait would cover and how far one has come, `kernel`
-//! and its like what an event, semaphore or lock is at, and `is_stalled` whether nobody can go on.
-//! `apply` makes a change that the world allows, and is the only call that changes anything. The
-//! indexes and counters (tallies, the lists of members, what waits hold) change in `changes`
-//! alone.
+//! `open` takes all memory. What one part knows, that part answers, which is lent by reference:
+//! `callbacks`, `objects`, `waits` and `sources`. What ties several of them, the world answers itself:
+//! `tally` what is counted of a pool, `wait_counts` and `close_counts` what a wait or a close would cover,
+//! `progress` how far a wait has come, `lacks_slots` and its like whether there is a slot. What is asked
+//! across all of that stands in a crate of its own, live_queries. `apply` makes a change that the world
+//! allows, and is the only call that changes anything.
 
 #![tactic(auto)]
 
 ghost use Rattle.std.specs.Prelude.{◌≡◌, ◌+◌, ◌^◌, ◌<◌, IfOk};
 ghost use Rattle.tp_base.specs.Ranges.{AreLimitsInRange};
 ghost use Rattle.tp_model.specs.World.{opening};
+ghost use Rattle.tp_model.specs.Sources.{sources_of};
 ghost use Rattle.tp_model.specs.Support.Remembered.{forget};
 ghost use Rattle.tp_model.specs.Support.Sound.{IsSound};
 ghost use Rattle.live_world.specs.Bounds.{IsBounded};
 
 use begun_waits::BegunWaits;
-use groups::Group;
-use handle_table::Rows;
-use kernel_events::KernelTable;
-use linked_lists::LinkedLists;
 use live_callbacks::LiveCallbacks;
-use objects::Object;
+use object_rows::ObjectRows;
 use opened::{both, open_rows};
 use pool_rows::PoolRows;
+use sources::LiveSources;
 use std::alloc::{AllocError, Global};
 use std::marker::Model;
-use timer_objects::TimerObjects;
 use tp_base::limits::Limits;
 use tp_base::rows::ClientRow;
 
@@ -42,14 +38,12 @@ pub mod groups;
 mod io;
 mod kernels;
 mod leaving;
-mod members;
 mod objects;
 mod opened;
 pub mod outstanding;
-mod pools;
-mod stalls;
-pub mod timers;
-mod waiting;
+pub mod pools;
+mod running;
+pub mod slots;
 pub mod waits;
 
 /// What is kept of a world.
@@ -57,22 +51,14 @@ pub mod waits;
 pub struct LiveWorld {
     limits: Limits,
     pools: PoolRows,
-    // A group that is closed is released.
-    groups: Rows<Group>,
-    objects: Rows<Object>,
-    // The list of a group's number has its members; object o is at the place limits.groups + o.
-    members: LinkedLists,
+    // The objects and the groups that they are members of.
+    objects: ObjectRows,
     // The callbacks that live, and by the place of each actor those that its wait still holds.
     callbacks: LiveCallbacks,
     waits: BegunWaits<LiveCallbacks>,
     clients: Vec<ClientRow>,
-    // The timers and the wait objects, with what is set: for a wait the timeout of its arming.
-    timers: TimerObjects,
-    // The kernel objects, and the waits that are armed on them.
-    kernels: KernelTable,
-    // How many waits are armed.
-    armed: u32,
-    clock: u64,
+    // What makes callbacks by itself: the clock with what is set, and the kernel objects with what is armed.
+    sources: LiveSources,
     made: u64,
 }
 
@@ -100,27 +86,62 @@ impl LiveWorld {
         let rows = open_rows(alloc, limits)?;
         let (rows, waits) = both(rows, BegunWaits::open(alloc, limits))?;
         let (tables, clients) = both((rows, waits), actors::open_clients(alloc, limits.clients))?;
-        let (tables, timers) = both((tables, clients), TimerObjects::open(alloc, limits.objects))?;
-        let (tables, kernels) = both(
-            (tables, timers),
-            KernelTable::open(alloc, limits.kernels, limits.objects),
+        let (tables, sources) = both(
+            (tables, clients),
+            LiveSources::open(alloc, limits.kernels, limits.objects),
         )?;
-        let (((rows, waits), clients), timers) = tables;
+        let ((rows, waits), clients) = tables;
         Ok(LiveWorld {
             limits,
             pools: rows.pools,
-            groups: rows.groups,
             objects: rows.objects,
-            members: rows.members,
             callbacks: rows.callbacks,
             waits,
             clients,
-            timers,
-            kernels,
-            armed: 0,
-            clock: 0,
+            sources,
             made: 0,
         })
+    }
+
+    /// The limits of the machine: how many there may be of each thing.
+    pub fn limits(&self) -> Limits
+        ensures { result ≡ self.now.world.limits }
+    {
+        self.limits
+    }
+
+    /// The callbacks that live: which is next in a pool, what is outstanding for an object, and which
+    /// expect an operation or have one under way.
+    pub fn callbacks(&self) -> &LiveCallbacks
+        ensures { result.now.rows ≡ self.now.world.callbacks }
+    {
+        &self.callbacks
+    }
+
+    /// The objects and the groups.
+    pub fn objects(&self) -> &ObjectRows
+        ensures objects { result.now.objects ≡ self.now.world.objects }
+        ensures object_limit { result.now.object_limit ≡ self.now.world.limits.objects }
+        ensures groups { result.now.groups ≡ self.now.world.groups }
+        ensures group_limit { result.now.group_limit ≡ self.now.world.limits.groups }
+    {
+        &self.objects
+    }
+
+    /// The waits that actors have begun.
+    pub fn waits(&self) -> &BegunWaits<LiveCallbacks>
+        ensures { result.now.waits ≡ self.now.world.waits }
+    {
+        &self.waits
+    }
+
+    /// The clock with the timers and timeouts that are set, and the kernel objects with the waits that are
+    /// armed on them.
+    pub fn sources(&self) -> &LiveSources
+        ensures sources { result.now.sources ≡ sources_of self.now.world }
+        ensures kernel_limit { result.now.most_kernels ≡ self.now.world.limits.kernels }
+    {
+        &self.sources
     }
 
     /// What is true of every live world. It does nothing: who calls it knows this.

@@ -1,26 +1,21 @@
 //! The parts of a live world as they are opened, one after another. Where one can't be opened, those before it
 //! are freed.
 
-ghost use Rattle.std.specs.Prelude.{◌≡◌, [], IfOk, Ok};
+ghost use Rattle.std.specs.Prelude.{◌≡◌, IfOk, Ok};
 ghost use Rattle.tp_base.specs.Ranges.{AreLimitsInRange};
-ghost use Rattle.live_world.specs.Opening.{opened_callbacks, opened_members, opened_pools};
+ghost use Rattle.live_world.specs.Opening.{opened_callbacks, opened_objects, opened_pools};
 
-use crate::groups::Group;
-use crate::objects::Object;
-use handle_table::Rows;
-use linked_lists::LinkedLists;
 use live_callbacks::LiveCallbacks;
+use object_rows::ObjectRows;
 use pool_rows::PoolRows;
 use std::alloc::{AllocError, Global};
 use tp_base::limits::Limits;
 
-// The rows of what is made, and the members of each group.
+// The rows of what is made.
 #[derive(Drop)]
 pub(crate) struct OpenedRows {
     pub pools: PoolRows,
-    pub groups: Rows<Group>,
-    pub objects: Rows<Object>,
-    pub members: LinkedLists,
+    pub objects: ObjectRows,
     pub callbacks: LiveCallbacks,
 }
 
@@ -38,22 +33,16 @@ pub(crate) fn both<A: Drop, B>(
 pub(crate) fn open_rows(alloc: Global, limits: Limits) -> Result<OpenedRows, AllocError>
     requires { AreLimitsInRange limits }
     ensures pools { IfOk result (λ rows. rows.pools ≡ opened_pools limits) }
-    ensures group_limit { IfOk result (λ rows. rows.groups.limit ≡ limits.groups) }
-    ensures groups { IfOk result (λ rows. rows.groups.rows ≡ []) }
-    ensures object_limit { IfOk result (λ rows. rows.objects.limit ≡ limits.objects) }
-    ensures objects { IfOk result (λ rows. rows.objects.rows ≡ []) }
-    ensures members { IfOk result (λ rows. rows.members ≡ opened_members limits) }
+    ensures objects { IfOk result (λ rows. rows.objects ≡ opened_objects limits) }
     ensures callbacks { IfOk result (λ rows. rows.callbacks ≡ opened_callbacks limits) }
 {
     let pools = PoolRows::open(alloc, limits.pools, limits.workers)?;
-    let (pools, groups) = both(pools, Rows::open(alloc, limits.groups))?;
-    let (tables, objects) = both((pools, groups), Rows::open(alloc, limits.objects))?;
-    let (tables, members) = both(
-        (tables, objects),
-        LinkedLists::open(alloc, limits.groups + 1, limits.objects),
+    let (pools, objects) = both(
+        pools,
+        ObjectRows::open(alloc, limits.groups, limits.objects),
     )?;
     let (tables, callbacks) = both(
-        (tables, members),
+        (pools, objects),
         LiveCallbacks::open(
             alloc,
             limits.slots,
@@ -63,12 +52,10 @@ pub(crate) fn open_rows(alloc: Global, limits: Limits) -> Result<OpenedRows, All
             limits.clients + limits.workers,
         ),
     )?;
-    let (((pools, groups), objects), members) = tables;
+    let (pools, objects) = tables;
     Ok(OpenedRows {
         pools,
-        groups,
         objects,
-        members,
         callbacks,
     })
 }

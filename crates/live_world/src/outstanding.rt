@@ -1,14 +1,13 @@
 //! What is outstanding for an object: its callbacks that are pending, and those that run and were
 //! not disassociated from it.
 
-ghost use Rattle.std.specs.Prelude.{◌≡◌, ◌+◌, ◌<◌, ◌≤◌, if◌then◌else◌, nat_lt, find, filter, length, slice_get, Some, None};
-ghost use Rattle.tp_model.specs.Counts.{has_number};
+ghost use Rattle.std.specs.Prelude.{◌≡◌, ◌+◌, ◌<◌, ◌≤◌, if◌then◌else◌, nat_lt, filter, length, slice_get};
 ghost use Rattle.tp_model.specs.Waits.{count_outstanding};
 ghost use Rattle.tp_model.specs.Calls.Waits.{count_covered, count_cancelled_by};
 ghost use Rattle.live_world.specs.Invariant.{is_pending_callback, is_running_callback};
 
 use crate::LiveWorld;
-use crate::waits::{is_pending, is_running};
+use crate::callbacks::{is_pending, is_running};
 use tp_base::ids::ObjectId;
 use tp_base::rows::{CallbackRow, WaitTarget};
 
@@ -53,26 +52,11 @@ impl Outstanding {
 
 impl LiveWorld {
     ghost use Rattle.live_world.specs.Waiting.{outstanding_of, pending_of};
-    // The outstanding callback of least number.
-    pub(crate) fn first_outstanding(&self, object: ObjectId) -> Option<CallbackRow>
-        ensures { result ≡ slice_get (outstanding_of self.now.world object) 0 }
-    {
-        self.callbacks.first_outstanding(object)
-    }
-
-    // The outstanding callback of the same object that follows this one.
-    pub(crate) fn next_outstanding(&self, callback: &CallbackRow) -> Option<CallbackRow>
-        requires { find (has_number callback.now.number) (outstanding_of self.now.world callback.now.object) ≡ Some callback.now }
-        ensures { result ≡ find (λ c. nat_lt callback.now.number c.number) (outstanding_of self.now.world callback.now.object) }
-    {
-        self.callbacks.next_outstanding(callback)
-    }
-
     /// Whether a callback of the object is outstanding.
     pub fn is_outstanding(&self, object: ObjectId) -> bool
         ensures { result ≡ nat_lt 0 (count_outstanding (WaitTarget.Object object) self.now.world) }
     {
-        self.first_outstanding(object).is_some()
+        self.callbacks.first_outstanding(object).is_some()
     }
 
     // The pending callback of least number. Walks what is outstanding for the object before it.
@@ -80,12 +64,12 @@ impl LiveWorld {
         ensures { result ≡ slice_get (pending_of self.now.world object) 0 }
     {
         self.is_reachable();
-        let mut next = self.first_outstanding(object);
+        let mut next = self.callbacks.first_outstanding(object);
         while let Some(callback) = next {
             if is_pending(&callback) {
                 return Some(callback);
             }
-            next = self.next_outstanding(&callback);
+            next = self.callbacks.next_outstanding(&callback);
         }
         None
     }
@@ -98,10 +82,10 @@ impl LiveWorld {
     {
         self.is_reachable();
         let mut count = Outstanding::NONE;
-        let mut next = self.first_outstanding(object);
+        let mut next = self.callbacks.first_outstanding(object);
         while let Some(callback) = next {
             count = count.with(&callback);
-            next = self.next_outstanding(&callback);
+            next = self.callbacks.next_outstanding(&callback);
         }
         count
     }

@@ -1,21 +1,15 @@
-//! Pools: what is counted of each, and which of them needs a worker.
+//! Pools: what is counted of each; a pool is made or changed, and a worker joins one or leaves it.
 
-ghost use Rattle.std.specs.Prelude.{◌≡◌, ◌||◌, ◌&&◌, ◌==◌, not, nat_le, nat_lt, length};
-ghost use Rattle.std.specs.List.{list_all, list_any, range_with_len};
-ghost use Rattle.tp_model.specs.Counts.{is_live, running, maximum, is_in_need, is_below_minimum, least_pool};
-ghost use Rattle.tp_model.specs.Conditions.{is_pool, is_closed_pool};
-ghost use Rattle.tp_model.specs.Calls.Pools.{is_used};
-ghost use Rattle.tp_model.specs.Calls.Workers.{pool_to_join, may_leave};
-ghost use Rattle.tp_model.specs.Calls.InCallback.{has_spare};
+ghost use Rattle.std.specs.Prelude.{◌≡◌, ◌+◌, length, slice_get};
+ghost use Rattle.tp_model.specs.Support.Allowed.{IsAllowed};
+ghost use Rattle.live_world.specs.Live.{moved};
 ghost use Rattle.live_world.specs.Tally.{tally_shown as tally_shown_of};
-ghost use Rattle.live_world.specs.Uses.{is_bound, is_pool_over};
-ghost use Rattle.tp_model.specs.Over.{is_over};
 
 use crate::LiveWorld;
-use crate::objects::Object;
-use handle_table::Found;
 use pool_rows::Counts;
 use tp_base::ids::PoolId;
+use tp_base::plans::{Change, Idle, PoolChange};
+use tp_base::rows::PoolRow;
 
 /// What is counted of a pool.
 #[derive(Clone, Copy)]
@@ -58,21 +52,11 @@ fn tally_shown(waiting: u32, counts: Counts) -> Tally
     }
 }
 
-// An object that isn't released is bound to the pool.
-fn is_bound_to(pool: PoolId, found: Found<'_, Object>) -> bool
-    ensures { result ≡ is_bound pool.0 found.entry }
-{
-    match found {
-        Found::Live(object) => object.env.pool.0 == pool.0,
-        Found::Absent | Found::Released(_) => false,
-    }
-}
-
 impl LiveWorld {
     ghost use Rattle.live_world.specs.Tally.{tally_of};
 
-    // What is counted of a pool, whether it was made or not.
-    pub(crate) fn tally(&self, pool: PoolId) -> Tally
+    /// What is counted of a pool, whether it was made or not.
+    pub fn tally(&self, pool: PoolId) -> Tally
         ensures { result ≡ tally_of self.now.world pool.0 }
     {
         match self.pools.counts(pool) {
@@ -89,174 +73,56 @@ impl LiveWorld {
         self.pools.pools()
     }
 
-    /// Whether there is no place for one more pool.
-    pub fn lacks_pool(&self) -> bool
-        ensures { result ≡ nat_le self.now.world.limits.pools (length self.now.world.pools) }
-    {
-        self.limits.pools <= self.pools.pools()
-    }
-
-    /// Whether a pool of this number was made.
-    pub fn is_pool(&self, pool: PoolId) -> bool
-        ensures { result ≡ is_pool self.now.world pool.0 }
-    {
-        self.pools.counts(pool).is_some()
-    }
-
-    /// Whether the pool was made and closed.
-    pub fn is_closed_pool(&self, pool: PoolId) -> bool
-        ensures { result ≡ is_closed_pool self.now.world pool.0 }
+    /// The row of a pool, if one of this number was made. The default pool has the number 0.
+    pub fn pool(&self, pool: PoolId) -> Option<PoolRow>
+        ensures { result ≡ slice_get self.now.world.pools pool.0 }
     {
         match self.pools.counts(pool) {
-            None => false,
-            Some(counts) => counts.closed,
+            None => None,
+            Some(counts) => Some(PoolRow {
+                minimum: counts.minimum,
+                maximum: counts.maximum,
+                closed: counts.closed,
+            }),
         }
     }
 
-    /// How many callbacks of a pool run.
-    pub fn running(&self, pool: PoolId) -> u32
-        ensures { result ≡ running self.now.world pool.0 }
+    // Makes a pool.
+    pub(crate) fn create_pool(&mut self)
+        requires { IsAllowed (self.old.made + 1) self.old.world Change.CreatePool }
+        ensures { self.new ≡ moved self.old Change.CreatePool }
     {
-        self.tally(pool).running
-    }
-
-    /// How many of them may run at once.
-    pub fn maximum(&self, pool: PoolId) -> u32
-        ensures { result ≡ maximum self.now.world pool.0 }
-    {
-        self.tally(pool).maximum
-    }
-
-    /// Whether the pool has an idle worker, or may have another.
-    pub fn has_spare(&self, pool: PoolId) -> bool
-        ensures { result ≡ has_spare self.now.world pool.0 }
-    {
-        let tally = self.tally(pool);
-        0 < tally.idle || tally.attached < tally.maximum
-    }
-
-    // Whether callbacks wait, no attached worker is free, and the pool may have another.
-    fn is_in_need(&self, pool: PoolId) -> bool
-        ensures { result ≡ is_in_need self.now.world pool.0 }
-    {
-        let tally = self.tally(pool);
-        0 < tally.pending && tally.idle == 0 && tally.attached < tally.maximum
-    }
-
-    // Whether too few workers are free for short callbacks, and the pool may have another.
-    fn is_below_minimum(&self, pool: PoolId) -> bool
-        ensures { result ≡ is_below_minimum self.now.world pool.0 }
-    {
-        let tally = self.tally(pool);
-        tally.available < tally.minimum && tally.attached < tally.maximum
-    }
-
-    // The pool of least number that is in need.
-    fn least_in_need(&self) -> Option<u32>
-        ensures { result ≡ least_pool self.now.world (is_in_need self.now.world) }
-    {
-        (0..self.pools.pools()).find(|pool| self.is_in_need(PoolId(*pool)))
-    }
-
-    // The pool of least number that is below its minimum.
-    fn least_below_minimum(&self) -> Option<u32>
-        ensures { result ≡ least_pool self.now.world (is_below_minimum self.now.world) }
-    {
-        (0..self.pools.pools()).find(|pool| self.is_below_minimum(PoolId(*pool)))
-    }
-
-    // The pool of least number, but for this one, that is in need.
-    fn least_other_in_need(&self, pool: PoolId) -> Option<u32>
-        ensures { result ≡ least_pool self.now.world (λ other. not (other == pool.0) && is_in_need self.now.world other) }
-    {
-        (0..self.pools.pools()).find(|other| *other != pool.0 && self.is_in_need(PoolId(*other)))
-    }
-
-    /// The pool that an unattached worker is to join, if there is one: the least pool in need, and
-    /// else the least one below its minimum.
-    pub fn pool_to_join(&self) -> Option<u32>
-        ensures { result ≡ pool_to_join self.now.world }
-    {
-        match self.least_in_need() {
-            Some(pool) => Some(pool),
-            None => self.least_below_minimum(),
+        match self.pools.create() {
+            Ok(_) => {}
+            Err(_) => unreachable!(),
         }
     }
 
-    /// Whether an idle worker of the pool may leave it.
-    pub fn may_leave(&self, pool: PoolId) -> bool
-        ensures { result ≡ may_leave self.now.world pool.0 }
+    // Closes a pool, or sets how many workers it may have or keeps.
+    pub(crate) fn change_pool(&mut self, pool: PoolId, how: PoolChange)
+        requires { IsAllowed (self.old.made + 1) self.old.world (Change.ChangePool pool how) }
+        ensures { self.new ≡ moved self.old (Change.ChangePool pool how) }
     {
-        let another = self.least_other_in_need(pool).is_some();
-        let tally = self.tally(pool);
-        tally.maximum < tally.attached
-            || (tally.pending == 0 && (tally.minimum < tally.available || another))
-    }
-
-    // Whether an object that isn't released is bound to the pool. Walks the objects.
-    fn has_object(&self, pool: PoolId) -> bool
-        ensures { result ≡ list_any (λ o. not o.released && (o.env.pool.0 == pool.0)) self.now.world.objects }
-    {
-        let objects = self.objects.len();
-        for place in 0..objects {
-            if is_bound_to(pool, self.objects.get(place + 1)) {
-                return true;
-            }
+        match how {
+            PoolChange::Close => self.pools.close(pool),
+            PoolChange::Maximum(value) => self.pools.set_maximum(pool, value),
+            PoolChange::Minimum(value) => self.pools.set_minimum(pool, value),
         }
-        false
     }
 
-    // Whether a callback of the pool is under way. Walks the callbacks.
-    fn has_callback(&self, pool: PoolId) -> bool
-        ensures { result ≡ list_any (λ c. is_live c.status && (c.pool.0 == pool.0)) self.now.world.callbacks }
+    // Attaches a worker to a pool.
+    pub(crate) fn attach(&mut self, worker: u32, pool: PoolId)
+        requires { IsAllowed (self.old.made + 1) self.old.world (Change.Attach worker pool) }
+        ensures { self.new ≡ moved self.old (Change.Attach worker pool) }
     {
-        self.is_reachable();
-        let mut next = self.callback_after(0);
-        while let Some(callback) = next {
-            if callback.pool.0 == pool.0 {
-                return true;
-            }
-            next = self.callback_after(callback.number);
-        }
-        false
+        self.pools.attach(worker, pool);
     }
 
-    /// Whether something of the pool is outstanding. Walks the objects and the callbacks.
-    pub fn is_used(&self, pool: PoolId) -> bool
-        ensures { result ≡ is_used self.now.world pool.0 }
+    // Detaches a worker from its pool.
+    pub(crate) fn detach(&mut self, by: Idle)
+        requires { IsAllowed (self.old.made + 1) self.old.world (Change.Detach by) }
+        ensures { self.new ≡ moved self.old (Change.Detach by) }
     {
-        self.has_object(pool) || self.has_callback(pool)
-    }
-    // Whether nothing of the pool runs, and what of it is pending can't be run any more.
-    fn is_pool_over(&self, pool: PoolId, room: u64) -> bool
-        ensures { result ≡ is_pool_over self.now.world room pool.0 }
-    {
-        let tally = self.tally(pool);
-        let lacks_room = room < 2 || (room < 4 && tally.idle == 0);
-        tally.running == 0 && (tally.pending == 0 || lacks_room)
-    }
-
-    // Whether no callback runs, and none that is pending can be run any more.
-    fn are_pools_over(&self, room: u64) -> bool
-        ensures { result ≡ list_all (is_pool_over self.now.world room) (range_with_len 0 (length self.now.world.pools)) }
-    {
-        (0..self.pools.pools()).all(|pool| self.is_pool_over(PoolId(pool), room))
-    }
-
-    // Whether every client has finished.
-    fn have_clients_finished(&self) -> bool
-        ensures { result ≡ list_all (λ client. client.finished) self.now.world.clients }
-    {
-        self.clients.iter().all(|client| client.finished)
-    }
-
-    /// Whether every client has finished, no callback runs, and the history, which has this room
-    /// left, has none for a pending one to be run. Walks the clients and the pools.
-    #[tactic(auto, using(crate::proofs::Over::over_by_pools))]
-    pub fn is_over(&self, room: u64) -> bool
-        ensures { result ≡ is_over self.now.world room }
-    {
-        self.is_reachable();
-        self.have_clients_finished() && self.are_pools_over(room)
+        self.pools.detach(by.worker);
     }
 }

@@ -1,16 +1,28 @@
-//! The waits that actors have begun: what each still holds, or which kernel object it is for.
+//! The waits that actors have begun: how far each has come, and how they begin and end.
 
-ghost use Rattle.std.specs.Prelude.{◌≡◌, ◌+◌, ◌^◌, ◌<◌, IfOk, None, Some, false, is_none, replicate, slice_get};
-ghost use Rattle.std.specs.Option.{option_map_or};
-ghost use Rattle.tp_model.specs.Counts.{callback_of, is_operating as is_operating_by, is_pending as is_pending_by, is_running as is_running_by};
-ghost use Rattle.tp_model.specs.Conditions.{is_in_wait};
-ghost use Rattle.tp_model.specs.Waits.{wait_of};
+ghost use Rattle.std.specs.Prelude.{◌≡◌, ℕ, ◌+◌, ◌^◌, ◌<◌, [], IfSome, None, Some, false, filter, is_none, length, slice_get};
+ghost use Rattle.tp_base.specs.declared.plans.WaitEnd.TheVariants.{Free};
+ghost use Rattle.tp_base.specs.declared.rows.WaitTarget.TheVariants.{Object};
+ghost use Rattle.tp_model.specs.Changes.{begin_wait};
+ghost use Rattle.tp_model.specs.Waits.{covered_of, is_cancelled_by, wait_of};
 ghost use Rattle.tp_model.specs.Calls.Waits.{is_starved, holds_starved};
+ghost use Rattle.tp_model.specs.Support.Allowed.{IsAllowed, MayBegin};
+ghost use Rattle.tp_model.specs.Support.Ranged.{AreTakenAtMost};
+ghost use Rattle.tp_model.specs.Support.Sound.{IsRising};
 ghost use Rattle.begun_waits.specs.Begun.{closing_by, place_of};
+ghost use Rattle.live_callbacks.specs.Callbacks.{held_of, with_held};
+ghost use Rattle.sources.specs.Rows.{with_sources};
+ghost use Rattle.live_world.specs.Live.{moved, settled, with_world, without_pending};
+ghost use Rattle.live_world.specs.Taking.{IsFreeFor, rows_left};
+ghost use Rattle.live_world.specs.Waiting.{is_wanted};
 
 use crate::LiveWorld;
+use crate::callbacks::{is_pending, is_running};
+use live_callbacks::LiveCallbacks;
+use sources::LiveSources;
 use tp_base::ids::{KernelId, ObjectId, RoutineId, Who};
-use tp_base::rows::{CallbackRow, Status};
+use tp_base::plans::{Awaited, Change, WaitEnd};
+use tp_base::rows::{CallbackRow, WaitTarget};
 
 /// How far a wait has come.
 #[derive(Clone, Copy)]
@@ -38,43 +50,53 @@ pub enum Progress {
     },
 }
 
-// The callback waits for a worker.
-pub(crate) fn is_pending(callback: &CallbackRow) -> bool
-    ensures { result ≡ is_pending_by callback.now.status }
+// Whether a wait covers an outstanding callback: with cancel it covers what runs.
+fn is_covered(callback: &CallbackRow, cancel: bool) -> bool
+    ensures { result ≡ is_wanted cancel callback.now }
 {
-    matches!(callback.status, Status::Pending)
+    !cancel || is_running(callback)
 }
 
-// An operation of the callback is expected or under way.
-pub(crate) fn is_operating(callback: &CallbackRow) -> bool
-    ensures { result ≡ is_operating_by callback.now.status }
+// Lets a wait that begins hold what is outstanding for this object, or with cancel what of it runs.
+pub(crate) fn begin_covering(
+    callbacks: &mut LiveCallbacks,
+    waiter: u32,
+    object: ObjectId,
+    cancel: bool,
+)
+    requires there { waiter < length callbacks.old.held }
+    requires idle { held_of callbacks.old waiter ≡ [] }
+    requires rising { (next_number : ℕ) × IsRising 1 next_number callbacks.old.rows }
+    ensures { callbacks.new ≡ with_held callbacks.old waiter (covered_of (Object object) cancel callbacks.old.rows) }
 {
-    matches!(callback.status, Status::Expected | Status::Issued)
+    let mut next = callbacks.first_outstanding(object);
+    while let Some(callback) = next {
+        next = callbacks.next_outstanding(&callback);
+        if is_covered(&callback, cancel) {
+            callbacks.hold(waiter, &callback);
+        }
+    }
 }
 
-// A worker runs the callback.
-pub(crate) fn is_running(callback: &CallbackRow) -> bool
-    ensures { result ≡ is_running_by callback.now.status }
+// The wait of an actor ends, which was for this kernel object if one is given: it is taken, unless the
+// wait is given up.
+pub(crate) fn end_acquire(
+    sources: &mut LiveSources,
+    who: Who,
+    how: WaitEnd,
+    wanted: Option<KernelId>,
+)
+    requires { how ≡ Free → IfSome wanted (λ kernel. IsFreeFor who sources.old.sources.kernels kernel.0) }
+    ensures { sources.new ≡ with_sources sources.old (record sources.old.sources { kernels = rows_left who how wanted sources.old.sources.kernels }) }
 {
-    matches!(callback.status, Status::Running { .. })
+    match (how, wanted) {
+        (WaitEnd::Free, Some(kernel)) => sources.take(who, kernel),
+        _ => {}
+    }
 }
 
 impl LiveWorld {
     ghost use Rattle.live_world.specs.Waiting.{held_by, progress_free, progress_of};
-
-    /// Whether the actor has begun a wait.
-    pub fn is_in_wait(&self, who: Who) -> bool
-        ensures { result ≡ is_in_wait self.now.world who }
-    {
-        self.waits.is_begun(who)
-    }
-
-    /// Whether the actor has begun no wait.
-    pub fn has_no_wait(&self, who: Who) -> bool
-        ensures { result ≡ is_none (wait_of self.now.world who) }
-    {
-        !self.is_in_wait(who)
-    }
 
     // Whether a callback is pending, and the history has no room for it to be run.
     fn is_starved(&self, callback: &CallbackRow, room: u64) -> bool
@@ -134,7 +156,7 @@ impl LiveWorld {
             return Progress::Free;
         };
         let closing = self.waits.closing(who).unwrap();
-        let row = self.object(object).unwrap();
+        let row = self.objects.object(object).unwrap();
         Progress::Notifies {
             object,
             routine: row.env.cancel,
@@ -180,5 +202,79 @@ impl LiveWorld {
                 }
             }
         }
+    }
+
+    // Cancels what is pending of an object. Walks what is outstanding for the object.
+    fn cancel_pending(&mut self, object: ObjectId)
+        ensures { self.new ≡ without_pending self.old object }
+    {
+        self.is_reachable();
+        let mut next = self.callbacks.first_outstanding(object);
+        while let Some(callback) = next {
+            self.is_reachable();
+            next = self.callbacks.next_outstanding(&callback);
+            if is_pending(&callback) {
+                self.cancel_callback(callback);
+            }
+        }
+        self.is_reachable();
+    }
+
+    // With cancel, cancels what is pending of an object.
+    fn settle(&mut self, object: ObjectId, cancel: bool)
+        ensures { self.new ≡ settled self.old object cancel }
+    {
+        self.is_reachable();
+        if cancel {
+            self.cancel_pending(object);
+        }
+    }
+
+    // Begins a wait that covers what is outstanding for the object: all of it, or with cancel what of it
+    // runs.
+    fn cover_outstanding(&mut self, who: Who, object: ObjectId, cancel: bool)
+        requires allowed { MayBegin self.old.world who (Awaited.Object object) }
+        requires settled { filter (is_cancelled_by (WaitTarget.Object object) cancel) self.old.world.callbacks ≡ [] }
+        ensures { self.new ≡ with_world self.old (begin_wait self.old.world who (WaitTarget.Object object) cancel self.old.world.callbacks) }
+    {
+        let waiter = self.waits.place(who).unwrap();
+        let target = WaitTarget::Object(object);
+        self.waits.begin(who, target, cancel, &self.callbacks);
+        begin_covering(&mut self.callbacks, waiter, object, cancel);
+    }
+
+    // Begins a wait for a kernel object, which covers nothing.
+    fn begin_acquire(&mut self, who: Who, kernel: KernelId, cancel: bool)
+        requires { IsAllowed (self.old.made + 1) self.old.world (Change.BeginWait who (Awaited.Kernel kernel) cancel) }
+        ensures { self.new ≡ moved self.old (Change.BeginWait who (Awaited.Kernel kernel) cancel) }
+    {
+        let target = WaitTarget::Kernel(kernel);
+        self.waits.begin(who, target, cancel, &self.callbacks);
+    }
+
+    // Begins a wait of an actor. With cancel, what is pending is cancelled first.
+    pub(crate) fn begin_wait(&mut self, who: Who, awaited: Awaited, cancel: bool)
+        requires { IsAllowed (self.old.made + 1) self.old.world (Change.BeginWait who awaited cancel) }
+        ensures { self.new ≡ moved self.old (Change.BeginWait who awaited cancel) }
+    {
+        match awaited {
+            Awaited::Object(object) => {
+                self.settle(object, cancel);
+                self.cover_outstanding(who, object, cancel);
+            }
+            Awaited::Kernel(kernel) => self.begin_acquire(who, kernel, cancel),
+        }
+    }
+
+    // Ends the wait that an actor has begun, which takes the kernel object that it is for.
+    pub(crate) fn end_wait(&mut self, who: Who, how: WaitEnd)
+        requires allowed { IsAllowed (self.old.made + 1) self.old.world (Change.EndWait who how) }
+        requires taken { AreTakenAtMost (2 ^ 47) self.old.world }
+        ensures { self.new ≡ moved self.old (Change.EndWait who how) }
+    {
+        let waiter = self.waits.place(who).unwrap();
+        self.callbacks.let_go_all(waiter);
+        end_acquire(&mut self.sources, who, how, self.waits.wanted(who));
+        self.waits.end(who, how);
     }
 }

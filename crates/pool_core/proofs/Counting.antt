@@ -51,7 +51,7 @@ few next_number w (change.Take by callback) most room objects a = record { made 
 few next_number w (change.Mark by mark) most room objects a = record { made = omega arith; cost = omega arith }
 few next_number w (change.Return by words first count) most room objects a =
     record { made = omega (arith, a.counted, returning_within w words (slots_of by.callback.status), room, most); cost = omega arith }
-few next_number w (change.BeginWait who target cancel) most room objects a = record { made = omega arith; cost = omega arith }
+few next_number w (change.BeginWait who awaited cancel) most room objects a = record { made = omega arith; cost = omega arith }
 few next_number w (change.BeginClose who group cancel context notices) most room objects a =
     record { made = omega arith; cost = omega (arith, a.counted, notices_within w group.0 cancel, objects) }
 few next_number w (change.GiveNotice who) most room objects a = record { made = omega arith; cost = omega arith }

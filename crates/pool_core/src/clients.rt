@@ -16,7 +16,7 @@ use tp_base::plans::Change;
 pub(crate) fn finish(world: &LiveWorld, who: Who, change: &mut Change) -> Decision
     ensures { decided result change.new ≡ finish_plan world.now.world who }
 {
-    let actor = world.actor(who);
+    let actor = live_queries::actor(world, who);
     let refusal = first_of!([
         (!actor.exists, Refusal::NoSuch),
         (actor.is_worker, Refusal::WrongKind),

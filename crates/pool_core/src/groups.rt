@@ -9,6 +9,7 @@ ghost use Rattle.tp_model.specs.Calls.Groups.{create_group_plan, close_group_pla
 
 use crate::decisions::{Decision, accept};
 use crate::refusals::{actor_refusal, either, first_of, group_refusal};
+use live_queries::runs_in_group;
 use live_world::LiveWorld;
 use tp_base::answers::{Answer, Refusal};
 use tp_base::ids::{GroupId, ObjectId, Who};
@@ -26,14 +27,18 @@ fn object_or_none(object: Option<u32>) -> ObjectId
 pub(crate) fn create_group(world: &LiveWorld, who: Who, change: &mut Change) -> Decision
     ensures { decided result change.new ≡ create_group_plan world.now.world who }
 {
-    let refusal = actor_refusal!(world, who, [(world.lacks_group(), Refusal::ObjectLimit)]);
+    let refusal = actor_refusal!(
+        world,
+        who,
+        [(live_queries::lacks_group(world), Refusal::ObjectLimit)]
+    );
     if let Some(refusal) = refusal {
         return Decision::Refused(refusal);
     }
     accept(
         change,
         Answer::Made {
-            number: world.next_group(),
+            number: live_queries::next_group(world),
         },
         Change::CreateGroup,
     )
@@ -54,9 +59,12 @@ pub(crate) fn close_group(
         who,
         group,
         [(
-            either(world.first_member(group).is_some(), world.has_simple(group)),
+            either(
+                world.objects().first_member(group).is_some(),
+                world.has_simple(group)
+            ),
             Refusal::HasMembers {
-                object: object_or_none(world.first_member(group))
+                object: object_or_none(world.objects().first_member(group))
             }
         )]
     );
@@ -84,7 +92,7 @@ pub(crate) fn begin_close(
         who,
         group,
         [
-            (world.runs_in_group(who, group), Refusal::OwnCallback),
+            (runs_in_group(world, who, group), Refusal::OwnCallback),
             (
                 world.first_operating(group).is_some(),
                 Refusal::OperationsOutstanding {
@@ -97,7 +105,7 @@ pub(crate) fn begin_close(
         return Decision::Refused(refusal);
     }
     let counts = world.close_counts(group, cancel);
-    let notices = world.count_notices(group, cancel);
+    let notices = world.objects().count_notices(group, cancel);
     accept(
         change,
         Answer::Closing {

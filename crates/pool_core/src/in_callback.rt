@@ -10,6 +10,7 @@ ghost use Rattle.tp_model.specs.Calls.InCallback.{busy_refusals, may_run_long_pl
 
 use crate::decisions::{Decision, accept};
 use crate::refusals::{either, first_of};
+use live_queries::{busy, has_asked, has_spare};
 use live_world::LiveWorld;
 use tp_base::answers::{ActionKind, Answer, Refusal};
 use tp_base::ids::{KernelId, Who};
@@ -20,7 +21,7 @@ use tp_base::rows::Action;
 fn busy_refusal(world: &LiveWorld, who: Who) -> Option<Refusal>
     ensures { result ≡ first_refusal (busy_refusals world.now.world who) }
 {
-    let actor = world.actor(who);
+    let actor = live_queries::actor(world, who);
     first_of!([
         (!actor.exists, Refusal::NoSuch),
         (actor.finished, Refusal::Released),
@@ -37,13 +38,13 @@ pub(crate) fn may_run_long(world: &LiveWorld, who: Who, change: &mut Change) -> 
     if let Some(refusal) = busy_refusal(world, who) {
         return Decision::Refused(refusal);
     }
-    let Some(by) = world.busy(who) else {
+    let Some(by) = busy(world, who) else {
         return Decision::Refused(Refusal::NotRunning);
     };
     accept(
         change,
         Answer::Flag {
-            value: world.has_spare(by.callback.pool),
+            value: has_spare(world, by.callback.pool),
         },
         Change::Mark {
             by,
@@ -60,7 +61,7 @@ pub(crate) fn disassociate(world: &LiveWorld, who: Who, change: &mut Change) -> 
     if let Some(refusal) = busy_refusal(world, who) {
         return Decision::Refused(refusal);
     }
-    let Some(by) = world.busy(who) else {
+    let Some(by) = busy(world, who) else {
         return Decision::Refused(Refusal::NotRunning);
     };
     accept(
@@ -85,22 +86,22 @@ pub(crate) fn on_return(
 ) -> Decision
     ensures { decided result change.new ≡ on_return_plan world.now.world who kind kernel count }
 {
-    let actor = world.actor(who);
+    let actor = live_queries::actor(world, who);
     let refusal = first_of!([
         (
-            either(!actor.exists, !world.is_kernel(kernel)),
+            either(!actor.exists, !world.sources().is_kernel(kernel)),
             Refusal::NoSuch
         ),
-        (!world.is_for(kind, kernel), Refusal::WrongKind),
+        (!world.sources().is_for(kind, kernel), Refusal::WrongKind),
         (actor.finished, Refusal::Released),
         (!actor.runs, Refusal::NotRunning),
         (actor.in_wait, Refusal::InWait),
-        (world.has_asked(who, kind), Refusal::SlotTaken { kind }),
+        (has_asked(world, who, kind), Refusal::SlotTaken { kind }),
     ]);
     if let Some(refusal) = refusal {
         return Decision::Refused(refusal);
     }
-    let Some(by) = world.busy(who) else {
+    let Some(by) = busy(world, who) else {
         return Decision::Refused(Refusal::NotRunning);
     };
     accept(

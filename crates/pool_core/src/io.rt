@@ -53,7 +53,7 @@ pub(crate) fn start_io(
 // A step with the object's first expecting callback, and the answer that tells its number.
 macro_rules! operate_first {
     ($world:ident, $who:ident, $object:ident, $change:ident, $told:ident, $how:expr) => {{
-        let expected = $world.first_expected($object);
+        let expected = $world.callbacks().first_expected($object);
         let refusal = object_refusal!(
             $world,
             $who,

@@ -20,9 +20,9 @@ use tp_base::rows::KernelState;
 // Of a call on a kernel object, which is of the call's kind or not; its own conditions follow.
 macro_rules! kernel_refusal {
     ($world:ident, $who:ident, $kernel:ident, $of_kind:expr, [$($own:tt),* $(,)?]) => {{
-        let actor = $world.actor($who);
+        let actor = live_queries::actor($world, $who);
         first_of!([
-            (either(!actor.exists, !$world.is_kernel($kernel)), Refusal::NoSuch),
+            (either(!actor.exists, !$world.sources().is_kernel($kernel)), Refusal::NoSuch),
             (!$of_kind, Refusal::WrongKind),
             (actor.finished, Refusal::Released),
             (actor.is_idle, Refusal::NotRunning),
@@ -40,7 +40,7 @@ fn accept_new(world: &LiveWorld, state: KernelState, change: &mut Change) -> Dec
     accept(
         change,
         Answer::Made {
-            number: world.next_kernel(),
+            number: live_queries::next_kernel(world),
         },
         Change::CreateKernel(state),
     )
@@ -57,7 +57,11 @@ pub(crate) fn create_event(
 ) -> Decision
     ensures { decided result change.new ≡ create_event_plan world.now.world who manual signalled }
 {
-    match actor_refusal!(world, who, [(world.lacks_kernel(), Refusal::ObjectLimit)]) {
+    match actor_refusal!(
+        world,
+        who,
+        [(live_queries::lacks_kernel(world), Refusal::ObjectLimit)]
+    ) {
         Some(refusal) => Decision::Refused(refusal),
         None => accept_new(world, KernelState::Event { manual, signalled }, change),
     }
@@ -82,7 +86,7 @@ pub(crate) fn create_semaphore(
                 either(maximum < initial, maximum == 0),
                 Refusal::OverMaximum { count: initial },
             ),
-            (world.lacks_kernel(), Refusal::ObjectLimit)
+            (live_queries::lacks_kernel(world), Refusal::ObjectLimit)
         ]
     );
     if let Some(refusal) = refusal {
@@ -120,7 +124,11 @@ pub(crate) fn create_lock(
 ) -> Decision
     ensures { decided result change.new ≡ create_lock_plan world.now.world who lock owned }
 {
-    match actor_refusal!(world, who, [(world.lacks_kernel(), Refusal::ObjectLimit)]) {
+    match actor_refusal!(
+        world,
+        who,
+        [(live_queries::lacks_kernel(world), Refusal::ObjectLimit)]
+    ) {
         Some(refusal) => Decision::Refused(refusal),
         None => accept_new(world, lock_made(lock, who, owned), change),
     }
@@ -138,12 +146,12 @@ pub(crate) fn set_event(
     requires { world.now.made < 2 ^ 63 }
     ensures { decided result change.new ≡ set_event_plan world.now.world (world.now.made + 1) who kernel }
 {
-    let refusal = kernel_refusal!(world, who, kernel, world.is_event(kernel), []);
+    let refusal = kernel_refusal!(world, who, kernel, world.sources().is_event(kernel), []);
     if let Some(refusal) = refusal {
         return Decision::Refused(refusal);
     }
     let trigger = Trigger::SetEvent { kernel };
-    let count = world.count_fired(&trigger);
+    let count = world.sources().count_fired(&trigger);
     let first = fire(world, trigger, count, change);
     Decision::Accepted(Answer::Queued { first, count })
 }
@@ -158,7 +166,7 @@ pub(crate) fn reset_event(
 ) -> Decision
     ensures { decided result change.new ≡ reset_event_plan world.now.world who kernel }
 {
-    match kernel_refusal!(world, who, kernel, world.is_event(kernel), []) {
+    match kernel_refusal!(world, who, kernel, world.sources().is_event(kernel), []) {
         Some(refusal) => Decision::Refused(refusal),
         None => accept(
             change,
@@ -184,14 +192,14 @@ pub(crate) fn release_semaphore(
     requires { world.now.made < 2 ^ 63 }
     ensures { decided result change.new ≡ release_semaphore_plan world.now.world (world.now.made + 1) who kernel more }
 {
-    let previous = world.count_at(kernel);
+    let previous = world.sources().count_at(kernel);
     let refusal = kernel_refusal!(
         world,
         who,
         kernel,
-        world.is_semaphore(kernel),
+        world.sources().is_semaphore(kernel),
         [(
-            world.passes_by(more, kernel),
+            world.sources().passes_by(more, kernel),
             Refusal::OverMaximum { count: previous },
         )]
     );
@@ -202,7 +210,7 @@ pub(crate) fn release_semaphore(
         kernel,
         count: more,
     };
-    let count = world.count_fired(&trigger);
+    let count = world.sources().count_fired(&trigger);
     let first = fire(world, trigger, count, change);
     Decision::Accepted(Answer::Count {
         previous,
@@ -226,8 +234,8 @@ pub(crate) fn release_lock(
         world,
         who,
         kernel,
-        world.is_lock(lock, kernel),
-        [(!world.owns(who, kernel), Refusal::NotOwner)]
+        world.sources().is_lock(lock, kernel),
+        [(!world.sources().owns(who, kernel), Refusal::NotOwner)]
     );
     if let Some(refusal) = refusal {
         return Decision::Refused(refusal);

@@ -101,7 +101,7 @@ impl Machine {
     fn note_due(&mut self, ticks: u64)
         ensures { self.new ≡ self.old }
     {
-        let now = self.live.now().saturating_add(ticks);
+        let now = self.live.sources().now().saturating_add(ticks);
         self.live.note_due(now);
     }
 
@@ -159,14 +159,14 @@ impl Machine {
     pub(crate) fn is_over(&self, room: u64) -> bool
         ensures { (w : World) → StandsFor self.now w → result ≡ is_over w room }
     {
-        self.live.is_over(room)
+        live_queries::is_over(&self.live, room)
     }
 
     /// The first callback above this number that may still run.
     pub(crate) fn left_after(&self, number: u64) -> Option<(u64, ObjectId, Left)>
         ensures { (w : World) → StandsFor self.now w → option_map row_of result ≡ left_after w number }
     {
-        self.live.left_after(number)
+        live_queries::left_after(&self.live, number)
     }
 
     /// The number of accepted steps.

@@ -41,7 +41,7 @@ macro_rules! one_callback {
         if let Some(refusal) = refusal {
             return Decision::Refused(refusal);
         }
-        let Some($row) = $world.object($object) else {
+        let Some($row) = $world.objects().object($object) else {
             return Decision::Refused(Refusal::NoSuch);
         };
         let $number = $world.next_number();
@@ -68,7 +68,7 @@ pub(crate) fn create(
         world,
         who,
         env,
-        [(world.lacks_object(), Refusal::ObjectLimit)]
+        [(live_queries::lacks_object(world), Refusal::ObjectLimit)]
     );
     if let Some(refusal) = refusal {
         return Decision::Refused(refusal);
@@ -76,7 +76,7 @@ pub(crate) fn create(
     accept(
         change,
         Answer::Made {
-            number: world.next_object(),
+            number: live_queries::next_object(world),
         },
         Change::CreateObject(new_object(kind, routine, context, env)),
     )
@@ -100,7 +100,7 @@ pub(crate) fn close_object(
         kind,
         object,
         [(
-            world.has_operations(object),
+            world.callbacks().is_operating(object),
             Refusal::OperationsOutstanding { io: object }
         )]
     );

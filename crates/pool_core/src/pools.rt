@@ -8,6 +8,7 @@ ghost use Rattle.tp_model.specs.Calls.Pools.{pool_refusals, create_pool_plan, ch
 
 use crate::decisions::{Decision, accept};
 use crate::refusals::{actor_refusal, either, first_of};
+use live_queries::{is_closed_pool, is_pool, is_used, lacks_pool};
 use live_world::LiveWorld;
 use tp_base::answers::{Answer, Refusal};
 use tp_base::ids::{PoolId, Who};
@@ -18,7 +19,7 @@ use tp_base::plans::{Change, PoolChange};
 pub(crate) fn create_pool(world: &LiveWorld, who: Who, change: &mut Change) -> Decision
     ensures { decided result change.new ≡ create_pool_plan world.now.world who }
 {
-    let refusal = actor_refusal!(world, who, [(world.lacks_pool(), Refusal::ObjectLimit)]);
+    let refusal = actor_refusal!(world, who, [(lacks_pool(world), Refusal::ObjectLimit)]);
     if let Some(refusal) = refusal {
         return Decision::Refused(refusal);
     }
@@ -35,11 +36,14 @@ pub(crate) fn create_pool(world: &LiveWorld, who: Who, change: &mut Change) -> D
 fn pool_refusal(world: &LiveWorld, who: Who, pool: PoolId) -> Option<Refusal>
     ensures { result ≡ first_refusal (pool_refusals world.now.world who pool.0) }
 {
-    let actor = world.actor(who);
+    let actor = live_queries::actor(world, who);
     first_of!([
-        (either(!actor.exists, !world.is_pool(pool)), Refusal::NoSuch),
+        (
+            either(!actor.exists, !is_pool(world, pool)),
+            Refusal::NoSuch
+        ),
         (actor.finished, Refusal::Released),
-        (world.is_closed_pool(pool), Refusal::PoolClosed),
+        (is_closed_pool(world, pool), Refusal::PoolClosed),
         (pool.0 == 0, Refusal::DefaultPool),
         (actor.is_idle, Refusal::NotRunning),
         (actor.in_wait, Refusal::InWait),
@@ -56,7 +60,7 @@ pub(crate) fn close_pool(world: &LiveWorld, who: Who, pool: PoolId, change: &mut
         None => accept(
             change,
             Answer::Closed {
-                later: world.is_used(pool),
+                later: is_used(world, pool),
             },
             Change::ChangePool {
                 pool,

@@ -18,7 +18,7 @@ use tp_base::plans::{Change, Trigger};
 // Sets a timer or unsets it, and answers with the first callback of that and how many there are.
 macro_rules! set_with {
     ($world:ident, $who:ident, $object:ident, $trigger:ident, $change:ident, |$first:ident, $count:ident| $told:expr) => {{
-        let $count = $world.count_fired(&$trigger);
+        let $count = $world.sources().count_fired(&$trigger);
         let refusal = object_refusal!(
             $world,
             $who,
@@ -91,7 +91,7 @@ pub(crate) fn set_timer_ex(
         trigger,
         change,
         |first, count| Answer::WasSet {
-            was: world.is_timer_set(object),
+            was: world.sources().is_set(object),
             first,
             count,
         }
@@ -115,7 +115,7 @@ pub(crate) fn is_timer_set(
     accept(
         change,
         Answer::Flag {
-            value: world.is_timer_set(object),
+            value: world.sources().is_set(object),
         },
         Change::Keep,
     )
@@ -139,17 +139,17 @@ pub(crate) fn advance(world: &LiveWorld, who: Who, ticks: u64, change: &mut Chan
     let refusal = actor_refusal!(
         world,
         who,
-        [(passes_end(world.now(), ticks), Refusal::ClockEnd)]
+        [(passes_end(world.sources().now(), ticks), Refusal::ClockEnd)]
     );
     if let Some(refusal) = refusal {
         return Decision::Refused(refusal);
     }
-    let now = world.now() + ticks;
+    let now = world.sources().now() + ticks;
     if world.lacks_slots_at(now) {
         return Decision::Refused(Refusal::CallbackLimit);
     }
     let trigger = Trigger::Advance { now };
-    let count = world.count_fired(&trigger);
+    let count = world.sources().count_fired(&trigger);
     let first = fire(world, trigger, count, change);
     Decision::Accepted(Answer::Advanced { now, first, count })
 }

@@ -19,7 +19,7 @@ fn names_unmade(world: &LiveWorld, kernel: Option<KernelId>) -> bool
 {
     match kernel {
         None => false,
-        Some(kernel) => !world.is_kernel(kernel),
+        Some(kernel) => !world.sources().is_kernel(kernel),
     }
 }
 
@@ -29,7 +29,7 @@ fn names_lock(world: &LiveWorld, kernel: Option<KernelId>) -> bool
 {
     match kernel {
         None => false,
-        Some(kernel) => !world.is_waitable(kernel),
+        Some(kernel) => !world.sources().is_waitable(kernel),
     }
 }
 
@@ -71,7 +71,7 @@ pub(crate) fn set_wait(
         kernel,
         timeout,
     };
-    let count = world.count_fired(&trigger);
+    let count = world.sources().count_fired(&trigger);
     let first = fire(world, trigger, count, change);
     Decision::Accepted(Answer::Queued { first, count })
 }

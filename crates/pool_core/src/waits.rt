@@ -4,20 +4,21 @@
 //! A wait that can't end yet ends nevertheless where the machine is stalled, and gives no notice then.
 
 ghost use Rattle.pool_core.specs.Decided.{decided};
-ghost use Rattle.std.specs.Prelude.{◌≡◌};
+ghost use Rattle.std.specs.Prelude.{◌≡◌, is_none};
 ghost use Rattle.tp_model.specs.Calls.Waits.{begin_wait_plan, begin_acquire_plan};
 ghost use Rattle.tp_model.specs.Calls.End.{end_plan, stall_or_look};
+ghost use Rattle.tp_model.specs.Waits.{wait_of};
 ghost use Rattle.pool_core.specs.Ending.{end_at as end_at_of};
 
 use crate::decisions::{Decision, accept};
 use crate::refusals::{either, first_of, object_refusal};
+use live_queries::{is_stalled, runs_own};
 use live_world::LiveWorld;
 use live_world::waits::Progress;
 use tp_base::answers::{Answer, Look, Refusal};
 use tp_base::calls::Kind;
 use tp_base::ids::{KernelId, ObjectId, Who};
-use tp_base::plans::{Change, WaitEnd};
-use tp_base::rows::WaitTarget;
+use tp_base::plans::{Awaited, Change, WaitEnd};
 
 /// Begins a wait for the callbacks of an object, those that are pending cancelled or not.
 #[tactic(auto, unfolding(tp_model::specs::Calls::Waits::begin_wait_plan))]
@@ -36,7 +37,7 @@ pub(crate) fn begin_wait(
         who,
         kind,
         object,
-        [(world.runs_own(who, object), Refusal::OwnCallback)]
+        [(runs_own(world, who, object), Refusal::OwnCallback)]
     );
     if let Some(refusal) = refusal {
         return Decision::Refused(refusal);
@@ -50,7 +51,7 @@ pub(crate) fn begin_wait(
         },
         Change::BeginWait {
             who,
-            target: WaitTarget::Object(object),
+            awaited: Awaited::Object(object),
             cancel,
         },
     )
@@ -66,10 +67,10 @@ pub(crate) fn begin_acquire(
 ) -> Decision
     ensures { decided result change.new ≡ begin_acquire_plan world.now.world who kernel }
 {
-    let actor = world.actor(who);
+    let actor = live_queries::actor(world, who);
     let refusal = first_of!([
         (
-            either(!actor.exists, !world.is_kernel(kernel)),
+            either(!actor.exists, !world.sources().is_kernel(kernel)),
             Refusal::NoSuch
         ),
         (actor.finished, Refusal::Released),
@@ -84,7 +85,7 @@ pub(crate) fn begin_acquire(
         Answer::Done,
         Change::BeginWait {
             who,
-            target: WaitTarget::Kernel(kernel),
+            awaited: Awaited::Kernel(kernel),
             cancel: false,
         },
     )
@@ -117,7 +118,7 @@ fn unless_stalled(
 ) -> Decision
     ensures { decided result change.new ≡ stall_or_look world.now.world room who seen }
 {
-    if !world.is_stalled(room) {
+    if !is_stalled(world, room) {
         return Decision::Looked(seen);
     }
     accept(
@@ -169,11 +170,20 @@ fn end_at(
         Progress::Holds { callback } => {
             unless_stalled(world, who, room, Look::NotYet { callback }, change)
         }
-        Progress::Acquires { kernel } if world.may_take(who, kernel) => end_freely(who, change),
+        Progress::Acquires { kernel } if world.sources().may_take(who, kernel) => end_freely(
+            who, change,
+        ),
         Progress::Acquires { kernel } => {
             unless_stalled(world, who, room, Look::NotYetKernel { kernel }, change)
         }
     }
+}
+
+// Whether the actor has begun no wait.
+fn has_no_wait(world: &LiveWorld, who: Who) -> bool
+    ensures { result ≡ is_none (wait_of world.now.world who) }
+{
+    !world.waits().is_begun(who)
 }
 
 /// Ends the wait that the actor has begun, if nothing is left to wait for, or if what is left can't
@@ -184,12 +194,12 @@ fn end_at(
 pub(crate) fn end(world: &LiveWorld, who: Who, room: u64, change: &mut Change) -> Decision
     ensures { decided result change.new ≡ end_plan world.now.world room who }
 {
-    let actor = world.actor(who);
+    let actor = live_queries::actor(world, who);
     let refusal = first_of!([
         (!actor.exists, Refusal::NoSuch),
         (actor.finished, Refusal::Released),
         (actor.is_idle, Refusal::NotRunning),
-        (world.has_no_wait(who), Refusal::NoWaitBegun),
+        (has_no_wait(world, who), Refusal::NoWaitBegun),
     ]);
     if let Some(refusal) = refusal {
         return Decision::Refused(refusal);

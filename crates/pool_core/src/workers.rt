@@ -3,25 +3,28 @@
 
 ghost use Rattle.pool_core.specs.Decided.{decided};
 ghost use Rattle.std.specs.Prelude.{◌≡◌, ◌+◌, ◌^◌, ◌<◌, ◌≤◌};
+ghost use Rattle.tp_model.specs.Counts.{next as next_of};
 ghost use Rattle.tp_model.specs.Refusing.{first_refusal};
 ghost use Rattle.tp_model.specs.Calls.Workers.{idle_refusals, attach_plan, detach_plan, take_plan, return_plan};
 
 use crate::decisions::{Decision, accept};
 use crate::refusals::first_of;
 use crate::triggers::first_number;
+use live_queries::{busy, count_returned, idle, may_leave, pool_to_join};
 use live_world::LiveWorld;
 use std::sync::ledger::Ledger;
 use steps::Steps;
 use tp_base::answers::{Answer, Look, Refusal, SlotWord};
 use tp_base::ids::{PoolId, Who};
 use tp_base::plans::Change;
+use tp_base::rows::CallbackRow;
 
 /// A worker joins a pool that needs one.
 #[tactic(auto, unfolding(tp_model::specs::Calls::Workers::attach_plan))]
 pub(crate) fn attach(world: &LiveWorld, who: Who, change: &mut Change) -> Decision
     ensures { decided result change.new ≡ attach_plan world.now.world who }
 {
-    let actor = world.actor(who);
+    let actor = live_queries::actor(world, who);
     let refusal = first_of!([
         (!actor.exists, Refusal::NoSuch),
         (actor.finished, Refusal::Released),
@@ -32,7 +35,7 @@ pub(crate) fn attach(world: &LiveWorld, who: Who, change: &mut Change) -> Decisi
     if let Some(refusal) = refusal {
         return Decision::Refused(refusal);
     }
-    match (who, world.pool_to_join()) {
+    match (who, pool_to_join(world)) {
         (Who::Worker(worker), Some(pool)) => accept(
             change,
             Answer::Attached { pool: PoolId(pool) },
@@ -49,7 +52,7 @@ pub(crate) fn attach(world: &LiveWorld, who: Who, change: &mut Change) -> Decisi
 fn idle_refusal(world: &LiveWorld, who: Who) -> Option<Refusal>
     ensures { result ≡ first_refusal (idle_refusals world.now.world who) }
 {
-    let actor = world.actor(who);
+    let actor = live_queries::actor(world, who);
     first_of!([
         (!actor.exists, Refusal::NoSuch),
         (actor.finished, Refusal::Released),
@@ -67,10 +70,10 @@ pub(crate) fn detach(world: &LiveWorld, who: Who, change: &mut Change) -> Decisi
     if let Some(refusal) = idle_refusal(world, who) {
         return Decision::Refused(refusal);
     }
-    let Some(by) = world.idle(who) else {
+    let Some(by) = idle(world, who) else {
         return Decision::Refused(Refusal::NotAttached);
     };
-    if !world.may_leave(by.pool) {
+    if !may_leave(world, by.pool) {
         return Decision::Looked(Look::Stay);
     }
     accept(change, Answer::Done, Change::Detach(by))
@@ -92,15 +95,17 @@ pub(crate) fn take<L: Ledger>(
     if let Some(refusal) = idle_refusal(world, who) {
         return Decision::Refused(refusal);
     }
-    let Some(by) = world.idle(who) else {
+    let Some(by) = idle(world, who) else {
         return Decision::Refused(Refusal::NotAttached);
     };
-    let Some(callback) = world.next(by.pool, steps) else {
+    let Some(callback) = next(world, by.pool, steps) else {
         return Decision::Looked(Look::Empty);
     };
-    let running = world.running(by.pool);
-    if world.maximum(by.pool) <= running {
-        return Decision::Looked(Look::AtMaximum { running });
+    let tally = world.tally(by.pool);
+    if tally.maximum <= tally.running {
+        return Decision::Looked(Look::AtMaximum {
+            running: tally.running,
+        });
     }
     accept(
         change,
@@ -115,6 +120,15 @@ pub(crate) fn take<L: Ledger>(
     )
 }
 
+// The callback of a pool that is taken next, if one is pending.
+fn next<L: Ledger>(world: &LiveWorld, pool: PoolId, steps: &mut Steps<L>) -> Option<CallbackRow>
+    ensures value { result ≡ next_of world.now.world pool.0 }
+    ensures counted { steps.old ≤ steps.new }
+    ensures bound { steps.new ≤ steps.old + 1 }
+{
+    world.callbacks().next(pool, steps)
+}
+
 /// A worker's callback returns, and its actions are performed. Each armed wait that takes what they
 /// signal makes a callback.
 #[tactic(auto, unfolding(tp_model::specs::Calls::Workers::return_plan))]
@@ -122,7 +136,7 @@ pub(crate) fn return_callback(world: &LiveWorld, who: Who, change: &mut Change) 
     requires { world.now.made < 2 ^ 63 }
     ensures { decided result change.new ≡ return_plan world.now.world (world.now.made + 1) who }
 {
-    let actor = world.actor(who);
+    let actor = live_queries::actor(world, who);
     let refusal = first_of!([
         (!actor.exists, Refusal::NoSuch),
         (actor.finished, Refusal::Released),
@@ -133,11 +147,11 @@ pub(crate) fn return_callback(world: &LiveWorld, who: Who, change: &mut Change) 
     if let Some(refusal) = refusal {
         return Decision::Refused(refusal);
     }
-    let Some(by) = world.busy(who) else {
+    let Some(by) = busy(world, who) else {
         return Decision::Refused(Refusal::NotRunning);
     };
-    let words = world.words(who, &by.callback.status);
-    let count = world.count_returned(who, &by.callback.status, &words);
+    let words = live_queries::words(world, who, &by.callback.status);
+    let count = count_returned(world, who, &by.callback.status, &words);
     let first = world.next_number();
     accept(
         change,

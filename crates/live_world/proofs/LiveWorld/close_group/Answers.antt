@@ -1,13 +1,15 @@
-use Rattle.std.proofs.Common.{}
-use Rattle.live_world.proofs.GroupsMade.{group_closed}
+use Rattle.std.proofs.Common.{refl, ap, arith, ◌∙◌}
+use Rattle.tp_base.specs.declared.plans.Change.TheVariants as change
+use Rattle.tp_model.specs.Groups.{is_group}
+use Rattle.live_world.specs.Live.{Live}
+use Rattle.live_world.proofs.Making.{groups_changed}
 use Rattle.live_world.proofs.LiveWorld.close_group.Goals as goal
 
+pub close_group-requires : goal.close_group-requires
+close_group-requires c = ap (λ (x : Live). is_group x.world c.args.group.0) c.self.view_is ∙ c.requires
+
 pub invariant_of-self : goal.invariant_of-self
-invariant_of-self c =
-    (group_closed c.self.inside c.args.self.now c.args.group c.release-was_open.result c.release-was_open.new.self c.self.view_is c.self.invariant c.requires
-    c.release-was_open.ensures.live c.release-was_open.ensures.released c.release-was_open.ensures.unchanged).keeps
+invariant_of-self c = (groups_changed c.self.inside c.args.self.now (change.CloseGroup c.args.group) _ c.close_group.new.self c.self.view_is c.self.invariant c.requires (omega arith) refl c.close_group.ensures).keeps
 
 pub returns : goal.returns
-returns c =
-    (group_closed c.self.inside c.args.self.now c.args.group c.release-was_open.result c.release-was_open.new.self c.self.view_is c.self.invariant c.requires
-    c.release-was_open.ensures.live c.release-was_open.ensures.released c.release-was_open.ensures.unchanged).becomes
+returns c = (groups_changed c.self.inside c.args.self.now (change.CloseGroup c.args.group) _ c.close_group.new.self c.self.view_is c.self.invariant c.requires (omega arith) refl c.close_group.ensures).becomes

@@ -21,7 +21,7 @@ returns-then-lacks_slots-2 c =
     let i = c.self.inside in
     let w = c.args.self.now.world in
     let due : c.count_due-due.result ≡ length (expired c.args.now w.settings) = c.count_due-due.ensures ∙ ap (λ (l : Live). length (expired c.args.now l.world.settings)) c.self.view_is in
-    let armed : i.armed ≡ length w.armings = c.self.invariant.slotted.counted ∙ ap (λ (l : Live). length l.world.armings) c.self.view_is in
+    let armed : c.armed.result ≡ length w.armings = c.armed.ensures ∙ ap (λ (l : Live). length l.world.armings) c.self.view_is in
     let most : length (expired c.args.now w.settings) ≤ count_expiring w c.args.now + length w.armings
     = subst (λ (l : Live). length (expired c.args.now l.world.settings) ≤ count_expiring l.world c.args.now + length l.world.armings) c.self.view_is (due_most (i.made + 1) c.args.now (shown i).world c.self.invariant.sound) in
     let lacks : lacks_slots_for w c.saturating_sub.result ≡ true = sym c.lacks_slots-then-lacks_slots.ensures ∙ c.if-lacks_slots-2.true in

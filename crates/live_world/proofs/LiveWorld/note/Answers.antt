@@ -1,5 +1,4 @@
 use Rattle.std.proofs.Common.{sym, subst, arith, ap, ◌∙◌}
-use Rattle.std.proofs.lemmas.List.{length-map}
 use Rattle.tp_base.specs.Actors.{is_same_actor}
 use Rattle.begun_waits.proofs.Actors.{some_found}
 use Rattle.tp_model.specs.World.{BegunWait}
@@ -8,7 +7,6 @@ use Rattle.tp_model.specs.Support.Sound.{is_told}
 use Rattle.tp_model.proofs.Releasing.{that_made}
 use Rattle.live_world.specs.Closing.{MayNote}
 use Rattle.live_world.specs.Live.{Live}
-use Rattle.live_world.specs.Parts.{shown_object}
 use Rattle.live_world.specs.View.{shown}
 use Rattle.live_world.proofs.BeginCloseWait.{noted_by}
 use Rattle.live_world.proofs.LiveWorld.note.Goals as goal
@@ -21,7 +19,7 @@ pub note-requires-clause-most : goal.note-requires-clause-most
 note-requires-clause-most c =
     let i = c.self.inside in
     let told = ap (λ (x : Live). is_object_that is_told x.world.objects c.args.object.0) c.self.view_is ∙ c.requires.told in
-    omega (arith, (that_made is_told (shown i).world.objects c.args.object.0 told).1, length-map i.objects.rows shown_object, c.self.invariant.sized.objects_within, ap (λ ls. ls.objects) c.self.invariant.covered.wait_limits)
+    omega (arith, (that_made is_told (shown i).world.objects c.args.object.0 told).1, c.self.invariant.sized.objects_within, ap (λ ls. ls.objects) c.self.invariant.covered.wait_limits)
 
 pub note-requires-clause-free : goal.note-requires-clause-free
 note-requires-clause-free c = rw (← c.self.view_is) at c.requires.free

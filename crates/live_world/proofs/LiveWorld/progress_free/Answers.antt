@@ -1,9 +1,7 @@
 use Rattle.std.proofs.Common.{◌≡◌, ◌+◌, Some, is_some, sym, ap, ap₂, ◌∙◌}
 use Rattle.tp_base.specs.declared.rows.ObjectRow.{ObjectRow}
 use Rattle.begun_waits.specs.declared.Closing.{Closing}
-use Rattle.tp_model.specs.Counts.{numbered}
 use Rattle.live_world.specs.declared.waits.Progress.TheVariants.{Notifies}
-use Rattle.live_world.specs.Live.{Live}
 use Rattle.live_world.specs.View.{shown}
 use Rattle.live_world.proofs.Progress.{IsNotice, is_notice, no_notice, told_notice}
 use Rattle.live_world.proofs.LiveWorld.progress_free.Goals as goal
@@ -23,12 +21,12 @@ unwrap-closing-requires c = ap is_some (c.closing.ensures ∙ (notice (goal.at.u
 
 pub unwrap-row-requires : goal.unwrap-row-requires
 unwrap-row-requires c =
-    ap is_some (c.object.ensures ∙ ap (λ (x : Live). numbered x.world.objects c.in-Some.object.0) (sym c.self.view_is) ∙ (notice (goal.at.unwrap-row-requires c).In-Some).stands)
+    ap is_some (c.object.ensures ∙ (notice (goal.at.unwrap-row-requires c).In-Some).stands)
 
 pub returns : goal.returns
 returns c =
     let n = notice (goal.at.returns c).In-Some in
-    let found : Some c.unwrap-row.result ≡ Some n.row = sym c.unwrap-row.ensures ∙ c.object.ensures ∙ ap (λ (x : Live). numbered x.world.objects c.in-Some.object.0) (sym c.self.view_is) ∙ n.stands in
+    let found : Some c.unwrap-row.result ≡ Some n.row = sym c.unwrap-row.ensures ∙ c.object.ensures ∙ n.stands in
     let closes : Some c.unwrap-closing.result ≡ Some (record { group = n.group; context = n.wait.cleanup }) = sym c.unwrap-closing.ensures ∙ c.closing.ensures ∙ n.closes in
     let row : c.unwrap-row.result ≡ n.row = cc in
     let closing : c.unwrap-closing.result ≡ record { group = n.group; context = n.wait.cleanup } = cc in

@@ -1,78 +1,42 @@
-use Rattle.std.proofs.Common.{◌≡◌, ◌+◌, ◌≤◌, ◌^◌, length, refl, sym, ap, ◌∙◌, arith}
-use Rattle.tp_base.specs.declared.answers.ActionKind.TheVariants.{Section, Mutex, Event}
+use Rattle.std.proofs.Common.{◌≡◌, sym, ap, ◌∙◌, arith}
 use Rattle.tp_base.specs.declared.ids.Who.TheVariants.{Worker}
-use Rattle.tp_base.specs.declared.plans.ActionWords.{ActionWords}
-use Rattle.tp_base.specs.declared.plans.Busy.{Busy}
 use Rattle.tp_base.specs.declared.rows.Slots.{Slots}
-use Rattle.tp_model.specs.Actions.{returning, slots_of, words_of}
-use Rattle.tp_model.specs.Changes.{without_run}
-use Rattle.live_world.specs.Bounds.{IsBounded}
-use Rattle.live_world.specs.Live.{Live, with_world, fired_to}
-use Rattle.live_world.proofs.Performing.{all_performed, eventless, locks_only, locks_performed, may_in_turn, may_raise_in_turn, may_still, section_only, three_performed, young_after}
+use Rattle.tp_model.specs.Actions.{slots_of, words_of}
+use Rattle.live_world.specs.Live.{Live}
+use Rattle.live_world.specs.View.{shown}
+use Rattle.live_world.proofs.Firings.{return_can, return_fits, returned_by}
+use Rattle.live_world.proofs.Performing.{may_all}
 use Rattle.live_world.proofs.LiveWorld.return_callback.Goals as goal
 
 -- once the callback has ended, the words are as they were told
-told_then : (old l : Live) (by : Busy) (words : ActionWords) (slots : Slots) → l ≡ with_world old (without_run old.world by) → slots ≡ slots_of by.callback.status → words ≡ words_of old.world (Worker by.worker) (slots_of by.callback.status) → words ≡ words_of l.world (Worker by.worker) slots
-told_then old l by words slots same is told =
-    told ∙ ap (words_of old.world (Worker by.worker)) (sym is) ∙ sym (ap (λ (x : Live). words_of x.world (Worker by.worker) slots) same)
+pub perform_all-self-inside-requires-clause-may : goal.perform_all-self-inside-requires-clause-may
+perform_all-self-inside-requires-clause-may c =
+    let runs = c.requires.allowed.runs in
+    let told : c.args.words ≡ words_of (shown c.self.inside).world (Worker c.args.by.worker) c.slots_of.result
+    = c.requires.allowed.told
+    ∙ ap (λ (s : Slots). words_of c.args.self.now.world (Worker c.args.by.worker) s) (sym (c.slots_of.ensures ∙ ap slots_of runs.running))
+    ∙ sym (ap (λ (x : Live). words_of x.world (Worker c.args.by.worker) c.slots_of.result) (c.self.view_is ∙ c.end_callback.ensures)) in
+    may_all (shown c.self.inside).world (Worker c.args.by.worker) c.args.words c.slots_of.result told
 
-young_then : (old l : Live) (by : Busy) → l ≡ with_world old (without_run old.world by) → IsBounded old.world → old.made + 65536 ≤ 2 ^ 63 → l.made + length l.world.armings ≤ 2 ^ 63
-young_then old l by same bounded young =
-    omega (arith, ap (λ (x : Live). x.made) same, ap (λ (x : Live). length x.world.armings) same, bounded.slots_most, bounded.limits.slots_most, young)
+pub perform_all-self-inside-requires-clause-can : goal.perform_all-self-inside-requires-clause-can
+perform_all-self-inside-requires-clause-can c =
+    return_can c.self.inside c.args.self.now c.args.by c.args.words c.slots_of.result c.args._first c.args._count
+    (c.self.view_is ∙ c.end_callback.ensures) c.self.invariant c.is_reachable.ensures.sound c.requires.allowed c.slots_of.ensures
 
-pub perform-requires-clause-may : goal.perform-requires-clause-may
-perform-requires-clause-may c =
-    let l = c.end_callback.new.self in
-    let told = told_then c.args.self.now l c.args.by c.args.words c.slots_of-slots.result c.end_callback.ensures c.slots_of-slots.ensures c.requires.told in
-    may_in_turn l.world l.world (Worker c.args.by.worker) Section (λ more s. refl) c.args.words.section c.slots_of-slots.result.section (ap (λ (ws : ActionWords). ws.section) told) refl
+pub perform_all-self-inside-requires-clause-young : goal.perform_all-self-inside-requires-clause-young
+perform_all-self-inside-requires-clause-young c =
+    let fits = return_fits c.self.inside c.args.self.now c.args.by c.args.words c.slots_of.result c.args._first c.args._count
+    (c.self.view_is ∙ c.end_callback.ensures) c.self.invariant c.is_reachable.ensures.sound c.requires.allowed c.slots_of.ensures in
+    omega (arith, fits, c.self.invariant.sized.in_range.slots_most, ap (λ (x : Live). x.made) (c.self.view_is ∙ c.end_callback.ensures), c.requires.young)
 
-pub perform-requires-clause-young : goal.perform-requires-clause-young
-perform-requires-clause-young c = young_then c.args.self.now c.end_callback.new.self c.args.by c.end_callback.ensures c.is_reachable.ensures.bounded c.requires.young
-
-pub perform-requires-2-clause-may : goal.perform-requires-2-clause-may
-perform-requires-2-clause-may c =
-    let l = c.end_callback.new.self in
-    let told = told_then c.args.self.now l c.args.by c.args.words c.slots_of-slots.result c.end_callback.ensures c.slots_of-slots.ensures c.requires.told in
-    may_still l c.perform.new.self (Worker c.args.by.worker) Mutex (λ more s. refl) c.args.words (section_only c.slots_of-slots.result) c.args.words.mutex c.slots_of-slots.result.mutex (ap (λ (ws : ActionWords). ws.mutex) told) c.perform.ensures
-
-pub perform-requires-2-clause-young : goal.perform-requires-2-clause-young
-perform-requires-2-clause-young c =
-    young_after c.end_callback.new.self c.perform.new.self c.args.words (section_only c.slots_of-slots.result) c.perform.ensures
-    (young_then c.args.self.now c.end_callback.new.self c.args.by c.end_callback.ensures c.is_reachable.ensures.bounded c.requires.young)
-
-pub perform-requires-3-clause-may : goal.perform-requires-3-clause-may
-perform-requires-3-clause-may c =
-    let l = c.end_callback.new.self in
-    let told = told_then c.args.self.now l c.args.by c.args.words c.slots_of-slots.result c.end_callback.ensures c.slots_of-slots.ensures c.requires.told in
-    may_raise_in_turn l c.perform-2.new.self (Worker c.args.by.worker) c.args.words c.slots_of-slots.result told (locks_performed l c.perform.new.self c.perform-2.new.self c.args.words c.slots_of-slots.result c.perform.ensures c.perform-2.ensures)
-
-pub perform-requires-3-clause-young : goal.perform-requires-3-clause-young
-perform-requires-3-clause-young c =
-    let l = c.end_callback.new.self in
-    young_after l c.perform-2.new.self c.args.words (locks_only c.slots_of-slots.result) (locks_performed l c.perform.new.self c.perform-2.new.self c.args.words c.slots_of-slots.result c.perform.ensures c.perform-2.ensures)
-    (young_then c.args.self.now l c.args.by c.end_callback.ensures c.is_reachable.ensures.bounded c.requires.young)
-
-pub perform-requires-4-clause-may : goal.perform-requires-4-clause-may
-perform-requires-4-clause-may c =
-    let l = c.end_callback.new.self in
-    let slots = c.slots_of-slots.result in
-    let told = told_then c.args.self.now l c.args.by c.args.words slots c.end_callback.ensures c.slots_of-slots.ensures c.requires.told in
-    let at = three_performed l c.perform-2.new.self c.perform-3.new.self c.args.words slots (locks_performed l c.perform.new.self c.perform-2.new.self c.args.words slots c.perform.ensures c.perform-2.ensures) c.perform-3.ensures in
-    may_still l c.perform-3.new.self (Worker c.args.by.worker) Event (λ more s. refl) c.args.words (eventless slots) c.args.words.event slots.event (ap (λ (ws : ActionWords). ws.event) told) at
-
-pub perform-requires-4-clause-young : goal.perform-requires-4-clause-young
-perform-requires-4-clause-young c =
-    let l = c.end_callback.new.self in
-    let slots = c.slots_of-slots.result in
-    let at = three_performed l c.perform-2.new.self c.perform-3.new.self c.args.words slots (locks_performed l c.perform.new.self c.perform-2.new.self c.args.words slots c.perform.ensures c.perform-2.ensures) c.perform-3.ensures in
-    young_after l c.perform-3.new.self c.args.words (eventless slots) at (young_then c.args.self.now l c.args.by c.end_callback.ensures c.is_reachable.ensures.bounded c.requires.young)
+pub invariant_of-self : goal.invariant_of-self
+invariant_of-self c =
+    (returned_by c.self.inside c.args.self.now c.args.by c.args.words c.slots_of.result c.args._first c.args._count
+    (c.self.view_is ∙ c.end_callback.ensures) c.self.invariant c.is_reachable.ensures.sound c.requires.allowed c.slots_of.ensures
+    c.perform_all-self-inside.new.sources c.perform_all-self-inside.new.callbacks c.perform_all-self-inside.result c.perform_all-self-inside.ensures).keeps
 
 pub returns : goal.returns
 returns c =
-    let l = c.end_callback.new.self in
-    let w = c.args.self.now.world in
-    let slots = c.slots_of-slots.result in
-    let at = three_performed l c.perform-2.new.self c.perform-3.new.self c.args.words slots (locks_performed l c.perform.new.self c.perform-2.new.self c.args.words slots c.perform.ensures c.perform-2.ensures) c.perform-3.ensures in
-    all_performed l c.perform-3.new.self c.perform-4.new.self c.args.words slots at c.perform-4.ensures
-    ∙ ap (λ (x : Live). fired_to x (returning x.world c.args.words slots)) c.end_callback.ensures
-    ∙ ap (λ (s : Slots). fired_to (with_world c.args.self.now (without_run w c.args.by)) (returning w c.args.words s)) c.slots_of-slots.ensures
+    (returned_by c.self.inside c.args.self.now c.args.by c.args.words c.slots_of.result c.args._first c.args._count
+    (c.self.view_is ∙ c.end_callback.ensures) c.self.invariant c.is_reachable.ensures.sound c.requires.allowed c.slots_of.ensures
+    c.perform_all-self-inside.new.sources c.perform_all-self-inside.new.callbacks c.perform_all-self-inside.result c.perform_all-self-inside.ensures).becomes

@@ -1,0 +1,5 @@
+pub mod Above
+pub mod AtRest
+pub mod LeftAfter
+pub mod Numbered
+pub mod Stuck

@@ -1,0 +1,13 @@
+-- Whether any of a pool's callbacks goes on, or can be taken.
+use Rattle.std.specs.Prelude.{ℕ, Bool, ◌&&◌, ◌||◌, ◌==◌, nat_le}
+use Rattle.tp_model.specs.Counts.{lacks_room_to_run, maximum, pending, running}
+use Rattle.tp_model.specs.World.{World}
+
+-- none of the pool's callbacks runs, and those that are pending never will
+abbrev pub is_pool_over : World → ℕ → ℕ → Bool
+is_pool_over w room pool = (running w pool == 0) && ((pending w pool == 0) || lacks_room_to_run w room pool)
+
+-- none of the pool's pending callbacks can be taken, even if a worker runs none: there is none, as many run as may, or the
+-- history has no room for it to be run
+abbrev pub is_pool_blocked : World → ℕ → ℕ → Bool
+is_pool_blocked w room pool = (pending w pool == 0) || nat_le (maximum w pool) (running w pool) || lacks_room_to_run w room pool

@@ -1,0 +1,37 @@
+//! What the conditions of a refusal ask of an actor.
+
+/// What refusals ask of an actor.
+#[derive(Clone, Copy)]
+pub struct Actor {
+    pub exists: bool,
+    /// A client that has finished.
+    pub finished: bool,
+    pub is_worker: bool,
+    /// A worker that runs a callback.
+    pub runs: bool,
+    /// A worker that runs none.
+    pub is_idle: bool,
+    pub is_attached: bool,
+    /// It has a wait begun.
+    pub in_wait: bool,
+}
+
+pub(crate) const NO_CLIENT: Actor = Actor {
+    exists: false,
+    finished: false,
+    is_worker: false,
+    runs: false,
+    is_idle: false,
+    is_attached: false,
+    in_wait: false,
+};
+
+pub(crate) const NO_WORKER: Actor = Actor {
+    exists: false,
+    finished: false,
+    is_worker: true,
+    runs: false,
+    is_idle: false,
+    is_attached: false,
+    in_wait: false,
+};

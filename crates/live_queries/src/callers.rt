@@ -1,0 +1,196 @@
+//! Who makes a call, and what of a worker's callback a call asks.
+
+ghost use Rattle.std.specs.Prelude.{◌≡◌, ◌≤◌, length};
+ghost use Rattle.tp_base.specs.Actions.{slot as slot_of};
+ghost use Rattle.tp_model.specs.Counts.{callback_of};
+ghost use Rattle.tp_model.specs.Actions.{returning, slots_of as slots_of_status, words_of};
+ghost use Rattle.tp_model.specs.Calls.Groups.{runs_in_group};
+ghost use Rattle.tp_model.specs.Calls.InCallback.{has_asked};
+ghost use Rattle.tp_model.specs.Conditions.{busy_of, idle_of, is_associated as is_associated_by, is_finished, runs_own};
+ghost use Rattle.live_queries.specs.Actors.{actor_of};
+
+use crate::actors::{Actor, NO_CLIENT, NO_WORKER};
+use live_world::LiveWorld;
+use live_world::slots::slots_of;
+use tp_base::answers::ActionKind;
+use tp_base::ids::{GroupId, ObjectId, Who};
+use tp_base::plans::{ActionWords, Busy, Idle};
+use tp_base::rows::{Action, CallbackRow, Slots, Status, WorkerRow};
+
+/// The actor of this name.
+pub fn actor(world: &LiveWorld, who: Who) -> Actor
+    ensures { result ≡ actor_of world.now.world who }
+{
+    let in_wait = world.waits().is_begun(who);
+    let known = match who {
+        Who::Client(number) => match world.client(number) {
+            None => NO_CLIENT,
+            Some(client) => Actor {
+                exists: true,
+                finished: client.finished,
+                ..NO_CLIENT
+            },
+        },
+        Who::Worker(number) => match world.worker(number) {
+            None => NO_WORKER,
+            Some(worker) => Actor {
+                exists: true,
+                runs: worker.callback.is_some(),
+                is_idle: worker.callback.is_none(),
+                is_attached: worker.pool.is_some(),
+                ..NO_WORKER
+            },
+        },
+    };
+    Actor { in_wait, ..known }
+}
+
+/// The actor as an attached worker that runs nothing, if it is one.
+pub fn idle(world: &LiveWorld, who: Who) -> Option<Idle>
+    ensures { result ≡ idle_of world.now.world who }
+{
+    match who {
+        Who::Client(_) => None,
+        Who::Worker(number) => match world.worker(number) {
+            Some(
+                WorkerRow {
+                    pool: Some(pool),
+                    callback: None,
+                },
+            ) => Some(Idle {
+                worker: number,
+                pool,
+            }),
+            _ => None,
+        },
+    }
+}
+
+/// The actor as a worker that runs a callback, if it is one.
+#[inline(always)]
+pub fn busy(world: &LiveWorld, who: Who) -> Option<Busy>
+    ensures { result ≡ busy_of world.now.world who }
+{
+    match who {
+        Who::Client(_) => None,
+        Who::Worker(number) => match world.worker(number) {
+            Some(
+                WorkerRow {
+                    pool: Some(pool),
+                    callback: Some(callback),
+                },
+            ) => callback_of(world, callback).map(|callback| Busy {
+                worker: number,
+                pool,
+                callback,
+            }),
+            _ => None,
+        },
+    }
+}
+
+/// Whether the actor runs a callback of the object that was not disassociated from it.
+pub fn runs_own(world: &LiveWorld, who: Who, object: ObjectId) -> bool
+    ensures { result ≡ runs_own world.now.world who object.0 }
+{
+    match busy(world, who) {
+        None => false,
+        Some(by) => { is_associated(by.callback.status) && by.callback.object.0 == object.0 }
+    }
+}
+
+/// Whether the actor runs a callback of the group, disassociated or not.
+pub fn runs_in_group(world: &LiveWorld, who: Who, group: GroupId) -> bool
+    ensures { result ≡ runs_in_group world.now.world who group.0 }
+{
+    match busy(world, who) {
+        None => false,
+        Some(by) => by.callback.group.0 == group.0,
+    }
+}
+
+/// Whether the callback that the actor runs has asked for an action of this kind.
+pub fn has_asked(world: &LiveWorld, who: Who, kind: ActionKind) -> bool
+    ensures { result ≡ has_asked world.now.world who kind }
+{
+    match busy(world, who) {
+        None => false,
+        Some(by) => slot(kind, &slots_of(by.callback.status)).is_some(),
+    }
+}
+
+/// What becomes of the actions on return that a callback of this status asked for, if the actor returns
+/// from it now.
+pub fn words(world: &LiveWorld, who: Who, status: &Status) -> ActionWords
+    ensures { result ≡ words_of world.now.world who (slots_of_status status.now) }
+{
+    world.sources().words(who, &slots_of(*status))
+}
+
+/// How many callbacks a return from a callback of this status would make, whose actions on return have
+/// these words. Walks the waits that it would release.
+pub fn count_returned(world: &LiveWorld, who: Who, status: &Status, words: &ActionWords) -> u32
+    requires { words.now ≡ words_of world.now.world who (slots_of_status status.now) }
+    ensures { result ≡ length (returning world.now.world words.now (slots_of_status status.now)).jobs }
+{
+    world
+        .sources()
+        .count_returned(who, &slots_of(*status), words)
+}
+
+/// How many clients there are: they have the numbers from 1 on.
+pub(crate) fn clients(world: &LiveWorld) -> u32
+    ensures value { result ≡ length world.now.world.clients }
+    ensures few { result ≤ 65535 }
+{
+    world.is_reachable();
+    world.limits().clients
+}
+
+/// How many workers there are: they have the numbers from 1 on.
+pub(crate) fn workers(world: &LiveWorld) -> u32
+    ensures value { result ≡ length world.now.world.workers }
+    ensures few { result ≤ 65535 }
+{
+    world.is_reachable();
+    world.limits().workers
+}
+
+/// Whether a client of this number is there and has finished.
+pub(crate) fn has_finished(world: &LiveWorld, number: u32) -> bool
+    ensures { result ≡ is_finished world.now.world (Who.Client number) }
+{
+    match world.client(number) {
+        None => false,
+        Some(client) => client.finished,
+    }
+}
+
+// The callback of this number, if it lives.
+fn callback_of(world: &LiveWorld, number: u64) -> Option<CallbackRow>
+    ensures { result ≡ callback_of world.now.world number }
+{
+    world.callbacks().find(number)
+}
+
+// Whether the callback runs and was not disassociated from its object.
+fn is_associated(status: Status) -> bool
+    ensures { result ≡ is_associated_by status }
+{
+    match status {
+        Status::Running { associated, .. } => associated,
+        _ => false,
+    }
+}
+
+// The action of a kind that was asked for.
+fn slot(kind: ActionKind, slots: &Slots) -> Option<Action>
+    ensures { result ≡ slot_of kind slots.now }
+{
+    match kind {
+        ActionKind::Section => slots.section,
+        ActionKind::Mutex => slots.mutex,
+        ActionKind::Semaphore => slots.semaphore,
+        ActionKind::Event => slots.event,
+    }
+}

@@ -1,0 +1,75 @@
+//! Whether all is over, and what is left of the callbacks.
+
+ghost use Rattle.std.specs.Prelude.{◌≡◌, if◌then◌else◌, length, option_map, None, Some};
+ghost use Rattle.std.specs.List.{list_all, range_with_len};
+ghost use Rattle.tp_model.specs.Conditions.{is_finished};
+ghost use Rattle.tp_model.specs.Laws.Once.{is_left};
+ghost use Rattle.tp_model.specs.Over.{is_over, left_after, row_of, status_of};
+ghost use Rattle.live_queries.specs.Resting.{is_pool_over};
+
+use crate::callers::{clients, has_finished};
+use live_world::LiveWorld;
+use tp_base::ids::{ObjectId, PoolId, Who};
+use tp_base::rows::Status;
+use tp_model::Left;
+
+// Whether nothing of the pool runs, and what of it is pending can't be run any more.
+fn is_pool_over(world: &LiveWorld, pool: PoolId, room: u64) -> bool
+    ensures { result ≡ is_pool_over world.now.world room pool.0 }
+{
+    let tally = world.tally(pool);
+    let lacks_room = room < 2 || (room < 4 && tally.idle == 0);
+    tally.running == 0 && (tally.pending == 0 || lacks_room)
+}
+
+// Whether no callback runs, and none that is pending can be run any more.
+fn are_pools_over(world: &LiveWorld, room: u64) -> bool
+    ensures { result ≡ list_all (is_pool_over world.now.world room) (range_with_len 0 (length world.now.world.pools)) }
+{
+    (0..world.next_pool()).all(|pool| is_pool_over(world, PoolId(pool), room))
+}
+
+// Whether every client has finished.
+fn have_clients_finished(world: &LiveWorld) -> bool
+    ensures { result ≡ list_all (λ number. is_finished world.now.world (Who.Client number)) (range_with_len 1 (length world.now.world.clients)) }
+{
+    (1..clients(world) + 1).all(|number| has_finished(world, number))
+}
+
+/// Whether every client has finished, no callback runs, and the history, which has this room
+/// left, has none for a pending one to be run. Walks the clients and the pools.
+#[tactic(auto, using(crate::proofs::AtRest::over_by_numbers))]
+pub fn is_over(world: &LiveWorld, room: u64) -> bool
+    ensures { result ≡ is_over world.now.world room }
+{
+    world.is_reachable();
+    have_clients_finished(world) && are_pools_over(world, room)
+}
+
+// How far a callback has come that may still run.
+fn left(status: Status) -> Option<Left>
+    ensures { option_map status_of result ≡ (if is_left status then Some status else None) }
+{
+    match status {
+        Status::Expected => Some(Left::Expected),
+        Status::Issued => Some(Left::Issued),
+        Status::Pending => Some(Left::Pending),
+        Status::Running { .. } | Status::Returned | Status::Cancelled => None,
+    }
+}
+
+/// The number, the object and the status of the callback of least number above this one that may
+/// still run, if there is one. Walks the callbacks that run before it.
+pub fn left_after(world: &LiveWorld, number: u64) -> Option<(u64, ObjectId, Left)>
+    ensures { option_map row_of result ≡ left_after world.now.world number }
+{
+    world.is_reachable();
+    let mut passed = number;
+    while let Some(callback) = world.callbacks().after(passed) {
+        if let Some(left) = left(callback.status) {
+            return Some((callback.number, callback.object, left));
+        }
+        passed = callback.number;
+    }
+    None
+}

@@ -1,0 +1,117 @@
+//! Pools: which of them needs a worker, and whether one is still used.
+
+ghost use Rattle.std.specs.Prelude.{◌≡◌, ◌&&◌, ◌==◌, not, length};
+ghost use Rattle.std.specs.List.{list_any};
+ghost use Rattle.tp_model.specs.Counts.{is_below_minimum, is_in_need, is_live, least_pool};
+ghost use Rattle.tp_model.specs.Conditions.{is_closed_pool, is_pool};
+ghost use Rattle.tp_model.specs.Calls.Pools.{is_used};
+ghost use Rattle.tp_model.specs.Calls.Workers.{may_leave, pool_to_join};
+ghost use Rattle.tp_model.specs.Calls.InCallback.{has_spare};
+
+use live_world::LiveWorld;
+use tp_base::ids::PoolId;
+
+/// Whether a pool of this number was made.
+pub fn is_pool(world: &LiveWorld, pool: PoolId) -> bool
+    ensures { result ≡ is_pool world.now.world pool.0 }
+{
+    world.pool(pool).is_some()
+}
+
+/// Whether the pool was made and closed.
+pub fn is_closed_pool(world: &LiveWorld, pool: PoolId) -> bool
+    ensures { result ≡ is_closed_pool world.now.world pool.0 }
+{
+    match world.pool(pool) {
+        None => false,
+        Some(row) => row.closed,
+    }
+}
+
+/// Whether the pool has an idle worker, or may have another.
+pub fn has_spare(world: &LiveWorld, pool: PoolId) -> bool
+    ensures { result ≡ has_spare world.now.world pool.0 }
+{
+    let tally = world.tally(pool);
+    0 < tally.idle || tally.attached < tally.maximum
+}
+
+// Whether callbacks wait, no attached worker is free, and the pool may have another.
+fn is_in_need(world: &LiveWorld, pool: PoolId) -> bool
+    ensures { result ≡ is_in_need world.now.world pool.0 }
+{
+    let tally = world.tally(pool);
+    0 < tally.pending && tally.idle == 0 && tally.attached < tally.maximum
+}
+
+// Whether too few workers are free for short callbacks, and the pool may have another.
+fn is_below_minimum(world: &LiveWorld, pool: PoolId) -> bool
+    ensures { result ≡ is_below_minimum world.now.world pool.0 }
+{
+    let tally = world.tally(pool);
+    tally.available < tally.minimum && tally.attached < tally.maximum
+}
+
+// The pool of least number that is in need.
+fn least_in_need(world: &LiveWorld) -> Option<u32>
+    ensures { result ≡ least_pool world.now.world (is_in_need world.now.world) }
+{
+    (0..world.next_pool()).find(|pool| is_in_need(world, PoolId(*pool)))
+}
+
+// The pool of least number that is below its minimum.
+fn least_below_minimum(world: &LiveWorld) -> Option<u32>
+    ensures { result ≡ least_pool world.now.world (is_below_minimum world.now.world) }
+{
+    (0..world.next_pool()).find(|pool| is_below_minimum(world, PoolId(*pool)))
+}
+
+// The pool of least number, but for this one, that is in need.
+fn least_other_in_need(world: &LiveWorld, pool: PoolId) -> Option<u32>
+    ensures { result ≡ least_pool world.now.world (λ other. not (other == pool.0) && is_in_need world.now.world other) }
+{
+    (0..world.next_pool()).find(|other| *other != pool.0 && is_in_need(world, PoolId(*other)))
+}
+
+/// The pool that an unattached worker is to join, if there is one: the least pool in need, and
+/// else the least one below its minimum.
+pub fn pool_to_join(world: &LiveWorld) -> Option<u32>
+    ensures { result ≡ pool_to_join world.now.world }
+{
+    match least_in_need(world) {
+        Some(pool) => Some(pool),
+        None => least_below_minimum(world),
+    }
+}
+
+/// Whether an idle worker of the pool may leave it.
+pub fn may_leave(world: &LiveWorld, pool: PoolId) -> bool
+    ensures { result ≡ may_leave world.now.world pool.0 }
+{
+    let another = least_other_in_need(world, pool).is_some();
+    let tally = world.tally(pool);
+    tally.maximum < tally.attached
+        || (tally.pending == 0 && (tally.minimum < tally.available || another))
+}
+
+// Whether a callback of the pool is under way. Walks the callbacks.
+fn has_callback(world: &LiveWorld, pool: PoolId) -> bool
+    ensures { result ≡ list_any (λ c. is_live c.status && (c.pool.0 == pool.0)) world.now.world.callbacks }
+{
+    world.is_reachable();
+    let mut passed = 0;
+    while let Some(callback) = world.callbacks().after(passed) {
+        if callback.pool.0 == pool.0 {
+            return true;
+        }
+        passed = callback.number;
+    }
+    false
+}
+
+/// Whether something of the pool is outstanding. Walks the objects and the callbacks.
+pub fn is_used(world: &LiveWorld, pool: PoolId) -> bool
+    ensures { result ≡ is_used world.now.world pool.0 }
+{
+    world.objects().has_object_of(pool) || has_callback(world, pool)
+}

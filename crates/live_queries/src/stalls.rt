@@ -1,0 +1,107 @@
+//! Whether the machine can go on: it is stalled where whoever could make the next call waits for what
+//! nobody will do.
+
+ghost use Rattle.std.specs.Prelude.{◌≡◌, ◌≤◌, length};
+ghost use Rattle.std.specs.List.{list_all, range_with_len};
+ghost use Rattle.tp_model.specs.Conditions.{runs_callback};
+ghost use Rattle.tp_model.specs.Stalled.{is_client_stuck, is_pool_stuck, is_stalled, is_worker_stuck, waits_on};
+ghost use Rattle.live_queries.specs.Resting.{is_pool_blocked};
+
+use crate::callers::{clients, has_finished, workers};
+use live_world::LiveWorld;
+use live_world::waits::Progress;
+use tp_base::ids::{PoolId, Who};
+
+// Whether the actor has a wait begun that can't end yet.
+fn waits_on(world: &LiveWorld, who: Who, room: u64) -> bool
+    ensures { result ≡ waits_on world.now.world room who }
+{
+    match world.progress(who, room) {
+        Progress::Holds { .. } => true,
+        Progress::Acquires { kernel } => !world.sources().may_take(who, kernel),
+        Progress::NotBegun | Progress::Free | Progress::Notifies { .. } | Progress::Starved => {
+            false
+        }
+    }
+}
+
+// Whether a client makes no call: it has finished, or waits.
+fn is_client_stuck(world: &LiveWorld, number: u32, room: u64) -> bool
+    ensures { result ≡ is_client_stuck world.now.world room number }
+{
+    has_finished(world, number) || waits_on(world, Who::Client(number), room)
+}
+
+// Whether a worker runs a callback.
+fn is_busy(world: &LiveWorld, number: u32) -> bool
+    ensures { result ≡ runs_callback world.now.world (Who.Worker number) }
+{
+    match world.worker(number) {
+        None => false,
+        Some(worker) => worker.callback.is_some(),
+    }
+}
+
+// Whether a worker makes no call in a callback: it runs none, or waits.
+fn is_worker_stuck(world: &LiveWorld, number: u32, room: u64) -> bool
+    ensures { result ≡ is_worker_stuck world.now.world room number }
+{
+    !is_busy(world, number) || waits_on(world, Who::Worker(number), room)
+}
+
+// Whether no callback of the pool can be taken, though a worker runs none.
+fn is_pool_blocked(world: &LiveWorld, pool: PoolId, room: u64) -> bool
+    ensures { result ≡ is_pool_blocked world.now.world room pool.0 }
+{
+    let tally = world.tally(pool);
+    tally.pending == 0
+        || tally.maximum <= tally.running
+        || room < 2
+        || (room < 4 && tally.idle == 0)
+}
+
+// Whether no client makes a call.
+fn are_clients_stuck(world: &LiveWorld, room: u64) -> bool
+    ensures { result ≡ list_all (is_client_stuck world.now.world room) (range_with_len 1 (length world.now.world.clients)) }
+{
+    (1..clients(world) + 1).all(|number| is_client_stuck(world, number, room))
+}
+
+// Whether no worker makes a call in a callback.
+fn are_workers_stuck(world: &LiveWorld, room: u64) -> bool
+    ensures { result ≡ list_all (is_worker_stuck world.now.world room) (range_with_len 1 (length world.now.world.workers)) }
+{
+    (1..workers(world) + 1).all(|number| is_worker_stuck(world, number, room))
+}
+
+// Whether every worker runs a callback.
+fn are_all_busy(world: &LiveWorld) -> bool
+    ensures { result ≡ list_all (λ number. runs_callback world.now.world (Who.Worker number)) (range_with_len 1 (length world.now.world.workers)) }
+{
+    (1..workers(world) + 1).all(|number| is_busy(world, number))
+}
+
+// Whether no callback can be taken, though a worker runs none.
+fn are_pools_blocked(world: &LiveWorld, room: u64) -> bool
+    ensures { result ≡ list_all (is_pool_blocked world.now.world room) (range_with_len 0 (length world.now.world.pools)) }
+{
+    (0..world.next_pool()).all(|pool| is_pool_blocked(world, PoolId(pool), room))
+}
+
+// Whether no worker can take a callback.
+#[tactic(auto, using(crate::proofs::Stuck::stuck_by_pools))]
+fn are_pools_stuck(world: &LiveWorld, room: u64) -> bool
+    ensures { result ≡ list_all (is_pool_stuck world.now.world room) (range_with_len 0 (length world.now.world.pools)) }
+{
+    are_all_busy(world) || are_pools_blocked(world, room)
+}
+
+/// Whether nobody can go on in a machine whose history has this room left: each client has finished
+/// or waits, each worker in a callback waits, and no callback can be taken. Walks the workers up to one
+/// that goes on, then the clients, and only then the pools.
+#[tactic(auto, using(crate::proofs::Stuck::stalled_by_workers))]
+pub fn is_stalled(world: &LiveWorld, room: u64) -> bool
+    ensures { result ≡ is_stalled world.now.world room }
+{
+    are_workers_stuck(world, room) && are_clients_stuck(world, room) && are_pools_stuck(world, room)
+}
