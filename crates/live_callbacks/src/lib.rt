@@ -348,7 +348,7 @@ impl LiveCallbacks {
 
     /// As `change`, and counts the nodes that it reads: two at most where the callback is neither pending then
     /// nor has its operation under way, however many others there are.
-    #[inline]
+    #[inline(always)]
     pub fn change_counted<L: Ledger>(
         &mut self,
         before: &CallbackRow,

@@ -16,6 +16,9 @@ use tp_base::ids::{PoolId, Who};
 fn waits_on(world: &LiveWorld, who: Who, room: u64) -> bool
     ensures { result ≡ waits_on world.now.world room who }
 {
+    if !world.waits().is_begun(who) {
+        return false;
+    }
     match world.progress(who, room) {
         Progress::Holds { .. } => true,
         Progress::Acquires { kernel } => !world.sources().may_take(who, kernel),
@@ -100,6 +103,7 @@ fn are_pools_stuck(world: &LiveWorld, room: u64) -> bool
 /// or waits, each worker in a callback waits, and no callback can be taken. Walks the workers up to one
 /// that goes on, then the clients, and only then the pools.
 #[tactic(auto, using(crate::proofs::Stuck::stalled_by_workers))]
+#[inline(always)]
 pub fn is_stalled(world: &LiveWorld, room: u64) -> bool
     ensures { result ≡ is_stalled world.now.world room }
 {

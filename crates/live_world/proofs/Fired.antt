@@ -1,14 +1,19 @@
 -- Callbacks that are made one after another: what can be made of all jobs can be made of the first of them, and then of the
 -- others.
-use Rattle.std.proofs.Common.{◌≡◌, ℕ, ◌+◌, ◌<◌, ◌≤◌, List, [], ◌∷◌, ◌++◌, length, refl, sym, ap, ap₂, ◌∙◌, subst, arith, length-append}
+use Rattle.std.proofs.Common.{◌≡◌, ℕ, ◌+◌, ◌<◌, ◌≤◌, Bool, true, false, cond, not, List, [], ◌∷◌, ◌++◌, length, map, filter, refl, sym, ap, ap₂, ◌∙◌, subst, arith, length-append}
 use Rattle.std.specs.List.{AllByRecursion}
-use Rattle.std.proofs.lemmas.List.{append_assoc, append-nil}
+use Rattle.std.proofs.lemmas.List.{append_assoc, append-nil, length-map}
+use Rattle.tp_base.specs.declared.plans.Trigger.TheVariants.{Advance}
+use Rattle.tp_base.specs.declared.rows.Arming.{Arming}
+use Rattle.tp_base.specs.declared.rows.TimerSetting.{TimerSetting}
+use Rattle.tp_base.specs.Armings.{armed_behind}
+use Rattle.tp_base.specs.Timers.{expired, is_due, set_all_again}
 use Rattle.tp_base.specs.declared.rows.CallbackRow.{CallbackRow}
 use Rattle.tp_base.specs.declared.rows.ObjectRow.{ObjectRow}
 use Rattle.live_callbacks.specs.Callbacks.{Callbacks}
 use Rattle.sources.specs.Firing.{before}
 use Rattle.sources.specs.Rows.{SourceRows, with_sources}
-use Rattle.tp_model.specs.Sources.{Sources, Firing, Job, jobless, new_callback, object_row, rows_of}
+use Rattle.tp_model.specs.Sources.{Sources, Firing, Job, expiry_job, firing, jobless, new_callback, object_row, rows_of}
 use Rattle.tp_model.proofs.Firing.{length_rows}
 use Rattle.tp_model.proofs.Lists.{all_along}
 use Rattle.live_world.specs.Making.{CanMake, IsFired, IsUsable, with_jobs}
@@ -82,6 +87,36 @@ fired_from f x is h = record { sources = h.sources ∙ ap (λ (r : SourceRows). 
 -- where nothing fires
 pub fired_none : (objects : List ObjectRow) (made : ℕ) (s t : SourceRows) (c : Callbacks) (x : Sources) → t ≡ with_sources s x → IsFired (jobless x) objects made made s t c c
 fired_none objects made s t c x is = record { sources = is; callbacks = ap (λ rows. record c { rows = rows }) (sym (append-nil c.rows)); number = omega arith }
+
+kept_all : {X : Type 0} (p : X → Bool) (xs : List X) → length (filter p xs) ≡ 0 → filter (λ x. not (p x)) xs ≡ xs
+kept_all p [] none = refl
+kept_all p (x ∷ xs) none =
+    elim (p x) as (λ b. length (cond b (x ∷ filter p xs) (filter p xs)) ≡ 0 → cond (not b) (x ∷ filter (λ y. not (p y)) xs) (filter (λ y. not (p y)) xs) ≡ x ∷ xs) [
+      | true ↦ λ e. absurd (omega (arith, e))
+      | false ↦ λ e. ap (λ ys. x ∷ ys) (kept_all p xs e)
+    ] none
+
+none_left : {X : Type 0} (xs : List X) → length xs ≡ 0 → xs ≡ []
+none_left [] none = refl
+none_left (x ∷ xs) none = absurd (omega (arith, none))
+
+armed_still : (armings : List Arming) → armed_behind [] armings ≡ armings
+armed_still [] = refl
+armed_still (a ∷ armings) = ap (λ others. a ∷ others) (armed_still armings)
+
+-- nothing is due at this moment: the clock comes to it, and that is all
+quiet : (now : ℕ) (s : Sources) → length (firing (Advance now) s).jobs ≡ 0 → firing (Advance now) s ≡ jobless (record s { now = now })
+quiet now s none =
+    let nobody : length (expired now s.settings) ≡ 0 = sym (length-map (expired now s.settings) (expiry_job s.armings)) ∙ none in
+    ap (λ due. record {
+      sources = record s { settings = set_all_again now due (filter (λ (t : TimerSetting). not (is_due now t)) s.settings); armings = armed_behind due s.armings; now = now };
+      jobs = map (expiry_job s.armings) due;
+    }) (none_left (expired now s.settings) nobody)
+    ∙ ap₂ (λ settings armings. jobless (record s { settings = settings; armings = armings; now = now })) (kept_all (is_due now) s.settings nobody) (armed_still s.armings)
+
+pub fired_quiet : (objects : List ObjectRow) (made now count : ℕ) (s t : SourceRows) (c : Callbacks) → count ≡ length (firing (Advance now) s.sources).jobs → count ≡ 0 → t ≡ with_sources s (record s.sources { now = now }) → IsFired (firing (Advance now) s.sources) objects made made s t c c
+fired_quiet objects made now count s t c counted zero is =
+    rw (quiet now s.sources (sym counted ∙ zero)) (fired_none objects made s t c (record s.sources { now = now }) is)
 
 -- and where one job does
 pub fired_one : (objects : List ObjectRow) (made count : ℕ) (s t : SourceRows) (c d : Callbacks) (x : Sources) (j : Job) → t ≡ with_sources s x → d ≡ with_jobs c objects (made + 1) (j ∷ []) → count ≡ made + 1 → IsFired (record { sources = x; jobs = j ∷ [] }) objects made count s t c d

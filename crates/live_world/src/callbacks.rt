@@ -122,6 +122,7 @@ impl LiveWorld {
     }
 
     // Cancels a callback that waits for a worker.
+    #[inline(always)]
     pub(crate) fn cancel_callback(&mut self, callback: CallbackRow)
         requires found { callback_of self.old.world callback.number ≡ Some callback }
         requires pending { is_pending_by callback.status ≡ true }

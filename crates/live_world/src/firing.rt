@@ -26,6 +26,7 @@ use tp_base::rows::{Action, Slots};
 
 // Makes a callback of an object, which waits for a worker. So many were made before, and as many are after as it
 // answers; so do the functions below.
+#[inline(always)]
 fn make(
     callbacks: &mut LiveCallbacks,
     objects: &ObjectRows,
@@ -82,15 +83,17 @@ fn signal(
     fire_all(sources, callbacks, objects, made, Cause::Kernel(kernel))
 }
 
-// Does what a trigger does.
+// Does what a trigger does, which makes so many callbacks.
 fn fire(
     sources: &mut LiveSources,
     callbacks: &mut LiveCallbacks,
     objects: &ObjectRows,
     made: u64,
     trigger: Trigger,
+    count: u32,
 ) -> u64
     requires may { MayTrigger sources.old trigger }
+    requires counted { count ≡ length (firing trigger sources.old.sources).jobs }
     requires can { CanMake callbacks.old objects.now.objects (made + 1) (firing trigger sources.old.sources).jobs }
     requires young { made + length (firing trigger sources.old.sources).jobs ≤ 2 ^ 63 }
     ensures { IsFired (firing trigger sources.old.sources) objects.now.objects made result sources.old sources.new callbacks.old callbacks.new }
@@ -110,7 +113,11 @@ fn fire(
         }
         Trigger::Advance { now } => {
             sources.set_clock(now);
-            fire_all(sources, callbacks, objects, made, Cause::Clock)
+            if count == 0 {
+                made
+            } else {
+                fire_all(sources, callbacks, objects, made, Cause::Clock)
+            }
         }
         Trigger::SetWait {
             object,
@@ -248,10 +255,10 @@ fn perform_all(
 
 impl LiveWorld {
     // Does what a trigger does, and makes its callbacks: so many, from the next number on.
-    pub(crate) fn fire(&mut self, trigger: Trigger, _first: u64, _count: u32)
-        requires allowed { IsAllowed (self.old.made + 1) self.old.world (Change.Fire trigger _first _count) }
+    pub(crate) fn fire(&mut self, trigger: Trigger, _first: u64, count: u32)
+        requires allowed { IsAllowed (self.old.made + 1) self.old.world (Change.Fire trigger _first count) }
         requires young { self.old.made + 65536 ≤ 2 ^ 63 }
-        ensures { self.new ≡ moved self.old (Change.Fire trigger _first _count) }
+        ensures { self.new ≡ moved self.old (Change.Fire trigger _first count) }
     {
         self.sources.is_reachable();
         self.made = fire(
@@ -260,6 +267,7 @@ impl LiveWorld {
             &self.objects,
             self.made,
             trigger,
+            count,
         );
     }
 

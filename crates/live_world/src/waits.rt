@@ -180,6 +180,7 @@ impl LiveWorld {
     /// How far the actor's wait has come, where the history has this room left. Where that is less
     /// than 4, it walks what is outstanding for an object up to what is pending, or what a wait for a
     /// group holds, and else nothing.
+    #[inline(always)]
     pub fn progress(&self, who: Who, room: u64) -> Progress
         ensures { result ≡ progress_of self.now.world room who }
     {

@@ -1,7 +1,7 @@
 -- Bytes that are taken or given a piece at a time.
-use Rattle.std.proofs.Common.{◌≡◌, ℕ, ◌+◌, ◌-◌, ◌≤◌, List, ◌++◌, length, take, drop, Option, Some, None, refl, ap, append_assoc, sym, ◌∙◌, arith, length-append, length-drop}
-use Rattle.std.proofs.Math.Seq.{take-add, take-append_seam}
-use Rattle.std.proofs.lemmas.List.{length-take-le, take-append-le, take-append-drop, drop-drop}
+use Rattle.std.proofs.Common.{◌≡◌, ℕ, ◌+◌, ◌-◌, ◌≤◌, List, ◌++◌, length, take, drop, Option, Some, None, refl, ap, append_assoc, sym, ◌∙◌, arith, length-append, length-drop, length-take}
+use Rattle.std.proofs.Math.Seq.{take-add, take-append-add, take-append_seam}
+use Rattle.std.proofs.lemmas.List.{length-take-le, take-append-le, take-append-drop, take-take, drop-drop}
 use Rattle.tp_edge.specs.Given.{with_given}
 use Rattle.tp_edge.specs.Taken.{behind}
 
@@ -14,9 +14,21 @@ behind-behind first next (Some rest) = ap Some (sym (append_assoc first next res
 pub behind-append : (before middle now : Option (List ℕ)) (bytes piece : List ℕ) → before ≡ behind bytes middle → middle ≡ behind piece now → before ≡ behind (bytes ++ piece) now
 behind-append before middle now bytes piece first then = first ∙ ap (λ left. behind bytes left) then ∙ behind-behind bytes piece now
 
--- the first n bytes of a buffer whose front is the piece
-pub append-take : (all bytes piece rest : List ℕ) (n : ℕ) → all ≡ bytes ++ take n (piece ++ rest) → n ≤ length piece → all ≡ bytes ++ take n piece
-append-take all bytes piece rest n is within = is ∙ ap (λ front. bytes ++ front) (take-append-le n piece rest within)
+-- a buffer was filled behind these bytes: its front is they and the front of the piece
+pub take-filled : (bytes piece post rest : List ℕ) (len n room : ℕ) → len ≡ length bytes → n ≤ length piece → len + n ≤ room → take (len + n) (take room (bytes ++ (piece ++ post) ++ rest)) ≡ bytes ++ take n piece
+take-filled bytes piece post rest len n room is within fits =
+    let long : len + n ≤ length (bytes ++ (piece ++ post)) = omega (arith, length-append bytes (piece ++ post), length-append piece post) in
+    take-take (len + n) room (bytes ++ (piece ++ post) ++ rest) fits
+    ∙ take-append-le (len + n) (bytes ++ (piece ++ post)) rest long
+    ∙ ap (λ k. take (k + n) (bytes ++ (piece ++ post))) is
+    ∙ take-append-add bytes (piece ++ post) n
+    ∙ ap (λ front. bytes ++ front) (take-append-le n piece post within)
+
+-- bytes that are filled up keep their front
+pub take-resized : (bytes more items : List ℕ) (len size : ℕ) → items ≡ take size bytes ++ more → len ≤ length bytes → len ≤ size → take len items ≡ take len bytes
+take-resized bytes more items len size is within fits =
+    let long : len ≤ length (take size bytes) = omega (arith, length-take size bytes) in
+    ap (λ all. take len all) is ∙ take-append-le len (take size bytes) more long ∙ take-take len size bytes fits
 
 -- a piece of n bytes adds n
 pub length-append-take : (bytes piece : List ℕ) (n : ℕ) → n ≤ length piece → length (bytes ++ take n piece) ≡ length bytes + n

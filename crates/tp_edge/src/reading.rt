@@ -1,6 +1,6 @@
 //! Reading a source to its end.
 
-ghost use Rattle.std.specs.Prelude.{◌≡◌, ℕ, ◌^◌, ◌<◌, ◌≤◌, List, IfOk, OnOk, vec_len};
+ghost use Rattle.std.specs.Prelude.{◌≡◌, ℕ, ◌^◌, ◌<◌, ◌≤◌, List, IfOk, OnOk};
 ghost use Rattle.tp_edge.specs.Counts.{Rose};
 ghost use Rattle.tp_edge.specs.Reading.{IsRead};
 ghost use Rattle.tp_edge.specs.Taken.{behind, AreAll, IsAbove, IsEnded};
@@ -8,8 +8,11 @@ ghost use Rattle.tp_edge.specs.Taken.{behind, AreAll, IsAbove, IsEnded};
 use crate::source::{Source, Took};
 use std::alloc::{AllocError, Global};
 
+/// How many bytes the first request asks for. Each asks for so many more than there are, up to the most.
+const FIRST: usize = 4_096;
+
 /// The most bytes that one request asks for.
-const BUFFER: usize = 65_536;
+const MOST: usize = 65_536;
 
 /// Why a source was not read to its end.
 #[derive(Clone, Copy, Debug, PartialEq, Eq)]
@@ -51,29 +54,23 @@ pub fn read_all<S: Source>(
     ensures failed { result ≡ Err ReadFault.Failed → Rose (S.failures source.old) (S.failures source.new) }
     ensures never_falls { S.failures source.old ≤ S.failures source.new }
 {
-    let mut memory = make_buffer(alloc)?;
-    let buffer = memory.as_mut_slice();
     let mut bytes = Vec::new(alloc);
+    let mut len = 0;
     loop {
-        let room = BUFFER.min(limit + 1 - bytes.len());
-        match source.take(&mut buffer[..room]) {
+        let room = (len + FIRST).min(MOST).min(limit + 1 - len);
+        bytes.resize(len + room, 0)?;
+        match source.take(&mut bytes[len..]) {
             Took::Bytes { n } => {
-                if limit - bytes.len() < n {
+                if limit - len < n {
                     return Err(ReadFault::TooLong);
                 }
-                bytes.extend_from_slice(&buffer[..n])?;
+                len += n;
             }
-            Took::End => return Ok(bytes),
+            Took::End => {
+                bytes.truncate(len);
+                return Ok(bytes);
+            }
             Took::Failed => return Err(ReadFault::Failed),
         }
     }
-}
-
-/// A buffer for one request.
-fn make_buffer(alloc: Global) -> Result<Vec<u8>, AllocError>
-    ensures { IfOk result (λ buffer. vec_len buffer ≡ BUFFER) }
-{
-    let mut buffer = Vec::new(alloc);
-    buffer.resize(BUFFER, 0)?;
-    Ok(buffer)
 }

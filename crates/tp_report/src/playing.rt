@@ -23,7 +23,7 @@ use tp_base::ids::Who;
 use tp_lines::print::Lines;
 
 /// How many bytes at each end of a trace are looked at for its greatest client, before it is played.
-const LOOKED_AT: usize = 32_768;
+const LOOKED_AT: usize = 8_192;
 
 /// How large the machine of a trace is. Its clients are told by the trace.
 #[derive(Clone, Copy)]

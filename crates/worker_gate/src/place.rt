@@ -64,6 +64,7 @@ impl Place {
     }
 
     // Goes on behind a call of the actor and its answer.
+    #[inline(always)]
     pub(crate) fn goes_on<R: Routines>(
         &mut self,
         who: Who,
