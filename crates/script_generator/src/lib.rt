@@ -11,9 +11,10 @@
 
 #![tactic(auto)]
 
-ghost use Rattle.std.specs.Prelude.{◌≡◌, ◌≤◌, IfOk, string_bytes};
-ghost use Rattle.script_generator.specs.Scripts.{client_line, generated, last_client, most_of, pool_line, priority_word, work_line};
+ghost use Rattle.std.specs.Prelude.{◌≡◌, ◌≤◌, IfOk};
+ghost use Rattle.script_generator.specs.Scripts.{generated, most_of, priority_word};
 
+use itoa::Buffer;
 use std::alloc::{AllocError, Global};
 use std::marker::Model;
 
@@ -29,8 +30,8 @@ pub fn generate(alloc: Global, number: u64, length: u32) -> Result<Vec<u8>, Allo
     ensures { IfOk result (λ text. text.items ≡ generated number length) }
 {
     let mut script = Generator::new(alloc, number);
-    script.head(alloc)?;
-    script.body(alloc, length)?;
+    script.head()?;
+    script.body(length)?;
     Ok(script.text)
 }
 
@@ -50,8 +51,8 @@ impl Model for Generator {
 }
 
 impl Generator {
-    ghost use Rattle.std.specs.Prelude.{◌≡◌, ◌<◌, ◌≤◌, [], OnOk};
-    ghost use Rattle.script_generator.specs.Scripts.{draw_of, drawn, with_body, with_client, with_head, with_line, with_text, with_work};
+    ghost use Rattle.std.specs.Prelude.{◌≡◌, ◌<◌, ◌≤◌, ◌++◌, [], OnOk, decimal};
+    ghost use Rattle.script_generator.specs.Scripts.{draw_of, drawn, last_client, with_body, with_client, with_head, with_line, with_text, with_work};
 
     // Nothing is drawn and nothing is written.
     fn new(alloc: Global, number: u64) -> Self
@@ -84,62 +85,88 @@ impl Generator {
         self.text.extend_from_slice(text.as_bytes())
     }
 
+    // Writes a number between two texts.
+    fn put_number(&mut self, before: &str, number: u64, behind: &str) -> Result<(), AllocError>
+        ensures { OnOk result (self.new ≡ with_text (before.now ++ (decimal number ++ behind.now)) self.old) }
+    {
+        self.put(before)?;
+        self.put(Buffer::new().format(number))?;
+        self.put(behind)
+    }
+
     // Writes the pool, the group and the timer.
-    fn head(&mut self, alloc: Global) -> Result<(), AllocError>
+    fn head(&mut self) -> Result<(), AllocError>
         ensures { OnOk result (self.new ≡ with_head self.old) }
     {
         let most = 1 + self.draw(4);
-        let line = pool_text(alloc, most)?;
-        self.put(line.as_str())?;
+        self.put_number("pool p max ", most, " min 0\n")?;
         self.put("group g\ntimer t tick in p group g cancel gone\n")
     }
 
     // Writes all that stands behind them.
-    fn body(&mut self, alloc: Global, length: u32) -> Result<(), AllocError>
+    fn body(&mut self, length: u32) -> Result<(), AllocError>
         ensures { OnOk result (self.new ≡ with_body length self.old) }
     {
         let works = 4 + self.draw(5);
         for index in 0..works {
-            self.work(alloc, index + 1)?;
+            self.work(index + 1)?;
         }
         self.put("routine body\ndone\nroutine tick\ndone\nroutine gone\ndone\n")?;
         for _ in 0..DRAWN_CLIENTS {
-            self.client(alloc, works, length)?;
+            self.client(works, length)?;
         }
-        let last = last_text(alloc, length)?;
-        self.put(last.as_str())
+        self.last_client(length)
     }
 
     // Writes a work object.
-    fn work(&mut self, alloc: Global, number: u64) -> Result<(), AllocError>
+    fn work(&mut self, number: u64) -> Result<(), AllocError>
         ensures { OnOk result (self.new ≡ with_work number self.old) }
     {
         let priority = priority(self.draw(3));
-        let line = work_text(alloc, number, priority)?;
-        self.put(line.as_str())
+        self.put_number("work w", number, " body in p priority ")?;
+        self.put(priority)?;
+        self.put(" group g cancel gone\n")
     }
 
     // Writes a client of so many lines.
-    fn client(&mut self, alloc: Global, works: u64, length: u32) -> Result<(), AllocError>
+    fn client(&mut self, works: u64, length: u32) -> Result<(), AllocError>
         requires { (0 < works) × (works ≤ 8) }
         ensures { OnOk result (self.new ≡ with_client works length self.old) }
     {
         self.put("client\n")?;
         for _ in 0..length {
-            self.line(alloc, works)?;
+            self.line(works)?;
         }
         self.put("done\n")
     }
 
+    // Writes the client that lets time pass, and closes the group.
+    fn last_client(&mut self, length: u32) -> Result<(), AllocError>
+        ensures { OnOk result (self.new ≡ with_text (last_client length) self.old) }
+    {
+        self.put_number(
+            "client\nset-timer t -500 1 0\ntimes ",
+            u64::from(length),
+            " advance 1\nclose-members g cancel 7\ndone\n",
+        )
+    }
+
     // Writes a line of a client.
-    fn line(&mut self, alloc: Global, works: u64) -> Result<(), AllocError>
+    fn line(&mut self, works: u64) -> Result<(), AllocError>
         requires { (0 < works) × (works ≤ 8) }
         ensures { OnOk result (self.new ≡ with_line works self.old) }
     {
         let kind = self.draw(8);
         let number = 1 + self.draw(most(works, kind));
-        let text = client_text(alloc, kind, number)?;
-        self.put(text.as_str())
+        if kind < 5 {
+            self.put_number("submit w", number, "\n")
+        } else if kind == 5 {
+            self.put_number("wait w", number, " keep\n")
+        } else if kind == 6 {
+            self.put_number("wait w", number, " cancel\n")
+        } else {
+            self.put_number("advance ", number, "\n")
+        }
     }
 }
 
@@ -161,42 +188,4 @@ fn most(works: u64, kind: u64) -> u64
     ensures { result ≡ most_of works kind }
 {
     if kind < 7 { works } else { 1000 }
-}
-
-// A line of a client, by what was drawn for it.
-fn client_text(alloc: Global, kind: u64, number: u64) -> Result<String, AllocError>
-    ensures { IfOk result (λ text. string_bytes text ≡ client_line kind number) }
-{
-    if kind < 5 {
-        format!(in alloc; "submit w{number}\n")
-    } else if kind == 5 {
-        format!(in alloc; "wait w{number} keep\n")
-    } else if kind == 6 {
-        format!(in alloc; "wait w{number} cancel\n")
-    } else {
-        format!(in alloc; "advance {number}\n")
-    }
-}
-
-// The line of the pool.
-fn pool_text(alloc: Global, most: u64) -> Result<String, AllocError>
-    ensures { IfOk result (λ text. string_bytes text ≡ pool_line most) }
-{
-    format!(in alloc; "pool p max {most} min 0\n")
-}
-
-// The line of a work object.
-fn work_text(alloc: Global, number: u64, priority: &str) -> Result<String, AllocError>
-    ensures { IfOk result (λ text. string_bytes text ≡ work_line number priority.now) }
-{
-    format!(in alloc; "work w{number} body in p priority {priority} group g cancel gone\n")
-}
-
-// The last client.
-fn last_text(alloc: Global, length: u32) -> Result<String, AllocError>
-    ensures { IfOk result (λ text. string_bytes text ≡ last_client length) }
-{
-    format!(in alloc;
-        "client\nset-timer t -500 1 0\ntimes {length} advance 1\nclose-members g cancel 7\ndone\n"
-    )
 }
