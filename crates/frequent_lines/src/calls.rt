@@ -29,6 +29,7 @@ pub(crate) fn front_call<'a>(text: &'a [u8], call: &mut Call) -> Option<&'a [u8]
         [_, b's', b'u', ..] => submit(text, call),
         [_, b'e', ..] => only_word(b" end", Call::End, text, call),
         [_, b'a', b't', ..] => only_word(b" attach", Call::Attach, text, call),
+        [_, b'a', ..] => advance(text, call),
         [_, b'd', ..] => only_word(b" detach", Call::Detach, text, call),
         _ => None,
     }
@@ -45,7 +46,7 @@ pub(crate) fn any_call<'a>(text: &'a [u8], call: &mut Call) -> Option<&'a [u8]>
 }
 
 // A call that is less frequent.
-fn other_call<'a>(text: &'a [u8], call: &mut Call) -> Option<&'a [u8]>
+pub(crate) fn other_call<'a>(text: &'a [u8], call: &mut Call) -> Option<&'a [u8]>
     ensures { IfSome result (λ rest. IsFront CallTexts text.now call.new rest.now) }
 {
     match text {
@@ -54,7 +55,6 @@ fn other_call<'a>(text: &'a [u8], call: &mut Call) -> Option<&'a [u8]>
         [_, b'c', b'r', ..] => create(text, call),
         [_, b'c', b'l', ..] => close_members(text, call),
         [_, b'c', ..] => complete_io(text, call),
-        [_, b'a', ..] => advance(text, call),
         [_, b'i', b's', b's', ..] => issue_io(text, call),
         [_, b'i', ..] => is_timer_set(text, call),
         [_, b'w', ..] => begin_wait(text, call),
@@ -128,6 +128,7 @@ fn set_maximum<'a>(text: &'a [u8], call: &mut Call) -> Option<&'a [u8]>
     Some(rest)
 }
 
+#[inline(always)]
 fn advance<'a>(text: &'a [u8], call: &mut Call) -> Option<&'a [u8]>
     ensures { IfSome result (λ rest. IsFront CallTexts text.now call.new rest.now) }
 {

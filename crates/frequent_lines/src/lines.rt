@@ -9,7 +9,7 @@ ghost use Rattle.tp_lines.specs.Answers.{EntryLines};
 ghost use Rattle.tp_lines.specs.Calls.{CallLines, WhoTexts};
 
 use crate::answers::{any_answer, front_answer};
-use crate::calls::{any_call, front_call};
+use crate::calls::{any_call, front_call, other_call};
 use crate::numbers::short_number;
 use line_grammar::words::{behind, behind_word};
 use tp_base::answers::Entry;
@@ -40,13 +40,13 @@ pub(crate) fn front_entry<'a>(text: &'a [u8], entry: &mut Entry) -> Option<&'a [
     Some(rest)
 }
 
-/// A call that may be less frequent, and who makes it.
+/// A call that is less frequent, and who makes it.
 pub(crate) fn rare_line<'a>(text: &'a [u8], made: &mut (Who, Call)) -> Option<&'a [u8]>
     ensures { IfSome result (λ rest. IsFront CallLines text.now made.new rest.now) }
 {
     let (who, start) = front_who(text)?;
     made.0 = who;
-    let rest = any_call(start, &mut made.1)?;
+    let rest = other_call(start, &mut made.1)?;
     Some(rest)
 }
 

@@ -92,6 +92,7 @@ fn frequent_lines_are_found(rt: HostRuntime) {
     let mut made = (Who::Client(0), Call::Finish);
     for line in [
         "c1 submit 12\n",
+        "c1 advance 10\n",
         "c1 end\n",
         "w1 attach\n",
         "w1 detach\n",
@@ -122,7 +123,6 @@ fn frequent_lines_are_found(rt: HostRuntime) {
 fn rare_lines_are_found(rt: HostRuntime) {
     let mut made = (Who::Client(0), Call::Finish);
     for line in [
-        "c1 submit 12\n",
         "c1 create work r1 x0 p0 normal short g0 q0\n",
         "c1 create timer r2 x7 p3 high long g2 q9\n",
         "c1 create wait r1 x18446744073709551615 p0 low short g1 q0\n",
@@ -136,7 +136,6 @@ fn rare_lines_are_found(rt: HostRuntime) {
         "c1 start-io 3\n",
         "c1 issue-io 3\n",
         "c1 complete-io 8 995 0\n",
-        "c1 advance 10\n",
         "c1 is-timer-set 5\n",
         "c1 wait work 1 keep\n",
     ] {
