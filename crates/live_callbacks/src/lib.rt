@@ -30,6 +30,7 @@
 
 ghost use Rattle.std.specs.Prelude.{◌≡◌, ◌+◌, ◌^◌, ◌<◌, ◌≤◌, ◌==◌, ◌++◌, ◌∷◌, [], All, IfOk, Some, false, filter, find, length, map, nat_lt, not, replicate, slice_get, if◌then◌else◌};
 ghost use Rattle.std.specs.List.{list_any};
+ghost use Rattle.std.specs.Option.{option_copied};
 ghost use Rattle.tp_model.specs.Calls.Io.{is_expected_of};
 ghost use Rattle.tp_model.specs.Conditions.{is_operation_of};
 ghost use Rattle.tp_model.specs.Counts.{is_operating, is_pending, is_pending_in};
@@ -51,7 +52,7 @@ mod rows;
 mod waits;
 
 use holding::Holding;
-use lists::{Lists, after_in, first_in, has_list, lines, row_behind};
+use lists::{Lists, after_in, first_in, has_list, lent_behind, lines, row_behind};
 use rows::Rows;
 
 /// The callbacks that live.
@@ -138,7 +139,16 @@ impl LiveCallbacks {
         self.rows.len()
     }
 
-    /// The callback of this number, or None where no such callback lives.
+    /// The callback of this number, lent, or None where no such callback lives. Who looks at a part of it, or
+    /// hands it on, copies no more than that.
+    #[inline(always)]
+    pub fn get(&self, number: u64) -> Option<&CallbackRow>
+        ensures { option_copied result ≡ find (λ c. c.number == number) self.now.rows }
+    {
+        self.rows.get(number)
+    }
+
+    /// The same, copied.
     #[inline(always)]
     pub fn find(&self, number: u64) -> Option<CallbackRow>
         ensures { result ≡ find (λ c. c.number == number) self.now.rows }
@@ -186,8 +196,8 @@ impl LiveCallbacks {
     /// highest priority, and among those of one priority that of the least number. Of a pool that there can't
     /// be none is pending. `steps` counts the nodes that it reads: one at most, however many are pending.
     #[inline(always)]
-    pub fn next<L: Ledger>(&self, pool: PoolId, steps: &mut Steps<L>) -> Option<CallbackRow>
-        ensures value { result ≡ slice_get (queue_among self.now.rows pool.0) 0 }
+    pub fn next<L: Ledger>(&self, pool: PoolId, steps: &mut Steps<L>) -> Option<&CallbackRow>
+        ensures value { option_copied result ≡ slice_get (queue_among self.now.rows pool.0) 0 }
         ensures counted { steps.old ≤ steps.new }
         ensures bound { steps.new ≤ steps.old + 1 }
     {
@@ -198,7 +208,7 @@ impl LiveCallbacks {
         } else {
             None
         };
-        row_behind(
+        lent_behind(
             &self.rows,
             lines(self.lists.pools, self.lists.objects),
             place,

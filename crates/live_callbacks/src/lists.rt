@@ -2,6 +2,7 @@
 //! its group. In each it is in one list or in none, at the place of its key.
 
 ghost use Rattle.std.specs.Prelude.{◌≡◌, ◌≢◌, ◌+◌, ◌*◌, ◌<◌, ◌≤◌, ◌^◌, [], IfOk, IfSome, false, length, slice_get, true};
+ghost use Rattle.std.specs.Option.{option_copied};
 ghost use Rattle.linked_lists.specs.Moved.{IsCommon, IsMoved};
 ghost use Rattle.linked_lists.specs.Linked.{AreInOrder, AreOwned, IsOf, list_of, owner_of, place_after};
 ghost use Rattle.tp_model.specs.Counts.{is_pending};
@@ -190,16 +191,25 @@ fn move_with<L: Ledger>(lists: &mut LinkedLists, list: u32, place: u32, number: 
     lists.move_to(list, list, place, number, &mut steps);
 }
 
-// The row whose key has this place, behind so many places of lists.
+// The row whose key has this place, behind so many places of lists, lent.
+#[inline(always)]
+pub(crate) fn lent_behind(rows: &Rows, heads: u32, place: Option<u32>) -> Option<&CallbackRow>
+    requires { IfSome place (IsHeldAt heads rows.now.held) }
+    ensures { option_copied result ≡ row_behind_place heads rows.now.held place }
+{
+    match place {
+        Some(place) => Some(rows.lend(place - heads)),
+        None => None,
+    }
+}
+
+// The same, copied.
 #[inline(always)]
 pub(crate) fn row_behind(rows: &Rows, heads: u32, place: Option<u32>) -> Option<CallbackRow>
     requires { IfSome place (IsHeldAt heads rows.now.held) }
     ensures { result ≡ row_behind_place heads rows.now.held place }
 {
-    match place {
-        Some(place) => Some(rows.at(place - heads)),
-        None => None,
-    }
+    lent_behind(rows, heads, place).copied()
 }
 
 impl Lists {

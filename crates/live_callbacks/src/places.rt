@@ -8,6 +8,7 @@
 ghost use Rattle.std.specs.Prelude.{◌≡◌, ◌≢◌, ◌*◌, ◌<◌, ◌≤◌, ◌==◌, ◌&&◌, All, IfSome, MatchOption, None, drop, find, length, nat_lt, option_map, slice_get, true, vec_capacity};
 ghost use Rattle.slab.specs.Slab.{ContainsKey};
 ghost use Rattle.std.specs.Bool.{OnTrue};
+ghost use Rattle.std.specs.Option.{option_copied};
 ghost use Rattle.std.specs.List.Sorted.{IsPartitionPoint};
 ghost use Rattle.live_callbacks.specs.Places.{EntriesRise, IsPlaceOf, IsPlaceOfRow, live, row_at};
 
@@ -248,14 +249,23 @@ pub(crate) fn entry_behind(entries: &[Entry], number: u64) -> Option<Entry>
     first_entry(entries, place_behind(entries, number))
 }
 
-// The row of an entry.
+// The row of an entry, lent.
+#[inline(always)]
+pub(crate) fn lent_row(rows: &Slab<CallbackRow>, entry: Option<Entry>) -> Option<&CallbackRow>
+    requires { IfSome entry (λ e. ContainsKey rows.now e.key) }
+    ensures { option_copied result ≡ option_map (λ e. row_at rows.now e.key) entry }
+{
+    match entry {
+        Some(entry) => Some(&rows[entry.key as usize]),
+        None => None,
+    }
+}
+
+// The same, copied.
 #[inline(always)]
 pub(crate) fn row_of(rows: &Slab<CallbackRow>, entry: Option<Entry>) -> Option<CallbackRow>
     requires { IfSome entry (λ e. ContainsKey rows.now e.key) }
     ensures { result ≡ option_map (λ e. row_at rows.now e.key) entry }
 {
-    match entry {
-        Some(entry) => Some(rows[entry.key as usize]),
-        None => None,
-    }
+    lent_row(rows, entry).copied()
 }

@@ -6,13 +6,14 @@
 
 ghost use Rattle.std.specs.Prelude.{◌≡◌, ◌≢◌, ◌^◌, ◌<◌, ◌≤◌, ◌==◌, ◌++◌, ◌∷◌, [], All, IfOk, IfSome, IsSome, Some, filter, find, if◌then◌else◌, length, map, nat_lt, not, option_map};
 ghost use Rattle.std.specs.List.{AllByRecursion};
+ghost use Rattle.std.specs.Option.{option_copied};
 ghost use Rattle.linked_lists.specs.Linked.{owner_of};
 ghost use Rattle.live_callbacks.specs.Held.{AreApart, rows_of};
 
 use crate::beside::place_beside;
 use crate::places::{
-    Entry, entry_behind, entry_of, first_of_group_from, make_place, most_entries, place_behind,
-    place_of, row_of,
+    Entry, entry_behind, entry_of, first_of_group_from, lent_row, make_place, most_entries,
+    place_behind, place_of, row_of,
 };
 use linked_lists::LinkedLists;
 use slab::Slab;
@@ -84,12 +85,20 @@ impl Rows {
         self.rows.capacity() as u32
     }
 
-    /// The row of this number, or None where there is none.
+    /// The row of this number, lent, or None where there is none.
+    #[inline(always)]
+    pub fn get(&self, number: u64) -> Option<&CallbackRow>
+        ensures { option_copied result ≡ find (λ c. c.number == number) (rows_of self.now.held) }
+    {
+        lent_row(&self.rows, entry_of(&self.entries, number))
+    }
+
+    /// The same, copied.
     #[inline(always)]
     pub fn find(&self, number: u64) -> Option<CallbackRow>
         ensures { result ≡ find (λ c. c.number == number) (rows_of self.now.held) }
     {
-        row_of(&self.rows, entry_of(&self.entries, number))
+        self.get(number).copied()
     }
 
     /// The first row whose number is above this one, or None where there is none.
@@ -129,11 +138,20 @@ impl Rows {
 
     /// The row under this key.
     #[inline(always)]
+    pub fn lend(&self, key: u32) -> &CallbackRow
+        requires { IsSome (find (λ h. h.key == key) self.now.held) }
+        ensures { Some result.now ≡ option_map (λ h. h.row) (find (λ h. h.key == key) self.now.held) }
+    {
+        &self.rows[key as usize]
+    }
+
+    /// The same, copied.
+    #[inline(always)]
     pub fn at(&self, key: u32) -> CallbackRow
         requires { IsSome (find (λ h. h.key == key) self.now.held) }
         ensures { Some result ≡ option_map (λ h. h.row) (find (λ h. h.key == key) self.now.held) }
     {
-        self.rows[key as usize]
+        *self.lend(key)
     }
 
     /// The first row of a group, or None where it has none. Goes along the rows.

@@ -1,2 +1,3 @@
+pub mod AtWork
 pub mod Actors
 pub mod Resting

@@ -1,6 +1,7 @@
 //! Who makes a call, and what of a worker's callback a call asks.
 
-ghost use Rattle.std.specs.Prelude.{◌≡◌, ◌≤◌, length};
+ghost use Rattle.std.specs.Prelude.{◌≡◌, ◌≤◌, length, option_map};
+ghost use Rattle.std.specs.Option.{option_copied};
 ghost use Rattle.tp_base.specs.Actions.{slot as slot_of};
 ghost use Rattle.tp_model.specs.Counts.{callback_of};
 ghost use Rattle.tp_model.specs.Actions.{returning, slots_of as slots_of_status, words_of};
@@ -8,12 +9,13 @@ ghost use Rattle.tp_model.specs.Calls.Groups.{runs_in_group};
 ghost use Rattle.tp_model.specs.Calls.InCallback.{has_asked};
 ghost use Rattle.tp_model.specs.Conditions.{busy_of, idle_of, is_associated as is_associated_by, is_finished, runs_own};
 ghost use Rattle.live_queries.specs.Actors.{actor_of};
+ghost use Rattle.live_queries.specs.AtWork.{busy_at};
 
 use crate::actors::{Actor, NO_CLIENT, NO_WORKER};
 use live_world::LiveWorld;
 use live_world::slots::slots_of;
 use tp_base::answers::ActionKind;
-use tp_base::ids::{GroupId, ObjectId, Who};
+use tp_base::ids::{GroupId, ObjectId, PoolId, Who};
 use tp_base::plans::{ActionWords, Busy, Idle};
 use tp_base::rows::{Action, CallbackRow, Slots, Status, WorkerRow};
 
@@ -66,10 +68,18 @@ pub fn idle(world: &LiveWorld, who: Who) -> Option<Idle>
     }
 }
 
+/// A worker that runs a callback of its pool, which is lent.
+#[derive(Clone, Copy)]
+pub struct AtWork<'a> {
+    pub worker: u32,
+    pub pool: PoolId,
+    pub callback: &'a CallbackRow,
+}
+
 /// The actor as a worker that runs a callback, if it is one.
 #[inline(always)]
-pub fn busy(world: &LiveWorld, who: Who) -> Option<Busy>
-    ensures { result ≡ busy_of world.now.world who }
+pub fn at_work(world: &LiveWorld, who: Who) -> Option<AtWork<'_>>
+    ensures { option_map busy_at result ≡ busy_of world.now.world who }
 {
     match who {
         Who::Client(_) => None,
@@ -79,13 +89,31 @@ pub fn busy(world: &LiveWorld, who: Who) -> Option<Busy>
                     pool: Some(pool),
                     callback: Some(callback),
                 },
-            ) => callback_of(world, callback).map(|callback| Busy {
-                worker: number,
-                pool,
-                callback,
-            }),
+            ) => match callback_of(world, callback) {
+                Some(callback) => Some(AtWork {
+                    worker: number,
+                    pool,
+                    callback,
+                }),
+                None => None,
+            },
             _ => None,
         },
+    }
+}
+
+/// The same, with the callback copied.
+#[inline(always)]
+pub fn busy(world: &LiveWorld, who: Who) -> Option<Busy>
+    ensures { result ≡ busy_of world.now.world who }
+{
+    match at_work(world, who) {
+        Some(by) => Some(Busy {
+            worker: by.worker,
+            pool: by.pool,
+            callback: *by.callback,
+        }),
+        None => None,
     }
 }
 
@@ -167,10 +195,10 @@ pub(crate) fn has_finished(world: &LiveWorld, number: u32) -> bool
 }
 
 // The callback of this number, if it lives.
-fn callback_of(world: &LiveWorld, number: u64) -> Option<CallbackRow>
-    ensures { result ≡ callback_of world.now.world number }
+fn callback_of(world: &LiveWorld, number: u64) -> Option<&CallbackRow>
+    ensures { option_copied result ≡ callback_of world.now.world number }
 {
-    world.callbacks().find(number)
+    world.callbacks().get(number)
 }
 
 // Whether the callback runs and was not disassociated from its object.

@@ -23,7 +23,9 @@ mod places;
 mod pools;
 mod stalls;
 
-pub use callers::{actor, busy, count_returned, has_asked, idle, runs_in_group, runs_own, words};
+pub use callers::{
+    AtWork, actor, at_work, busy, count_returned, has_asked, idle, runs_in_group, runs_own, words,
+};
 pub use over::{is_over, left_after};
 pub use places::{
     lacks_group, lacks_kernel, lacks_object, lacks_pool, next_group, next_kernel, next_object,

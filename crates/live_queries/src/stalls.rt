@@ -13,12 +13,18 @@ use live_world::waits::Progress;
 use tp_base::ids::{PoolId, Who};
 
 // Whether the actor has a wait begun that can't end yet.
+#[inline(always)]
 fn waits_on(world: &LiveWorld, who: Who, room: u64) -> bool
     ensures { result ≡ waits_on world.now.world room who }
 {
-    if !world.waits().is_begun(who) {
-        return false;
-    }
+    world.waits().is_begun(who) && is_kept(world, who, room)
+}
+
+// The same, of one that mostly has.
+#[inline(never)]
+fn is_kept(world: &LiveWorld, who: Who, room: u64) -> bool
+    ensures { result ≡ waits_on world.now.world room who }
+{
     match world.progress(who, room) {
         Progress::Holds { .. } => true,
         Progress::Acquires { kernel } => !world.sources().may_take(who, kernel),

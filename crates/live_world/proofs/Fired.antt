@@ -2,7 +2,7 @@
 -- others.
 use Rattle.std.proofs.Common.{◌≡◌, ℕ, ◌+◌, ◌<◌, ◌≤◌, Bool, true, false, cond, not, List, [], ◌∷◌, ◌++◌, length, map, filter, refl, sym, ap, ap₂, ◌∙◌, subst, arith, length-append}
 use Rattle.std.specs.List.{AllByRecursion}
-use Rattle.std.proofs.lemmas.List.{append_assoc, append-nil, length-map}
+use Rattle.std.proofs.lemmas.List.{append_assoc, append-nil, length-map, nil_from_length}
 use Rattle.tp_base.specs.declared.plans.Trigger.TheVariants.{Advance}
 use Rattle.tp_base.specs.declared.rows.Arming.{Arming}
 use Rattle.tp_base.specs.declared.rows.TimerSetting.{TimerSetting}
@@ -96,10 +96,6 @@ kept_all p (x ∷ xs) none =
       | false ↦ λ e. ap (λ ys. x ∷ ys) (kept_all p xs e)
     ] none
 
-none_left : {X : Type 0} (xs : List X) → length xs ≡ 0 → xs ≡ []
-none_left [] none = refl
-none_left (x ∷ xs) none = absurd (omega (arith, none))
-
 armed_still : (armings : List Arming) → armed_behind [] armings ≡ armings
 armed_still [] = refl
 armed_still (a ∷ armings) = ap (λ others. a ∷ others) (armed_still armings)
@@ -111,7 +107,7 @@ quiet now s none =
     ap (λ due. record {
       sources = record s { settings = set_all_again now due (filter (λ (t : TimerSetting). not (is_due now t)) s.settings); armings = armed_behind due s.armings; now = now };
       jobs = map (expiry_job s.armings) due;
-    }) (none_left (expired now s.settings) nobody)
+    }) (nil_from_length (expired now s.settings) nobody)
     ∙ ap₂ (λ settings armings. jobless (record s { settings = settings; armings = armings; now = now })) (kept_all (is_due now) s.settings nobody) (armed_still s.armings)
 
 pub fired_quiet : (objects : List ObjectRow) (made now count : ℕ) (s t : SourceRows) (c : Callbacks) → count ≡ length (firing (Advance now) s.sources).jobs → count ≡ 0 → t ≡ with_sources s (record s.sources { now = now }) → IsFired (firing (Advance now) s.sources) objects made made s t c c

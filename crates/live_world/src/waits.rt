@@ -107,16 +107,14 @@ impl LiveWorld {
 
     // Whether the actor's wait, of which this is the first held callback, holds one that is starved. Of
     // its object's pending callbacks it holds none without the first, and they are all of one pool, so
-    // that the first tells of all. It is looked for only where the history has no room for it to be run.
+    // that the first tells of all.
+    #[inline(never)]
     fn holds_starved(&self, who: Who, waiter: u32, first: u64, room: u64) -> bool
         requires at { place_of self.now.world.limits who ≡ Some waiter }
         requires first { slice_get (held_by self.now.world who) 0 ≡ Some first }
         requires closes { closing_by (wait_of self.now.world who) ≡ None }
         ensures { result ≡ holds_starved self.now.world room (held_by self.now.world who) }
     {
-        if 4 <= room {
-            return false;
-        }
         let Some(held) = self.callbacks.find(first) else {
             unreachable!()
         };
@@ -128,15 +126,12 @@ impl LiveWorld {
         }
     }
 
-    // Whether the actor's wait holds one that is starved. Walks what it holds, unless the history has
-    // room for it to be run.
+    // Whether the actor's wait holds one that is starved. Walks what it holds.
+    #[inline(never)]
     fn holds_any_starved(&self, who: Who, waiter: u32, room: u64) -> bool
         requires { place_of self.now.world.limits who ≡ Some waiter }
         ensures { result ≡ holds_starved self.now.world room (held_by self.now.world who) }
     {
-        if 4 <= room {
-            return false;
-        }
         let mut next = self.callbacks.first_held(waiter);
         while let Some(callback) = next {
             if self.is_starved(&callback, room) {
@@ -165,12 +160,17 @@ impl LiveWorld {
         }
     }
 
-    // Whether the actor's wait, of which this is the first held callback, holds one that is starved.
+    // Whether the actor's wait, of which this is the first held callback, holds one that is starved. One is
+    // looked for only where the history has no room for it to be run.
+    #[inline(always)]
     fn is_wait_starved(&self, who: Who, waiter: u32, first: u64, room: u64) -> bool
         requires at { place_of self.now.world.limits who ≡ Some waiter }
         requires first { slice_get (held_by self.now.world who) 0 ≡ Some first }
         ensures { result ≡ holds_starved self.now.world room (held_by self.now.world who) }
     {
+        if 4 <= room {
+            return false;
+        }
         match self.waits.closing(who) {
             None => self.holds_starved(who, waiter, first, room),
             Some(_) => self.holds_any_starved(who, waiter, room),

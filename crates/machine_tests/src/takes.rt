@@ -10,7 +10,7 @@ use std::marker::Brand;
 use std::process::Abort;
 use std::sync::ledger::{Blank, Ledger};
 use steps::Steps;
-use tp_base::answers::{Answer, Outcome, TakeResult};
+use tp_base::answers::{Answer, Look, Outcome, TakeResult};
 use tp_base::calls::{Call, Environ, Priority};
 use tp_base::ids::{GroupId, ObjectId, PoolId, RoutineId, Who};
 
@@ -40,7 +40,8 @@ fn check_step(rt: &impl Abort, engine: &mut Engine, who: Who, call: Call, wanted
     requires { IsCallInRange call }
 {
     assert!(rt; engine.age() < 1 << 47);
-    let told = engine.step(who, call, ROOM);
+    let mut told = Outcome::Look(Look::Stay);
+    engine.step_into(who, &call, ROOM, &mut told);
     expect_eq(rt, told, Outcome::Done(wanted));
 }
 
@@ -60,7 +61,9 @@ fn counted_take<L: Ledger>(engine: &mut Engine, steps: &mut Steps<L>) -> Outcome
     requires { engine.old.age < 2 ^ 47 }
     ensures { steps.new ≤ steps.old + 3 }
 {
-    engine.step_counted(Who::Worker(1), Call::Take, ROOM, steps)
+    let mut told = Outcome::Look(Look::Stay);
+    engine.step_counted(Who::Worker(1), &Call::Take, ROOM, &mut told, steps);
+    told
 }
 
 // The same, with a counter of its own.

@@ -84,14 +84,14 @@ impl Recorded for Book {
         })
     }
 
+    #[inline(always)]
     fn step_into(&mut self, who: Who, call: &Call, outcome: &mut Outcome) {
         let room = self.room();
-        let made = self.engine.step(who, *call, room);
-        if let Outcome::Done(answer) = made {
+        self.engine.step_into(who, call, room, outcome);
+        if let Outcome::Done(answer) = outcome {
             self.len += 1;
-            self.past.push(&who, call, &answer);
+            self.past.push(&who, call, answer);
         }
-        *outcome = made;
     }
 
     fn len(&self) -> u32 {

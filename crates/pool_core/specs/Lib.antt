@@ -1,4 +1,3 @@
-pub mod Ending
-pub mod Decided
 pub mod Entered
+pub mod Made
 pub mod View

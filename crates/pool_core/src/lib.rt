@@ -4,9 +4,10 @@
 //! ```text
 //! let mut engine = Engine::open(alloc, limits)?;         // of one client
 //! engine.owed()                                          // 1: the client has to finish
-//! engine.step(Who::Client(1), Call::CreatePool, 100)     // Done(Made { number: 1 })
-//! engine.step(Who::Worker(1), Call::Take, 100)           // Done(Refused(NotAttached))
-//! engine.step(Who::Worker(1), Call::Attach, 100)         // Look(NoNeed)
+//! let mut outcome = Outcome::Look(Look::Stay);
+//! engine.step_into(Who::Client(1), &Call::CreatePool, 100, &mut outcome);  // Done(Made { number: 1 })
+//! engine.step_into(Who::Worker(1), &Call::Take, 100, &mut outcome);        // Done(Refused(NotAttached))
+//! engine.step_into(Who::Worker(1), &Call::Attach, 100, &mut outcome);      // Look(NoNeed)
 //! engine.age()                                           // 1: one call was accepted
 //! ```
 //!
@@ -33,26 +34,26 @@
 //! | `IssueIo`, `CompleteIo` | none: a read, a write or the like, and the end of it |
 //! | `Advance`, `Finish` | none: time passes, and a client has no more to do |
 //!
-//! `open` takes all memory; `step` makes a call of an actor; `owed` is the number of entries for
+//! `open` takes all memory; `step_into` makes a call of an actor; `owed` is the number of entries for
 //! which the history must keep room; `is_over` says whether nothing more is to be done, and
 //! `left_after` goes along the callbacks that may still run; `age` is the number of steps that were
 //! accepted. What an engine remembers is a world without the callbacks that are over (`Remembered`
 //! of `tp_model`): where it stands for a world, its outcome is that of the machine's step there, and
 //! then it stands for the world after the step.
 //!
-//! Each call is one function that only reads: it gives the call's plan, which is a refusal, a look,
-//! or an answer with the change that goes with it. `step` alone asks whether the history has room
-//! for what that costs, and applies the change.
+//! What is decided of a call comes from one function that only reads: a refusal, a look, or an answer
+//! with the change that goes with it. The call itself (`calls`) has that settled: `settle` alone asks
+//! whether the history has room for what it costs, and applies the change.
 
 #![tactic(auto)]
 
-ghost use Rattle.std.specs.Prelude.{◌≡◌, ◌+◌, ◌^◌, ◌<◌, ◌≤◌, IfOk, option_map};
-ghost use Rattle.tp_base.specs.Ranges.{AreLimitsInRange, IsCallInRange, IsOutcomeInRange};
+ghost use Rattle.std.specs.Prelude.{◌≡◌, ◌^◌, ◌<◌, IfOk, option_map};
+ghost use Rattle.pool_core.specs.Made.{IsMade};
+ghost use Rattle.tp_base.specs.Ranges.{AreLimitsInRange, IsCallInRange};
 ghost use Rattle.tp_model.specs.World.{World, opening};
 ghost use Rattle.tp_model.specs.Counts.{owed};
 ghost use Rattle.tp_model.specs.Over.{is_over, left_after, row_of};
-ghost use Rattle.tp_model.specs.Table.{step};
-ghost use Rattle.tp_model.specs.Support.Remembered.{StandsFor, Meets};
+ghost use Rattle.tp_model.specs.Support.Remembered.{StandsFor};
 
 use machine::Machine;
 use std::alloc::{AllocError, Global};
@@ -66,23 +67,9 @@ use tp_base::limits::Limits;
 use tp_base::plans::Change;
 use tp_model::Left;
 
-mod clients;
-mod decisions;
-mod groups;
-mod in_callback;
-mod io;
-mod kernels;
+mod calls;
 mod machine;
-mod objects;
-mod plans;
-mod pools;
-mod refusals;
-mod timers;
-mod triggers;
-mod wait_objects;
-mod waits;
-mod work;
-mod workers;
+mod prices;
 
 /// A machine that is being played.
 #[derive(Drop)]
@@ -116,54 +103,39 @@ impl Engine {
         })
     }
 
-    /// Makes a call of an actor.
+    /// Makes a call of an actor, and puts its outcome where it is wanted, in place of what is there.
     ///
     /// `room` is how many more entries the history has room for, less those that are owed. The
     /// outcome is the answer, which is the call's entry; or a look, where nothing happened yet; or
     /// Full, where the call costs more than there is room for. It takes no memory.
     #[inline(always)]
-    pub fn step(&mut self, who: Who, call: Call, room: u64) -> Outcome
-        requires in_range { IsCallInRange call }
+    pub fn step_into(&mut self, who: Who, call: &Call, room: u64, outcome: &mut Outcome)
+        requires in_range { IsCallInRange call.now }
         requires young { self.old.age < 2 ^ 47 }
-        ensures meets { (w : World) → StandsFor self.old w → Meets self.old self.new w (step w room who call) result }
-        ensures in_range { IsOutcomeInRange result }
+        ensures made { IsMade self.old self.new room who call.now outcome.new }
     {
-        self.step_with::<Brand>(who, call, room, Blank::new(1))
+        self.step_with::<Brand>(who, call, room, outcome, Blank::new(1));
     }
 
-    // `step` with a counter of its own.
+    // `step_into` with a counter of its own.
     #[inline(always)]
-    fn step_with<L: Ledger>(&mut self, who: Who, call: Call, room: u64, blank: Blank) -> Outcome
+    fn step_with<L: Ledger>(
+        &mut self,
+        who: Who,
+        call: &Call,
+        room: u64,
+        outcome: &mut Outcome,
+        blank: Blank,
+    )
         requires name { blank.name ≡ L.name }
         requires parts { blank.parts ≡ L.parts }
         requires one { blank.parts ≡ 1 }
-        requires in_range { IsCallInRange call }
+        requires in_range { IsCallInRange call.now }
         requires young { self.old.age < 2 ^ 47 }
-        ensures meets { (w : World) → StandsFor self.old w → Meets self.old self.new w (step w room who call) result }
-        ensures in_range { IsOutcomeInRange result }
+        ensures made { IsMade self.old self.new room who call.now outcome.new }
     {
         let mut steps = Steps::<L>::open(blank);
-        self.step_counted(who, call, room, &mut steps)
-    }
-
-    /// As `step`, and counts the nodes that a Take reads of the lists of callbacks: three at most, however many
-    /// callbacks are pending. Of any other call it counts none.
-    #[inline(always)]
-    pub fn step_counted<L: Ledger>(
-        &mut self,
-        who: Who,
-        call: Call,
-        room: u64,
-        steps: &mut Steps<L>,
-    ) -> Outcome
-        requires in_range { IsCallInRange call }
-        requires young { self.old.age < 2 ^ 47 }
-        ensures meets { (w : World) → StandsFor self.old w → Meets self.old self.new w (step w room who call) result }
-        ensures in_range { IsOutcomeInRange result }
-        ensures counted { steps.old ≤ steps.new }
-        ensures bound { call ≡ Call.Take → steps.new ≤ steps.old + 3 }
-    {
-        self.machine.step(who, call, room, &mut self.change, steps)
+        self.step_counted(who, call, room, outcome, &mut steps);
     }
 
     /// The number of entries for which the history must keep room: each running callback returns,

@@ -1,24 +1,26 @@
 //! A machine that is being played: what it remembers of the world, what the history owes, and its age.
 
-ghost use Rattle.std.specs.Prelude.{◌≡◌, ◌+◌, ◌^◌, ◌<◌, ◌≤◌, IfOk, nat_lt, option_map, true};
+ghost use Rattle.std.specs.Prelude.{◌≡◌, ◌+◌, ◌^◌, ◌<◌, ◌≤◌, IfOk, nat_lt, option_map, true, Some};
 ghost use Rattle.live_world.specs.Steps.{is_take};
-ghost use Rattle.pool_core.specs.Entered.{outcome_of_entry};
-ghost use Rattle.tp_base.specs.Ranges.{AreLimitsInRange, IsCallInRange, IsAnswerInRange, IsOutcomeInRange, IsRefusalInRange};
+ghost use Rattle.pool_plans.specs.Decided.{decided};
+ghost use Rattle.pool_core.specs.Entered.{outcome_of_entry, unless_dear};
+ghost use Rattle.pool_core.specs.Made.{IsMade};
+ghost use Rattle.tp_base.specs.Ranges.{AreLimitsInRange, IsCallInRange, IsOutcomeInRange, IsRefusalInRange};
 ghost use Rattle.tp_model.specs.World.{World, opening};
 ghost use Rattle.tp_model.specs.Counts.{owed};
 ghost use Rattle.tp_model.specs.Changes.{changed};
 ghost use Rattle.tp_model.specs.Over.{is_over, left_after, row_of};
 ghost use Rattle.tp_model.specs.Support.Allowed.{IsAllowed, price as price_of};
 ghost use Rattle.tp_model.specs.Support.Ranged.{IsChangeInRange};
-ghost use Rattle.tp_model.specs.Table.{step};
-ghost use Rattle.tp_model.specs.Support.Remembered.{StandsFor, Meets, remembered_in};
+ghost use Rattle.tp_model.specs.Table.{plan_at};
+ghost use Rattle.tp_model.specs.Support.Remembered.{StandsFor, remembered_in};
 
-use crate::decisions::Decision;
-use crate::plans::{plan, price};
+use crate::prices::price;
 use live_world::LiveWorld;
+use pool_plans::decisions::Decision;
 use std::alloc::{AllocError, Global};
-use std::marker::Model;
-use std::sync::ledger::Ledger;
+use std::marker::{Brand, Model};
+use std::sync::ledger::{Blank, Ledger};
 use steps::Steps;
 use tp_base::answers::{Answer, Outcome, Refusal};
 use tp_base::calls::Call;
@@ -63,34 +65,90 @@ impl Machine {
         })
     }
 
-    /// Makes a call of an actor. The change of an accepted call is written where the caller has a place
-    /// for it, so that no step begins by making one. `steps` counts the nodes that a Take reads.
+    /// The world that it remembers, for what is decided of a call. Few callbacks were made, where it is young.
     #[inline(always)]
-    pub(crate) fn step<L: Ledger>(
+    pub(crate) fn world(&self) -> &LiveWorld
+        requires young { self.now.age < 2 ^ 47 }
+        ensures world { result.now.world ≡ self.now.world }
+        ensures made { result.now.made ≡ self.now.made }
+        ensures few { self.now.made < 2 ^ 63 }
+    {
+        &self.live
+    }
+
+    /// Does what was decided of a call, and puts what that comes to where it is wanted. The change is that of an
+    /// accepted call, and its answer stands in the outcome already.
+    #[inline(always)]
+    pub(crate) fn settle(
         &mut self,
         who: Who,
         call: Call,
+        decision: Decision,
+        change: &Change,
         room: u64,
-        change: &mut Change,
-        steps: &mut Steps<L>,
-    ) -> Outcome
+        outcome: &mut Outcome,
+    )
         requires in_range { IsCallInRange call }
         requires young { self.old.age < 2 ^ 47 }
-        ensures meets { (w : World) → StandsFor self.old w → Meets self.old self.new w (step w room who call) result }
-        ensures in_range { IsOutcomeInRange result }
+        requires plan { decided decision outcome.old change.now ≡ Some (plan_at self.old.world (self.old.made + 1) room who call) }
+        ensures made { IsMade self.old self.new room who call outcome.new }
+    {
+        self.settle_with::<Brand>(who, call, decision, change, room, outcome, Blank::new(1));
+    }
+
+    // `settle` with a counter of its own.
+    #[inline(always)]
+    fn settle_with<L: Ledger>(
+        &mut self,
+        who: Who,
+        call: Call,
+        decision: Decision,
+        change: &Change,
+        room: u64,
+        outcome: &mut Outcome,
+        blank: Blank,
+    )
+        requires name { blank.name ≡ L.name }
+        requires parts { blank.parts ≡ L.parts }
+        requires one { blank.parts ≡ 1 }
+        requires in_range { IsCallInRange call }
+        requires young { self.old.age < 2 ^ 47 }
+        requires plan { decided decision outcome.old change.now ≡ Some (plan_at self.old.world (self.old.made + 1) room who call) }
+        ensures made { IsMade self.old self.new room who call outcome.new }
+    {
+        let mut steps = Steps::<L>::open(blank);
+        self.settle_counted(who, call, decision, change, room, outcome, &mut steps);
+    }
+
+    /// As `settle`, and counts the nodes that a Take reads.
+    #[inline(always)]
+    pub(crate) fn settle_counted<L: Ledger>(
+        &mut self,
+        who: Who,
+        call: Call,
+        decision: Decision,
+        change: &Change,
+        room: u64,
+        outcome: &mut Outcome,
+        steps: &mut Steps<L>,
+    )
+        requires in_range { IsCallInRange call }
+        requires young { self.old.age < 2 ^ 47 }
+        requires plan { decided decision outcome.old change.now ≡ Some (plan_at self.old.world (self.old.made + 1) room who call) }
+        ensures made { IsMade self.old self.new room who call outcome.new }
         ensures counted { steps.old ≤ steps.new }
-        ensures bound { call ≡ Call.Take → steps.new ≤ steps.old + 3 }
+        ensures bound { call ≡ Call.Take → steps.new ≤ steps.old + 2 }
     {
         self.live.is_reachable();
-        match plan(&self.live, who, call, room, change, steps) {
-            Decision::Looked(look) => Outcome::Look(look),
+        match decision {
+            Decision::Looked(look) => *outcome = Outcome::Look(look),
             Decision::Refused(refusal) => {
                 if let (Call::Advance { ticks }, Refusal::CallbackLimit) = (call, refusal) {
                     self.note_due(ticks);
                 }
-                refuse(refusal, room)
+                *outcome = refuse(refusal, room);
             }
-            Decision::Accepted(answer) => self.enter(answer, change, room, steps),
+            Decision::Accepted => self.enter(change, room, outcome, steps),
         }
     }
 
@@ -105,35 +163,35 @@ impl Machine {
         self.live.note_due(now);
     }
 
-    // Makes a change for an answer, where the history has room for what they cost.
+    // Makes a change, where the history has room for what it costs; else the outcome is Full.
     #[inline(always)]
     fn enter<L: Ledger>(
         &mut self,
-        answer: Answer,
         change: &Change,
         room: u64,
+        outcome: &mut Outcome,
         steps: &mut Steps<L>,
-    ) -> Outcome
+    )
         requires allowed { IsAllowed (self.old.made + 1) self.old.world change.now }
-        requires answer_in_range { IsAnswerInRange answer }
+        requires outcome_in_range { IsOutcomeInRange outcome.old }
         requires change_in_range { IsChangeInRange change.now }
         requires young { self.old.age < 2 ^ 47 }
-        ensures outcome { result ≡ outcome_of_entry room answer (price_of change.now) }
+        ensures outcome { outcome.new ≡ unless_dear room (price_of change.now) outcome.old }
         ensures after { self.new ≡ after_entry self.old room change.now }
-        ensures in_range { IsOutcomeInRange result }
+        ensures in_range { IsOutcomeInRange outcome.new }
         ensures counted { steps.old ≤ steps.new }
         ensures bound { is_take change.now ≡ true → steps.new ≤ steps.old + 2 }
     {
         let cost = price(change);
         if lacks_room(room, cost) {
-            return Outcome::Full { room, cost };
+            *outcome = Outcome::Full { room, cost };
+        } else {
+            self.apply(change, steps);
         }
-        self.apply(change, steps);
-        Outcome::Done(answer)
     }
 
     // Makes a change that the world allows, and counts what the history owes and the age.
-    #[inline(never)]
+    #[inline(always)]
     fn apply<L: Ledger>(&mut self, change: &Change, steps: &mut Steps<L>)
         requires allowed { IsAllowed (self.old.made + 1) self.old.world change.now }
         requires in_range { IsChangeInRange change.now }

@@ -35,8 +35,8 @@ module _ (i : Inside) (k : IsKept i) (apart : AreApart i.rows.held) (pool : ℕ)
       let nowhere = nowhere_first pool (rows_of i.rows.held) (no_pool i.lists.pools i.lists.objects pool past (λ (x : CallbackRow). is_pending x.status) (rows_of i.rows.held) k.homes) in
       subst (LeadsToNext i pool) (sym none) (record { held = tt; next = sym nowhere })
 
-pub row_behind-requires : goal.row_behind-requires
-row_behind-requires g c =
+pub lent_behind-requires : goal.lent_behind-requires
+lent_behind-requires g c =
     let i = c.self.inside in
     rw c.lines.ensures
     (elim c.if-pool-self.branch [
@@ -47,7 +47,7 @@ row_behind-requires g c =
 pub returns-clause-value : goal.returns-clause-value
 returns-clause-value g c =
     let i = c.self.inside in
-    let behind = c.row_behind.ensures ∙ ap (λ heads. row_behind heads i.rows.held c.if-pool-self.place) c.lines.ensures in
+    let behind = c.lent_behind.ensures ∙ ap (λ heads. row_behind heads i.rows.held c.if-pool-self.place) c.lines.ensures in
     rw (← c.self.view_is)
     (elim c.if-pool-self.branch [
       | then-pool-self w ↦ behind ∙ (first_leads i c.self.invariant c.len-known.ensures.apart c.args.pool.0 c.if-pool-self.place w.first_queue-line.result w.if-pool-self.true w.first_queue-line.ensures (w.place-is ∙ w.first-place.ensures.value)).next

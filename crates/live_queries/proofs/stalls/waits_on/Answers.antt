@@ -12,11 +12,11 @@ none_waits : (w : World) (room : ℕ) (who : Who) (wait : Option BegunWait) → 
 none_waits w room who None none = refl
 none_waits w room who (Some b) none = cc
 
-pub returns-then-not-is_begun : goal.returns-then-not-is_begun
-returns-then-not-is_begun c =
+pub returns-else-is_begun : goal.returns-else-is_begun
+returns-else-is_begun c =
     let w = c.args.world.now.world in
     let among : not c.is_begun.result ≡ is_none (wait_of w c.args.who)
     = ap not c.is_begun.ensures
     ∙ not_found (λ (b : BegunWait). is_same_actor b.actor c.args.who) c.waits.result.now.waits
     ∙ ap (λ (ws : List BegunWait). is_none (find (λ (b : BegunWait). is_same_actor b.actor c.args.who) ws)) c.waits.ensures in
-    none_waits w c.args.room c.args.who (wait_of w c.args.who) (sym among ∙ ap not c.if-not-is_begun.true)
+    c.if-is_begun.false ∙ none_waits w c.args.room c.args.who (wait_of w c.args.who) (sym among ∙ ap not c.if-is_begun.false)

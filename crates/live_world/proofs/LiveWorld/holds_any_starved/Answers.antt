@@ -13,7 +13,6 @@ use Rattle.live_world.proofs.Along.{number_of}
 use Rattle.live_world.proofs.Covering.{itself}
 use Rattle.live_world.proofs.Looking.{Looks, looking_first, looks, rises_strictly}
 use Rattle.live_world.proofs.Progress.{covered_here}
-use Rattle.live_world.proofs.Starving.{not_starved}
 use Rattle.live_world.proofs.Walks.{IsAmong}
 use Rattle.live_world.proofs.LiveWorld.holds_any_starved.Goals as goal
 use Rattle.live_world.proofs.LiveWorld.holds_any_starved.Goals.{In-Some}
@@ -43,9 +42,6 @@ one c =
     looks itself (λ n. option_map_or (is_starved c.args.self.now.world c.args.room) (callback_of c.args.self.now.world n) false) (held_by c.args.self.now.world c.args.who) 0 c.in-Some.callback.number (option_map number_of c.loop-next.next)
     (rises_strictly (held_by c.args.self.now.world c.args.who) (subst IsStrictlyIncreasing (covered_here c.self.inside c.args.self.now c.args.who c.args.waiter c.self.view_is c.self.invariant c.requires) c.first_held-next.ensures.rises))
     (ap (option_map number_of) c.in-Some.is) c.loop-next.invariant.looking
-
-pub returns-then-room-ge4 : goal.returns-then-room-ge4
-returns-then-room-ge4 c = sym (not_starved c.args.self.now.world c.args.room (held_by c.args.self.now.world c.args.who) c.if-room-ge4.true)
 
 pub loop-next-init : goal.loop-next-init
 loop-next-init c =

@@ -3,11 +3,8 @@ use Rattle.tp_model.specs.Laws.Entries.{is_among}
 use Rattle.live_world.specs.Waiting.{held_by}
 use Rattle.live_world.proofs.Covered.{nowhere}
 use Rattle.live_world.proofs.Progress.{covered_here}
-use Rattle.live_world.proofs.Starving.{first_is_kept, not_starved, starved_where}
+use Rattle.live_world.proofs.Starving.{first_is_kept, starved_where}
 use Rattle.live_world.proofs.LiveWorld.holds_starved.Goals as goal
-
-pub returns-then-room-ge4 : goal.returns-then-room-ge4
-returns-then-room-ge4 c = sym (not_starved c.args.self.now.world c.args.room (held_by c.args.self.now.world c.args.who) c.if-room-ge4.true)
 
 pub unreachable-requires : goal.unreachable-requires
 unreachable-requires c =
