@@ -88,10 +88,10 @@ pub fn pool_to_join(world: &LiveWorld) -> Option<u32>
 pub fn may_leave(world: &LiveWorld, pool: PoolId) -> bool
     ensures { result ≡ may_leave world.now.world pool.0 }
 {
-    let another = least_other_in_need(world, pool).is_some();
     let tally = world.tally(pool);
     tally.maximum < tally.attached
-        || (tally.pending == 0 && (tally.minimum < tally.available || another))
+        || (tally.pending == 0
+            && (tally.minimum < tally.available || least_other_in_need(world, pool).is_some()))
 }
 
 // Whether a callback of the pool is under way. Walks the callbacks.

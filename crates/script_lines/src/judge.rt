@@ -154,6 +154,7 @@ fn words_with(letter: u8) -> &'static [Word]
             Word::In,
             Word::Kind(Kind::Io),
         ],
+        b'k' => &[Word::How(false)],
         b'l' => &[Word::Let, Word::Long, Word::Priority(Priority::Low)],
         b'r' => &[
             Word::Routine,

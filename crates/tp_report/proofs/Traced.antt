@@ -1,10 +1,11 @@
 -- How far a trace has been read, and played.
 use Rattle.std.proofs.Common.{◌≡◌, ℕ, ◌+◌, ◌<◌, ◌≤◌, List, [], ◌∷◌, ◌++◌, length, take, drop, max, refl, sym, ap, ap₂, ◌∙◌, subst, arith, append_assoc, length-append}
-use Rattle.std.specs.Prelude.{All, map, fold}
+use Rattle.std.specs.Prelude.{map, fold}
 use Rattle.std.proofs.lemmas.List.{append-nil, nil_from_length, length-map, length-take-le, take-append-drop}
 use Rattle.std.proofs.lemmas.List.Elements.{All-nil, All-push, All-head, All-tail, All-map, All-weaker}
+use Rattle.std.proofs.Math.Seq.{drop-append_seam}
 use Rattle.line_grammar.specs.Language.{IsReadTo as IsReadAs, IsStuck}
-use Rattle.line_grammar.specs.Traces.{trace_text, IsTraceFault}
+use Rattle.line_grammar.specs.Traces.{trace_text, IsAhead, IsTraceFault}
 use Rattle.recorded.specs.ProgramLimits.{limits_with}
 use Rattle.recorded.specs.Recordings.{Recording, IsFirstOf, outcomes_behind}
 use Rattle.tp_base.specs.declared.answers.Outcome.{Outcome}
@@ -15,12 +16,12 @@ use Rattle.tp_lines.specs.Answers.{text_of_outcome}
 use Rattle.tp_lines.specs.Calls.{CallLines, IsWhoInRange}
 use Rattle.tp_lines.specs.Faults.{IsLine}
 use Rattle.tp_model.specs.History.{play}
-use Rattle.tp_report.specs.Playing.{IsPlayed, IsPlayedOf}
+use Rattle.tp_report.specs.Playing.{IsPlayed, IsPlayedOf, IsPlayedTo, IsReadTo}
 use Rattle.tp_report.specs.declared.playing.MachineSize.{MachineSize}
 use Rattle.tp_report.specs.Readings.{Ended}
-use Rattle.tp_report.specs.Traces.{line_of, HasLine, IsTraceOf, answers_text, client_number, clients_in}
+use Rattle.tp_report.specs.Traces.{line_of, HasLine, IsTraceOf, answers_text, client_number}
 use Rattle.tp_report.specs.declared.playing.Played.{Played}
-use Rattle.tp_report.proofs.EndedFacts.{read_first, stuck_first, reaches_line, absent_line}
+use Rattle.tp_report.proofs.EndedFacts.{ahead_read, read_first, stuck_first, reaches_line, absent_line}
 use Rattle.tp_report.proofs.Places.{call_part}
 
 -- ---- read
@@ -45,12 +46,6 @@ is_line made h = (made, h)
 
 has_line : (made : Who × Call) (line : List ℕ) → CallLines made line → HasLine made
 has_line made line h = subst (λ l. CallLines made l) h.split h
-
--- these calls were read, and this is left; and a trace of the bytes begins with them
-pub record IsReadTo (bytes : List ℕ) (calls : List (Who × Call)) (rest : List ℕ) : Type 0 where
-  pub have_lines : All HasLine calls
-  pub split : bytes ≡ lines_of calls ++ rest
-  pub only : (all : List (Who × Call)) → IsTraceOf bytes all → (tail : List (Who × Call)) × (all ≡ calls ++ tail) × IsTraceOf rest tail
 
 read_none : (bytes : List ℕ) → IsReadTo bytes [] bytes
 read_none bytes = record { have_lines = All-nil HasLine; split = refl; only = λ all trace. (all, refl, trace) }
@@ -123,16 +118,6 @@ number_most : (who : Who) → IsWhoInRange who → client_number who ≤ 16
 number_most (Client number) h = h.1
 number_most (Worker number) h = omega arith
 
--- the calls that were read were played on the book, and what they came to was printed; what further calls come to goes on
--- from there
-pub record IsPlayedTo (machine : MachineSize) (clients : ℕ) (bytes : List ℕ) (book : Recording) (text : List ℕ) (greatest lines : ℕ) (rest : List ℕ) : Type 0 where
-  pub calls : List (Who × Call)
-  pub read : IsReadTo bytes calls rest
-  pub counts : lines ≡ length calls
-  pub told : (more : List (Who × Call)) → text ++ answers_text (outcomes_behind book more) ≡ answers_text (play (limits_with clients machine.workers) machine.events (calls ++ more))
-  pub greatest_is : greatest ≡ clients_in calls
-  pub most : greatest ≤ 16
-
 pub played_none : (machine : MachineSize) (clients : ℕ) (bytes : List ℕ) (book : Recording) (text : List ℕ) → book.limits ≡ limits_with clients machine.workers → book.capacity ≡ machine.events → book.history ≡ [] → text ≡ []
     → IsPlayedTo machine clients bytes book text 0 0 bytes
 played_none machine clients bytes book text limits capacity empty none =
@@ -173,6 +158,23 @@ module _ (machine : MachineSize) (clients : ℕ) (bytes : List ℕ) (book : Reco
     greatest_is = is ∙ ap (λ n. max n (client_number made.0)) p.greatest_is ∙ sym (clients_push p.calls made 0);
     most = omega (arith, is, p.most, number_most made.0 read.text_of.is_line.who_in_range);
   }
+
+  -- the line of a call stands there once more
+  pub played_again : (new : Recording) (made : Who × Call) (line behind longer : List ℕ) (outcome : Outcome) → Ended CallLines made line → rest ≡ line ++ behind → IsFirstOf book new made.0 made.1 outcome
+      → longer ≡ text ++ (text_of_outcome outcome ++ 10 ∷ []) → client_number made.0 ≤ greatest → IsPlayedTo machine clients bytes new longer greatest (lines + 1) behind
+  played_again new made line behind longer outcome e split first printed most =
+      let size = length line in
+      let dropped : drop size rest ≡ behind = ap (drop size) split ∙ drop-append_seam line behind in
+      let ahead : IsAhead CallLines rest made size
+      = record {
+        line = e.line;
+        is_line = e.is_line;
+        split = split ∙ ap (λ l. l ++ behind) e.split ∙ append_assoc e.line (10 ∷ []) behind ∙ ap (λ l. e.line ++ 10 ∷ l) (sym dropped);
+        size_of = ap length e.split ∙ length-append e.line (10 ∷ []);
+        within = omega (arith, ap length split, length-append line behind);
+      } in
+      subst (λ r. IsPlayedTo machine clients bytes new longer greatest (lines + 1) r) dropped
+      (played_next new made size greatest outcome longer (ahead_read CallLines call_part rest made size ahead) first printed (omega (arith, most)))
 
   pub played_fault : (place : ℕ) → 0 < length rest → IsStuck (Ended CallLines) rest place → IsTraceFault IsLine bytes (lines + 1) (place + 1)
   played_fault place more stuck = subst (λ n. IsTraceFault IsLine bytes (n + 1) (place + 1)) (sym p.counts) (read_fault bytes p.calls rest p.read place more stuck)

@@ -1,11 +1,14 @@
 -- What calls come to on a machine of some size and number of clients.
-use Rattle.std.specs.Prelude.{◌≡◌, ℕ, List}
+use Rattle.std.specs.Prelude.{◌≡◌, ℕ, ◌≤◌, List, ◌++◌, length, map, All}
+use Rattle.line_grammar.specs.Traces.{trace_text}
 use Rattle.recorded.specs.ProgramLimits.{limits_with}
-use Rattle.recorded.specs.Recordings.{Recording}
+use Rattle.recorded.specs.Recordings.{Recording, IsFirstOf, outcomes_behind}
+use Rattle.tp_base.specs.declared.answers.Outcome.{Outcome}
+use Rattle.tp_base.specs.declared.answers.Outcome.TheVariants.{Done}
 use Rattle.tp_base.specs.declared.calls.Call.{Call}
 use Rattle.tp_base.specs.declared.ids.Who.{Who}
 use Rattle.tp_model.specs.History.{play}
-use Rattle.tp_report.specs.Traces.{IsTraceOf, answers_text, clients_in}
+use Rattle.tp_report.specs.Traces.{line_of, HasLine, IsTraceOf, answers_text, clients_in}
 use Rattle.tp_report.specs.declared.playing.MachineSize.{MachineSize}
 use Rattle.tp_report.specs.declared.playing.Played.{Played}
 
@@ -21,3 +24,24 @@ pub record IsPlayed (machine : MachineSize) (clients : ℕ) (bytes : List ℕ) (
 -- how large the machine of a recording is
 abbrev pub size_of : Recording → MachineSize
 size_of recording = record { workers = recording.limits.workers; events = recording.capacity }
+
+-- these calls were read, and this is left; and a trace of the bytes begins with them
+pub record IsReadTo (bytes : List ℕ) (calls : List (Who × Call)) (rest : List ℕ) : Type 0 where
+  pub have_lines : All HasLine calls
+  pub split : bytes ≡ trace_text (map line_of calls) ++ rest
+  pub only : (all : List (Who × Call)) → IsTraceOf bytes all → (tail : List (Who × Call)) × (all ≡ calls ++ tail) × IsTraceOf rest tail
+
+-- the calls that were read were played on the book, and what they came to was printed; what further calls come to goes on
+-- from there
+pub record IsPlayedTo (machine : MachineSize) (clients : ℕ) (bytes : List ℕ) (book : Recording) (text : List ℕ) (greatest lines : ℕ) (rest : List ℕ) : Type 0 where
+  pub calls : List (Who × Call)
+  pub read : IsReadTo bytes calls rest
+  pub counts : lines ≡ length calls
+  pub told : (more : List (Who × Call)) → text ++ answers_text (outcomes_behind book more) ≡ answers_text (play (limits_with clients machine.workers) machine.events (calls ++ more))
+  pub greatest_is : greatest ≡ clients_in calls
+  pub most : greatest ≤ 16
+
+-- a call that came to no entry comes to the same when it is made again
+abbrev pub IsSameAgain : Recording → Who → Call → Outcome → Type 0
+IsSameAgain book who call (Done answer) = Unit {0}
+IsSameAgain book who call told = IsFirstOf book book who call told

@@ -1,6 +1,6 @@
 //! Playing of traces.
 
-ghost use Rattle.std.specs.Prelude.{◌≡◌, ◌≤◌, ◌<◌, ◌-◌, ◌^◌, ◌++◌, ◌∷◌, [], List, IfErr, IfOk, OnOk, length, max};
+ghost use Rattle.std.specs.Prelude.{◌≡◌, ℕ, ◌+◌, ◌≤◌, ◌<◌, ◌-◌, ◌^◌, ◌++◌, ◌∷◌, [], List, IfErr, IfOk, IfSome, OnOk, length, max};
 ghost use Rattle.line_grammar.specs.Traces.{IsTraceFault};
 ghost use Rattle.recorded.specs.ProgramLimits.{limits_with};
 ghost use Rattle.recorded.specs.Recordings.{IsFirstOf, outcome_behind};
@@ -8,9 +8,12 @@ ghost use Rattle.tp_base.specs.declared.calls.Call.{Call as Made};
 ghost use Rattle.tp_base.specs.Ranges.{IsCallInRange};
 ghost use Rattle.tp_base.specs.declared.ids.Who.{Who as Actor};
 ghost use Rattle.tp_lines.specs.Answers.{text_of_outcome};
+ghost use Rattle.tp_lines.specs.Calls.{CallLines};
 ghost use Rattle.tp_lines.specs.Faults.{IsLine};
 ghost use Rattle.tp_report.specs.Faults.{IsOrNoMemory, IsPlace};
-ghost use Rattle.tp_report.specs.Playing.{IsPlayed, IsPlayedOf, size_of};
+ghost use Rattle.tp_report.specs.Playing.{IsPlayed, IsPlayedOf, IsPlayedTo, IsSameAgain, size_of};
+ghost use Rattle.tp_report.specs.Readings.{Ended};
+ghost use Rattle.tp_report.specs.declared.playing.MachineSize.{MachineSize as Size};
 ghost use Rattle.tp_report.specs.Traces.{client_number, IsMachineSize, IsOutput, IsOutputOf, IsTraceOf};
 
 use crate::faults::{TextFault, fault_behind};
@@ -117,7 +120,16 @@ fn play_calls<B: Recorded>(alloc: Global, book: &mut B, bytes: &[u8]) -> Result<
                 play_call(book, made.0, &made.1, &mut outcome, &mut text)?;
                 greatest = greater_client(greatest, made.0);
                 lines += 1;
-                (_, rest) = rest.split_at(size);
+                let (line, behind) = rest.split_at(size);
+                rest = play_again(
+                    book,
+                    &made,
+                    &mut outcome,
+                    line,
+                    behind,
+                    &mut lines,
+                    &mut text,
+                )?;
             }
         }
     }
@@ -125,6 +137,82 @@ fn play_calls<B: Recorded>(alloc: Global, book: &mut B, bytes: &[u8]) -> Result<
         text: text.into_text(),
         clients: greatest,
     })
+}
+
+// What stands behind the line, if the text begins with it. Most lines differ in their first bytes.
+#[inline(always)]
+fn behind_same<'a>(line: &[u8], text: &'a [u8]) -> Option<&'a [u8]>
+    ensures { IfSome result (λ rest. text.now ≡ line.now ++ rest.now) }
+{
+    match (line, text) {
+        ([_, a, b, c, ..], [_, x, y, z, ..]) if a == x && b == y && c == z => {
+            behind_whole(line, text)
+        }
+        _ => None,
+    }
+}
+
+// The same, by all bytes.
+#[inline(always)]
+fn behind_whole<'a>(line: &[u8], text: &'a [u8]) -> Option<&'a [u8]>
+    ensures { IfSome result (λ rest. text.now ≡ line.now ++ rest.now) }
+{
+    if !text.starts_with(line) {
+        return None;
+    }
+    let (_, rest) = text.split_at(line.len());
+    Some(rest)
+}
+
+// Plays the line of a call again, of which this was the outcome, as often as it follows, and answers what stands
+// behind it.
+#[inline(always)]
+fn play_again<'a, B: Recorded>(
+    book: &mut B,
+    made: &(Who, Call),
+    outcome: &mut Outcome,
+    line: &[u8],
+    text: &'a [u8],
+    lines: &mut u32,
+    out: &mut Lines,
+) -> Result<&'a [u8], AllocError>
+    requires line { Ended CallLines made.now line.now }
+    requires same { IsSameAgain (B.recording book.old) made.now.0 made.now.1 outcome.old }
+    requires few { lines.old + length text.now < 2 ^ 32 - 1 }
+    ensures shorter { IfOk result (λ rest. length rest.now ≤ length text.now) }
+    ensures plays { (machine : Size) (clients : ℕ) (bytes : List ℕ) (greatest : ℕ) → client_number made.now.0 ≤ greatest →
+        IsPlayedTo machine clients bytes (B.recording book.old) out.old greatest lines.old text.now →
+        IfOk result (λ rest. IsPlayedTo machine clients bytes (B.recording book.new) out.new greatest lines.new rest.now) }
+{
+    let mut rest = text;
+    while let Some(behind) = behind_same(line, rest) {
+        play_same(book, made.0, &made.1, outcome, out)?;
+        *lines += 1;
+        rest = behind;
+    }
+    Ok(rest)
+}
+
+// Makes a call again, of which this was the outcome, and appends the line of its outcome. What came to no entry comes to
+// the same, and isn't asked for.
+#[inline(never)]
+fn play_same<B: Recorded>(
+    book: &mut B,
+    who: Who,
+    call: &Call,
+    outcome: &mut Outcome,
+    lines: &mut Lines,
+) -> Result<(), AllocError>
+    requires in_range { IsCallInRange call.now }
+    requires same { IsSameAgain (B.recording book.old) who call.now outcome.old }
+    ensures first { IsFirstOf (B.recording book.old) (B.recording book.new) who call.now outcome.new }
+    ensures same { IsSameAgain (B.recording book.new) who call.now outcome.new }
+    ensures printed { OnOk result (lines.new ≡ lines.old ++ (text_of_outcome outcome.new ++ 10 ∷ [])) }
+{
+    if let Outcome::Done(_) = outcome {
+        book.step_into(who, call, outcome);
+    }
+    lines.outcome(outcome)
 }
 
 // Makes a call, and appends the line of its outcome, which is put where there is a place for it. On want of memory
@@ -139,6 +227,7 @@ fn play_call<B: Recorded>(
 ) -> Result<(), AllocError>
     requires { IsCallInRange call.now }
     ensures first { IsFirstOf (B.recording book.old) (B.recording book.new) who call.now (outcome_behind (B.recording book.old) who call.now) }
+    ensures same { IsSameAgain (B.recording book.new) who call.now outcome.new }
     ensures printed { OnOk result (lines.new ≡ lines.old ++ (text_of_outcome (outcome_behind (B.recording book.old) who call.now) ++ 10 ∷ [])) }
 {
     book.step_into(who, call, outcome);

@@ -98,7 +98,7 @@ fn note<'a>(known: &mut Known<'a>, line: Line, name: &'a [u8]) -> Result<(), All
 }
 
 // The first pass over a script: adds the names of its routines, which may be used before they are declared. The answer
-// is how many lines are not blank.
+// is how many lines there are.
 fn add_routines<'a>(routines: &mut Table<'a>, bytes: &'a [u8]) -> Result<usize, AllocError>
     requires { length bytes.now + 1 < 2 ^ 32 }
     ensures added { OnOk result (routines.new ≡ with_routines routines.old (lines_of bytes.now)) }
@@ -107,28 +107,23 @@ fn add_routines<'a>(routines: &mut Table<'a>, bytes: &'a [u8]) -> Result<usize, 
     let mut lines: usize = 0;
     let mut rest = bytes;
     while let Some((text, behind)) = next_line(rest) {
-        lines += add_routine(routines, text)?;
+        add_routine(routines, text)?;
+        lines += 1;
         rest = behind;
     }
     Ok(lines)
 }
 
-// Adds the routine of a line, if it begins one. The answer is 1 for a line that isn't blank, and 0 for another.
-fn add_routine<'a>(routines: &mut Table<'a>, text: &'a [u8]) -> Result<usize, AllocError>
+// Adds the routine of a line, if it begins one.
+fn add_routine<'a>(routines: &mut Table<'a>, text: &'a [u8]) -> Result<(), AllocError>
     requires { length text.now + 1 < 2 ^ 32 }
-    ensures added { OnOk result (routines.new ≡ with_routine routines.old (words_from 1 text.now)) }
-    ensures few { IfOk result (λ lines. lines ≤ 1) }
+    ensures { OnOk result (routines.new ≡ with_routine routines.old (words_from 1 text.now)) }
 {
-    let Some(head) = next_word(1, text) else {
-        return Ok(0);
-    };
-    if head.word == b"routine".as_slice() {
-        add_routine_behind(routines, head.column + head.word.len() as u32, head.rest)?;
-        return Ok(1);
-    }
-    match head.word {
-        [b'#', ..] => Ok(0),
-        _ => Ok(1),
+    match next_word(1, text) {
+        Some(head) if head.word == b"routine".as_slice() => {
+            add_routine_behind(routines, head.column + head.word.len() as u32, head.rest)
+        }
+        _ => Ok(()),
     }
 }
 

@@ -1,13 +1,15 @@
-use Rattle.std.proofs.Common.{◌≡◌, ◌<◌, length, arith, refl, subst, sym, ◌∙◌}
+use Rattle.std.proofs.Common.{◌≡◌, ◌+◌, ◌<◌, length, arith, refl, subst, sym, ◌∙◌}
 use Rattle.std.proofs.lemmas.Bool.{eqb-false, eqb-true}
 use Rattle.line_grammar.specs.Traces.{IsTraceFault}
 use Rattle.tp_lines.specs.Faults.{IsLine}
 use Rattle.tp_report.specs.Faults.{IsPlace}
-use Rattle.tp_report.specs.Playing.{IsPlayedOf, size_of}
+use Rattle.tp_report.specs.Playing.{IsPlayedOf, IsPlayedTo, size_of}
 use Rattle.tp_report.proofs.Traced.{played_none, played_few, played_next, played_fault, played_no, played_all, played_only}
 use Rattle.recorded.specs.Recordings.{outcome_behind}
 use Rattle.tp_report.proofs.Unanswered.{or_no_memory, no_place}
+use Rattle.tp_report.proofs.playing.play_calls.Given.{Over}
 use Rattle.tp_report.proofs.playing.play_calls.Goals as goal
+use Rattle.tp_report.proofs.playing.play_calls.Goals.{After-split_at}
 
 pub loop-rest-init : goal.loop-rest-init
 loop-rest-init g c =
@@ -34,13 +36,29 @@ returns-in-Err-clause-err g c =
     subst (λ f. IsPlace (IsTraceFault IsLine c.args.bytes.now) f) (sym c.fault_behind.ensures)
     (played_fault (size_of (g.B.Recorded.recording c.args.book.now)) (g.B.Recorded.recording c.args.book.now).limits.clients c.args.bytes.now (g.B.Recorded.recording l.book) l.text l.greatest l.lines l.rest.now l.invariant c.in-Err.place some c.in-Err.ensures)
 
-pub loop-rest-preserved : goal.loop-rest-preserved
-loop-rest-preserved g c =
+-- the call that was read is played
+next : (g : Over) (c : After-split_at g) → IsPlayedTo (size_of (g.B.Recorded.recording c.args.book.now)) (g.B.Recorded.recording c.args.book.now).limits.clients c.args.bytes.now
+    (g.B.Recorded.recording c.play_call.new.book) c.play_call.new.lines c.greater_client-greatest.result (c.loop-rest.lines + 1) c.split_at.result.1.now
+next g c =
     let l = c.loop-rest in
     rw c.split_at.ensures.back
     (played_next (size_of (g.B.Recorded.recording c.args.book.now)) (g.B.Recorded.recording c.args.book.now).limits.clients c.args.bytes.now (g.B.Recorded.recording l.book) l.text l.greatest l.lines l.rest.now l.invariant
     (g.B.Recorded.recording c.play_call.new.book) c.read_call.new.made c.in-Ok.size c.greater_client-greatest.result (outcome_behind (g.B.Recorded.recording l.book) c.read_call.new.made.0 c.read_call.new.made.1)
     c.play_call.new.lines c.in-Ok.ensures c.play_call.ensures.first c.in_ok-play_call-in-Ok.ensures.printed c.greater_client-greatest.ensures)
+
+pub play_again-requires-clause-few : goal.play_again-requires-clause-few
+play_again-requires-clause-few g c =
+    omega (
+      arith,
+      c.requires.few,
+      played_few (size_of (g.B.Recorded.recording c.args.book.now)) (g.B.Recorded.recording c.args.book.now).limits.clients c.args.bytes.now
+          (g.B.Recorded.recording c.play_call.new.book) c.play_call.new.lines c.greater_client-greatest.result (c.loop-rest.lines + 1) c.split_at.result.1.now (next g (goal.at.play_again-requires-clause-few g c).After-split_at),
+    )
+
+pub loop-rest-preserved : goal.loop-rest-preserved
+loop-rest-preserved g c =
+    c.in_ok-rest-in-Ok.ensures.plays (size_of (g.B.Recorded.recording c.args.book.now)) (g.B.Recorded.recording c.args.book.now).limits.clients c.args.bytes.now c.greater_client-greatest.result
+    (omega (arith, c.greater_client-greatest.ensures)) (next g (goal.at.loop-rest-preserved g c).After-split_at)
 
 pub returns-clause-ok : goal.returns-clause-ok
 returns-clause-ok g c =

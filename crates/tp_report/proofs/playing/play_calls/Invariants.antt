@@ -1,6 +1,5 @@
 use Rattle.std.proofs.Common.{length}
-use Rattle.tp_report.specs.Playing.{size_of}
-use Rattle.tp_report.proofs.Traced.{IsPlayedTo}
+use Rattle.tp_report.specs.Playing.{IsPlayedTo, size_of}
 use Rattle.tp_report.proofs.playing.play_calls.Given as goal
 
 abbrev pub invariant-loop-rest : goal.invariant-loop-rest
