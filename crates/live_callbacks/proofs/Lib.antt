@@ -1,13 +1,13 @@
 pub mod Following
 pub mod Found
-pub mod Keyed
+pub mod Holds
+pub mod Keeping
 pub mod Lines
+pub mod Marked
 pub mod Numbers
-pub mod OfRows
 pub mod Parts
 pub mod Queues
 pub mod Rising
 pub mod Settled
 pub mod Standing
-pub mod Threaded
 pub mod Tied

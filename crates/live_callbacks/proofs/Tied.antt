@@ -54,6 +54,10 @@ module _ (s : Slab CallbackRow) where
   number_among t g [] tied = refl
   number_among t g (e ∷ ls) tied = grind (arith, tied.0.same, number_among t g ls tied.1)
 
+  pub number_marked : (t marked : ℕ → Bool) (ls : List Entry) → AreTied ls → find t (map (λ (h : Held). h.row.number) (filter (λ (h : Held). marked h.key) (map (held_by s) ls))) ≡ option_map (λ (e : Entry). e.number) (find (λ e. t e.number) (filter (λ (e : Entry). marked e.key) ls))
+  number_marked t marked [] tied = refl
+  number_marked t marked (e ∷ ls) tied = grind (arith, tied.0.same, number_marked t marked ls tied.1)
+
   -- what is found leads to a row
   pub leads : (t : Entry → Bool) (o : Option Entry) (ls : List Entry) → AreTied ls → o ≡ find t ls → IfSome o (λ e. ContainsKey s e.key)
   leads t o [] tied is = rw is tt

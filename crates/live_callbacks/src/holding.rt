@@ -1,174 +1,181 @@
-//! What the waits that actors began hold of the rows: for each waiter a list of keys, by rising number.
+//! What the waits that actors began hold of the rows: by key and waiter a mark, and by waiter the number of the first.
 //!
-//! The lists are one `LinkedLists`, in which a key has a place for each waiter. Those of one key stand side by side,
-//! so that a row that leaves is looked for in few lines of memory; and it is looked for only where the key has a
-//! mark, which it has from when a wait first holds its row until that row leaves. Places are made as far as the
-//! greatest key that a wait ever held, so what no wait needs is reserved and not touched.
+//! The marks of one key stand side by side, and there are as many as the greatest key needs whose row a wait ever
+//! held, so what no wait needs is reserved and not touched. Which rows have a mark is looked for in the order of the
+//! rows themselves, and only where the first one is let go of.
 
-ghost use Rattle.std.specs.Prelude.{◌≡◌, ◌<◌, ◌^◌, [], IfOk, IfSome, false, length, map, replicate, slice_get, true};
-ghost use Rattle.live_callbacks.specs.Holding.{AreRising, behind_key, has_key, held_at, key_of, place_at, with_held_at, with_keyed, without_key};
+ghost use Rattle.std.specs.Prelude.{◌≡◌, ℕ, ◌+◌, ◌*◌, ◌<◌, ◌≤◌, ◌==◌, ◌&&◌, ◌||◌, not, None, Some, false, true, find, length, replicate, IfOk, slice_index_or, if◌then◌else◌, nat_lt, vec_capacity};
+ghost use Rattle.live_callbacks.specs.Holding.{first_of, has_room, held_in, is_awaited, is_first, is_marked, least, IsAlike};
 
-use crate::lists::{after_in, first_in, move_in};
-use linked_lists::LinkedLists;
+use crate::rows::Rows;
 use std::alloc::{AllocError, Global};
-use std::marker::Model;
 
 /// For each waiter what its wait holds.
 #[derive(Drop)]
 pub(crate) struct Holding {
-    waiters: u32,
-    // The list of a waiter has what its wait holds.
-    lists: LinkedLists,
+    pub waiters: u32,
+    // By key and waiter, whether the waiter's wait holds the row of the key. Behind the end stands no mark.
+    pub marks: Vec<bool>,
     // By key, whether a wait may hold its row.
-    awaited: Vec<bool>,
-}
-
-impl Model for Holding {
-    ghost use Rattle.std.specs.Prelude.{length};
-    ghost use Rattle.live_callbacks.specs.Holding.{Holdings};
-
-    ghost Value = { Holdings };
-
-    ghost use Rattle.live_callbacks.specs.Holding.{AreThreaded, shown_lists};
-
-    ghost view = { λ a. record { places = length a.awaited.items; lists = shown_lists a.waiters a.lists } };
-
-    ghost invariant = { λ a. AreThreaded a.waiters a.awaited.items a.lists };
-}
-
-// The place of a key in the list of a waiter.
-#[inline(always)]
-fn place_of(waiters: u32, key: u32, waiter: u32) -> u32
-    requires { place_at waiters key waiter < 2 ^ 32 }
-    ensures { result ≡ place_at waiters key waiter }
-{
-    waiters + key * waiters + waiter
+    pub awaited: Vec<bool>,
+    // By waiter, the number of the first row that its wait holds.
+    pub firsts: Vec<Option<u64>>,
 }
 
 impl Holding {
-    /// Nothing is held by any of `waiters` waiters. There is memory for all keys below `places`, in each list.
+    /// Nothing is held by any of `waiters` waiters. There is memory for all keys below `places`.
     ///
     /// An `AllocError` comes where that memory can't be had.
     pub fn open(alloc: Global, waiters: u32, places: u32) -> Result<Holding, AllocError>
-        ensures { IfOk result (λ made. made ≡ record { places = places; lists = replicate waiters [] }) }
+        ensures waiters { IfOk result (λ made. made.waiters ≡ waiters) }
+        ensures marks { IfOk result (λ made. (key waiter : ℕ) → is_marked made key waiter ≡ false) }
+        ensures awaited { IfOk result (λ made. length made.awaited.items ≡ places) }
+        ensures firsts { IfOk result (λ made. made.firsts.items ≡ replicate waiters None) }
+        ensures room { IfOk result (λ made. has_room places made) }
     {
-        let room = u64::from(waiters) + u64::from(places) * u64::from(waiters);
+        let room = u64::from(waiters) * u64::from(places);
         if room > u64::from(u32::MAX) {
             return Err(AllocError);
         }
+        let marks = Vec::with_capacity(alloc, room as usize)?;
         let awaited = vec![in alloc; false; places as usize]?;
-        let lists = LinkedLists::open(alloc, waiters, places * waiters)?;
+        let firsts = vec![in alloc; None; waiters as usize]?;
         Ok(Holding {
             waiters,
-            lists,
+            marks,
             awaited,
+            firsts,
         })
     }
 
-    /// How many waiters there may be.
+    // Where the mark of a key and a waiter stands.
     #[inline(always)]
-    pub fn waiters(&self) -> u32
-        ensures { result ≡ length self.now.lists }
+    fn place_of(&self, key: u32, waiter: u32) -> usize
+        ensures { result ≡ key * self.now.waiters + waiter }
     {
-        self.waiters
+        key as usize * self.waiters as usize + waiter as usize
     }
 
-    /// Lets a waiter's wait hold a row that it doesn't hold yet. It comes by its number.
+    /// Whether a waiter's wait holds the row of a key.
+    #[inline(always)]
+    pub fn is_marked(&self, key: u32, waiter: u32) -> bool
+        ensures { result ≡ is_marked self.now key waiter }
+    {
+        match self.marks.get(self.place_of(key, waiter)) {
+            Some(marked) => *marked,
+            None => false,
+        }
+    }
+
+    /// A waiter's wait holds the row of a key, which has this number.
     #[inline]
     pub fn hold(&mut self, waiter: u32, key: u32, number: u64)
-        requires waiter { waiter < length self.old.lists }
-        requires key { key < self.old.places }
-        requires free { has_key key (held_at self.old waiter) ≡ false }
-        requires rising { AreRising (held_at self.old waiter) }
-        ensures { self.new ≡ with_held_at self.old waiter (with_keyed (record { key = key; number = number }) (held_at self.old waiter)) }
+        requires key { key < length self.old.awaited.items }
+        requires waiter { waiter < self.old.waiters }
+        requires count { length self.old.firsts.items ≡ self.old.waiters }
+        requires room { has_room (length self.old.awaited.items) self.old }
+        ensures alike { IsAlike self.old self.new }
+        ensures marks { (k w : ℕ) → w < self.old.waiters → is_marked self.new k w ≡ (((k == key) && (w == waiter)) || is_marked self.old k w) }
+        ensures awaited { (k : ℕ) → is_awaited self.new k ≡ ((k == key) || is_awaited self.old k) }
+        ensures firsts { (w : ℕ) → first_of self.new w ≡ if w == waiter then Some (least number (first_of self.old waiter)) else first_of self.old w }
     {
-        let place = place_of(self.waiters, key, waiter);
-        move_in(&mut self.lists, waiter, place, number);
+        let place = self.place_of(key, waiter);
+        reach(&mut self.marks, place);
+        self.marks[place] = true;
         self.awaited[key as usize] = true;
+        let first = least(number, self.firsts[waiter as usize]);
+        self.firsts[waiter as usize] = Some(first);
     }
 
-    /// Lets a waiter's wait let go of a row. Nothing changes where it doesn't hold it.
+    /// A waiter's wait lets go of the row of a key, which has this number, if it holds it. Which is the first
+    /// one then, the rows tell.
     #[inline(always)]
-    pub fn let_go(&mut self, waiter: u32, key: u32)
-        requires waiter { waiter < length self.old.lists }
-        requires key { key < self.old.places }
-        ensures { self.new ≡ with_held_at self.old waiter (without_key key (held_at self.old waiter)) }
+    pub fn let_go(&mut self, waiter: u32, key: u32, number: u64, rows: &Rows)
+        requires waiter { waiter < self.old.waiters }
+        requires count { length self.old.firsts.items ≡ self.old.waiters }
+        ensures alike { IsAlike self.old self.new }
+        ensures marks { (k w : ℕ) → w < self.old.waiters → is_marked self.new k w ≡ (is_marked self.old k w && not ((k == key) && (w == waiter))) }
+        ensures awaited { (k : ℕ) → is_awaited self.new k ≡ is_awaited self.old k }
+        ensures firsts { (w : ℕ) → first_of self.new w ≡ if (w == waiter) && is_marked self.old key waiter && is_first number (first_of self.old w)
+            then find (λ n. nat_lt number n) (held_in self.new rows.now.held waiter) else first_of self.old w }
     {
-        let place = place_of(self.waiters, key, waiter);
-        move_in(&mut self.lists, self.waiters, place, 0);
-    }
-
-    /// Lets a waiter's wait let go of all that it holds.
-    pub fn let_go_all(&mut self, waiter: u32)
-        requires { waiter < length self.old.lists }
-        ensures { self.new ≡ with_held_at self.old waiter [] }
-    {
-        while let Some(key) = self.first(waiter) {
-            self.let_go(waiter, key);
+        if !self.is_marked(key, waiter) {
+            return;
+        }
+        let place = self.place_of(key, waiter);
+        self.marks[place] = false;
+        if is_first(number, self.firsts[waiter as usize]) {
+            let next = rows.next_held(number, self, waiter);
+            self.firsts[waiter as usize] = next;
         }
     }
 
-    /// Every wait lets go of a row. Looks for it only where a wait may hold it.
+    /// Every wait lets go of the row of a key, which had this number and isn't among the rows any more. It is
+    /// looked for only where a wait may hold it.
     #[inline(always)]
-    pub fn leave(&mut self, key: u32)
-        requires { key < self.old.places }
-        ensures { self.new ≡ record self.old { lists = map (without_key key) self.old.lists } }
+    pub fn leave(&mut self, key: u32, number: u64, rows: &Rows)
+        requires key { key < length self.old.awaited.items }
+        requires count { length self.old.firsts.items ≡ self.old.waiters }
+        requires marked { (w : ℕ) → w < self.old.waiters → is_marked self.old key w ≡ true → is_awaited self.old key ≡ true }
+        ensures alike { IsAlike self.old self.new }
+        ensures marks { (k w : ℕ) → w < self.old.waiters → is_marked self.new k w ≡ (is_marked self.old k w && not (k == key)) }
+        ensures awaited { (k : ℕ) → is_awaited self.new k ≡ (is_awaited self.old k && not (k == key)) }
+        ensures firsts { (w : ℕ) → w < self.old.waiters → first_of self.new w ≡ if is_marked self.old key w && is_first number (first_of self.old w)
+            then find (λ n. nat_lt number n) (held_in self.new rows.now.held w) else first_of self.old w }
     {
-        let _known = self.lists.owner(key);
         if self.awaited[key as usize] {
-            self.leave_all(key);
+            self.leave_all(key, number, rows);
         }
     }
 
-    // The same, in each list.
-    fn leave_all(&mut self, key: u32)
-        requires { key < self.old.places }
-        ensures { self.new ≡ record self.old { lists = map (without_key key) self.old.lists } }
+    // The same, of each waiter.
+    fn leave_all(&mut self, key: u32, number: u64, rows: &Rows)
+        requires key { key < length self.old.awaited.items }
+        requires count { length self.old.firsts.items ≡ self.old.waiters }
+        ensures alike { IsAlike self.old self.new }
+        ensures marks { (k w : ℕ) → w < self.old.waiters → is_marked self.new k w ≡ (is_marked self.old k w && not (k == key)) }
+        ensures awaited { (k : ℕ) → is_awaited self.new k ≡ (is_awaited self.old k && not (k == key)) }
+        ensures firsts { (w : ℕ) → w < self.old.waiters → first_of self.new w ≡ if is_marked self.old key w && is_first number (first_of self.old w)
+            then find (λ n. nat_lt number n) (held_in self.new rows.now.held w) else first_of self.old w }
     {
-        for waiter in 0..self.waiters() {
-            self.let_go(waiter, key);
+        for waiter in 0..self.waiters {
+            self.let_go(waiter, key, number, rows);
         }
-        let _known = self.lists.owner(key);
         self.awaited[key as usize] = false;
     }
+}
 
-    /// The key of the first row that a waiter's wait holds, or None where it holds none.
-    #[inline(always)]
-    pub fn first(&self, waiter: u32) -> Option<u32>
-        requires { waiter < length self.now.lists }
-        ensures first { result ≡ key_of (slice_get (held_at self.now waiter) 0) }
-        ensures within { IfSome result (λ key. key < self.now.places) }
-    {
-        let _known = self.lists.owner(waiter);
-        match first_in(&self.lists, waiter) {
-            Some(place) => Some((place - self.waiters) / self.waiters),
-            None => None,
-        }
+// Makes marks that aren't set, until there is one at this place.
+#[inline(always)]
+fn reach(marks: &mut Vec<bool>, place: usize)
+    requires { place < vec_capacity marks.old }
+    ensures there { place < length marks.new.items }
+    ensures same { (p : ℕ) → slice_index_or marks.new.items p false ≡ slice_index_or marks.old.items p false }
+    ensures capacity { vec_capacity marks.new ≡ vec_capacity marks.old }
+{
+    while marks.len() <= place {
+        marks.push_reserved(false);
     }
+}
 
-    /// The key that follows this one among what a waiter's wait holds, or None where it is the last.
-    #[inline(always)]
-    pub fn after(&self, waiter: u32, key: u32) -> Option<u32>
-        requires waiter { waiter < length self.now.lists }
-        requires key { key < self.now.places }
-        requires held { has_key key (held_at self.now waiter) ≡ true }
-        ensures { result ≡ key_of (behind_key key (held_at self.now waiter)) }
-    {
-        let place = place_of(self.waiters, key, waiter);
-        let _known = self.lists.owner(place);
-        match after_in(&self.lists, place) {
-            Some(place) => Some((place - self.waiters) / self.waiters),
-            None => None,
-        }
+// The number, or that of the first one where it comes before.
+#[inline(always)]
+fn least(number: u64, first: Option<u64>) -> u64
+    ensures { result ≡ least number first }
+{
+    match first {
+        Some(first) if first < number => first,
+        _ => number,
     }
+}
 
-    /// Whether a waiter's wait holds a row.
-    #[inline(always)]
-    pub fn holds(&self, waiter: u32, key: u32) -> bool
-        requires waiter { waiter < length self.now.lists }
-        requires key { key < self.now.places }
-        ensures { result ≡ has_key key (held_at self.now waiter) }
-    {
-        self.lists.owner(place_of(self.waiters, key, waiter)) == waiter
+// Whether this is the number of the first one.
+#[inline(always)]
+fn is_first(number: u64, first: Option<u64>) -> bool
+    ensures { result ≡ is_first number first }
+{
+    match first {
+        Some(first) => first == number,
+        None => false,
     }
 }

@@ -21,8 +21,8 @@
 //! ```
 //!
 //! What a call costs: nothing is searched but the number of a call, once. A row stands under one key while it
-//! lives, a vector of numbers leads to the keys (`rows`), and the places of a key in the lists are told by the
-//! key (`lists`), and among what waits hold by the key and the waiter (`holding`). A callback comes last into the
+//! lives, a vector of numbers leads to the keys (`rows`), the places of a key in the lists are told by the key
+//! (`lists`), and whether a wait holds its row by the key and the waiter (`holding`). A callback comes last into the
 //! lists where it is made. Where it becomes pending later, it goes behind those of lower numbers, from an end of
 //! its queue or from a number next to it (`beside`). It leaves a list in one step, wherever it stands there.
 
@@ -73,7 +73,7 @@ impl Model for LiveCallbacks {
     ghost Value = { Callbacks };
 
     ghost use Rattle.live_callbacks.specs.Held.{rows_of};
-    ghost use Rattle.live_callbacks.specs.Holding.{numbers_in};
+    ghost use Rattle.live_callbacks.specs.Holding.{all_held};
     ghost use Rattle.live_callbacks.specs.Kept.{IsKept};
 
     ghost view = { λ a. record {
@@ -81,7 +81,7 @@ impl Model for LiveCallbacks {
       pools = a.lists.pools;
       objects = a.lists.objects;
       rows = rows_of a.rows.held;
-      held = map numbers_in a.holding.lists;
+      held = all_held a.holding a.rows.held;
     } };
 
     ghost invariant = { IsKept };
@@ -403,7 +403,7 @@ impl LiveCallbacks {
         let to = self.lists.nowhere();
         let key = self.rows.remove(row.number).unwrap();
         self.operating -= operations(row);
-        self.holding.leave(key);
+        self.holding.leave(key, row.number, &self.rows);
         self.lists.settle(key, row.number, to, to.line, &mut steps);
     }
 }

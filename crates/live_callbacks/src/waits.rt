@@ -1,6 +1,6 @@
 //! What the waits that actors began hold of the callbacks.
 
-ghost use Rattle.std.specs.Prelude.{◌≡◌, ◌<◌, ◌==◌, [], IfSome, Some, false, find, length, nat_lt, option_map, slice_get, true};
+ghost use Rattle.std.specs.Prelude.{◌≡◌, ◌<◌, ◌==◌, [], IfSome, IsSome, Some, false, find, length, nat_lt, slice_get};
 ghost use Rattle.std.specs.List.Sorted.{IsStrictlyIncreasing};
 ghost use Rattle.live_callbacks.specs.Callbacks.{all_but, contains_number, held_of, with_held, with_number};
 
@@ -8,8 +8,7 @@ use crate::LiveCallbacks;
 use tp_base::rows::CallbackRow;
 
 impl LiveCallbacks {
-    /// Lets a waiter's wait hold a callback that it doesn't hold yet. It comes by its number: last, where that
-    /// is above all that the wait holds.
+    /// Lets a waiter's wait hold a callback that it doesn't hold yet.
     #[inline]
     pub fn hold(&mut self, waiter: u32, row: &CallbackRow)
         requires waiter { waiter < length self.old.held }
@@ -29,11 +28,11 @@ impl LiveCallbacks {
         ensures { self.new ≡ with_held self.old waiter (all_but number (held_of self.old waiter)) }
     {
         let _known = self.rows.len();
-        if waiter >= self.holding.waiters() {
+        if waiter >= self.holding.waiters {
             return;
         }
         if let Some(key) = self.rows.key_of(number) {
-            self.holding.let_go(waiter, key);
+            self.holding.let_go(waiter, key, number, &self.rows);
         }
     }
 
@@ -41,10 +40,9 @@ impl LiveCallbacks {
     pub fn let_go_all(&mut self, waiter: u32)
         ensures { self.new ≡ with_held self.old waiter [] }
     {
-        if waiter >= self.holding.waiters() {
-            return;
+        while let Some(number) = self.first_held(waiter) {
+            self.let_go(waiter, number);
         }
-        self.holding.let_go_all(waiter);
     }
 
     /// Whether a waiter's wait holds the callback of this number. Who is no waiter holds none.
@@ -53,46 +51,35 @@ impl LiveCallbacks {
         ensures { result ≡ contains_number number (held_of self.now waiter) }
     {
         let _known = self.rows.len();
-        if waiter >= self.holding.waiters() {
+        if waiter >= self.holding.waiters {
             return false;
         }
         match self.rows.key_of(number) {
-            Some(key) => self.holding.holds(waiter, key),
+            Some(key) => self.holding.is_marked(key, waiter),
             None => false,
         }
     }
 
-    /// The first callback that a waiter's wait holds, or None where it holds none.
+    /// The number of the first callback that a waiter's wait holds, or None where it holds none.
     #[inline]
-    pub fn first_held(&self, waiter: u32) -> Option<CallbackRow>
-        ensures first { option_map (λ c. c.number) result ≡ slice_get (held_of self.now waiter) 0 }
+    pub fn first_held(&self, waiter: u32) -> Option<u64>
+        ensures first { result ≡ slice_get (held_of self.now waiter) 0 }
         ensures rises { IsStrictlyIncreasing (held_of self.now waiter) }
-        ensures lives { IfSome result (λ row. find (λ c. c.number == row.number) self.now.rows ≡ Some row) }
     {
-        let _known = self.rows.len();
-        if waiter >= self.holding.waiters() {
+        if waiter >= self.holding.waiters {
             return None;
         }
-        match self.holding.first(waiter) {
-            Some(key) => Some(self.rows.at(key)),
-            None => None,
-        }
+        self.holding.firsts[waiter as usize]
     }
 
-    /// The callback that follows this one among what a waiter's wait holds, or None where it is the last.
-    #[inline]
-    pub fn next_held(&self, waiter: u32, row: &CallbackRow) -> Option<CallbackRow>
-        requires found { find (λ c. c.number == row.now.number) self.now.rows ≡ Some row.now }
-        requires held { contains_number row.now.number (held_of self.now waiter) ≡ true }
-        ensures next { option_map (λ c. c.number) result ≡ find (λ n. nat_lt row.now.number n) (held_of self.now waiter) }
-        ensures lives { IfSome result (λ row. find (λ c. c.number == row.number) self.now.rows ≡ Some row) }
+    /// The number of the first callback above this number that a waiter's wait holds, or None where there is none.
+    /// Goes along the callbacks.
+    pub fn next_held(&self, waiter: u32, number: u64) -> Option<u64>
+        ensures { result ≡ find (λ n. nat_lt number n) (held_of self.now waiter) }
     {
-        let _known = self.rows.len();
-        let _waiters = self.holding.waiters();
-        let key = self.rows.key_of(row.number).unwrap();
-        match self.holding.after(waiter, key) {
-            Some(key) => Some(self.rows.at(key)),
-            None => None,
+        if waiter >= self.holding.waiters {
+            return None;
         }
+        self.rows.next_held(number, &self.holding, waiter)
     }
 }

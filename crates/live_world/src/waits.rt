@@ -1,11 +1,13 @@
 //! The waits that actors have begun: how far each has come, and how they begin and end.
 
 ghost use Rattle.std.specs.Prelude.{◌≡◌, ℕ, ◌+◌, ◌^◌, ◌<◌, [], IfSome, None, Some, false, filter, is_none, length, slice_get};
+ghost use Rattle.std.specs.Option.{option_map_or};
 ghost use Rattle.tp_base.specs.declared.plans.WaitEnd.TheVariants.{Free};
 ghost use Rattle.tp_base.specs.declared.rows.WaitTarget.TheVariants.{Object};
 ghost use Rattle.tp_model.specs.Changes.{begin_wait};
 ghost use Rattle.tp_model.specs.Waits.{covered_of, is_cancelled_by, wait_of};
 ghost use Rattle.tp_model.specs.Calls.Waits.{is_starved, holds_starved};
+ghost use Rattle.tp_model.specs.Counts.{callback_of};
 ghost use Rattle.tp_model.specs.Support.Allowed.{IsAllowed, MayBegin};
 ghost use Rattle.tp_model.specs.Support.Ranged.{AreTakenAtMost};
 ghost use Rattle.tp_model.specs.Support.Sound.{IsRising};
@@ -133,13 +135,23 @@ impl LiveWorld {
         ensures { result ≡ holds_starved self.now.world room (held_by self.now.world who) }
     {
         let mut next = self.callbacks.first_held(waiter);
-        while let Some(callback) = next {
-            if self.is_starved(&callback, room) {
+        while let Some(number) = next {
+            if self.is_number_starved(number, room) {
                 return true;
             }
-            next = self.callbacks.next_held(waiter, &callback);
+            next = self.callbacks.next_held(waiter, number);
         }
         false
+    }
+
+    // Whether there is a callback of this number that is starved.
+    fn is_number_starved(&self, number: u64, room: u64) -> bool
+        ensures { result ≡ option_map_or (is_starved self.now.world room) (callback_of self.now.world number) false }
+    {
+        match self.callbacks.get(number) {
+            Some(callback) => self.is_starved(callback, room),
+            None => false,
+        }
     }
 
     // What is left of an actor's wait that holds nothing: the first of its notices, if it has one.
@@ -194,12 +206,10 @@ impl LiveWorld {
         match self.callbacks.first_held(waiter) {
             None => self.progress_free(who),
             Some(first) => {
-                if self.is_wait_starved(who, waiter, first.number, room) {
+                if self.is_wait_starved(who, waiter, first, room) {
                     Progress::Starved
                 } else {
-                    Progress::Holds {
-                        callback: first.number,
-                    }
+                    Progress::Holds { callback: first }
                 }
             }
         }

@@ -1,65 +1,57 @@
-use Rattle.std.proofs.Common.{◌∙◌, ℕ, List, ap, arith, is_some, refl, sym}
+use Rattle.std.proofs.Common.{◌≡◌, ◌∙◌, ◌<◌, ap, arith, is_some, refl, slice_set, sym}
 use Rattle.live_callbacks.specs.Callbacks.{Callbacks, with_number}
 use Rattle.live_callbacks.specs.Held.{rows_of}
-use Rattle.live_callbacks.specs.Holding.{Keyed, held_at, with_keyed}
-use Rattle.live_callbacks.proofs.Keyed.{numbers_has, numbers_with, others_of}
+use Rattle.live_callbacks.specs.Holding.{IsHolding, all_held, held_in}
+use Rattle.live_callbacks.proofs.Holds.{key_of_number, within}
+use Rattle.live_callbacks.proofs.Keeping.{held_at, kept_with, many}
 use Rattle.live_callbacks.proofs.Standing.{among, key_found}
-use Rattle.live_callbacks.proofs.OfRows.{key_of_number, numbers_at, of_rows_at, of_rows_set, ones, set_numbers, with_row, within}
 use Rattle.live_callbacks.proofs.LiveCallbacks.hold.Goals as goal
+use Rattle.live_callbacks.proofs.LiveCallbacks.hold.Goals.{After-hold}
 
 pub unwrap-key-requires : goal.unwrap-key-requires
 unwrap-key-requires c =
-    let i = c.self.inside in
     let row = c.args.row.now in
-    let is = among c.self.invariant.rising.0 i.rows.held row c.self.invariant.rising.1 c.len-known.ensures.apart (rw (← c.self.view_is) at c.requires.found) in
+    let is = among c.self.invariant.rising.0 c.self.inside.rows.held row c.self.invariant.rising.1 c.len-known.ensures.apart (rw (← c.self.view_is) at c.requires.found) in
     ap is_some (c.key_of.ensures ∙ key_found is row.number refl)
 
 pub hold-requires-clause-key : goal.hold-requires-clause-key
 hold-requires-clause-key c =
     let i = c.self.inside in
-    let key = key_of_number c.self.invariant.rising.0 c.args.row.now.number c.unwrap-key.result i.rows.held c.self.invariant.rising.1 c.len-known.ensures.apart (sym c.unwrap-key.ensures ∙ c.key_of.ensures) in
-    omega (arith, within i.rows.held c.len-known.ensures.apart c.args.row.now.number c.unwrap-key.result key i.rows.places c.len-known.ensures.within, c.self.invariant.keyed)
+    let of = key_of_number c.self.invariant.rising.0 c.args.row.now.number c.unwrap-key.result i.rows.held c.self.invariant.rising.1 c.len-known.ensures.apart (sym c.unwrap-key.ensures ∙ c.key_of.ensures) in
+    omega (arith, within i.rows.held c.args.row.now.number c.unwrap-key.result of i.rows.places c.len-known.ensures.within, c.self.invariant.holding.keys)
 
-pub hold-requires-clause-free : goal.hold-requires-clause-free
-hold-requires-clause-free c =
-    let i = c.self.inside in
-    let key = key_of_number c.self.invariant.rising.0 c.args.row.now.number c.unwrap-key.result i.rows.held c.self.invariant.rising.1 c.len-known.ensures.apart (sym c.unwrap-key.ensures ∙ c.key_of.ensures) in
-    let free = rw (← c.self.view_is) at c.requires.free in
-    let of = of_rows_at i.rows.held i.holding.lists c.args.waiter c.self.invariant.holding in
-    numbers_has c.unwrap-key.result c.args.row.now.number (held_at i.holding c.args.waiter) (ones i.rows.held c.len-known.ensures.apart c.args.row.now.number c.unwrap-key.result key (held_at i.holding c.args.waiter) of)
-    ∙ rw (numbers_at i.holding.lists c.args.waiter) at free
+pub hold-requires-clause-waiter : goal.hold-requires-clause-waiter
+hold-requires-clause-waiter c = let there = rw (← c.self.view_is) at c.requires.waiter in omega (arith, there, many c.self.inside.holding c.self.inside.rows.held)
 
-pub hold-requires-clause-rising : goal.hold-requires-clause-rising
-hold-requires-clause-rising c = (of_rows_at c.self.inside.rows.held c.self.inside.holding.lists c.args.waiter c.self.invariant.holding).rising
-
-pub invariant_of-self : goal.invariant_of-self
-invariant_of-self c =
+-- the wait holds it, and what is kept is kept
+done : (c : After-hold) → let i = c.self.inside in
+    IsHolding i.rows.places i.rows.held c.hold.new.self
+    × (all_held c.hold.new.self i.rows.held ≡ slice_set (all_held i.holding i.rows.held) c.args.waiter (with_number c.args.row.now.number (held_in i.holding i.rows.held c.args.waiter)))
+done c =
     let i = c.self.inside in
     let k = c.self.invariant in
     let n = c.args.row.now.number in
-    let key = key_of_number k.rising.0 n c.unwrap-key.result i.rows.held k.rising.1 c.len-known.ensures.apart (sym c.unwrap-key.ensures ∙ c.key_of.ensures) in
+    let there = rw (← c.self.view_is) at c.requires.waiter in
+    let at : c.args.waiter < i.holding.waiters = omega (arith, there, many i.holding i.rows.held) in
     let free = rw (← c.self.view_is) at c.requires.free in
-    let of = of_rows_at i.rows.held i.holding.lists c.args.waiter k.holding in
-    let new : Keyed = record { key = c.unwrap-key.result; number = n } in
-    rw c.hold.ensures
-    (record {
+    let of = key_of_number k.rising.0 n c.unwrap-key.result i.rows.held k.rising.1 c.len-known.ensures.apart (sym c.unwrap-key.ensures ∙ c.key_of.ensures) in
+    kept_with i.rows.places i.rows.held i.holding k.holding n c.unwrap-key.result k.rising.0 k.rising.1 of c.hold.new.self c.hold.ensures.alike c.args.waiter at
+    (rw (held_at i.holding i.rows.held c.args.waiter at) at free) c.hold.ensures.marks c.hold.ensures.awaited c.hold.ensures.firsts
+
+pub invariant_of-self : goal.invariant_of-self
+invariant_of-self c =
+    let k = c.self.invariant in
+    record {
       rising = k.rising;
       homes = k.homes;
       standing = k.standing;
       counted = k.counted;
-      keyed = k.keyed;
-      holding = of_rows_set i.rows.held i.holding.lists c.args.waiter (with_keyed new (held_at i.holding c.args.waiter)) k.holding
-          (with_row i.rows.held c.len-known.ensures.apart n c.unwrap-key.result key (held_at i.holding c.args.waiter) of (rw (numbers_at i.holding.lists c.args.waiter) at free));
-    })
+      holding = (done (goal.at.invariant_of-self c).After-hold).0;
+    }
 
 pub returns : goal.returns
 returns c =
     let i = c.self.inside in
-    let n = c.args.row.now.number in
-    let free = rw (← c.self.view_is) at c.requires.free in
-    let new : Keyed = record { key = c.unwrap-key.result; number = n } in
-    let xs = held_at i.holding c.args.waiter in
-    rw (← c.self.view_is, c.hold.ensures)
-    (ap (λ (ns : List (List ℕ)). let v : Callbacks = record { slots = i.rows.slots; pools = i.lists.pools; objects = i.lists.objects; rows = rows_of i.rows.held; held = ns } in v)
-    (set_numbers i.holding.lists c.args.waiter (with_keyed new xs) _
-    (numbers_with new xs (others_of n xs (rw (numbers_at i.holding.lists c.args.waiter) at free)) ∙ ap (with_number n) (sym (numbers_at i.holding.lists c.args.waiter)))))
+    let there = rw (← c.self.view_is) at c.requires.waiter in
+    let at : c.args.waiter < i.holding.waiters = omega (arith, there, many i.holding i.rows.held) in
+    rw (← c.self.view_is, held_at i.holding i.rows.held c.args.waiter at) (ap (λ ns. let v : Callbacks = record { slots = i.rows.slots; pools = i.lists.pools; objects = i.lists.objects; rows = rows_of i.rows.held; held = ns } in v) (done c).1)

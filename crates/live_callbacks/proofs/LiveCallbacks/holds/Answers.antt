@@ -1,33 +1,24 @@
-use Rattle.std.proofs.Common.{◌∙◌, ap, arith, sym}
-use Rattle.live_callbacks.specs.Callbacks.{contains_number}
-use Rattle.live_callbacks.specs.Holding.{held_at}
-use Rattle.live_callbacks.proofs.Keyed.{has_other, numbers_has}
-use Rattle.live_callbacks.proofs.OfRows.{are_other, key_of_number, no_key, numbers_at, of_rows_at, ones, within}
+use Rattle.std.proofs.Common.{◌∙◌, refl, sym}
+use Rattle.live_callbacks.specs.Holding.{is_marked}
+use Rattle.live_callbacks.proofs.Holds.{key_of_number, no_key, picked_has, picked_none}
+use Rattle.live_callbacks.proofs.Keeping.{held_at, held_past}
 use Rattle.live_callbacks.proofs.LiveCallbacks.holds.Goals as goal
 
-pub holds-requires-clause-key : goal.holds-requires-clause-key
-holds-requires-clause-key c =
+pub returns-then-waiter-self : goal.returns-then-waiter-self
+returns-then-waiter-self c =
     let i = c.self.inside in
-    let key = key_of_number c.self.invariant.rising.0 c.args.number c.in-Some.key i.rows.held c.self.invariant.rising.1 c.len-known.ensures.apart c.in-Some.ensures in
-    omega (arith, within i.rows.held c.len-known.ensures.apart c.args.number c.in-Some.key key i.rows.places c.len-known.ensures.within, c.self.invariant.keyed)
+    rw (← c.self.view_is, held_past i.holding i.rows.held c.args.waiter c.if-waiter-self.true) refl
 
 pub returns-in-Some : goal.returns-in-Some
 returns-in-Some c =
     let i = c.self.inside in
-    let n = c.args.number in
-    let key = key_of_number c.self.invariant.rising.0 n c.in-Some.key i.rows.held c.self.invariant.rising.1 c.len-known.ensures.apart c.in-Some.ensures in
-    let of = of_rows_at i.rows.held i.holding.lists c.args.waiter c.self.invariant.holding in
-    let xs = held_at i.holding c.args.waiter in
-    rw (← c.self.view_is)
-    (c.holds.ensures
-    ∙ numbers_has c.in-Some.key n xs (ones i.rows.held c.len-known.ensures.apart n c.in-Some.key key xs of)
-    ∙ ap (contains_number n) (sym (numbers_at i.holding.lists c.args.waiter)))
+    let k = c.self.invariant in
+    let of = key_of_number k.rising.0 c.args.number c.in-Some.key i.rows.held k.rising.1 c.len-known.ensures.apart c.in-Some.ensures in
+    rw (← c.self.view_is, held_at i.holding i.rows.held c.args.waiter c.if-waiter-self.false)
+    (c.is_marked.ensures ∙ picked_has (λ key. is_marked i.holding key c.args.waiter) c.args.number c.in-Some.key 0 k.rising.0 i.rows.held k.rising.1 of.one of.held of.found)
 
 pub returns-in-None : goal.returns-in-None
 returns-in-None c =
     let i = c.self.inside in
-    let n = c.args.number in
-    let of = of_rows_at i.rows.held i.holding.lists c.args.waiter c.self.invariant.holding in
-    let xs = held_at i.holding c.args.waiter in
-    let other = are_other i.rows.held n xs (no_key i.rows.held n c.in-None.ensures) of in
-    rw (← c.self.view_is) (sym (ap (contains_number n) (numbers_at i.holding.lists c.args.waiter) ∙ has_other n xs other))
+    rw (← c.self.view_is, held_at i.holding i.rows.held c.args.waiter c.if-waiter-self.false)
+    (sym (picked_none (λ key. is_marked i.holding key c.args.waiter) c.args.number i.rows.held (no_key i.rows.held c.args.number c.in-None.ensures)))

@@ -1,10 +1,9 @@
-use Rattle.std.proofs.Common.{cond, not, option_map, slice_get, Some, sym, ap, ◌∙◌}
+use Rattle.std.proofs.Common.{cond, not, slice_get, Some, sym, ap, ◌∙◌}
 use Rattle.tp_base.specs.Actors.{is_same_actor}
 use Rattle.tp_model.specs.World.{BegunWait}
 use Rattle.live_callbacks.specs.Callbacks.{held_of}
 use Rattle.live_world.specs.declared.waits.Progress.TheVariants.{Starved, Holds}
 use Rattle.live_world.specs.View.{shown}
-use Rattle.live_world.proofs.Along.{number_of}
 use Rattle.live_world.proofs.Covered.{not_found, placed}
 use Rattle.live_world.proofs.Progress.{covered_is, not_begun, begun_free, begun_holds, begun_acquires}
 use Rattle.live_world.proofs.LiveWorld.progress.Goals as goal
@@ -26,28 +25,28 @@ pub returns-in-None : goal.returns-in-None
 returns-in-None c =
     c.progress_free.ensures
     ∙ rw (← c.self.view_is) (begun_free (shown c.self.inside).world c.args.room c.args.who (held_of c.self.inside.callbacks c.unwrap-waiter.result)
-    (option_map number_of c.first_held.result) (sym c.is_begun.ensures ∙ c.if-not-is_begun.false) (sym c.wanted.ensures ∙ c.in_default.is)
-    (covered_is c.self.inside c.args.who c.unwrap-waiter.result c.self.invariant (sym c.place.ensures.value ∙ c.unwrap-waiter.ensures)) c.first_held.ensures.first (ap (option_map number_of) c.in-None.is))
+    c.first_held.result (sym c.is_begun.ensures ∙ c.if-not-is_begun.false) (sym c.wanted.ensures ∙ c.in_default.is)
+    (covered_is c.self.inside c.args.who c.unwrap-waiter.result c.self.invariant (sym c.place.ensures.value ∙ c.unwrap-waiter.ensures)) c.first_held.ensures.first c.in-None.is)
 
 pub is_wait_starved-requires-clause-at : goal.is_wait_starved-requires-clause-at
 is_wait_starved-requires-clause-at c = rw (← c.self.view_is) (placed c.args.who (Some c.unwrap-waiter.result) (sym c.place.ensures.value ∙ c.unwrap-waiter.ensures) c.self.invariant.covered)
 
 pub is_wait_starved-requires-clause-first : goal.is_wait_starved-requires-clause-first
 is_wait_starved-requires-clause-first c =
-    rw (← c.self.view_is) (ap (λ ns. slice_get ns 0) (sym (covered_is c.self.inside c.args.who c.unwrap-waiter.result c.self.invariant (sym c.place.ensures.value ∙ c.unwrap-waiter.ensures))) ∙ sym c.first_held.ensures.first ∙ ap (option_map number_of) c.in-Some-first_held.is)
+    rw (← c.self.view_is) (ap (λ ns. slice_get ns 0) (sym (covered_is c.self.inside c.args.who c.unwrap-waiter.result c.self.invariant (sym c.place.ensures.value ∙ c.unwrap-waiter.ensures))) ∙ sym c.first_held.ensures.first ∙ c.in-Some-first_held.is)
 
 pub returns-else-is_wait_starved : goal.returns-else-is_wait_starved
 returns-else-is_wait_starved c =
-    ap (λ b. cond b Starved (Holds c.in-Some-first_held.first.number)) (sym c.if-is_wait_starved.false ∙ c.is_wait_starved.ensures)
+    ap (λ b. cond b Starved (Holds c.in-Some-first_held.first)) (sym c.if-is_wait_starved.false ∙ c.is_wait_starved.ensures)
     ∙ rw (← c.self.view_is) (begun_holds (shown c.self.inside).world c.args.room c.args.who (held_of c.self.inside.callbacks c.unwrap-waiter.result)
-    (option_map number_of c.first_held.result) c.in-Some-first_held.first.number (sym c.is_begun.ensures ∙ c.if-not-is_begun.false)
+    c.first_held.result c.in-Some-first_held.first (sym c.is_begun.ensures ∙ c.if-not-is_begun.false)
     (sym c.wanted.ensures ∙ c.in_default.is) (covered_is c.self.inside c.args.who c.unwrap-waiter.result c.self.invariant
-    (sym c.place.ensures.value ∙ c.unwrap-waiter.ensures)) c.first_held.ensures.first (ap (option_map number_of) c.in-Some-first_held.is))
+    (sym c.place.ensures.value ∙ c.unwrap-waiter.ensures)) c.first_held.ensures.first c.in-Some-first_held.is)
 
 pub returns-then-is_wait_starved : goal.returns-then-is_wait_starved
 returns-then-is_wait_starved c =
-    ap (λ b. cond b Starved (Holds c.in-Some-first_held.first.number)) (sym c.if-is_wait_starved.true ∙ c.is_wait_starved.ensures)
+    ap (λ b. cond b Starved (Holds c.in-Some-first_held.first)) (sym c.if-is_wait_starved.true ∙ c.is_wait_starved.ensures)
     ∙ rw (← c.self.view_is) (begun_holds (shown c.self.inside).world c.args.room c.args.who (held_of c.self.inside.callbacks c.unwrap-waiter.result)
-    (option_map number_of c.first_held.result) c.in-Some-first_held.first.number (sym c.is_begun.ensures ∙ c.if-not-is_begun.false)
+    c.first_held.result c.in-Some-first_held.first (sym c.is_begun.ensures ∙ c.if-not-is_begun.false)
     (sym c.wanted.ensures ∙ c.in_default.is) (covered_is c.self.inside c.args.who c.unwrap-waiter.result c.self.invariant
-    (sym c.place.ensures.value ∙ c.unwrap-waiter.ensures)) c.first_held.ensures.first (ap (option_map number_of) c.in-Some-first_held.is))
+    (sym c.place.ensures.value ∙ c.unwrap-waiter.ensures)) c.first_held.ensures.first c.in-Some-first_held.is)
