@@ -50,11 +50,11 @@ none_holding places waiters o keys count firsts room none = record {
 }
 
 module _ (old new : Holding) (hs gs : List Held) (waiters : new.waiters ≡ old.waiters) where
-  pub all_kept : ((w : ℕ) → w < old.waiters → held_in new gs w ≡ held_in old hs w) → all_held new gs ≡ all_held old hs
+  all_kept : ((w : ℕ) → w < old.waiters → held_in new gs w ≡ held_in old hs w) → all_held new gs ≡ all_held old hs
   all_kept each = ext_get_or [] (all_held new gs) (all_held old hs) (many new gs ∙ waiters ∙ sym (many old hs))
       (λ w lt. let at : w < old.waiters = omega (arith, lt, many new gs, waiters) in held_at new gs w (omega (arith, at, waiters)) ∙ each w at ∙ sym (held_at old hs w at))
 
-  pub all_mapped : (f : List ℕ → List ℕ) → f [] ≡ [] → ((w : ℕ) → w < old.waiters → held_in new gs w ≡ f (held_in old hs w)) → all_held new gs ≡ map f (all_held old hs)
+  all_mapped : (f : List ℕ → List ℕ) → f [] ≡ [] → ((w : ℕ) → w < old.waiters → held_in new gs w ≡ f (held_in old hs w)) → all_held new gs ≡ map f (all_held old hs)
   all_mapped f none each = ext_get_or [] (all_held new gs) (map f (all_held old hs)) (many new gs ∙ waiters ∙ sym (length-map (all_held old hs) f ∙ many old hs))
       (λ w lt. let at : w < old.waiters = omega (arith, lt, many new gs, waiters) in held_at new gs w (omega (arith, at, waiters)) ∙ each w at ∙ ap f (sym (held_at old hs w at)) ∙ sym (mapped (all_held old hs) w))
     where
@@ -63,7 +63,7 @@ module _ (old new : Holding) (hs gs : List Held) (waiters : new.waiters ≡ old.
       mapped (l ∷ ls) zero = refl
       mapped (l ∷ ls) (suc i) = mapped ls i
 
-  pub all_set : (waiter : ℕ) (ns : List ℕ) → waiter < old.waiters → held_in new gs waiter ≡ ns → ((w : ℕ) → w < old.waiters → w ≢ waiter → held_in new gs w ≡ held_in old hs w) → all_held new gs ≡ slice_set (all_held old hs) waiter ns
+  all_set : (waiter : ℕ) (ns : List ℕ) → waiter < old.waiters → held_in new gs waiter ≡ ns → ((w : ℕ) → w < old.waiters → w ≢ waiter → held_in new gs w ≡ held_in old hs w) → all_held new gs ≡ slice_set (all_held old hs) waiter ns
   all_set waiter ns there own others =
       ext_get_or [] (all_held new gs) (slice_set (all_held old hs) waiter ns) (many new gs ∙ waiters ∙ sym (length-set (all_held old hs) waiter ns ∙ many old hs))
       (λ w lt.

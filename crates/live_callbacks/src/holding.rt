@@ -4,7 +4,7 @@
 //! held, so what no wait needs is reserved and not touched. Which rows have a mark is looked for in the order of the
 //! rows themselves, and only where the first one is let go of.
 
-ghost use Rattle.std.specs.Prelude.{◌≡◌, ℕ, ◌+◌, ◌*◌, ◌<◌, ◌≤◌, ◌==◌, ◌&&◌, ◌||◌, not, None, Some, false, true, find, length, replicate, IfOk, slice_index_or, if◌then◌else◌, nat_lt, vec_capacity};
+ghost use Rattle.std.specs.Prelude.{◌≡◌, ℕ, ◌+◌, ◌*◌, ◌<◌, ◌==◌, ◌&&◌, ◌||◌, not, None, Some, false, true, find, length, replicate, IfOk, slice_index_or, if◌then◌else◌, nat_lt, vec_capacity};
 ghost use Rattle.live_callbacks.specs.Holding.{first_of, has_room, held_in, is_awaited, is_first, is_marked, least, IsAlike};
 
 use crate::rows::Rows;

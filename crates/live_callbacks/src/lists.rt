@@ -1,10 +1,9 @@
 //! The lists in which a callback stands, in three families: what it waits for, what it is outstanding for, and
 //! its group. In each it is in one list or in none, at the place of its key.
 
-ghost use Rattle.std.specs.Prelude.{◌≡◌, ◌≢◌, ◌+◌, ◌*◌, ◌<◌, ◌≤◌, ◌^◌, [], IfOk, IfSome, false, length, slice_get, true};
+ghost use Rattle.std.specs.Prelude.{◌≡◌, ◌+◌, ◌*◌, ◌<◌, ◌≤◌, ◌^◌, [], IfOk, IfSome, false, length, slice_get, true};
 ghost use Rattle.std.specs.Option.{option_copied};
-ghost use Rattle.linked_lists.specs.Moved.{IsCommon, IsMoved};
-ghost use Rattle.linked_lists.specs.Linked.{AreInOrder, AreOwned, IsOf, list_of, owner_of, place_after};
+ghost use Rattle.linked_lists.specs.Linked.{IsOf, list_of, owner_of, place_after};
 ghost use Rattle.tp_model.specs.Counts.{is_pending};
 ghost use Rattle.live_callbacks.specs.Families.{AreSettled, HaveRoom, IsNowhere, IsStanding, OnlyLeaves, StandIn};
 ghost use Rattle.live_callbacks.specs.Held.{IsHeldAt, row_behind as row_behind_place};
@@ -158,37 +157,6 @@ fn after_with<L: Ledger>(lists: &LinkedLists, place: u32, blank: Blank) -> Optio
 {
     let mut steps = Steps::<L>::open(blank);
     lists.after(place, &mut steps)
-}
-
-// A place comes to this list by its number, or where there is no such list it leaves the one that it is in.
-#[inline(always)]
-pub(crate) fn move_in(lists: &mut LinkedLists, list: u32, place: u32, number: u64)
-    requires list { list ≤ length lists.old.lists }
-    requires place { IsCommon lists.old place }
-    requires order { list < length lists.old.lists → AreInOrder lists.old.numbers (list_of lists.old list) }
-    ensures owned { AreOwned lists.old }
-    ensures moves { owner_of lists.old place ≢ list → IsMoved lists.old lists.new place list number }
-    ensures none { list ≡ length lists.old.lists → IsMoved lists.old lists.new place list number }
-{
-    move_with::<Brand>(lists, list, place, number, Blank::new(1))
-}
-
-// `move_in` with a counter of its own.
-#[inline(always)]
-fn move_with<L: Ledger>(lists: &mut LinkedLists, list: u32, place: u32, number: u64, blank: Blank)
-    requires name { blank.name ≡ L.name }
-    requires parts { blank.parts ≡ L.parts }
-    requires one { blank.parts ≡ 1 }
-    requires list { list ≤ length lists.old.lists }
-    requires place { IsCommon lists.old place }
-    requires order { list < length lists.old.lists → AreInOrder lists.old.numbers (list_of lists.old list) }
-    ensures owned { AreOwned lists.old }
-    ensures moves { owner_of lists.old place ≢ list → IsMoved lists.old lists.new place list number }
-    ensures none { list ≡ length lists.old.lists → IsMoved lists.old lists.new place list number }
-{
-    let mut steps = Steps::<L>::open(blank);
-    let _known = lists.owner(place);
-    lists.move_to(list, list, place, number, &mut steps);
 }
 
 // The row whose key has this place, behind so many places of lists, lent.

@@ -147,15 +147,6 @@ impl Rows {
         &self.rows[key as usize]
     }
 
-    /// The same, copied.
-    #[inline(always)]
-    pub fn at(&self, key: u32) -> CallbackRow
-        requires { IsSome (find (λ h. h.key == key) self.now.held) }
-        ensures { Some result ≡ option_map (λ h. h.row) (find (λ h. h.key == key) self.now.held) }
-    {
-        *self.lend(key)
-    }
-
     /// The first row of a group, or None where it has none. Goes along the rows.
     pub fn first_of_group(&self, group: GroupId) -> Option<CallbackRow>
         ensures { result ≡ find (λ c. c.group.0 == group.0) (rows_of self.now.held) }

@@ -1,6 +1,6 @@
 //! What the waits that actors began hold of the callbacks.
 
-ghost use Rattle.std.specs.Prelude.{◌≡◌, ◌<◌, ◌==◌, [], IfSome, IsSome, Some, false, find, length, nat_lt, slice_get};
+ghost use Rattle.std.specs.Prelude.{◌≡◌, ◌<◌, ◌==◌, [], Some, false, find, length, nat_lt, slice_get};
 ghost use Rattle.std.specs.List.Sorted.{IsStrictlyIncreasing};
 ghost use Rattle.live_callbacks.specs.Callbacks.{all_but, contains_number, held_of, with_held, with_number};
 
