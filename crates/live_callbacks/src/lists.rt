@@ -3,7 +3,7 @@
 
 ghost use Rattle.std.specs.Prelude.{◌≡◌, ◌+◌, ◌*◌, ◌<◌, ◌≤◌, ◌^◌, [], IfOk, IfSome, false, length, slice_get, true};
 ghost use Rattle.std.specs.Option.{option_copied};
-ghost use Rattle.linked_lists.specs.Linked.{IsOf, list_of, owner_of, place_after};
+ghost use Rattle.linked_lists.specs.Linked.{AreInOrder, IsOf, list_of, owner_of, place_after};
 ghost use Rattle.tp_model.specs.Counts.{is_pending};
 ghost use Rattle.live_callbacks.specs.Families.{AreSettled, HaveRoom, IsNowhere, IsStanding, OnlyLeaves, StandIn};
 ghost use Rattle.live_callbacks.specs.Held.{IsHeldAt, row_behind as row_behind_place};
