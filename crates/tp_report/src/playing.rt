@@ -121,6 +121,10 @@ fn play_calls<B: Recorded>(alloc: Global, book: &mut B, bytes: &[u8]) -> Result<
                 greatest = greater_client(greatest, made.0);
                 lines += 1;
                 let (line, behind) = rest.split_at(size);
+                if !may_follow(line, behind) {
+                    rest = behind;
+                    continue;
+                }
                 rest = play_again(
                     book,
                     &made,
@@ -139,22 +143,20 @@ fn play_calls<B: Recorded>(alloc: Global, book: &mut B, bytes: &[u8]) -> Result<
     })
 }
 
-// What stands behind the line, if the text begins with it. Most lines differ in their first bytes.
+// Whether the text may begin with the line, by two bytes: lines differ mostly in who calls, or in their ends.
 #[inline(always)]
-fn behind_same<'a>(line: &[u8], text: &'a [u8]) -> Option<&'a [u8]>
-    ensures { IfSome result (λ rest. text.now ≡ line.now ++ rest.now) }
-{
+fn may_follow(line: &[u8], text: &[u8]) -> bool {
     match (line, text) {
-        ([_, a, b, c, ..], [_, x, y, z, ..]) if a == x && b == y && c == z => {
-            behind_whole(line, text)
+        ([_, first, .., last, _], [_, other, ..]) => {
+            first == other && text.get(line.len() - 2) == Some(last)
         }
-        _ => None,
+        _ => false,
     }
 }
 
-// The same, by all bytes.
+// What stands behind the line, if the text begins with it.
 #[inline(always)]
-fn behind_whole<'a>(line: &[u8], text: &'a [u8]) -> Option<&'a [u8]>
+fn behind_again<'a>(line: &[u8], text: &'a [u8]) -> Option<&'a [u8]>
     ensures { IfSome result (λ rest. text.now ≡ line.now ++ rest.now) }
 {
     if !text.starts_with(line) {
@@ -166,7 +168,7 @@ fn behind_whole<'a>(line: &[u8], text: &'a [u8]) -> Option<&'a [u8]>
 
 // Plays the line of a call again, of which this was the outcome, as often as it follows, and answers what stands
 // behind it.
-#[inline(always)]
+#[inline(never)]
 fn play_again<'a, B: Recorded>(
     book: &mut B,
     made: &(Who, Call),
@@ -185,7 +187,7 @@ fn play_again<'a, B: Recorded>(
         IfOk result (λ rest. IsPlayedTo machine clients bytes (B.recording book.new) out.new greatest lines.new rest.now) }
 {
     let mut rest = text;
-    while let Some(behind) = behind_same(line, rest) {
+    while let Some(behind) = behind_again(line, rest) {
         play_same(book, made.0, &made.1, outcome, out)?;
         *lines += 1;
         rest = behind;
@@ -195,7 +197,7 @@ fn play_again<'a, B: Recorded>(
 
 // Makes a call again, of which this was the outcome, and appends the line of its outcome. What came to no entry comes to
 // the same, and isn't asked for.
-#[inline(never)]
+#[inline(always)]
 fn play_same<B: Recorded>(
     book: &mut B,
     who: Who,

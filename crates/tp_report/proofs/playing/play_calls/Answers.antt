@@ -55,6 +55,9 @@ play_again-requires-clause-few g c =
           (g.B.Recorded.recording c.play_call.new.book) c.play_call.new.lines c.greater_client-greatest.result (c.loop-rest.lines + 1) c.split_at.result.1.now (next g (goal.at.play_again-requires-clause-few g c).After-split_at),
     )
 
+pub loop-rest-preserved-then-not-may_follow : goal.loop-rest-preserved-then-not-may_follow
+loop-rest-preserved-then-not-may_follow g c = next g (goal.at.loop-rest-preserved-then-not-may_follow g c).After-split_at
+
 pub loop-rest-preserved : goal.loop-rest-preserved
 loop-rest-preserved g c =
     c.in_ok-rest-in-Ok.ensures.plays (size_of (g.B.Recorded.recording c.args.book.now)) (g.B.Recorded.recording c.args.book.now).limits.clients c.args.bytes.now c.greater_client-greatest.result
