@@ -1,5 +1,5 @@
 -- What is kept of what waits hold, as rows come, change and leave, and as a wait comes to hold one or lets it go.
-use Rattle.std.proofs.Common.{◌≡◌, ◌≢◌, ◌==◌, ◌&&◌, ◌||◌, ◌+◌, ◌*◌, ℕ, zero, suc, ◌<◌, ◌≤◌, Bool, true, false, not, nat_lt, List, [], ◌∷◌, ◌++◌, Option, None, Some, filter}
+use Rattle.std.proofs.Common.{◌≡◌, ◌≢◌, ◌==◌, ◌&&◌, ◌||◌, ◌+◌, ◌*◌, ◌^◌, ℕ, zero, suc, ◌<◌, ◌≤◌, max, Bool, true, false, not, nat_lt, List, [], ◌∷◌, ◌++◌, Option, None, Some, filter}
 use Rattle.std.proofs.Common.{find, get_or, if◌then◌else◌, length, map, replicate, slice_get, slice_set, vec_capacity, refl, sym, ap, ap₂, ◌∙◌, subst, arith, ⊎_elim}
 use Rattle.std.specs.List.{AllByRecursion, range_with_len}
 use Rattle.std.proofs.lemmas.Bool.{cases_eq, eq-eqb, false≢true, ne_eqb}
@@ -11,9 +11,9 @@ use Rattle.tp_model.specs.Support.Sound.{IsRising}
 use Rattle.live_callbacks.specs.declared.holding.Holding.{Holding}
 use Rattle.live_callbacks.specs.Callbacks.{all_but, contains_number, with_number}
 use Rattle.live_callbacks.specs.Held.{Held, rows_of}
-use Rattle.live_callbacks.specs.Holding.{IsAlike, IsHolding, all_held, first_of, held_in, is_awaited, is_first, is_marked, least}
+use Rattle.live_callbacks.specs.Holding.{IsAlike, IsHolding, all_held, awaited_by, first_of, held_in, is_first, is_marked, least}
 use Rattle.live_callbacks.proofs.Holds.{AreOne, IsKeyOf, but_other, first_with, first_without, picked_ascend, picked_has, picked_more, picked_out, picked_put, picked_with, picked_without}
-use Rattle.live_callbacks.proofs.Marked.{and_no, held_same, kept}
+use Rattle.live_callbacks.proofs.Marked.{and_no, and_yes, held_same, kept}
 
 -- ---- the lists of all waiters
 
@@ -40,13 +40,15 @@ no_first zero w = refl
 no_first (suc n) zero = refl
 no_first (suc n) (suc w) = no_first n w
 
-pub none_holding : (places waiters : ℕ) (o : Holding) → length o.awaited.items ≡ places → o.waiters ≡ waiters → o.firsts.items ≡ replicate waiters None → places * waiters ≤ vec_capacity o.marks → ((k w : ℕ) → is_marked o k w ≡ false) → IsHolding places [] o
-none_holding places waiters o keys count firsts room none = record {
+pub none_holding : (places waiters : ℕ) (o : Holding) → length o.awaited.items ≡ places → o.waiters ≡ waiters → o.firsts.items ≡ replicate waiters None → places * waiters ≤ vec_capacity o.marks → ((k w : ℕ) → is_marked o k w ≡ false) → ((k : ℕ) → awaited_by o k ≡ 0) → o.waiters < 2 ^ 16 → IsHolding places [] o
+none_holding places waiters o keys count firsts room none unawaited few = record {
   keys = keys;
   count = ap length firsts ∙ length-replicate waiters None ∙ sym count;
   room = rw count room;
   firsts = λ w lt. ap (λ fs. get_or fs w None) firsts ∙ no_first waiters w;
+  few = few;
   awaited = λ k w lt set. absurd (false≢true (sym (none k w) ∙ set));
+  bounded = λ k. omega (arith, unawaited k);
   unheld = λ k w lt _. none k w;
 }
 
@@ -104,10 +106,6 @@ none_out k n key (g ∷ hs) one apart none = grind (arith, nat_tests, one.0, apa
 
 -- ---- rows come, change and leave
 
-and_yes : (b : Bool) → (b && true) ≡ b
-and_yes true = refl
-and_yes false = refl
-
 split : (a b : Bool) → (a && b) ≡ true → (a ≡ true) × (b ≡ true)
 split true true e = (refl, refl)
 split true false e = absurd (false≢true e)
@@ -122,7 +120,9 @@ module _ (places : ℕ) (hs : List Held) (o : Holding) (is : IsHolding places hs
           count = is.count;
           room = is.room;
           firsts = λ w lt. is.firsts w lt ∙ ap (λ ns. slice_get ns 0) (sym (each w lt));
+          few = is.few;
           awaited = is.awaited;
+          bounded = is.bounded;
           unheld = λ k w lt none. is.unheld k w lt (none_before k h hs none);
         },
         all_kept o o hs (hs ++ h ∷ []) refl each,
@@ -137,7 +137,9 @@ module _ (places : ℕ) (hs : List Held) (o : Holding) (is : IsHolding places hs
           count = is.count;
           room = is.room;
           firsts = λ w lt. is.firsts w lt ∙ ap (λ ns. slice_get ns 0) (sym (each w lt));
+          few = is.few;
           awaited = is.awaited;
+          bounded = is.bounded;
           unheld = λ k w lt none. is.unheld k w lt (none_put k n r hs none);
         },
         all_kept o o hs gs refl each,
@@ -154,7 +156,7 @@ module _ (places : ℕ) (hs : List Held) (o : Holding) (is : IsHolding places hs
     -- a wait comes to hold the row
     pub kept_with : (waiter : ℕ) → waiter < o.waiters → contains_number n (held_in o hs waiter) ≡ false
         → ((k w : ℕ) → w < o.waiters → is_marked new k w ≡ (((k == key) && (w == waiter)) || is_marked o k w))
-        → ((k : ℕ) → is_awaited new k ≡ ((k == key) || is_awaited o k))
+        → ((k : ℕ) → awaited_by new k ≡ (if k == key then max (awaited_by o key) (waiter + 1) else awaited_by o k))
         → ((w : ℕ) → first_of new w ≡ (if w == waiter then Some (least n (first_of o waiter)) else first_of o w))
         → IsHolding places hs new × (all_held new hs ≡ slice_set (all_held o hs) waiter (with_number n (held_in o hs waiter)))
     kept_with waiter there free marks awaited firsts = (
@@ -171,13 +173,22 @@ module _ (places : ℕ) (hs : List Held) (o : Holding) (is : IsHolding places hs
             ∙ ap (λ ns. slice_get ns 0) (sym (ap (held_in new hs) same ∙ own))))
             (λ (other : w ≢ waiter). rw (ne_eqb w waiter other) (is.firsts w at ∙ ap (λ ns. slice_get ns 0) (sym (others w at other))))
             (cases_eq w waiter);
+        few = rw alike.waiters is.few;
         awaited = λ k w lt set.
-            awaited k ∙ ⊎_elim
-            (λ (same : k ≡ key). ap (λ b. b || is_awaited o k) (eq-eqb k key same))
-            (λ (other : k ≢ key).
             let at : w < o.waiters = omega (arith, lt, alike.waiters) in
+            rw (awaited k) (⊎_elim
+            (λ (same : k ≡ key).
+            rw (eq-eqb k key same)
+            (⊎_elim
+            (λ (own : w ≡ waiter). omega (arith, own))
+            (λ (apart : w ≢ waiter).
+            let held : is_marked o k w ≡ true = sym (marks k w at ∙ ap (λ b. ((k == key) && b) || is_marked o k w) (ne_eqb w waiter apart) ∙ ap (λ b. b || is_marked o k w) (and_no (k == key))) ∙ set in
+            omega (arith, is.awaited k w at held, ap (awaited_by o) same))
+            (cases_eq w waiter)))
+            (λ (other : k ≢ key).
             rw (ne_eqb k key other) (is.awaited k w at (sym (marks k w at ∙ ap (λ b. (b && (w == waiter)) || is_marked o k w) (ne_eqb k key other)) ∙ set)))
-            (cases_eq k key);
+            (cases_eq k key));
+        bounded = λ k. rw (awaited k, alike.waiters) (elim (k == key) as (λ b. (if b then max (awaited_by o key) (waiter + 1) else awaited_by o k) ≤ o.waiters) [ true ↦ omega (arith, is.bounded key, there) | false ↦ is.bounded k ]);
         unheld = λ k w lt none.
             let at : w < o.waiters = omega (arith, lt, alike.waiters) in
             marks k w at ∙ ap₂ (λ a b. (a && (w == waiter)) || b) (ne_eqb k key (λ e. key_found n key k hs of e none)) (is.unheld k w at none);
@@ -205,7 +216,7 @@ module _ (places : ℕ) (hs : List Held) (o : Holding) (is : IsHolding places hs
     -- a wait lets the row go
     pub kept_without : (waiter : ℕ) → waiter < o.waiters
         → ((k w : ℕ) → w < o.waiters → is_marked new k w ≡ (is_marked o k w && not ((k == key) && (w == waiter))))
-        → ((k : ℕ) → is_awaited new k ≡ is_awaited o k)
+        → ((k : ℕ) → awaited_by new k ≡ awaited_by o k)
         → ((w : ℕ) → first_of new w ≡ (if (w == waiter) && is_marked o key waiter && is_first n (first_of o w) then find (λ m. nat_lt n m) (held_in new hs waiter) else first_of o w))
         → IsHolding places hs new × (all_held new hs ≡ slice_set (all_held o hs) waiter (all_but n (held_in o hs waiter)))
     kept_without waiter there marks awaited firsts = (
@@ -220,9 +231,11 @@ module _ (places : ℕ) (hs : List Held) (o : Holding) (is : IsHolding places hs
             subst (λ v. first_of new v ≡ slice_get (held_in new hs v) 0) (sym same) (firsts waiter ∙ rw (eq-eqb waiter waiter refl) (first_left waiter there (held_in new hs waiter) own)))
             (λ (other : w ≢ waiter). firsts w ∙ rw (ne_eqb w waiter other) (is.firsts w at ∙ ap (λ ns. slice_get ns 0) (sym (others w at other))))
             (cases_eq w waiter);
+        few = rw alike.waiters is.few;
+        bounded = λ k. rw (awaited k, alike.waiters) (is.bounded k);
         awaited = λ k w lt set.
             let at : w < o.waiters = omega (arith, lt, alike.waiters) in
-            awaited k ∙ is.awaited k w at (split (is_marked o k w) (not ((k == key) && (w == waiter))) (sym (marks k w at) ∙ set)).0;
+            rw (awaited k) (is.awaited k w at (split (is_marked o k w) (not ((k == key) && (w == waiter))) (sym (marks k w at) ∙ set)).0);
         unheld = λ k w lt none.
             let at : w < o.waiters = omega (arith, lt, alike.waiters) in
             marks k w at ∙ ap (λ b. b && not ((k == key) && (w == waiter))) (is.unheld k w at none);
@@ -239,7 +252,7 @@ module _ (places : ℕ) (hs : List Held) (o : Holding) (is : IsHolding places hs
 
     -- the row has left, and all waits have let it go
     pub kept_out : ((k w : ℕ) → w < o.waiters → is_marked new k w ≡ (is_marked o k w && not (k == key)))
-        → ((k : ℕ) → is_awaited new k ≡ (is_awaited o k && not (k == key)))
+        → ((k : ℕ) → awaited_by new k ≡ (if k == key then 0 else awaited_by o k))
         → let gs : List Held = filter (λ (g : Held). not (g.row.number == n)) hs in
         ((w : ℕ) → w < o.waiters → first_of new w ≡ (if is_marked o key w && is_first n (first_of o w) then find (λ m. nat_lt n m) (held_in new gs w) else first_of o w))
         → IsHolding places gs new × (all_held new gs ≡ map (all_but n) (all_held o hs))
@@ -254,7 +267,9 @@ module _ (places : ℕ) (hs : List Held) (o : Holding) (is : IsHolding places hs
             awaited = λ k w lt set.
                 let at : w < o.waiters = omega (arith, lt, alike.waiters) in
                 let both = split (is_marked o k w) (not (k == key)) (sym (marks k w at) ∙ set) in
-                awaited k ∙ ap₂ (λ a b. a && b) (is.awaited k w at both.0) both.1;
+                rw (awaited k, not_true (k == key) both.1) (is.awaited k w at both.0);
+            few = rw alike.waiters is.few;
+            bounded = λ k. rw (awaited k, alike.waiters) (elim (k == key) as (λ b. (if b then 0 else awaited_by o k) ≤ o.waiters) [ true ↦ omega arith | false ↦ is.bounded k ]);
             unheld = λ k w lt none.
                 let at : w < o.waiters = omega (arith, lt, alike.waiters) in
                 marks k w at ∙ ⊎_elim
@@ -265,6 +280,10 @@ module _ (places : ℕ) (hs : List Held) (o : Holding) (is : IsHolding places hs
           all_mapped o new hs gs alike.waiters (all_but n) refl each,
         )
       where
+        not_true : (b : Bool) → not b ≡ true → b ≡ false
+        not_true true e = absurd (false≢true e)
+        not_true false e = refl
+
         and_not : (b : Bool) → (b && not true) ≡ false
         and_not true = refl
         and_not false = refl

@@ -19,6 +19,10 @@ marked_within marks p set =
     (λ (past : length marks ≤ p). absurd (false≢true (sym (get_or_past marks p false past) ∙ set)))
     (cases_lt p (length marks))
 
+pub and_yes : (b : Bool) → (b && true) ≡ b
+and_yes true = refl
+and_yes false = refl
+
 or_no : (b : Bool) → (b || false) ≡ b
 or_no true = refl
 or_no false = refl

@@ -1,5 +1,5 @@
 -- What waits hold of the rows: what a contract sees of `Holding`, and how it is kept.
-use Rattle.std.specs.Prelude.{◌≡◌, ℕ, ◌+◌, ◌*◌, ◌<◌, ◌≤◌, ◌==◌, Bool, true, false, List, Option, None, Some, length, map, nat_lt, slice_get, slice_index_or, vec_capacity, if◌then◌else◌}
+use Rattle.std.specs.Prelude.{◌≡◌, ℕ, ◌+◌, ◌*◌, ◌^◌, ◌<◌, ◌≤◌, ◌==◌, Bool, true, false, List, Option, None, Some, length, map, nat_lt, slice_get, slice_index_or, vec_capacity, if◌then◌else◌}
 use Rattle.std.specs.List.{filter, find, range_with_len}
 use Rattle.live_callbacks.specs.Held.{Held}
 use Rattle.live_callbacks.specs.declared.holding.Holding.{Holding}
@@ -8,9 +8,9 @@ use Rattle.live_callbacks.specs.declared.holding.Holding.{Holding}
 abbrev pub is_marked : Holding → ℕ → ℕ → Bool
 is_marked holding key waiter = slice_index_or holding.marks.items (key * holding.waiters + waiter) false
 
--- a wait may hold the row of a key
-abbrev pub is_awaited : Holding → ℕ → Bool
-is_awaited holding key = slice_index_or holding.awaited.items key false
+-- below this number are the waiters whose waits may hold the row of a key
+abbrev pub awaited_by : Holding → ℕ → ℕ
+awaited_by holding key = slice_index_or holding.awaited.items key 0
 
 -- the number of the first row that a waiter's wait holds
 abbrev pub first_of : Holding → ℕ → Option ℕ
@@ -44,11 +44,14 @@ held_in holding hs waiter = map (λ (h : Held). h.row.number) (filter (λ (h : H
 abbrev pub all_held : Holding → List Held → List (List ℕ)
 all_held holding hs = map (held_in holding hs) (range_with_len 0 holding.waiters)
 
--- the first of what each wait holds is known; a key that a wait holds the row of is awaited, and is that of a row
+-- the first of what each wait holds is known; a wait that holds the row of a key is among those that may, and the key is
+-- that of a row
 pub record IsHolding (places : ℕ) (hs : List Held) (holding : Holding) : Type 0 where
   pub keys : length holding.awaited.items ≡ places
   pub count : length holding.firsts.items ≡ holding.waiters
   pub room : has_room places holding
   pub firsts : (w : ℕ) → w < holding.waiters → first_of holding w ≡ slice_get (held_in holding hs w) 0
-  pub awaited : (key w : ℕ) → w < holding.waiters → is_marked holding key w ≡ true → is_awaited holding key ≡ true
+  pub few : holding.waiters < 2 ^ 16
+  pub awaited : (key w : ℕ) → w < holding.waiters → is_marked holding key w ≡ true → w < awaited_by holding key
+  pub bounded : (key : ℕ) → awaited_by holding key ≤ holding.waiters
   pub unheld : (key w : ℕ) → w < holding.waiters → find (λ (h : Held). h.key == key) hs ≡ None → is_marked holding key w ≡ false

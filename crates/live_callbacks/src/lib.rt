@@ -107,7 +107,8 @@ impl LiveCallbacks {
     ///
     /// `groups` is how many groups have a list of their callbacks; those of any other, and of group 0, which
     /// stands for none, are found one after another. `waiters` is how many actors may wait, by numbers that begin
-    /// with 0; no wait holds anything. An `AllocError` comes where the memory can't be had.
+    /// with 0; no wait holds anything. An `AllocError` comes where the memory can't be had, and where there are more
+    /// than 65,535 waiters.
     pub fn open(
         alloc: Global,
         slots: u32,

@@ -38,10 +38,13 @@ stuck_by_pools w room =
     ∙ all_or (are_all_busy w) (is_pool_blocked w room) (range_with_len 0 (length w.pools))
     ∙ ap (λ b. b || list_all (is_pool_blocked w room) (range_with_len 0 (length w.pools))) (sym (busy_by_number w))
 
--- whether a machine is stalled, in whichever order it is asked of its clients and its workers
+-- whether a machine is stalled, in whichever order it is asked of its clients, its workers and its pools
 pub stalled_by_workers : (w : World) (room : ℕ)
     → is_stalled w room
-    ≡ (list_all (is_worker_stuck w room) (range_with_len 1 (length w.workers)) && list_all (is_client_stuck w room) (range_with_len 1 (length w.clients)) && list_all (is_pool_stuck w room) (range_with_len 0 (length w.pools)))
+    ≡ (list_all (is_worker_stuck w room) (range_with_len 1 (length w.workers)) && list_all (is_pool_stuck w room) (range_with_len 0 (length w.pools)) && list_all (is_client_stuck w room) (range_with_len 1 (length w.clients)))
 stalled_by_workers w room =
-    ap (λ b. b && list_all (is_pool_stuck w room) (range_with_len 0 (length w.pools)))
-    (and_comm (list_all (is_client_stuck w room) (range_with_len 1 (length w.clients))) (list_all (is_worker_stuck w room) (range_with_len 1 (length w.workers))))
+    by (list_all (is_client_stuck w room) (range_with_len 1 (length w.clients))) (list_all (is_worker_stuck w room) (range_with_len 1 (length w.workers))) (list_all (is_pool_stuck w room) (range_with_len 0 (length w.pools)))
+  where
+    by : (c w p : Bool) → (c && w && p) ≡ (w && p && c)
+    by true w p = sym (and_comm (w && p) true)
+    by false w p = sym (and_comm (w && p) false)

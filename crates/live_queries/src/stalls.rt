@@ -20,7 +20,7 @@ fn waits_on(world: &LiveWorld, who: Who, room: u64) -> bool
     world.waits().is_begun(who) && is_kept(world, who, room)
 }
 
-// The same, of one that mostly has.
+// The same, asked only of one that has a wait begun, and right of any.
 #[inline(never)]
 fn is_kept(world: &LiveWorld, who: Who, room: u64) -> bool
     ensures { result ≡ waits_on world.now.world room who }
@@ -107,11 +107,11 @@ fn are_pools_stuck(world: &LiveWorld, room: u64) -> bool
 
 /// Whether nobody can go on in a machine whose history has this room left: each client has finished
 /// or waits, each worker in a callback waits, and no callback can be taken. Walks the workers up to one
-/// that goes on, then the clients, and only then the pools.
+/// that goes on, then the pools, and only then the clients.
 #[tactic(auto, using(crate::proofs::Stuck::stalled_by_workers))]
 #[inline(always)]
 pub fn is_stalled(world: &LiveWorld, room: u64) -> bool
     ensures { result ≡ is_stalled world.now.world room }
 {
-    are_workers_stuck(world, room) && are_clients_stuck(world, room) && are_pools_stuck(world, room)
+    are_workers_stuck(world, room) && are_pools_stuck(world, room) && are_clients_stuck(world, room)
 }

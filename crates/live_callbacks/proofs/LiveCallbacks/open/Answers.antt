@@ -13,7 +13,7 @@ invariant_of-result c =
       homes = tt;
       standing = rw c.places.ensures at c.in_ok-lists.ensures.empty;
       counted = refl;
-      holding = none_holding c.in_ok-rows.rows.places c.args.waiters c.in_ok-holding.holding (h.awaited ∙ places) h.waiters h.firsts (rw (places, h.waiters) at h.room) h.marks;
+      holding = none_holding c.in_ok-rows.rows.places c.args.waiters c.in_ok-holding.holding (h.awaited ∙ places) h.waiters h.firsts (rw (places, h.waiters) at h.room) h.marks h.none h.few;
     })
 
 pub returns : goal.returns

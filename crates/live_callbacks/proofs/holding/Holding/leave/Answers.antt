@@ -1,6 +1,6 @@
 use Rattle.std.proofs.Common.{◌∙◌, arith}
 use Rattle.live_callbacks.proofs.Marked.{one_more}
-use Rattle.live_callbacks.proofs.holding.Holding.leave_all.Goals as goal
+use Rattle.live_callbacks.proofs.holding.Holding.leave.Goals as goal
 
 pub loop-waiter-preserved : goal.loop-waiter-preserved
 loop-waiter-preserved c =
