@@ -143,12 +143,12 @@ fn play_calls<B: Recorded>(alloc: Global, book: &mut B, bytes: &[u8]) -> Result<
     })
 }
 
-// Whether the text may begin with the line, by two bytes: lines differ mostly in who calls, or in their ends.
+// Whether the text may begin with the line, by three bytes: lines differ mostly in who calls, or in their ends.
 #[inline(always)]
 fn may_follow(line: &[u8], text: &[u8]) -> bool {
     match (line, text) {
-        ([_, first, .., last, _], [_, other, ..]) => {
-            first == other && text.get(line.len() - 2) == Some(last)
+        ([_, first, second, .., last, _], [_, other, next, ..]) => {
+            first == other && second == next && text.get(line.len() - 2) == Some(last)
         }
         _ => false,
     }
