@@ -21,14 +21,9 @@ use Rattle.begun_waits.proofs.Actors.{begun_elsewhere, begun_found, changed_acto
 
 -- ---- what is read
 
-pub closing_is : (o : Option BegunWait) → closing_for (option_map purpose_of o) ≡ closing_by o
-closing_is None = refl
-closing_is (Some b) = of_target b.target
-  where
-    of_target : (t : WaitTarget) → closing_in t b.cleanup ≡ closing_of b t
-    of_target (Object object) = refl
-    of_target (Group group) = refl
-    of_target (Kernel kernel) = refl
+pub target_is : (o : Option BegunWait) → option_map (λ (p : Purpose). p.target) (option_map purpose_of o) ≡ option_map (λ (b : BegunWait). b.target) o
+target_is None = refl
+target_is (Some b) = refl
 
 purpose_some : (o : Option BegunWait) → is_some (option_map purpose_of o) ≡ is_some o
 purpose_some None = refl
@@ -57,9 +52,6 @@ module _ (limits : Limits) (purposes : List (Option Purpose)) (notices : Told) (
       known : (o : Option ℕ) → place_of limits who ≡ o → IsSome o
       known (Some place) at = refl
       known None nowhere = absurd (false≢true (ap is_some (sym (strange who nowhere)) ∙ begun))
-
-  pub closing_there : (place : ℕ) → place < limits.clients + limits.workers → closing_for (get_or purposes place None) ≡ closing_by (wait_among waits (actor_at limits place))
-  closing_there place there = ap closing_for (k.purposed (actor_at limits place) place (place_at limits place there)) ∙ closing_is (wait_among waits (actor_at limits place))
 
   -- no actor has a notice of the object
   pub not_listed : (object : ObjectId) → is_noticed waits object ≡ false → (place : ℕ) → is_listed object (told_at notices place) ≡ false

@@ -1,4 +1,5 @@
 pub mod Begun
+pub mod Covers
 pub mod Kept
 pub mod Listed
 pub mod Notices

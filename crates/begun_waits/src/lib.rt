@@ -3,7 +3,7 @@
 //!
 //! `open` takes the memory, and no other call takes any. An actor that has begun no wait begins one by
 //! `begin`, or by `begin_close` where it closes a group; `note` gives its wait a notice to give, and
-//! `give_notice` takes the first of them; `end` ends it. `is_begun`, `wanted`, `closing` and
+//! `give_notice` takes the first of them; `end` ends it. `is_begun`, `begun`, `wanted`, `closing` and
 //! `first_notice` ask for what the wait of an actor is.
 //!
 //! ```text
@@ -24,12 +24,13 @@
 
 #![tactic(auto)]
 
-ghost use Rattle.std.specs.Prelude.{◌≡◌, ◌+◌, ◌^◌, ◌<◌, ◌≤◌, ◌++◌, ◌∷◌, [], IfOk, IsSome, false, option_map, slice_get, true};
+ghost use Rattle.std.specs.Prelude.{◌≡◌, ◌+◌, ◌^◌, ◌<◌, ◌≤◌, ◌++◌, ◌∷◌, [], IfOk, IfSome, IsSome, Some, false, option_map, slice_get, true};
 ghost use Rattle.tp_base.specs.Ranges.{AreLimitsInRange};
 ghost use Rattle.tp_model.specs.Changes.{give_notice, given_up_after, new_close, new_wait};
 ghost use Rattle.begun_waits.specs.Kept.{closing_for as closing_of_purpose};
-ghost use Rattle.begun_waits.specs.Begun.{actor_at, closing_by, is_noticed, is_waiting, notices_by, place_of as place_of_actor, place_within as place_within_of, wait_among, wanted_by, with_notices, without_waits};
+ghost use Rattle.begun_waits.specs.Begun.{closing_by, is_noticed, is_waiting, notices_by, place_of as place_of_actor, place_within as place_within_of, wait_among, wanted_by, with_notices, without_waits};
 
+pub mod covers;
 mod notices;
 mod past;
 
@@ -133,12 +134,20 @@ impl<K: KeepsCallbacks> BegunWaits<K> {
         place_of(self.limits, who)
     }
 
-    // What an actor's wait is for, if it has begun one.
+    // What an actor's wait is for, if it has begun one, where this is the actor's place.
+    fn purpose_at(&self, who: Who, place: u32) -> Option<Purpose>
+        requires { place_of_actor self.now.limits who ≡ Some place }
+        ensures { result ≡ option_map purpose_of (wait_among self.now.waits who) }
+    {
+        self.purposes[place as usize]
+    }
+
+    // The same, wherever that is.
     fn purpose(&self, who: Who) -> Option<Purpose>
         ensures { result ≡ option_map purpose_of (wait_among self.now.waits who) }
     {
         let place = place_of(self.limits, who)?;
-        self.purposes[place as usize]
+        self.purpose_at(who, place)
     }
 
     /// Whether an actor has begun a wait.
@@ -146,6 +155,16 @@ impl<K: KeepsCallbacks> BegunWaits<K> {
         ensures { result ≡ is_waiting self.now.waits who }
     {
         self.purpose(who).is_some()
+    }
+
+    /// The place of an actor and what its wait is for, if it has begun one.
+    pub fn begun(&self, who: Who) -> Option<(u32, WaitTarget)>
+        ensures place { IfSome result (λ begun. place_of_actor self.now.limits who ≡ Some begun.0) }
+        ensures target { option_map (λ begun. begun.1) result ≡ option_map (λ b. b.target) (wait_among self.now.waits who) }
+    {
+        let place = place_of(self.limits, who)?;
+        let purpose = self.purpose_at(who, place)?;
+        Some((place, purpose.target))
     }
 
     /// The kernel object that an actor's wait is for, if it has begun one for a kernel object.
@@ -168,14 +187,6 @@ impl<K: KeepsCallbacks> BegunWaits<K> {
         ensures { result ≡ closing_by (wait_among self.now.waits who) }
     {
         closing_for(self.purpose(who))
-    }
-
-    /// The same of the actor whose place this is.
-    pub fn closing_at(&self, place: u32) -> Option<Closing>
-        requires { place < self.now.limits.clients + self.now.limits.workers }
-        ensures { result ≡ closing_by (wait_among self.now.waits (actor_at self.now.limits place)) }
-    {
-        closing_for(self.purposes[place as usize])
     }
 
     /// The object of which an actor's wait gives a notice next, or None where it has none left.

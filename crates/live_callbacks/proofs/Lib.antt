@@ -1,9 +1,6 @@
 pub mod Following
 pub mod Found
-pub mod Holds
-pub mod Keeping
 pub mod Lines
-pub mod Marked
 pub mod Numbers
 pub mod Parts
 pub mod Queues

@@ -1,6 +1,6 @@
 -- The callbacks that live: what a contract sees of `LiveCallbacks`, and which of them it asks for.
-use Rattle.std.specs.Prelude.{◌≡◌, ℕ, ◌==◌, ◌&&◌, Bool, true, not, nat_lt, List, [], ◌∷◌, ◌++◌, slice_index_or, slice_set}
-use Rattle.std.specs.List.{filter, list_any}
+use Rattle.std.specs.Prelude.{◌≡◌, ℕ, ◌==◌, ◌&&◌, Bool, true, List, ◌++◌}
+use Rattle.std.specs.List.{filter}
 use Rattle.tp_base.specs.declared.calls.Priority.{Priority}
 use Rattle.tp_base.specs.declared.ids.ObjectId.{ObjectId}
 use Rattle.tp_base.specs.declared.rows.CallbackRow.{CallbackRow}
@@ -8,14 +8,12 @@ use Rattle.tp_base.specs.declared.rows.WaitTarget.TheVariants.{Object}
 use Rattle.tp_model.specs.Counts.{is_expected, is_high, is_low, is_normal, is_operating, is_pending_in}
 use Rattle.tp_model.specs.Waits.{is_held_for, is_outstanding_for}
 
--- how many there may be, how many pools they may be of, the greatest number of their objects, and their rows; and for
--- each waiter the numbers of those that its wait holds, rising
+-- how many there may be, how many pools they may be of, the greatest number of their objects, and their rows
 pub record Callbacks : Type 0 where
   pub slots : ℕ
   pub pools : ℕ
   pub objects : ℕ
   pub rows : List CallbackRow
-  pub held : List (List ℕ)
 
 -- a pending callback of the pool, of a priority that passes the test
 abbrev pub is_waiting : ℕ → (Priority → Bool) → CallbackRow → Bool
@@ -43,25 +41,3 @@ pub record MovesOn (before after : CallbackRow) : Type 0 where
   pub outstanding : is_tied after ≡ true → is_tied before ≡ true
   pub expected : is_expected after.status ≡ true → is_expected before.status ≡ true
   pub operating : is_operating after.status ≡ true → is_operating before.status ≡ true
-
--- ---- what waits hold
-
--- what a waiter's wait holds
-abbrev pub held_of : Callbacks → ℕ → List ℕ
-held_of callbacks waiter = slice_index_or callbacks.held waiter []
-
--- the same where it holds these
-abbrev pub with_held : Callbacks → ℕ → List ℕ → Callbacks
-with_held callbacks waiter numbers = record callbacks { held = slice_set callbacks.held waiter numbers }
-
--- rising numbers with this one in its place
-abbrev pub with_number : ℕ → List ℕ → List ℕ
-with_number number numbers = filter (λ n. nat_lt n number) numbers ++ number ∷ filter (λ n. nat_lt number n) numbers
-
--- whether the numbers have this one
-abbrev pub contains_number : ℕ → List ℕ → Bool
-contains_number number numbers = list_any (λ n. n == number) numbers
-
--- the numbers without this one
-abbrev pub all_but : ℕ → List ℕ → List ℕ
-all_but number numbers = filter (λ n. not (n == number)) numbers

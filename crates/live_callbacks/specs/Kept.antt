@@ -6,7 +6,6 @@ use Rattle.tp_model.specs.Counts.{is_operating}
 use Rattle.tp_model.specs.Support.Sound.{IsRising}
 use Rattle.live_callbacks.specs.Families.{StandIn}
 use Rattle.live_callbacks.specs.Held.{rows_of}
-use Rattle.live_callbacks.specs.Holding.{IsHolding}
 use Rattle.live_callbacks.specs.Lists.{IsAtHome}
 use Rattle.live_callbacks.specs.declared.LiveCallbacks.TheInside.{Inside}
 
@@ -15,4 +14,3 @@ pub record IsKept (a : Inside) : Type 0 where
   pub homes : AllByRecursion (IsAtHome a.lists.pools a.lists.objects) (rows_of a.rows.held)
   pub standing : StandIn a.rows.places a.rows.held a.lists
   pub counted : a.operating ≡ length (filter (λ (c : CallbackRow). is_operating c.status) (rows_of a.rows.held))
-  pub holding : IsHolding a.rows.places a.rows.held a.holding

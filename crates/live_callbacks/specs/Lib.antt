@@ -1,7 +1,6 @@
 pub mod Callbacks
 pub mod Families
 pub mod Held
-pub mod Holding
 pub mod Kept
 pub mod Lists
 pub mod Places

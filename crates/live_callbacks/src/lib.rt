@@ -4,37 +4,34 @@
 //! `open` takes the memory, and no other call takes any. A callback comes by `push`, moves on by `change`
 //! and leaves by `remove`, and each of these knows every list: the queue of its pool, where it waits for a
 //! worker; what is outstanding for its object; and of that what expects an operation, and what expects one
-//! or has it under way. So a caller tells what becomes of a callback, and of no list. A wait holds callbacks by
-//! `hold`, until it lets them go by `let_go` or they leave (`waits`).
+//! or has it under way. So a caller tells what becomes of a callback, and of no list.
 //!
 //! ```text
-//! let mut callbacks = LiveCallbacks::open(alloc, 8, 2, 4, 0, 3)?;
+//! let mut callbacks = LiveCallbacks::open(alloc, 8, 2, 4, 0)?;
 //! callbacks.push(first);                // number 1, of object 3 and pool 0, pending
 //! callbacks.next(PoolId(0), &mut steps) // Some(first)
 //! callbacks.change(&first, running);    // the same, and a worker runs it
 //! callbacks.next(PoolId(0), &mut steps) // None
 //! callbacks.first_outstanding(ObjectId(3))  // Some(running)
-//! callbacks.hold(2, &running);          // the wait of waiter 2 is for it
 //! callbacks.remove(&running);
 //! callbacks.first_outstanding(ObjectId(3))  // None
-//! callbacks.first_held(2)               // None
 //! ```
 //!
 //! What a call costs: nothing is searched but the number of a call, once. A row stands under one key while it
-//! lives, a vector of numbers leads to the keys (`rows`), the places of a key in the lists are told by the key
-//! (`lists`), and whether a wait holds its row by the key and the waiter (`holding`). A callback comes last into the
-//! lists where it is made. Where it becomes pending later, it goes behind those of lower numbers, from an end of
-//! its queue or from a number next to it (`beside`). It leaves a list in one step, wherever it stands there.
+//! lives, a vector of numbers leads to the keys (`rows`), and the places of a key in the lists are told by the key
+//! (`lists`). A callback comes last into the lists where it is made. Where it becomes pending later, it goes behind
+//! those of lower numbers, from an end of its queue or from a number next to it (`beside`). It leaves a list in one
+//! step, wherever it stands there.
 
 #![tactic(auto)]
 
-ghost use Rattle.std.specs.Prelude.{◌≡◌, ◌+◌, ◌^◌, ◌<◌, ◌≤◌, ◌==◌, ◌++◌, ◌∷◌, [], All, IfOk, Some, false, filter, find, length, map, nat_lt, not, replicate, slice_get, if◌then◌else◌};
+ghost use Rattle.std.specs.Prelude.{◌≡◌, ◌+◌, ◌^◌, ◌<◌, ◌≤◌, ◌==◌, ◌++◌, ◌∷◌, [], All, IfOk, Some, false, filter, find, length, map, nat_lt, not, slice_get, if◌then◌else◌};
 ghost use Rattle.std.specs.List.{list_any};
 ghost use Rattle.std.specs.Option.{option_copied};
 ghost use Rattle.tp_model.specs.Calls.Io.{is_expected_of};
 ghost use Rattle.tp_model.specs.Conditions.{is_operation_of};
 ghost use Rattle.tp_model.specs.Counts.{is_operating, is_pending, is_pending_in};
-ghost use Rattle.live_callbacks.specs.Callbacks.{MovesOn, all_but, outstanding_among, queue_among};
+ghost use Rattle.live_callbacks.specs.Callbacks.{MovesOn, outstanding_among, queue_among};
 
 use std::alloc::{AllocError, Global};
 use std::marker::{Brand, Model};
@@ -45,13 +42,10 @@ use tp_base::rows::{CallbackRow, Status};
 use tp_model::KeepsCallbacks;
 
 mod beside;
-mod holding;
 mod lists;
 mod places;
 mod rows;
-mod waits;
 
-use holding::Holding;
 use lists::{Lists, after_in, first_in, has_list, lent_behind, lines, row_behind};
 use rows::Rows;
 
@@ -62,8 +56,6 @@ pub struct LiveCallbacks {
     lists: Lists,
     // How many expect an operation or have it under way.
     operating: u32,
-    // For each waiter what its wait holds.
-    holding: Holding,
 }
 
 impl Model for LiveCallbacks {
@@ -73,7 +65,6 @@ impl Model for LiveCallbacks {
     ghost Value = { Callbacks };
 
     ghost use Rattle.live_callbacks.specs.Held.{rows_of};
-    ghost use Rattle.live_callbacks.specs.Holding.{all_held};
     ghost use Rattle.live_callbacks.specs.Kept.{IsKept};
 
     ghost view = { λ a. record {
@@ -81,7 +72,6 @@ impl Model for LiveCallbacks {
       pools = a.lists.pools;
       objects = a.lists.objects;
       rows = rows_of a.rows.held;
-      held = all_held a.holding a.rows.held;
     } };
 
     ghost invariant = { IsKept };
@@ -106,28 +96,23 @@ impl LiveCallbacks {
     /// No callbacks, with the memory for `slots` of them, of pools below `pools` and of objects up to `objects`.
     ///
     /// `groups` is how many groups have a list of their callbacks; those of any other, and of group 0, which
-    /// stands for none, are found one after another. `waiters` is how many actors may wait, by numbers that begin
-    /// with 0; no wait holds anything. An `AllocError` comes where the memory can't be had, and where there are more
-    /// than 65,535 waiters.
+    /// stands for none, are found one after another. An `AllocError` comes where the memory can't be had.
     pub fn open(
         alloc: Global,
         slots: u32,
         pools: u32,
         objects: u32,
         groups: u32,
-        waiters: u32,
     ) -> Result<LiveCallbacks, AllocError>
         requires { objects + 1 < 2 ^ 32 }
-        ensures { IfOk result (λ live. live ≡ record { slots = slots; pools = pools; objects = objects; rows = []; held = replicate waiters [] }) }
+        ensures { IfOk result (λ live. live ≡ record { slots = slots; pools = pools; objects = objects; rows = [] }) }
     {
         let rows = Rows::open(alloc, slots)?;
         let lists = Lists::open(alloc, pools, objects, groups, rows.places())?;
-        let holding = Holding::open(alloc, waiters, rows.places())?;
         Ok(LiveCallbacks {
             rows,
             lists,
             operating: 0,
-            holding,
         })
     }
 
@@ -165,24 +150,24 @@ impl LiveCallbacks {
         self.rows.after(number)
     }
 
-    /// The first callback of a group, or None where it has none.
+    /// The first callback of a group, lent, or None where it has none.
     #[inline(always)]
-    pub fn first_of_group(&self, group: GroupId) -> Option<CallbackRow>
-        ensures { result ≡ find (λ c. c.group.0 == group.0) self.now.rows }
+    pub fn first_of_group(&self, group: GroupId) -> Option<&CallbackRow>
+        ensures { option_copied result ≡ find (λ c. c.group.0 == group.0) self.now.rows }
     {
         if !has_list(self.lists.groups, group) {
             return self.rows.first_of_group(group);
         }
         let _known = self.rows.len();
         let place = first_in(&self.lists.by_group, group.0);
-        row_behind(&self.rows, self.lists.groups + 1, place)
+        lent_behind(&self.rows, self.lists.groups + 1, place)
     }
 
-    /// The callback that follows this one in its group, or None where it is the last.
+    /// The callback that follows this one in its group, lent, or None where it is the last.
     #[inline(always)]
-    pub fn next_of_group(&self, row: &CallbackRow) -> Option<CallbackRow>
+    pub fn next_of_group(&self, row: &CallbackRow) -> Option<&CallbackRow>
         requires { find (λ c. c.number == row.now.number) self.now.rows ≡ Some row.now }
-        ensures { result ≡ find (λ c. nat_lt row.now.number c.number) (filter (λ c. c.group.0 == row.now.group.0) self.now.rows) }
+        ensures { option_copied result ≡ find (λ c. nat_lt row.now.number c.number) (filter (λ c. c.group.0 == row.now.group.0) self.now.rows) }
     {
         if !has_list(self.lists.groups, row.group) {
             return self.rows.next_of_group(row.number, row.group);
@@ -190,7 +175,7 @@ impl LiveCallbacks {
         let _known = self.rows.len();
         let key = self.rows.key_of(row.number).unwrap();
         let place = after_in(&self.lists.by_group, self.lists.groups + 1 + key);
-        row_behind(&self.rows, self.lists.groups + 1, place)
+        lent_behind(&self.rows, self.lists.groups + 1, place)
     }
 
     /// The pending callback of a pool that is taken next, or None where none is pending: that of the
@@ -231,31 +216,31 @@ impl LiveCallbacks {
         high + normal + low
     }
 
-    /// The first callback that is outstanding for an object, or None where none is. Those that have no object
-    /// are outstanding for object 0.
+    /// The first callback that is outstanding for an object, lent, or None where none is. Those that have no
+    /// object are outstanding for object 0.
     #[inline(always)]
-    pub fn first_outstanding(&self, object: ObjectId) -> Option<CallbackRow>
-        ensures { result ≡ slice_get (outstanding_among self.now.rows object) 0 }
+    pub fn first_outstanding(&self, object: ObjectId) -> Option<&CallbackRow>
+        ensures { option_copied result ≡ slice_get (outstanding_among self.now.rows object) 0 }
     {
         if object.0 > self.lists.objects {
             return None;
         }
         let _known = self.rows.len();
         let place = first_in(&self.lists.outstanding, object.0);
-        row_behind(&self.rows, self.lists.objects + 1, place)
+        lent_behind(&self.rows, self.lists.objects + 1, place)
     }
 
-    /// The callback that follows this one among those that are outstanding for its object, or None where it
-    /// is the last.
+    /// The callback that follows this one among those that are outstanding for its object, lent, or None where
+    /// it is the last.
     #[inline(always)]
-    pub fn next_outstanding(&self, row: &CallbackRow) -> Option<CallbackRow>
+    pub fn next_outstanding(&self, row: &CallbackRow) -> Option<&CallbackRow>
         requires { find (λ c. c.number == row.now.number) (outstanding_among self.now.rows row.now.object) ≡ Some row.now }
-        ensures { result ≡ find (λ c. nat_lt row.now.number c.number) (outstanding_among self.now.rows row.now.object) }
+        ensures { option_copied result ≡ find (λ c. nat_lt row.now.number c.number) (outstanding_among self.now.rows row.now.object) }
     {
         let _known = self.rows.len();
         let key = self.rows.key_of(row.number).unwrap();
         let place = after_in(&self.lists.outstanding, self.lists.objects + 1 + key);
-        row_behind(&self.rows, self.lists.objects + 1, place)
+        lent_behind(&self.rows, self.lists.objects + 1, place)
     }
 
     /// The callback of an object that has expected its operation longest, or None where none expects one.
@@ -381,11 +366,11 @@ impl LiveCallbacks {
         self.lists.settle(key, after.number, to, near, steps);
     }
 
-    /// A callback leaves, of which this is the row as it stands. Every wait that holds it lets it go.
+    /// A callback leaves, of which this is the row as it stands.
     #[inline(always)]
     pub fn remove(&mut self, row: &CallbackRow)
         requires { find (λ c. c.number == row.now.number) self.old.rows ≡ Some row.now }
-        ensures { self.new ≡ record self.old { rows = filter (λ c. not (c.number == row.now.number)) self.old.rows; held = map (all_but row.now.number) self.old.held } }
+        ensures { self.new ≡ record self.old { rows = filter (λ c. not (c.number == row.now.number)) self.old.rows } }
     {
         self.remove_with::<Brand>(row, Blank::new(1))
     }
@@ -397,14 +382,13 @@ impl LiveCallbacks {
         requires parts { blank.parts ≡ L.parts }
         requires one { blank.parts ≡ 1 }
         requires found { find (λ c. c.number == row.now.number) self.old.rows ≡ Some row.now }
-        ensures { self.new ≡ record self.old { rows = filter (λ c. not (c.number == row.now.number)) self.old.rows; held = map (all_but row.now.number) self.old.held } }
+        ensures { self.new ≡ record self.old { rows = filter (λ c. not (c.number == row.now.number)) self.old.rows } }
     {
         let mut steps = Steps::<L>::open(blank);
         let _known = self.rows.len();
         let to = self.lists.nowhere();
         let key = self.rows.remove(row.number).unwrap();
         self.operating -= operations(row);
-        self.holding.leave(key, row.number, &self.rows);
         self.lists.settle(key, row.number, to, to.line, &mut steps);
     }
 }

@@ -10,10 +10,8 @@ ghost use Rattle.slab.specs.Slab.{ContainsKey};
 ghost use Rattle.std.specs.Bool.{OnTrue};
 ghost use Rattle.std.specs.Option.{option_copied};
 ghost use Rattle.std.specs.List.Sorted.{IsPartitionPoint};
-ghost use Rattle.live_callbacks.specs.Holding.{is_marked};
 ghost use Rattle.live_callbacks.specs.Places.{EntriesRise, IsPlaceOf, IsPlaceOfRow, live, row_at};
 
-use crate::holding::Holding;
 use slab::Slab;
 use tp_base::ids::GroupId;
 use tp_base::rows::CallbackRow;
@@ -88,27 +86,6 @@ pub(crate) fn first_of_group_from(
     while place < entries.len() {
         if is_of_group(&entries[place], rows, group) {
             return Some(entries[place]);
-        }
-        place += 1;
-    }
-    None
-}
-
-// The number of the first entry from this place on whose row is there and held by a waiter's wait.
-pub(crate) fn first_held_from(
-    entries: &[Entry],
-    from: usize,
-    holding: &Holding,
-    waiter: u32,
-) -> Option<u64>
-    requires { from ≤ length entries.now }
-    ensures { result ≡ option_map (λ e. e.number) (find (λ e. is_marked holding.now e.key waiter) (live (drop from entries.now))) }
-{
-    let mut place = from;
-    while place < entries.len() {
-        let entry = entries[place];
-        if entry.there && holding.is_marked(entry.key, waiter) {
-            return Some(entry.number);
         }
         place += 1;
     }

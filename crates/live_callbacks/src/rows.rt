@@ -9,13 +9,11 @@ ghost use Rattle.std.specs.List.{AllByRecursion};
 ghost use Rattle.std.specs.Option.{option_copied};
 ghost use Rattle.linked_lists.specs.Linked.{owner_of};
 ghost use Rattle.live_callbacks.specs.Held.{AreApart, rows_of};
-ghost use Rattle.live_callbacks.specs.Holding.{held_in};
 
 use crate::beside::place_beside;
-use crate::holding::Holding;
 use crate::places::{
-    Entry, entry_behind, entry_of, first_held_from, first_of_group_from, lent_row, make_place,
-    most_entries, place_behind, place_of, row_of,
+    Entry, entry_behind, entry_of, first_of_group_from, lent_row, make_place, most_entries,
+    place_behind, place_of, row_of,
 };
 use linked_lists::LinkedLists;
 use slab::Slab;
@@ -147,34 +145,25 @@ impl Rows {
         &self.rows[key as usize]
     }
 
-    /// The first row of a group, or None where it has none. Goes along the rows.
-    pub fn first_of_group(&self, group: GroupId) -> Option<CallbackRow>
-        ensures { result ≡ find (λ c. c.group.0 == group.0) (rows_of self.now.held) }
+    /// The first row of a group, lent, or None where it has none. Goes along the rows.
+    pub fn first_of_group(&self, group: GroupId) -> Option<&CallbackRow>
+        ensures { option_copied result ≡ find (λ c. c.group.0 == group.0) (rows_of self.now.held) }
     {
-        row_of(
+        lent_row(
             &self.rows,
             first_of_group_from(&self.entries, &self.rows, 0, group),
         )
     }
 
-    /// The first row of a group whose number is above this one. Goes along the rows.
-    pub fn next_of_group(&self, number: u64, group: GroupId) -> Option<CallbackRow>
-        ensures { result ≡ find (λ c. nat_lt number c.number) (filter (λ c. c.group.0 == group.0) (rows_of self.now.held)) }
+    /// The first row of a group whose number is above this one, lent. Goes along the rows.
+    pub fn next_of_group(&self, number: u64, group: GroupId) -> Option<&CallbackRow>
+        ensures { option_copied result ≡ find (λ c. nat_lt number c.number) (filter (λ c. c.group.0 == group.0) (rows_of self.now.held)) }
     {
         let place = place_behind(&self.entries, number);
-        row_of(
+        lent_row(
             &self.rows,
             first_of_group_from(&self.entries, &self.rows, place, group),
         )
-    }
-
-    /// The number of the first row above this number that a waiter's wait holds, or None where there is none. Goes along
-    /// the rows.
-    pub fn next_held(&self, number: u64, holding: &Holding, waiter: u32) -> Option<u64>
-        ensures { result ≡ find (λ n. nat_lt number n) (held_in holding.now self.now.held waiter) }
-    {
-        let place = place_behind(&self.entries, number);
-        first_held_from(&self.entries, place, holding, waiter)
     }
 
     /// Appends a row, whose number is above all the others', and answers its key.

@@ -86,7 +86,7 @@ and_swap false true = refl
 and_swap false false = refl
 
 -- the first that passes
-pub first_filtered : (p : CallbackRow → Bool) (cs : List CallbackRow) → find p cs ≡ slice_get (filter p cs) 0
+pub first_filtered : {X : Type 0} (p : X → Bool) (cs : List X) → find p cs ≡ slice_get (filter p cs) 0
 first_filtered p [] = refl
 first_filtered p (c ∷ cs) = elim (p c) as (λ b. cond b (Some c) (find p cs) ≡ slice_get (cond b (c ∷ filter p cs) (filter p cs)) 0) [ true ↦ refl | false ↦ first_filtered p cs ]
 

@@ -27,64 +27,16 @@ use Rattle.tp_model.proofs.SoundWaits.{closed_cut, sound_begun, sound_waits}
 use Rattle.tp_model.proofs.Refusals.{and_false, both, false_true, is_own_actor, neither}
 use Rattle.tp_model.proofs.Waits.{new_close_sound}
 use Rattle.live_world.specs.declared.LiveWorld.TheInside.{Inside}
-use Rattle.live_world.specs.Closing.{MayHaveNotices, MayNote, begin_close_wait, is_of_group, noted, numbers_of_group}
+use Rattle.live_world.specs.Closing.{MayHaveNotices, MayNote, begin_close_wait, noted}
 use Rattle.live_world.specs.Live.{Live, with_world, moved}
-use Rattle.live_callbacks.specs.Callbacks.{Callbacks, with_held}
-use Rattle.live_world.specs.Parts.{held_among, is_held_among}
+use Rattle.begun_waits.specs.Covers.{Covering, listed_of, with_cover}
 use Rattle.live_world.specs.View.{shown, IsLiveWorld}
 use Rattle.live_world.proofs.Along.{number_of}
-use Rattle.live_world.proofs.Beginnings.{begins_with, each_found}
+use Rattle.live_world.proofs.Beginnings.{begins_with, covers_given}
 use Rattle.live_world.proofs.Cancelled.{none_where}
 use Rattle.live_world.proofs.Covered.{covered_noted}
 use Rattle.live_world.proofs.Lists.{all_pass, filter_all, filter_alike, none_passes}
 use Rattle.live_world.proofs.Moving.{After, Becomes, became_by, moved_by, waits_after}
-
--- ---- what a close covers
-
--- what lives is covered, with cancel and without
-covers_live : (group : GroupId) (cancel : Bool) (s : Status) → is_live s ≡ true → (is_held_for (Group group) s && (is_running s || not (cancel && false))) ≡ true
-covers_live group cancel Expected e = ap not (and_false cancel)
-covers_live group cancel Issued e = ap not (and_false cancel)
-covers_live group cancel Pending e = ap not (and_false cancel)
-covers_live group cancel (Running worker associated slots) e = refl
-covers_live group cancel Returned e = absurd cc
-covers_live group cancel Cancelled e = absurd cc
-
-covers_one : (group : GroupId) (cancel : Bool) (c : CallbackRow) → lives c ≡ true → is_covered_by (Group group) cancel c ≡ is_of_group group c
-covers_one group cancel c live = known (c.group.0 == group.0)
-  where
-    known : (b : Bool) → ((b && is_held_for (Group group) c.status) && (is_running c.status || not (cancel && false))) ≡ b
-    known true = covers_live group cancel c.status live
-    known false = refl
-
--- it covers all that is kept of the group
-covers_group : (group : GroupId) (cancel : Bool) (cs : List CallbackRow) → filter lives cs ≡ cs → covers_among (Group group) cancel cs ≡ numbers_of_group cs group
-covers_group group cancel cs living =
-    ap (map number_of)
-    (filter_alike (is_covered_by (Group group) cancel) (is_of_group group) cs
-    (all_along (λ c. lives c ≡ true) (λ c. is_covered_by (Group group) cancel c ≡ is_of_group group c) (covers_one group cancel) cs (subst (AllByRecursion (λ c. lives c ≡ true)) living (all_pass lives cs))))
-
-held_live : (group : GroupId) (s : Status) → is_live s ≡ true → is_held_for (Group group) s ≡ true
-held_live group Expected e = refl
-held_live group Issued e = refl
-held_live group Pending e = refl
-held_live group (Running worker associated slots) e = refl
-held_live group Returned e = absurd cc
-held_live group Cancelled e = absurd cc
-
--- and all of that is held
-holds_group : (next_number : ℕ) (group : GroupId) (cs : List CallbackRow) → IsRising 1 next_number cs → filter lives cs ≡ cs → filter (is_held_among cs (Group group)) (numbers_of_group cs group) ≡ numbers_of_group cs group
-holds_group next_number group cs rising living =
-    filter_all (is_held_among cs (Group group)) (numbers_of_group cs group)
-    (held (filter (is_of_group group) cs) (all_filter (λ c. find (has_number c.number) cs ≡ Some c) (is_of_group group) cs (each_found 1 next_number cs rising)) (all_pass (is_of_group group) cs)
-    (all_filter (λ c. lives c ≡ true) (is_of_group group) cs (subst (AllByRecursion (λ c. lives c ≡ true)) living (all_pass lives cs))))
-  where
-    held : (ds : List CallbackRow) → AllByRecursion (λ c. find (has_number c.number) cs ≡ Some c) ds → AllByRecursion (λ c. is_of_group group c ≡ true) ds → AllByRecursion (λ c. lives c ≡ true) ds → AllByRecursion (λ n. is_held_among cs (Group group) n ≡ true) (map number_of ds)
-    held [] found of live = tt
-    held (d ∷ ds) found of live = (
-      ap (λ o. option_map_or (λ (c : CallbackRow). (c.group.0 == group.0) && is_held_for (Group group) c.status) o false) found.0 ∙ ap₂ (λ a b. a && b) of.0 (held_live group d.status live.0),
-      held ds found.1 of.1 live.1,
-    )
 
 -- ---- the wait begins
 
@@ -99,22 +51,20 @@ sound_begin_close_wait next_number w who group cancel context n may settled s =
     subst (λ ds. IsSound next_number (record w { callbacks = ds; waits = w.waits ++ new_close who group cancel context [] w.callbacks ∷ [] })) still
     (sound_begun next_number w test (new_close who group cancel context [] w.callbacks) (cancelled_pending (Group group) cancel) may.none (subst (λ ds. IsWaitSound next_number ds (new_close who group cancel context [] w.callbacks)) (sym still) sound) tt s)
 
-pub closes_by : (i : Inside) (l : Live) (who : Who) (group : GroupId) (cancel : Bool) (context n place : ℕ) (callbacks : Callbacks) (waits : Begun) → shown i ≡ l → IsLiveWorld i
+pub closes_by : (i : Inside) (l : Live) (who : Who) (group : GroupId) (cancel : Bool) (context n place : ℕ) (covers : Covering) (waits : Begun) → shown i ≡ l → IsLiveWorld i
     → MayClose l.world who group cancel n → filter (is_cancelled_by (Group group) cancel) l.world.callbacks ≡ [] → place_of i.waits.limits who ≡ Some place
-    → callbacks ≡ with_held i.callbacks place (numbers_of_group i.callbacks.rows group)
+    → covers ≡ with_cover i.covers place (Some i.made) (listed_of i.covers place)
     → waits ≡ record i.waits { waits = i.waits.waits ++ new_close who group cancel context [] i.callbacks.rows ∷ [] }
-    → Becomes (record i { callbacks = callbacks; waits = waits }) (with_world l (begin_close_wait l.world who group cancel context))
-closes_by i l who group cancel context n place callbacks waits is k may settled at held_now waits_now =
+    → Becomes (record i { covers = covers; waits = waits }) (with_world l (begin_close_wait l.world who group cancel context))
+closes_by i l who group cancel context n place covers waits is k may settled at covers_now waits_now =
     let cs : List CallbackRow = i.callbacks.rows in
     let w : World = (shown i).world in
     let b : BegunWait = new_close who group cancel context [] cs in
     let may_here : MayClose w who group cancel n = subst (λ (x : Live). MayClose x.world who group cancel n) (sym is) may in
     let settled_here = ap (λ (x : Live). filter (is_cancelled_by (Group group) cancel) x.world.callbacks) is ∙ settled in
-    let covers : b.covered ≡ numbers_of_group cs group = covers_group group cancel cs k.alive.live in
-    let held : held_among cs b ≡ b.covered = ap (filter (is_held_among cs (Group group))) covers ∙ holds_group (i.made + 1) group cs k.sound.numbers k.alive.live ∙ sym covers in
-    let r = became_by (record i { callbacks = callbacks; waits = waits }) (begin_close_wait w who group cancel context)
+    let r = became_by (record i { covers = covers; waits = waits }) (begin_close_wait w who group cancel context)
     (sound_begin_close_wait (i.made + 1) w who group cancel context n may_here settled_here k.sound)
-    (begins_with i b place callbacks waits k at may_here.none held (held_now ∙ ap (λ ns. with_held i.callbacks place ns) (sym covers)) waits_now) in
+    (begins_with i b place (Some i.made) (listed_of i.covers place) covers waits k at may_here.none (covers_given i.made cs k.sound.numbers b cancel refl (listed_of i.covers place) (and_false cancel)) covers_now waits_now) in
     record { keeps = r.keeps; becomes = r.becomes ∙ ap (λ (x : Live). with_world x (begin_close_wait x.world who group cancel context)) is }
 
 -- with cancel, it may have notices
@@ -198,11 +148,11 @@ noted_sound next_number w who object may told s = sound_waits next_number w f sa
       named bs all.1,
     )
 
--- notices change, and what is held does not
-still_held : (i : Inside) (who : Who) (f : BegunWait → BegunWait) (waits : Begun) → ((b : BegunWait) → (f b).actor ≡ b.actor) → ((b : BegunWait) → held_among i.callbacks.rows (f b) ≡ held_among i.callbacks.rows b) → IsLiveWorld i
+-- notices change, and what is covered does not
+still_covered : (i : Inside) (who : Who) (f : BegunWait → BegunWait) (waits : Begun) → ((b : BegunWait) → (f b).actor ≡ b.actor) → ((b : BegunWait) → (f b).target ≡ b.target) → ((b : BegunWait) → (f b).covered ≡ b.covered) → IsLiveWorld i
     → waits ≡ record i.waits { waits = map (λ (b : BegunWait). cond (is_same_actor b.actor who) (f b) b) i.waits.waits } → After (record i { waits = waits }) (record (shown i).world { waits = map (λ (b : BegunWait). cond (is_same_actor b.actor who) (f b) b) i.waits.waits })
-still_held i who f waits stays same k waits_now =
-    rw waits_now (waits_after i i.callbacks.held (record i.waits { waits = map (λ (b : BegunWait). cond (is_same_actor b.actor who) (f b) b) i.waits.waits }) i.sources.sources.kernels k (covered_noted who f stays same k.covered))
+still_covered i who f waits stays target covered k waits_now =
+    rw waits_now (waits_after i i.covers (record i.waits { waits = map (λ (b : BegunWait). cond (is_same_actor b.actor who) (f b) b) i.waits.waits }) i.sources.sources.kernels k (covered_noted who f stays target covered k.covered))
 
 pub noted_by : (i : Inside) (l : Live) (who : Who) (object : ObjectId) (waits : Begun) → shown i ≡ l → IsLiveWorld i → MayNote l.world who → is_object_that is_told l.world.objects object.0 ≡ true
     → waits ≡ record i.waits { waits = with_notices who (object ∷ []) i.waits.waits } → Becomes (record i { waits = waits }) (noted l who (object ∷ []))
@@ -211,11 +161,11 @@ noted_by i l who object waits is k may told waits_now =
     let may_here : MayNote w who = subst (λ (x : Live). MayNote x.world who) (sym is) may in
     let told_here : is_object_that is_told w.objects object.0 ≡ true = ap (λ (x : Live). is_object_that is_told x.world.objects object.0) is ∙ told in
     let r = became_by (record i { waits = waits }) (record w { waits = with_notices who (object ∷ []) w.waits })
-    (noted_sound (i.made + 1) w who object may_here told_here k.sound) (still_held i who (λ b. record b { notices = b.notices ++ object ∷ [] }) waits (λ _. refl) (λ _. refl) k waits_now) in
+    (noted_sound (i.made + 1) w who object may_here told_here k.sound) (still_covered i who (λ b. record b { notices = b.notices ++ object ∷ [] }) waits (λ _. refl) (λ _. refl) (λ _. refl) k waits_now) in
     record { keeps = r.keeps; becomes = r.becomes ∙ ap (λ (x : Live). noted x who (object ∷ [])) is }
 
 -- the first is given
 pub given_by : (i : Inside) (l : Live) (who : Who) (waits : Begun) → shown i ≡ l → IsLiveWorld i → IsAllowed (l.made + 1) l.world (change.GiveNotice who) → waits ≡ record i.waits { waits = give_notice who i.waits.waits }
     → Becomes (record i { waits = waits }) (moved l (change.GiveNotice who))
 given_by i l who waits is k allowed waits_now =
-    moved_by i (record i { waits = waits }) l (change.GiveNotice who) is k allowed (omega arith) (λ _. still_held i who notified waits (λ _. refl) (λ _. refl) k waits_now)
+    moved_by i (record i { waits = waits }) l (change.GiveNotice who) is k allowed (omega arith) (λ _. still_covered i who notified waits (λ _. refl) (λ _. refl) (λ _. refl) k waits_now)

@@ -1,7 +1,8 @@
 -- What a wait that begins covers, what it cancels, and what the parts show then.
-use Rattle.std.proofs.Common.{◌≡◌, ℕ, suc, ◌+◌, Bool, true, false, cond, not, ◌&&◌, ◌||◌, ◌==◌, List, [], ◌∷◌, ◌++◌, length, map, slice_set, Some, refl, sym, ap, ap₂, ◌∙◌, subst, arith, filter, find, eq-eqb, ne_eqb}
+use Rattle.std.proofs.Common.{◌≡◌, ℕ, suc, ◌+◌, ◌≤◌, Bool, true, false, cond, not, ◌&&◌, ◌||◌, ◌==◌, List, [], ◌∷◌, ◌++◌, length, map, nat_le, Option, None, Some, refl, sym, ap, ap₂, ◌∙◌, subst, arith, filter, find, eqb-true}
 use Rattle.std.specs.List.{AllByRecursion}
 use Rattle.std.specs.Option.{option_map_or}
+use Rattle.std.proofs.lemmas.Bool.{le-leb}
 use Rattle.std.proofs.lemmas.List.{length-map}
 use Rattle.tp_base.specs.declared.ids.Who.{Who}
 use Rattle.tp_base.specs.declared.ids.ObjectId.{ObjectId}
@@ -19,48 +20,93 @@ use Rattle.tp_model.specs.Support.Allowed.{IsAllowed, MayBegin}
 use Rattle.tp_base.specs.declared.plans.Change.TheVariants as change
 use Rattle.tp_model.specs.Support.Remembered.{lives, forget}
 use Rattle.tp_model.proofs.Forgetting.{over_not_covered, over_not_cancelled}
-use Rattle.tp_model.specs.Waits.{is_held_for, is_outstanding_for, is_cancelled_by, is_covered_by, cancelled, cancel_where, covered_of}
+use Rattle.tp_model.specs.Waits.{is_held_for, is_outstanding_for, is_cancelled_by, is_covered_by, is_object_target, cancelled, cancel_where, covered_of}
 use Rattle.tp_model.proofs.Lists.{all_along, all_filter, filter_agree, filter_filter}
 use Rattle.tp_model.proofs.Callbacks.{found_bounds}
 use Rattle.tp_model.proofs.Sound.{sound_begin_wait}
-use Rattle.tp_model.proofs.Refusals.{and_false, both}
+use Rattle.tp_model.proofs.Refusals.{and_false, false_true}
 use Rattle.live_world.specs.declared.LiveWorld.TheInside.{Inside}
 use Rattle.live_world.specs.Live.{Live, moved, with_world, settled}
-use Rattle.live_world.specs.Parts.{is_held_among, held_among}
+use Rattle.begun_waits.specs.Covers.{Covering, listed_of, with_cover}
+use Rattle.live_world.specs.Covers.{Ascend, IsCover}
 use Rattle.begun_waits.specs.Begun.{Begun, is_waiting, place_of}
 use Rattle.live_world.specs.View.{shown, IsLiveWorld}
 use Rattle.live_world.specs.Invariant.{is_pending_callback, is_running_callback}
-use Rattle.live_callbacks.specs.Callbacks.{Callbacks, outstanding_among, with_held}
-use Rattle.live_world.specs.Waiting.{is_wanted}
-use Rattle.live_world.proofs.Lists.{filter_all, filter_both, all_pass, none_passes}
+use Rattle.live_callbacks.specs.Callbacks.{outstanding_among}
+use Rattle.tp_model.specs.Laws.Entries.{is_among}
+use Rattle.live_world.proofs.Lists.{filter_both, none_passes}
 use Rattle.live_world.proofs.Along.{number_of, pending_among}
 use Rattle.live_world.proofs.Cancelled.{none_where}
-use Rattle.live_world.proofs.Covered.{covered_begun, covered_idle, placed}
+use Rattle.live_world.proofs.Covered.{covered_begun, placed}
 use Rattle.live_world.proofs.Moving.{After, Becomes, became_by, moved_by, waits_after}
 
 -- ---- what a wait covers
 
--- each row is found by its number
-pub each_found : (low next_number : ℕ) (cs : List CallbackRow) → IsRising low next_number cs → AllByRecursion (λ c. find (has_number c.number) cs ≡ Some c) cs
-each_found low next_number [] r = tt
-each_found low next_number (c ∷ cs) r = (
-  ap (λ b. cond b (Some c) (find (has_number c.number) cs)) (eq-eqb c.number c.number refl),
-  all_along (λ x. find (has_number x.number) cs ≡ Some x) (λ x. find (has_number x.number) (c ∷ cs) ≡ Some x)
-      (λ x found. ap (λ b. cond b (Some c) (find (has_number x.number) cs)) (ne_eqb c.number x.number (λ same. omega (arith, same, (found_bounds x.number (c.number + 1) next_number x cs r.1 found).0))) ∙ found)
-      cs (each_found (c.number + 1) next_number cs r.1),
-)
-
--- of what is outstanding a wait covers all, or with cancel what runs
-pub covers_outstanding : (object : ObjectId) (cancel : Bool) (cs : List CallbackRow) → map number_of (filter (is_wanted cancel) (outstanding_among cs object)) ≡ covered_of (Object object) cancel cs
-covers_outstanding object cancel cs =
-    ap (map number_of) (filter_both (is_wanted cancel) (is_outstanding_for (Object object)) cs
-    ∙ filter_agree (λ c. is_outstanding_for (Object object) c && is_wanted cancel c) (is_covered_by (Object object) cancel) (λ c. ap (λ b. is_outstanding_for (Object object) c && b) (alike cancel (is_running_callback c))) cs)
+-- a number is among those of the rows that pass where its own row passes
+pub among_numbers : (p : CallbackRow → Bool) (n low next_number : ℕ) (cs : List CallbackRow) → IsRising low next_number cs → is_among n (map number_of (filter p cs)) ≡ option_map_or p (find (has_number n) cs) false
+among_numbers p n low next_number [] r = refl
+among_numbers p n low next_number (c ∷ cs) r =
+    let rest = among_numbers p n (c.number + 1) next_number cs r.1 in
+    elim (has_number n c) as (λ b. has_number n c ≡ b → is_among n (map number_of (cond (p c) (c ∷ filter p cs) (filter p cs))) ≡ option_map_or p (cond b (Some c) (find (has_number n) cs)) false) [
+      | true ↦ λ e. elim (p c) as (λ t. is_among n (map number_of (cond t (c ∷ filter p cs) (filter p cs))) ≡ t) [
+        | true ↦ ap (λ b. b || is_among n (map number_of (filter p cs))) e
+        | false ↦ rest ∙ absent (find (has_number n) cs) refl (eqb-true c.number n e)
+      ]
+      | false ↦ λ e. elim (p c) as (λ t. is_among n (map number_of (cond t (c ∷ filter p cs) (filter p cs))) ≡ option_map_or p (find (has_number n) cs) false) [
+        | true ↦ ap (λ b. b || is_among n (map number_of (filter p cs))) e ∙ rest
+        | false ↦ rest
+      ]
+    ] refl
   where
-    alike : (a b : Bool) → (not a || b) ≡ (b || not (a && true))
-    alike true true = refl
-    alike true false = refl
-    alike false true = refl
-    alike false false = refl
+    absent : (o : Option CallbackRow) → find (has_number n) cs ≡ o → c.number ≡ n → option_map_or p o false ≡ false
+    absent None found same = refl
+    absent (Some d) found same = absurd (omega (arith, same, (found_bounds n (c.number + 1) next_number d cs r.1 found).0))
+
+ascend_lower : (low from : ℕ) (ns : List ℕ) → low ≤ from → Ascend from ns → Ascend low ns
+ascend_lower low from [] le r = tt
+ascend_lower low from (n ∷ ns) le r = (omega (arith, le, r.0), r.1)
+
+-- and they rise
+ascends : (p : CallbackRow → Bool) (low next_number : ℕ) (cs : List CallbackRow) → IsRising low next_number cs → Ascend low (map number_of (filter p cs))
+ascends p low next_number [] r = tt
+ascends p low next_number (c ∷ cs) r =
+    let rest = ascends p (c.number + 1) next_number cs r.1 in
+    elim (p c) as (λ b. Ascend low (map number_of (cond b (c ∷ filter p cs) (filter p cs)))) [ true ↦ (r.0, rest) | false ↦ ascend_lower low (c.number + 1) (map number_of (filter p cs)) (omega (arith, r.0)) rest ]
+
+module _ (made : ℕ) (cs : List CallbackRow) (rising : IsRising 1 (made + 1) cs) (b : BegunWait) (cancel : Bool) (is : b.covered ≡ covered_of b.target cancel cs) where
+  -- the numbers that it covers stand in a list
+  pub covers_listed : IsCover made cs None b.covered b
+  covers_listed = record { given = tt; tells = λ n held. refl; lists = λ _. refl; rises = rw is (ascend_lower 0 1 (covered_of b.target cancel cs) (omega arith) (ascends (is_covered_by b.target cancel) 1 (made + 1) cs rising)) }
+
+  -- or it covers all that is outstanding
+  pub covers_given : (listed : List ℕ) → (cancel && is_object_target b.target) ≡ false → IsCover made cs (Some made) listed b
+  covers_given listed all =
+      record {
+        given = omega arith;
+        tells = λ n held. of_row n (find (has_number n) cs) refl held ∙ sym (ap (is_among n) is ∙ among_numbers (is_covered_by b.target cancel) n 1 (made + 1) cs rising);
+        lists = λ none. absurd cc;
+        rises = covers_listed.rises;
+      }
+    where
+      or_true : (a : Bool) → (a || true) ≡ true
+      or_true true = refl
+      or_true false = refl
+
+      of_row : (n : ℕ) (o : Option CallbackRow) → find (has_number n) cs ≡ o → option_map_or (is_outstanding_for b.target) o false ≡ true → nat_le n made ≡ option_map_or (is_covered_by b.target cancel) o false
+      of_row n None found held = absurd (false_true held)
+      of_row n (Some c) found held =
+          le-leb n made (omega (arith, (found_bounds n 1 (made + 1) c cs rising found).1))
+          ∙ sym (ap₂ (λ p q. p && (is_running c.status || not q)) held all ∙ or_true (is_running c.status))
+
+-- of what is outstanding a wait with cancel covers what runs
+pub covers_outstanding : (object : ObjectId) (cs : List CallbackRow) → map number_of (filter is_running_callback (outstanding_among cs object)) ≡ covered_of (Object object) true cs
+covers_outstanding object cs =
+    ap (map number_of) (filter_both is_running_callback (is_outstanding_for (Object object)) cs
+    ∙ filter_agree (λ c. is_outstanding_for (Object object) c && is_running_callback c) (is_covered_by (Object object) true) (λ c. ap (λ b. is_outstanding_for (Object object) c && b) (alike (is_running_callback c))) cs)
+  where
+    alike : (a : Bool) → a ≡ (a || false)
+    alike true = refl
+    alike false = refl
 
 -- ---- how many it covers, and how many it cancels
 
@@ -132,39 +178,25 @@ cancels_none object (c ∷ cs) = cancels_none object cs
 
 -- ---- the parts
 
--- what it covers is held
-all_held : (next_number : ℕ) (object : ObjectId) (cancel : Bool) (cs : List CallbackRow) → IsRising 1 next_number cs → AllByRecursion (λ n. is_held_among cs (Object object) n ≡ true) (covered_of (Object object) cancel cs)
-all_held next_number object cancel cs rising =
-    held (filter covers cs) (all_filter (λ c. find (has_number c.number) cs ≡ Some c) covers cs (each_found 1 next_number cs rising)) (all_pass covers cs)
-  where
-    covers : CallbackRow → Bool
-    covers = is_covered_by (Object object) cancel
+-- a wait begins, and what it covers is told
+pub begins_with : (i : Inside) (b : BegunWait) (place : ℕ) (bound : Option ℕ) (listed : List ℕ) (covers : Covering) (waits : Begun) → IsLiveWorld i → place_of i.waits.limits b.actor ≡ Some place → is_waiting i.waits.waits b.actor ≡ false → IsCover i.made i.callbacks.rows bound listed b
+    → covers ≡ with_cover i.covers place bound listed → waits ≡ record i.waits { waits = i.waits.waits ++ b ∷ [] } → After (record i { covers = covers; waits = waits }) (record (shown i).world { waits = i.waits.waits ++ b ∷ [] })
+begins_with i b place bound listed covers waits k at none new covers_now waits_now =
+    rw (covers_now, waits_now) (waits_after i (with_cover i.covers place bound listed) (record i.waits { waits = i.waits.waits ++ b ∷ [] }) i.sources.sources.kernels k (covered_begun place b bound listed (placed b.actor (Some place) at k.covered) none new k.covered))
 
-    held : (ds : List CallbackRow) → AllByRecursion (λ c. find (has_number c.number) cs ≡ Some c) ds → AllByRecursion (λ c. covers c ≡ true) ds → AllByRecursion (λ n. is_held_among cs (Object object) n ≡ true) (map number_of ds)
-    held [] found passes = tt
-    held (d ∷ ds) found passes =
-        (ap (λ o. option_map_or (is_outstanding_for (Object object)) o false) found.0 ∙ (both (is_outstanding_for (Object object) d) (is_running d.status || not (cancel && true)) passes.0).0, held ds found.1 passes.1)
-
--- a wait begins that covers what it holds
-pub begins_with : (i : Inside) (b : BegunWait) (place : ℕ) (callbacks : Callbacks) (waits : Begun) → IsLiveWorld i → place_of i.waits.limits b.actor ≡ Some place → is_waiting i.waits.waits b.actor ≡ false → held_among i.callbacks.rows b ≡ b.covered
-    → callbacks ≡ with_held i.callbacks place b.covered → waits ≡ record i.waits { waits = i.waits.waits ++ b ∷ [] } → After (record i { callbacks = callbacks; waits = waits }) (record (shown i).world { waits = i.waits.waits ++ b ∷ [] })
-begins_with i b place callbacks waits k at none held held_now waits_now =
-    rw (held_now, waits_now) (waits_after i (slice_set i.callbacks.held place b.covered) (record i.waits { waits = i.waits.waits ++ b ∷ [] }) i.sources.sources.kernels k (covered_begun place b (placed b.actor (Some place) at k.covered) none held k.covered))
-
-pub begun_by : (i : Inside) (l : Live) (who : Who) (object : ObjectId) (cancel : Bool) (place : ℕ) (callbacks : Callbacks) (waits : Begun) → shown i ≡ l → IsLiveWorld i
-    → MayBegin l.world who (awaited.Object object) → filter (is_cancelled_by (Object object) cancel) l.world.callbacks ≡ [] → place_of i.waits.limits who ≡ Some place
-    → callbacks ≡ with_held i.callbacks place (covered_of (Object object) cancel i.callbacks.rows) → waits ≡ record i.waits { waits = i.waits.waits ++ new_wait who (Object object) cancel i.callbacks.rows ∷ [] }
-    → Becomes (record i { callbacks = callbacks; waits = waits }) (with_world l (begin_wait l.world who (Object object) cancel l.world.callbacks))
-begun_by i l who object cancel place callbacks waits is k may settled at held_now waits_now =
+pub begun_by : (i : Inside) (l : Live) (who : Who) (object : ObjectId) (cancel : Bool) (place : ℕ) (bound : Option ℕ) (listed : List ℕ) (covers : Covering) (waits : Begun) → shown i ≡ l → IsLiveWorld i
+    → MayBegin l.world who (awaited.Object object) → filter (is_cancelled_by (Object object) cancel) l.world.callbacks ≡ [] → place_of i.waits.limits who ≡ Some place → IsCover i.made i.callbacks.rows bound listed (new_wait who (Object object) cancel i.callbacks.rows)
+    → covers ≡ with_cover i.covers place bound listed → waits ≡ record i.waits { waits = i.waits.waits ++ new_wait who (Object object) cancel i.callbacks.rows ∷ [] }
+    → Becomes (record i { covers = covers; waits = waits }) (with_world l (begin_wait l.world who (Object object) cancel l.world.callbacks))
+begun_by i l who object cancel place bound listed covers waits is k may settled at new covers_now waits_now =
     let cs : List CallbackRow = i.callbacks.rows in
     let w : World = (shown i).world in
     let v : World = begin_wait w who (Object object) cancel cs in
     let b : BegunWait = new_wait who (Object object) cancel cs in
     let may_here : MayBegin w who (awaited.Object object) = subst (λ (x : Live). MayBegin x.world who (awaited.Object object)) (sym is) may in
     let left : AllByRecursion (λ c. is_cancelled_by (Object object) cancel c ≡ false) cs = none_passes (is_cancelled_by (Object object) cancel) cs (ap (λ (x : Live). filter (is_cancelled_by (Object object) cancel) x.world.callbacks) is ∙ settled) in
-    let held : held_among cs b ≡ b.covered = filter_all (is_held_among cs (Object object)) b.covered (all_held (i.made + 1) object cancel cs k.sound.numbers) in
     let sound : IsSound (i.made + 1) v = subst (λ ds. IsSound (i.made + 1) (begin_wait w who (Object object) cancel ds)) (none_where cs (is_cancelled_by (Object object) cancel) left) (sound_begin_wait (i.made + 1) w who (awaited.Object object) cancel may_here.none may_here.made k.sound) in
-    let r = became_by (record i { callbacks = callbacks; waits = waits }) v sound (begins_with i b place callbacks waits k at may_here.none held held_now waits_now) in
+    let r = became_by (record i { covers = covers; waits = waits }) v sound (begins_with i b place bound listed covers waits k at may_here.none new covers_now waits_now) in
     record { keeps = r.keeps; becomes = r.becomes ∙ ap (λ (x : Live). with_world x (begin_wait x.world who (Object object) cancel x.world.callbacks)) is }
 
 -- ---- what a begun wait comes to
@@ -205,22 +237,18 @@ not_settled l object living =
 
 -- ---- a wait for a kernel object
 
-covers_none : (kernel : KernelId) (cancel : Bool) (cs : List CallbackRow) → covered_of (Kernel kernel) cancel cs ≡ []
-covers_none kernel cancel [] = refl
-covers_none kernel cancel (c ∷ cs) = covers_none kernel cancel cs
-
 none_cancelled : (kernel : KernelId) (cancel : Bool) (cs : List CallbackRow) → AllByRecursion (λ c. is_cancelled_by (Kernel kernel) cancel c ≡ false) cs
 none_cancelled kernel cancel [] = tt
 none_cancelled kernel cancel (c ∷ cs) = (ap (λ b. cancel && b) (and_false (is_pending c.status)) ∙ and_false cancel, none_cancelled kernel cancel cs)
 
-pub acquires : (i : Inside) (l : Live) (who : Who) (kernel : KernelId) (cancel : Bool) (waits : Begun) → shown i ≡ l → IsLiveWorld i
-    → IsAllowed (l.made + 1) l.world (change.BeginWait who (awaited.Kernel kernel) cancel) → waits ≡ record i.waits { waits = i.waits.waits ++ new_wait who (Kernel kernel) cancel i.callbacks.rows ∷ [] }
-    → Becomes (record i { waits = waits }) (moved l (change.BeginWait who (awaited.Kernel kernel) cancel))
-acquires i l who kernel cancel waits is k allowed waits_now =
-    moved_by i (record i { waits = waits }) l (change.BeginWait who (awaited.Kernel kernel) cancel) is k allowed (omega arith) (λ a.
+pub acquires : (i : Inside) (l : Live) (who : Who) (kernel : KernelId) (cancel : Bool) (place : ℕ) (covers : Covering) (waits : Begun) → shown i ≡ l → IsLiveWorld i
+    → IsAllowed (l.made + 1) l.world (change.BeginWait who (awaited.Kernel kernel) cancel) → place_of i.waits.limits who ≡ Some place
+    → covers ≡ with_cover i.covers place (Some i.made) (listed_of i.covers place) → waits ≡ record i.waits { waits = i.waits.waits ++ new_wait who (Kernel kernel) cancel i.callbacks.rows ∷ [] }
+    → Becomes (record i { covers = covers; waits = waits }) (moved l (change.BeginWait who (awaited.Kernel kernel) cancel))
+acquires i l who kernel cancel place covers waits is k allowed at covers_now waits_now =
+    moved_by i (record i { covers = covers; waits = waits }) l (change.BeginWait who (awaited.Kernel kernel) cancel) is k allowed (omega arith) (λ a.
     let cs : List CallbackRow = i.callbacks.rows in
     let b : BegunWait = new_wait who (Kernel kernel) cancel cs in
     let kept : cancel_where (is_cancelled_by (Kernel kernel) cancel) cs ≡ cs = none_where cs (is_cancelled_by (Kernel kernel) cancel) (none_cancelled kernel cancel cs) in
-    let nothing : held_among cs b ≡ [] = ap (filter (is_held_among cs (Kernel kernel))) (covers_none kernel cancel cs) in
-    subst (λ ds. After (record i { waits = waits }) (begin_wait (shown i).world who (Kernel kernel) cancel ds)) (sym kept)
-    (rw waits_now (waits_after i i.callbacks.held (record i.waits { waits = i.waits.waits ++ b ∷ [] }) i.sources.sources.kernels k (covered_idle b a.none nothing k.covered))))
+    subst (λ ds. After (record i { covers = covers; waits = waits }) (begin_wait (shown i).world who (Kernel kernel) cancel ds)) (sym kept)
+    (begins_with i b place (Some i.made) (listed_of i.covers place) covers waits k at a.none (covers_given i.made cs k.sound.numbers b cancel refl (listed_of i.covers place) (and_false cancel)) covers_now waits_now))

@@ -26,13 +26,13 @@ use Rattle.tp_model.proofs.Lists.{all_get}
 use Rattle.tp_model.proofs.Callbacks.{found_bounds, find_replaced as find_here, pending_lives, pending_not_running}
 use Rattle.tp_model.proofs.Sound.{sound_cancelled, sound_returned}
 use Rattle.live_world.specs.declared.LiveWorld.TheInside.{Inside}
-use Rattle.live_world.specs.Closing.{IsLeft}
+use Rattle.tp_model.proofs.Refusals.{false_true}
 use Rattle.live_world.specs.Live.{Live, moved, with_world}
 use Rattle.live_world.specs.Parts.{shown_worker}
 use Rattle.live_world.specs.View.{shown, IsLiveWorld}
-use Rattle.live_world.specs.Invariant.{AreCovered, AreMarked, IsMarked}
+use Rattle.live_world.specs.Invariant.{AreMarked, IsMarked}
 use Rattle.live_world.proofs.Lists.{set_twice, set_there}
-use Rattle.live_world.proofs.Covered.{covered_replaced, covered_loose}
+use Rattle.live_world.proofs.Covered.{covered_replaced, outstanding_before}
 use Rattle.live_world.proofs.Tallied.{AreApart, is_behind, runs_nothing, runs_this, worker_changed, idle_alike, busy_alike, tallied_both, marked_set, marked_apart, marked_replaced, marked_others, others_apart, same_found}
 use Rattle.live_world.proofs.Moving.{Becomes, became_by, comes, found_here, goes, goes_along, goes_idle, goes_on, moved_by, pending_tied, same_home, set_shown, sized_worker, without}
 
@@ -59,7 +59,7 @@ taken_by i l by c pools callbacks is k allowed pools_now rows_now =
     let busy : c.number ≢ 0 = λ z. omega (arith, z, above) in
     let idle : b.row.callback ≡ 0 = runs_nothing b.row.callback b.same_callback in
     let shows : shown_worker new ≡ target = ap₂ (λ (p : Option PoolId) (z : Bool). record { pool = p; callback = cond z None (Some c.number) }) b.same_pool (ne_eqb c.number 0 busy) in
-    goes_on i r pools (slice_set i.pools.workers (by.worker - 1) new) callbacks (slice_set (shown i).world.workers (by.worker - 1) target) i.callbacks.held k refl
+    goes_on i r pools (slice_set i.pools.workers (by.worker - 1) new) callbacks (slice_set (shown i).world.workers (by.worker - 1) target) k refl
     (pools_now ∙ worker_changed i.pools by.worker b.row (λ w. record w { callback = c.number; long = c.long }) b.at_place b.from_one)
     rows_now (set_shown i.pools.workers by.worker new target shows)
     (sized_worker i.pools (by.worker - 1) new (same_home i.pools (by.worker - 1) b.row new b.at_place refl k.sized) k.sized)
@@ -68,7 +68,7 @@ taken_by i l by c pools callbacks is k allowed pools_now rows_now =
     (busy_alike r new by.pool b.same_pool busy a.home refl refl)
     (marked_set (replaced r i.callbacks.rows) i.pools.workers (by.worker - 1) new (λ _. (r, find_here r c i.callbacks.rows a.found, refl))
     (marked_replaced r c i.callbacks.rows i.pools.workers a.found refl k.tallied.marked)) k.tallied)
-    (covered_replaced r c refl refl (sym (pending_tied c.object c.status a.pending)) (sym (pending_lives c.status a.pending)) a.found k.covered))
+    (covered_replaced r c (outstanding_before r c refl refl (λ _. pending_tied c.object c.status a.pending) (pending_lives c.status a.pending)) a.found k.covered))
 
 -- ---- a callback that runs
 
@@ -118,7 +118,7 @@ marked_long i l by pools callbacks is k allowed pools_now rows_now =
     let r : CallbackRow = marked Long c in
     let new : kept.WorkerRow = record on.row { long = true } in
     let rest : kept.WorkerRow = record on.row { callback = 0; long = false } in
-    goes_on i r pools (slice_set i.pools.workers (by.worker - 1) new) callbacks (shown i).world.workers i.callbacks.held k (ap is_live a.runs.running)
+    goes_on i r pools (slice_set i.pools.workers (by.worker - 1) new) callbacks (shown i).world.workers k (ap is_live a.runs.running)
     (pools_now ∙ worker_changed i.pools by.worker on.row (λ w. record w { long = true }) on.at_place on.from_one)
     rows_now (shows_same i.pools.workers (by.worker - 1) on.row new on.at_place refl)
     (sized_worker i.pools (by.worker - 1) new (same_home i.pools (by.worker - 1) on.row new on.at_place refl k.sized) k.sized)
@@ -130,7 +130,7 @@ marked_long i l by pools callbacks is k allowed pools_now rows_now =
     (λ _. (r, ap (λ n. find (has_number n) (replaced r i.callbacks.rows)) on.runs ∙ find_here r c i.callbacks.rows a.runs.found, refl))
     (marked_apart r i.callbacks.rows (slice_set i.pools.workers (by.worker - 1) rest) (on.alone rest refl)
     (marked_set i.callbacks.rows i.pools.workers (by.worker - 1) rest (λ runs_now. absurd (runs_now refl)) k.tallied.marked)))) k.tallied)
-    (covered_replaced r c refl refl refl refl a.runs.found k.covered))
+    (covered_replaced r c (outstanding_before r c refl refl (λ tied. tied) (ap is_live a.runs.running)) a.runs.found k.covered))
 
 -- it returns
 pub ended_by : (i : Inside) (l : Live) (by : Busy) (pools : Pools) (callbacks : Callbacks) → shown i ≡ l → IsLiveWorld i → Runs l.world by
@@ -161,18 +161,16 @@ ended_by i l by pools callbacks is k running pools_now rows_now =
     record { keeps = b.keeps; becomes = b.becomes ∙ ap (λ (x : Live). with_world x (without_run x.world by)) is }
 
 -- it is no longer outstanding for its object
-pub loosened_by : (i : Inside) (l : Live) (by : Busy) (mid callbacks : Callbacks) → shown i ≡ l → IsLiveWorld i → IsAllowed (l.made + 1) l.world (change.Mark by Loose)
-    → mid ≡ record i.callbacks { rows = replaced (marked Loose by.callback) i.callbacks.rows } → IsLeft by.callback.number i.waits mid callbacks
-    → Becomes (record i { callbacks = callbacks }) (moved l (change.Mark by Loose))
-loosened_by i l by mid callbacks is k allowed rows_now left_now =
+pub loosened_by : (i : Inside) (l : Live) (by : Busy) (callbacks : Callbacks) → shown i ≡ l → IsLiveWorld i → IsAllowed (l.made + 1) l.world (change.Mark by Loose)
+    → callbacks ≡ record i.callbacks { rows = replaced (marked Loose by.callback) i.callbacks.rows } → Becomes (record i { callbacks = callbacks }) (moved l (change.Mark by Loose))
+loosened_by i l by callbacks is k allowed rows_now =
     moved_by i (record i { callbacks = callbacks }) l (change.Mark by Loose) is k allowed (omega arith) (λ a.
     let c : CallbackRow = by.callback in
     let r : CallbackRow = marked Loose c in
     let runs : r.status ≡ Running by.worker false a.runs.slots = ap loosened a.runs.running in
     let untied : is_tied r ≡ false = ap (is_held_for (target.Object c.object)) runs in
-    goes_along i r c callbacks callbacks.held k (ap is_live runs) refl refl (ap is_running runs ∙ sym (ap is_running a.runs.running)) a.runs.found
-    (left_now.rest ∙ ap (λ (x : Callbacks). record x { held = callbacks.held }) rows_now)
-    (covered_loose r c refl refl untied (ap is_live runs ∙ sym (ap is_live a.runs.running)) a.runs.found left_now (subst (λ (x : Callbacks). AreCovered i.limits i.callbacks.rows i.waits x.held) (sym rows_now) k.covered)))
+    goes_along i r c callbacks k (ap is_live runs) refl refl (ap is_running runs ∙ sym (ap is_running a.runs.running)) a.runs.found rows_now
+    (covered_replaced r c (outstanding_before r c refl refl (λ tied. absurd (false_true (sym untied ∙ tied))) (ap is_live a.runs.running)) a.runs.found k.covered))
 
 -- it asks for an action on return
 pub asked_by : (i : Inside) (l : Live) (by : Busy) (kind : ActionKind) (action : Action) (callbacks : Callbacks) → shown i ≡ l → IsLiveWorld i → IsAllowed (l.made + 1) l.world (change.Mark by (Asks kind action))
@@ -183,8 +181,8 @@ asked_by i l by kind action callbacks is k allowed rows_now =
     let r : CallbackRow = marked (Asks kind action) c in
     let runs : r.status ≡ Running by.worker a.runs.associated (filled kind action a.runs.slots) = ap (asking kind action) a.runs.running in
     let tied : is_tied r ≡ is_tied c = ap (is_held_for (target.Object c.object)) runs ∙ sym (ap (is_held_for (target.Object c.object)) a.runs.running) in
-    goes_along i r c callbacks i.callbacks.held k (ap is_live runs) refl refl (ap is_running runs ∙ sym (ap is_running a.runs.running)) a.runs.found rows_now
-    (covered_replaced r c refl refl tied (ap is_live runs ∙ sym (ap is_live a.runs.running)) a.runs.found k.covered))
+    goes_along i r c callbacks k (ap is_live runs) refl refl (ap is_running runs ∙ sym (ap is_running a.runs.running)) a.runs.found rows_now
+    (covered_replaced r c (outstanding_before r c refl refl (λ e. sym tied ∙ e) (ap is_live a.runs.running)) a.runs.found k.covered))
 
 -- ---- a pending callback is cancelled
 

@@ -1,8 +1,9 @@
--- What begun waits hold, as callbacks change and as waits begin and end.
-use Rattle.std.proofs.Common.{◌≡◌, ◌≢◌, ℕ, suc, zero, ◌-◌, ◌<◌, ◌≤◌, Bool, true, false, cond, not, ◌&&◌, ◌||◌, ◌==◌, List, [], ◌∷◌, ◌++◌, length, map}
-use Rattle.std.proofs.Common.{get_or, slice_get, slice_set, Option, Some, None, IsSome, is_some, is_none, refl, sym, ap, ap₂, ◌∙◌, subst, arith, filter, find, option_map, eqb-true, eq-eqb, ne_eqb, length-set}
+-- What begun waits cover, as callbacks change and as waits begin and end.
+use Rattle.std.proofs.Common.{◌≡◌, ◌≢◌, ℕ, ◌+◌, ◌-◌, ◌<◌, ◌≤◌, Bool, true, false, cond, not, ◌&&◌, ◌||◌, ◌==◌, List, [], ◌∷◌, ◌++◌, length, map}
+use Rattle.std.proofs.Common.{slice_get, Option, Some, None, IfSome, IsSome, is_some, is_none, refl, sym, ap, ap₂, ◌∙◌, subst, arith, filter, find, option_map, eqb-true, eq-eqb, ne_eqb, length-set, get_or-set_same, get_or-set_other}
 use Rattle.std.specs.List.{AllByRecursion, list_any}
 use Rattle.std.specs.Option.{option_map_or}
+use Rattle.std.proofs.lemmas.Bool.{false≢true, lt-leb}
 use Rattle.std.proofs.lemmas.List.{length-map}
 use Rattle.tp_base.specs.declared.ids.Who.{Who}
 use Rattle.tp_base.specs.declared.ids.Who.TheVariants.{Client, Worker}
@@ -21,69 +22,28 @@ use Rattle.tp_model.specs.Conditions.{is_actor}
 use Rattle.tp_model.specs.Changes.{replaced}
 use Rattle.tp_model.specs.Support.Sound.{IsRising}
 use Rattle.tp_model.specs.Support.Remembered.{lives}
-use Rattle.tp_model.specs.Waits.{is_held_for, is_outstanding_for, is_group_target}
-use Rattle.tp_model.proofs.Lists.{find_all, filter_agree}
+use Rattle.tp_model.specs.Waits.{is_held_for, is_outstanding_for}
+use Rattle.tp_model.specs.Laws.Entries.{is_among}
+use Rattle.tp_model.proofs.Lists.{find_all}
 use Rattle.tp_model.proofs.Callbacks.{find_replaced, find_replaced_other}
 use Rattle.tp_model.proofs.Forgetting.{over_forget, over_not_outstanding}
-use Rattle.tp_model.proofs.Refusals.{made, false_true, and_false}
-use Rattle.begun_waits.specs.Begun.{Begun, actor_at, closing_by, closing_of, is_waiting, place_of, wait_among, without_waits}
-use Rattle.begun_waits.proofs.Actors.{at_place, begun_elsewhere, begun_found, changed_elsewhere, changed_to, ended_elsewhere, ended_gone, none_found, noted_set, noted_still, place_there, within_place}
-use Rattle.live_world.specs.Parts.{shown_worker, held_among, held_for, is_held_among}
+use Rattle.tp_model.proofs.Refusals.{both, made, false_true, is_own_actor, same_actor_is}
+use Rattle.begun_waits.specs.Begun.{Begun, is_waiting, place_of, wait_among, without_waits}
+use Rattle.begun_waits.proofs.Actors.{begun_elsewhere, begun_found, changed_elsewhere, changed_to, ended_elsewhere, ended_gone, one_place, place_there, within_place}
+use Rattle.live_world.specs.Parts.{shown_worker, is_held_among}
+use Rattle.begun_waits.specs.Covers.{Covering, bound_of, covers, listed_of, with_cover}
+use Rattle.live_world.specs.Covers.{IsCover}
 use Rattle.live_world.specs.Invariant.{AreCovered}
-use Rattle.live_world.specs.Closing.{IsLeft, left_at}
+use Rattle.live_world.specs.Live.{Live}
 use Rattle.live_world.specs.View.{shown, IsLiveWorld}
 use Rattle.live_world.specs.declared.LiveWorld.TheInside.{Inside}
-use Rattle.live_callbacks.specs.Callbacks.{Callbacks, all_but, is_tied}
+use Rattle.live_callbacks.specs.Callbacks.{is_tied}
 use Rattle.live_callbacks.proofs.Lines.{held_alike}
-
--- ---- what is held, by two tests
-
--- tests that agree on what a wait covers
-held_agree : (p q : ℕ → Bool) (next_number : ℕ) (ns : List ℕ) → AllByRecursion (λ n. n < next_number) ns → ((n : ℕ) → n < next_number → p n ≡ q n) → filter p ns ≡ filter q ns
-held_agree p q next_number [] all same = refl
-held_agree p q next_number (n ∷ ns) all same = ap (λ b. cond b (n ∷ filter p ns) (filter p ns)) (same n all.0) ∙ ap (λ t. cond (q n) (n ∷ t) t) (held_agree p q next_number ns all.1 same)
-
--- or that agree but for one number
-held_but : (p q : ℕ → Bool) (k : ℕ) (ns : List ℕ) → ((n : ℕ) → p n ≡ (q n && not (n == k))) → filter p ns ≡ all_but k (filter q ns)
-held_but p q k [] same = refl
-held_but p q k (n ∷ ns) same =
-    ap (λ b. cond b (n ∷ filter p ns) (filter p ns)) (same n) ∙ ap (λ t. cond (q n && not (n == k)) (n ∷ t) t) (held_but p q k ns same)
-    ∙ elim (q n) as (λ b. cond (b && not (n == k)) (n ∷ all_but k (filter q ns)) (all_but k (filter q ns)) ≡ all_but k (cond b (n ∷ filter q ns) (filter q ns))) [ true ↦ refl | false ↦ refl ]
-
--- ---- of each wait
-
--- of what an actor's wait holds
-along : (cs ds : List CallbackRow) (f : List ℕ → List ℕ) (o : Option BegunWait) → f [] ≡ [] → ((b : BegunWait) → o ≡ Some b → f (held_among cs b) ≡ held_among ds b) → f (held_for cs o) ≡ held_for ds o
-along cs ds f None none same = none
-along cs ds f (Some b) none same = same b refl
-
-module _ {limits : Limits} {cs : List CallbackRow} {waits : Begun} {held : List (List ℕ)} where
-  covered_same : (ds : List CallbackRow) → ((who : Who) (b : BegunWait) → wait_among waits.waits who ≡ Some b → held_among cs b ≡ held_among ds b) → AreCovered limits cs waits held → AreCovered limits ds waits held
-  covered_same ds same k =
-      record {
-        wait_limits = k.wait_limits;
-        waiters = k.waiters;
-        covered = λ who place at. k.covered who place at ∙ along cs ds (λ ns. ns) (wait_among waits.waits who) refl (same who);
-      }
-
-  covered_but : (number : ℕ) (ds : List CallbackRow) → ((b : BegunWait) → all_but number (held_among cs b) ≡ held_among ds b) → AreCovered limits cs waits held
-      → AreCovered limits ds waits (map (all_but number) held)
-  covered_but number ds same k =
-      record {
-        wait_limits = k.wait_limits;
-        waiters = length-map held (all_but number) ∙ k.waiters;
-        covered = λ who place at. get_map held place ∙ ap (all_but number) (k.covered who place at) ∙ along cs ds (all_but number) (wait_among waits.waits who) refl (λ b _. same b);
-      }
-    where
-      get_map : (ws : List (List ℕ)) (i : ℕ) → get_or (map (all_but number) ws) i [] ≡ all_but number (get_or ws i [])
-      get_map [] i = refl
-      get_map (w ∷ ws) zero = refl
-      get_map (w ∷ ws) (suc i) = get_map ws i
 
 -- ---- a row in place of another
 
 -- what lives is held for its group
-held_live : (group : GroupId) (s : Status) → is_held_for (Group group) s ≡ is_live s
+pub held_live : (group : GroupId) (s : Status) → is_held_for (Group group) s ≡ is_live s
 held_live group Expected = refl
 held_live group Issued = refl
 held_live group Pending = refl
@@ -91,110 +51,100 @@ held_live group (Running worker associated slots) = refl
 held_live group Returned = refl
 held_live group Cancelled = refl
 
--- it is outstanding where the one before was
-pub outstanding_same : (r c : CallbackRow) → r.object ≡ c.object → r.group ≡ c.group → is_tied r ≡ is_tied c → lives r ≡ lives c → (target : WaitTarget) → is_outstanding_for target r ≡ is_outstanding_for target c
-outstanding_same r c object group tied live (Object o) =
-    ap₂ (λ (x : ObjectId) (b : Bool). (x.0 == o.0) && b) object (held_alike o r.object r.status ∙ tied ∙ held_alike c.object o c.status)
-outstanding_same r c object group tied live (Group g) =
-    ap₂ (λ (x : GroupId) (b : Bool). (x.0 == g.0) && b) group (held_live g r.status ∙ live ∙ sym (held_live g c.status))
-outstanding_same r c object group tied live (Kernel kernel) = refl
+-- it is outstanding for nothing that the one before wasn't
+pub outstanding_before : (r c : CallbackRow) → r.object ≡ c.object → r.group ≡ c.group → (is_tied r ≡ true → is_tied c ≡ true) → lives c ≡ true → (target : WaitTarget) → is_outstanding_for target r ≡ true → is_outstanding_for target c ≡ true
+outstanding_before r c object group tied live (Object o) e =
+    let parts = both (r.object.0 == o.0) (is_held_for (Object o) r.status) e in
+    ap₂ (λ a b. a && b) (ap (λ (x : ObjectId). x.0 == o.0) (sym object) ∙ parts.0) (held_alike o c.object c.status ∙ tied (sym (held_alike o r.object r.status) ∙ parts.1))
+outstanding_before r c object group tied live (Group g) e =
+    ap₂ (λ a b. a && b) (ap (λ (x : GroupId). x.0 == g.0) (sym group) ∙ (both (r.group.0 == g.0) (is_held_for (Group g) r.status) e).0) (held_live g c.status ∙ live)
+outstanding_before r c object group tied live (Kernel kernel) e = absurd (false_true e)
 
--- or for no object
-outstanding_not : (r : CallbackRow) → is_tied r ≡ false → (target : WaitTarget) → is_group_target target ≡ false → is_outstanding_for target r ≡ false
-outstanding_not r out (Object o) h = ap (λ b. (r.object.0 == o.0) && b) (held_alike o r.object r.status ∙ out) ∙ and_false (r.object.0 == o.0)
-outstanding_not r out (Group group) h = absurd (false_true (sym h))
-outstanding_not r out (Kernel kernel) h = refl
+-- nor is what is over
+pub never_outstanding : (r c : CallbackRow) → lives r ≡ false → (target : WaitTarget) → is_outstanding_for target r ≡ true → is_outstanding_for target c ≡ true
+never_outstanding r c over target e = absurd (false_true (sym (over_not_outstanding target r over) ∙ e))
 
-held_replaced : (r c : CallbackRow) (cs : List CallbackRow) (target : WaitTarget) → find (has_number r.number) cs ≡ Some c → is_outstanding_for target r ≡ is_outstanding_for target c → (n : ℕ) → is_held_among cs target n ≡ is_held_among (replaced r cs) target n
-held_replaced r c cs target found same n =
-    elim (has_number n r) as (λ b. has_number n r ≡ b → is_held_among cs target n ≡ is_held_among (replaced r cs) target n) [
-      | true ↦ λ e.
-          subst (λ m. is_held_among cs target m ≡ is_held_among (replaced r cs) target m) (eqb-true r.number n e)
-          (ap (λ o. option_map_or (is_outstanding_for target) o false) found ∙ sym same ∙ sym (ap (λ o. option_map_or (is_outstanding_for target) o false) (find_replaced r c cs found)))
-      | false ↦ λ e. ap (λ o. option_map_or (is_outstanding_for target) o false) (sym (find_replaced_other r n cs e))
-    ] refl
-
-held_left : (r c : CallbackRow) (cs : List CallbackRow) (target : WaitTarget) → find (has_number r.number) cs ≡ Some c → is_outstanding_for target r ≡ false → (n : ℕ) → is_held_among (replaced r cs) target n ≡ (is_held_among cs target n && not (n == r.number))
-held_left r c cs target found out n =
-    elim (has_number n r) as (λ b. has_number n r ≡ b → is_held_among (replaced r cs) target n ≡ (is_held_among cs target n && not (n == r.number))) [
-      | true ↦ λ e.
+-- what is held after was held before
+held_before : (r c : CallbackRow) (cs : List CallbackRow) (target : WaitTarget) → find (has_number r.number) cs ≡ Some c → (is_outstanding_for target r ≡ true → is_outstanding_for target c ≡ true) → (n : ℕ) → is_held_among (replaced r cs) target n ≡ true → is_held_among cs target n ≡ true
+held_before r c cs target found before n =
+    elim (has_number n r) as (λ b. has_number n r ≡ b → is_held_among (replaced r cs) target n ≡ true → is_held_among cs target n ≡ true) [
+      | true ↦ λ e held.
           let is : r.number ≡ n = eqb-true r.number n e in
-          ap (λ m. is_held_among (replaced r cs) target m) (sym is) ∙ ap (λ o. option_map_or (is_outstanding_for target) o false) (find_replaced r c cs found) ∙ out
-          ∙ sym (ap (λ b. is_held_among cs target n && not b) (eq-eqb n r.number (sym is)) ∙ and_false (is_held_among cs target n))
-      | false ↦ λ e.
-          let other : (n == r.number) ≡ false = ne_eqb n r.number (λ same. false_true (sym e ∙ eq-eqb r.number n (sym same))) in
-          ap (λ o. option_map_or (is_outstanding_for target) o false) (find_replaced_other r n cs e) ∙ sym (ap (λ b. is_held_among cs target n && not b) other ∙ and_true (is_held_among cs target n))
+          let now : is_held_among (replaced r cs) target r.number ≡ is_outstanding_for target r = ap (λ o. option_map_or (is_outstanding_for target) o false) (find_replaced r c cs found) in
+          subst (λ m. is_held_among cs target m ≡ true) is
+          (ap (λ o. option_map_or (is_outstanding_for target) o false) found ∙ before (sym now ∙ ap (is_held_among (replaced r cs) target) is ∙ held))
+      | false ↦ λ e held. ap (λ o. option_map_or (is_outstanding_for target) o false) (sym (find_replaced_other r n cs e)) ∙ held
     ] refl
-  where
-    and_true : (b : Bool) → (b && true) ≡ b
-    and_true true = refl
-    and_true false = refl
+
+-- ---- of each wait
 
 -- what the wait covers was made before the next number
 abbrev pub CoversBelow : ℕ → BegunWait → Type 0
 CoversBelow next_number b = AllByRecursion (λ n. n < next_number) b.covered
 
-module _ {limits : Limits} {cs : List CallbackRow} {waits : Begun} {held : List (List ℕ)} where
-  pub covered_replaced : (r c : CallbackRow) → r.object ≡ c.object → r.group ≡ c.group → is_tied r ≡ is_tied c → lives r ≡ lives c → find (has_number r.number) cs ≡ Some c → AreCovered limits cs waits held → AreCovered limits (replaced r cs) waits held
-  covered_replaced r c object group tied live found k =
-      covered_same (replaced r cs)
-      (λ who b found_one. filter_agree (is_held_among cs b.target) (is_held_among (replaced r cs) b.target) (held_replaced r c cs b.target found (outstanding_same r c object group tied live b.target)) b.covered) k
+above_absent : (number : ℕ) (ns : List ℕ) → AllByRecursion (λ n. n < number) ns → is_among number ns ≡ false
+above_absent number [] below = refl
+above_absent number (n ∷ ns) below = ap₂ (λ a b. a || b) (ne_eqb n number (λ same. omega (arith, same, below.0))) (above_absent number ns below.1)
 
-  pub covered_less : (r c : CallbackRow) → lives r ≡ false → find (has_number r.number) cs ≡ Some c → AreCovered limits cs waits held
-      → AreCovered limits (replaced r cs) waits (map (all_but r.number) held)
-  covered_less r c out found k =
-      covered_but r.number (replaced r cs)
-      (λ b. sym (held_but (is_held_among (replaced r cs) b.target) (is_held_among cs b.target) r.number b.covered (held_left r c cs b.target found (over_not_outstanding b.target r out)))) k
+-- a number that isn't given yet isn't covered
+not_given : (made : ℕ) (bound : Option ℕ) (listed covered : List ℕ) → IfSome bound (λ last. last ≤ made) → (bound ≡ None → listed ≡ covered) → AllByRecursion (λ n. n < made + 1) covered → covers bound listed (made + 1) ≡ is_among (made + 1) covered
+not_given made None listed covered given lists below = ap (is_among (made + 1)) (lists refl)
+not_given made (Some last) listed covered given lists below = lt-leb (made + 1) last (omega (arith, given)) ∙ sym (above_absent (made + 1) covered below)
+
+given_more : (made : ℕ) (bound : Option ℕ) → IfSome bound (λ last. last ≤ made) → IfSome bound (λ last. last ≤ made + 1)
+given_more made None given = tt
+given_more made (Some last) given = omega (arith, given)
+
+module _ {limits : Limits} {made : ℕ} {cs : List CallbackRow} {waits : Begun} {covering : Covering} where
+  -- nothing is outstanding that wasn't
+  covered_fewer : (ds : List CallbackRow) → ((target : WaitTarget) (n : ℕ) → is_held_among ds target n ≡ true → is_held_among cs target n ≡ true) → AreCovered limits made cs waits covering → AreCovered limits made ds waits covering
+  covered_fewer ds fewer k =
+      record {
+        wait_limits = k.wait_limits;
+        bounds = k.bounds;
+        lists = k.lists;
+        room = k.room;
+        covered = λ who place b at is.
+            let one = k.covered who place b at is in
+            record { given = one.given; tells = λ n held. one.tells n (fewer b.target n held); lists = one.lists; rises = one.rises };
+      }
+
+  pub covered_replaced : (r c : CallbackRow) → ((target : WaitTarget) → is_outstanding_for target r ≡ true → is_outstanding_for target c ≡ true) → find (has_number r.number) cs ≡ Some c → AreCovered limits made cs waits covering → AreCovered limits made (replaced r cs) waits covering
+  covered_replaced r c before found = covered_fewer (replaced r cs) (λ target n. held_before r c cs target found (before target) n)
 
   -- what is over is held by no wait
-  pub covered_lives : (next_number : ℕ) → IsRising 1 next_number cs → AreCovered limits cs waits held → AreCovered limits (filter lives cs) waits held
-  covered_lives next_number rising k =
-      covered_same (filter lives cs)
-      (λ who b _. filter_agree (is_held_among cs b.target) (is_held_among (filter lives cs) b.target)
-      (λ n. sym (over_forget (is_outstanding_for b.target) (over_not_outstanding b.target) 1 next_number n cs rising)) b.covered) k
+  pub covered_lives : (next_number : ℕ) → IsRising 1 next_number cs → AreCovered limits made cs waits covering → AreCovered limits made (filter lives cs) waits covering
+  covered_lives next_number rising =
+      covered_fewer (filter lives cs) (λ target n held. sym (over_forget (is_outstanding_for target) (over_not_outstanding target) 1 next_number n cs rising) ∙ held)
 
-  -- no wait holds a callback that is made later
-  pub covered_more : (next_number : ℕ) (c : CallbackRow) → c.number ≡ next_number → AllByRecursion (CoversBelow next_number) waits.waits → AreCovered limits cs waits held → AreCovered limits (cs ++ c ∷ []) waits held
-  covered_more next_number c number made k =
-      covered_same (cs ++ c ∷ [])
-      (λ who b is. held_agree (is_held_among cs b.target) (is_held_among (cs ++ c ∷ []) b.target) next_number b.covered (find_all (CoversBelow next_number) (λ (x : BegunWait). is_same_actor x.actor who) b waits.waits made is)
-      (λ n lt. ap (λ o. option_map_or (is_outstanding_for b.target) o false) (sym (appended n cs (ne_eqb c.number n (λ e. omega (arith, e, number, lt))))))) k
+  -- and no callback that is made later
+  pub covered_more : (c : CallbackRow) → c.number ≡ made + 1 → AllByRecursion (CoversBelow (made + 1)) waits.waits → AreCovered limits made cs waits covering → AreCovered limits (made + 1) (cs ++ c ∷ []) waits covering
+  covered_more c number below k =
+      record {
+        wait_limits = k.wait_limits;
+        bounds = k.bounds;
+        lists = k.lists;
+        room = k.room;
+        covered = λ who place b at is.
+            let one = k.covered who place b at is in
+            let bound = bound_of covering place in
+            let listed = listed_of covering place in
+            record {
+              given = given_more made bound one.given;
+              tells = λ n. elim (has_number n c) as (λ t. has_number n c ≡ t → is_held_among (cs ++ c ∷ []) b.target n ≡ true → covers bound listed n ≡ is_among n b.covered) [
+                | true ↦ λ e held.
+                    subst (λ m. covers bound listed m ≡ is_among m b.covered) (sym number ∙ eqb-true c.number n e)
+                    (not_given made bound listed b.covered one.given one.lists (find_all (CoversBelow (made + 1)) (λ (x : BegunWait). is_same_actor x.actor who) b waits.waits below is))
+                | false ↦ λ e held. one.tells n (ap (λ o. option_map_or (is_outstanding_for b.target) o false) (sym (appended n cs e)) ∙ held)
+              ] refl;
+              lists = one.lists;
+              rises = one.rises;
+            };
+      }
     where
       appended : (n : ℕ) (ds : List CallbackRow) → has_number n c ≡ false → find (has_number n) (ds ++ c ∷ []) ≡ find (has_number n) ds
       appended n [] other = ap (λ b. cond b (Some c) None) other
       appended n (d ∷ ds) other = ap (λ t. cond (has_number n d) (Some d) t) (appended n ds other)
-
-module _ {limits : Limits} {cs : List CallbackRow} {waits : Begun} where
-  -- a callback that is disassociated leaves the waits that close no group
-  pub covered_loose : {old new : Callbacks} (r c : CallbackRow) → r.object ≡ c.object → r.group ≡ c.group → is_tied r ≡ false → lives r ≡ lives c → find (has_number r.number) cs ≡ Some c
-      → IsLeft r.number waits old new → AreCovered limits cs waits old.held → AreCovered limits (replaced r cs) waits new.held
-  covered_loose {old} {new} r c object group untied live found l k =
-      record {
-        wait_limits = k.wait_limits;
-        waiters = l.waiters ∙ k.waiters;
-        covered = λ who place at.
-            l.left place (omega (arith, place_there limits who place at, k.waiters))
-            ∙ ap₂ (λ (a : Who) (ns : List ℕ). left_at r.number (closing_by (wait_among waits.waits a)) ns)
-            (ap (λ ls. actor_at ls place) k.wait_limits ∙ at_place limits who place at) (k.covered who place at)
-            ∙ of_wait (wait_among waits.waits who);
-      }
-    where
-      leaves : (b : BegunWait) → is_group_target b.target ≡ false → all_but r.number (held_among cs b) ≡ held_among (replaced r cs) b
-      leaves b other = sym (held_but (is_held_among (replaced r cs) b.target) (is_held_among cs b.target) r.number b.covered (held_left r c cs b.target found (outstanding_not r untied b.target other)))
-
-      stays : (b : BegunWait) (g : GroupId) → b.target ≡ Group g → held_among cs b ≡ held_among (replaced r cs) b
-      stays b g is =
-          filter_agree (is_held_among cs b.target) (is_held_among (replaced r cs) b.target)
-          (held_replaced r c cs b.target found (subst (λ t. is_outstanding_for t r ≡ is_outstanding_for t c) (sym is) (ap₂ (λ (x : GroupId) (h : Bool). (x.0 == g.0) && h) group (held_live g r.status ∙ live ∙ sym (held_live g c.status))))) b.covered
-
-      of_target : (b : BegunWait) (t : WaitTarget) → b.target ≡ t → left_at r.number (closing_of b t) (held_among cs b) ≡ held_among (replaced r cs) b
-      of_target b (Object o) e = leaves b (ap is_group_target e)
-      of_target b (Group g) e = stays b g e
-      of_target b (Kernel kernel) e = leaves b (ap is_group_target e)
-
-      of_wait : (o : Option BegunWait) → left_at r.number (closing_by o) (held_for cs o) ≡ held_for (replaced r cs) o
-      of_wait None = refl
-      of_wait (Some b) = of_target b b.target refl
 
 -- ---- waits that begin and end
 
@@ -206,64 +156,72 @@ pub not_found : {X : Type 0} (p : X → Bool) (xs : List X) → not (list_any p 
 not_found p [] = refl
 not_found p (x ∷ xs) = elim (p x) as (λ b. not (b || list_any p xs) ≡ is_none (cond b (Some x) (find p xs))) [ true ↦ refl | false ↦ not_found p xs ]
 
-module _ {limits : Limits} {cs : List CallbackRow} {waits : Begun} {held : List (List ℕ)} where
+one_same : {X : Type 0} (x y : X) → Some x ≡ Some y → x ≡ y
+one_same x y e = cc
+
+module _ {limits : Limits} {made : ℕ} {cs : List CallbackRow} {waits : Begun} {covering : Covering} where
   -- the place of an actor
-  pub placed : (who : Who) (o : Option ℕ) → place_of waits.limits who ≡ o → AreCovered limits cs waits held → place_of limits who ≡ o
+  pub placed : (who : Who) (o : Option ℕ) → place_of waits.limits who ≡ o → AreCovered limits made cs waits covering → place_of limits who ≡ o
   placed who o at k = ap (λ ls. place_of ls who) (sym k.wait_limits) ∙ at
 
-  -- another wait of one actor
-  covered_set : (who : Who) (place : ℕ) (later : Begun) (numbers : List ℕ) → later.limits ≡ waits.limits → place_of limits who ≡ Some place → numbers ≡ held_for cs (wait_among later.waits who)
-      → ((other : Who) → is_same_actor who other ≡ false → wait_among later.waits other ≡ wait_among waits.waits other)
-      → AreCovered limits cs waits held → AreCovered limits cs later (slice_set held place numbers)
-  covered_set who place later numbers same at here others k =
-      record {
-        wait_limits = same ∙ k.wait_limits;
-        waiters = length-set held place numbers ∙ k.waiters;
-        covered = noted_set limits (held_for cs) [] held waits.waits later.waits who place numbers at (omega (arith, place_there limits who place at, k.waiters)) here others k.covered;
-      }
-
-  pub covered_begun : (place : ℕ) (b : BegunWait) → place_of limits b.actor ≡ Some place → is_waiting waits.waits b.actor ≡ false → held_among cs b ≡ b.covered
-      → AreCovered limits cs waits held → AreCovered limits cs (record waits { waits = waits.waits ++ b ∷ [] }) (slice_set held place b.covered)
-  covered_begun place b at none all_held k =
-      covered_set b.actor place (record waits { waits = waits.waits ++ b ∷ [] }) b.covered refl at
-      (sym (ap (held_for cs) (begun_found b waits.waits none) ∙ all_held))
-      (λ other e. begun_elsewhere b other e waits.waits) k
-
-  pub covered_ended : (place : ℕ) (who : Who) (given_up : ℕ) → place_of limits who ≡ Some place → AreCovered limits cs waits held
-      → AreCovered limits cs (record waits { waits = without_waits who waits.waits; given_up = given_up }) (slice_set held place [])
-  covered_ended place who given_up at k =
-      covered_set who place (record waits { waits = without_waits who waits.waits; given_up = given_up }) [] refl at
-      (sym (ap (held_for cs) (ended_gone who waits.waits)))
-      (λ other e. ended_elsewhere who other e waits.waits) k
-
-  -- what a wait holds is nothing that its notices tell
-  pub covered_noted : (who : Who) (f : BegunWait → BegunWait) → ((b : BegunWait) → (f b).actor ≡ b.actor) → ((b : BegunWait) → held_among cs (f b) ≡ held_among cs b)
-      → AreCovered limits cs waits held → AreCovered limits cs (record waits { waits = map (λ (b : BegunWait). cond (is_same_actor b.actor who) (f b) b) waits.waits }) held
-  covered_noted who f stays same k =
+  pub covered_begun : (place : ℕ) (b : BegunWait) (bound : Option ℕ) (listed : List ℕ) → place_of limits b.actor ≡ Some place → is_waiting waits.waits b.actor ≡ false → IsCover made cs bound listed b
+      → AreCovered limits made cs waits covering → AreCovered limits made cs (record waits { waits = waits.waits ++ b ∷ [] }) (with_cover covering place bound listed)
+  covered_begun place b bound listed at none new k =
       record {
         wait_limits = k.wait_limits;
-        waiters = k.waiters;
-        covered = noted_still limits (held_for cs) [] held waits.waits (map (λ (b : BegunWait). cond (is_same_actor b.actor who) (f b) b) waits.waits) who
-            (ap (held_for cs) (changed_to who f stays waits.waits) ∙ known (wait_among waits.waits who)) (λ other e. changed_elsewhere who f stays other e waits.waits) k.covered;
+        bounds = length-set covering.bounds place bound ∙ k.bounds;
+        lists = length-set covering.listed place listed ∙ k.lists;
+        room = k.room;
+        covered = λ who p x there is. elim (is_same_actor b.actor who) as (λ t. is_same_actor b.actor who ≡ t → IsCover made cs (bound_of (with_cover covering place bound listed) p) (listed_of (with_cover covering place bound listed) p) x) [
+          | true ↦ λ e.
+              let same : b.actor ≡ who = same_actor_is b.actor who e in
+              let same_place : place ≡ p = one_same place p (sym at ∙ ap (place_of limits) same ∙ there) in
+              let this : b ≡ x = one_same b x (sym (begun_found b waits.waits none) ∙ ap (wait_among (waits.waits ++ b ∷ [])) same ∙ is) in
+              let within = place_there limits b.actor place at in
+              rw (← same_place, ← this, get_or-set_same covering.bounds place bound None (omega (arith, within, k.bounds)), get_or-set_same covering.listed place listed [] (omega (arith, within, k.lists))) new
+          | false ↦ λ e.
+              let apart : p ≢ place = λ same. false≢true (sym e ∙ ap (is_same_actor b.actor) (one_place limits who b.actor place (subst (λ n. place_of limits who ≡ Some n) same there) at) ∙ is_own_actor b.actor) in
+              rw (get_or-set_other covering.bounds place p bound None apart, get_or-set_other covering.listed place p listed [] apart) (k.covered who p x there (sym (begun_elsewhere b who e waits.waits) ∙ is))
+        ] refl;
+      }
+
+  pub covered_ended : (who : Who) (given_up : ℕ) → AreCovered limits made cs waits covering → AreCovered limits made cs (record waits { waits = without_waits who waits.waits; given_up = given_up }) covering
+  covered_ended who given_up k =
+      record {
+        wait_limits = k.wait_limits;
+        bounds = k.bounds;
+        lists = k.lists;
+        room = k.room;
+        covered = λ other p x there is. elim (is_same_actor who other) as (λ t. is_same_actor who other ≡ t → IsCover made cs (bound_of covering p) (listed_of covering p) x) [
+          | true ↦ λ e. absurd (let none : None ≡ Some x = sym (ended_gone who waits.waits) ∙ ap (wait_among (without_waits who waits.waits)) (same_actor_is who other e) ∙ is in cc)
+          | false ↦ λ e. k.covered other p x there (sym (ended_elsewhere who other e waits.waits) ∙ is)
+        ] refl;
+      }
+
+  -- what a wait covers is nothing that its notices tell
+  pub covered_noted : (who : Who) (f : BegunWait → BegunWait) → ((b : BegunWait) → (f b).actor ≡ b.actor) → ((b : BegunWait) → (f b).target ≡ b.target) → ((b : BegunWait) → (f b).covered ≡ b.covered)
+      → AreCovered limits made cs waits covering → AreCovered limits made cs (record waits { waits = map (λ (b : BegunWait). cond (is_same_actor b.actor who) (f b) b) waits.waits }) covering
+  covered_noted who f stays target covered k =
+      record {
+        wait_limits = k.wait_limits;
+        bounds = k.bounds;
+        lists = k.lists;
+        room = k.room;
+        covered = λ other p x there is. elim (is_same_actor who other) as (λ t. is_same_actor who other ≡ t → IsCover made cs (bound_of covering p) (listed_of covering p) x) [
+          | true ↦ λ e.
+              let same : who ≡ other = same_actor_is who other e in
+              changed_one p x (wait_among waits.waits who) (λ b was. k.covered who p b (ap (place_of limits) same ∙ there) was)
+              (sym (changed_to who f stays waits.waits) ∙ ap (wait_among (map (λ (b : BegunWait). cond (is_same_actor b.actor who) (f b) b) waits.waits)) same ∙ is)
+          | false ↦ λ e. k.covered other p x there (sym (changed_elsewhere who f stays other e waits.waits) ∙ is)
+        ] refl;
       }
     where
-      known : (o : Option BegunWait) → held_for cs (option_map f o) ≡ held_for cs o
-      known None = refl
-      known (Some b) = same b
-
-  -- a wait that holds nothing changes nothing of what waits hold
-  pub covered_idle : (b : BegunWait) → is_waiting waits.waits b.actor ≡ false → held_among cs b ≡ [] → AreCovered limits cs waits held → AreCovered limits cs (record waits { waits = waits.waits ++ b ∷ [] }) held
-  covered_idle b none nothing k =
-      record {
-        wait_limits = k.wait_limits;
-        waiters = k.waiters;
-        covered = noted_still limits (held_for cs) [] held waits.waits (waits.waits ++ b ∷ []) b.actor
-            (ap (held_for cs) (begun_found b waits.waits none) ∙ nothing ∙ sym (ap (held_for cs) (none_found (λ (x : BegunWait). is_same_actor x.actor b.actor) waits.waits none))) (λ other e. begun_elsewhere b other e waits.waits) k.covered;
-      }
-
-  -- what is held by an actor that has begun no wait
-  pub idle_there : (who : Who) (place : ℕ) → place_of limits who ≡ Some place → is_waiting waits.waits who ≡ false → AreCovered limits cs waits held → get_or held place [] ≡ []
-  idle_there who place at none k = k.covered who place at ∙ ap (held_for cs) (none_found (λ (b : BegunWait). is_same_actor b.actor who) waits.waits none)
+      changed_one : (p : ℕ) (x : BegunWait) (o : Option BegunWait) → ((b : BegunWait) → o ≡ Some b → IsCover made cs (bound_of covering p) (listed_of covering p) b) → option_map f o ≡ Some x → IsCover made cs (bound_of covering p) (listed_of covering p) x
+      changed_one p x None had e = absurd cc
+      changed_one p x (Some b) had e =
+          let one = had b refl in
+          subst (IsCover made cs (bound_of covering p) (listed_of covering p)) (one_same (f b) x e)
+          (record { given = one.given; tells = rw (target b, covered b) one.tells; lists = rw (covered b) one.lists; rises = rw (covered b) one.rises })
 
 -- a row of this number is within the rows
 pub number_most : {X : Type 0} (rows : List X) (number : ℕ) → is_some (numbered rows number) ≡ true → (1 ≤ number) × (number ≤ length rows)
@@ -291,3 +249,7 @@ actor_somewhere i who k acts = subst (λ ls. IsSome (place_of ls who)) (sym k.co
     of_kind (Worker n) acts_here =
         let within = number_most (map shown_worker i.pools.workers) n acts_here in
         ap is_some (within_place i.limits.clients i.limits.workers n within.0 (omega (arith, within.1, length-map i.pools.workers shown_worker, k.sized.worker_count)))
+
+-- and what its wait covers stands there
+pub place_within : (i : Inside) (l : Live) (who : Who) (place : ℕ) → shown i ≡ l → IsLiveWorld i → place_of l.world.limits who ≡ Some place → place < length i.covers.bounds
+place_within i l who place is k at = omega (arith, place_there i.limits who place (ap (λ (x : Live). place_of x.world.limits who) is ∙ at), k.covered.bounds)

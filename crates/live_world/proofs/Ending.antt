@@ -1,9 +1,8 @@
 -- What the parts show after a wait begins and after one ends.
-use Rattle.std.proofs.Common.{◌≡◌, ℕ, ◌+◌, true, List, [], Some, is_some, slice_set, sym, ap, ◌∙◌, subst, arith}
+use Rattle.std.proofs.Common.{◌≡◌, ◌+◌, true, List, is_some, sym, ap, ◌∙◌, subst, arith}
 use Rattle.tp_base.specs.declared.ids.Who.{Who}
 use Rattle.tp_base.specs.declared.plans.WaitEnd.{WaitEnd}
 use Rattle.tp_base.specs.declared.plans.Change.TheVariants as change
-use Rattle.live_callbacks.specs.Callbacks.{Callbacks, with_held}
 use Rattle.sources.specs.Rows.{SourceRows, with_sources}
 use Rattle.tp_base.specs.declared.rows.KernelRow.{KernelRow}
 use Rattle.tp_model.specs.Changes.{given_up_after, kernels_left}
@@ -13,31 +12,24 @@ use Rattle.live_world.specs.Live.{Live, moved}
 use Rattle.tp_base.specs.Actors.{is_same_actor}
 use Rattle.tp_model.specs.World.{BegunWait}
 use Rattle.begun_waits.proofs.Actors.{some_found}
-use Rattle.begun_waits.specs.Begun.{Begun, is_waiting, place_of, wait_among, wanted_by, without_waits}
+use Rattle.begun_waits.specs.Begun.{Begun, is_waiting, wait_among, wanted_by, without_waits}
 use Rattle.live_world.specs.Taking.{rows_left}
 use Rattle.live_world.specs.View.{shown, IsLiveWorld}
-use Rattle.live_world.proofs.Covered.{covered_ended, placed}
+use Rattle.live_world.proofs.Covered.{covered_ended}
 use Rattle.live_world.proofs.Takings.{left_here}
 use Rattle.live_world.proofs.Moving.{Becomes, moved_by, waits_after}
-
--- an actor that ends a wait has begun one
-pub has_begun : (i : Inside) (l : Live) (who : Who) (how : WaitEnd) → shown i ≡ l → IsAllowed (l.made + 1) l.world (change.EndWait who how) → is_waiting i.waits.waits who ≡ true
-has_begun i l who how is allowed =
-    let a : MayEnd (shown i).world who how = subst (λ (x : Live). IsAllowed (x.made + 1) x.world (change.EndWait who how)) (sym is) allowed in
-    sym (some_found (λ (b : BegunWait). is_same_actor b.actor who) i.waits.waits) ∙ ap is_some a.begun
 
 -- what is left of the waits, without an actor's that ended
 abbrev pub without_ended : Begun → Who → WaitEnd → Begun
 without_ended waits who how = record waits { waits = without_waits who waits.waits; given_up = given_up_after waits.given_up how (wait_among waits.waits who) }
 
-pub ended : (i : Inside) (l : Live) (who : Who) (how : WaitEnd) (place : ℕ) (callbacks : Callbacks) (waits : Begun) (sources : SourceRows) → shown i ≡ l → IsLiveWorld i → IsAllowed (l.made + 1) l.world (change.EndWait who how)
-    → place_of i.waits.limits who ≡ Some place → callbacks ≡ with_held i.callbacks place [] → waits ≡ without_ended i.waits who how
+pub ended : (i : Inside) (l : Live) (who : Who) (how : WaitEnd) (waits : Begun) (sources : SourceRows) → shown i ≡ l → IsLiveWorld i → IsAllowed (l.made + 1) l.world (change.EndWait who how) → waits ≡ without_ended i.waits who how
     → sources ≡ with_sources i.sources (record i.sources.sources { kernels = rows_left who how (wanted_by (wait_among i.waits.waits who)) i.sources.sources.kernels })
-    → Becomes (record i { callbacks = callbacks; waits = waits; sources = sources }) (moved l (change.EndWait who how))
-ended i l who how place callbacks waits sources is k allowed at held_now waits_now sources_read =
-    moved_by i (record i { callbacks = callbacks; waits = waits; sources = sources }) l (change.EndWait who how) is k allowed (omega arith) (λ a.
+    → Becomes (record i { waits = waits; sources = sources }) (moved l (change.EndWait who how))
+ended i l who how waits sources is k allowed waits_now sources_read =
+    moved_by i (record i { waits = waits; sources = sources }) l (change.EndWait who how) is k allowed (omega arith) (λ a.
     let left : List KernelRow = kernels_left (shown i).world who how (wait_among i.waits.waits who) in
     let sources_now : sources ≡ with_sources i.sources (record i.sources.sources { kernels = left })
     = sources_read ∙ ap (λ rows. with_sources i.sources (record i.sources.sources { kernels = rows })) (left_here (shown i).world who how) in
-    rw (held_now, waits_now, sources_now) (waits_after i (slice_set i.callbacks.held place []) (without_ended i.waits who how) left k
-    (covered_ended place who (given_up_after i.waits.given_up how (wait_among i.waits.waits who)) (placed who (Some place) at k.covered) k.covered)))
+    rw (waits_now, sources_now) (waits_after i i.covers (without_ended i.waits who how) left k
+    (covered_ended who (given_up_after i.waits.given_up how (wait_among i.waits.waits who)) k.covered)))

@@ -29,6 +29,7 @@ use Rattle.tp_model.proofs.Lists.{all_along}
 use Rattle.tp_model.proofs.Performing.{returning_of, returning_within}
 use Rattle.tp_model.proofs.Sound.{changed_sound, sources_in}
 use Rattle.live_world.specs.declared.LiveWorld.TheInside.{Inside}
+use Rattle.begun_waits.specs.Covers.{Covering}
 use Rattle.live_world.specs.Invariant.{AreCovered, AreTallied}
 use Rattle.live_world.specs.Live.{Live, moved, with_world}
 use Rattle.live_world.specs.Making.{CanMake, IsFired, IsUsable}
@@ -82,15 +83,16 @@ tallied_jobs objects number (j ∷ js) cs ws k =
     let c : CallbackRow = new_callback number j.object (object_row objects j.object) j.result in
     subst (λ xs. AreTallied xs ws) (append_assoc cs (c ∷ []) (rows_of objects (number + 1) js)) (tallied_jobs objects (number + 1) js (cs ++ c ∷ []) ws (tallied_more c cs ws refl k))
 
-covered_jobs : (limits : Limits) (objects : List ObjectRow) (number : ℕ) (jobs : List Job) (cs : List CallbackRow) (waits : Begun) (held : List (List ℕ)) → AllByRecursion (CoversBelow number) waits.waits → AreCovered limits cs waits held
-    → AreCovered limits (cs ++ rows_of objects number jobs) waits held
-covered_jobs limits objects number [] cs waits held below k = subst (λ xs. AreCovered limits xs waits held) (sym (append-nil cs)) k
-covered_jobs limits objects number (j ∷ js) cs waits held below k =
-    let c : CallbackRow = new_callback number j.object (object_row objects j.object) j.result in
-    subst (λ xs. AreCovered limits xs waits held) (append_assoc cs (c ∷ []) (rows_of objects (number + 1) js))
-    (covered_jobs limits objects (number + 1) js (cs ++ c ∷ []) waits held
-    (all_along (CoversBelow number) (CoversBelow (number + 1)) (λ b made. all_along (λ n. n < number) (λ n. n < number + 1) (λ n lt. omega (arith, lt)) b.covered made) waits.waits below)
-    (covered_more number c refl below k))
+covered_jobs : (limits : Limits) (objects : List ObjectRow) (made : ℕ) (jobs : List Job) (cs : List CallbackRow) (waits : Begun) (covers : Covering) → AllByRecursion (CoversBelow (made + 1)) waits.waits → AreCovered limits made cs waits covers
+    → AreCovered limits (made + length jobs) (cs ++ rows_of objects (made + 1) jobs) waits covers
+covered_jobs limits objects made [] cs waits covers below k = rw (append-nil cs) (subst (λ n. AreCovered limits n cs waits covers) (omega arith) k)
+covered_jobs limits objects made (j ∷ js) cs waits covers below k =
+    let c : CallbackRow = new_callback (made + 1) j.object (object_row objects j.object) j.result in
+    subst (λ n. AreCovered limits n (cs ++ c ∷ rows_of objects (made + 1 + 1) js) waits covers) (omega arith)
+    (subst (λ xs. AreCovered limits (made + 1 + length js) xs waits covers) (append_assoc cs (c ∷ []) (rows_of objects (made + 1 + 1) js))
+    (covered_jobs limits objects (made + 1) js (cs ++ c ∷ []) waits covers
+    (all_along (CoversBelow (made + 1)) (CoversBelow (made + 1 + 1)) (λ b below_it. all_along (λ n. n < made + 1) (λ n. n < made + 1 + 1) (λ n lt. omega (arith, lt)) b.covered below_it) waits.waits below)
+    (covered_more c refl below k)))
 
 abbrev pub with_fired : Inside → SourceRows → Callbacks → ℕ → Inside
 with_fired i sources callbacks made = record i { sources = sources; callbacks = callbacks; made = made }
@@ -108,8 +110,9 @@ fired_after i u f sources callbacks made k is room h =
       sized = k.sized;
       alive = record { slot_limit = k.alive.slot_limit; pool_limit = k.alive.pool_limit; object_limit = k.alive.object_limit; live = living };
       tallied = tallied_jobs i.objects.objects (i.made + 1) f.jobs i.callbacks.rows i.pools.workers k.tallied;
-      covered = covered_jobs i.limits i.objects.objects (i.made + 1) f.jobs i.callbacks.rows i.waits i.callbacks.held
-          (all_along (IsWaitSound (i.made + 1) i.callbacks.rows) (CoversBelow (i.made + 1)) (λ b s. s.made) i.waits.waits k.sound.waits) k.covered;
+      covered = subst (λ n. AreCovered i.limits n (i.callbacks.rows ++ rows) i.waits i.covers) (sym h.number)
+          (covered_jobs i.limits i.objects.objects i.made f.jobs i.callbacks.rows i.waits i.covers
+          (all_along (IsWaitSound (i.made + 1) i.callbacks.rows) (CoversBelow (i.made + 1)) (λ b s. s.made) i.waits.waits k.sound.waits) k.covered);
       timed = record { object_limit = k.timed.object_limit; kernel_limit = k.timed.kernel_limit; places = k.timed.places; there = k.timed.there };
       slotted = record { slots = omega (arith, room, length-append i.callbacks.rows rows, length_rows i.objects.objects (i.made + 1) f.jobs) };
     }))

@@ -8,7 +8,6 @@ pub mod Covered
 pub mod BeginCloseWait
 pub mod GroupWalks
 pub mod BeginClose
-pub mod WaitsLeft
 pub mod MemberWalks
 pub mod LeastOperating
 pub mod MembersClosed
@@ -17,6 +16,7 @@ pub mod Making
 pub mod Ending
 pub mod Walks
 pub mod Covering
+pub mod Held
 pub mod Along
 pub mod Looking
 pub mod Cancelled

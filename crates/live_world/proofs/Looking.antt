@@ -1,8 +1,6 @@
 -- Whether one of the callbacks passes a test, as they are gone along.
 use Rattle.std.proofs.Common.{◌≡◌, ℕ, ◌<◌, Bool, true, false, cond, ◌&&◌, ◌||◌, ◌==◌, List, [], ◌∷◌, length, nat_lt, slice_get, Option, Some, refl, sym, ap, ap₂, ◌∙◌, subst, filter, find}
 use Rattle.std.specs.List.{AllByRecursion, list_any}
-use Rattle.std.specs.List.Sorted.{IsStrictlyIncreasing}
-use Rattle.std.proofs.lemmas.List.Kept.{AllPairs-from_increasing}
 use Rattle.tp_base.specs.declared.ids.GroupId.{GroupId}
 use Rattle.tp_base.specs.declared.rows.Status.{Status}
 use Rattle.tp_base.specs.declared.rows.Status.TheVariants.{Expected, Issued, Pending, Running, Returned, Cancelled}
@@ -14,8 +12,7 @@ use Rattle.tp_model.specs.Waits.{is_held_for}
 use Rattle.tp_model.specs.Support.Remembered.{lives}
 use Rattle.live_world.specs.Closing.{is_of_group}
 use Rattle.live_world.proofs.Lists.{all_pass}
-use Rattle.live_world.proofs.Covering.{itself}
-use Rattle.live_world.proofs.Walks.{Rises, rest, IsAmong, all_least, rest_first, first_among, rises_pairs, onward}
+use Rattle.live_world.proofs.Walks.{Rises, rest, IsAmong, rest_first, first_among, onward}
 
 -- a callback of the group that has no object and is kept is outstanding for the group, disassociated or not
 pub simple_live : (group : GroupId) (cs : List CallbackRow) → filter lives cs ≡ cs → list_any (λ c. c.object.0 == 0) (filter (is_of_group group) cs) ≡ list_any (is_simple_of group) cs
@@ -65,6 +62,3 @@ module _ {X : Type 0} (key : X → ℕ) (t : X → Bool) (xs : List X) where
         others = λ e after found. record { left = ap (λ b. b || list_any t (rest key xs after)) (sym e) ∙ ap (list_any t) (sym (at.step after found)) ∙ k.left; among = at.among after found };
         later = at.later;
       }
-
-pub rises_strictly : (ns : List ℕ) → IsStrictlyIncreasing ns → Rises itself 0 ns
-rises_strictly ns rises = rises_pairs itself 0 ns (all_least itself ns) (AllPairs-from_increasing ns rises)

@@ -8,8 +8,7 @@ use Rattle.tp_model.specs.Counts.{numbered}
 use Rattle.tp_model.specs.Groups.{first_member, gets_notice, has_cancel, is_member, is_member_at, is_object_that, members, numbers_in, objects_that}
 use Rattle.tp_model.proofs.Lists.{filter_filter, find_agree}
 use Rattle.live_world.proofs.Along.{find_filter, first_found}
-use Rattle.live_world.proofs.Covering.{itself}
-use Rattle.live_world.proofs.Walks.{Rises, rises_filter}
+use Rattle.live_world.proofs.Walks.{Rises, rises_filter, itself}
 
 range_rises : (first count : ℕ) → Rises itself first (range_with_len first count)
 range_rises first zero = tt

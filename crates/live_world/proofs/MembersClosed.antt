@@ -26,8 +26,7 @@ use Rattle.live_world.specs.Closing.{MayHaveNotices, MayNote, closed_members, no
 use Rattle.live_world.specs.Live.{Live, with_world, moved}
 use Rattle.live_world.proofs.Lists.{filter_both}
 use Rattle.live_world.proofs.MemberWalks.{first_is_least, members_rise, noticed_members}
-use Rattle.live_world.proofs.Covering.{itself}
-use Rattle.live_world.proofs.Walks.{Rises}
+use Rattle.live_world.proofs.Walks.{Rises, itself}
 
 -- what is left to close leads to where all of it leads
 pub record ClosingMembers (who : Who) (group : GroupId) (cancel : Bool) (before now : Live) : Type 0 where

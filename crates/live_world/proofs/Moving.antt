@@ -13,7 +13,7 @@ use Rattle.tp_base.specs.declared.rows.CallbackRow.{CallbackRow}
 use Rattle.tp_base.specs.declared.rows.KernelRow.{KernelRow}
 use Rattle.tp_base.specs.declared.rows.WorkerRow.{WorkerRow}
 use Rattle.tp_base.specs.declared.rows.ClientRow.{ClientRow}
-use Rattle.live_callbacks.specs.Callbacks.{Callbacks, MovesOn, all_but, is_tied}
+use Rattle.live_callbacks.specs.Callbacks.{Callbacks, MovesOn, is_tied}
 use Rattle.pool_rows.specs.Pools.{Pools, worker_of, with_worker as with_kept_worker}
 use Rattle.pool_rows.specs.Workers.{IsIdle, idle_in, unattached as unattached_row}
 use Rattle.pool_rows.specs.declared.WorkerRow as kept
@@ -39,12 +39,13 @@ use Rattle.tp_model.proofs.Sound.{changed_sound}
 use Rattle.tp_model.proofs.Forgetting.{forget_sound}
 use Rattle.object_rows.specs.Objects.{ObjectTable}
 use Rattle.live_world.specs.declared.LiveWorld.TheInside.{Inside}
+use Rattle.begun_waits.specs.Covers.{Covering}
 use Rattle.live_world.specs.Live.{Live, moved}
 use Rattle.live_world.specs.Parts.{world_of, shown_worker}
 use Rattle.live_world.specs.View.{shown, IsLiveWorld}
 use Rattle.live_world.specs.Invariant.{AreSized, AreLive, AreTallied, AreCovered, AreTimed, AreSlotted, IsHome, AreMarked}
 use Rattle.live_world.proofs.Alive.{alive_more, alive_replaced, alive_less, removed_rows}
-use Rattle.live_world.proofs.Covered.{CoversBelow, covered_less, covered_lives, covered_more}
+use Rattle.live_world.proofs.Covered.{CoversBelow, covered_lives, covered_more, covered_replaced, never_outstanding}
 use Rattle.live_world.proofs.Tallied.{AreApart, is_behind, runs_nothing, runs_this, worker_changed, tallied_more, tallied_free, tallied_still, tallied_lives, still_apart, marked_replaced, marked_others}
 
 -- ---- what every change shows
@@ -55,7 +56,7 @@ pub record After (i : Inside) (v : World) : Type 0 where
   pub sized : AreSized i.limits i.pools i.objects i.clients.items
   pub alive : AreLive i.limits i.callbacks
   pub tallied : AreTallied i.callbacks.rows i.pools.workers
-  pub covered : AreCovered i.limits i.callbacks.rows i.waits i.callbacks.held
+  pub covered : AreCovered i.limits i.made i.callbacks.rows i.waits i.covers
   pub timed : AreTimed i.limits i.objects.objects i.sources
   pub slotted : AreSlotted i.limits i.callbacks.rows i.sources.sources.armings
 
@@ -92,14 +93,14 @@ moved_by i j l ch is k allowed counts after =
       becomes = b.becomes ∙ ap (λ (n : ℕ). record { world = forget (changed w ch); made = n }) counts ∙ ap (λ (x : Live). moved x ch) is;
     }
 
--- the waits change, what they hold, and the kernel objects that they take
-pub waits_after : (i : Inside) (held : List (List ℕ)) (waits : Begun) (kernels : List KernelRow) → IsLiveWorld i → AreCovered i.limits i.callbacks.rows waits held
-    → After (record i { callbacks = record i.callbacks { held = held }; waits = waits; sources = with_sources i.sources (record i.sources.sources { kernels = kernels }) }) (record (shown i).world { waits = waits.waits; given_up = waits.given_up; kernels = kernels })
-waits_after i held waits kernels k covered =
+-- the waits change, what they cover, and the kernel objects that they take
+pub waits_after : (i : Inside) (covers : Covering) (waits : Begun) (kernels : List KernelRow) → IsLiveWorld i → AreCovered i.limits i.made i.callbacks.rows waits covers
+    → After (record i { covers = covers; waits = waits; sources = with_sources i.sources (record i.sources.sources { kernels = kernels }) }) (record (shown i).world { waits = waits.waits; given_up = waits.given_up; kernels = kernels })
+waits_after i covers waits kernels k covered =
     record {
       shows = ap (λ ds. record (shown i).world { callbacks = ds; waits = waits.waits; given_up = waits.given_up; kernels = kernels }) (sym k.alive.live);
       sized = k.sized;
-      alive = record { slot_limit = k.alive.slot_limit; pool_limit = k.alive.pool_limit; object_limit = k.alive.object_limit; live = k.alive.live };
+      alive = k.alive;
       tallied = k.tallied;
       covered = covered;
       timed = record { object_limit = k.timed.object_limit; kernel_limit = k.timed.kernel_limit; places = k.timed.places; there = k.timed.there };
@@ -210,7 +211,7 @@ tallied_same i r c k found pool long ran =
     let run : (p : ℕ) → is_running_in p r ≡ is_running_in p c = λ p. ap₂ (λ (b : Bool) (q : PoolId). b && (q.0 == p)) ran pool in
     tallied_still (i.made + 1) r c i.callbacks.rows i.pools.workers run (λ p. ap₂ (λ a b. a && b) (run p) long) k.sound.numbers found (marked_replaced r c i.callbacks.rows i.pools.workers found long k.tallied.marked) k.tallied
 
--- ---- callbacks, workers and what waits hold change
+-- ---- callbacks and workers change
 
 abbrev pub with_changed : Inside → Pools → Callbacks → ℕ → Inside
 with_changed i pools callbacks made = record i { pools = pools; callbacks = callbacks; made = made }
@@ -218,23 +219,23 @@ with_changed i pools callbacks made = record i { pools = pools; callbacks = call
 abbrev pub with_workers : Inside → List kept.WorkerRow → Pools
 with_workers i workers = record i.pools { workers = workers }
 
--- a callback leaves, and each wait lets it go
+-- a callback leaves
 abbrev pub without : Callbacks → ℕ → Callbacks
-without callbacks number = record callbacks { rows = filter (λ (x : CallbackRow). not (x.number == number)) callbacks.rows; held = map (all_but number) callbacks.held }
+without callbacks number = record callbacks { rows = filter (λ (x : CallbackRow). not (x.number == number)) callbacks.rows }
 
 -- what of the parts shows these callbacks and workers, of which those that live are kept
-record Shows (i : Inside) (workers : List kept.WorkerRow) (rows after : List CallbackRow) (ws : List WorkerRow) (held : List (List ℕ)) : Type 0 where
+record Shows (i : Inside) (workers : List kept.WorkerRow) (rows after : List CallbackRow) (ws : List WorkerRow) (made : ℕ) : Type 0 where
   living : rows ≡ filter lives after
   shown_workers : map shown_worker workers ≡ ws
   sized : AreSized i.limits (with_workers i workers) i.objects i.clients.items
-  alive : AreLive i.limits (record i.callbacks { rows = rows; held = held })
+  alive : AreLive i.limits (record i.callbacks { rows = rows })
   tallied : AreTallied rows workers
   slotted : AreSlotted i.limits rows i.sources.sources.armings
-  covered : AreCovered i.limits rows i.waits held
+  covered : AreCovered i.limits made rows i.waits i.covers
 
-changed_after : (i : Inside) (pools : Pools) (workers : List kept.WorkerRow) (callbacks : Callbacks) (rows after : List CallbackRow) (ws : List WorkerRow) (held : List (List ℕ)) (n : ℕ) → IsLiveWorld i
-    → pools ≡ with_workers i workers → callbacks ≡ record i.callbacks { rows = rows; held = held } → Shows i workers rows after ws held → After (with_changed i pools callbacks n) (record (shown i).world { callbacks = after; workers = ws })
-changed_after i pools workers callbacks rows after ws held n k ep ec s =
+changed_after : (i : Inside) (pools : Pools) (workers : List kept.WorkerRow) (callbacks : Callbacks) (rows after : List CallbackRow) (ws : List WorkerRow) (n : ℕ) → IsLiveWorld i
+    → pools ≡ with_workers i workers → callbacks ≡ record i.callbacks { rows = rows } → Shows i workers rows after ws n → After (with_changed i pools callbacks n) (record (shown i).world { callbacks = after; workers = ws })
+changed_after i pools workers callbacks rows after ws n k ep ec s =
     subst (λ x. After (with_changed i x callbacks n) (record (shown i).world { callbacks = after; workers = ws })) (sym ep)
     (subst (λ x. After (with_changed i (with_workers i workers) x n) (record (shown i).world { callbacks = after; workers = ws })) (sym ec)
     (record {
@@ -247,18 +248,14 @@ changed_after i pools workers callbacks rows after ws held n k ep ec s =
       slotted = s.slotted;
     }))
 
--- whatever waits hold
-alive_held : {limits : Limits} {callbacks : Callbacks} (held : List (List ℕ)) → AreLive limits callbacks → AreLive limits (record callbacks { held = held })
-alive_held held k = record { slot_limit = k.slot_limit; pool_limit = k.pool_limit; object_limit = k.object_limit; live = k.live }
-
 -- a callback goes on
-pub goes_on : (i : Inside) (r : CallbackRow) (pools : Pools) (workers : List kept.WorkerRow) (callbacks : Callbacks) (ws : List WorkerRow) (held : List (List ℕ)) → IsLiveWorld i → lives r ≡ true
-    → pools ≡ with_workers i workers → callbacks ≡ record i.callbacks { rows = replaced r i.callbacks.rows; held = held } → map shown_worker workers ≡ ws → AreSized i.limits (with_workers i workers) i.objects i.clients.items
-    → AreTallied (replaced r i.callbacks.rows) workers → AreCovered i.limits (replaced r i.callbacks.rows) i.waits held → After (with_changed i pools callbacks i.made) (record (shown i).world { callbacks = replaced r i.callbacks.rows; workers = ws })
-goes_on i r pools workers callbacks ws held k live ep ec ew sized tallied covered =
+pub goes_on : (i : Inside) (r : CallbackRow) (pools : Pools) (workers : List kept.WorkerRow) (callbacks : Callbacks) (ws : List WorkerRow) → IsLiveWorld i → lives r ≡ true
+    → pools ≡ with_workers i workers → callbacks ≡ record i.callbacks { rows = replaced r i.callbacks.rows } → map shown_worker workers ≡ ws → AreSized i.limits (with_workers i workers) i.objects i.clients.items
+    → AreTallied (replaced r i.callbacks.rows) workers → AreCovered i.limits i.made (replaced r i.callbacks.rows) i.waits i.covers → After (with_changed i pools callbacks i.made) (record (shown i).world { callbacks = replaced r i.callbacks.rows; workers = ws })
+goes_on i r pools workers callbacks ws k live ep ec ew sized tallied covered =
     let alive_now = alive_replaced i.callbacks r live k.alive in
-    changed_after i pools workers callbacks (replaced r i.callbacks.rows) (replaced r i.callbacks.rows) ws held i.made k ep ec
-    (record { living = sym alive_now.live; shown_workers = ew; sized = sized; alive = alive_held held alive_now; tallied = tallied; slotted = slots_replaced r k.slotted; covered = covered })
+    changed_after i pools workers callbacks (replaced r i.callbacks.rows) (replaced r i.callbacks.rows) ws i.made k ep ec
+    (record { living = sym alive_now.live; shown_workers = ew; sized = sized; alive = alive_now; tallied = tallied; slotted = slots_replaced r k.slotted; covered = covered })
 
 -- and is over
 pub goes : (i : Inside) (r c : CallbackRow) (pools : Pools) (workers : List kept.WorkerRow) (callbacks : Callbacks) (ws : List WorkerRow) → IsLiveWorld i → lives r ≡ false → find (has_number r.number) i.callbacks.rows ≡ Some c
@@ -266,18 +263,17 @@ pub goes : (i : Inside) (r c : CallbackRow) (pools : Pools) (workers : List kept
     → AreMarked (filter (λ (x : CallbackRow). not (x.number == r.number)) i.callbacks.rows) workers → AreTallied (replaced r i.callbacks.rows) workers → After (with_changed i pools callbacks i.made) (record (shown i).world { callbacks = replaced r i.callbacks.rows; workers = ws })
 goes i r c pools workers callbacks ws k over found ep ec ew sized marks tallied =
     let others : List CallbackRow = filter (λ (x : CallbackRow). not (x.number == r.number)) i.callbacks.rows in
-    let held : List (List ℕ) = map (all_but r.number) i.callbacks.held in
     let removed : others ≡ filter lives (replaced r i.callbacks.rows) = removed_rows i.callbacks r over k.alive in
-    changed_after i pools workers callbacks others (replaced r i.callbacks.rows) ws held i.made k ep ec
+    changed_after i pools workers callbacks others (replaced r i.callbacks.rows) ws i.made k ep ec
     (record {
       living = removed;
       shown_workers = ew;
       sized = sized;
-      alive = alive_held held (alive_less i.callbacks r over k.alive);
+      alive = alive_less i.callbacks r over k.alive;
       tallied = subst (λ cs. AreTallied cs workers) (sym removed) (tallied_lives (replaced r i.callbacks.rows) workers (subst (λ cs. AreMarked cs workers) removed marks) tallied);
       slotted = slots_fewer (λ (x : CallbackRow). not (x.number == r.number)) k.slotted;
-      covered = subst (λ cs. AreCovered i.limits cs i.waits held) (sym removed)
-          (covered_lives (i.made + 1) (rising_replaced r 1 (i.made + 1) i.callbacks.rows k.sound.numbers) (covered_less r c over found k.covered));
+      covered = subst (λ cs. AreCovered i.limits i.made cs i.waits i.covers) (sym removed)
+          (covered_lives (i.made + 1) (rising_replaced r 1 (i.made + 1) i.callbacks.rows k.sound.numbers) (covered_replaced r c (never_outstanding r c over) found k.covered));
     })
 
 -- or it ends where no worker runs it
@@ -290,17 +286,17 @@ goes_idle i r c callbacks k over number pool long before after found ec =
     (tallied_same i r c k found pool long (after ∙ sym before))
 
 -- a callback goes on where no worker begins or ends it
-pub goes_along : (i : Inside) (r c : CallbackRow) (callbacks : Callbacks) (held : List (List ℕ)) → IsLiveWorld i → lives r ≡ true → r.pool ≡ c.pool → r.long ≡ c.long → is_running r.status ≡ is_running c.status → find (has_number r.number) i.callbacks.rows ≡ Some c
-    → callbacks ≡ record i.callbacks { rows = replaced r i.callbacks.rows; held = held } → AreCovered i.limits (replaced r i.callbacks.rows) i.waits held
+pub goes_along : (i : Inside) (r c : CallbackRow) (callbacks : Callbacks) → IsLiveWorld i → lives r ≡ true → r.pool ≡ c.pool → r.long ≡ c.long → is_running r.status ≡ is_running c.status → find (has_number r.number) i.callbacks.rows ≡ Some c
+    → callbacks ≡ record i.callbacks { rows = replaced r i.callbacks.rows } → AreCovered i.limits i.made (replaced r i.callbacks.rows) i.waits i.covers
     → After (with_changed i i.pools callbacks i.made) (record (shown i).world { callbacks = replaced r i.callbacks.rows })
-goes_along i r c callbacks held k live pool long ran found ec covered = goes_on i r i.pools i.pools.workers callbacks (shown i).world.workers held k live refl ec refl k.sized (tallied_same i r c k found pool long ran) covered
+goes_along i r c callbacks k live pool long ran found ec covered = goes_on i r i.pools i.pools.workers callbacks (shown i).world.workers k live refl ec refl k.sized (tallied_same i r c k found pool long ran) covered
 
 -- a callback comes
 pub comes : (i : Inside) (c : CallbackRow) (callbacks : Callbacks) → IsLiveWorld i → c.number ≡ i.made + 1 → lives c ≡ true → is_running c.status ≡ false → lacks_slots_for (shown i).world 1 ≡ false
     → callbacks ≡ record i.callbacks { rows = i.callbacks.rows ++ c ∷ [] } → After (with_changed i i.pools callbacks (i.made + 1)) (record (shown i).world { callbacks = i.callbacks.rows ++ c ∷ [] })
 comes i c callbacks k number live still room ec =
     let alive_now = alive_more i.callbacks c live k.alive in
-    changed_after i i.pools i.pools.workers callbacks (i.callbacks.rows ++ c ∷ []) (i.callbacks.rows ++ c ∷ []) (shown i).world.workers i.callbacks.held (i.made + 1) k refl ec
+    changed_after i i.pools i.pools.workers callbacks (i.callbacks.rows ++ c ∷ []) (i.callbacks.rows ++ c ∷ []) (shown i).world.workers (i.made + 1) k refl ec
     (record {
       living = sym alive_now.live;
       shown_workers = refl;
@@ -315,7 +311,7 @@ comes i c callbacks k number live still room ec =
           ltb-false i.limits.slots (length (filter lives i.callbacks.rows) + length i.sources.sources.armings + 1) room,
         );
       };
-      covered = covered_more (i.made + 1) c number (all_along (IsWaitSound (i.made + 1) i.callbacks.rows) (CoversBelow (i.made + 1)) (λ b s. s.made) i.waits.waits k.sound.waits) k.covered;
+      covered = covered_more c number (all_along (IsWaitSound (i.made + 1) i.callbacks.rows) (CoversBelow (i.made + 1)) (λ b s. s.made) i.waits.waits k.sound.waits) k.covered;
     })
 
 -- a row that goes on, as the lists ask for it

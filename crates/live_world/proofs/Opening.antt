@@ -17,8 +17,9 @@ use Rattle.tp_model.proofs.Sound.{opening_sound}
 use Rattle.begun_waits.specs.Begun.{Begun}
 use Rattle.live_world.specs.Parts.{world_of, shown_worker}
 use Rattle.live_world.specs.Invariant.{AreSized, AreLive, AreTallied, AreCovered, AreTimed, AreSlotted, IsHome, IsMarked}
+use Rattle.begun_waits.specs.Covers.{Covering}
 use Rattle.live_world.specs.View.{shown}
-use Rattle.live_world.specs.Opening.{opened_pools, opened_objects, opened_callbacks, opened_waits, opened_sources}
+use Rattle.live_world.specs.Opening.{opened_pools, opened_objects, opened_callbacks, opened_waits, opened_covers, opened_sources}
 use Rattle.live_world.specs.declared.LiveWorld.TheInside.{Inside}
 use Rattle.live_world.proofs.Moving.{Becomes}
 use Rattle.tp_base.specs.declared.rows.CallbackRow.{CallbackRow}
@@ -38,6 +39,7 @@ pub record IsOpened (i : Inside) : Type 0 where
   pub sources : i.sources ≡ opened_sources i.limits
   pub clients : i.clients.items ≡ replicate i.limits.clients unfinished
   pub waits : i.waits ≡ opened_waits i.limits
+  pub covers : i.covers ≡ opened_covers i.limits
   pub made : i.made ≡ 0
 
 both : {A B : Type 0} (P : A → B → Type 0) {a a' : A} {b b' : B} → a ≡ a' → b ≡ b' → P a' b' → P a b
@@ -78,12 +80,14 @@ timed_opened limits =
           ∙ elim (number == 0) as (λ b. false ≡ option_map_or (λ (o : ObjectRow). not o.released && is_timed_kind o.kind) (cond b None (slice_get [] (number - 1))) false) [ true ↦ refl | false ↦ refl ];
     }
 
-covered_opened : (limits : Limits) → AreCovered limits [] (opened_waits limits) (opened_callbacks limits).held
+covered_opened : (limits : Limits) → AreCovered limits 0 [] (opened_waits limits) (opened_covers limits)
 covered_opened limits =
     record {
-      waiters = length_replicate [] (limits.clients + limits.workers);
-      covered = λ who place at. get_replicate [] (limits.clients + limits.workers) place;
       wait_limits = refl;
+      bounds = length_replicate None (limits.clients + limits.workers);
+      lists = length_replicate [] (limits.clients + limits.workers);
+      room = refl;
+      covered = λ who place b at is. absurd cc;
     }
 
 -- they keep their invariant, and show the opening world
@@ -102,7 +106,8 @@ opened i o =
         sized = both (λ p t. AreSized limits p t i.clients.items) o.pools o.objects (subst (λ cl. AreSized limits (opened_pools limits) (opened_objects limits) cl) (sym o.clients) (sized_opened limits o.in_range));
         alive = subst (λ c. AreLive limits c) (sym o.callbacks) (record { slot_limit = refl; pool_limit = refl; object_limit = refl; live = refl });
         tallied = both (λ cs ws. AreTallied cs ws) rows (ap (λ (p : Pools). p.workers) o.pools) (tallied_opened limits);
-        covered = both (λ (c : Callbacks) (bs : Begun). AreCovered limits c.rows bs c.held) o.callbacks o.waits (covered_opened limits);
+        covered = both (λ (n : ℕ) (cs : Covering). AreCovered limits n i.callbacks.rows i.waits cs) o.made o.covers
+            (both (λ (c : Callbacks) (bs : Begun). AreCovered limits 0 c.rows bs (opened_covers limits)) o.callbacks o.waits (covered_opened limits));
         timed = both (λ (t : ObjectTable) (s : SourceRows). AreTimed limits t.objects s) o.objects o.sources (timed_opened limits);
         slotted = both (λ (cs : List CallbackRow) (s : SourceRows). AreSlotted limits cs s.sources.armings) rows o.sources (record { slots = omega arith });
         sound = both (λ w n. IsSound (n + 1) w) world_now o.made (opening_sound limits);

@@ -14,7 +14,7 @@ use Rattle.tp_model.proofs.Callbacks.{after_idle, before_idle, before_lives}
 use Rattle.live_world.specs.Live.{Live, moved}
 use Rattle.live_world.specs.View.{shown, IsLiveWorld}
 use Rattle.live_world.specs.declared.LiveWorld.TheInside.{Inside}
-use Rattle.live_world.proofs.Covered.{covered_replaced}
+use Rattle.live_world.proofs.Covered.{covered_replaced, outstanding_before}
 use Rattle.live_world.proofs.Moving.{Becomes, comes, goes_along, goes_idle, moved_by, without}
 
 -- a callback is made that expects an operation
@@ -29,14 +29,9 @@ pub operated_by : (i : Inside) (l : Live) (c : CallbackRow) (how : IoStep) (call
     → callbacks ≡ record i.callbacks { rows = replaced (operated how c) i.callbacks.rows } → Becomes (record i { callbacks = callbacks }) (moved l (change.Operate c how))
 operated_by i l c how callbacks is k allowed live rows_now =
     moved_by i (record i { callbacks = callbacks }) l (change.Operate c how) is k allowed (omega arith) (λ a.
-    goes_along i (operated how c) c callbacks i.callbacks.held k live refl refl (after_idle how ∙ sym (before_idle how c.status a.status)) a.found rows_now
-    (covered_replaced (operated how c) c refl refl (tied how live ∙ sym (ap (is_held_for (target.Object c.object)) a.status ∙ tied_before how)) (live ∙ sym (before_lives how c.status a.status)) a.found k.covered))
+    goes_along i (operated how c) c callbacks k live refl refl (after_idle how ∙ sym (before_idle how c.status a.status)) a.found rows_now
+    (covered_replaced (operated how c) c (outstanding_before (operated how c) c refl refl (λ _. ap (is_held_for (target.Object c.object)) a.status ∙ tied_before how) (before_lives how c.status a.status)) a.found k.covered))
   where
-    tied : (how : IoStep) → is_live (status_after how) ≡ true → is_held_for (target.Object c.object) (status_after how) ≡ true
-    tied Issue live = refl
-    tied GiveUp live = absurd cc
-    tied (Complete error bytes) live = refl
-
     tied_before : (how : IoStep) → is_held_for (target.Object c.object) (status_before how) ≡ true
     tied_before Issue = refl
     tied_before GiveUp = refl

@@ -1,6 +1,5 @@
 -- How far a wait has come.
-use Rattle.std.proofs.Common.{◌≡◌, ℕ, subst, true, false, cond, not, List, [], ◌∷◌, slice_get, Option, Some, None, is_none, refl, sym, ap, ◌∙◌, unwrap_or}
-use Rattle.std.specs.List.{list_any}
+use Rattle.std.proofs.Common.{◌≡◌, ℕ, subst, true, false, cond, List, [], ◌∷◌, slice_get, Option, Some, None, is_none, option_map, refl, sym, ap, ◌∙◌, unwrap_or}
 use Rattle.std.specs.List.{AllByRecursion}
 use Rattle.std.specs.Option.{option_map_or}
 use Rattle.tp_base.specs.declared.ids.Who.{Who}
@@ -10,7 +9,6 @@ use Rattle.tp_base.specs.declared.ids.ObjectId.{ObjectId}
 use Rattle.tp_base.specs.declared.rows.ObjectRow.{ObjectRow}
 use Rattle.tp_base.specs.declared.rows.WaitTarget.{WaitTarget}
 use Rattle.tp_base.specs.declared.rows.WaitTarget.TheVariants.{Object, Group, Kernel}
-use Rattle.live_callbacks.specs.Callbacks.{held_of}
 use Rattle.tp_model.specs.World.{World, BegunWait}
 use Rattle.tp_model.specs.Counts.{numbered}
 use Rattle.tp_model.specs.Groups.{is_object_that}
@@ -20,79 +18,72 @@ use Rattle.tp_model.specs.Waits.{held, is_group_target, wait_of}
 use Rattle.tp_model.proofs.Lists.{find_all}
 use Rattle.tp_model.proofs.Releasing.{that_row}
 use Rattle.tp_model.specs.Calls.Waits.{holds_starved}
-use Rattle.live_world.specs.declared.LiveWorld.TheInside.{Inside}
-use Rattle.live_world.specs.Live.{Live}
-use Rattle.begun_waits.specs.Begun.{closing_by, closing_of, kernel_in, notices_by, place_of, wanted_by}
-use Rattle.live_world.specs.View.{shown, IsLiveWorld}
+use Rattle.begun_waits.specs.Begun.{closing_by, closing_of, kernel_in, notices_by}
 use Rattle.live_world.specs.Waiting.{held_by, progress_free, progress_left, progress_with, progress_for, progress_in, progress_of}
 use Rattle.live_world.specs.declared.waits.Progress.{Progress}
 use Rattle.live_world.specs.declared.waits.Progress.TheVariants.{NotBegun, Free, Notifies, Starved, Holds, Acquires}
 use Rattle.tp_base.specs.Actors.{is_same_actor}
-use Rattle.begun_waits.proofs.Actors.{none_found}
-use Rattle.live_world.proofs.Covered.{not_found, placed}
-
--- what is held at the place of an actor is what its wait holds
-pub covered_is : (i : Inside) (who : Who) (place : ℕ) → IsLiveWorld i → place_of i.waits.limits who ≡ Some place → held_of i.callbacks place ≡ held_by (shown i).world who
-covered_is i who place k at = k.covered.covered who place (placed who (Some place) at k.covered)
-
--- as the world shows it
-pub covered_here : (i : Inside) (l : Live) (who : Who) (place : ℕ) → shown i ≡ l → IsLiveWorld i → place_of l.world.limits who ≡ Some place → held_of i.callbacks place ≡ held_by l.world who
-covered_here i l who place is k at =
-    covered_is i who place k (ap (λ ls. place_of ls who) k.covered.wait_limits ∙ ap (λ (x : Live). place_of x.world.limits who) is ∙ at) ∙ ap (λ (x : Live). held_by x.world who) is
 
 -- the actor has begun no wait
-pub not_begun : (w : World) (room : ℕ) (who : Who) → list_any (λ (b : BegunWait). is_same_actor b.actor who) w.waits ≡ false → NotBegun ≡ progress_of w room who
-not_begun w room who none = sym (ap (progress_in w room) (none_found (λ (b : BegunWait). is_same_actor b.actor who) w.waits none))
+pub not_begun : (w : World) (room : ℕ) (who : Who) → None ≡ option_map (λ (b : BegunWait). b.target) (wait_of w who) → NotBegun ≡ progress_of w room who
+not_begun w room who none = known (wait_of w who) none
+  where
+    known : (o : Option BegunWait) → None ≡ option_map (λ (b : BegunWait). b.target) o → NotBegun ≡ progress_in w room o
+    known None e = refl
+    known (Some b) e = absurd cc
+
+-- or it has begun one
+pub has_begun : (o : Option BegunWait) (target : WaitTarget) → Some target ≡ option_map (λ (b : BegunWait). b.target) o → is_none o ≡ false
+has_begun None target e = absurd cc
+has_begun (Some b) target e = refl
+
+pub no_kernel : (target : WaitTarget) → ((kernel : KernelId) → target ≡ Kernel kernel → ⊥) → kernel_in target ≡ None
+no_kernel (Object object) other = refl
+no_kernel (Group group) other = refl
+no_kernel (Kernel kernel) other = absurd (other kernel refl)
 
 -- what is told of a wait that holds these numbers
 abbrev progress_held : World → ℕ → Option BegunWait → List ℕ → Progress
 progress_held w room None ns = NotBegun
 progress_held w room (Some b) ns = progress_with w room b ns
 
--- or it has, and this is what its wait holds
-begun_one : (w : World) (room : ℕ) (who : Who) → list_any (λ (b : BegunWait). is_same_actor b.actor who) w.waits ≡ true → wanted_by (wait_of w who) ≡ None → progress_held w room (wait_of w who) (held_by w who) ≡ progress_of w room who
-begun_one w room who some none = known (wait_of w who) (sym (not_found (λ (b : BegunWait). is_same_actor b.actor who) w.waits) ∙ ap not some) none
-  where
-    of_target : (b : BegunWait) (t : WaitTarget) → kernel_in t ≡ None → progress_with w room b (held w b) ≡ progress_for w room b t
-    of_target b (Object object) e = refl
-    of_target b (Group group) e = refl
-    of_target b (Kernel kernel) e = absurd cc
-
-    known : (o : Option BegunWait) → is_none o ≡ false → wanted_by o ≡ None → progress_held w room o (option_map_or (held w) o []) ≡ progress_in w room o
-    known None e kernel = absurd cc
-    known (Some b) e kernel = of_target b b.target kernel
-
 -- the actor waits for a kernel object
-pub begun_acquires : (w : World) (room : ℕ) (who : Who) (kernel : KernelId) → wanted_by (wait_of w who) ≡ Some kernel → Acquires kernel ≡ progress_of w room who
-begun_acquires w room who kernel wanted = known (wait_of w who) wanted
+pub begun_acquires : (w : World) (room : ℕ) (who : Who) (target : WaitTarget) (kernel : KernelId) → Some target ≡ option_map (λ (b : BegunWait). b.target) (wait_of w who) → target ≡ Kernel kernel → Acquires kernel ≡ progress_of w room who
+begun_acquires w room who target kernel for is = known (wait_of w who) for
   where
-    of_target : (b : BegunWait) (t : WaitTarget) → kernel_in t ≡ Some kernel → Acquires kernel ≡ progress_for w room b t
-    of_target b (Object object) e = absurd cc
-    of_target b (Group group) e = absurd cc
-    of_target b (Kernel other) e = let same : kernel ≡ other = cc in ap Acquires same
-
-    known : (o : Option BegunWait) → wanted_by o ≡ Some kernel → Acquires kernel ≡ progress_in w room o
+    known : (o : Option BegunWait) → Some target ≡ option_map (λ (b : BegunWait). b.target) o → Acquires kernel ≡ progress_in w room o
     known None e = absurd cc
-    known (Some b) e = of_target b b.target e
+    known (Some b) e = let same : Kernel kernel ≡ b.target = cc in ap (progress_for w room b) same
 
-pub begun_free : (w : World) (room : ℕ) (who : Who) (has : List ℕ) (first : Option ℕ) → list_any (λ (b : BegunWait). is_same_actor b.actor who) w.waits ≡ true
-    → wanted_by (wait_of w who) ≡ None → has ≡ held_by w who → first ≡ slice_get has 0 → first ≡ None → progress_free w (wait_of w who) ≡ progress_of w room who
-begun_free w room who has first some wants same is none = of_wait (wait_of w who) has (sym is ∙ none) ∙ ap (progress_held w room (wait_of w who)) same ∙ begun_one w room who some wants
-  where
-    of_wait : (o : Option BegunWait) (ns : List ℕ) → slice_get ns 0 ≡ None → progress_free w o ≡ progress_held w room o ns
-    of_wait None ns e = refl
-    of_wait (Some b) [] e = refl
-    of_wait (Some b) (n ∷ ns) e = absurd cc
+module _ (w : World) (room : ℕ) (who : Who) (target : WaitTarget) (for : Some target ≡ option_map (λ (b : BegunWait). b.target) (wait_of w who)) (out : kernel_in target ≡ None) where
+  -- or for callbacks, and this is what its wait holds
+  begun_one : progress_held w room (wait_of w who) (held_by w who) ≡ progress_of w room who
+  begun_one = known (wait_of w who) for
+    where
+      of_target : (b : BegunWait) (t : WaitTarget) → kernel_in t ≡ None → progress_with w room b (held w b) ≡ progress_for w room b t
+      of_target b (Object object) e = refl
+      of_target b (Group group) e = refl
+      of_target b (Kernel kernel) e = absurd cc
 
-pub begun_holds : (w : World) (room : ℕ) (who : Who) (has : List ℕ) (first : Option ℕ) (number : ℕ) → list_any (λ (b : BegunWait). is_same_actor b.actor who) w.waits ≡ true → wanted_by (wait_of w who) ≡ None → has ≡ held_by w who → first ≡ slice_get has 0 → first ≡ Some number
-    → cond (holds_starved w room (held_by w who)) Starved (Holds number) ≡ progress_of w room who
-begun_holds w room who has first number some wants same is at =
-    of_wait (wait_of w who) (held_by w who) (sym (not_found (λ (b : BegunWait). is_same_actor b.actor who) w.waits) ∙ ap not some) (ap (λ ns. slice_get ns 0) (sym same) ∙ sym is ∙ at) ∙ begun_one w room who some wants
-  where
-    of_wait : (o : Option BegunWait) (ns : List ℕ) → is_none o ≡ false → slice_get ns 0 ≡ Some number → cond (holds_starved w room ns) Starved (Holds number) ≡ progress_held w room o ns
-    of_wait None ns h e = absurd cc
-    of_wait (Some b) [] h e = absurd cc
-    of_wait (Some b) (n ∷ ns) h e = let same_number : number ≡ n = cc in ap (λ m. cond (holds_starved w room (n ∷ ns)) Starved (Holds m)) same_number
+      known : (o : Option BegunWait) → Some target ≡ option_map (λ (b : BegunWait). b.target) o → progress_held w room o (option_map_or (held w) o []) ≡ progress_in w room o
+      known None e = absurd cc
+      known (Some b) e = let same : target ≡ b.target = cc in of_target b b.target (ap kernel_in (sym same) ∙ out)
+
+  pub begun_free : None ≡ slice_get (held_by w who) 0 → progress_free w (wait_of w who) ≡ progress_of w room who
+  begun_free none = of_wait (wait_of w who) (held_by w who) (sym none) ∙ begun_one
+    where
+      of_wait : (o : Option BegunWait) (ns : List ℕ) → slice_get ns 0 ≡ None → progress_free w o ≡ progress_held w room o ns
+      of_wait None ns e = refl
+      of_wait (Some b) [] e = refl
+      of_wait (Some b) (n ∷ ns) e = absurd cc
+
+  pub begun_holds : (number : ℕ) → Some number ≡ slice_get (held_by w who) 0 → cond (holds_starved w room (held_by w who)) Starved (Holds number) ≡ progress_of w room who
+  begun_holds number first = of_wait (wait_of w who) (held_by w who) (has_begun (wait_of w who) target for) (sym first) ∙ begun_one
+    where
+      of_wait : (o : Option BegunWait) (ns : List ℕ) → is_none o ≡ false → slice_get ns 0 ≡ Some number → cond (holds_starved w room ns) Starved (Holds number) ≡ progress_held w room o ns
+      of_wait None ns h e = absurd cc
+      of_wait (Some b) [] h e = absurd cc
+      of_wait (Some b) (n ∷ ns) h e = let same_number : number ≡ n = cc in ap (λ m. cond (holds_starved w room (n ∷ ns)) Starved (Holds m)) same_number
 
 -- ---- what the actor's wait closes, and its notices
 

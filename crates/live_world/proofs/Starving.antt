@@ -1,5 +1,5 @@
 -- Whether a wait holds a callback that is starved, from the first pending callback of its object.
-use Rattle.std.proofs.Common.{◌≡◌, ◌≢◌, ℕ, ◌+◌, ◌≤◌, Bool, true, false, cond, ◌&&◌, ◌||◌, ◌==◌, List, [], ◌∷◌, nat_lt, slice_get, Option, Some, None, refl, sym, ap, ap₂, ◌∙◌, subst, arith, ⊎_elim, filter, find, eqb-true, eq-eqb, le-ltb}
+use Rattle.std.proofs.Common.{◌≡◌, ◌≢◌, ℕ, ◌+◌, ◌≤◌, Bool, true, false, cond, ◌&&◌, ◌||◌, ◌==◌, List, [], ◌∷◌, nat_lt, slice_get, Option, Some, None, option_map, refl, sym, ap, ap₂, ◌∙◌, subst, arith, ⊎_elim, filter, find, eqb-true, eq-eqb, le-ltb}
 use Rattle.std.specs.List.{list_any}
 use Rattle.std.specs.Option.{option_map_or}
 use Rattle.std.proofs.lemmas.Bool.{cases_eq}
@@ -21,13 +21,9 @@ use Rattle.tp_model.specs.Calls.Waits.{is_starved, holds_starved}
 use Rattle.tp_model.specs.Laws.Entries.{is_among}
 use Rattle.tp_model.specs.Laws.Once.{is_left}
 use Rattle.tp_model.specs.Support.Sound.{IsSound, IsRising, IsNamed, IsCallbackSound, IsWaitSound, is_left_of, is_left_among}
-use Rattle.tp_model.proofs.Lists.{find_all, find_kept}
-use Rattle.tp_model.proofs.Callbacks.{found_bounds, rising_filter}
+use Rattle.tp_model.proofs.Lists.{find_all, find_kept, find_passes}
+use Rattle.tp_model.proofs.Callbacks.{find_numbered, found_bounds, rising_filter}
 use Rattle.tp_model.proofs.Refusals.{both, and_false, false_true}
-use Rattle.live_world.specs.declared.LiveWorld.TheInside.{Inside}
-use Rattle.live_world.specs.Live.{Live}
-use Rattle.live_world.specs.View.{shown, IsLiveWorld}
-use Rattle.begun_waits.specs.Begun.{closing_by, closing_of}
 use Rattle.live_world.specs.Waiting.{held_by, is_pending_for, pending_of}
 use Rattle.live_world.proofs.Along.{first_passes, first_by_number}
 use Rattle.live_world.proofs.Moving.{pending_tied}
@@ -189,56 +185,51 @@ module _ (w : World) (next_number room : ℕ) (sound : IsSound next_number w) (b
 
 -- ---- of an actor's wait
 
--- the wait whose first held callback this is
-pub record IsFirstHeld (w : World) (who : Who) (next_number : ℕ) (first : ℕ) : Type 0 where
-  pub wait : BegunWait
-  pub begun : wait_of w who ≡ Some wait
-  pub kept : IsWaitSound next_number w.callbacks wait
-  pub held_first : is_held w wait.target first ≡ true
-
-pub first_held : (w : World) (who : Who) (next_number first : ℕ) → IsSound next_number w → slice_get (held_by w who) 0 ≡ Some first → IsFirstHeld w who next_number first
-first_held w who next_number first sound is = of_wait (wait_of w who) refl is
+-- one for an object holds a starved callback where the first pending one of the object is starved and held
+pub starved_by_pending : (w : World) (who : Who) (object : ObjectId) (next_number room : ℕ) → IsSound next_number w → option_map (λ (b : BegunWait). b.target) (wait_of w who) ≡ Some (Object object) → (pending : Option CallbackRow) → pending ≡ slice_get (pending_of w object) 0
+    → option_map_or (λ c. is_starved w room c && is_among c.number (held_by w who)) pending false ≡ holds_starved w room (held_by w who)
+starved_by_pending w who object next_number room sound for pending is = of_wait (wait_of w who) refl for
   where
-    of_wait : (o : Option BegunWait) → wait_of w who ≡ o → slice_get (option_map_or (held w) o []) 0 ≡ Some first → IsFirstHeld w who next_number first
+    of_wait : (o : Option BegunWait) → wait_of w who ≡ o → option_map (λ (b : BegunWait). b.target) o ≡ Some (Object object)
+        → option_map_or (λ c. is_starved w room c && is_among c.number (option_map_or (held w) o [])) pending false ≡ holds_starved w room (option_map_or (held w) o [])
     of_wait None begun e = absurd cc
     of_wait (Some b) begun e =
-        record {
-          wait = b;
-          begun = begun;
-          kept = find_all (IsWaitSound next_number w.callbacks) (λ (x : BegunWait). is_same_actor x.actor who) b w.waits sound.waits begun;
-          held_first = first_passes (is_held w b.target) first b.covered e;
-        }
+        let kept = find_all (IsWaitSound next_number w.callbacks) (λ (x : BegunWait). is_same_actor x.actor who) b w.waits sound.waits begun in
+        let target : b.target ≡ Object object = cc in
+        first_tells w next_number room sound b kept object target pending is
 
--- its row is of the object that the wait is for
-pub starved_by_first : (w : World) (who : Who) (next_number room first : ℕ) (row : CallbackRow) (pending : Option CallbackRow) → IsSound next_number w
-    → IsFirstHeld w who next_number first → closing_by (wait_of w who) ≡ None → callback_of w first ≡ Some row → pending ≡ slice_get (pending_of w row.object) 0
-    → option_map_or (λ c. is_starved w room c && is_among c.number (held_by w who)) pending false ≡ holds_starved w room (held_by w who)
-starved_by_first w who next_number room first row pending sound h closes found is = of_target h.wait.target refl (ap closing_by (sym h.begun) ∙ closes)
-  where
-    of_target : (t : WaitTarget) → h.wait.target ≡ t → closing_of h.wait t ≡ None → option_map_or (λ c. is_starved w room c && is_among c.number (held_by w who)) pending false ≡ holds_starved w room (held_by w who)
-    of_target (Object object) target kind =
-        let passes : is_outstanding_for (Object object) row ≡ true = sym (ap (λ t. is_held w t first) target ∙ ap (λ o. option_map_or (is_outstanding_for (Object object)) o false) found) ∙ h.held_first in
-        let same : row.object ≡ object = ap (λ n. record { 0 = n }) (eqb-true row.object.0 object.0 (both (row.object.0 == object.0) (is_held_for (Object object) row.status) passes).0) in
-        let holds : held_by w who ≡ held w h.wait = ap (λ o. option_map_or (held w) o []) h.begun in
-        ap (λ ns. option_map_or (λ c. is_starved w room c && is_among c.number ns) pending false) holds
-        ∙ first_tells w next_number room sound h.wait h.kept object target pending (is ∙ ap (λ o. slice_get (pending_of w o) 0) same)
-        ∙ sym (ap (holds_starved w room) holds)
-    of_target (Group group) target kind = absurd cc
-    of_target (Kernel kernel) target kind = absurd (false_true (sym (ap (λ t. is_held w t first) target ∙ ap (λ o. option_map_or (is_outstanding_for (Kernel kernel)) o false) found) ∙ h.held_first))
+-- and one of these numbers is that of a starved callback where a row is starved and has one of them
+module _ (w : World) (next_number room : ℕ) (rising : IsRising 1 next_number w.callbacks) (ns : List ℕ) where
+  abbrev pub starves_row : CallbackRow → Bool
+  starves_row c = is_starved w room c && is_among c.number ns
 
--- ---- in terms of the parts
+  abbrev starves_number : ℕ → Bool
+  starves_number n = option_map_or (is_starved w room) (callback_of w n) false
 
-module _ (i : Inside) (l : Live) (who : Who) (first : ℕ) (is : shown i ≡ l) (k : IsLiveWorld i) (held_is : slice_get (held_by l.world who) 0 ≡ Some first) where
-  there : IsFirstHeld (shown i).world who (i.made + 1) first
-  there = first_held (shown i).world who (i.made + 1) first k.sound (ap (λ (x : Live). slice_get (held_by x.world who) 0) is ∙ held_is)
+  some_row : (q : CallbackRow → Bool) (cs : List CallbackRow) → list_any q cs ≡ true → (c : CallbackRow) × (find q cs ≡ Some c)
+  some_row q [] e = absurd (false_true e)
+  some_row q (c ∷ cs) e =
+      elim (q c) as (λ b. (b || list_any q cs) ≡ true → (d : CallbackRow) × (cond b (Some c) (find q cs) ≡ Some d)) [ true ↦ λ _. (c, refl) | false ↦ λ h. some_row q cs h ] e
 
-  -- its row is kept
-  pub first_is_kept : find (has_number first) i.callbacks.rows ≡ None → ⊥
-  first_is_kept none = false_true (sym (ap (λ o. option_map_or (is_outstanding_for there.wait.target) o false) none) ∙ there.held_first)
+  row_any : (q : CallbackRow → Bool) (n : ℕ) (c : CallbackRow) (cs : List CallbackRow) → find (has_number n) cs ≡ Some c → q c ≡ true → list_any q cs ≡ true
+  row_any q n c [] found passes = absurd cc
+  row_any q n c (d ∷ ds) found passes =
+      elim (has_number n d) as (λ b. cond b (Some d) (find (has_number n) ds) ≡ Some c → (q d || list_any q ds) ≡ true) [
+        | true ↦ λ h. let same : d ≡ c = cc in ap (λ b. b || list_any q ds) (ap q same ∙ passes)
+        | false ↦ λ h. elim (q d) as (λ b. (b || list_any q ds) ≡ true) [ true ↦ refl | false ↦ row_any q n c ds h passes ]
+      ] found
 
-  pub starved_where : (room : ℕ) (row : CallbackRow) (pending : Option CallbackRow) → closing_by (wait_of l.world who) ≡ None → find (has_number first) i.callbacks.rows ≡ Some row → pending ≡ slice_get (pending_of l.world row.object) 0
-      → option_map_or (λ c. is_starved l.world room c && is_among c.number (held_by l.world who)) pending false ≡ holds_starved l.world room (held_by l.world who)
-  starved_where room row pending closes found =
-      subst (λ (x : Live). pending ≡ slice_get (pending_of x.world row.object) 0 → option_map_or (λ c. is_starved x.world room c && is_among c.number (held_by x.world who)) pending false ≡ holds_starved x.world room (held_by x.world who)) is
-      (starved_by_first (shown i).world who (i.made + 1) room first row pending k.sound there
-      (ap (λ (x : Live). closing_by (wait_of x.world who)) is ∙ closes) found)
+  pub any_starved : list_any starves_row w.callbacks ≡ holds_starved w room ns
+  any_starved =
+      same_truth (list_any starves_row w.callbacks) (holds_starved w room ns)
+      (λ e.
+      let one = some_row starves_row w.callbacks e in
+      let found = find_numbered starves_row 1 next_number w.callbacks one.0 rising one.1 in
+      let parts = both (is_starved w room one.0) (is_among one.0.number ns) (find_passes starves_row one.0 w.callbacks one.1) in
+      any_among starves_number one.0.number ns parts.1 (ap (λ o. option_map_or (is_starved w room) o false) found ∙ parts.0))
+      (λ e. let one = some_among starves_number ns e in of_row one.0 (callback_of w one.0) refl one.1 one.2)
+    where
+      of_row : (n : ℕ) (o : Option CallbackRow) → callback_of w n ≡ o → is_among n ns ≡ true → option_map_or (is_starved w room) o false ≡ true → list_any starves_row w.callbacks ≡ true
+      of_row n None found among starved = absurd (false_true starved)
+      of_row n (Some c) found among starved =
+          row_any starves_row n c w.callbacks found (ap₂ (λ a b. a && b) starved (ap (λ m. is_among m ns) (eqb-true c.number n (find_passes (has_number n) c w.callbacks found)) ∙ among))

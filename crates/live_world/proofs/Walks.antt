@@ -7,6 +7,10 @@ use Rattle.std.proofs.lemmas.Bool.{ltb-true}
 use Rattle.tp_model.proofs.Lists.{all_along, all_filter, filter_filter, find_all, find_passes}
 use Rattle.live_world.proofs.Lists.{all_pass, filter_all}
 
+-- a number is its own key
+abbrev pub itself : ℕ → ℕ
+itself n = n
+
 module _ {X : Type 0} (key : X → ℕ) where
   -- each key is above those before it
   abbrev pub Rises : ℕ → List X → Type 0
@@ -155,22 +159,6 @@ module _ {X : Type 0} (key : X → ℕ) where
       let tail : Rises (key x + 1) (filter p xs) = rises_filter p (key x + 1) xs r.1 in
       elim (p x) as (λ b. Rises low (cond b (x ∷ filter p xs) (filter p xs))) [ true ↦ (r.0, tail) | false ↦ rises_lower (key x + 1) low (filter p xs) (omega (arith, r.0)) tail ]
 
-  pub rises_pairs : (low : ℕ) (xs : List X) → AllByRecursion (λ x. low ≤ key x) xs → AllPairs (λ a b. key a < key b) xs → Rises low xs
-  rises_pairs low [] all pairs = tt
-  rises_pairs low (x ∷ xs) all pairs = (
-    all.0,
-    rises_pairs (key x + 1) xs
-        (recursion_from_All (λ y. key x + 1 ≤ key y) xs (λ k d lt. later (get_or xs k d) (pairs 0 (suc k) d (omega arith) (omega (arith, lt)))))
-        (λ i j d less within. pairs (suc i) (suc j) d (omega (arith, less)) (omega (arith, within))),
-  )
-    where
-      later : (y : X) → key x < key y → key x + 1 ≤ key y
-      later y lt = omega (arith, lt)
-
 pub rises_map : {X Y : Type 0} (key : Y → ℕ) (f : X → Y) (low : ℕ) (xs : List X) → Rises (λ x. key (f x)) low xs → Rises key low (map f xs)
 rises_map key f low [] r = tt
 rises_map key f low (x ∷ xs) r = (r.0, rises_map key f (key (f x) + 1) xs r.1)
-
-pub all_least : {X : Type 0} (key : X → ℕ) (xs : List X) → AllByRecursion (λ x. 0 ≤ key x) xs
-all_least key [] = tt
-all_least key (x ∷ xs) = (omega arith, all_least key xs)

@@ -7,9 +7,7 @@ use Rattle.tp_base.specs.declared.ids.ObjectId.{ObjectId}
 use Rattle.tp_base.specs.declared.rows.ObjectRow.{ObjectRow}
 use Rattle.tp_base.specs.declared.rows.CallbackRow.{CallbackRow}
 use Rattle.tp_base.specs.declared.rows.WaitTarget.TheVariants.{Group}
-use Rattle.live_callbacks.specs.Callbacks.{Callbacks, all_but, held_of}
-use Rattle.begun_waits.specs.declared.Closing.{Closing}
-use Rattle.begun_waits.specs.Begun.{Begun, actor_at, closing_by, wait_among, with_notices}
+use Rattle.begun_waits.specs.Begun.{with_notices}
 use Rattle.tp_model.specs.World.{World, BegunWait}
 use Rattle.tp_base.specs.Actors.{is_same_actor}
 use Rattle.tp_model.specs.Conditions.{is_in_wait}
@@ -33,19 +31,6 @@ operates objects group c = is_operating c.status && is_object_that (is_member gr
 abbrev pub lesser : Option ℕ → ℕ → Option ℕ
 lesser None number = Some number
 lesser (Some least) number = if nat_lt number least then Some number else Some least
-
-abbrev pub numbers_of_group : List CallbackRow → GroupId → List ℕ
-numbers_of_group callbacks group = map (λ (c : CallbackRow). c.number) (filter (is_of_group group) callbacks)
-
--- a callback that is disassociated leaves each wait that closes no group
-abbrev pub left_at : ℕ → Option Closing → List ℕ → List ℕ
-left_at number None numbers = all_but number numbers
-left_at number (Some closing) numbers = numbers
-
-pub record IsLeft (number : ℕ) (waits : Begun) (old new : Callbacks) : Type 0 where
-  pub rest : new ≡ record old { held = new.held }
-  pub waiters : length new.held ≡ length old.held
-  pub left : (place : ℕ) → place < length old.held → held_of new place ≡ left_at number (closing_by (wait_among waits.waits (actor_at waits.limits place))) (held_of old place)
 
 -- ---- the steps of a close
 

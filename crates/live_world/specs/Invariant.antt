@@ -1,6 +1,6 @@
 -- What the parts of a live world keep between calls: what each of them says of the others. Each record speaks of the parts
 -- that it ties and of no others.
-use Rattle.std.specs.Prelude.{◌≡◌, ◌≢◌, ℕ, ◌+◌, ◌<◌, ◌≤◌, Bool, false, List, [], length, Some, IfSome, slice_index_or}
+use Rattle.std.specs.Prelude.{◌≡◌, ◌≢◌, ℕ, ◌+◌, ◌<◌, ◌≤◌, Bool, false, List, length, Some, IfSome, slice_index_or}
 use Rattle.std.specs.List.{filter, find, AllByRecursion}
 use Rattle.tp_base.specs.declared.ids.Who.{Who}
 use Rattle.tp_base.specs.declared.ids.PoolId.{PoolId}
@@ -19,7 +19,10 @@ use Rattle.sources.specs.Rows.{SourceRows}
 use Rattle.tp_model.specs.Counts.{has_number, is_pending, is_running, is_running_in, is_running_long_in}
 use Rattle.begun_waits.specs.Begun.{Begun, place_of, wait_among}
 use Rattle.tp_model.specs.Support.Remembered.{lives}
-use Rattle.live_world.specs.Parts.{held_for, is_timed}
+use Rattle.tp_model.specs.World.{BegunWait}
+use Rattle.begun_waits.specs.Covers.{Covering, bound_of, listed_of}
+use Rattle.live_world.specs.Covers.{IsCover}
+use Rattle.live_world.specs.Parts.{is_timed}
 
 abbrev pub is_pending_callback : CallbackRow → Bool
 is_pending_callback c = is_pending c.status
@@ -64,11 +67,13 @@ pub record AreTallied (callbacks : List CallbackRow) (workers : List WorkerRow) 
   pub run : (pool : ℕ) → length (filter (is_running_in pool) callbacks) ≡ length (filter (runs_in pool) workers)
   pub run_long : (pool : ℕ) → length (filter (is_running_long_in pool) callbacks) ≡ length (filter (runs_long_in pool) workers)
 
--- the begun waits are those of this machine, and by the place of each actor there is exactly what its wait still holds
-pub record AreCovered (limits : Limits) (callbacks : List CallbackRow) (waits : Begun) (held : List (List ℕ)) : Type 0 where
+-- the begun waits are those of this machine, and by the place of each actor stands what its wait covers
+pub record AreCovered (limits : Limits) (made : ℕ) (callbacks : List CallbackRow) (waits : Begun) (covers : Covering) : Type 0 where
   pub wait_limits : waits.limits ≡ limits
-  pub waiters : length held ≡ limits.clients + limits.workers
-  pub covered : (who : Who) (place : ℕ) → place_of limits who ≡ Some place → slice_index_or held place [] ≡ held_for callbacks (wait_among waits.waits who)
+  pub bounds : length covers.bounds ≡ limits.clients + limits.workers
+  pub lists : length covers.listed ≡ limits.clients + limits.workers
+  pub room : covers.room ≡ limits.slots
+  pub covered : (who : Who) (place : ℕ) (b : BegunWait) → place_of limits who ≡ Some place → wait_among waits.waits who ≡ Some b → IsCover made callbacks (bound_of covers place) (listed_of covers place) b
 
 -- what may have a setting are the timers and the wait objects that aren't released
 pub record AreTimed (limits : Limits) (objects : List ObjectRow) (sources : SourceRows) : Type 0 where

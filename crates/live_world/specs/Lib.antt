@@ -1,5 +1,6 @@
 pub mod Bounds
 pub mod Closing
+pub mod Covers
 pub mod Invariant
 pub mod Live
 pub mod Making

@@ -47,10 +47,3 @@ is_timed objects number = is_object_that (λ (o : ObjectRow). not o.released && 
 -- the callback of this number is outstanding for the target
 abbrev pub is_held_among : List CallbackRow → WaitTarget → ℕ → Bool
 is_held_among callbacks target number = option_map_or (is_outstanding_for target) (find (has_number number) callbacks) false
-
-abbrev pub held_among : List CallbackRow → BegunWait → List ℕ
-held_among callbacks b = filter (is_held_among callbacks b.target) b.covered
-
--- nothing where none is begun
-abbrev pub held_for : List CallbackRow → Option BegunWait → List ℕ
-held_for callbacks wait = option_map_or (held_among callbacks) wait []

@@ -16,7 +16,7 @@ pub record IsLiveWorld (a : Inside) : Type 0 where
   pub sized : AreSized a.limits a.pools a.objects a.clients.items
   pub alive : AreLive a.limits a.callbacks
   pub tallied : AreTallied a.callbacks.rows a.pools.workers
-  pub covered : AreCovered a.limits a.callbacks.rows a.waits a.callbacks.held
+  pub covered : AreCovered a.limits a.made a.callbacks.rows a.waits a.covers
   pub timed : AreTimed a.limits a.objects.objects a.sources
   pub slotted : AreSlotted a.limits a.callbacks.rows a.sources.sources.armings
   pub sound : IsSound (a.made + 1) (shown a).world

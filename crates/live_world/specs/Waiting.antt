@@ -28,10 +28,6 @@ is_pending_for object c = is_pending c.status && (c.object.0 == object.0)
 abbrev pub pending_of : World → ObjectId → List CallbackRow
 pending_of w object = filter (is_pending_for object) w.callbacks
 
--- whether a wait covers an outstanding callback: with cancel it covers what runs
-abbrev pub is_wanted : Bool → CallbackRow → Bool
-is_wanted cancel c = not cancel || is_running_callback c
-
 -- what an actor's wait holds, if it has begun one
 abbrev pub held_by : World → Who → List ℕ
 held_by w who = option_map_or (held w) (wait_of w who) []

@@ -10,7 +10,6 @@ ghost use Rattle.live_world.specs.Live.{with_world, moved};
 
 use crate::LiveWorld;
 use crate::callbacks::is_pending;
-use crate::leaving::begin_covering_group;
 use object_rows::ObjectRows;
 use tp_base::ids::{GroupId, ObjectId, Who};
 use tp_base::plans::Change;
@@ -31,10 +30,10 @@ impl LiveWorld {
         ensures { self.new ≡ settled_group self.old group true }
     {
         self.is_reachable();
-        let mut next = self.callbacks.first_of_group(group);
+        let mut next = self.callbacks.first_of_group(group).copied();
         while let Some(callback) = next {
             self.is_reachable();
-            next = self.callbacks.next_of_group(&callback);
+            next = self.callbacks.next_of_group(&callback).copied();
             if is_pending(&callback) {
                 self.cancel_callback(callback);
             }
@@ -81,7 +80,7 @@ impl LiveWorld {
         self.is_reachable();
     }
 
-    // Begins a wait for a group that has nothing to cancel any more. Walks the callbacks of the group.
+    // Begins a wait for a group that has nothing to cancel any more. It covers all that is outstanding.
     fn begin_close_wait(&mut self, who: Who, group: GroupId, cancel: bool, context: u64)
         requires allowed { MayClose self.old.world who group cancel (length (notices_of self.old.world group.0 cancel)) }
         requires settled { filter (is_cancelled_by (WaitTarget.Group group) cancel) self.old.world.callbacks ≡ [] }
@@ -91,7 +90,7 @@ impl LiveWorld {
         let waiter = self.waits.place(who).unwrap();
         self.waits
             .begin_close(who, group, cancel, context, &self.callbacks);
-        begin_covering_group(&mut self.callbacks, waiter, group);
+        self.covers.cover_up_to(waiter, self.made);
     }
 
     // An actor begins a wait for a group, and the members are released, with the notices that the wait is

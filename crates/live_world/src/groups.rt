@@ -103,7 +103,7 @@ impl LiveWorld {
             if callback.object.0 == 0 {
                 return true;
             }
-            next = self.callbacks.next_of_group(&callback);
+            next = self.callbacks.next_of_group(callback);
         }
         false
     }
@@ -118,8 +118,8 @@ impl LiveWorld {
         let mut count = OfGroup::NONE;
         let mut next = self.callbacks.first_of_group(group);
         while let Some(callback) = next {
-            count = count.with(group, &callback);
-            next = self.callbacks.next_of_group(&callback);
+            count = count.with(group, callback);
+            next = self.callbacks.next_of_group(callback);
         }
         count
     }

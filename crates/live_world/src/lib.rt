@@ -19,6 +19,7 @@ ghost use Rattle.tp_model.specs.Support.Sound.{IsSound};
 ghost use Rattle.live_world.specs.Bounds.{IsBounded};
 
 use begun_waits::BegunWaits;
+use begun_waits::covers::Covers;
 use live_callbacks::LiveCallbacks;
 use object_rows::ObjectRows;
 use opened::{both, open_rows};
@@ -37,7 +38,6 @@ mod firing;
 pub mod groups;
 mod io;
 mod kernels;
-mod leaving;
 mod objects;
 mod opened;
 pub mod outstanding;
@@ -53,9 +53,10 @@ pub struct LiveWorld {
     pools: PoolRows,
     // The objects and the groups that they are members of.
     objects: ObjectRows,
-    // The callbacks that live, and by the place of each actor those that its wait still holds.
     callbacks: LiveCallbacks,
     waits: BegunWaits<LiveCallbacks>,
+    // What the waits cover.
+    covers: Covers,
     clients: Vec<ClientRow>,
     // What makes callbacks by itself: the clock with what is set, and the kernel objects with what is armed.
     sources: LiveSources,
@@ -85,18 +86,24 @@ impl LiveWorld {
     {
         let rows = open_rows(alloc, limits)?;
         let (rows, waits) = both(rows, BegunWaits::open(alloc, limits))?;
-        let (tables, clients) = both((rows, waits), actors::open_clients(alloc, limits.clients))?;
+        let actors = limits.clients + limits.workers;
+        let (tables, covers) = both((rows, waits), Covers::open(alloc, actors, limits.slots))?;
+        let (tables, clients) = both(
+            (tables, covers),
+            actors::open_clients(alloc, limits.clients),
+        )?;
         let (tables, sources) = both(
             (tables, clients),
             LiveSources::open(alloc, limits.kernels, limits.objects),
         )?;
-        let ((rows, waits), clients) = tables;
+        let (((rows, waits), covers), clients) = tables;
         Ok(LiveWorld {
             limits,
             pools: rows.pools,
             objects: rows.objects,
             callbacks: rows.callbacks,
             waits,
+            covers,
             clients,
             sources,
             made: 0,

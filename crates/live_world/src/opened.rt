@@ -49,7 +49,6 @@ pub(crate) fn open_rows(alloc: Global, limits: Limits) -> Result<OpenedRows, All
             limits.pools,
             limits.objects,
             limits.groups,
-            limits.clients + limits.workers,
         ),
     )?;
     let (pools, objects) = tables;

@@ -66,10 +66,10 @@ impl LiveWorld {
         self.is_reachable();
         let mut next = self.callbacks.first_outstanding(object);
         while let Some(callback) = next {
-            if is_pending(&callback) {
-                return Some(callback);
+            if is_pending(callback) {
+                return Some(*callback);
             }
-            next = self.callbacks.next_outstanding(&callback);
+            next = self.callbacks.next_outstanding(callback);
         }
         None
     }
@@ -84,8 +84,8 @@ impl LiveWorld {
         let mut count = Outstanding::NONE;
         let mut next = self.callbacks.first_outstanding(object);
         while let Some(callback) = next {
-            count = count.with(&callback);
-            next = self.callbacks.next_outstanding(&callback);
+            count = count.with(callback);
+            next = self.callbacks.next_outstanding(callback);
         }
         count
     }

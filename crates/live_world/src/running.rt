@@ -8,7 +8,6 @@ ghost use Rattle.tp_model.specs.Support.Allowed.{IsAllowed, Runs};
 ghost use Rattle.live_world.specs.Live.{moved, with_world};
 
 use crate::LiveWorld;
-use crate::leaving::leave_unclosed;
 use crate::slots::NO_ACTIONS;
 use std::sync::ledger::Ledger;
 use steps::Steps;
@@ -128,8 +127,6 @@ impl LiveWorld {
             ..by.callback
         };
         self.callbacks.change(&by.callback, loose);
-        let actors = self.limits.clients + self.limits.workers;
-        leave_unclosed(&mut self.callbacks, &self.waits, actors, by.callback.number);
     }
 
     // Notes that a running callback asks for an action on its return.

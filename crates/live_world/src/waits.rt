@@ -1,30 +1,33 @@
 //! The waits that actors have begun: how far each has come, and how they begin and end.
 
-ghost use Rattle.std.specs.Prelude.{◌≡◌, ℕ, ◌+◌, ◌^◌, ◌<◌, [], IfSome, None, Some, false, filter, is_none, length, slice_get};
-ghost use Rattle.std.specs.Option.{option_map_or};
+ghost use Rattle.std.specs.Prelude.{◌≡◌, ℕ, ◌+◌, ◌^◌, ◌<◌, ◌≤◌, ◌&&◌, [], IfSome, None, Some, true, false, filter, find, is_none, length, option_map, slice_get};
+ghost use Rattle.std.specs.Option.{option_copied};
 ghost use Rattle.tp_base.specs.declared.plans.WaitEnd.TheVariants.{Free};
 ghost use Rattle.tp_base.specs.declared.rows.WaitTarget.TheVariants.{Object};
 ghost use Rattle.tp_model.specs.Changes.{begin_wait};
-ghost use Rattle.tp_model.specs.Waits.{covered_of, is_cancelled_by, wait_of};
+ghost use Rattle.tp_model.specs.Waits.{covered_of, is_cancelled_by, is_outstanding_for, wait_of};
 ghost use Rattle.tp_model.specs.Calls.Waits.{is_starved, holds_starved};
 ghost use Rattle.tp_model.specs.Counts.{callback_of};
+ghost use Rattle.tp_model.specs.Laws.Entries.{is_among};
 ghost use Rattle.tp_model.specs.Support.Allowed.{IsAllowed, MayBegin};
 ghost use Rattle.tp_model.specs.Support.Ranged.{AreTakenAtMost};
 ghost use Rattle.tp_model.specs.Support.Sound.{IsRising};
-ghost use Rattle.begun_waits.specs.Begun.{closing_by, place_of};
-ghost use Rattle.live_callbacks.specs.Callbacks.{held_of, with_held};
+ghost use Rattle.begun_waits.specs.Begun.{place_of};
+ghost use Rattle.tp_model.specs.Support.Remembered.{lives};
 ghost use Rattle.sources.specs.Rows.{with_sources};
 ghost use Rattle.live_world.specs.Live.{moved, settled, with_world, without_pending};
 ghost use Rattle.live_world.specs.Taking.{IsFreeFor, rows_left};
-ghost use Rattle.live_world.specs.Waiting.{is_wanted};
+ghost use Rattle.begun_waits.specs.Covers.{with_cover};
+ghost use Rattle.live_world.specs.Parts.{is_held_among};
 
 use crate::LiveWorld;
 use crate::callbacks::{is_pending, is_running};
+use begun_waits::covers::Covers;
 use live_callbacks::LiveCallbacks;
 use sources::LiveSources;
 use tp_base::ids::{KernelId, ObjectId, RoutineId, Who};
 use tp_base::plans::{Awaited, Change, WaitEnd};
-use tp_base::rows::{CallbackRow, WaitTarget};
+use tp_base::rows::{CallbackRow, Status, WaitTarget};
 
 /// How far a wait has come.
 #[derive(Clone, Copy)]
@@ -52,30 +55,85 @@ pub enum Progress {
     },
 }
 
-// Whether a wait covers an outstanding callback: with cancel it covers what runs.
-fn is_covered(callback: &CallbackRow, cancel: bool) -> bool
-    ensures { result ≡ is_wanted cancel callback.now }
+// Whether a callback is outstanding for what a wait is for.
+fn is_outstanding(target: WaitTarget, callback: &CallbackRow) -> bool
+    ensures { result ≡ is_outstanding_for target callback.now }
 {
-    !cancel || is_running(callback)
+    let tied = match callback.status {
+        Status::Expected | Status::Issued | Status::Pending => true,
+        Status::Running { associated, .. } => associated,
+        Status::Returned | Status::Cancelled => false,
+    };
+    match target {
+        WaitTarget::Object(object) => callback.object.0 == object.0 && tied,
+        WaitTarget::Group(group) => callback.group.0 == group.0 && (tied || is_running(callback)),
+        WaitTarget::Kernel(_) => false,
+    }
 }
 
-// Lets a wait that begins hold what is outstanding for this object, or with cancel what of it runs.
-pub(crate) fn begin_covering(
-    callbacks: &mut LiveCallbacks,
-    waiter: u32,
-    object: ObjectId,
-    cancel: bool,
-)
-    requires there { waiter < length callbacks.old.held }
-    requires idle { held_of callbacks.old waiter ≡ [] }
-    requires rising { (next_number : ℕ) × IsRising 1 next_number callbacks.old.rows }
-    ensures { callbacks.new ≡ with_held callbacks.old waiter (covered_of (Object object) cancel callbacks.old.rows) }
+// Whether the callback of this number is outstanding for what a wait is for.
+fn is_held(callbacks: &LiveCallbacks, target: WaitTarget, number: u64) -> bool
+    ensures { result ≡ is_held_among callbacks.now.rows target number }
 {
+    match callbacks.get(number) {
+        Some(callback) => is_outstanding(target, callback),
+        None => false,
+    }
+}
+
+// The first of these numbers whose callback is outstanding for what a wait is for, or None where there is none.
+fn first_among(callbacks: &LiveCallbacks, target: WaitTarget, numbers: &[u64]) -> Option<u64>
+    ensures { result ≡ find (is_held_among callbacks.now.rows target) numbers.now }
+{
+    numbers
+        .iter()
+        .copied()
+        .find(|number| is_held(callbacks, target, *number))
+}
+
+// The number of a callback that is lent, if one is.
+#[inline(always)]
+fn number_of(callback: Option<&CallbackRow>) -> Option<u64>
+    ensures { result ≡ option_map (λ c. c.number) (option_copied callback.entry) }
+{
+    match callback {
+        Some(callback) => Some(callback.number),
+        None => None,
+    }
+}
+
+// The number of the first callback that is outstanding for what a wait is for, or None where none is.
+#[inline(always)]
+fn first_outstanding(callbacks: &LiveCallbacks, target: WaitTarget) -> Option<u64>
+    requires { filter lives callbacks.now.rows ≡ callbacks.now.rows }
+    ensures { result ≡ option_map (λ c. c.number) (find (is_outstanding_for target) callbacks.now.rows) }
+{
+    match target {
+        WaitTarget::Object(object) => number_of(callbacks.first_outstanding(object)),
+        WaitTarget::Group(group) => number_of(callbacks.first_of_group(group)),
+        WaitTarget::Kernel(_) => None,
+    }
+}
+
+// Lists what runs of an object, and is outstanding for it, for a wait that begins.
+pub(crate) fn list_running(
+    covers: &mut Covers,
+    place: u32,
+    callbacks: &LiveCallbacks,
+    object: ObjectId,
+)
+    requires there { place < length covers.old.bounds }
+    requires lists { place < length covers.old.listed }
+    requires room { length callbacks.now.rows ≤ covers.old.room }
+    requires rising { (next_number : ℕ) × IsRising 1 next_number callbacks.now.rows }
+    ensures { covers.new ≡ with_cover covers.old place None (covered_of (Object object) true callbacks.now.rows) }
+{
+    covers.begin_list(place);
     let mut next = callbacks.first_outstanding(object);
     while let Some(callback) = next {
-        next = callbacks.next_outstanding(&callback);
-        if is_covered(&callback, cancel) {
-            callbacks.hold(waiter, &callback);
+        next = callbacks.next_outstanding(callback);
+        if is_running(callback) {
+            covers.list(place, callback.number);
         }
     }
 }
@@ -107,51 +165,67 @@ impl LiveWorld {
         is_pending(callback) && (room < 2 || (room < 4 && self.tally(callback.pool).attached == 0))
     }
 
-    // Whether the actor's wait, of which this is the first held callback, holds one that is starved. Of
-    // its object's pending callbacks it holds none without the first, and they are all of one pool, so
-    // that the first tells of all.
-    #[inline(never)]
-    fn holds_starved(&self, who: Who, waiter: u32, first: u64, room: u64) -> bool
+    // Whether the actor's wait, which is for this, holds a callback.
+    fn holds(&self, who: Who, waiter: u32, target: WaitTarget, callback: &CallbackRow) -> bool
         requires at { place_of self.now.world.limits who ≡ Some waiter }
-        requires first { slice_get (held_by self.now.world who) 0 ≡ Some first }
-        requires closes { closing_by (wait_of self.now.world who) ≡ None }
+        requires target { option_map (λ b. b.target) (wait_of self.now.world who) ≡ Some target }
+        requires found { callback_of self.now.world callback.now.number ≡ Some callback.now }
+        ensures { result ≡ is_among callback.now.number (held_by self.now.world who) }
+    {
+        is_outstanding(target, callback) && self.covers.covers(waiter, callback.number)
+    }
+
+    // Whether a callback is starved, and the actor's wait, which is for this, holds it.
+    fn is_held_starved(
+        &self,
+        who: Who,
+        waiter: u32,
+        target: WaitTarget,
+        callback: &CallbackRow,
+        room: u64,
+    ) -> bool
+        requires at { place_of self.now.world.limits who ≡ Some waiter }
+        requires target { option_map (λ b. b.target) (wait_of self.now.world who) ≡ Some target }
+        requires found { callback_of self.now.world callback.now.number ≡ Some callback.now }
+        ensures { result ≡ (is_starved self.now.world room callback.now && is_among callback.now.number (held_by self.now.world who)) }
+    {
+        self.is_starved(callback, room) && self.holds(who, waiter, target, callback)
+    }
+
+    // Whether the actor's wait, which is for this object, holds one that is starved. Of the object's pending
+    // callbacks it holds none without the first, and they are all of one pool, so that the first tells of all.
+    #[inline(never)]
+    fn holds_starved(&self, who: Who, waiter: u32, object: ObjectId, room: u64) -> bool
+        requires at { place_of self.now.world.limits who ≡ Some waiter }
+        requires target { option_map (λ b. b.target) (wait_of self.now.world who) ≡ Some (WaitTarget.Object object) }
         ensures { result ≡ holds_starved self.now.world room (held_by self.now.world who) }
     {
-        let Some(held) = self.callbacks.find(first) else {
-            unreachable!()
-        };
-        match self.first_pending(held.object) {
+        self.is_reachable();
+        match self.first_pending(object) {
             None => false,
             Some(callback) => {
-                self.is_starved(&callback, room) && self.callbacks.holds(waiter, callback.number)
+                let target = WaitTarget::Object(object);
+                self.is_held_starved(who, waiter, target, &callback, room)
             }
         }
     }
 
-    // Whether the actor's wait holds one that is starved. Walks what it holds.
+    // Whether the actor's wait, which is for this, holds one that is starved. Walks the callbacks.
     #[inline(never)]
-    fn holds_any_starved(&self, who: Who, waiter: u32, room: u64) -> bool
-        requires { place_of self.now.world.limits who ≡ Some waiter }
+    fn holds_any_starved(&self, who: Who, waiter: u32, target: WaitTarget, room: u64) -> bool
+        requires at { place_of self.now.world.limits who ≡ Some waiter }
+        requires target { option_map (λ b. b.target) (wait_of self.now.world who) ≡ Some target }
         ensures { result ≡ holds_starved self.now.world room (held_by self.now.world who) }
     {
-        let mut next = self.callbacks.first_held(waiter);
-        while let Some(number) = next {
-            if self.is_number_starved(number, room) {
+        self.is_reachable();
+        let mut next = self.callbacks.after(0);
+        while let Some(callback) = next {
+            if self.is_held_starved(who, waiter, target, &callback, room) {
                 return true;
             }
-            next = self.callbacks.next_held(waiter, number);
+            next = self.callbacks.after(callback.number);
         }
         false
-    }
-
-    // Whether there is a callback of this number that is starved.
-    fn is_number_starved(&self, number: u64, room: u64) -> bool
-        ensures { result ≡ option_map_or (is_starved self.now.world room) (callback_of self.now.world number) false }
-    {
-        match self.callbacks.get(number) {
-            Some(callback) => self.is_starved(callback, room),
-            None => false,
-        }
     }
 
     // What is left of an actor's wait that holds nothing: the first of its notices, if it has one.
@@ -172,41 +246,58 @@ impl LiveWorld {
         }
     }
 
-    // Whether the actor's wait, of which this is the first held callback, holds one that is starved. One is
-    // looked for only where the history has no room for it to be run.
+    // Whether the actor's wait, which is for this, holds one that is starved. One is looked for only where the
+    // history has no room for it to be run.
     #[inline(always)]
-    fn is_wait_starved(&self, who: Who, waiter: u32, first: u64, room: u64) -> bool
+    fn is_wait_starved(&self, who: Who, waiter: u32, target: WaitTarget, room: u64) -> bool
         requires at { place_of self.now.world.limits who ≡ Some waiter }
-        requires first { slice_get (held_by self.now.world who) 0 ≡ Some first }
+        requires target { option_map (λ b. b.target) (wait_of self.now.world who) ≡ Some target }
         ensures { result ≡ holds_starved self.now.world room (held_by self.now.world who) }
     {
         if 4 <= room {
             return false;
         }
-        match self.waits.closing(who) {
-            None => self.holds_starved(who, waiter, first, room),
-            Some(_) => self.holds_any_starved(who, waiter, room),
+        match target {
+            WaitTarget::Object(object) => self.holds_starved(who, waiter, object, room),
+            WaitTarget::Group(_) | WaitTarget::Kernel(_) => {
+                self.holds_any_starved(who, waiter, target, room)
+            }
         }
     }
 
+    // The number of the first callback that the actor's wait, which is for this, still holds, or None where it
+    // holds none.
+    #[inline(always)]
+    fn first_held(&self, who: Who, waiter: u32, target: WaitTarget) -> Option<u64>
+        requires at { place_of self.now.world.limits who ≡ Some waiter }
+        requires target { option_map (λ b. b.target) (wait_of self.now.world who) ≡ Some target }
+        ensures { result ≡ slice_get (held_by self.now.world who) 0 }
+    {
+        let Some(last) = self.covers.bound(waiter) else {
+            return first_among(&self.callbacks, target, self.covers.listed(waiter));
+        };
+        let first = first_outstanding(&self.callbacks, target)?;
+        if first <= last { Some(first) } else { None }
+    }
+
     /// How far the actor's wait has come, where the history has this room left. Where that is less
-    /// than 4, it walks what is outstanding for an object up to what is pending, or what a wait for a
-    /// group holds, and else nothing.
+    /// than 4, it walks what is outstanding for an object up to what is pending, or the callbacks where a
+    /// wait is for a group. Where the wait began with cancel, it looks at those that ran then, of which there are
+    /// no more than workers. Else it walks nothing.
     #[inline(always)]
     pub fn progress(&self, who: Who, room: u64) -> Progress
         ensures { result ≡ progress_of self.now.world room who }
     {
-        if !self.waits.is_begun(who) {
+        let Some((waiter, target)) = self.waits.begun(who) else {
             return Progress::NotBegun;
-        }
-        if let Some(kernel) = self.waits.wanted(who) {
+        };
+        if let WaitTarget::Kernel(kernel) = target {
             return Progress::Acquires { kernel };
         }
-        let waiter = self.waits.place(who).unwrap();
-        match self.callbacks.first_held(waiter) {
+        match self.first_held(who, waiter, target) {
             None => self.progress_free(who),
             Some(first) => {
-                if self.is_wait_starved(who, waiter, first, room) {
+                if self.is_wait_starved(who, waiter, target, room) {
                     Progress::Starved
                 } else {
                     Progress::Holds { callback: first }
@@ -220,10 +311,10 @@ impl LiveWorld {
         ensures { self.new ≡ without_pending self.old object }
     {
         self.is_reachable();
-        let mut next = self.callbacks.first_outstanding(object);
+        let mut next = self.callbacks.first_outstanding(object).copied();
         while let Some(callback) = next {
             self.is_reachable();
-            next = self.callbacks.next_outstanding(&callback);
+            next = self.callbacks.next_outstanding(&callback).copied();
             if is_pending(&callback) {
                 self.cancel_callback(callback);
             }
@@ -251,7 +342,12 @@ impl LiveWorld {
         let waiter = self.waits.place(who).unwrap();
         let target = WaitTarget::Object(object);
         self.waits.begin(who, target, cancel, &self.callbacks);
-        begin_covering(&mut self.callbacks, waiter, object, cancel);
+        if cancel {
+            let _few = self.callbacks.len();
+            list_running(&mut self.covers, waiter, &self.callbacks, object);
+        } else {
+            self.covers.cover_up_to(waiter, self.made);
+        }
     }
 
     // Begins a wait for a kernel object, which covers nothing.
@@ -259,8 +355,10 @@ impl LiveWorld {
         requires { IsAllowed (self.old.made + 1) self.old.world (Change.BeginWait who (Awaited.Kernel kernel) cancel) }
         ensures { self.new ≡ moved self.old (Change.BeginWait who (Awaited.Kernel kernel) cancel) }
     {
+        let waiter = self.waits.place(who).unwrap();
         let target = WaitTarget::Kernel(kernel);
         self.waits.begin(who, target, cancel, &self.callbacks);
+        self.covers.cover_up_to(waiter, self.made);
     }
 
     // Begins a wait of an actor. With cancel, what is pending is cancelled first.
@@ -283,8 +381,6 @@ impl LiveWorld {
         requires taken { AreTakenAtMost (2 ^ 47) self.old.world }
         ensures { self.new ≡ moved self.old (Change.EndWait who how) }
     {
-        let waiter = self.waits.place(who).unwrap();
-        self.callbacks.let_go_all(waiter);
         end_acquire(&mut self.sources, who, how, self.waits.wanted(who));
         self.waits.end(who, how);
     }

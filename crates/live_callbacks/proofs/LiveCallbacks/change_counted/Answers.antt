@@ -19,7 +19,6 @@ use Rattle.live_callbacks.proofs.Found.{owner_is}
 use Rattle.live_callbacks.proofs.Lines.{priority_most}
 use Rattle.live_callbacks.proofs.Parts.{changed}
 use Rattle.live_callbacks.proofs.Standing.{IsAmong, among, key_found, key_is, may_group, may_line, may_object, of_row, put_among, rows_put, stand}
-use Rattle.live_callbacks.proofs.Keeping.{kept_put}
 use Rattle.live_callbacks.proofs.LiveCallbacks.change_counted.Goals as goal
 
 -- the row before is among the rows, and that after is of a pool and an object that there may be
@@ -138,7 +137,6 @@ invariant_of-self g c =
             fewer (is_operating b.status) (is_operating r.status) c.requires.goes.operating,
             length_filter_replaced (λ (x : CallbackRow). is_operating x.status) r b 0 k.rising.0 (rows_of hs) k.rising.1 m.found,
           ));
-      holding = (kept_put i.rows.places hs i.holding k.holding r.number r refl).0;
     })
 
 pub returns-clause-moved : goal.returns-clause-moved
@@ -146,7 +144,7 @@ returns-clause-moved g c =
     let i = c.self.inside in
     let rows = rows_put c.args.after.number c.args.after i.rows.held in
     let done = c.settle.ensures.settled in
-    rw (← c.self.view_is, c.replace.ensures, rows, done.pools, done.objects, (kept_put i.rows.places i.rows.held i.holding c.self.invariant.holding c.args.after.number c.args.after refl).1) refl
+    rw (← c.self.view_is, c.replace.ensures, rows, done.pools, done.objects) refl
 
 pub returns-clause-bound : goal.returns-clause-bound
 returns-clause-bound g c pending operating =

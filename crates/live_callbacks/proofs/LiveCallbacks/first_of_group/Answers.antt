@@ -6,8 +6,8 @@ use Rattle.live_callbacks.proofs.Found.{find_same, first_is, place_held, place_r
 use Rattle.live_callbacks.proofs.Lines.{group_agree, listed_group}
 use Rattle.live_callbacks.proofs.LiveCallbacks.first_of_group.Goals as goal
 
-pub row_behind-requires : goal.row_behind-requires
-row_behind-requires c =
+pub lent_behind-requires : goal.lent_behind-requires
+lent_behind-requires c =
     let i = c.self.inside in
     let heads = i.lists.groups + 1 in
     let has = sym c.if-not-has_list.ensures in
@@ -21,6 +21,6 @@ returns c =
     let has = sym c.if-not-has_list.ensures in
     let first = c.first_in-place.ensures ∙ first_is heads (group_of i.lists.groups) c.args.group.0 i.rows.held c.self.invariant.standing.in_group (listed_group i.lists.groups c.args.group.0 has) in
     rw (← c.self.view_is)
-    (c.row_behind.ensures
+    (c.lent_behind.ensures
     ∙ place_row heads i.rows.held c.len-known.ensures.apart (λ x. group_of i.lists.groups x == c.args.group.0) c.first_in-place.result first
     ∙ find_same (λ x. group_of i.lists.groups x == c.args.group.0) (λ (x : CallbackRow). x.group.0 == c.args.group.0) (rows_of i.rows.held) (group_agree i.lists.groups c.args.group.0 has (rows_of i.rows.held)))

@@ -21,8 +21,8 @@ returns-then-object-self c =
     rw (← c.self.view_is)
     (sym (first_filtered p cs ∙ find_none p cs (all_along (IsAtHome i.lists.pools i.lists.objects) (λ (x : CallbackRow). p x ≡ false) other cs c.self.invariant.homes)))
 
-pub row_behind-requires : goal.row_behind-requires
-row_behind-requires c =
+pub lent_behind-requires : goal.lent_behind-requires
+lent_behind-requires c =
     let i = c.self.inside in
     let heads = i.lists.objects + 1 in
     let first = c.first_in-place.ensures ∙ first_is heads (object_of i.lists.objects) c.args.object.0 i.rows.held c.self.invariant.standing.by_object (omega (arith, c.if-object-self.false)) in
@@ -35,7 +35,7 @@ returns c =
     let p = is_outstanding_for (Object c.args.object) in
     let first = c.first_in-place.ensures ∙ first_is heads (object_of i.lists.objects) c.args.object.0 i.rows.held c.self.invariant.standing.by_object (omega (arith, c.if-object-self.false)) in
     rw (← c.self.view_is)
-    (c.row_behind.ensures
+    (c.lent_behind.ensures
     ∙ place_row heads i.rows.held c.len-known.ensures.apart (λ x. object_of i.lists.objects x == c.args.object.0) c.first_in-place.result first
     ∙ find_same (λ x. object_of i.lists.objects x == c.args.object.0) p (rows_of i.rows.held) (outstanding_agree i.lists.objects c.args.object c.if-object-self.false (rows_of i.rows.held))
     ∙ sym (first_filtered p (rows_of i.rows.held)))

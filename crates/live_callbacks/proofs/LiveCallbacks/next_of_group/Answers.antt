@@ -37,8 +37,8 @@ after_in-place-requires c =
     let within = listed_group i.lists.groups row.group.0 has in
     omega (arith, following_owner (group_of i.lists.groups) row.group.0 are c.len-known.ensures.apart is c.unwrap-key.result same own within, within, are.many)
 
-pub row_behind-requires : goal.row_behind-requires
-row_behind-requires c =
+pub lent_behind-requires : goal.lent_behind-requires
+lent_behind-requires c =
     let i = c.self.inside in
     let row = c.args.row.now in
     let has = sym c.if-not-has_list.ensures in
@@ -56,6 +56,6 @@ returns c =
     let same = key_is is row.number refl c.key_of.result c.unwrap-key.result c.key_of.ensures c.unwrap-key.ensures in
     let own : group_of i.lists.groups row ≡ row.group.0 = ap (λ b. if b then row.group.0 else i.lists.groups + 1) has in
     rw (← c.self.view_is)
-    (c.row_behind.ensures
+    (c.lent_behind.ensures
     ∙ following_row (group_of i.lists.groups) row.group.0 c.self.invariant.standing.in_group c.len-known.ensures.apart is c.unwrap-key.result same own (listed_group i.lists.groups row.group.0 has) c.after_in-place.result c.after_in-place.ensures
     ∙ ap (find (λ x. nat_lt row.number x.number)) (filter_same (λ x. group_of i.lists.groups x == row.group.0) (λ (x : CallbackRow). x.group.0 == row.group.0) (rows_of i.rows.held) (group_agree i.lists.groups row.group.0 has (rows_of i.rows.held))))

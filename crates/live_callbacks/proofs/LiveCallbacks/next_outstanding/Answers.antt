@@ -66,8 +66,8 @@ after_in-place-requires c =
     let same = key_is is row.number refl c.key_of.result c.unwrap-key.result c.key_of.ensures c.unwrap-key.ensures in
     omega (arith, following_owner (object_of i.lists.objects) row.object.0 k.standing.by_object c.len-known.ensures.apart is c.unwrap-key.result same out.own (omega (arith, out.within)), out.within, k.standing.by_object.many)
 
-pub row_behind-requires : goal.row_behind-requires
-row_behind-requires c =
+pub lent_behind-requires : goal.lent_behind-requires
+lent_behind-requires c =
     let i = c.self.inside in
     let k = c.self.invariant in
     let row = c.args.row.now in
@@ -85,6 +85,6 @@ returns c =
     let is = among k.rising.0 i.rows.held row k.rising.1 c.len-known.ensures.apart out.found in
     let same = key_is is row.number refl c.key_of.result c.unwrap-key.result c.key_of.ensures c.unwrap-key.ensures in
     rw (← c.self.view_is)
-    (c.row_behind.ensures
+    (c.lent_behind.ensures
     ∙ following_row (object_of i.lists.objects) row.object.0 k.standing.by_object c.len-known.ensures.apart is c.unwrap-key.result same out.own (omega (arith, out.within)) c.after_in-place.result c.after_in-place.ensures
     ∙ ap (find (λ x. nat_lt row.number x.number)) (filter_same (λ x. object_of i.lists.objects x == row.object.0) (is_outstanding_for (Object row.object)) (rows_of i.rows.held) (outstanding_agree i.lists.objects row.object out.within (rows_of i.rows.held))))

@@ -1,4 +1,4 @@
-use Rattle.std.proofs.Common.{◌≡◌, ◌+◌, ◌<◌, ◌≤◌, ℕ, Bool, true, false, if◌then◌else◌, [], ◌∷◌, ◌++◌, List, refl, ap₂, arith, length}
+use Rattle.std.proofs.Common.{◌≡◌, ◌+◌, ◌<◌, ◌≤◌, ℕ, Bool, true, false, if◌then◌else◌, [], ◌∷◌, ◌++◌, List, refl, arith, length}
 use Rattle.std.specs.List.{All, AllByRecursion}
 use Rattle.std.proofs.lemmas.List.{length-map, map-append}
 use Rattle.std.proofs.lemmas.List.Elements.{All-from_recursion, recursion_from_All}
@@ -9,12 +9,10 @@ use Rattle.tp_model.proofs.Callbacks.{rising_append}
 use Rattle.tp_model.proofs.Lists.{all_append}
 use Rattle.live_callbacks.specs.Callbacks.{Callbacks}
 use Rattle.live_callbacks.specs.Held.{Held, rows_of}
-use Rattle.live_callbacks.specs.Holding.{all_held}
 use Rattle.live_callbacks.specs.Lists.{IsAtHome}
 use Rattle.live_callbacks.specs.declared.LiveCallbacks.TheInside.{Inside}
 use Rattle.live_callbacks.proofs.Parts.{came}
 use Rattle.live_callbacks.proofs.Standing.{count_more, count_most, may_group, may_line, may_object, of_row, stand}
-use Rattle.live_callbacks.proofs.Keeping.{kept_more}
 use Rattle.live_callbacks.proofs.LiveCallbacks.push_with.Goals as goal
 
 -- a new row in terms of the parts
@@ -23,7 +21,7 @@ record IsComing (i : Inside) (r : CallbackRow) : Type 0 where
   home : IsAtHome i.lists.pools i.lists.objects r
   above : AllByRecursion (λ (h : Held). h.row.number < r.number) i.rows.held
 
-coming : (i : Inside) (r : CallbackRow) (old : Callbacks) → record { slots = i.rows.slots; pools = i.lists.pools; objects = i.lists.objects; rows = rows_of i.rows.held; held = all_held i.holding i.rows.held } ≡ old
+coming : (i : Inside) (r : CallbackRow) (old : Callbacks) → record { slots = i.rows.slots; pools = i.lists.pools; objects = i.lists.objects; rows = rows_of i.rows.held } ≡ old
     → length old.rows < old.slots → r.pool.0 < old.pools → r.object.0 ≤ old.objects → All (λ (x : CallbackRow). x.number < r.number) old.rows → IsComing i r
 coming i r old is room pool object last =
     record {
@@ -87,7 +85,6 @@ invariant_of-self g c =
       homes = rw (done.pools, done.objects, rows) (all_append (IsAtHome i.lists.pools i.lists.objects) (rows_of hs) r k.homes new.home);
       standing = standing;
       counted = rw rows (omega (arith, k.counted, c.operations.ensures, count_more (λ (x : CallbackRow). is_operating x.status) r (rows_of hs)));
-      holding = (kept_more i.rows.places hs i.holding k.holding h c.push-key.ensures.fresh).0;
     })
 
 pub returns : goal.returns
@@ -96,6 +93,4 @@ returns g c =
     let h : Held = record { key = c.push-key.result; row = c.args.row } in
     let rows : rows_of (i.rows.held ++ h ∷ []) ≡ rows_of i.rows.held ++ c.args.row ∷ [] = map-append (λ (x : Held). x.row) i.rows.held (h ∷ []) in
     let done = c.settle.ensures.settled in
-    rw (← c.self.view_is, c.push-key.ensures.after, done.pools, done.objects)
-    (ap₂ (λ (rs : List CallbackRow) (ns : List (List ℕ)). let v : Callbacks = record { slots = i.rows.slots; pools = i.lists.pools; objects = i.lists.objects; rows = rs; held = ns } in v) rows
-    (kept_more i.rows.places i.rows.held i.holding c.self.invariant.holding h c.push-key.ensures.fresh).1)
+    rw (← c.self.view_is, c.push-key.ensures.after, done.pools, done.objects, rows) refl

@@ -4,17 +4,11 @@ use Rattle.tp_model.specs.Counts.{is_operating}
 use Rattle.tp_model.proofs.Callbacks.{rising_filter}
 use Rattle.tp_model.proofs.Lists.{all_filter, find_all}
 use Rattle.live_callbacks.specs.Held.{Held, rows_of}
-use Rattle.live_callbacks.specs.Callbacks.{all_but}
-use Rattle.live_callbacks.specs.Holding.{IsHolding, all_held}
 use Rattle.live_callbacks.specs.Lists.{IsAtHome, marks}
 use Rattle.live_callbacks.proofs.Parts.{left}
 use Rattle.live_callbacks.proofs.Settled.{IsStep}
 use Rattle.live_callbacks.proofs.Standing.{among, count_fewer, key_found, key_is, may_group, may_line, may_object, of_none, out_among, rows_out, stand}
-use Rattle.live_callbacks.proofs.Holds.{key_of_number, within}
-use Rattle.live_callbacks.proofs.Keeping.{kept_out}
-use Rattle.live_callbacks.proofs.LiveCallbacks.remove_with.Given.{Over}
 use Rattle.live_callbacks.proofs.LiveCallbacks.remove_with.Goals as goal
-use Rattle.live_callbacks.proofs.LiveCallbacks.remove_with.Goals.{After-leave}
 
 pub unwrap-key-requires : goal.unwrap-key-requires
 unwrap-key-requires g c =
@@ -56,18 +50,6 @@ settle-requires-clause-group g c =
     let within : is.held.key < i.rows.places = find_all (λ (h : Held). h.key < i.rows.places) (λ (h : Held). h.row.number == row.number) is.held i.rows.held c.len-known.ensures.within is.found in
     may_group c.unwrap-key.result c.nowhere-to.result (λ heads line. heads) c.self.invariant.standing (of_none i.lists c.nowhere-to.result c.nowhere-to.ensures) c.self.invariant.rising.0 c.self.invariant.rising.1 (omega (arith, same, within))
 
--- no wait holds it, and what is kept is kept
-gone : (g : Over) (c : After-leave g) → let i = c.self.inside in
-    let hs : List Held = filter (λ (h : Held). not (h.row.number == c.args.row.now.number)) i.rows.held in
-    IsHolding i.rows.places hs c.leave.new.self × (all_held c.leave.new.self hs ≡ map (all_but c.args.row.now.number) (all_held i.holding i.rows.held))
-gone g c =
-    let i = c.self.inside in
-    let k = c.self.invariant in
-    let n = c.args.row.now.number in
-    let of = key_of_number k.rising.0 n c.unwrap-key.result i.rows.held k.rising.1 c.len-known.ensures.apart (sym c.unwrap-key.ensures ∙ c.remove.ensures.key) in
-    kept_out i.rows.places i.rows.held i.holding k.holding n c.unwrap-key.result k.rising.0 k.rising.1 of c.leave.new.self c.leave.ensures.alike c.leave.ensures.marks c.leave.ensures.awaited
-    (rw c.remove.ensures.after at c.leave.ensures.firsts)
-
 pub invariant_of-self : goal.invariant_of-self
 invariant_of-self g c =
     let i = c.self.inside in
@@ -94,19 +76,11 @@ invariant_of-self g c =
       homes = rw (done.pools, done.objects, rows) (all_filter (IsAtHome i.lists.pools i.lists.objects) others (rows_of hs) k.homes);
       standing = rw out standing;
       counted = rw rows (omega (arith, k.counted, c.operations.ensures, count_fewer (λ (x : CallbackRow). is_operating x.status) k.rising.0 row 0 (rows_of hs) k.rising.1 found));
-      holding = (gone g (goal.at.invariant_of-self g c).After-leave).0;
     })
-
-pub leave-requires-clause-key : goal.leave-requires-clause-key
-leave-requires-clause-key g c =
-    let i = c.self.inside in
-    let n = c.args.row.now.number in
-    let of = key_of_number c.self.invariant.rising.0 n c.unwrap-key.result i.rows.held c.self.invariant.rising.1 c.len-known.ensures.apart (sym c.unwrap-key.ensures ∙ c.remove.ensures.key) in
-    omega (arith, within i.rows.held n c.unwrap-key.result of i.rows.places c.len-known.ensures.within, c.self.invariant.holding.keys)
 
 pub returns : goal.returns
 returns g c =
     let i = c.self.inside in
     let rows = rows_out c.args.row.now.number i.rows.held in
     let done = c.settle.ensures.settled in
-    rw (← c.self.view_is, c.remove.ensures.after, rows, done.pools, done.objects, (gone g (goal.at.returns g c).After-leave).1) refl
+    rw (← c.self.view_is, c.remove.ensures.after, rows, done.pools, done.objects) refl

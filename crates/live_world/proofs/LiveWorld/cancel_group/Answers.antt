@@ -14,11 +14,11 @@ here c kept same = in_group c.args.group (c.loop-next.self.made + 1) kept c.loop
 
 pub loop-next-init : goal.loop-next-init
 loop-next-init c =
-    cancelling_group c.args.group (c.args.self.now.made + 1) c.args.self.now c.first_of_group-next.result c.is_reachable.ensures.sound.numbers
-    (c.first_of_group-next.ensures ∙ ap (λ (l : Live). find (is_of_group c.args.group) l.world.callbacks) c.self.view_is)
+    cancelling_group c.args.group (c.args.self.now.made + 1) c.args.self.now c.copied-next.result c.is_reachable.ensures.sound.numbers
+    ((c.copied-next.ensures ∙ c.first_of_group.ensures) ∙ ap (λ (l : Live). find (is_of_group c.args.group) l.world.callbacks) c.self.view_is)
 
-pub next_of_group-next-requires : goal.next_of_group-next-requires
-next_of_group-next-requires c = (here (goal.at.next_of_group-next-requires c).After-is_reachable-in-Some c.self-in-Some.inside.callbacks.rows (ap (λ (l : Live). l.world.callbacks) c.self-in-Some.view_is)).there
+pub next_of_group-requires : goal.next_of_group-requires
+next_of_group-requires c = (here (goal.at.next_of_group-requires c).After-is_reachable-in-Some c.self-in-Some.inside.callbacks.rows (ap (λ (l : Live). l.world.callbacks) c.self-in-Some.view_is)).there
 
 pub cancel_callback-requires-clause-found : goal.cancel_callback-requires-clause-found
 cancel_callback-requires-clause-found c = (one (goal.at.cancel_callback-requires-clause-found c).After-is_reachable-in-Some).there
@@ -27,29 +27,29 @@ pub loop-next-smaller-then-is_pending : goal.loop-next-smaller-then-is_pending
 loop-next-smaller-then-is_pending c =
     let at = (goal.at.loop-next-smaller-then-is_pending c).After-is_reachable-in-Some in
     let o = one at in
-    let follows = (here at c.self-in-Some.inside.callbacks.rows (ap (λ (l : Live). l.world.callbacks) c.self-in-Some.view_is)).next c.next_of_group-next.result c.next_of_group-next.ensures in
-    omega (arith, ap length (o.same c.next_of_group-next.result follows c.cancel_callback.new.self c.cancel_callback.ensures), o.at.later c.next_of_group-next.result follows)
+    let follows = (here at c.self-in-Some.inside.callbacks.rows (ap (λ (l : Live). l.world.callbacks) c.self-in-Some.view_is)).next c.copied-next-in-Some.result (c.copied-next-in-Some.ensures ∙ c.next_of_group.ensures) in
+    omega (arith, ap length (o.same c.copied-next-in-Some.result follows c.cancel_callback.new.self c.cancel_callback.ensures), o.at.later c.copied-next-in-Some.result follows)
 
 pub loop-next-preserved-then-is_pending : goal.loop-next-preserved-then-is_pending
 loop-next-preserved-then-is_pending c =
     let at = (goal.at.loop-next-preserved-then-is_pending c).After-is_reachable-in-Some in
     let o = one at in
-    let follows = (here at c.self-in-Some.inside.callbacks.rows (ap (λ (l : Live). l.world.callbacks) c.self-in-Some.view_is)).next c.next_of_group-next.result c.next_of_group-next.ensures in
-    o.cancels (sym c.is_pending.ensures ∙ c.if-is_pending.true) c.next_of_group-next.result follows c.cancel_callback.new.self c.cancel_callback.ensures
+    let follows = (here at c.self-in-Some.inside.callbacks.rows (ap (λ (l : Live). l.world.callbacks) c.self-in-Some.view_is)).next c.copied-next-in-Some.result (c.copied-next-in-Some.ensures ∙ c.next_of_group.ensures) in
+    o.cancels (sym c.is_pending.ensures ∙ c.if-is_pending.true) c.copied-next-in-Some.result follows c.cancel_callback.new.self c.cancel_callback.ensures
 
 pub loop-next-smaller : goal.loop-next-smaller
 loop-next-smaller c =
     let at = (goal.at.loop-next-smaller c).After-is_reachable-in-Some in
     let o = one at in
-    let follows = (here at c.self-in-Some.inside.callbacks.rows (ap (λ (l : Live). l.world.callbacks) c.self-in-Some.view_is)).next c.next_of_group-next.result c.next_of_group-next.ensures in
-    o.at.later c.next_of_group-next.result follows
+    let follows = (here at c.self-in-Some.inside.callbacks.rows (ap (λ (l : Live). l.world.callbacks) c.self-in-Some.view_is)).next c.copied-next-in-Some.result (c.copied-next-in-Some.ensures ∙ c.next_of_group.ensures) in
+    o.at.later c.copied-next-in-Some.result follows
 
 pub loop-next-preserved : goal.loop-next-preserved
 loop-next-preserved c =
     let at = (goal.at.loop-next-preserved c).After-is_reachable-in-Some in
     let o = one at in
-    let follows = (here at c.self-in-Some.inside.callbacks.rows (ap (λ (l : Live). l.world.callbacks) c.self-in-Some.view_is)).next c.next_of_group-next.result c.next_of_group-next.ensures in
-    o.passed (sym c.is_pending.ensures ∙ c.if-is_pending.false) c.next_of_group-next.result follows
+    let follows = (here at c.self-in-Some.inside.callbacks.rows (ap (λ (l : Live). l.world.callbacks) c.self-in-Some.view_is)).next c.copied-next-in-Some.result (c.copied-next-in-Some.ensures ∙ c.next_of_group.ensures) in
+    o.passed (sym c.is_pending.ensures ∙ c.if-is_pending.false) c.copied-next-in-Some.result follows
 
 pub returns : goal.returns
 returns c = group_cancelled c.args.group c.args.self.now c.loop-next.self c.loop-next.next c.in_default.is c.is_reachable-2.ensures.living c.loop-next.invariant

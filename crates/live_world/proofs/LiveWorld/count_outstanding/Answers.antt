@@ -1,4 +1,5 @@
 use Rattle.std.proofs.Common.{◌+◌, length, ap, filter, arith}
+use Rattle.std.specs.Option.{option_copied}
 use Rattle.std.proofs.lemmas.List.Sums.{length-filter, count_by-le-length}
 use Rattle.tp_base.specs.declared.rows.WaitTarget.TheVariants.{Object}
 use Rattle.tp_model.specs.Waits.{is_outstanding_for}
@@ -9,11 +10,13 @@ use Rattle.live_world.proofs.Along.{CountsOne, after_here, counting_first, count
 use Rattle.live_world.proofs.LiveWorld.count_outstanding.Goals as goal
 use Rattle.live_world.proofs.LiveWorld.count_outstanding.Goals.{In-Some}
 
-one : (c : In-Some) → CountsOne c.args.self.now.world c.args.object c.in-Some.callback c.loop-next.next c.loop-next.count.all c.loop-next.count.pending c.loop-next.count.running
-one c = counts_one c.args.self.now.world (c.args.self.now.made + 1) c.args.object c.in-Some.callback c.loop-next.next c.loop-next.count.all c.loop-next.count.pending c.loop-next.count.running c.is_reachable.ensures.sound.numbers c.in-Some.is c.loop-next.invariant
+one : (c : In-Some) → CountsOne c.args.self.now.world c.args.object c.in-Some.callback.now (option_copied c.loop-next.next) c.loop-next.count.all c.loop-next.count.pending c.loop-next.count.running
+one c =
+    counts_one c.args.self.now.world (c.args.self.now.made + 1) c.args.object c.in-Some.callback.now (option_copied c.loop-next.next) c.loop-next.count.all c.loop-next.count.pending c.loop-next.count.running c.is_reachable.ensures.sound.numbers (ap option_copied c.in-Some.is) c.loop-next.invariant
 
 pub loop-next-init : goal.loop-next-init
-loop-next-init c = counting_first c.args.self.now.world (c.args.self.now.made + 1) c.args.object c.first_outstanding-next.result c.is_reachable.ensures.sound.numbers (first_here c.self.inside c.self.view_is c.args.object c.first_outstanding-next.ensures)
+loop-next-init c =
+    counting_first c.args.self.now.world (c.args.self.now.made + 1) c.args.object (option_copied c.first_outstanding-next.result) c.is_reachable.ensures.sound.numbers (first_here c.self.inside c.self.view_is c.args.object c.first_outstanding-next.ensures)
 
 pub with-count-requires-clause-fits : goal.with-count-requires-clause-fits
 with-count-requires-clause-fits c =
@@ -27,21 +30,21 @@ with-count-requires-clause-fits c =
     )
 
 pub next_outstanding-next-requires : goal.next_outstanding-next-requires
-next_outstanding-next-requires c = there_here c.self.inside c.self.view_is c.in-Some.callback ((one (goal.at.next_outstanding-next-requires c).In-Some).at.there)
+next_outstanding-next-requires c = there_here c.self.inside c.self.view_is c.in-Some.callback.now ((one (goal.at.next_outstanding-next-requires c).In-Some).at.there)
 
 pub loop-next-smaller : goal.loop-next-smaller
-loop-next-smaller c = (one (goal.at.loop-next-smaller c).In-Some).at.later c.next_outstanding-next.result (after_here c.self.inside c.self.view_is c.in-Some.callback c.next_outstanding-next.ensures)
+loop-next-smaller c = (one (goal.at.loop-next-smaller c).In-Some).at.later (option_copied c.next_outstanding-next.result) (after_here c.self.inside c.self.view_is c.in-Some.callback.now c.next_outstanding-next.ensures)
 
 pub loop-next-preserved : goal.loop-next-preserved
 loop-next-preserved c =
-    let follows = after_here c.self.inside c.self.view_is c.in-Some.callback c.next_outstanding-next.ensures in
-    (one (goal.at.loop-next-preserved c).In-Some).goes_on c.next_outstanding-next.result c.with-count.result.all c.with-count.result.pending c.with-count.result.running follows c.with-count.ensures.all c.with-count.ensures.pending c.with-count.ensures.running
+    let follows = after_here c.self.inside c.self.view_is c.in-Some.callback.now c.next_outstanding-next.ensures in
+    (one (goal.at.loop-next-preserved c).In-Some).goes_on (option_copied c.next_outstanding-next.result) c.with-count.result.all c.with-count.result.pending c.with-count.result.running follows c.with-count.ensures.all c.with-count.ensures.pending c.with-count.ensures.running
 
 pub returns-clause-all : goal.returns-clause-all
-returns-clause-all c = omega (arith, c.loop-next.invariant.all_counted, ap (λ o. length (rest number_of (outstanding_of c.args.self.now.world c.args.object) o)) c.in_default.is)
+returns-clause-all c = omega (arith, c.loop-next.invariant.all_counted, ap (λ o. length (rest number_of (outstanding_of c.args.self.now.world c.args.object) o)) (ap option_copied c.in_default.is))
 
 pub returns-clause-pending : goal.returns-clause-pending
-returns-clause-pending c = omega (arith, c.loop-next.invariant.pending_counted, ap (λ o. length (filter is_pending_callback (rest number_of (outstanding_of c.args.self.now.world c.args.object) o))) c.in_default.is)
+returns-clause-pending c = omega (arith, c.loop-next.invariant.pending_counted, ap (λ o. length (filter is_pending_callback (rest number_of (outstanding_of c.args.self.now.world c.args.object) o))) (ap option_copied c.in_default.is))
 
 pub returns-clause-running : goal.returns-clause-running
-returns-clause-running c = omega (arith, c.loop-next.invariant.running_counted, ap (λ o. length (filter is_running_callback (rest number_of (outstanding_of c.args.self.now.world c.args.object) o))) c.in_default.is)
+returns-clause-running c = omega (arith, c.loop-next.invariant.running_counted, ap (λ o. length (filter is_running_callback (rest number_of (outstanding_of c.args.self.now.world c.args.object) o))) (ap option_copied c.in_default.is))

@@ -8,12 +8,9 @@ use Rattle.sources.specs.Rows.{with_sources}
 use Rattle.live_world.specs.Taking.{IsFreeFor, rows_left}
 use Rattle.live_world.specs.View.{shown}
 use Rattle.live_world.proofs.Takings.{wanted_free}
-use Rattle.live_world.proofs.Ending.{ended, has_begun}
+use Rattle.live_world.proofs.Ending.{ended}
 use Rattle.live_world.proofs.LiveWorld.end_wait.Goals as goal
 use Rattle.live_world.proofs.LiveWorld.end_wait.Goals.{After-end}
-
-pub unwrap-waiter-requires : goal.unwrap-waiter-requires
-unwrap-waiter-requires c = c.place.ensures.acts (has_begun c.self.inside c.args.self.now c.args.who c.args.how c.self.view_is c.requires.allowed)
 
 pub end_acquire-requires : goal.end_acquire-requires
 end_acquire-requires c is =
@@ -28,10 +25,8 @@ kernels_read c = c.end_acquire.ensures ∙ ap (λ o. with_sources c.self.inside.
 
 pub invariant_of-self : goal.invariant_of-self
 invariant_of-self c =
-    (ended c.self.inside c.args.self.now c.args.who c.args.how c.unwrap-waiter.result c.let_go_all.new.self c.end.new.self c.end_acquire.new.sources c.self.view_is c.self.invariant c.requires.allowed
-    (sym c.place.ensures.value ∙ c.unwrap-waiter.ensures) c.let_go_all.ensures c.end.ensures (kernels_read c)).keeps
+    (ended c.self.inside c.args.self.now c.args.who c.args.how c.end.new.self c.end_acquire.new.sources c.self.view_is c.self.invariant c.requires.allowed c.end.ensures (kernels_read c)).keeps
 
 pub returns : goal.returns
 returns c =
-    (ended c.self.inside c.args.self.now c.args.who c.args.how c.unwrap-waiter.result c.let_go_all.new.self c.end.new.self c.end_acquire.new.sources c.self.view_is c.self.invariant c.requires.allowed
-    (sym c.place.ensures.value ∙ c.unwrap-waiter.ensures) c.let_go_all.ensures c.end.ensures (kernels_read c)).becomes
+    (ended c.self.inside c.args.self.now c.args.who c.args.how c.end.new.self c.end_acquire.new.sources c.self.view_is c.self.invariant c.requires.allowed c.end.ensures (kernels_read c)).becomes

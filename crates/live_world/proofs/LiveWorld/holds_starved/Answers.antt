@@ -1,29 +1,17 @@
-use Rattle.std.proofs.Common.{◌&&◌, None, Some, sym, ap, ap₂, ◌∙◌}
-use Rattle.tp_model.specs.Laws.Entries.{is_among}
-use Rattle.live_world.specs.Waiting.{held_by}
-use Rattle.live_world.proofs.Covered.{nowhere}
-use Rattle.live_world.proofs.Progress.{covered_here}
-use Rattle.live_world.proofs.Starving.{first_is_kept, starved_where}
+use Rattle.std.proofs.Common.{◌+◌, None, Some, sym, ◌∙◌}
+use Rattle.live_world.proofs.Along.{first_by_number}
+use Rattle.live_world.proofs.Starving.{starved_by_pending}
+use Rattle.live_world.specs.Waiting.{is_pending_for}
 use Rattle.live_world.proofs.LiveWorld.holds_starved.Goals as goal
 
-pub unreachable-requires : goal.unreachable-requires
-unreachable-requires c =
-    first_is_kept c.self.inside c.args.self.now c.args.who c.args.first c.self.view_is c.self.invariant c.requires.first (sym c.find.ensures ∙ nowhere c.find.result c.in_default.not-Some)
+pub is_held_starved-requires-clause-found : goal.is_held_starved-requires-clause-found
+is_held_starved-requires-clause-found c =
+    first_by_number (c.args.self.now.made + 1) c.args.self.now.world.callbacks (is_pending_for c.args.object) c.in-Some.callback c.is_reachable.ensures.sound.numbers (sym c.first_pending.ensures ∙ c.in-Some.is)
 
 pub returns-in-None : goal.returns-in-None
-returns-in-None c =
-    starved_where c.self.inside c.args.self.now c.args.who c.args.first c.self.view_is c.self.invariant c.requires.first c.args.room c.in-Some.held None c.requires.closes (sym c.find.ensures ∙ c.in-Some.is) (sym c.in-None.is ∙ c.first_pending.ensures)
+returns-in-None c = starved_by_pending c.args.self.now.world c.args.who c.args.object (c.args.self.now.made + 1) c.args.room c.is_reachable.ensures.sound c.requires.target None (sym c.in-None.is ∙ c.first_pending.ensures)
 
-pub returns-else-is_starved : goal.returns-else-is_starved
-returns-else-is_starved c =
-    c.if-is_starved.false
-    ∙ ap (λ b. b && is_among c.in-Some-first_pending.callback.number (held_by c.args.self.now.world c.args.who)) (sym c.if-is_starved.false ∙ c.is_starved.ensures)
-    ∙ starved_where c.self.inside c.args.self.now c.args.who c.args.first c.self.view_is c.self.invariant c.requires.first c.args.room c.in-Some.held
-    (Some c.in-Some-first_pending.callback) c.requires.closes (sym c.find.ensures ∙ c.in-Some.is) (sym c.in-Some-first_pending.is ∙ c.first_pending.ensures)
-
-pub returns-then-is_starved : goal.returns-then-is_starved
-returns-then-is_starved c =
-    c.holds.ensures
-    ∙ ap₂ (λ b ns. b && is_among c.in-Some-first_pending.callback.number ns) (sym c.if-is_starved.true ∙ c.is_starved.ensures) (covered_here c.self.inside c.args.self.now c.args.who c.args.waiter c.self.view_is c.self.invariant c.requires.at)
-    ∙ starved_where c.self.inside c.args.self.now c.args.who c.args.first c.self.view_is c.self.invariant c.requires.first c.args.room c.in-Some.held
-    (Some c.in-Some-first_pending.callback) c.requires.closes (sym c.find.ensures ∙ c.in-Some.is) (sym c.in-Some-first_pending.is ∙ c.first_pending.ensures)
+pub returns-in-Some : goal.returns-in-Some
+returns-in-Some c =
+    c.is_held_starved.ensures
+    ∙ starved_by_pending c.args.self.now.world c.args.who c.args.object (c.args.self.now.made + 1) c.args.room c.is_reachable.ensures.sound c.requires.target (Some c.in-Some.callback) (sym c.in-Some.is ∙ c.first_pending.ensures)

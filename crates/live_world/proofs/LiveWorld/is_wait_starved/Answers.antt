@@ -5,6 +5,3 @@ use Rattle.live_world.proofs.LiveWorld.is_wait_starved.Goals as goal
 
 pub returns-then-room-ge4 : goal.returns-then-room-ge4
 returns-then-room-ge4 c = sym (not_starved c.args.self.now.world c.args.room (held_by c.args.self.now.world c.args.who) c.if-room-ge4.true)
-
-pub holds_starved-requires-clause-closes : goal.holds_starved-requires-clause-closes
-holds_starved-requires-clause-closes c = rw (← c.self.view_is) (sym c.closing.ensures ∙ c.in-None.is)

@@ -1,5 +1,4 @@
-use Rattle.std.proofs.Common.{◌≡◌, ◌+◌, false, length, true, sym, ap, ◌∙◌}
-use Rattle.tp_base.specs.declared.limits.Limits.{Limits}
+use Rattle.std.proofs.Common.{◌≡◌, false, true, sym, ap, ◌∙◌}
 use Rattle.tp_base.specs.declared.rows.Status.{Status}
 use Rattle.tp_base.specs.declared.rows.CallbackRow.{CallbackRow}
 use Rattle.tp_base.specs.declared.plans.Mark.TheVariants.{Loose}
@@ -29,18 +28,12 @@ change-requires c =
           (λ e. absurd (let none : false ≡ true = sym (ap is_operating (c.loosened.ensures ∙ ap loosened runs.running)) ∙ e in cc));
     }
 
-pub leave_unclosed-requires : goal.leave_unclosed-requires
-leave_unclosed-requires c = record {
-  as_many = sym (ap (λ (x : Callbacks). length x.held) c.change.ensures ∙ c.self.invariant.covered.waiters);
-  actors = ap (λ (ls : Limits). ls.clients + ls.workers) (sym c.self.invariant.covered.wait_limits);
-}
-
 pub invariant_of-self : goal.invariant_of-self
 invariant_of-self c =
-    (loosened_by c.self.inside c.args.self.now c.args.by c.change.new.self c.leave_unclosed.new.callbacks c.self.view_is c.self.invariant c.requires
-    (replaced_now c.self.inside.callbacks c.args.by.callback c.loosened.result c.change.new.self c.loosened.ensures c.change.ensures) c.leave_unclosed.ensures).keeps
+    (loosened_by c.self.inside c.args.self.now c.args.by c.change.new.self c.self.view_is c.self.invariant c.requires
+    (replaced_now c.self.inside.callbacks c.args.by.callback c.loosened.result c.change.new.self c.loosened.ensures c.change.ensures)).keeps
 
 pub returns : goal.returns
 returns c =
-    (loosened_by c.self.inside c.args.self.now c.args.by c.change.new.self c.leave_unclosed.new.callbacks c.self.view_is c.self.invariant c.requires
-    (replaced_now c.self.inside.callbacks c.args.by.callback c.loosened.result c.change.new.self c.loosened.ensures c.change.ensures) c.leave_unclosed.ensures).becomes
+    (loosened_by c.self.inside c.args.self.now c.args.by c.change.new.self c.self.view_is c.self.invariant c.requires
+    (replaced_now c.self.inside.callbacks c.args.by.callback c.loosened.result c.change.new.self c.loosened.ensures c.change.ensures)).becomes

@@ -9,8 +9,8 @@ use Rattle.live_callbacks.proofs.Numbers.{find_above_of}
 use Rattle.live_callbacks.proofs.Tied.{leads, number_among}
 use Rattle.live_callbacks.proofs.rows.Rows.next_of_group.Goals as goal
 
-pub row_of-requires : goal.row_of-requires
-row_of-requires c =
+pub lent_row-requires : goal.lent_row-requires
+lent_row-requires c =
     let s = c.self.inside.rows in
     let ls = live c.self.inside.entries.items in
     let test = λ (e : Entry). (row_at s e.key).group.0 == c.args.group.0 in
@@ -28,6 +28,6 @@ returns c =
     let parted = rw c.deref.ensures.value at c.place_behind-place.ensures.parted in
     let first = rw c.deref-2.ensures.value at c.first_of_group_from.ensures in
     rw (← c.self.view_is)
-    (c.row_of.ensures
+    (c.lent_row.ensures
     ∙ ap (option_map (λ (e : Entry). row_at s e.key)) (first ∙ sym (find_above_of c.args.number test c.self.inside.entries.items _ bound parted))
     ∙ sym (number_among s (λ n. nat_lt c.args.number n) (λ (x : CallbackRow). x.group.0 == c.args.group.0) ls c.self.invariant.tied))
