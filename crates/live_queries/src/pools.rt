@@ -1,7 +1,7 @@
 //! Pools: which of them needs a worker, and whether one is still used.
 
-ghost use Rattle.std.specs.Prelude.{◌≡◌, ◌&&◌, ◌==◌, not, length};
-ghost use Rattle.std.specs.List.{list_any};
+ghost use Rattle.std.specs.Prelude.{◌≡◌, ◌&&◌, ◌||◌, ◌==◌, not, length};
+ghost use Rattle.std.specs.List.{list_any, range_with_len};
 ghost use Rattle.tp_model.specs.Counts.{is_below_minimum, is_in_need, is_live, least_pool};
 ghost use Rattle.tp_model.specs.Conditions.{is_closed_pool, is_pool};
 ghost use Rattle.tp_model.specs.Calls.Pools.{is_used};
@@ -52,6 +52,21 @@ fn is_below_minimum(world: &LiveWorld, pool: PoolId) -> bool
     tally.available < tally.minimum && tally.attached < tally.maximum
 }
 
+// Whether a worker may join the pool, since it is in need or below its minimum.
+fn is_short(world: &LiveWorld, pool: PoolId) -> bool
+    ensures { result ≡ (is_in_need world.now.world pool.0 || is_below_minimum world.now.world pool.0) }
+{
+    let tally = world.tally(pool);
+    tally.attached < tally.maximum && (is_in_need(world, pool) || is_below_minimum(world, pool))
+}
+
+// Whether there is a pool that a worker may join.
+fn is_any_short(world: &LiveWorld) -> bool
+    ensures { result ≡ list_any (λ pool. is_in_need world.now.world pool || is_below_minimum world.now.world pool) (range_with_len 0 (length world.now.world.pools)) }
+{
+    (0..world.next_pool()).any(|pool| is_short(world, PoolId(pool)))
+}
+
 // The pool of least number that is in need.
 fn least_in_need(world: &LiveWorld) -> Option<u32>
     ensures { result ≡ least_pool world.now.world (is_in_need world.now.world) }
@@ -74,10 +89,14 @@ fn least_other_in_need(world: &LiveWorld, pool: PoolId) -> Option<u32>
 }
 
 /// The pool that an unattached worker is to join, if there is one: the least pool in need, and
-/// else the least one below its minimum.
+/// else the least one below its minimum. Where there is none, it walks the pools once.
+#[tactic(auto, using(crate::proofs::Short::none_to_join))]
 pub fn pool_to_join(world: &LiveWorld) -> Option<u32>
     ensures { result ≡ pool_to_join world.now.world }
 {
+    if !is_any_short(world) {
+        return None;
+    }
     match least_in_need(world) {
         Some(pool) => Some(pool),
         None => least_below_minimum(world),

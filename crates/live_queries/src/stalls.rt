@@ -2,10 +2,10 @@
 //! nobody will do.
 
 ghost use Rattle.std.specs.Prelude.{◌≡◌, ◌≤◌, length};
-ghost use Rattle.std.specs.List.{list_all, range_with_len};
+ghost use Rattle.std.specs.List.{list_all, list_any, range_with_len};
 ghost use Rattle.tp_model.specs.Conditions.{runs_callback};
 ghost use Rattle.tp_model.specs.Stalled.{is_client_stuck, is_pool_stuck, is_stalled, is_worker_stuck, waits_on};
-ghost use Rattle.live_queries.specs.Resting.{is_pool_blocked};
+ghost use Rattle.live_queries.specs.Resting.{is_pool_blocked, is_worker_free};
 
 use crate::callers::{clients, has_finished, workers};
 use live_world::LiveWorld;
@@ -13,6 +13,7 @@ use live_world::waits::Progress;
 use tp_base::ids::{PoolId, Who};
 
 // Whether the actor has a wait begun that can't end yet.
+#[tactic(auto, using(crate::proofs::Stuck::not_waiting))]
 #[inline(always)]
 fn waits_on(world: &LiveWorld, who: Who, room: u64) -> bool
     ensures { result ≡ waits_on world.now.world room who }
@@ -49,6 +50,20 @@ fn is_busy(world: &LiveWorld, number: u32) -> bool
         None => false,
         Some(worker) => worker.callback.is_some(),
     }
+}
+
+// Whether a worker runs a callback and has no wait begun.
+fn is_worker_free(world: &LiveWorld, number: u32) -> bool
+    ensures { result ≡ is_worker_free world.now.world number }
+{
+    is_busy(world, number) && !world.waits().is_begun(Who::Worker(number))
+}
+
+// Whether there is such a worker.
+fn is_any_free(world: &LiveWorld) -> bool
+    ensures { result ≡ list_any (is_worker_free world.now.world) (range_with_len 1 (length world.now.world.workers)) }
+{
+    (1..workers(world) + 1).any(|number| is_worker_free(world, number))
 }
 
 // Whether a worker makes no call in a callback: it runs none, or waits.
@@ -105,13 +120,24 @@ fn are_pools_stuck(world: &LiveWorld, room: u64) -> bool
     are_all_busy(world) || are_pools_blocked(world, room)
 }
 
+// Whether nobody can go on, asked of the pools, then of the workers up to one that goes on, and only then of
+// the clients.
+#[tactic(auto, using(crate::proofs::Stuck::stalled_by_pools))]
+#[inline(never)]
+fn are_all_stuck(world: &LiveWorld, room: u64) -> bool
+    ensures { result ≡ is_stalled world.now.world room }
+{
+    are_pools_stuck(world, room) && are_workers_stuck(world, room) && are_clients_stuck(world, room)
+}
+
 /// Whether nobody can go on in a machine whose history has this room left: each client has finished
 /// or waits, each worker in a callback waits, and no callback can be taken. Walks the workers up to one
-/// that goes on, then the pools, and only then the clients.
-#[tactic(auto, using(crate::proofs::Stuck::stalled_by_workers))]
+/// that runs a callback and has no wait begun. Only where there is none does it walk the pools, and then ask
+/// the workers and the clients how far their waits have come.
+#[tactic(auto, using(crate::proofs::Stuck::goes_on))]
 #[inline(always)]
 pub fn is_stalled(world: &LiveWorld, room: u64) -> bool
     ensures { result ≡ is_stalled world.now.world room }
 {
-    are_workers_stuck(world, room) && are_pools_stuck(world, room) && are_clients_stuck(world, room)
+    !is_any_free(world) && are_all_stuck(world, room)
 }

@@ -19,7 +19,8 @@ pub enum Decision {
     Accepted,
 }
 
-/// Accepts a call, and writes down its answer, as its outcome, and the change that it makes.
+/// Accepts a call, and writes down its answer, as its outcome, and the change that it makes. That comes last, so
+/// that who settles it knows which one it is.
 #[inline(always)]
 pub(crate) fn accept(
     change: &mut Change,
@@ -31,7 +32,7 @@ pub(crate) fn accept(
     ensures outcome { outcome.new ≡ Outcome.Done answer }
     ensures change { change.new ≡ made }
 {
-    *change = made;
     *outcome = Outcome::Done(answer);
+    *change = made;
     Decision::Accepted
 }
