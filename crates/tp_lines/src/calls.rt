@@ -320,7 +320,7 @@ pub fn put_call(call: &Call, out: &mut [u8], at: usize) -> usize
             env,
         } => {
             let end = parts!(out, at; first(word) word(Word::Kind(*kind)));
-            put_routine(*routine, *context, *env, out, end)
+            put_routine(*routine, *context, env, out, end)
         }
         Call::CloseObject { kind, object } =>
             row!(out, at; word, word(Word::Kind(*kind)) number(u64::from(object.0))),
@@ -330,7 +330,7 @@ pub fn put_call(call: &Call, out: &mut [u8], at: usize) -> usize
             env,
         } => {
             let end = line::first(word, out, at);
-            put_routine(*routine, *context, *env, out, end)
+            put_routine(*routine, *context, env, out, end)
         },
         Call::SetTimer {
             object,
@@ -374,8 +374,7 @@ pub fn put_call(call: &Call, out: &mut [u8], at: usize) -> usize
             kernel,
             count,
         } => {
-            let end =
-                row!(out, at; Word::OnReturn, word(Word::Action(*kind)) number(u64::from(kernel.0)));
+            let end = row!(out, at; Word::OnReturn, action(*kind) number(u64::from(kernel.0)));
             line::number(u64::from(*count), out, end)
         }
     }
@@ -428,17 +427,9 @@ fn word_of(call: &Call) -> Word
 }
 
 // A routine with its context, and the environment.
-fn put_routine(routine: RoutineId, context: u64, env: Environ, out: &mut [u8], at: usize) -> usize
+fn put_routine(routine: RoutineId, context: u64, env: &Environ, out: &mut [u8], at: usize) -> usize
     requires { at + 172 ≤ length out.old }
-    ensures { IsPut at out.old result out.new (parts_text (Part.Routine routine.0 ∷ Part.Context context ∷ environ_parts env)) 172 }
+    ensures { IsPut at out.old result out.new (parts_text (Part.Routine routine.0 ∷ Part.Context context ∷ environ_parts env.now)) 172 }
 {
-    let end = parts!(out, at; lettered(b'r', u64::from(routine.0)) lettered(b'x', context));
-    put_environ(env, out, end)
-}
-
-fn put_environ(env: Environ, out: &mut [u8], at: usize) -> usize
-    requires { at + 128 ≤ length out.old }
-    ensures { IsPut at out.old result out.new (parts_text (environ_parts env)) 128 }
-{
-    parts!(out, at; lettered(b'p', u64::from(env.pool.0)) word(Word::Priority(env.priority)) word(Word::Length(env.long)) lettered(b'g', u64::from(env.group.0)) lettered(b'q', u64::from(env.cancel.0)))
+    parts!(out, at; lettered(b'r', u64::from(routine.0)) lettered(b'x', context) lettered(b'p', u64::from(env.pool.0)) word(Word::Priority(env.priority)) word(Word::Length(env.long)) lettered(b'g', u64::from(env.group.0)) lettered(b'q', u64::from(env.cancel.0)))
 }

@@ -11,7 +11,7 @@ ghost use Rattle.tp_lines.specs.Writing.{IsPut};
 
 use crate::words::{Word, word_text};
 use itoa::write_digits;
-use tp_base::answers::SlotWord;
+use tp_base::answers::{ActionKind, SlotWord};
 use tp_base::ids::KernelId;
 
 /// A byte.
@@ -25,15 +25,17 @@ pub fn byte(byte: u8, out: &mut [u8], at: usize) -> usize
     at + 1
 }
 
-/// A text.
+/// A text. One that is known stands in the code and is written whole.
 #[inline(always)]
 pub fn text(text: &[u8], out: &mut [u8], at: usize) -> usize
     requires { at + length text.now ≤ length out.old }
     ensures text { take result out.new ≡ take at out.old ++ text.now }
     ensures end { result ≡ at + length text.now }
 {
-    let end = at + text.len();
-    out[at..end].copy_from_slice(text);
+    let mut end = at;
+    for index in 0..text.len() {
+        end = byte(text[index], out, end);
+    }
     end
 }
 
@@ -50,8 +52,6 @@ fn digit_count(number: u64) -> usize
         3
     } else if number < 10_000 {
         4
-    } else if number < 100_000 {
-        5
     } else {
         digit_count(number / 10_000) + 4
     }
@@ -69,11 +69,34 @@ pub fn digits(number: u64, out: &mut [u8], at: usize) -> usize
     many_digits(number, out, at)
 }
 
+// The digits of a number that has more than one. Where it is known how many, they are written with no loop.
 fn many_digits(number: u64, out: &mut [u8], at: usize) -> usize
-    requires { at + 20 ≤ length out.old }
+    requires room { at + 20 ≤ length out.old }
+    requires more { 10 ≤ number }
     ensures { IsPut at out.old result out.new (decimal number) 20 }
 {
-    let end = at + digit_count(number);
+    if number < 100 {
+        sized_digits(number, 2, out, at)
+    } else if number < 1_000 {
+        sized_digits(number, 3, out, at)
+    } else if number < 10_000 {
+        sized_digits(number, 4, out, at)
+    } else if number < 100_000 {
+        sized_digits(number, 5, out, at)
+    } else {
+        sized_digits(number, digit_count(number), out, at)
+    }
+}
+
+// The digits of a number that has so many.
+#[inline(always)]
+fn sized_digits(number: u64, size: usize, out: &mut [u8], at: usize) -> usize
+    requires room { at + 20 ≤ length out.old }
+    requires size { size ≡ length (decimal number) }
+    requires most { size ≤ 20 }
+    ensures { IsPut at out.old result out.new (decimal number) 20 }
+{
+    let end = at + size;
     write_digits(number, out, end);
     end
 }
@@ -97,17 +120,31 @@ pub fn word(word: Word, out: &mut [u8], at: usize) -> usize
     first(word, out, start)
 }
 
-/// A space, and what became of an action on return. A copy of a text that is known takes no call.
+/// A space, and what became of an action on return. Each is a text that is known.
 #[inline(always)]
 pub fn slot(slot: SlotWord, out: &mut [u8], at: usize) -> usize
     requires { at + 31 ≤ length out.old }
     ensures { IsPut at out.old result out.new (32 ∷ text_of_word (Word.Slot slot)) 31 }
 {
     match slot {
-        SlotWord::Unasked => word(Word::Slot(SlotWord::Unasked), out, at),
+        SlotWord::Unasked => text(b" -", out, at),
         SlotWord::Performed => word(Word::Slot(SlotWord::Performed), out, at),
         SlotWord::NotOwner => word(Word::Slot(SlotWord::NotOwner), out, at),
         SlotWord::OverMaximum => word(Word::Slot(SlotWord::OverMaximum), out, at),
+    }
+}
+
+/// A space, and for what an action on return is. Each is a text that is known.
+#[inline(always)]
+pub fn action(kind: ActionKind, out: &mut [u8], at: usize) -> usize
+    requires { at + 31 ≤ length out.old }
+    ensures { IsPut at out.old result out.new (32 ∷ text_of_word (Word.Action kind)) 31 }
+{
+    match kind {
+        ActionKind::Section => word(Word::Action(ActionKind::Section), out, at),
+        ActionKind::Mutex => word(Word::Action(ActionKind::Mutex), out, at),
+        ActionKind::Semaphore => word(Word::Action(ActionKind::Semaphore), out, at),
+        ActionKind::Event => word(Word::Action(ActionKind::Event), out, at),
     }
 }
 

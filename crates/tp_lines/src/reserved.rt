@@ -15,7 +15,7 @@ use tp_base::ids::Who;
 const ROOM: usize = 512;
 
 /// How many bytes are made ready at once for the lines to come.
-const PAGE: usize = 65_536;
+const PAGE: usize = 1_024;
 
 /// Lines that are printed one behind another, seen as their text and as how many more there is memory for. Printing
 /// one takes no memory.

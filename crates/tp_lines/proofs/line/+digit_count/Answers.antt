@@ -20,16 +20,12 @@ pub returns-then-number-lt10000-clause-value : goal.returns-then-number-lt10000-
 returns-then-number-lt10000-clause-value t c =
     omega (arith, length_pair c.args.number (omega arith) (omega arith), length_two (c.args.number / 100) (omega arith) (omega arith))
 
-pub returns-then-number-lt100000-clause-value : goal.returns-then-number-lt100000-clause-value
-returns-then-number-lt100000-clause-value t c =
-    omega (arith, length_four c.args.number (omega arith) (omega arith), length_one (c.args.number / 10000) (omega arith))
-
-pub returns-else-number-lt100000-clause-value : goal.returns-else-number-lt100000-clause-value
-returns-else-number-lt100000-clause-value t c =
+pub returns-else-number-lt10000-clause-value : goal.returns-else-number-lt10000-clause-value
+returns-else-number-lt10000-clause-value t c =
     omega (arith, length_four c.args.number (omega arith) (omega arith), c.digit_count.ensures.value)
 
-pub returns-else-number-lt100000-clause-most : goal.returns-else-number-lt100000-clause-most
-returns-else-number-lt100000-clause-most t c =
+pub returns-else-number-lt10000-clause-most : goal.returns-else-number-lt10000-clause-most
+returns-else-number-lt10000-clause-most t c =
     omega (
       arith,
       length_four c.args.number (omega arith) (omega arith),
