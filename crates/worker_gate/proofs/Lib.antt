@@ -13,6 +13,7 @@ pub mod Lasting
 pub mod Looking
 pub mod Manned
 pub mod Playing
+pub mod Unfinished
 pub mod Tellings
 pub mod Ending
 pub mod Back

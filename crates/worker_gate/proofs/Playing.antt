@@ -31,7 +31,7 @@ use Rattle.worker_gate.specs.declared.place.Place.{Place}
 use Rattle.worker_gate.specs.declared.role.Role.{Role}
 use Rattle.worker_gate.specs.declared.role.Turn.{Turn}
 use Rattle.worker_gate.specs.Places.{Given, opening}
-use Rattle.worker_gate.specs.Roles.{due_of, ended_turn, ends, ends_at, is_last_turn, is_stage_of, played_turn, took, turn_by, turned, who_of, IsOf, Turned}
+use Rattle.worker_gate.specs.Roles.{due_of, ended_turn, ends, ends_at, is_last_turn, is_open, is_stage_of, played_turn, took, turn_by, turned, who_of, IsOf, Turned}
 use Rattle.worker_gate.specs.Rounds.{awake, round_of, scene, AllOf, EndedWell, HaveEnded, IsSameMachine, Scene}
 use Rattle.worker_gate.specs.Runs.{is_over_in}
 use Rattle.worker_gate.specs.Walks.{comes_to}
@@ -186,6 +186,17 @@ module _ (g : Given) (limits : Limits) (capacity : ℕ) where
 
     pub over_stays : (r : Role) → IsOf g limits capacity history (own r.who history) r → (turn_in history r).history ≡ history
     over_stays r of = turned_is (λ (t : Turned). t.history ≡ history) history r (λ _. refl) (λ on. absurd (on_off (ends limits capacity history r) (over_ends r of) on))
+
+    -- and no client plays on
+    none_open : (at : Stage) → is_open at ≡ true → is_in_part at ≡ false → ⊥
+    none_open Playing plays rests = absurd cc
+    none_open (Busy routine) plays rests = absurd cc
+    none_open Over plays rests = absurd cc
+    none_open Away plays rests = absurd cc
+    none_open Idle plays rests = absurd cc
+
+    pub over_open : (r : Role) → IsOf g limits capacity history (own r.who history) r → is_open r.place.stage ≡ true → ⊥
+    over_open r of plays = none_open r.place.stage plays (over_rests r.who r.place.stage of.actor (stage_at history r of) of.sorted)
 
   abbrev WellAt : List Entry → Role → Type 0
   WellAt history r = r.ended ≡ true → (r.place.stage ≡ Over) ⊎ (is_over_in limits capacity history ≡ true)

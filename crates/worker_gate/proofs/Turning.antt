@@ -1,5 +1,5 @@
 -- A turn keeps what a role is.
-use Rattle.std.proofs.Common.{◌≡◌, ℕ, ◌+◌, Bool, true, false, ◌||◌, List, [], ◌∷◌, ◌++◌, IfSome, Some, refl, sym, ap, subst, ◌∙◌, append-nil}
+use Rattle.std.proofs.Common.{◌≡◌, ℕ, ◌+◌, Bool, true, false, ◌||◌, List, [], ◌∷◌, ◌++◌, IfSome, refl, sym, ap, subst, ◌∙◌, append-nil}
 use Rattle.std.specs.Prelude.{if◌then◌else◌}
 use Rattle.tp_base.specs.declared.answers.Answer.{Answer}
 use Rattle.tp_base.specs.declared.answers.Entry.{Entry}
@@ -21,8 +21,9 @@ use Rattle.turn_lock.specs.Histories.{own, StartsWith}
 use Rattle.turn_lock.proofs.Beginnings.{own_more}
 use Rattle.worker_gate.specs.declared.place.Place.{Place}
 use Rattle.worker_gate.specs.declared.role.Role.{Role}
+use Rattle.worker_gate.specs.declared.role.Turn.{Turn}
 use Rattle.worker_gate.specs.Places.{Given, next_call, opening, place_after}
-use Rattle.worker_gate.specs.Roles.{due_of, due_unless, ended_turn, ends, ends_at, is_idle_take, played_turn, took, turned, IsOf, Turned}
+use Rattle.worker_gate.specs.Roles.{due_of, ended_turn, ends, ends_at, is_idle_take, played_turn, took, turn_by, turned, HasTurned, IsOf, Turned}
 use Rattle.worker_gate.specs.Runs.{is_over_in}
 use Rattle.worker_gate.specs.Walks.{comes_to, is_full, FollowsAt, IsCut}
 use Rattle.worker_gate.proofs.Stepping.{cut_by, goes_at, in_part_no_take, Goes, Stands}
@@ -126,11 +127,6 @@ still_going Away false over is = (refl, refl)
 still_going Idle true over is = absurd cc
 still_going Idle false over is = (refl, refl)
 
--- a call was made, so the role doesn't end, and the call is the due one
-pub due_told : (ending : Bool) (due made : Call) → Some made ≡ due_unless ending due → (ending ≡ false) × (made ≡ due)
-due_told true due made e = absurd cc
-due_told false due made e = (refl, cc)
-
 -- a turn whose due call is made
 pub turned_by : (g : Given) (limits : Limits) (capacity : ℕ) (history : List Entry) (r : Role) (made : Call) (told : Outcome) → ends limits capacity history r ≡ false
     → made ≡ due_of g r.who r.place r.marked → told ≡ comes_to limits capacity history r.who made → turned g limits capacity history r ≡ played_turn g history r made told
@@ -155,3 +151,17 @@ module _ (g : Given) (old new : Recording) (r q : Role) (made : Call) (told : Ou
       subst (λ (n : Recording). IsOf g n.limits n.capacity n.history (own q.who n.history) q) (sym new_is)
       (subst (λ (x : Role). IsOf g old.limits old.capacity (old.history ++ entries) (own x.who (old.history ++ entries)) x) (sym role_is)
       (subst (λ (es : List Entry). IsOf g old.limits old.capacity (old.history ++ entries) es (took g r made told)) own_is kept))
+
+  -- what its call comes to is all that the turn has to hear of
+  pub has_turned : (turn : Turn) → IsOf g old.limits old.capacity old.history (own r.who old.history) r → ends old.limits old.capacity old.history r ≡ false → IfSome (next_call g r.who r.place) IsOfPart
+      → made ≡ due_of g r.who r.place r.marked → told ≡ outcome_behind old r.who made → new ≡ recorded old r.who made told → IsLegal new.limits new.capacity new.history → q ≡ took g r made told → turn ≡ turn_by told
+      → HasTurned g old new r q turn
+  has_turned turn of not_ending part made_is told_is new_is legal role_is turn_is =
+      let is : turned g old.limits old.capacity old.history r ≡ played_turn g old.history r made told = turned_by g old.limits old.capacity old.history r made told not_ending made_is told_is in
+      record {
+        role_is = role_is ∙ sym (ap (λ (t : Turned). t.role) is);
+        book_is = new_is ∙ sym (ap (λ (t : Turned). record old { history = t.history }) is);
+        turn_is = turn_is ∙ sym (ap (λ (t : Turned). t.turn) is);
+        of = turn_keeps of not_ending part made_is told_is new_is legal role_is;
+        legal = λ played. legal;
+      }

@@ -10,8 +10,10 @@ use Rattle.tp_base.specs.declared.ids.Who.TheVariants.{Client, Worker}
 use Rattle.tp_base.specs.declared.limits.Limits.{Limits}
 use Rattle.tp_base.specs.declared.plans.Stage.{Stage}
 use Rattle.tp_base.specs.declared.plans.Stage.TheVariants as stage
+use Rattle.tp_model.specs.History.{IsLegal}
 use Rattle.tp_model.specs.Stages.{first_stage, is_in_part, stage_from, waits_from, IsActor}
-use Rattle.recorded.specs.Recordings.{entries_told}
+use Rattle.recorded.specs.Recordings.{entries_told, Recording}
+use Rattle.turn_lock.specs.Histories.{own}
 use Rattle.worker_gate.specs.declared.place.Place.{Place}
 use Rattle.worker_gate.specs.declared.role.Role.{Role}
 use Rattle.worker_gate.specs.declared.role.Turn.{Turn}
@@ -41,6 +43,11 @@ is_of_worker _ = true
 abbrev pub is_stage_of : Who → Stage → Bool
 is_stage_of (Client number) at = is_of_client at
 is_stage_of (Worker number) at = is_of_worker at
+
+-- whether it is that of a client that hasn't finished
+abbrev pub is_open : Stage → Bool
+is_open stage.Playing = true
+is_open _ = false
 
 -- these are the entries of its actor, as far as no routines have to be known
 pub record StandsFor (r : Role) (entries : List Entry) : Type 0 where
@@ -77,11 +84,6 @@ abbrev pub due_of : Given → Who → Place → Bool → Call
 due_of g who p marked = if p.waits then End else due_at p.stage marked (next_call g who p)
 
 -- ---- a turn
-
--- the call that is due, unless the role ends
-abbrev pub due_unless : Bool → Call → Option Call
-due_unless true due = None
-due_unless false due = Some due
 
 -- whether a look is one from the Take of a worker that runs nothing
 abbrev pub is_take : Call → Bool
@@ -135,3 +137,11 @@ turned g limits capacity history r =
     if ends limits capacity history r
     then ended_turn history r
     else (let due = due_of g r.who r.place r.marked in played_turn g history r due (comes_to limits capacity history r.who due))
+
+-- a role has played a turn on a machine of its own
+pub record HasTurned (g : Given) (old new : Recording) (r q : Role) (turn : Turn) : Type 0 where
+  pub role_is : q ≡ (turned g old.limits old.capacity old.history r).role
+  pub book_is : new ≡ record old { history = (turned g old.limits old.capacity old.history r).history }
+  pub turn_is : turn ≡ (turned g old.limits old.capacity old.history r).turn
+  pub of : IsOf g new.limits new.capacity new.history (own (who_of q) new.history) q
+  pub legal : is_last_turn turn ≡ false → IsLegal new.limits new.capacity new.history

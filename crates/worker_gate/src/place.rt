@@ -1,6 +1,6 @@
 //! Where an actor is in its work.
 
-ghost use Rattle.std.specs.Prelude.{◌≡◌, IfSome, is_some};
+ghost use Rattle.std.specs.Prelude.{◌≡◌, true, false, IfSome, is_some};
 ghost use Rattle.tp_base.specs.Ranges.{IsCallInRange};
 ghost use Rattle.tp_model.specs.Stages.{first_stage, stage_after, waits_after};
 ghost use Rattle.tp_script.specs.Calls.{IsOfPart};
@@ -38,6 +38,7 @@ impl Place {
     }
 
     // The next call of the actor's part: while a wait is begun its end.
+    #[inline(always)]
     pub(crate) fn next_call<R: Routines>(&self, who: Who, routines: &R) -> Option<Call>
         ensures value { result ≡ next_call (given R.next_of R.after_of routines.now) who self.now }
         ensures in_range { IfSome result IsCallInRange }
@@ -63,24 +64,28 @@ impl Place {
         }
     }
 
-    // Goes on behind a call of the actor and its answer.
+    // Goes on behind a call of the actor and its answer. A last call that it makes unmarked cuts nothing, so only behind a
+    // marked one the part is asked for a further call.
     #[inline(always)]
     pub(crate) fn goes_on<R: Routines>(
         &mut self,
         who: Who,
         routines: &R,
+        marked: bool,
         call: &Call,
         answer: &Answer,
     )
+        requires { marked ≡ false → is_last call.now ≡ true → is_some (next_call (given R.next_of R.after_of routines.now) who self.old) ≡ false }
         ensures { self.new ≡ place_after (given R.next_of R.after_of routines.now) who self.old call.now answer.now }
     {
-        self.cut = self.cut || (is_last(call) && self.next_call(who, routines).is_some());
+        self.cut = self.cut || (is_last(call) && marked && self.next_call(who, routines).is_some());
         self.progresses(who, routines, call, answer);
         self.stage = stage_after(self.stage, call, answer);
         self.waits = waits_after(self.waits, call, answer);
     }
 
     // The same for how far it has come in its part alone.
+    #[inline(always)]
     fn progresses<R: Routines>(&mut self, who: Who, routines: &R, call: &Call, answer: &Answer)
         ensures { self.new ≡ record self.old { at = progress_after (given R.next_of R.after_of routines.now) who self.old call.now answer.now } }
     {

@@ -1,13 +1,14 @@
 //! What one actor does next, on a machine of its own.
 
-ghost use Rattle.std.specs.Prelude.{◌≡◌, ℕ, ◌≤◌, Bool, true, false, IfSome, [], List, length};
+ghost use Rattle.std.specs.Prelude.{◌≡◌, ◌≤◌, true, false, IfSome};
 ghost use Rattle.tp_base.specs.Ranges.{IsCallInRange};
 ghost use Rattle.tp_model.specs.History.{IsLegal};
 ghost use Rattle.tp_model.specs.Stages.{is_in_part};
 ghost use Rattle.tp_script.specs.Calls.{IsOfPart};
 ghost use Rattle.turn_lock.specs.Histories.{own};
 ghost use Rattle.worker_gate.specs.Places.{given, next_call};
-ghost use Rattle.worker_gate.specs.Roles.{due_of, due_or, due_unless, ends, is_idle_take, is_last_turn, new_role, took, turn_by, turned, who_of, IsOf};
+ghost use Rattle.worker_gate.specs.Roles.{due_of, due_or, ends, is_idle_take, is_last_turn, is_open, new_role, took, turn_by, turned, who_of, HasTurned, IsOf};
+ghost use Rattle.worker_gate.specs.Runs.{is_over_in};
 
 use crate::place::Place;
 use recorded::Recorded;
@@ -89,6 +90,14 @@ impl Role {
         self.place.cut
     }
 
+    // Whether it is a client that hasn't finished.
+    #[inline(always)]
+    pub(crate) fn is_open(&self) -> bool
+        ensures { result ≡ is_open self.now.place.stage }
+    {
+        matches!(self.place.stage, Stage::Playing)
+    }
+
     /// Plays one turn on a machine.
     ///
     /// A client that has finished, and a worker that runs nothing where all is over, has ended. Every
@@ -111,38 +120,110 @@ impl Role {
         ensures of { IsOf (given R.next_of R.after_of routines.now) (B.recording book.new).limits (B.recording book.new).capacity (B.recording book.new).history (own (who_of self.new) (B.recording book.new).history) self.new }
         ensures legal { is_last_turn result ≡ false → IsLegal (B.recording book.new).limits (B.recording book.new).capacity (B.recording book.new).history }
     {
-        let Some(call) = self.due_on(book, routines) else {
-            self.ended = true;
-            return Turn::Ended;
-        };
+        if self.is_done(book) {
+            return self.ends();
+        }
+        let call = self.due(routines);
         let mut outcome = Outcome::Look(Look::Stay);
-        book.step_into(self.who, &call, &mut outcome);
-        self.hears(routines, gate, &call, &outcome)
+        self.makes(book, routines, gate, &call, &mut outcome)
     }
 
-    // The call that it is to make on a machine as that is now, or None where it makes no further one. Who waits is in a
-    // part, and makes one.
-    #[inline(always)]
-    fn due_on<B: Recorded, R: Routines>(&self, book: &B, routines: &R) -> Option<Call>
-        requires calm { is_in_part self.now.place.stage ≡ false → self.now.place.waits ≡ false }
-        ensures value { result ≡ due_unless (ends (B.recording book.now).limits (B.recording book.now).capacity (B.recording book.now).history self.now) (due_of (given R.next_of R.after_of routines.now) self.now.who self.now.place self.now.marked) }
-        ensures in_range { IfSome result IsCallInRange }
-        ensures of_part { IfSome result (λ _. IfSome (next_call (given R.next_of R.after_of routines.now) self.now.who self.now.place) IsOfPart) }
+    // Whether it makes no further call.
+    fn is_done<B: Recorded>(&self, book: &B) -> bool
+        ensures { result ≡ ends (B.recording book.now).limits (B.recording book.now).capacity (B.recording book.now).history self.now }
+    {
+        self.ended
+            || match self.place.stage {
+                Stage::Playing | Stage::Busy { .. } => false,
+                Stage::Over => true,
+                Stage::Away | Stage::Idle => book.is_over(),
+            }
+    }
+
+    // A turn of a round, with a place for what its call comes to. A call that is of no part is known where it is made, and
+    // isn't told apart once more. Where a client is known not to have finished, whether all is over isn't asked. It is
+    // large, and compiled into the loop of a round since it is called there alone.
+    #[inline]
+    pub(crate) fn turn_into<B: Recorded, R: Routines, G: Gate>(
+        &mut self,
+        book: &mut B,
+        routines: &R,
+        gate: &G,
+        any_open: bool,
+        outcome: &mut Outcome,
+    ) -> Turn
+        requires of { IsOf (given R.next_of R.after_of routines.now) (B.recording book.old).limits (B.recording book.old).capacity (B.recording book.old).history (own (who_of self.old) (B.recording book.old).history) self.old }
+        requires any_open { any_open ≡ true → is_over_in (B.recording book.old).limits (B.recording book.old).capacity (B.recording book.old).history ≡ false }
+        ensures { HasTurned (given R.next_of R.after_of routines.now) (B.recording book.old) (B.recording book.new) self.old self.new result }
     {
         if self.ended {
-            return None;
+            return Turn::Ended;
         }
         if self.place.waits {
-            return Some(Call::End);
+            return self.makes(book, routines, gate, &Call::End, outcome);
         }
         match self.place.stage {
-            Stage::Over => None,
-            Stage::Playing | Stage::Busy { .. } => Some(self.due_in_part(routines)),
-            Stage::Away | Stage::Idle if book.is_over() => None,
-            Stage::Away => Some(Call::Attach),
-            Stage::Idle if self.marked => Some(Call::Detach),
-            Stage::Idle => Some(Call::Take),
+            Stage::Playing | Stage::Busy { .. } => self.plays(book, routines, gate, outcome),
+            Stage::Over => self.ends(),
+            Stage::Away | Stage::Idle if !any_open && book.is_over() => self.ends(),
+            Stage::Away => self.makes(book, routines, gate, &Call::Attach, outcome),
+            Stage::Idle if self.marked => self.makes(book, routines, gate, &Call::Detach, outcome),
+            Stage::Idle => self.makes(book, routines, gate, &Call::Take, outcome),
         }
+    }
+
+    // Makes no further call.
+    fn ends(&mut self) -> Turn
+        ensures role { self.new ≡ record self.old { ended = true } }
+        ensures turn { result ≡ Turn.Ended }
+    {
+        self.ended = true;
+        Turn::Ended
+    }
+
+    // Makes the due call of its part, where it plays one and waits for nothing.
+    #[inline(always)]
+    fn plays<B: Recorded, R: Routines, G: Gate>(
+        &mut self,
+        book: &mut B,
+        routines: &R,
+        gate: &G,
+        outcome: &mut Outcome,
+    ) -> Turn
+        requires of { IsOf (given R.next_of R.after_of routines.now) (B.recording book.old).limits (B.recording book.old).capacity (B.recording book.old).history (own (who_of self.old) (B.recording book.old).history) self.old }
+        requires going { ends (B.recording book.old).limits (B.recording book.old).capacity (B.recording book.old).history self.old ≡ false }
+        requires part { is_in_part self.old.place.stage ≡ true }
+        requires calm { self.old.place.waits ≡ false }
+        ensures { HasTurned (given R.next_of R.after_of routines.now) (B.recording book.old) (B.recording book.new) self.old self.new result }
+    {
+        match self.place.next_in(self.who, routines) {
+            Some(call) if !self.marked => self.makes(book, routines, gate, &call, outcome),
+            Some(_) | None => match self.place.stage {
+                Stage::Playing => self.makes(book, routines, gate, &Call::Finish, outcome),
+                _ => self.makes(book, routines, gate, &Call::Return, outcome),
+            },
+        }
+    }
+
+    // Makes the call that is due.
+    #[inline(always)]
+    fn makes<B: Recorded, R: Routines, G: Gate>(
+        &mut self,
+        book: &mut B,
+        routines: &R,
+        gate: &G,
+        call: &Call,
+        outcome: &mut Outcome,
+    ) -> Turn
+        requires of { IsOf (given R.next_of R.after_of routines.now) (B.recording book.old).limits (B.recording book.old).capacity (B.recording book.old).history (own (who_of self.old) (B.recording book.old).history) self.old }
+        requires going { ends (B.recording book.old).limits (B.recording book.old).capacity (B.recording book.old).history self.old ≡ false }
+        requires due { call.now ≡ due_of (given R.next_of R.after_of routines.now) self.old.who self.old.place self.old.marked }
+        requires in_range { IsCallInRange call.now }
+        requires of_part { IfSome (next_call (given R.next_of R.after_of routines.now) self.old.who self.old.place) IsOfPart }
+        ensures { HasTurned (given R.next_of R.after_of routines.now) (B.recording book.old) (B.recording book.new) self.old self.new result }
+    {
+        book.step_into(self.who, call, outcome);
+        self.hears(routines, gate, call, outcome)
     }
 
     // The call that it is to make. Its part is asked only where it plays one and waits for nothing.
@@ -203,12 +284,15 @@ impl Role {
         call: &Call,
         outcome: &Outcome,
     ) -> Turn
+        requires due { call.now ≡ due_of (given R.next_of R.after_of routines.now) self.old.who self.old.place self.old.marked }
+        requires of_part { IfSome (next_call (given R.next_of R.after_of routines.now) self.old.who self.old.place) IsOfPart }
         ensures role { self.new ≡ took (given R.next_of R.after_of routines.now) self.old call.now outcome.now }
         ensures turn { result ≡ turn_by outcome.now }
     {
         match outcome {
             Outcome::Done(answer) => {
-                self.place.goes_on(self.who, routines, call, answer);
+                self.place
+                    .goes_on(self.who, routines, self.marked, call, answer);
                 self.marked = false;
                 self.stops_at(gate, answer);
                 Turn::Moved

@@ -11,6 +11,7 @@ ghost use Rattle.worker_gate.specs.Rounds.{awake, round_of, scene, AllOf, ArePla
 
 use crate::role::{Gate, Role};
 use recorded::Recorded;
+use tp_base::answers::{Look, Outcome};
 use tp_base::ids::Who;
 use tp_script::Routines;
 
@@ -97,9 +98,12 @@ fn play_one<B: Recorded, R: Routines, G: Gate>(
     ensures over { (result ≡ true) ↔ HaveEnded roles.new.items }
 {
     let mut all_ended = true;
+    let mut any_open = false;
+    let mut outcome = Outcome::Look(Look::Stay);
     for place in 0..roles.len() {
-        let turn = roles[place].turn(book, routines, gate);
+        let turn = roles[place].turn_into(book, routines, gate, any_open, &mut outcome);
         all_ended = all_ended && turn.is_last();
+        any_open = any_open || roles[place].is_open();
     }
     all_ended
 }
