@@ -1,3 +1,4 @@
 pub mod Actors
 pub mod Keeping
 pub mod Noticed
+pub mod Waiting

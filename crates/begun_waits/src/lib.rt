@@ -4,7 +4,7 @@
 //! `open` takes the memory, and no other call takes any. An actor that has begun no wait begins one by
 //! `begin`, or by `begin_close` where it closes a group; `note` gives its wait a notice to give, and
 //! `give_notice` takes the first of them; `end` ends it. `is_begun`, `begun`, `wanted`, `closing` and
-//! `first_notice` ask for what the wait of an actor is.
+//! `first_notice` ask for what the wait of an actor is, and `waiting_workers` for how many workers have one.
 //!
 //! ```text
 //! let mut waits = BegunWaits::open(alloc, limits)?;
@@ -24,10 +24,11 @@
 
 #![tactic(auto)]
 
-ghost use Rattle.std.specs.Prelude.{◌≡◌, ◌+◌, ◌^◌, ◌<◌, ◌≤◌, ◌++◌, ◌∷◌, [], IfOk, IfSome, IsSome, Some, false, option_map, slice_get, true};
+ghost use Rattle.std.specs.Prelude.{◌≡◌, ◌+◌, ◌^◌, ◌<◌, ◌≤◌, ◌++◌, ◌∷◌, [], IfOk, IfSome, IsSome, Some, false, filter, length, option_map, slice_get, slice_set, true};
+ghost use Rattle.std.specs.List.{range_with_len};
 ghost use Rattle.tp_base.specs.Ranges.{AreLimitsInRange};
 ghost use Rattle.tp_model.specs.Changes.{give_notice, given_up_after, new_close, new_wait};
-ghost use Rattle.begun_waits.specs.Kept.{closing_for as closing_of_purpose};
+ghost use Rattle.begun_waits.specs.Kept.{closing_for as closing_of_purpose, waiting_from};
 ghost use Rattle.begun_waits.specs.Begun.{closing_by, is_noticed, is_waiting, notices_by, place_of as place_of_actor, place_within as place_within_of, wait_among, wanted_by, with_notices, without_waits};
 
 pub mod covers;
@@ -65,6 +66,8 @@ pub struct BegunWaits<K: KeepsCallbacks> {
     limits: Limits,
     // By the place of an actor, what its wait is for, if it has begun one.
     purposes: Vec<Option<Purpose>>,
+    // How many of these are of workers.
+    waiting: u32,
     notices: Notices,
     list: WaitList<K>,
 }
@@ -78,7 +81,7 @@ impl<K: KeepsCallbacks> Model for BegunWaits<K> {
 
     ghost view = { λ a. record { limits = a.limits; waits = a.list.waits; given_up = a.list.given_up } };
 
-    ghost invariant = { λ a. AreKept a.limits a.purposes.items a.notices a.list.waits };
+    ghost invariant = { λ a. AreKept a.limits a.purposes.items a.notices a.list.waits a.waiting };
 }
 
 // Where a number stands among so many behind the first ones.
@@ -104,6 +107,26 @@ fn place_of(limits: Limits, who: Who) -> Option<u32>
     }
 }
 
+// How many places from `first` on are for a wait, where so many are and this is written at a place.
+fn waiting_after(
+    purposes: &[Option<Purpose>],
+    first: u32,
+    waiting: u32,
+    place: u32,
+    purpose: Option<Purpose>,
+) -> u32
+    requires few { length purposes.now < 2 ^ 32 }
+    requires counted { waiting ≡ waiting_from first purposes.now }
+    requires there { place < length purposes.now }
+    ensures { result ≡ waiting_from first (slice_set purposes.now place purpose) }
+{
+    if place < first {
+        return waiting;
+    }
+    let old = purposes[place as usize];
+    waiting - u32::from(old.is_some()) + u32::from(purpose.is_some())
+}
+
 impl<K: KeepsCallbacks> BegunWaits<K> {
     ghost use Rattle.begun_waits.specs.Kept.{purpose_of};
 
@@ -120,6 +143,7 @@ impl<K: KeepsCallbacks> BegunWaits<K> {
         Ok(BegunWaits {
             limits,
             purposes,
+            waiting: 0,
             notices,
             list: WaitList::none(),
         })
@@ -155,6 +179,13 @@ impl<K: KeepsCallbacks> BegunWaits<K> {
         ensures { result ≡ is_waiting self.now.waits who }
     {
         self.purpose(who).is_some()
+    }
+
+    /// How many workers have begun a wait.
+    pub fn waiting_workers(&self) -> u32
+        ensures { result ≡ length (filter (λ number. is_waiting self.now.waits (Who.Worker number)) (range_with_len 1 self.now.limits.workers)) }
+    {
+        self.waiting
     }
 
     /// The place of an actor and what its wait is for, if it has begun one.
@@ -234,6 +265,8 @@ impl<K: KeepsCallbacks> BegunWaits<K> {
         ensures { self.new ≡ record self.old { waits = self.old.waits ++ record (new_wait who purpose.target cancel (K.rows callbacks.now)) { cleanup = purpose.cleanup } ∷ [] } }
     {
         let place = place_of(self.limits, who).unwrap();
+        let first = self.limits.clients;
+        self.waiting = waiting_after(&self.purposes, first, self.waiting, place, Some(purpose));
         self.purposes[place as usize] = Some(purpose);
         self.list
             .begin(who, purpose.target, cancel, purpose.cleanup, callbacks);
@@ -272,6 +305,8 @@ impl<K: KeepsCallbacks> BegunWaits<K> {
             self.list.end(who, how);
             return;
         };
+        let first = self.limits.clients;
+        self.waiting = waiting_after(&self.purposes, first, self.waiting, place, None);
         self.purposes[place as usize] = None;
         self.notices.clear::<Brand>(place, Blank::new(1));
         self.list.end(who, how);

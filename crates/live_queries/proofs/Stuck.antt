@@ -1,5 +1,5 @@
 -- Whether no worker can take a callback, told by the workers' numbers and the pools.
-use Rattle.std.proofs.Common.{◌≡◌, ℕ, Bool, true, false, not, ◌&&◌, ◌||◌, ◌==◌, nat_le, List, [], ◌∷◌, length, Option, Some, None, is_none, refl, sym, ap, ◌∙◌}
+use Rattle.std.proofs.Common.{◌≡◌, ◌<◌, ◌≤◌, ℕ, Bool, true, false, cond, arith, filter, not, ◌&&◌, ◌||◌, ◌==◌, nat_le, List, [], ◌∷◌, length, Option, Some, None, is_none, refl, sym, ap, ◌∙◌}
 use Rattle.std.specs.List.{list_all, list_any, range_with_len}
 use Rattle.std.proofs.Math.Bool.{and_assoc, and_comm}
 use Rattle.tp_base.specs.Actors.{is_same_actor}
@@ -12,6 +12,7 @@ use Rattle.tp_model.specs.Stalled.{are_all_busy, is_client_stuck, is_look, is_po
 use Rattle.tp_model.specs.Waits.{wait_of}
 use Rattle.tp_model.specs.World.{World, BegunWait}
 use Rattle.tp_model.proofs.Lists.{all_agree}
+use Rattle.tp_model.proofs.Refusals.{neither}
 use Rattle.live_world.proofs.Covered.{not_found}
 use Rattle.live_queries.specs.Resting.{is_pool_blocked, is_worker_free}
 use Rattle.live_queries.proofs.Numbered.{busy_by_number}
@@ -61,6 +62,27 @@ none_waits w room who (Some b) none = cc
 
 pub not_waiting : (w : World) (room : ℕ) (who : Who) → is_in_wait w who ≡ false → waits_on w room who ≡ false
 not_waiting w room who none = sym (none_waits w room who (wait_of w who) (sym (not_found (λ (b : BegunWait). is_same_actor b.actor who) w.waits) ∙ ap not none))
+
+-- where each worker that runs a callback waits, no more of them run one than wait
+all_wait : (w : World) (ns : List ℕ) → list_any (is_worker_free w) ns ≡ false → length (filter (λ n. runs_callback w (Worker n)) ns) ≤ length (filter (λ n. is_in_wait w (Worker n)) ns)
+all_wait w [] none = omega arith
+all_wait w (n ∷ ns) none =
+    let parts = neither (is_worker_free w n) (list_any (is_worker_free w) ns) none in
+    by (runs_callback w (Worker n)) (is_in_wait w (Worker n)) (filter (λ m. runs_callback w (Worker m)) ns) (filter (λ m. is_in_wait w (Worker m)) ns) parts.0 (all_wait w ns parts.1)
+  where
+    by : (runs begun : Bool) (bs ws : List ℕ) → (runs && not begun) ≡ false → length bs ≤ length ws → length (cond runs (n ∷ bs) bs) ≤ length (cond begun (n ∷ ws) ws)
+    by true true bs ws _ few = omega (arith, few)
+    by true false bs ws free few = absurd cc
+    by false true bs ws _ few = omega (arith, few)
+    by false false bs ws _ few = few
+
+-- so where more run one, one of them doesn't wait
+pub some_free : (w : World) (ns : List ℕ) → length (filter (λ n. is_in_wait w (Worker n)) ns) < length (filter (λ n. runs_callback w (Worker n)) ns) → list_any (is_worker_free w) ns ≡ true
+some_free w ns more =
+    elim (list_any (is_worker_free w) ns) as (λ b. list_any (is_worker_free w) ns ≡ b → b ≡ true) [
+      | true ↦ λ _. refl
+      | false ↦ λ none. absurd (omega (arith, more, all_wait w ns none))
+    ] refl
 
 free_is_not_stuck : (w : World) (room number : ℕ) → is_worker_free w number ≡ true → is_worker_stuck w room number ≡ false
 free_is_not_stuck w room number free =

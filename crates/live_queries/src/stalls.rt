@@ -1,7 +1,7 @@
 //! Whether the machine can go on: it is stalled where whoever could make the next call waits for what
 //! nobody will do.
 
-ghost use Rattle.std.specs.Prelude.{◌≡◌, ◌≤◌, length};
+ghost use Rattle.std.specs.Prelude.{◌≡◌, length, true};
 ghost use Rattle.std.specs.List.{list_all, list_any, range_with_len};
 ghost use Rattle.tp_model.specs.Conditions.{runs_callback};
 ghost use Rattle.tp_model.specs.Stalled.{is_client_stuck, is_pool_stuck, is_stalled, is_worker_stuck, waits_on};
@@ -52,18 +52,12 @@ fn is_busy(world: &LiveWorld, number: u32) -> bool
     }
 }
 
-// Whether a worker runs a callback and has no wait begun.
-fn is_worker_free(world: &LiveWorld, number: u32) -> bool
-    ensures { result ≡ is_worker_free world.now.world number }
+// Whether more workers run a callback than have a wait begun. Then one of those has none begun.
+fn more_run_than_wait(world: &LiveWorld) -> bool
+    ensures { result ≡ true → list_any (is_worker_free world.now.world) (range_with_len 1 (length world.now.world.workers)) ≡ true }
 {
-    is_busy(world, number) && !world.waits().is_begun(Who::Worker(number))
-}
-
-// Whether there is such a worker.
-fn is_any_free(world: &LiveWorld) -> bool
-    ensures { result ≡ list_any (is_worker_free world.now.world) (range_with_len 1 (length world.now.world.workers)) }
-{
-    (1..workers(world) + 1).any(|number| is_worker_free(world, number))
+    world.is_reachable();
+    world.waits().waiting_workers() < world.busy_workers()
 }
 
 // Whether a worker makes no call in a callback: it runs none, or waits.
@@ -131,13 +125,13 @@ fn are_all_stuck(world: &LiveWorld, room: u64) -> bool
 }
 
 /// Whether nobody can go on in a machine whose history has this room left: each client has finished
-/// or waits, each worker in a callback waits, and no callback can be taken. Walks the workers up to one
-/// that runs a callback and has no wait begun. Only where there is none does it walk the pools, and then ask
-/// the workers and the clients how far their waits have come.
+/// or waits, each worker in a callback waits, and no callback can be taken. Where more workers run a
+/// callback than have a wait begun, it walks nothing. Else it walks the pools, and then asks the workers
+/// and the clients how far their waits have come.
 #[tactic(auto, using(crate::proofs::Stuck::goes_on))]
 #[inline(always)]
 pub fn is_stalled(world: &LiveWorld, room: u64) -> bool
     ensures { result ≡ is_stalled world.now.world room }
 {
-    !is_any_free(world) && are_all_stuck(world, room)
+    !more_run_than_wait(world) && are_all_stuck(world, room)
 }

@@ -33,3 +33,4 @@ pub mod NewRow
 pub mod Operations
 pub mod Fired
 pub mod Firings
+pub mod Busy

@@ -1,7 +1,10 @@
 //! Who makes a call: the rows of clients and workers.
 
-ghost use Rattle.std.specs.Prelude.{◌≡◌, ◌+◌, IfOk, replicate};
+ghost use Rattle.std.specs.Prelude.{◌≡◌, ◌+◌, IfOk, filter, length, replicate};
+ghost use Rattle.std.specs.List.{range_with_len};
+ghost use Rattle.tp_base.specs.declared.ids.Who.TheVariants.{Worker};
 ghost use Rattle.tp_model.specs.World.{unfinished};
+ghost use Rattle.tp_model.specs.Conditions.{runs_callback};
 ghost use Rattle.tp_model.specs.Counts.{numbered};
 ghost use Rattle.tp_model.specs.Support.Allowed.{IsAllowed};
 ghost use Rattle.live_world.specs.Live.{moved};
@@ -44,6 +47,13 @@ impl LiveWorld {
                 },
             }),
         }
+    }
+
+    /// How many workers run a callback.
+    pub fn busy_workers(&self) -> u32
+        ensures { result ≡ length (filter (λ number. runs_callback self.now.world (Worker number)) (range_with_len 1 (length self.now.world.workers))) }
+    {
+        self.pools.busy()
     }
 
     // Notes that a client makes no further call.

@@ -10,7 +10,7 @@
 
 #![tactic(auto)]
 
-ghost use Rattle.std.specs.Prelude.{◌≡◌, ◌+◌, ◌^◌, ◌<◌, IfOk};
+ghost use Rattle.std.specs.Prelude.{◌≡◌, ◌+◌, ◌<◌, IfOk};
 ghost use Rattle.tp_base.specs.Ranges.{AreLimitsInRange};
 ghost use Rattle.tp_model.specs.World.{opening};
 ghost use Rattle.tp_model.specs.Sources.{sources_of};
@@ -137,7 +137,8 @@ impl LiveWorld {
 
     /// The waits that actors have begun.
     pub fn waits(&self) -> &BegunWaits<LiveCallbacks>
-        ensures { result.now.waits ≡ self.now.world.waits }
+        ensures waits { result.now.waits ≡ self.now.world.waits }
+        ensures limits { result.now.limits ≡ self.now.world.limits }
     {
         &self.waits
     }

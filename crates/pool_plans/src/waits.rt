@@ -4,10 +4,9 @@
 //! A wait that can't end yet ends nevertheless where the machine is stalled, and gives no notice then.
 
 ghost use Rattle.pool_plans.specs.Decided.{decided};
-ghost use Rattle.std.specs.Prelude.{◌≡◌, is_none, Some};
+ghost use Rattle.std.specs.Prelude.{◌≡◌, Some};
 ghost use Rattle.tp_model.specs.Calls.Waits.{begin_wait_plan, begin_acquire_plan};
 ghost use Rattle.tp_model.specs.Calls.End.{end_plan, stall_or_look};
-ghost use Rattle.tp_model.specs.Waits.{wait_of};
 ghost use Rattle.pool_plans.specs.Ending.{end_at as end_at_of};
 
 use crate::decisions::{Decision, accept};
@@ -197,18 +196,11 @@ fn end_at(
     }
 }
 
-// Whether the actor has begun no wait.
-fn has_no_wait(world: &LiveWorld, who: Who) -> bool
-    ensures { result ≡ is_none (wait_of world.now.world who) }
-{
-    !world.waits().is_begun(who)
-}
-
 /// Ends the wait that the actor has begun, if nothing is left to wait for, or if what is left can't
 /// be run in the room of the history. One for a kernel object ends as soon as the actor may take it,
 /// and one that has notices to give gives the first of them in place of ending. A wait that can't end
 /// yet ends as stalled where nobody in the machine can go on.
-#[tactic(auto, using(crate::proofs::Ending::ends_at), unfolding(tp_model::specs::Calls::End::end_plan))]
+#[tactic(auto, using(crate::proofs::Ending::ends_at, crate::proofs::Ending::refused_last), unfolding(tp_model::specs::Calls::End::end_plan))]
 pub fn end(
     world: &LiveWorld,
     who: Who,
@@ -223,10 +215,10 @@ pub fn end(
         (!actor.exists, Refusal::NoSuch),
         (actor.finished, Refusal::Released),
         (actor.is_idle, Refusal::NotRunning),
-        (has_no_wait(world, who), Refusal::NoWaitBegun),
     ]);
     if let Some(refusal) = refusal {
         return Decision::Refused(refusal);
     }
+    // Who has begun no wait is refused by how far it has come.
     end_at(world, who, room, world.progress(who, room), change, outcome)
 }

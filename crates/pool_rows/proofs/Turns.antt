@@ -1,5 +1,5 @@
 -- Tallies that are right for the workers, and stay right as one worker's row is written anew.
-use Rattle.std.proofs.Common.{◌≡◌, false, [], ◌∷◌, replicate, suc, zero, ℕ, ◌+◌, ◌<◌, ◌≤◌, ◌^◌, ◌∙◌, Bool, Bor, List, map, Option, None, Some, IfSome, length, get_or, set, inl, inr, arith, refl, ap, sym}
+use Rattle.std.proofs.Common.{◌≡◌, false, [], ◌∷◌, replicate, suc, zero, ℕ, ◌+◌, ◌-◌, ◌<◌, ◌≤◌, ◌^◌, ◌∙◌, Bool, Bor, List, map, Option, None, Some, IfSome, length, get_or, set, inl, inr, arith, refl, ap, sym}
 use Rattle.std.specs.Prelude.{filter}
 use Rattle.std.specs.Int.{from_bool}
 use Rattle.std.specs.Option.{option_copied}
@@ -9,7 +9,7 @@ use Rattle.std.proofs.lemmas.List.{length-map, length-set}
 use Rattle.tp_base.specs.declared.ids.PoolId.{PoolId}
 use Rattle.pool_rows.specs.declared.WorkerRow.{WorkerRow}
 use Rattle.pool_rows.specs.declared.tallies.PoolEntry.{PoolEntry}
-use Rattle.pool_rows.specs.Workers.{is_attached_to, runs_in, runs_long_in, unattached}
+use Rattle.pool_rows.specs.Workers.{is_attached_to, runs, runs_in, runs_long_in, unattached}
 use Rattle.pool_rows.specs.Tallies.{AreTallied, FitsTally, IsWithinTally, no_workers, tally_at, tally_of, with_one}
 use Rattle.pool_rows.proofs.Counting.{length-filter_le, length-filter_one, length-filter_set}
 use Rattle.pool_rows.proofs.Entries.{tally_at_past}
@@ -21,6 +21,16 @@ module _ (es : List PoolEntry) (ws : List WorkerRow) (tallied : AreTallied es ws
 
   changes : (test : WorkerRow → Bool) (new : WorkerRow) → length (filter test (set ws i new)) + from_bool (test old) ≡ length (filter test ws) + from_bool (test new)
   changes test new = rw is (length-filter_set test ws i new d within)
+
+  -- as one that runs a callback, too
+  pub counts_busy : from_bool (runs old) ≤ length (filter runs ws)
+  counts_busy = counts runs
+
+  pub busy_after : (new : WorkerRow) → length (filter runs ws) - from_bool (runs old) + from_bool (runs new) ≡ length (filter runs (set ws i new))
+  busy_after new = omega (arith, counts runs, changes runs new)
+
+  pub busy_fits : (new : WorkerRow) → length ws < 2 ^ 32 → length (filter runs ws) - from_bool (runs old) + from_bool (runs new) < 2 ^ 32
+  busy_fits new few = omega (arith, busy_after new, length-filter_le runs (set ws i new), length-set ws i new, few)
 
   -- the worker's pool was made, since a pool that wasn't has no workers
   made_of : (o : Option PoolId) → old.pool ≡ o → IfSome o (λ pool. pool.0 < length es)
@@ -77,6 +87,9 @@ looked_up es ws tallied i (Some x) got = rw length-map (pool_made es ws tallied 
 none_at_first : (test : WorkerRow → Bool) → test unattached ≡ false → (n : ℕ) → length (filter test (replicate n unattached)) ≡ 0
 none_at_first test fails zero = refl
 none_at_first test fails (suc n) = rw fails (none_at_first test fails n)
+
+pub busy_at_first : (n : ℕ) → 0 ≡ length (filter runs (replicate n unattached))
+busy_at_first n = sym (none_at_first runs refl n)
 
 pub tallied_at_first : (e : PoolEntry) → e.tally ≡ no_workers → (n : ℕ) → AreTallied (e ∷ []) (replicate n unattached)
 tallied_at_first e none n zero = rw (none_at_first (is_attached_to 0) refl n, none_at_first (runs_in 0) refl n, none_at_first (runs_long_in 0) refl n) none

@@ -8,9 +8,13 @@ use Rattle.pool_rows.specs.declared.WorkerRow.{WorkerRow}
 abbrev pub is_attached_to : ℕ → WorkerRow → Bool
 is_attached_to pool worker = option_map_or (λ (p : PoolId). p.0 == pool) worker.pool false
 
--- it runs a callback in this pool
+-- it runs a callback
+abbrev pub runs : WorkerRow → Bool
+runs worker = nat_lt 0 worker.callback
+
+-- in this pool
 abbrev pub runs_in : ℕ → WorkerRow → Bool
-runs_in pool worker = is_attached_to pool worker && nat_lt 0 worker.callback
+runs_in pool worker = is_attached_to pool worker && runs worker
 
 -- it runs a callback with the long mark in this pool
 abbrev pub runs_long_in : ℕ → WorkerRow → Bool

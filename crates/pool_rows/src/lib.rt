@@ -5,7 +5,7 @@
 //! one callback or nothing. `attach`, `take`, `mark_long`, `give_back` (its callback returns) and
 //! `detach` are the turns of a worker's life, in that order; `create`, `close`, `set_maximum` and
 //! `set_minimum` are a pool's. `counts` answers what a pool allows, and how many workers are attached
-//! to it and at work in it.
+//! to it and at work in it, and `busy` how many workers run a callback in any.
 //! After `attach(2, pool)` and `take(2, 9, true)` worker 2 runs callback 9, and the pool's counts
 //! have one more `attached`, `running` and `long`.
 //!
@@ -22,9 +22,9 @@
 
 #![tactic(auto)]
 
-ghost use Rattle.std.specs.Prelude.{false, true, ◌≡◌, ◌+◌, ◌<◌, ◌≤◌, ◌++◌, ◌∷◌, [], ◌↔◌, IfOk, IfErr, IfSome, IsErr, IsSome, IsSomeAnd, None, OnErr, OnOk, length, replicate};
+ghost use Rattle.std.specs.Prelude.{false, true, ◌≡◌, ◌+◌, ◌<◌, ◌≤◌, ◌++◌, ◌∷◌, [], ◌↔◌, IfOk, IfErr, IfSome, IsErr, IsSome, IsSomeAnd, None, OnErr, OnOk, filter, length, replicate};
 ghost use Rattle.pool_rows.specs.Pools.{IsMade, counts_of, made_pool, with_maximum, with_minimum, with_pool, with_worker, worker_of};
-ghost use Rattle.pool_rows.specs.Workers.{IsIdle, idle_in, unattached};
+ghost use Rattle.pool_rows.specs.Workers.{IsIdle, idle_in, runs, unattached};
 
 use std::alloc::{AllocError, Global};
 use std::marker::Model;
@@ -67,6 +67,8 @@ pub struct PoolRows {
     limit: u32,
     pools: Vec<PoolEntry>,
     workers: Vec<WorkerRow>,
+    // How many workers run a callback.
+    busy: u32,
 }
 
 impl Model for PoolRows {
@@ -112,6 +114,7 @@ impl PoolRows {
             limit: pools,
             pools: entries,
             workers: rows,
+            busy: 0,
         })
     }
 
@@ -164,6 +167,13 @@ impl PoolRows {
             return None;
         }
         self.workers.get(number as usize - 1).copied()
+    }
+
+    /// How many workers run a callback.
+    pub fn busy(&self) -> u32
+        ensures { result ≡ length (filter runs self.now.workers) }
+    {
+        self.busy
     }
 
     /// Closes the pool: `CloseThreadpool`. What it allows stays as it was.
@@ -280,6 +290,6 @@ impl PoolRows {
         ensures { self.new ≡ with_worker number (λ _. worker) self.old }
     {
         let place = number as usize - 1;
-        write_worker(&mut self.pools, &mut self.workers, place, worker);
+        self.busy = write_worker(&mut self.pools, &mut self.workers, place, worker, self.busy);
     }
 }

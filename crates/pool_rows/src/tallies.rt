@@ -1,7 +1,8 @@
 //! How many workers each pool has, kept as workers come and go.
 
-ghost use Rattle.std.specs.Prelude.{◌≡◌, ◌<◌, ◌^◌, ℕ, IfSome, length, map, slice_set};
+ghost use Rattle.std.specs.Prelude.{◌≡◌, ◌<◌, ◌^◌, ℕ, IfSome, filter, length, map, slice_set};
 ghost use Rattle.pool_rows.specs.Pools.{made_pool};
+ghost use Rattle.pool_rows.specs.Workers.{runs};
 ghost use Rattle.pool_rows.specs.Tallies.{AreTallied, FitsTally, IsWithinTally, no_workers, tally_at, with_one, with_own};
 
 use crate::{Counts, WorkerRow};
@@ -124,22 +125,26 @@ fn join(entries: &mut [PoolEntry], worker: WorkerRow)
 }
 
 // Writes the row of a worker anew, and counts it in the pool that it names and no more in the one
-// that it named before.
+// that it named before. Tells how many workers run a callback then, where so many did before.
 pub fn write_worker(
     entries: &mut [PoolEntry],
     workers: &mut [WorkerRow],
     place: usize,
     worker: WorkerRow,
-)
+    busy: u32,
+) -> u32
     requires there { place < length workers.old }
     requires few { length workers.old < 2 ^ 32 }
     requires within { IfSome worker.pool (λ pool. pool.0 < length entries.old) }
     requires tallied { AreTallied entries.old workers.old }
+    requires busy { busy ≡ length (filter runs workers.old) }
     ensures workers { workers.new ≡ slice_set workers.old place worker }
     ensures rows { map (λ e. e.row) entries.new ≡ map (λ e. e.row) entries.old }
     ensures tallied { AreTallied entries.new workers.new }
+    ensures busy { result ≡ length (filter runs workers.new) }
 {
     let old = mem::replace(&mut workers[place], worker);
     leave(entries, old);
     join(entries, worker);
+    busy - u32::from(old.callback > 0) + u32::from(worker.callback > 0)
 }

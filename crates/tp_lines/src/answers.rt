@@ -229,7 +229,10 @@ pub fn put_answer(answer: &Answer, out: &mut [u8], at: usize) -> usize
         } => {
             let end =
                 row!(out, at; Word::Taken, number(*callback) lettered(b'o', u64::from(object.0)) lettered(b'r', u64::from(routine.0)) lettered(b'x', *context));
-            put_result(*taken, out, end)
+            match taken {
+                TakeResult::Plain => line::word(Word::Plain, out, end),
+                _ => put_result(*taken, out, end),
+            }
         }
         Answer::Returned {
             section,
@@ -248,7 +251,7 @@ pub fn put_answer(answer: &Answer, out: &mut [u8], at: usize) -> usize
 }
 
 // With what a callback is called, behind a space.
-#[inline(always)]
+#[inline(never)]
 fn put_result(taken: TakeResult, out: &mut [u8], at: usize) -> usize
     requires { at + 80 ≤ length out.old }
     ensures { IsPut at out.old result out.new (parts_text (parts_of (row_of_result taken))) 80 }
@@ -264,7 +267,7 @@ fn put_result(taken: TakeResult, out: &mut [u8], at: usize) -> usize
 }
 
 // Why a call was refused, behind a space.
-#[inline(always)]
+#[inline(never)]
 fn put_refusal(refusal: Refusal, out: &mut [u8], at: usize) -> usize
     requires { at + 80 ≤ length out.old }
     ensures { IsPut at out.old result out.new (parts_text (parts_of (row_of_refusal refusal))) 80 }

@@ -15,7 +15,6 @@ use tp_base::answers::{ActionKind, SlotWord};
 use tp_base::ids::KernelId;
 
 /// A byte.
-#[inline(always)]
 pub fn byte(byte: u8, out: &mut [u8], at: usize) -> usize
     requires { at < length out.old }
     ensures text { take result out.new ≡ take at out.old ++ byte ∷ [] }
@@ -26,7 +25,6 @@ pub fn byte(byte: u8, out: &mut [u8], at: usize) -> usize
 }
 
 /// A text. One that is known stands in the code and is written whole.
-#[inline(always)]
 pub fn text(text: &[u8], out: &mut [u8], at: usize) -> usize
     requires { at + length text.now ≤ length out.old }
     ensures text { take result out.new ≡ take at out.old ++ text.now }
@@ -58,7 +56,6 @@ fn digit_count(number: u64) -> usize
 }
 
 /// The digits of a number.
-#[inline(always)]
 pub fn digits(number: u64, out: &mut [u8], at: usize) -> usize
     requires { at + 20 ≤ length out.old }
     ensures { IsPut at out.old result out.new (decimal number) 20 }
@@ -70,6 +67,7 @@ pub fn digits(number: u64, out: &mut [u8], at: usize) -> usize
 }
 
 // The digits of a number that has more than one. Where it is known how many, they are written with no loop.
+#[inline(never)]
 fn many_digits(number: u64, out: &mut [u8], at: usize) -> usize
     requires room { at + 20 ≤ length out.old }
     requires more { 10 ≤ number }
@@ -83,6 +81,10 @@ fn many_digits(number: u64, out: &mut [u8], at: usize) -> usize
         sized_digits(number, 4, out, at)
     } else if number < 100_000 {
         sized_digits(number, 5, out, at)
+    } else if number < 1_000_000 {
+        sized_digits(number, 6, out, at)
+    } else if number < 10_000_000 {
+        sized_digits(number, 7, out, at)
     } else {
         sized_digits(number, digit_count(number), out, at)
     }
@@ -120,7 +122,7 @@ pub fn word(word: Word, out: &mut [u8], at: usize) -> usize
     first(word, out, start)
 }
 
-/// A space, and what became of an action on return. Each is a text that is known.
+/// A space, and what became of an action on return.
 #[inline(always)]
 pub fn slot(slot: SlotWord, out: &mut [u8], at: usize) -> usize
     requires { at + 31 ≤ length out.old }
@@ -128,6 +130,18 @@ pub fn slot(slot: SlotWord, out: &mut [u8], at: usize) -> usize
 {
     match slot {
         SlotWord::Unasked => text(b" -", out, at),
+        _ => slot_word(slot, out, at),
+    }
+}
+
+// The same. Each is a text that is known.
+#[inline(never)]
+fn slot_word(slot: SlotWord, out: &mut [u8], at: usize) -> usize
+    requires { at + 31 ≤ length out.old }
+    ensures { IsPut at out.old result out.new (32 ∷ text_of_word (Word.Slot slot)) 31 }
+{
+    match slot {
+        SlotWord::Unasked => word(Word::Slot(SlotWord::Unasked), out, at),
         SlotWord::Performed => word(Word::Slot(SlotWord::Performed), out, at),
         SlotWord::NotOwner => word(Word::Slot(SlotWord::NotOwner), out, at),
         SlotWord::OverMaximum => word(Word::Slot(SlotWord::OverMaximum), out, at),
@@ -149,7 +163,6 @@ pub fn action(kind: ActionKind, out: &mut [u8], at: usize) -> usize
 }
 
 /// A space and a number.
-#[inline(always)]
 pub fn number(number: u64, out: &mut [u8], at: usize) -> usize
     requires { at + 21 ≤ length out.old }
     ensures { IsPut at out.old result out.new (32 ∷ decimal number) 21 }
@@ -159,7 +172,6 @@ pub fn number(number: u64, out: &mut [u8], at: usize) -> usize
 }
 
 /// A space, a letter and a number.
-#[inline(always)]
 pub fn lettered(letter: u8, number: u64, out: &mut [u8], at: usize) -> usize
     requires { at + 22 ≤ length out.old }
     ensures { IsPut at out.old result out.new (32 ∷ letter ∷ decimal number) 22 }

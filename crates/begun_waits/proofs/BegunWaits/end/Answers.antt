@@ -6,7 +6,7 @@ use Rattle.begun_waits.proofs.BegunWaits.end.Goals as goal
 pub invariant_of-self : goal.invariant_of-self
 invariant_of-self g c =
     let i = c.self.inside in
-    rw c.end.ensures (kept_unended i.limits i.purposes.items i.notices i.list.waits c.self.invariant c.args.who (sym c.place_of.ensures ∙ c.in_default.is))
+    rw c.end.ensures (kept_unended i.limits i.purposes.items i.notices i.list.waits i.waiting c.self.invariant c.args.who (sym c.place_of.ensures ∙ c.in_default.is))
 
 pub clear-requires-clause-there : goal.clear-requires-clause-there
 clear-requires-clause-there g c = omega (arith, place_there c.self.inside.limits c.args.who c.in-Some.place (sym c.place_of.ensures ∙ c.in-Some.is), c.self.invariant.lists)
@@ -14,4 +14,4 @@ clear-requires-clause-there g c = omega (arith, place_there c.self.inside.limits
 pub invariant_of-self-2 : goal.invariant_of-self-2
 invariant_of-self-2 g c =
     let i = c.self.inside in
-    rw (c.clear.ensures, c.end-2.ensures) (kept_ended i.limits i.purposes.items i.notices i.list.waits c.self.invariant c.args.who c.in-Some.place (sym c.place_of.ensures ∙ c.in-Some.is))
+    rw (c.clear.ensures, c.end-2.ensures) (kept_ended i.limits i.purposes.items i.notices i.list.waits i.waiting c.self.invariant c.args.who c.in-Some.place (sym c.place_of.ensures ∙ c.in-Some.is) _ (rw c.deref.ensures.value at c.waiting_after-self-inside.ensures))

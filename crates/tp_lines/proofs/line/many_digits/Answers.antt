@@ -16,3 +16,16 @@ sized_digits-requires-then-number-lt10000-clause-size c =
 pub sized_digits-requires-then-number-lt100000-clause-size : goal.sized_digits-requires-then-number-lt100000-clause-size
 sized_digits-requires-then-number-lt100000-clause-size c =
     omega (arith, length_four c.args.number (omega arith) (omega arith), length_one (c.args.number / 10000) (omega arith))
+
+pub sized_digits-requires-then-number-lt1000000-clause-size : goal.sized_digits-requires-then-number-lt1000000-clause-size
+sized_digits-requires-then-number-lt1000000-clause-size c =
+    omega (arith, length_four c.args.number (omega arith) (omega arith), length_two (c.args.number / 10000) (omega arith) (omega arith))
+
+pub sized_digits-requires-then-number-lt10000000-clause-size : goal.sized_digits-requires-then-number-lt10000000-clause-size
+sized_digits-requires-then-number-lt10000000-clause-size c =
+    omega (
+      arith,
+      length_four c.args.number (omega arith) (omega arith),
+      length_pair (c.args.number / 10000) (omega arith) (omega arith),
+      length_one (c.args.number / 10000 / 100) (omega arith),
+    )
