@@ -9,7 +9,7 @@ ghost use Rattle.tp_model.specs.Calls.Kernels.{create_event_plan, create_semapho
 
 use crate::decisions::{Decision, accept};
 use crate::refusals::{actor_refusal, either, first_of};
-use crate::triggers::fire;
+use crate::triggers::{fired, first_number};
 use live_world::LiveWorld;
 use tp_base::answers::{Answer, Outcome, Refusal};
 use tp_base::calls::Lock;
@@ -169,11 +169,13 @@ pub fn set_event(
     }
     let trigger = Trigger::SetEvent { kernel };
     let count = world.sources().count_fired(&trigger);
-    let first = fire(world, trigger, count, change);
-    {
-        *outcome = Outcome::Done(Answer::Queued { first, count });
-        Decision::Accepted
-    }
+    let first = first_number(world.next_number(), count);
+    accept(
+        change,
+        outcome,
+        Answer::Queued { first, count },
+        fired(world, trigger, count),
+    )
 }
 
 /// An event is no longer signalled.
@@ -234,13 +236,17 @@ pub fn release_semaphore(
         count: more,
     };
     let count = world.sources().count_fired(&trigger);
-    let first = fire(world, trigger, count, change);
-    *outcome = Outcome::Done(Answer::Count {
-        previous,
-        first,
-        count,
-    });
-    Decision::Accepted
+    let first = first_number(world.next_number(), count);
+    accept(
+        change,
+        outcome,
+        Answer::Count {
+            previous,
+            first,
+            count,
+        },
+        fired(world, trigger, count),
+    )
 }
 
 /// Gives back one taking of a mutex or a critical section that the actor owns.

@@ -8,7 +8,7 @@ ghost use Rattle.tp_model.specs.Calls.Timers.{set_timer_plan, set_timer_ex_plan,
 
 use crate::decisions::{Decision, accept};
 use crate::refusals::{actor_refusal, either, first_of, object_refusal};
-use crate::triggers::fire;
+use crate::triggers::{fired, first_number};
 use live_world::LiveWorld;
 use tp_base::answers::{Answer, Outcome, Refusal};
 use tp_base::calls::{CLOCK_END, Kind};
@@ -29,8 +29,8 @@ macro_rules! set_with {
         if let Some(refusal) = refusal {
             return Decision::Refused(refusal);
         }
-        let $first = fire($world, $trigger, $count, $change);
-        *$outcome = Outcome::Done($told); Decision::Accepted
+        let $first = first_number($world.next_number(), $count);
+        accept($change, $outcome, $told, fired($world, $trigger, $count))
     }};
 }
 
@@ -162,9 +162,11 @@ pub fn advance(
     }
     let trigger = Trigger::Advance { now };
     let count = world.sources().count_fired(&trigger);
-    let first = fire(world, trigger, count, change);
-    {
-        *outcome = Outcome::Done(Answer::Advanced { now, first, count });
-        Decision::Accepted
-    }
+    let first = first_number(world.next_number(), count);
+    accept(
+        change,
+        outcome,
+        Answer::Advanced { now, first, count },
+        fired(world, trigger, count),
+    )
 }

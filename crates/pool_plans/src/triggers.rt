@@ -13,18 +13,14 @@ pub(crate) fn first_number(next: u64, count: u32) -> u64
     if count == 0 { 0 } else { next }
 }
 
-/// Writes down that a trigger makes so many callbacks, and tells their first number, or 0 where
-/// there are none.
-pub(crate) fn fire(world: &LiveWorld, trigger: Trigger, count: u32, change: &mut Change) -> u64
+/// The change by which a trigger makes so many callbacks.
+pub(crate) fn fired(world: &LiveWorld, trigger: Trigger, count: u32) -> Change
     requires { world.now.made < 2 ^ 63 }
-    ensures first { result ≡ first_of (world.now.made + 1) count }
-    ensures change { change.new ≡ Change.Fire trigger (world.now.made + 1) count }
+    ensures { result ≡ Change.Fire trigger (world.now.made + 1) count }
 {
-    let next = world.next_number();
-    *change = Change::Fire {
+    Change::Fire {
         trigger,
-        first: next,
+        first: world.next_number(),
         count,
-    };
-    first_number(next, count)
+    }
 }

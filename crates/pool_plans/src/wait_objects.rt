@@ -4,9 +4,9 @@ ghost use Rattle.pool_plans.specs.Decided.{decided};
 ghost use Rattle.std.specs.Prelude.{◌≡◌, ◌+◌, ◌^◌, ◌<◌, Some};
 ghost use Rattle.tp_model.specs.Calls.WaitObjects.{names_unmade as names_unmade_in, names_lock as names_lock_in, set_wait_plan};
 
-use crate::decisions::Decision;
+use crate::decisions::{Decision, accept};
 use crate::refusals::{either, first_of, object_refusal};
-use crate::triggers::fire;
+use crate::triggers::{fired, first_number};
 use live_world::LiveWorld;
 use tp_base::answers::{Answer, Outcome, Refusal};
 use tp_base::calls::Kind;
@@ -73,9 +73,11 @@ pub fn set_wait(
         timeout,
     };
     let count = world.sources().count_fired(&trigger);
-    let first = fire(world, trigger, count, change);
-    {
-        *outcome = Outcome::Done(Answer::Queued { first, count });
-        Decision::Accepted
-    }
+    let first = first_number(world.next_number(), count);
+    accept(
+        change,
+        outcome,
+        Answer::Queued { first, count },
+        fired(world, trigger, count),
+    )
 }
