@@ -4,7 +4,6 @@ use Rattle.std.specs.List.{All, slice_get}
 use Rattle.std.proofs.lemmas.Bool.{cases_eq, cases_lt, eq-eqb, eqb-false, le-leb, lt-leb, ne_eqb}
 use Rattle.std.proofs.lemmas.List.{get_or_past, length-map}
 use Rattle.std.proofs.lemmas.Option.{slice_get-map}
-use Rattle.linked_lists.specs.Linked as linked
 use Rattle.linked_lists.specs.Linked.{AreOwned, Linked, list_of, owner_of, tally, times}
 use Rattle.tp_base.specs.Armings.{is_armed}
 use Rattle.kernel_events.specs.Armed.{HasDistinctObjects, first_on, waits_on}
@@ -73,16 +72,13 @@ module _ (kernels objects : ℕ) (order own : Linked) (are : AreThreaded kernels
     own_0 : owner_of order 0 ≡ 1
     own_0 = owns.own 0 (omega (arith, are.one_list)) ∙ are.one_list
 
-    own_past : (o : ℕ) → objects < o → owner_of order o ≡ 1
-    own_past o past = get_or_past order.owners o _ (omega (arith, past, are.owned)) ∙ are.one_list
-
     pub within : (o : ℕ) → 1 ≤ times o (list_of order 0) → (1 ≤ o) × (o ≤ objects)
     within o there =
         ⊎_elim
         (λ (zero : o ≡ 0). absurd (none (ap (owner_of order) zero ∙ own_0)))
         (λ (more : o ≢ 0).
         ⊎_elim
-        (λ (past : objects < o). absurd (none (own_past o past)))
+        (λ (past : objects < o). absurd (none (are.beyond o past)))
         (λ (most : o ≤ objects). (omega (arith, more), most))
         (cases_lt objects o))
         (cases_eq o 0)
@@ -104,15 +100,15 @@ module _ (kernels objects : ℕ) (order own : Linked) (are : AreThreaded kernels
     pub shown_at : (o : ℕ) → is_armed o (armings_of kernels own (list_of order 0)) ≡ (owner_of order (place_of o) == 0)
     shown_at o =
         ⊎_elim
-        (λ (past : objects < o). shown_armed o ∙ ap (λ n. n == 0) (own_past o past) ∙ sym (ap (λ n. n == 0) own_0) ∙ ap (λ b. owner_of order (if b then o else 0) == 0) (sym (lt-leb o objects past)))
+        (λ (past : objects < o). shown_armed o ∙ ap (λ n. n == 0) (are.beyond o past) ∙ sym (ap (λ n. n == 0) own_0) ∙ ap (λ b. owner_of order (if b then o else 0) == 0) (sym (lt-leb o objects past)))
         (λ (most : o ≤ objects). shown_armed o ∙ ap (λ b. owner_of order (if b then o else 0) == 0) (sym (le-leb o objects most)))
         (cases_lt objects o)
 
     -- one that isn't armed
     pub record IsFree (o : ℕ) : Type 0 where
       pub none : times o (list_of order 0) ≡ 0
-      pub free : linked.IsFree order o
-      pub own_free : linked.IsFree own (kernels + o)
+      pub owner : owner_of order o ≡ length order.lists
+      pub own_owner : owner_of own (kernels + o) ≡ length own.lists
 
     pub free : (o : ℕ) → 1 ≤ o → o ≤ objects → is_armed o (armings_of kernels own (list_of order 0)) ≡ false → IsFree o
     free o least most not_armed =
@@ -122,8 +118,8 @@ module _ (kernels objects : ℕ) (order own : Linked) (are : AreThreaded kernels
         in
         record {
           none = once o ∙ ap (λ b. tally b) no;
-          free = record { there = omega (arith, are.numbered, most); not_own = omega (arith, are.one_list, least); in_none = owners.0 ∙ sym are.one_list };
-          own_free = record { there = omega (arith, are.own_numbered, most); not_own = omega (arith, are.own_lists, least); in_none = owners.1 ∙ sym are.own_lists };
+          owner = owners.0 ∙ sym are.one_list;
+          own_owner = owners.1 ∙ sym are.own_lists;
         }
 
     -- one that is armed

@@ -24,14 +24,13 @@ objects_on kernels own kernel objects = filter (λ object. owner_of own (kernels
 abbrev pub ArePaired : ℕ → ℕ → ℕ → Type 0
 ArePaired kernels owner own_owner = ((owner ≡ 1) × (own_owner ≡ kernels + 1)) ⊎ ((owner ≡ 0) × (own_owner ≤ kernels))
 
--- there are places for all numbers, and the list of a kernel object is that of all with the others left out
+-- there is room for all numbers, and the list of a kernel object is that of all with the others left out
 pub record AreThreaded (kernels objects : ℕ) (order own : Linked) : Type 0 where
   pub fits : kernels + objects + 1 < 2 ^ 32
   pub one_list : length order.lists ≡ 1
   pub own_lists : length own.lists ≡ kernels + 1
-  pub numbered : length order.numbers ≡ objects + 1
-  pub own_numbered : length own.numbers ≡ kernels + objects + 1
-  pub owned : length order.owners ≡ objects + 1
-  pub own_owned : length own.owners ≡ kernels + objects + 1
+  pub room : order.room ≡ objects + 1
+  pub own_room : own.room ≡ kernels + objects + 1
+  pub beyond : (object : ℕ) → objects < object → owner_of order object ≡ 1
   pub paired : (object : ℕ) → 1 ≤ object → object ≤ objects → ArePaired kernels (owner_of order object) (owner_of own (kernels + object))
   pub threads : (kernel : ℕ) → list_of own kernel ≡ map (λ object. kernels + object) (objects_on kernels own kernel (list_of order 0))

@@ -1,7 +1,7 @@
 //! The wait objects that are armed: a list of all in the order of arming, and one for each kernel
 //! object.
 
-ghost use Rattle.std.specs.Prelude.{◌≡◌, ◌+◌, ◌<◌, ◌≤◌, ◌^◌, ◌++◌, ◌∷◌, [], All, IfOk, false, if◌then◌else◌, length, min, nat_le, replicate};
+ghost use Rattle.std.specs.Prelude.{◌≡◌, ◌≤◌, ◌++◌, ◌∷◌, [], All, IfOk, false, if◌then◌else◌, length, min, nat_le};
 ghost use Rattle.tp_base.specs.Armings.{is_armed, without_arming};
 ghost use Rattle.kernel_events.specs.Armed.{HasDistinctObjects, first_on, waits_on};
 
@@ -18,7 +18,7 @@ pub(crate) struct Armings {
     // The greatest numbers of a kernel object and of a wait object.
     kernels: u32,
     objects: u32,
-    // Its list 0 has all that are armed; object o is at the place o.
+    // Its list 0 has all that are armed; object o is at the place o. A place is made as it is first needed.
     order: LinkedLists,
     // The list of a kernel object's number has those that are armed on it; object o is at the place
     // `kernels` + o.
@@ -41,23 +41,6 @@ impl Model for Armings {
     ghost invariant = { λ a. AreThreaded a.kernels a.objects a.order a.own };
 }
 
-// Empty lists, and behind their own places one for each object, in no list.
-fn open_lists(alloc: Global, lists: u32, objects: u32) -> Result<LinkedLists, AllocError>
-    requires { lists + objects < 2 ^ 32 }
-    ensures { IfOk result (λ made. made ≡ record {
-      room = lists + objects;
-      numbers = replicate (lists + objects) 0;
-      owners = replicate (lists + objects) lists;
-      lists = replicate lists [];
-    }) }
-{
-    let mut made = LinkedLists::open(alloc, lists, objects)?;
-    for _ in 0..objects {
-        made.add(0);
-    }
-    Ok(made)
-}
-
 impl Armings {
     // Nothing is armed. There is memory for the kernel objects of the numbers up to `kernels`, and the
     // wait objects of those up to `objects`.
@@ -73,8 +56,8 @@ impl Armings {
         Ok(Armings {
             kernels,
             objects,
-            order: open_lists(alloc, 1, objects)?,
-            own: open_lists(alloc, kernels + 1, objects)?,
+            order: LinkedLists::open(alloc, 1, objects)?,
+            own: LinkedLists::open(alloc, kernels + 1, objects)?,
         })
     }
 
@@ -136,11 +119,11 @@ impl Armings {
         ensures { self.new ≡ record self.old { armed = self.old.armed ++ record { object = object; kernel = kernel } ∷ [] } }
     {
         let mut steps = Steps::<L>::open(blank);
-        // Who owns its place says that it is free, as it isn't armed.
-        let _ = self.order.owner(object.0);
+        let own_place = self.kernels + object.0;
+        self.order.reach(object.0);
+        self.own.reach(own_place);
         self.order.put_last(0, object.0, &mut steps);
-        self.own
-            .put_last(kernel.0, self.kernels + object.0, &mut steps);
+        self.own.put_last(kernel.0, own_place, &mut steps);
     }
 
     // Disarms a wait object, and says whether it was armed.

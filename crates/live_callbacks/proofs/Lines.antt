@@ -148,6 +148,14 @@ outstanding_agree objects object within (c ∷ cs) = (
   outstanding_agree objects object within cs,
 )
 
+-- nothing is outstanding for an object that can't be made
+pub outstanding_past : (pools objects : ℕ) (object : ObjectId) → objects < object.0 → (cs : List CallbackRow) → AllByRecursion (IsAtHome pools objects) cs → AllByRecursion (λ c. is_outstanding_for (Object object) c ≡ false) cs
+outstanding_past pools objects object past [] homes = tt
+outstanding_past pools objects object past (c ∷ cs) homes = (
+  ap (λ b. b && is_held_for (Object object) c.status) (ne_eqb c.object.0 object.0 (λ e. absurd (omega (arith, e, homes.0.1, past)))),
+  outstanding_past pools objects object past cs homes.1,
+)
+
 -- ---- groups
 
 pub listed_group : (groups group : ℕ) → has_list groups group ≡ true → group < groups + 1

@@ -216,6 +216,17 @@ impl LiveCallbacks {
         high + normal + low
     }
 
+    /// How many callbacks are outstanding for an object. Those that have no object are outstanding for object 0.
+    #[inline(always)]
+    pub fn count_outstanding(&self, object: ObjectId) -> u32
+        ensures { result ≡ length (outstanding_among self.now.rows object) }
+    {
+        if object.0 > self.lists.objects {
+            return 0;
+        }
+        self.lists.outstanding.len(object.0)
+    }
+
     /// The first callback that is outstanding for an object, lent, or None where none is. Those that have no
     /// object are outstanding for object 0.
     #[inline(always)]

@@ -1,5 +1,6 @@
 -- What is outstanding for an object, as the lists of objects give it.
 use Rattle.std.proofs.Common.{◌≡◌, ℕ, ◌+◌, ◌<◌, ◌≤◌, Bool, true, false, cond, ◌&&◌, ◌==◌, List, [], ◌∷◌, length, nat_lt, slice_get, Option, Some, None, refl, sym, ap, ◌∙◌, subst, arith, filter, find, option_map, eqb-true, lt-ltb}
+use Rattle.std.proofs.lemmas.List.Sums.{length-filter, count_by-le-length}
 use Rattle.tp_base.specs.declared.ids.ObjectId.{ObjectId}
 use Rattle.tp_base.specs.declared.rows.Status.{Status}
 use Rattle.tp_base.specs.declared.rows.Status.TheVariants.{Expected, Issued, Pending, Running, Returned, Cancelled}
@@ -158,48 +159,36 @@ first_is_among w object next is = subst (IsAmong number_of (outstanding_of w obj
 -- ---- they are counted
 
 -- what was counted so far, and what is left
-pub record Counting (ys : List CallbackRow) (next : Option CallbackRow) (all pending running : ℕ) : Type 0 where
-  pub all_counted : all + length (rest number_of ys next) ≡ length ys
+pub record Counting (ys : List CallbackRow) (next : Option CallbackRow) (pending running : ℕ) : Type 0 where
   pub pending_counted : pending + length (filter is_pending_callback (rest number_of ys next)) ≡ length (filter is_pending_callback ys)
   pub running_counted : running + length (filter is_running_callback (rest number_of ys next)) ≡ length (filter is_running_callback ys)
-  pub pending_within : pending ≤ all
-  pub running_within : running ≤ all
   pub among : IsAmong number_of ys next
 
-pub counting_first : (w : World) (next_number : ℕ) (object : ObjectId) (next : Option CallbackRow) → IsRising 1 next_number w.callbacks → next ≡ slice_get (outstanding_of w object) 0 → Counting (outstanding_of w object) next 0 0 0
+pub counting_first : (w : World) (next_number : ℕ) (object : ObjectId) (next : Option CallbackRow) → IsRising 1 next_number w.callbacks → next ≡ slice_get (outstanding_of w object) 0 → Counting (outstanding_of w object) next 0 0
 counting_first w next_number object next rising is =
     let whole = first_whole w next_number object next rising is in
     record {
-      all_counted = omega (arith, ap length whole);
       pending_counted = omega (arith, ap (λ xs. length (filter is_pending_callback xs)) whole);
       running_counted = omega (arith, ap (λ xs. length (filter is_running_callback xs)) whole);
-      pending_within = omega arith;
-      running_within = omega arith;
       among = first_is_among w object next is;
     }
 
 -- one more
-pub record CountsOne (w : World) (object : ObjectId) (c : CallbackRow) (next : Option CallbackRow) (all pending running : ℕ) : Type 0 where
+pub record CountsOne (w : World) (object : ObjectId) (c : CallbackRow) (next : Option CallbackRow) (pending running : ℕ) : Type 0 where
   pub at : AtNext w object c next
-  pub fewer : all < length (outstanding_of w object)
-  pub goes_on : (after : Option CallbackRow) (more waiting busy : ℕ) → after ≡ find (λ (x : CallbackRow). nat_lt c.number x.number) (outstanding_of w c.object) → more ≡ all + 1 → waiting ≡ pending + cond (is_pending_callback c) 1 0 → busy ≡ running + cond (is_running_callback c) 1 0
-      → Counting (outstanding_of w object) after more waiting busy
+  pub goes_on : (after : Option CallbackRow) (waiting busy : ℕ) → after ≡ find (λ (x : CallbackRow). nat_lt c.number x.number) (outstanding_of w c.object) → waiting ≡ pending + cond (is_pending_callback c) 1 0 → busy ≡ running + cond (is_running_callback c) 1 0
+      → Counting (outstanding_of w object) after waiting busy
 
-pub counts_one : (w : World) (next_number : ℕ) (object : ObjectId) (c : CallbackRow) (next : Option CallbackRow) (all pending running : ℕ)
-    → IsRising 1 next_number w.callbacks → next ≡ Some c → Counting (outstanding_of w object) next all pending running → CountsOne w object c next all pending running
-counts_one w next_number object c next all pending running rising is k =
-    let ys : List CallbackRow = outstanding_of w object in
+pub counts_one : (w : World) (next_number : ℕ) (object : ObjectId) (c : CallbackRow) (next : Option CallbackRow) (pending running : ℕ)
+    → IsRising 1 next_number w.callbacks → next ≡ Some c → Counting (outstanding_of w object) next pending running → CountsOne w object c next pending running
+counts_one w next_number object c next pending running rising is k =
     let at = at_next w next_number object c next rising is k.among in
     record {
       at = at;
-      fewer = omega (arith, k.all_counted, ap length (at.step (find (λ (x : CallbackRow). nat_lt c.number x.number) (outstanding_of w c.object)) refl));
-      goes_on = λ after more waiting busy found one_more one_waiting one_busy.
+      goes_on = λ after waiting busy found one_waiting one_busy.
           record {
-            all_counted = omega (arith, k.all_counted, ap length (at.step after found), one_more);
-            pending_counted = counted is_pending_callback (is_pending_callback c) pending waiting (rest number_of ys after) one_waiting (ap (λ xs. length (filter is_pending_callback xs)) (at.step after found)) k.pending_counted;
-            running_counted = counted is_running_callback (is_running_callback c) running busy (rest number_of ys after) one_busy (ap (λ xs. length (filter is_running_callback xs)) (at.step after found)) k.running_counted;
-            pending_within = fits (is_pending_callback c) pending waiting more k.pending_within one_waiting one_more;
-            running_within = fits (is_running_callback c) running busy more k.running_within one_busy one_more;
+            pending_counted = counted is_pending_callback (is_pending_callback c) pending waiting (rest number_of (outstanding_of w object) after) one_waiting (ap (λ xs. length (filter is_pending_callback xs)) (at.step after found)) k.pending_counted;
+            running_counted = counted is_running_callback (is_running_callback c) running busy (rest number_of (outstanding_of w object) after) one_busy (ap (λ xs. length (filter is_running_callback xs)) (at.step after found)) k.running_counted;
             among = at.among after found;
           };
     }
@@ -209,9 +198,18 @@ counts_one w next_number object c next all pending running rising is k =
     counted p true before now xs e left so_far = omega (arith, so_far, e, left)
     counted p false before now xs e left so_far = omega (arith, so_far, e, left)
 
-    fits : (b : Bool) (before now more : ℕ) → before ≤ all → now ≡ before + cond b 1 0 → more ≡ all + 1 → now ≤ more
-    fits true before now more le e m = omega (arith, e, m, le)
-    fits false before now more le e m = omega (arith, e, m, le)
+-- no more of them pass than there are callbacks
+pub few : (w : World) (object : ObjectId) (p : CallbackRow → Bool) (n : ℕ) {most : ℕ} → n ≤ length (filter p (outstanding_of w object)) → length w.callbacks ≤ most → n ≤ most
+few w object p n within fits =
+    omega (
+      arith,
+      within,
+      fits,
+      length-filter p (outstanding_of w object),
+      count_by-le-length p (outstanding_of w object),
+      length-filter (is_outstanding_for (Object object)) w.callbacks,
+      count_by-le-length (is_outstanding_for (Object object)) w.callbacks,
+    )
 
 -- ---- the pending ones among them
 

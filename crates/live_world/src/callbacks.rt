@@ -1,13 +1,13 @@
 //! Callbacks: a new one, one that is cancelled, and the slots that they take.
 
-ghost use Rattle.std.specs.Prelude.{◌≡◌, ◌+◌, ◌^◌, ◌<◌, true, Some};
+ghost use Rattle.std.specs.Prelude.{◌≡◌, ◌+◌, ◌^◌, ◌<◌, true, None, Some, if◌then◌else◌};
 ghost use Rattle.tp_model.specs.Changes.{with_callback};
 ghost use Rattle.tp_model.specs.Conditions.{lacks_slots_for};
 ghost use Rattle.tp_model.specs.Counts.{callback_of, is_operating as is_operating_by, is_pending as is_pending_by, is_running as is_running_by};
 ghost use Rattle.tp_model.specs.Support.Allowed.{IsAllowed};
 ghost use Rattle.tp_model.specs.Waits.{cancelled};
 ghost use Rattle.live_world.specs.Live.{moved, with_world};
-ghost use Rattle.tp_model.specs.Sources.{new_callback as new_callback_of};
+ghost use Rattle.tp_model.specs.Sources.{count_fired, new_callback as new_callback_of};
 ghost use Rattle.tp_model.specs.Calls.Timers.{count_expiring};
 ghost use Rattle.tp_model.specs.Calls.WaitObjects.{lacks_slots_after};
 
@@ -90,20 +90,29 @@ impl LiveWorld {
         self.limits.slots < self.callbacks.len() + self.sources.armed_without(object) + needed
     }
 
-    /// Whether there is no slot for all that would expire, if the clock came to a moment. An armed
-    /// wait whose timeout is due has one. Walks what is due, if that isn't noted, and once more if
-    /// there are too few slots for all of it, but enough for all of it less one for each armed wait.
-    pub fn lacks_slots_at(&self, now: u64) -> bool
-        ensures { result ≡ lacks_slots_for self.now.world (count_expiring self.now.world now) }
+    /// How many callbacks come of what is due, if the clock comes to a moment, or None where there is no
+    /// slot for all of it. An armed wait whose timeout is due has one. Walks what is due, if that isn't
+    /// noted, and once more if there are too few slots for all of it, but enough for all of it less one
+    /// for each armed wait.
+    pub fn count_due(&self, now: u64) -> Option<u32>
+        ensures { result ≡ if lacks_slots_for self.now.world (count_expiring self.now.world now) then None else Some (count_fired self.now.world (Trigger.Advance now)) }
     {
         self.is_reachable();
         let due = self.sources.count_due(now);
-        self.lacks_slots(due)
-            && (self.lacks_slots(due.saturating_sub(self.sources.armed()))
-                || self.lacks_slots(self.sources.count_expiring(now)))
+        if !self.lacks_slots(due) {
+            return Some(due);
+        }
+        if self.lacks_slots(due.saturating_sub(self.sources.armed())) {
+            return None;
+        }
+        if self.lacks_slots(self.sources.count_expiring(now)) {
+            None
+        } else {
+            Some(due)
+        }
     }
 
-    /// Notes how many timers and timeouts are due at a moment, for `lacks_slots_at`: until one is set
+    /// Notes how many timers and timeouts are due at a moment, for `count_due`: until one is set
     /// or ends, that counts them for this moment at once.
     pub fn note_due(&mut self, now: u64)
         ensures { self.new ≡ self.old }

@@ -1,7 +1,7 @@
 //! What is outstanding for an object: its callbacks that are pending, and those that run and were
 //! not disassociated from it.
 
-ghost use Rattle.std.specs.Prelude.{◌≡◌, ◌+◌, ◌<◌, ◌≤◌, if◌then◌else◌, nat_lt, filter, length, slice_get};
+ghost use Rattle.std.specs.Prelude.{◌≡◌, ◌+◌, ◌≤◌, if◌then◌else◌, nat_lt, filter, length, slice_get};
 ghost use Rattle.tp_model.specs.Waits.{count_outstanding};
 ghost use Rattle.tp_model.specs.Calls.Waits.{count_covered, count_cancelled_by};
 ghost use Rattle.live_world.specs.Invariant.{is_pending_callback, is_running_callback};
@@ -18,34 +18,22 @@ pub struct WaitCounts {
     pub cancelled: u32,
 }
 
-// How many callbacks are outstanding for an object, and how many of them are pending and run.
-#[derive(Clone, Copy)]
-struct Outstanding {
-    all: u32,
-    pending: u32,
-    running: u32,
-}
-
-impl Outstanding {
-    const NONE: Outstanding = Outstanding {
-        all: 0,
-        pending: 0,
-        running: 0,
+impl WaitCounts {
+    const NONE: WaitCounts = WaitCounts {
+        covered: 0,
+        cancelled: 0,
     };
 
-    // One callback more.
-    fn with(self, callback: &CallbackRow) -> Outstanding
-        requires fits { self.all < 65535 }
-        requires pending { self.pending ≤ self.all }
-        requires running { self.running ≤ self.all }
-        ensures all { result.all ≡ self.all + 1 }
-        ensures pending { result.pending ≡ self.pending + (if is_pending_callback callback.now then 1 else 0) }
-        ensures running { result.running ≡ self.running + (if is_running_callback callback.now then 1 else 0) }
+    // One callback more, where those that are pending are cancelled and those that run are covered.
+    fn with(self, callback: &CallbackRow) -> WaitCounts
+        requires covered { self.covered ≤ 65535 }
+        requires cancelled { self.cancelled ≤ 65535 }
+        ensures covered { result.covered ≡ self.covered + (if is_running_callback callback.now then 1 else 0) }
+        ensures cancelled { result.cancelled ≡ self.cancelled + (if is_pending_callback callback.now then 1 else 0) }
     {
-        Outstanding {
-            all: self.all + 1,
-            pending: self.pending + u32::from(is_pending(callback)),
-            running: self.running + u32::from(is_running(callback)),
+        WaitCounts {
+            covered: self.covered + u32::from(is_running(callback)),
+            cancelled: self.cancelled + u32::from(is_pending(callback)),
         }
     }
 }
@@ -74,14 +62,14 @@ impl LiveWorld {
         None
     }
 
+    // How many callbacks a wait for the object with cancel would cover, and how many it would cancel before.
     // Walks what is outstanding for the object.
-    fn count_outstanding(&self, object: ObjectId) -> Outstanding
-        ensures all { result.all ≡ length (outstanding_of self.now.world object) }
-        ensures pending { result.pending ≡ length (filter is_pending_callback (outstanding_of self.now.world object)) }
-        ensures running { result.running ≡ length (filter is_running_callback (outstanding_of self.now.world object)) }
+    fn cancel_counts(&self, object: ObjectId) -> WaitCounts
+        ensures covered { result.covered ≡ length (filter is_running_callback (outstanding_of self.now.world object)) }
+        ensures cancelled { result.cancelled ≡ length (filter is_pending_callback (outstanding_of self.now.world object)) }
     {
         self.is_reachable();
-        let mut count = Outstanding::NONE;
+        let mut count = WaitCounts::NONE;
         let mut next = self.callbacks.first_outstanding(object);
         while let Some(callback) = next {
             count = count.with(callback);
@@ -91,21 +79,16 @@ impl LiveWorld {
     }
 
     /// How many callbacks a wait for the object would cover, and how many it would cancel before. With
-    /// cancel it would cover those that run. It walks what is outstanding for the object.
+    /// cancel it would cover those that run, and what is outstanding for the object is walked to tell them.
     pub fn wait_counts(&self, object: ObjectId, cancel: bool) -> WaitCounts
         ensures covered { result.covered ≡ count_covered self.now.world (WaitTarget.Object object) cancel }
         ensures cancelled { result.cancelled ≡ count_cancelled_by self.now.world (WaitTarget.Object object) cancel }
     {
-        let _ = &self.limits;
-        let count = self.count_outstanding(object);
         if cancel {
-            WaitCounts {
-                covered: count.running,
-                cancelled: count.pending,
-            }
+            self.cancel_counts(object)
         } else {
             WaitCounts {
-                covered: count.all,
+                covered: self.callbacks.count_outstanding(object),
                 cancelled: 0,
             }
         }

@@ -157,11 +157,10 @@ pub fn advance(
         return Decision::Refused(refusal);
     }
     let now = world.sources().now() + ticks;
-    if world.lacks_slots_at(now) {
+    let Some(count) = world.count_due(now) else {
         return Decision::Refused(Refusal::CallbackLimit);
-    }
+    };
     let trigger = Trigger::Advance { now };
-    let count = world.sources().count_fired(&trigger);
     let first = first_number(world.next_number(), count);
     accept(
         change,

@@ -22,10 +22,10 @@ pub struct GroupRow {
 #[derive(Clone, Copy)]
 pub struct ObjectRow {
     pub kind: Kind,
+    pub released: bool,
     pub routine: RoutineId,
     pub context: u64,
     pub env: Environ,
-    pub released: bool,
 }
 
 /// Something to do with a kernel object when a callback returns.
@@ -66,20 +66,22 @@ pub enum Status {
 }
 
 /// A callback. It keeps what its object and environment were when the object was made.
+///
+/// Its fields stand in an order that leaves no gaps between them, since thousands may live at a time.
 #[derive(Clone, Copy)]
 pub struct CallbackRow {
     /// Its number, from 1 in the order in which callbacks are made.
     pub number: u64,
+    pub context: u64,
     /// Its object, or 0 for a simple callback.
     pub object: ObjectId,
     pub routine: RoutineId,
-    pub context: u64,
     pub pool: PoolId,
     pub group: GroupId,
-    pub priority: Priority,
-    pub long: bool,
     pub result: TakeResult,
     pub status: Status,
+    pub priority: Priority,
+    pub long: bool,
 }
 
 /// What an event, semaphore or lock is at.

@@ -14,6 +14,10 @@ const FIRST: usize = 4_096;
 /// The most bytes that one request asks for.
 const MOST: usize = 65_536;
 
+/// For how many bytes memory is taken at first. What isn't needed of it is never touched, and no byte moves to
+/// another place as long as there are no more.
+const ROOM: usize = 1 << 20;
+
 /// Why a source was not read to its end.
 #[derive(Clone, Copy, Debug, PartialEq, Eq)]
 pub enum ReadFault {
@@ -54,7 +58,7 @@ pub fn read_all<S: Source>(
     ensures failed { result ≡ Err ReadFault.Failed → Rose (S.failures source.old) (S.failures source.new) }
     ensures never_falls { S.failures source.old ≤ S.failures source.new }
 {
-    let mut bytes = Vec::new(alloc);
+    let mut bytes = Vec::with_capacity(alloc, ROOM)?;
     let mut len = 0;
     loop {
         let room = (len + FIRST).min(MOST).min(limit + 1 - len);

@@ -18,8 +18,12 @@ use tp_base::ids::Who;
 /// As much as a line needs.
 const ROOM: usize = 512;
 
-/// How many bytes are taken at once for the lines to come.
+/// How many bytes are made ready at once for the lines to come.
 const PAGE: usize = 1_024;
+
+/// For how many bytes memory is taken with the first line. What isn't needed of it is never touched, and no byte
+/// moves to another place as long as there are no more.
+const TEXT: usize = 1 << 22;
 
 /// Lines that are printed one behind another, seen as their text.
 #[derive(Drop)]
@@ -81,6 +85,9 @@ fn grow(bytes: &mut Vec<u8>) -> Result<(), AllocError>
     ensures err { OnErr result (bytes.new.items ≡ bytes.old.items) }
 {
     let len = bytes.len();
+    if len == 0 {
+        bytes.reserve(TEXT)?;
+    }
     if usize::MAX - len < PAGE {
         return Err(AllocError);
     }

@@ -1,25 +1,19 @@
-use Rattle.std.proofs.Common.{◌≡◌, ◌∙◌, ◌+◌, ◌==◌, ◌&&◌, false, ap, arith, sym}
-use Rattle.std.proofs.lemmas.Bool.{ne_eqb}
-use Rattle.tp_base.specs.declared.rows.CallbackRow.{CallbackRow}
+use Rattle.std.proofs.Common.{◌∙◌, ◌+◌, ◌==◌, arith, sym}
 use Rattle.tp_base.specs.declared.rows.WaitTarget.TheVariants.{Object}
-use Rattle.tp_model.specs.Waits.{is_held_for, is_outstanding_for}
-use Rattle.tp_model.proofs.Lists.{all_along}
+use Rattle.tp_model.specs.Waits.{is_outstanding_for}
 use Rattle.live_callbacks.specs.Held.{rows_of}
-use Rattle.live_callbacks.specs.Lists.{IsAtHome, object_of}
+use Rattle.live_callbacks.specs.Lists.{object_of}
 use Rattle.live_callbacks.proofs.Found.{find_none, find_same, first_filtered, first_is, place_held, place_row}
-use Rattle.live_callbacks.proofs.Lines.{outstanding_agree}
+use Rattle.live_callbacks.proofs.Lines.{outstanding_agree, outstanding_past}
 use Rattle.live_callbacks.proofs.LiveCallbacks.first_outstanding.Goals as goal
 
 pub returns-then-object-self : goal.returns-then-object-self
 returns-then-object-self c =
     let i = c.self.inside in
-    let p = is_outstanding_for (Object c.args.object) in
     let cs = rows_of i.rows.held in
-    let other : (x : CallbackRow) → IsAtHome i.lists.pools i.lists.objects x → p x ≡ false = λ x home.
-    ap (λ b. b && is_held_for (Object c.args.object) x.status) (ne_eqb x.object.0 c.args.object.0 (λ e. absurd (omega (arith, e, home.1, c.if-object-self.true))))
-    in
+    let p = is_outstanding_for (Object c.args.object) in
     rw (← c.self.view_is)
-    (sym (first_filtered p cs ∙ find_none p cs (all_along (IsAtHome i.lists.pools i.lists.objects) (λ (x : CallbackRow). p x ≡ false) other cs c.self.invariant.homes)))
+    (sym (first_filtered p cs ∙ find_none p cs (outstanding_past i.lists.pools i.lists.objects c.args.object c.if-object-self.true cs c.self.invariant.homes)))
 
 pub lent_behind-requires : goal.lent_behind-requires
 lent_behind-requires c =
