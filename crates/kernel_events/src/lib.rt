@@ -1,25 +1,20 @@
 //! The events, semaphores, mutexes and critical sections of a machine, seen as a list of rows by
 //! number, and the wait objects that are armed on them, seen as one list in the order of arming.
 //!
-//! `open` takes the memory for all of them, and no other call takes any. `create_event`,
-//! `create_semaphore`, `create_lock`, `set`, `reset`, `release_semaphore`, `release_lock` and `try_take`
-//! are calls as a program makes them, each with its refusals; `kind`, `can_take` and `is_waitable` read.
-//! `create`, `change` and `take` are for a caller that knows that there is nothing to refuse, and `get`
-//! and `len` read for it. `arm` and `disarm` begin and end what SetThreadpoolWait sets, and
-//! `next_released` lets a signalled kernel object release the earliest wait that is armed on it. What
-//! may be done with a kernel object, and what becomes of it, is defined in tp_base (`specs/Kernels`);
-//! the module `states` computes it. What a call is refused with is defined in `specs/Calls`.
+//! `open` takes the memory for all of them, and no other call takes any. `create`, `change` and `take` are
+//! for a caller that has seen that there is nothing to refuse; `get` and `len` read. `arm` and `disarm`
+//! begin and end what SetThreadpoolWait sets, and `next_released` lets a signalled kernel object release
+//! the earliest wait that is armed on it. What may be done with a kernel object, and what becomes of it,
+//! is defined in tp_base (`specs/Kernels`); the module `states` computes it.
 //!
 //! ```text
 //! let mut kernels = KernelTable::open(alloc, 4, 8)?;      // at most four, and wait objects 1 to 8
-//! kernels.create_semaphore(0, 2)              // Ok(KernelId(1))
+//! kernels.create(KernelState::Semaphore { count: 0, maximum: 2 });        // KernelId(1)
 //! kernels.arm(ObjectId(5), KernelId(1));
 //! kernels.arm(ObjectId(2), KernelId(1));
-//! kernels.release_semaphore(KernelId(1), 1)   // Ok(0): the count before
+//! kernels.change(KernelId(1), KernelChange::Raise(1));
 //! kernels.next_released(KernelId(1))          // Some(ObjectId(5)), and the count is 0 again
 //! kernels.next_released(KernelId(1))          // None: it isn't signalled
-//! kernels.release_semaphore(KernelId(1), 3)   // Err(OverMaximum { count: 0 })
-//! kernels.set(KernelId(1))                    // Err(WrongKind): it isn't an event
 //! ```
 //!
 //! What a call costs: each looks at one kernel object, and at the neighbours of at most one armed
@@ -45,10 +40,7 @@ use tp_base::plans::KernelChange;
 use tp_base::rows::{KernelRow, KernelState};
 
 mod armings;
-mod calls;
 pub mod states;
-
-pub use calls::KernelKind;
 
 /// The kernel objects that were made, and the wait objects that are armed on them.
 #[derive(Drop)]

@@ -1,14 +1,10 @@
 //! Kernel objects that are made, changed and taken, and the waits that they release.
 
 use crate::checks::{expect_eq, expect_ok};
-use kernel_events::{KernelKind, KernelTable};
-use tp_base::answers::Refusal;
-use tp_base::calls::Lock;
+use kernel_events::KernelTable;
 use tp_base::ids::{KernelId, ObjectId, Who};
 use tp_base::plans::KernelChange;
 use tp_base::rows::KernelState;
-
-const CLIENT: Who = Who::Client(1);
 
 const WORKER: Who = Who::Worker(1);
 
@@ -16,7 +12,7 @@ const EVENT: KernelId = KernelId(1);
 
 const SEMAPHORE: KernelId = KernelId(2);
 
-const LOCK: KernelId = KernelId(3);
+const NEVER_MADE: KernelId = KernelId(3);
 
 #[test]
 fn waits_are_released_in_order(rt: HostRuntime) {
@@ -38,7 +34,7 @@ fn waits_are_released_in_order(rt: HostRuntime) {
         &rt,
         (
             kernels.len(),
-            kernels.get(LOCK).is_none(),
+            kernels.get(NEVER_MADE).is_none(),
             kernels.is_armed(ObjectId(1)),
             kernels.first_armed(SEMAPHORE),
             kernels.count_armed(SEMAPHORE, 9),
@@ -54,55 +50,6 @@ fn waits_are_released_in_order(rt: HostRuntime) {
             kernels.disarm(ObjectId(1)),
         ),
         (Some(ObjectId(4)), true, None, true),
-    );
-    drop(kernels);
-}
-
-#[test]
-fn calls_take_their_own_kind(rt: HostRuntime) {
-    let mut kernels = expect_ok(&rt, KernelTable::open(rt.alloc(), 3, 1));
-    expect_eq(
-        &rt,
-        [
-            kernels.create_event(false, false),
-            kernels.create_semaphore(1, 2),
-            kernels.create_lock(CLIENT, Lock::Mutex, true),
-        ],
-        [Ok(EVENT), Ok(SEMAPHORE), Ok(LOCK)],
-    );
-    expect_eq(
-        &rt,
-        [
-            kernels.set(EVENT),
-            kernels.reset(EVENT),
-            kernels.set(LOCK),
-            kernels.release_lock(WORKER, Lock::Mutex, LOCK),
-            kernels.release_lock(CLIENT, Lock::Mutex, LOCK),
-        ],
-        [
-            Ok(()),
-            Ok(()),
-            Err(Refusal::WrongKind),
-            Err(Refusal::NotOwner),
-            Ok(()),
-        ],
-    );
-    expect_eq(
-        &rt,
-        (
-            [
-                kernels.try_take(WORKER, LOCK),
-                kernels.can_take(CLIENT, LOCK),
-                kernels.is_waitable(LOCK),
-            ],
-            kernels.release_semaphore(SEMAPHORE, 1),
-            kernels.kind(SEMAPHORE),
-        ),
-        (
-            [Ok(true), Ok(false), Ok(false)],
-            Ok(1),
-            Some(KernelKind::Semaphore),
-        ),
     );
     drop(kernels);
 }

@@ -8,10 +8,6 @@
 #![tactic(auto)]
 
 #[cfg(test)]
-mod actions;
-#[cfg(test)]
-mod barriers;
-#[cfg(test)]
 mod checks;
 #[cfg(test)]
 mod columns;
@@ -24,8 +20,6 @@ mod environments;
 #[cfg(test)]
 mod grammar;
 #[cfg(test)]
-mod groups;
-#[cfg(test)]
 mod heap;
 #[cfg(test)]
 mod kernels;
@@ -34,18 +28,8 @@ mod lines;
 #[cfg(test)]
 mod linked;
 #[cfg(test)]
-mod operations;
-#[cfg(test)]
 mod pools;
-#[cfg(test)]
-mod queues;
 #[cfg(test)]
 mod scripts;
 #[cfg(test)]
-mod table;
-#[cfg(test)]
 mod timers;
-#[cfg(test)]
-mod waits;
-#[cfg(test)]
-mod works;

@@ -23,7 +23,7 @@ fn moved<L: Ledger>(
     let mut steps = Steps::<L>::open(blank);
     lists.put_last(0, 2, &mut steps);
     lists.put_last(0, 4, &mut steps);
-    lists.put_by_number(0, 3, 20, &mut steps);
+    lists.put_near(0, 0, 3, 20, &mut steps);
     lists.take_out(3, &mut steps);
     lists.put_behind(0, 0, 3, &mut steps);
     (

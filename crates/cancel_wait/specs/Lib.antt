@@ -1,3 +1,0 @@
-pub mod Covers
-pub mod Kept
-pub use Rattle.rising_lists.specs.Rising

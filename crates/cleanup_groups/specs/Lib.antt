@@ -1,5 +1,0 @@
-pub mod Groups
-pub mod Kept
-pub mod Members
-pub mod Notices
-pub mod Threaded

@@ -1,4 +1,0 @@
-pub mod Table
-pub mod Found
-pub mod Kept
-pub mod Lent

@@ -1,4 +1,0 @@
-use Rattle.rising_lists.proofs.RisingLists.first.Given as goal
-
-abbrev pub ghosts-first_with : goal.ghosts-first_with
-ghosts-first_with a = record { name = a.blank.name; parts = a.blank.parts }
