@@ -38,8 +38,7 @@ mod past;
 use notices::Notices;
 use past::WaitList;
 use std::alloc::{AllocError, Global};
-use std::marker::{Brand, Model};
-use std::sync::ledger::Blank;
+use std::marker::Model;
 use tp_base::ids::{GroupId, KernelId, ObjectId, Who};
 use tp_base::limits::Limits;
 use tp_base::plans::WaitEnd;
@@ -225,7 +224,7 @@ impl<K: KeepsCallbacks> BegunWaits<K> {
         ensures { result ≡ slice_get (notices_by (wait_among self.now.waits who)) 0 }
     {
         let place = place_of(self.limits, who)?;
-        self.notices.first::<Brand>(place, Blank::new(1))
+        self.notices.first(place)
     }
 
     /// Begins a wait of an actor of the machine that has begun none. It covers what of these callbacks is
@@ -280,7 +279,7 @@ impl<K: KeepsCallbacks> BegunWaits<K> {
         ensures { self.new ≡ record self.old { waits = with_notices who (object ∷ []) self.old.waits } }
     {
         let place = place_of(self.limits, who).unwrap();
-        self.notices.put::<Brand>(place, object, Blank::new(1));
+        self.notices.put(place, object);
         self.list.note(who, object);
     }
 
@@ -292,7 +291,7 @@ impl<K: KeepsCallbacks> BegunWaits<K> {
             self.list.give_notice(who);
             return;
         };
-        self.notices.take_first::<Brand>(place, Blank::new(1));
+        self.notices.take_first(place);
         self.list.give_notice(who);
     }
 
@@ -308,7 +307,7 @@ impl<K: KeepsCallbacks> BegunWaits<K> {
         let first = self.limits.clients;
         self.waiting = waiting_after(&self.purposes, first, self.waiting, place, None);
         self.purposes[place as usize] = None;
-        self.notices.clear::<Brand>(place, Blank::new(1));
+        self.notices.clear(place);
         self.list.end(who, how);
     }
 }

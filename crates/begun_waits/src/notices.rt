@@ -7,7 +7,6 @@ ghost use Rattle.begun_waits.specs.Notices.{IsCleared, is_listed, told_at, with_
 use linked_lists::LinkedLists;
 use std::alloc::{AllocError, Global};
 use std::marker::Model;
-use std::sync::ledger::{Blank, Ledger};
 use steps::Steps;
 use tp_base::ids::ObjectId;
 
@@ -47,63 +46,51 @@ impl Notices {
     }
 
     // The first object of an actor, or None where it has no notice to give.
-    pub(crate) fn first<L: Ledger>(&self, actor: u32, blank: Blank) -> Option<ObjectId>
+    pub(crate) fn first(&self, actor: u32) -> Option<ObjectId>
         requires there { actor < length self.now.lists }
-        requires name { blank.name ≡ L.name }
-        requires parts { blank.parts ≡ L.parts }
-        requires one { blank.parts ≡ 1 }
         ensures { result ≡ slice_get (told_at self.now actor) 0 }
     {
-        let mut steps = Steps::<L>::open(blank);
+        let mut steps = Steps::new();
         let place = self.lists.first(actor, &mut steps)?;
         Some(ObjectId(place - self.actors))
     }
 
     // One more object for an actor, behind the others. No actor has a notice of it.
-    pub(crate) fn put<L: Ledger>(&mut self, actor: u32, object: ObjectId, blank: Blank)
+    pub(crate) fn put(&mut self, actor: u32, object: ObjectId)
         requires there { actor < length self.old.lists }
         requires most { object.0 ≤ self.old.objects }
         requires free { (other : ℕ) → is_listed object (told_at self.old other) ≡ false }
-        requires name { blank.name ≡ L.name }
-        requires parts { blank.parts ≡ L.parts }
-        requires one { blank.parts ≡ 1 }
         ensures { self.new ≡ with_told self.old actor (told_at self.old actor ++ object ∷ []) }
     {
-        let mut steps = Steps::<L>::open(blank);
+        let mut steps = Steps::new();
         let place = self.actors + object.0;
         self.lists.reach(place);
         self.lists.put_last(actor, place, &mut steps);
     }
 
     // An actor's first object goes, if it has one.
-    pub(crate) fn take_first<L: Ledger>(&mut self, actor: u32, blank: Blank)
+    pub(crate) fn take_first(&mut self, actor: u32)
         requires there { actor < length self.old.lists }
-        requires name { blank.name ≡ L.name }
-        requires parts { blank.parts ≡ L.parts }
-        requires one { blank.parts ≡ 1 }
         ensures { self.new ≡ with_told self.old actor (drop 1 (told_at self.old actor)) }
     {
-        let mut steps = Steps::<L>::open(blank);
+        let mut steps = Steps::new();
         if let Some(place) = self.lists.first(actor, &mut steps) {
             self.lists.take_out(place, &mut steps);
         }
     }
 
     // All objects of an actor go.
-    pub(crate) fn clear<L: Ledger>(&mut self, actor: u32, blank: Blank)
+    pub(crate) fn clear(&mut self, actor: u32)
         requires there { actor < length self.old.lists }
-        requires name { blank.name ≡ L.name }
-        requires parts { blank.parts ≡ L.parts }
-        requires one { blank.parts ≡ 1 }
         ensures { self.new ≡ with_told self.old actor [] }
     {
-        let mut steps = Steps::<L>::open(blank);
+        let mut steps = Steps::new();
         clear_list(&mut self.lists, actor, &mut steps);
     }
 }
 
 // Takes all places out of a list.
-fn clear_list<L: Ledger>(lists: &mut LinkedLists, list: u32, steps: &mut Steps<L>)
+fn clear_list(lists: &mut LinkedLists, list: u32, steps: &mut Steps)
     requires { list < length lists.old.lists }
     ensures { IsCleared lists.old lists.new list }
 {

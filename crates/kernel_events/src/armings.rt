@@ -8,7 +8,6 @@ ghost use Rattle.kernel_events.specs.Armed.{HasDistinctObjects, first_on, waits_
 use linked_lists::LinkedLists;
 use std::alloc::{AllocError, Global};
 use std::marker::Model;
-use std::sync::ledger::{Blank, Ledger};
 use steps::Steps;
 use tp_base::ids::{KernelId, ObjectId};
 
@@ -83,16 +82,13 @@ impl Armings {
     }
 
     // The wait object that was armed earliest on a kernel object.
-    pub(crate) fn first_on<L: Ledger>(&self, kernel: KernelId, blank: Blank) -> Option<ObjectId>
-        requires name { blank.name ≡ L.name }
-        requires parts { blank.parts ≡ L.parts }
-        requires one { blank.parts ≡ 1 }
+    pub(crate) fn first_on(&self, kernel: KernelId) -> Option<ObjectId>
         ensures { result ≡ first_on kernel.0 self.now.armed }
     {
         if kernel.0 > self.kernels {
             return None;
         }
-        let mut steps = Steps::<L>::open(blank);
+        let mut steps = Steps::new();
         let place = self.own.first(kernel.0, &mut steps)?;
         Some(ObjectId(place - self.kernels))
     }
@@ -108,17 +104,14 @@ impl Armings {
     }
 
     // Arms a wait object, behind all others.
-    pub(crate) fn arm<L: Ledger>(&mut self, object: ObjectId, kernel: KernelId, blank: Blank)
+    pub(crate) fn arm(&mut self, object: ObjectId, kernel: KernelId)
         requires least { 1 ≤ object.0 }
         requires most { object.0 ≤ self.old.objects }
         requires kernel_most { kernel.0 ≤ self.old.kernels }
         requires free { is_armed object.0 self.old.armed ≡ false }
-        requires name { blank.name ≡ L.name }
-        requires parts { blank.parts ≡ L.parts }
-        requires one { blank.parts ≡ 1 }
         ensures { self.new ≡ record self.old { armed = self.old.armed ++ record { object = object; kernel = kernel } ∷ [] } }
     {
-        let mut steps = Steps::<L>::open(blank);
+        let mut steps = Steps::new();
         let own_place = self.kernels + object.0;
         self.order.reach(object.0);
         self.own.reach(own_place);
@@ -127,10 +120,7 @@ impl Armings {
     }
 
     // Disarms a wait object, and says whether it was armed.
-    pub(crate) fn disarm<L: Ledger>(&mut self, object: ObjectId, blank: Blank) -> bool
-        requires name { blank.name ≡ L.name }
-        requires parts { blank.parts ≡ L.parts }
-        requires one { blank.parts ≡ 1 }
+    pub(crate) fn disarm(&mut self, object: ObjectId) -> bool
         ensures was { result ≡ is_armed object.0 self.old.armed }
         ensures after { self.new ≡ record self.old { armed = without_arming object.0 self.old.armed } }
     {
@@ -138,7 +128,7 @@ impl Armings {
         if self.order.owner(place) != 0 {
             return false;
         }
-        let mut steps = Steps::<L>::open(blank);
+        let mut steps = Steps::new();
         self.order.take_out(place, &mut steps);
         self.own.take_out(self.kernels + place, &mut steps);
         true

@@ -33,8 +33,7 @@ ghost use Rattle.kernel_events.specs.Kernels.{Suits, is_one_that, new_row, next_
 use armings::Armings;
 use states::{is_signalled, state_after, taken, taken_by};
 use std::alloc::{AllocError, Global};
-use std::marker::{Brand, Model};
-use std::sync::ledger::Blank;
+use std::marker::Model;
 use tp_base::ids::{KernelId, ObjectId, Who};
 use tp_base::plans::KernelChange;
 use tp_base::rows::{KernelRow, KernelState};
@@ -134,7 +133,7 @@ impl KernelTable {
         requires free { is_armed object.0 self.old.armed ≡ false }
         ensures { self.new ≡ record self.old { armed = self.old.armed ++ record { object = object; kernel = kernel } ∷ [] } }
     {
-        self.armings.arm::<Brand>(object, kernel, Blank::new(1));
+        self.armings.arm(object, kernel);
     }
 
     /// Disarms a wait object, and says whether it was armed. Where it wasn't, nothing changes.
@@ -142,7 +141,7 @@ impl KernelTable {
         ensures was { result ≡ is_armed object.0 self.old.armed }
         ensures after { self.new ≡ record self.old { armed = without_arming object.0 self.old.armed } }
     {
-        self.armings.disarm::<Brand>(object, Blank::new(1))
+        self.armings.disarm(object)
     }
 
     /// Whether a wait object is armed. None is armed twice, each has a number from 1 to the greatest
@@ -163,7 +162,7 @@ impl KernelTable {
     pub fn first_armed(&self, kernel: KernelId) -> Option<ObjectId>
         ensures { result ≡ first_on kernel.0 self.now.armed }
     {
-        self.armings.first_on::<Brand>(kernel, Blank::new(1))
+        self.armings.first_on(kernel)
     }
 
     /// How many wait objects are armed on this kernel object, but no more than `most`.
@@ -202,7 +201,7 @@ impl KernelTable {
             return None;
         }
         let object = self.first_armed(kernel)?;
-        self.armings.disarm::<Brand>(object, Blank::new(1));
+        self.armings.disarm(object);
         self.rows[kernel.0 as usize - 1].state = taken(state);
         Some(object)
     }

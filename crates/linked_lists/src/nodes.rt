@@ -5,7 +5,6 @@ ghost use Rattle.linked_lists.specs.Nodes.{linked, no_node, node_at, with_node};
 
 use std::alloc::{AllocError, Global};
 use std::marker::Model;
-use std::sync::ledger::Ledger;
 use steps::Steps;
 
 /// A number, and the places before and behind it.
@@ -59,7 +58,7 @@ impl Nodes {
 
     /// The node at a place. That is one step, and no other call reads a node.
     #[inline(always)]
-    pub fn read<L: Ledger>(&self, place: u32, steps: &mut Steps<L>) -> Node
+    pub fn read(&self, place: u32, steps: &mut Steps) -> Node
         requires { place < length self.now.nodes }
         ensures node { result ≡ slice_index_or self.now.nodes place no_node }
         ensures step { steps.new ≡ steps.old + 1 }

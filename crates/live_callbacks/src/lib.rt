@@ -34,8 +34,7 @@ ghost use Rattle.tp_model.specs.Counts.{is_operating, is_pending, is_pending_in}
 ghost use Rattle.live_callbacks.specs.Callbacks.{MovesOn, outstanding_among, queue_among};
 
 use std::alloc::{AllocError, Global};
-use std::marker::{Brand, Model};
-use std::sync::ledger::{Blank, Ledger};
+use std::marker::Model;
 use steps::Steps;
 use tp_base::ids::{GroupId, ObjectId, PoolId};
 use tp_base::rows::{CallbackRow, Status};
@@ -182,7 +181,7 @@ impl LiveCallbacks {
     /// highest priority, and among those of one priority that of the least number. Of a pool that there can't
     /// be none is pending. `steps` counts the nodes that it reads: one at most, however many are pending.
     #[inline(always)]
-    pub fn next<L: Ledger>(&self, pool: PoolId, steps: &mut Steps<L>) -> Option<&CallbackRow>
+    pub fn next(&self, pool: PoolId, steps: &mut Steps) -> Option<&CallbackRow>
         ensures value { option_copied result ≡ slice_get (queue_among self.now.rows pool.0) 0 }
         ensures counted { steps.old ≤ steps.new }
         ensures bound { steps.new ≤ steps.old + 1 }
@@ -302,22 +301,7 @@ impl LiveCallbacks {
         requires last { All (λ c. c.number < row.number) self.old.rows }
         ensures { self.new ≡ record self.old { rows = self.old.rows ++ row ∷ [] } }
     {
-        self.push_with::<Brand>(row, Blank::new(1))
-    }
-
-    // `push` with a counter of its own.
-    #[inline(always)]
-    fn push_with<L: Ledger>(&mut self, row: CallbackRow, blank: Blank)
-        requires name { blank.name ≡ L.name }
-        requires parts { blank.parts ≡ L.parts }
-        requires one { blank.parts ≡ 1 }
-        requires room { length self.old.rows < self.old.slots }
-        requires pool { row.pool.0 < self.old.pools }
-        requires object { row.object.0 ≤ self.old.objects }
-        requires last { All (λ c. c.number < row.number) self.old.rows }
-        ensures { self.new ≡ record self.old { rows = self.old.rows ++ row ∷ [] } }
-    {
-        let mut steps = Steps::<L>::open(blank);
+        let mut steps = Steps::new();
         let _known = self.rows.len();
         let to = self.lists.stands(&row);
         let key = self.rows.push(row);
@@ -336,32 +320,14 @@ impl LiveCallbacks {
         requires goes { MovesOn before.now after }
         ensures { self.new ≡ record self.old { rows = map (λ c. if c.number == after.number then after else c) self.old.rows } }
     {
-        self.change_with::<Brand>(before, after, Blank::new(1))
-    }
-
-    // `change` with a counter of its own.
-    #[inline(always)]
-    fn change_with<L: Ledger>(&mut self, before: &CallbackRow, after: CallbackRow, blank: Blank)
-        requires name { blank.name ≡ L.name }
-        requires parts { blank.parts ≡ L.parts }
-        requires one { blank.parts ≡ 1 }
-        requires found { find (λ c. c.number == before.now.number) self.old.rows ≡ Some before.now }
-        requires goes { MovesOn before.now after }
-        ensures { self.new ≡ record self.old { rows = map (λ c. if c.number == after.number then after else c) self.old.rows } }
-    {
-        let mut steps = Steps::<L>::open(blank);
+        let mut steps = Steps::new();
         self.change_counted(before, after, &mut steps);
     }
 
     /// As `change`, and counts the nodes that it reads: two at most where the callback is neither pending then
     /// nor has its operation under way, however many others there are.
     #[inline(always)]
-    pub fn change_counted<L: Ledger>(
-        &mut self,
-        before: &CallbackRow,
-        after: CallbackRow,
-        steps: &mut Steps<L>,
-    )
+    pub fn change_counted(&mut self, before: &CallbackRow, after: CallbackRow, steps: &mut Steps)
         requires found { find (λ c. c.number == before.now.number) self.old.rows ≡ Some before.now }
         requires goes { MovesOn before.now after }
         ensures moved { self.new ≡ record self.old { rows = map (λ c. if c.number == after.number then after else c) self.old.rows } }
@@ -383,19 +349,7 @@ impl LiveCallbacks {
         requires { find (λ c. c.number == row.now.number) self.old.rows ≡ Some row.now }
         ensures { self.new ≡ record self.old { rows = filter (λ c. not (c.number == row.now.number)) self.old.rows } }
     {
-        self.remove_with::<Brand>(row, Blank::new(1))
-    }
-
-    // `remove` with a counter of its own.
-    #[inline(always)]
-    fn remove_with<L: Ledger>(&mut self, row: &CallbackRow, blank: Blank)
-        requires name { blank.name ≡ L.name }
-        requires parts { blank.parts ≡ L.parts }
-        requires one { blank.parts ≡ 1 }
-        requires found { find (λ c. c.number == row.now.number) self.old.rows ≡ Some row.now }
-        ensures { self.new ≡ record self.old { rows = filter (λ c. not (c.number == row.now.number)) self.old.rows } }
-    {
-        let mut steps = Steps::<L>::open(blank);
+        let mut steps = Steps::new();
         let _known = self.rows.len();
         let to = self.lists.nowhere();
         let key = self.rows.remove(row.number).unwrap();

@@ -12,8 +12,6 @@ ghost use Rattle.live_callbacks.specs.Lists.{IsAtHome, MaySettle, first_queue_of
 use crate::rows::Rows;
 use linked_lists::LinkedLists;
 use std::alloc::{AllocError, Global};
-use std::marker::Brand;
-use std::sync::ledger::{Blank, Ledger};
 use steps::Steps;
 use tp_base::calls::Priority;
 use tp_base::ids::GroupId;
@@ -121,19 +119,7 @@ pub(crate) fn first_in(lists: &LinkedLists, list: u32) -> Option<u32>
     requires { list < length lists.now.lists }
     ensures { result ≡ slice_get (list_of lists.now list) 0 }
 {
-    first_with::<Brand>(lists, list, Blank::new(1))
-}
-
-// `first_in` with a counter of its own.
-#[inline(always)]
-fn first_with<L: Ledger>(lists: &LinkedLists, list: u32, blank: Blank) -> Option<u32>
-    requires name { blank.name ≡ L.name }
-    requires parts { blank.parts ≡ L.parts }
-    requires one { blank.parts ≡ 1 }
-    requires list { list < length lists.now.lists }
-    ensures { result ≡ slice_get (list_of lists.now list) 0 }
-{
-    let mut steps = Steps::<L>::open(blank);
+    let mut steps = Steps::new();
     lists.first(list, &mut steps)
 }
 
@@ -143,19 +129,7 @@ pub(crate) fn after_in(lists: &LinkedLists, place: u32) -> Option<u32>
     requires { owner_of lists.now place < length lists.now.lists }
     ensures { result ≡ place_after place (list_of lists.now (owner_of lists.now place)) }
 {
-    after_with::<Brand>(lists, place, Blank::new(1))
-}
-
-// `after_in` with a counter of its own.
-#[inline(always)]
-fn after_with<L: Ledger>(lists: &LinkedLists, place: u32, blank: Blank) -> Option<u32>
-    requires name { blank.name ≡ L.name }
-    requires parts { blank.parts ≡ L.parts }
-    requires one { blank.parts ≡ 1 }
-    requires owned { owner_of lists.now place < length lists.now.lists }
-    ensures { result ≡ place_after place (list_of lists.now (owner_of lists.now place)) }
-{
-    let mut steps = Steps::<L>::open(blank);
+    let mut steps = Steps::new();
     lists.after(place, &mut steps)
 }
 
@@ -237,7 +211,7 @@ impl Lists {
 
     // A place of a line near to where this number belongs there, or the line's own. Where an end of the line
     // tells where that is, no other place is looked for.
-    fn near_in<L: Ledger>(&self, rows: &Rows, line: u32, number: u64, steps: &mut Steps<L>) -> u32
+    fn near_in(&self, rows: &Rows, line: u32, number: u64, steps: &mut Steps) -> u32
         requires fits { HaveRoom self.now }
         requires line { line < length self.now.lines.lists }
         requires order { AreInOrder self.now.lines.numbers (list_of self.now.lines line) }
@@ -256,13 +230,7 @@ impl Lists {
 
     // The same for the line of a callback. Only what becomes pending comes before others there.
     #[inline(always)]
-    pub fn near<L: Ledger>(
-        &self,
-        rows: &Rows,
-        callback: &CallbackRow,
-        line: u32,
-        steps: &mut Steps<L>,
-    ) -> u32
+    pub fn near(&self, rows: &Rows, callback: &CallbackRow, line: u32, steps: &mut Steps) -> u32
         requires fits { HaveRoom self.now }
         requires line { is_pending callback.now.status ≡ true → line < length self.now.lines.lists }
         requires order { line < length self.now.lines.lists → AreInOrder self.now.lines.numbers (list_of self.now.lines line) }
@@ -280,14 +248,7 @@ impl Lists {
     // A key of a row of this number comes to these lists, and leaves those that it was in. Into its line it
     // comes from a place near to where it belongs there, or from the line's own.
     #[inline(always)]
-    pub fn settle<L: Ledger>(
-        &mut self,
-        key: u32,
-        number: u64,
-        to: Standing,
-        near: u32,
-        steps: &mut Steps<L>,
-    )
+    pub fn settle(&mut self, key: u32, number: u64, to: Standing, near: u32, steps: &mut Steps)
         requires fits { HaveRoom self.old }
         requires near { IsOf self.old.lines to.line near }
         requires line { MaySettle (lines self.old.pools self.old.objects) self.old.lines key to.line }

@@ -7,7 +7,6 @@ ghost use Rattle.live_world.specs.Live.{moved};
 ghost use Rattle.live_world.specs.Steps.{is_take};
 
 use crate::LiveWorld;
-use std::sync::ledger::Ledger;
 use steps::Steps;
 use tp_base::plans::Change;
 
@@ -16,7 +15,7 @@ impl LiveWorld {
     ///
     /// `steps` counts the nodes that a take reads: two at most, however many callbacks there are. Of any
     /// other change it counts none.
-    pub fn apply<L: Ledger>(&mut self, change: &Change, steps: &mut Steps<L>)
+    pub fn apply(&mut self, change: &Change, steps: &mut Steps)
         requires allowed { IsAllowed (self.old.made + 1) self.old.world change.now }
         requires young { self.old.made + 65536 ≤ 2 ^ 63 }
         requires taken { AreTakenAtMost (2 ^ 47) self.old.world }

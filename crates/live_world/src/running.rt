@@ -9,7 +9,6 @@ ghost use Rattle.live_world.specs.Live.{moved, with_world};
 
 use crate::LiveWorld;
 use crate::slots::NO_ACTIONS;
-use std::sync::ledger::Ledger;
 use steps::Steps;
 use tp_base::answers::ActionKind;
 use tp_base::plans::{Busy, Change, Idle, Mark};
@@ -74,7 +73,7 @@ fn filled(kind: ActionKind, action: Action, slots: Slots) -> Slots
 
 impl LiveWorld {
     // Lets a worker run a callback that waits in its pool.
-    pub(crate) fn take<L: Ledger>(&mut self, by: Idle, callback: CallbackRow, steps: &mut Steps<L>)
+    pub(crate) fn take(&mut self, by: Idle, callback: CallbackRow, steps: &mut Steps)
         requires { IsAllowed (self.old.made + 1) self.old.world (Change.Take by callback) }
         ensures after { self.new ≡ moved self.old (Change.Take by callback) }
         ensures counted { steps.old ≤ steps.new }

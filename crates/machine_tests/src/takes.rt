@@ -6,9 +6,7 @@ ghost use Rattle.tp_base.specs.Ranges.{IsCallInRange};
 use crate::expect::{expect_eq, expect_ok};
 use pool_core::Engine;
 use recorded::program_limits;
-use std::marker::Brand;
 use std::process::Abort;
-use std::sync::ledger::{Blank, Ledger};
 use steps::Steps;
 use tp_base::answers::{Answer, Look, Outcome, TakeResult};
 use tp_base::calls::{Call, Environ, Priority};
@@ -57,7 +55,7 @@ fn submit_all(rt: &impl Abort, engine: &mut Engine, count: u64) {
 }
 
 // What the take of worker 1 comes to. However many callbacks are pending, its steps are three at most.
-fn counted_take<L: Ledger>(engine: &mut Engine, steps: &mut Steps<L>) -> Outcome
+fn counted_take(engine: &mut Engine, steps: &mut Steps) -> Outcome
     requires { engine.old.age < 2 ^ 47 }
     ensures { steps.new ≤ steps.old + 3 }
 {
@@ -67,13 +65,10 @@ fn counted_take<L: Ledger>(engine: &mut Engine, steps: &mut Steps<L>) -> Outcome
 }
 
 // The same, with a counter of its own.
-fn first_take<L: Ledger>(engine: &mut Engine, blank: Blank) -> Outcome
-    requires name { blank.name ≡ L.name }
-    requires parts { blank.parts ≡ L.parts }
-    requires one { blank.parts ≡ 1 }
+fn first_take(engine: &mut Engine) -> Outcome
     requires young { engine.old.age < 2 ^ 47 }
 {
-    let mut steps = Steps::<L>::open(blank);
+    let mut steps = Steps::new();
     counted_take(engine, &mut steps)
 }
 
@@ -97,10 +92,6 @@ fn the_first_of_many_is_taken_in_three_steps(rt: HostRuntime) {
         context: 70,
         result: TakeResult::Plain,
     };
-    expect_eq(
-        &rt,
-        first_take::<Brand>(&mut engine, Blank::new(1)),
-        Outcome::Done(taken),
-    );
+    expect_eq(&rt, first_take(&mut engine), Outcome::Done(taken));
     drop(engine);
 }

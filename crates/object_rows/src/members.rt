@@ -13,8 +13,6 @@ ghost use Rattle.object_rows.specs.Objects.{notices_among};
 
 use crate::ObjectRows;
 use linked_lists::LinkedLists;
-use std::marker::Brand;
-use std::sync::ledger::{Blank, Ledger};
 use steps::Steps;
 use tp_base::ids::{GroupId, ObjectId};
 
@@ -23,18 +21,7 @@ pub(crate) fn list_member(members: &mut LinkedLists, groups: u32, group: GroupId
     requires { MayList members.old groups }
     ensures { members.new ≡ with_member members.old groups group }
 {
-    list_with::<Brand>(members, groups, group, Blank::new(1));
-}
-
-// `list_member` with a counter of its own.
-fn list_with<L: Ledger>(members: &mut LinkedLists, groups: u32, group: GroupId, blank: Blank)
-    requires may { MayList members.old groups }
-    requires name { blank.name ≡ L.name }
-    requires parts { blank.parts ≡ L.parts }
-    requires one { blank.parts ≡ 1 }
-    ensures { members.new ≡ with_member members.old groups group }
-{
-    let mut steps = Steps::<L>::open(blank);
+    let mut steps = Steps::new();
     let place = members.add(0);
     if group.0 <= groups {
         members.put_last(group.0, place, &mut steps);
@@ -48,20 +35,7 @@ pub(crate) fn unlist_member(members: &mut LinkedLists, groups: u32, object: u32)
     ensures after { members.new ≡ without_member members.old groups (groups + object) }
     ensures owned { AreOwned members.old }
 {
-    unlist_with::<Brand>(members, groups, object, Blank::new(1));
-}
-
-// `unlist_member` with a counter of its own.
-fn unlist_with<L: Ledger>(members: &mut LinkedLists, groups: u32, object: u32, blank: Blank)
-    requires lists { length members.old.lists ≡ groups + 1 }
-    requires place { groups + object < 2 ^ 32 }
-    requires name { blank.name ≡ L.name }
-    requires parts { blank.parts ≡ L.parts }
-    requires one { blank.parts ≡ 1 }
-    ensures after { members.new ≡ without_member members.old groups (groups + object) }
-    ensures owned { AreOwned members.old }
-{
-    let mut steps = Steps::<L>::open(blank);
+    let mut steps = Steps::new();
     let place = groups + object;
     if members.owner(place) <= groups {
         members.take_out(place, &mut steps);
@@ -74,18 +48,7 @@ impl ObjectRows {
         requires { is_some (numbered self.now.groups group.0) ≡ true }
         ensures { result ≡ find (is_object_that (is_member_of group.0) self.now.objects) (numbers_in self.now.objects) }
     {
-        self.first_with::<Brand>(group, Blank::new(1))
-    }
-
-    // `first_member` with a counter of its own.
-    fn first_with<L: Ledger>(&self, group: GroupId, blank: Blank) -> Option<u32>
-        requires made { is_some (numbered self.now.groups group.0) ≡ true }
-        requires name { blank.name ≡ L.name }
-        requires parts { blank.parts ≡ L.parts }
-        requires one { blank.parts ≡ 1 }
-        ensures { result ≡ find (is_object_that (is_member_of group.0) self.now.objects) (numbers_in self.now.objects) }
-    {
-        let mut steps = Steps::<L>::open(blank);
+        let mut steps = Steps::new();
         let place = self.members.first(group.0, &mut steps)?;
         Some(place - self.group_limit)
     }
@@ -96,19 +59,7 @@ impl ObjectRows {
         requires member { is_object_that (is_member_of group.0) self.now.objects member ≡ true }
         ensures { result ≡ find (is_object_that (is_member_of group.0) self.now.objects) (range_with_len (member + 1) (length self.now.objects - member)) }
     {
-        self.next_with::<Brand>(group, member, Blank::new(1))
-    }
-
-    // `next_member` with a counter of its own.
-    fn next_with<L: Ledger>(&self, group: GroupId, member: u32, blank: Blank) -> Option<u32>
-        requires made { is_some (numbered self.now.groups group.0) ≡ true }
-        requires member { is_object_that (is_member_of group.0) self.now.objects member ≡ true }
-        requires name { blank.name ≡ L.name }
-        requires parts { blank.parts ≡ L.parts }
-        requires one { blank.parts ≡ 1 }
-        ensures { result ≡ find (is_object_that (is_member_of group.0) self.now.objects) (range_with_len (member + 1) (length self.now.objects - member)) }
-    {
-        let mut steps = Steps::<L>::open(blank);
+        let mut steps = Steps::new();
         let place = self.group_limit + member;
         // It is asked for what is known by it: a place of the group's list is in that list.
         let _group = self.members.owner(place);

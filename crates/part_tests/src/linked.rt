@@ -4,23 +4,15 @@ ghost use Rattle.std.specs.Prelude.{◌≡◌, [], ◌∷◌};
 
 use crate::checks::{expect_eq, expect_ok};
 use linked_lists::LinkedLists;
-use std::marker::Brand;
-use std::sync::ledger::{Blank, Ledger};
 use steps::Steps;
 
 // Makes list 0 of the places 2, 3 and 4, takes the middle one out and puts it first. Then the first and
 // the last place, the one behind the first, the number of the first, how many there are, and the list
 // that the first is in.
-fn moved<L: Ledger>(
-    lists: &mut LinkedLists,
-    blank: Blank,
-) -> (Option<u32>, Option<u32>, Option<u32>, u64, u32, u32)
-    requires name { blank.name ≡ L.name }
-    requires parts { blank.parts ≡ L.parts }
-    requires one { blank.parts ≡ 1 }
+fn moved(lists: &mut LinkedLists) -> (Option<u32>, Option<u32>, Option<u32>, u64, u32, u32)
     requires lists { lists.old ≡ record { room = 5; numbers = 0 ∷ 0 ∷ 10 ∷ 20 ∷ 30 ∷ []; owners = 2 ∷ 2 ∷ 2 ∷ 2 ∷ 2 ∷ []; lists = [] ∷ [] ∷ [] } }
 {
-    let mut steps = Steps::<L>::open(blank);
+    let mut steps = Steps::new();
     lists.put_last(0, 2, &mut steps);
     lists.put_last(0, 4, &mut steps);
     lists.put_near(0, 0, 3, 20, &mut steps);
@@ -45,7 +37,7 @@ fn places_are_linked(rt: HostRuntime) {
     lists.set_number(3, 20);
     expect_eq(
         &rt,
-        moved::<Brand>(&mut lists, Blank::new(1)),
+        moved(&mut lists),
         (Some(3), Some(4), Some(2), 20, 3, 0),
     );
     drop(lists);

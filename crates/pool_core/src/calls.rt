@@ -10,7 +10,6 @@ use pool_plans::{
     clients, groups, in_callback, io, kernels, objects, pools, timers, wait_objects, waits, work,
     workers,
 };
-use std::sync::ledger::Ledger;
 use steps::Steps;
 use tp_base::answers::{ActionKind, Outcome};
 use tp_base::calls::{Call, Environ, Kind, Lock};
@@ -44,13 +43,13 @@ impl Engine {
     /// As `step_into`, and counts the nodes that a Take reads of the lists of callbacks: three at most, however many
     /// callbacks are pending. Of any other call it counts none.
     #[inline(always)]
-    pub fn step_counted<L: Ledger>(
+    pub fn step_counted(
         &mut self,
         who: Who,
         call: &Call,
         room: u64,
         outcome: &mut Outcome,
-        steps: &mut Steps<L>,
+        steps: &mut Steps,
     )
         requires in_range { IsCallInRange call.now }
         requires young { self.old.age < 2 ^ 47 }
@@ -483,7 +482,7 @@ impl Engine {
     }
 
     #[inline(never)]
-    fn take<L: Ledger>(&mut self, who: Who, room: u64, outcome: &mut Outcome, steps: &mut Steps<L>)
+    fn take(&mut self, who: Who, room: u64, outcome: &mut Outcome, steps: &mut Steps)
         requires young { self.old.age < 2 ^ 47 }
         ensures made { IsMade self.old self.new room who Call.Take outcome.new }
         ensures counted { steps.old ≤ steps.new }

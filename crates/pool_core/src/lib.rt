@@ -57,8 +57,7 @@ ghost use Rattle.tp_model.specs.Support.Remembered.{StandsFor};
 
 use machine::Machine;
 use std::alloc::{AllocError, Global};
-use std::marker::{Brand, Model};
-use std::sync::ledger::{Blank, Ledger};
+use std::marker::Model;
 use steps::Steps;
 use tp_base::answers::Outcome;
 use tp_base::calls::Call;
@@ -114,27 +113,7 @@ impl Engine {
         requires young { self.old.age < 2 ^ 47 }
         ensures made { IsMade self.old self.new room who call.now outcome.new }
     {
-        self.step_with::<Brand>(who, call, room, outcome, Blank::new(1));
-    }
-
-    // `step_into` with a counter of its own.
-    #[inline(always)]
-    fn step_with<L: Ledger>(
-        &mut self,
-        who: Who,
-        call: &Call,
-        room: u64,
-        outcome: &mut Outcome,
-        blank: Blank,
-    )
-        requires name { blank.name ≡ L.name }
-        requires parts { blank.parts ≡ L.parts }
-        requires one { blank.parts ≡ 1 }
-        requires in_range { IsCallInRange call.now }
-        requires young { self.old.age < 2 ^ 47 }
-        ensures made { IsMade self.old self.new room who call.now outcome.new }
-    {
-        let mut steps = Steps::<L>::open(blank);
+        let mut steps = Steps::new();
         self.step_counted(who, call, room, outcome, &mut steps);
     }
 

@@ -19,8 +19,7 @@ use crate::prices::price;
 use live_world::LiveWorld;
 use pool_plans::decisions::Decision;
 use std::alloc::{AllocError, Global};
-use std::marker::{Brand, Model};
-use std::sync::ledger::{Blank, Ledger};
+use std::marker::Model;
 use steps::Steps;
 use tp_base::answers::{Answer, Outcome, Refusal};
 use tp_base::calls::Call;
@@ -93,36 +92,13 @@ impl Machine {
         requires plan { decided decision outcome.old change.now ≡ Some (plan_at self.old.world (self.old.made + 1) room who call) }
         ensures made { IsMade self.old self.new room who call outcome.new }
     {
-        self.settle_with::<Brand>(who, call, decision, change, room, outcome, Blank::new(1));
-    }
-
-    // `settle` with a counter of its own.
-    #[inline(always)]
-    fn settle_with<L: Ledger>(
-        &mut self,
-        who: Who,
-        call: Call,
-        decision: Decision,
-        change: &Change,
-        room: u64,
-        outcome: &mut Outcome,
-        blank: Blank,
-    )
-        requires name { blank.name ≡ L.name }
-        requires parts { blank.parts ≡ L.parts }
-        requires one { blank.parts ≡ 1 }
-        requires in_range { IsCallInRange call }
-        requires young { self.old.age < 2 ^ 47 }
-        requires plan { decided decision outcome.old change.now ≡ Some (plan_at self.old.world (self.old.made + 1) room who call) }
-        ensures made { IsMade self.old self.new room who call outcome.new }
-    {
-        let mut steps = Steps::<L>::open(blank);
+        let mut steps = Steps::new();
         self.settle_counted(who, call, decision, change, room, outcome, &mut steps);
     }
 
     /// As `settle`, and counts the nodes that a Take reads.
     #[inline(always)]
-    pub(crate) fn settle_counted<L: Ledger>(
+    pub(crate) fn settle_counted(
         &mut self,
         who: Who,
         call: Call,
@@ -130,7 +106,7 @@ impl Machine {
         change: &Change,
         room: u64,
         outcome: &mut Outcome,
-        steps: &mut Steps<L>,
+        steps: &mut Steps,
     )
         requires in_range { IsCallInRange call }
         requires young { self.old.age < 2 ^ 47 }
@@ -165,13 +141,7 @@ impl Machine {
 
     // Makes a change, where the history has room for what it costs; else the outcome is Full.
     #[inline(always)]
-    fn enter<L: Ledger>(
-        &mut self,
-        change: &Change,
-        room: u64,
-        outcome: &mut Outcome,
-        steps: &mut Steps<L>,
-    )
+    fn enter(&mut self, change: &Change, room: u64, outcome: &mut Outcome, steps: &mut Steps)
         requires allowed { IsAllowed (self.old.made + 1) self.old.world change.now }
         requires outcome_in_range { IsOutcomeInRange outcome.old }
         requires change_in_range { IsChangeInRange change.now }
@@ -192,7 +162,7 @@ impl Machine {
 
     // Makes a change that the world allows, and counts what the history owes and the age.
     #[inline(always)]
-    fn apply<L: Ledger>(&mut self, change: &Change, steps: &mut Steps<L>)
+    fn apply(&mut self, change: &Change, steps: &mut Steps)
         requires allowed { IsAllowed (self.old.made + 1) self.old.world change.now }
         requires in_range { IsChangeInRange change.now }
         requires young { self.old.age < 2 ^ 47 }

@@ -13,7 +13,6 @@ use crate::refusals::first_of;
 use crate::triggers::first_number;
 use live_queries::{at_work, count_returned, idle, may_leave, pool_to_join};
 use live_world::LiveWorld;
-use std::sync::ledger::Ledger;
 use steps::Steps;
 use tp_base::answers::{Answer, Look, Outcome, Refusal};
 use tp_base::ids::{PoolId, Who};
@@ -84,12 +83,12 @@ pub fn detach(world: &LiveWorld, who: Who, change: &mut Change, outcome: &mut Ou
 /// A worker begins the next callback of its pool. `steps` counts the nodes that are read to find that: one at
 /// most.
 #[tactic(auto, unfolding(tp_model::specs::Calls::Workers::take_plan))]
-pub fn take<L: Ledger>(
+pub fn take(
     world: &LiveWorld,
     who: Who,
     change: &mut Change,
     outcome: &mut Outcome,
-    steps: &mut Steps<L>,
+    steps: &mut Steps,
 ) -> Decision
     ensures plan { decided result outcome.new change.new ≡ Some (take_plan world.now.world who) }
     ensures counted { steps.old ≤ steps.new }
@@ -128,11 +127,7 @@ pub fn take<L: Ledger>(
 }
 
 // The callback of a pool that is taken next, if one is pending.
-fn next<'a, L: Ledger>(
-    world: &'a LiveWorld,
-    pool: PoolId,
-    steps: &mut Steps<L>,
-) -> Option<&'a CallbackRow>
+fn next<'a>(world: &'a LiveWorld, pool: PoolId, steps: &mut Steps) -> Option<&'a CallbackRow>
     ensures value { option_copied result ≡ next_of world.now.world pool.0 }
     ensures counted { steps.old ≤ steps.new }
     ensures bound { steps.new ≤ steps.old + 1 }

@@ -2,46 +2,49 @@
 //! so can say how many steps a call takes at most.
 //!
 //! ```text
-//! let mut steps = Steps::<L>::open(blank);
+//! let mut steps = Steps::new();
 //! heap.set_counted(key, due, &mut steps);     // its contract bounds what it adds
 //! ```
 
 #![tactic(auto)]
 
-ghost use Rattle.std.specs.Prelude.{◌≡◌, ◌+◌, ◌<◌};
+ghost use Rattle.std.specs.Prelude.{◌≡◌, ◌+◌};
 
+use ghost_copy::GhostCopy;
 use std::marker::Model;
-use std::sync::ledger::{Blank, Book, Ledger, Share};
+use std::mem;
+
+// How many steps were counted: none, or one more than before.
+#[derive(Drop)]
+enum Count {
+    Zero,
+    More(GhostCopy<Count>),
+}
 
 /// A counter, seen as a number.
 #[derive(Drop)]
-pub struct Steps<L: Ledger> {
-    book: Book<L>,
-    // It has a part of the ledger, without which nothing is added.
-    share: Share<L>,
+pub struct Steps {
+    count: GhostCopy<Count>,
 }
 
-impl<L: Ledger> Model for Steps<L> {
-    ghost use Rattle.std.specs.Prelude.{ℕ, ◌<◌};
+impl Model for Steps {
+    ghost use Rattle.std.specs.Prelude.{ℕ};
+    ghost use Rattle.steps.specs.Counted.{count_of};
 
     ghost Value = { ℕ };
 
-    ghost view = { λ s. s.book.total };
-
-    ghost invariant = { λ s. 0 < s.share.parts };
+    ghost view = { λ s. count_of s.count.value };
 }
 
-impl<L: Ledger> Steps<L> {
-    /// A counter at 0. It stands for the ledger that nothing stands for yet.
+impl Steps {
+    /// A counter at 0.
     #[inline(always)]
-    pub fn open(blank: Blank) -> Steps<L>
-        requires name { blank.name ≡ L.name }
-        requires parts { blank.parts ≡ L.parts }
-        requires some { 0 < L.parts }
+    pub fn new() -> Steps
         ensures { result ≡ 0 }
     {
-        let (book, share) = blank.open::<L>();
-        Steps { book, share }
+        Steps {
+            count: GhostCopy::of(&Count::Zero),
+        }
     }
 
     /// Counts one step.
@@ -49,6 +52,7 @@ impl<L: Ledger> Steps<L> {
     pub fn tick(&mut self)
         ensures { self.new ≡ self.old + 1 }
     {
-        self.book.add(&mut self.share, 1);
+        let before = mem::replace(&mut self.count, GhostCopy::of(&Count::Zero));
+        self.count = GhostCopy::of(&Count::More(before));
     }
 }

@@ -5,7 +5,6 @@ ghost use Rattle.timer_heap.specs.Held.{exchanged, times};
 
 use std::alloc::{AllocError, Global};
 use std::marker::Model;
-use std::sync::ledger::Ledger;
 use steps::Steps;
 
 /// Keys in places, seen as the list of those that are held, by place. No key is held twice.
@@ -88,7 +87,7 @@ impl Places {
 
     /// Puts the keys at two places each in the other's place. That is one step, and no other call
     /// moves a key.
-    pub fn exchange<L: Ledger>(&mut self, a: u32, b: u32, steps: &mut Steps<L>)
+    pub fn exchange(&mut self, a: u32, b: u32, steps: &mut Steps)
         requires first { a < length self.old.held }
         requires second { b < length self.old.held }
         ensures held { self.new ≡ record self.old { held = exchanged a b self.old.held } }

@@ -46,17 +46,17 @@ fewer false true onwards = let no : false ≡ true = onwards refl in absurd (cc)
 fewer false false onwards = omega arith
 
 pub stands-to-requires-clause-home : goal.stands-to-requires-clause-home
-stands-to-requires-clause-home g c =
+stands-to-requires-clause-home c =
     let m = moving c.self.inside c.args.before.now c.args.after c.self.invariant c.len-known.ensures.apart c.len-known.ensures.within c.requires.goes (rw (← c.self.view_is) at c.requires.found) in
     m.home
 
 pub unwrap-key-requires : goal.unwrap-key-requires
-unwrap-key-requires g c =
+unwrap-key-requires c =
     let m = moving c.self.inside c.args.before.now c.args.after c.self.invariant c.len-known.ensures.apart c.len-known.ensures.within c.requires.goes (rw (← c.self.view_is) at c.requires.found) in
     ap is_some (c.key_of.ensures ∙ key_found m.is c.args.after.number c.requires.goes.number)
 
 pub near-near-requires-clause-line : goal.near-near-requires-clause-line
-near-near-requires-clause-line g c pending =
+near-near-requires-clause-line c pending =
     let i = c.self.inside in
     let r = c.args.after in
     let m = moving i c.args.before.now r c.self.invariant c.len-known.ensures.apart c.len-known.ensures.within c.requires.goes (rw (← c.self.view_is) at c.requires.found) in
@@ -72,14 +72,14 @@ near-near-requires-clause-line g c pending =
     queue_line pools objects queue object Cancelled pending = absurd (cc)
 
 pub near-near-requires-clause-order : goal.near-near-requires-clause-order
-near-near-requires-clause-order g c within =
+near-near-requires-clause-order c within =
     let m = moving c.self.inside c.args.before.now c.args.after c.self.invariant c.len-known.ensures.apart c.len-known.ensures.within c.requires.goes (rw (← c.self.view_is) at c.requires.found) in
     let same = key_is m.is c.args.after.number c.requires.goes.number c.key_of.result c.unwrap-key.result c.key_of.ensures c.unwrap-key.ensures in
     let may = may_line c.unwrap-key.result c.stands-to.result (λ heads line. line c.args.after) c.self.invariant.standing (of_row c.self.inside.lists c.stands-to.result c.args.after c.stands-to.ensures) c.self.invariant.rising.0 c.self.invariant.rising.1 (omega (arith, same, m.places)) in
     may.order (omega (arith, within, may.many))
 
 pub overflow_sub-self-2 : goal.overflow_sub-self-2
-overflow_sub-self-2 g c =
+overflow_sub-self-2 c =
     let i = c.self.inside in
     let k = c.self.invariant in
     let b = c.args.before.now in
@@ -88,25 +88,25 @@ overflow_sub-self-2 g c =
     omega (arith, k.counted, c.operations.ensures, c.operations-2.ensures, length_filter_replaced (λ (x : CallbackRow). is_operating x.status) r b 0 k.rising.0 (rows_of i.rows.held) k.rising.1 m.found)
 
 pub settle-requires-clause-line : goal.settle-requires-clause-line
-settle-requires-clause-line g c =
+settle-requires-clause-line c =
     let m = moving c.self.inside c.args.before.now c.args.after c.self.invariant c.len-known.ensures.apart c.len-known.ensures.within c.requires.goes (rw (← c.self.view_is) at c.requires.found) in
     let same = key_is m.is c.args.after.number c.requires.goes.number c.key_of.result c.unwrap-key.result c.key_of.ensures c.unwrap-key.ensures in
     may_line c.unwrap-key.result c.stands-to.result (λ heads line. line c.args.after) c.self.invariant.standing (of_row c.self.inside.lists c.stands-to.result c.args.after c.stands-to.ensures) c.self.invariant.rising.0 c.self.invariant.rising.1 (omega (arith, same, m.places))
 
 pub settle-requires-clause-object : goal.settle-requires-clause-object
-settle-requires-clause-object g c =
+settle-requires-clause-object c =
     let m = moving c.self.inside c.args.before.now c.args.after c.self.invariant c.len-known.ensures.apart c.len-known.ensures.within c.requires.goes (rw (← c.self.view_is) at c.requires.found) in
     let same = key_is m.is c.args.after.number c.requires.goes.number c.key_of.result c.unwrap-key.result c.key_of.ensures c.unwrap-key.ensures in
     may_object c.unwrap-key.result c.stands-to.result (λ heads line. line c.args.after) c.self.invariant.standing (of_row c.self.inside.lists c.stands-to.result c.args.after c.stands-to.ensures) c.self.invariant.rising.0 c.self.invariant.rising.1 (omega (arith, same, m.places))
 
 pub settle-requires-clause-group : goal.settle-requires-clause-group
-settle-requires-clause-group g c =
+settle-requires-clause-group c =
     let m = moving c.self.inside c.args.before.now c.args.after c.self.invariant c.len-known.ensures.apart c.len-known.ensures.within c.requires.goes (rw (← c.self.view_is) at c.requires.found) in
     let same = key_is m.is c.args.after.number c.requires.goes.number c.key_of.result c.unwrap-key.result c.key_of.ensures c.unwrap-key.ensures in
     may_group c.unwrap-key.result c.stands-to.result (λ heads line. line c.args.after) c.self.invariant.standing (of_row c.self.inside.lists c.stands-to.result c.args.after c.stands-to.ensures) c.self.invariant.rising.0 c.self.invariant.rising.1 (omega (arith, same, m.places))
 
 pub invariant_of-self : goal.invariant_of-self
-invariant_of-self g c =
+invariant_of-self c =
     let i = c.self.inside in
     let k = c.self.invariant in
     let b = c.args.before.now in
@@ -140,14 +140,14 @@ invariant_of-self g c =
     })
 
 pub returns-clause-moved : goal.returns-clause-moved
-returns-clause-moved g c =
+returns-clause-moved c =
     let i = c.self.inside in
     let rows = rows_put c.args.after.number c.args.after i.rows.held in
     let done = c.settle.ensures.settled in
     rw (← c.self.view_is, c.replace.ensures, rows, done.pools, done.objects) refl
 
 pub returns-clause-bound : goal.returns-clause-bound
-returns-clause-bound g c pending operating =
+returns-clause-bound c pending operating =
     let i = c.self.inside in
     let b = c.args.before.now in
     let r = c.args.after in

@@ -36,7 +36,7 @@ module _ (i : Inside) (k : IsKept i) (apart : AreApart i.rows.held) (pool : ℕ)
       subst (LeadsToNext i pool) (sym none) (record { held = tt; next = sym nowhere })
 
 pub lent_behind-requires : goal.lent_behind-requires
-lent_behind-requires g c =
+lent_behind-requires c =
     let i = c.self.inside in
     rw c.lines.ensures
     (elim c.if-pool-self.branch [
@@ -45,7 +45,7 @@ lent_behind-requires g c =
     ])
 
 pub returns-clause-value : goal.returns-clause-value
-returns-clause-value g c =
+returns-clause-value c =
     let i = c.self.inside in
     let behind = c.lent_behind.ensures ∙ ap (λ heads. row_behind heads i.rows.held c.if-pool-self.place) c.lines.ensures in
     rw (← c.self.view_is)

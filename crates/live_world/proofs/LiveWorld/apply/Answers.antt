@@ -10,4 +10,4 @@ kept : (l : Live) → forget l.world ≡ l.world → l ≡ moved l change.Keep
 kept l living = ap₂ (λ (w : World) (n : ℕ). record { world = w; made = n }) (sym living) (omega arith)
 
 pub returns-in-Keep-clause-after : goal.returns-in-Keep-clause-after
-returns-in-Keep-clause-after g c = kept c.args.self.now c.is_reachable.ensures.living ∙ ap (moved c.args.self.now) (sym c.in-Keep.is)
+returns-in-Keep-clause-after c = kept c.args.self.now c.is_reachable.ensures.living ∙ ap (moved c.args.self.now) (sym c.in-Keep.is)

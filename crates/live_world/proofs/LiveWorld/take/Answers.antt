@@ -5,7 +5,7 @@ use Rattle.live_world.proofs.Moving.{found_here, goes_with, idles_here, pending_
 use Rattle.live_world.proofs.LiveWorld.take.Goals as goal
 
 pub change_counted-requires : goal.change_counted-requires
-change_counted-requires g c =
+change_counted-requires c =
     let d = c.args.callback in
     record {
       found = found_here c.self.inside c.args.self.now d c.self.view_is c.requires.found;
@@ -13,15 +13,15 @@ change_counted-requires g c =
     }
 
 pub take-requires-clause-a_callback : goal.take-requires-clause-a_callback
-take-requires-clause-a_callback g c =
+take-requires-clause-a_callback c =
     let found = found_here c.self.inside c.args.self.now c.args.callback c.self.view_is c.requires.found in
     omega (arith, (found_bounds c.args.callback.number 1 (c.self.inside.made + 1) c.args.callback c.self.inside.callbacks.rows c.self.invariant.sound.numbers found).0)
 
 pub take-requires-clause-idle : goal.take-requires-clause-idle
-take-requires-clause-idle g c = idles_here c.self.inside c.args.self.now c.args.by c.self.view_is c.requires.idles
+take-requires-clause-idle c = idles_here c.self.inside c.args.self.now c.args.by c.self.view_is c.requires.idles
 
 pub invariant_of-self : goal.invariant_of-self
-invariant_of-self g c = (taken_by c.self.inside c.args.self.now c.args.by c.args.callback c.take.new.self c.change_counted.new.self c.self.view_is c.self.invariant c.requires c.take.ensures c.change_counted.ensures.moved).keeps
+invariant_of-self c = (taken_by c.self.inside c.args.self.now c.args.by c.args.callback c.take.new.self c.change_counted.new.self c.self.view_is c.self.invariant c.requires c.take.ensures c.change_counted.ensures.moved).keeps
 
 pub returns-clause-after : goal.returns-clause-after
-returns-clause-after g c = (taken_by c.self.inside c.args.self.now c.args.by c.args.callback c.take.new.self c.change_counted.new.self c.self.view_is c.self.invariant c.requires c.take.ensures c.change_counted.ensures.moved).becomes
+returns-clause-after c = (taken_by c.self.inside c.args.self.now c.args.by c.args.callback c.take.new.self c.change_counted.new.self c.self.view_is c.self.invariant c.requires c.take.ensures c.change_counted.ensures.moved).becomes

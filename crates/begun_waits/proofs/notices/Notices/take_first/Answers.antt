@@ -4,13 +4,13 @@ use Rattle.begun_waits.proofs.Noticed.{none_taken, shown_first, shown_taken, the
 use Rattle.begun_waits.proofs.notices.Notices.take_first.Goals as goal
 
 pub take_out-requires : goal.take_out-requires
-take_out-requires g c =
+take_out-requires c =
     let there = rw (← c.self.view_is) at c.requires.there in
     let first = shown_first c.self.inside.actors c.self.inside.objects c.self.inside.lists c.args.actor c.in-Some.place there c.first.ensures.owned (sym c.in-Some.is ∙ c.first.ensures.value) in
     omega (arith, first.owner, there_in c.self.inside.actors c.self.inside.objects c.self.inside.lists c.args.actor there)
 
 pub invariant_of-self : goal.invariant_of-self
-invariant_of-self g c =
+invariant_of-self c =
     let there = rw (← c.self.view_is) at c.requires.there in
     let first = shown_first c.self.inside.actors c.self.inside.objects c.self.inside.lists c.args.actor c.in-Some.place there c.first.ensures.owned (sym c.in-Some.is ∙ c.first.ensures.value) in
     rw (c.take_out.ensures.after, first.owner)
@@ -18,10 +18,10 @@ invariant_of-self g c =
     (omega (arith, c.self.invariant.many)) c.self.invariant)
 
 pub returns-in-Some : goal.returns-in-Some
-returns-in-Some g c =
+returns-in-Some c =
     let there = rw (← c.self.view_is) at c.requires.there in
     let first = shown_first c.self.inside.actors c.self.inside.objects c.self.inside.lists c.args.actor c.in-Some.place there c.first.ensures.owned (sym c.in-Some.is ∙ c.first.ensures.value) in
     rw (← c.self.view_is, c.take_out.ensures.after, first.owner) (shown_taken c.self.inside.actors c.self.inside.objects c.self.inside.lists c.args.actor c.in-Some.place (length c.self.inside.lists.lists) first)
 
 pub returns : goal.returns
-returns g c = rw (← c.self.view_is) (none_taken c.self.inside.actors c.self.inside.objects c.self.inside.lists c.args.actor (sym c.first.ensures.value ∙ c.in_default.is))
+returns c = rw (← c.self.view_is) (none_taken c.self.inside.actors c.self.inside.objects c.self.inside.lists c.args.actor (sym c.first.ensures.value ∙ c.in_default.is))

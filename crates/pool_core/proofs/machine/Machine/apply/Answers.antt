@@ -36,16 +36,16 @@ age_here : (i : Inside) (e : Remembered) → remembered i ≡ e → i.age ≡ e.
 age_here i e same = ap (λ (r : Remembered). r.age) same
 
 pub overflow_add-self : goal.overflow_add-self
-overflow_add-self g c =
+overflow_add-self c =
     let cost = (few_here c.self.inside c.args.self.now c.args.change.now c.self.view_is c.is_reachable.ensures.bounded c.requires.allowed c.self.invariant).cost in
     omega (arith, cost, c.price.ensures, c.self.invariant.few_owed, age_here c.self.inside c.args.self.now c.self.view_is, c.requires.young)
 
 pub overflow_sub-self : goal.overflow_sub-self
-overflow_sub-self g c =
+overflow_sub-self c =
     omega (arith, pays c.self.inside c.args.self.now c.args.change.now c.self.view_is c.is_reachable.ensures.sound c.requires.allowed c.self.invariant, c.price.ensures)
 
 pub invariant_of-self : goal.invariant_of-self
-invariant_of-self g c =
+invariant_of-self c =
     let i = c.self.inside in
     let ch = c.args.change.now in
     let paid_for = pays i c.args.self.now ch c.self.view_is c.is_reachable.ensures.sound c.requires.allowed c.self.invariant in
@@ -62,7 +62,7 @@ invariant_of-self g c =
     }
 
 pub returns-clause-after : goal.returns-clause-after
-returns-clause-after g c =
+returns-clause-after c =
     let i = c.self.inside in
     let ch = c.args.change.now in
     let after = changed i.live.world ch in

@@ -65,29 +65,29 @@ ranged i e room who call same k young s b in_range =
     (plan_ranged (i.live.made + 1) i.live.world few s (record { limits = b.limits; pools_least = b.pools_least; pools_most = b.pools_most; slots_most = taken_within i.live.world b; running_most = b.running_most; rows = k.rows }) room who call in_range)
 
 pub refuse-requires : goal.refuse-requires
-refuse-requires g c =
+refuse-requires c =
     subst IsPlanInRange (refused _ c.args.outcome.now c.args.change.now c.args.decision c.in-Refused.refusal c.requires.plan c.in-Refused.is)
     (ranged c.self.inside c.args.self.now c.args.room c.args.who c.args.call c.self.view_is c.self.invariant c.requires.young c.is_reachable.ensures.sound c.is_reachable.ensures.bounded c.requires.in_range)
 
 pub enter-requires-clause-allowed : goal.enter-requires-clause-allowed
-enter-requires-clause-allowed g c =
+enter-requires-clause-allowed c =
     let e = c.args.self.now in
     let a = answered _ c.args.outcome.now c.args.change.now c.args.decision c.requires.plan c.in-Accepted.is in
     (plan_allowed (e.made + 1) c.args.room e.world c.args.who c.args.call a.answer c.args.change.now (sound c.self.inside e c.self.view_is c.is_reachable.ensures.sound) a.does).allowed
 
 pub enter-requires-clause-outcome_in_range : goal.enter-requires-clause-outcome_in_range
-enter-requires-clause-outcome_in_range g c =
+enter-requires-clause-outcome_in_range c =
     let a = answered _ c.args.outcome.now c.args.change.now c.args.decision c.requires.plan c.in-Accepted.is in
     subst IsOutcomeInRange (sym a.told_is)
     (subst IsPlanInRange a.does (ranged c.self.inside c.args.self.now c.args.room c.args.who c.args.call c.self.view_is c.self.invariant c.requires.young c.is_reachable.ensures.sound c.is_reachable.ensures.bounded c.requires.in_range)).0
 
 pub enter-requires-clause-change_in_range : goal.enter-requires-clause-change_in_range
-enter-requires-clause-change_in_range g c =
+enter-requires-clause-change_in_range c =
     let a = answered _ c.args.outcome.now c.args.change.now c.args.decision c.requires.plan c.in-Accepted.is in
     (subst IsPlanInRange a.does (ranged c.self.inside c.args.self.now c.args.room c.args.who c.args.call c.self.view_is c.self.invariant c.requires.young c.is_reachable.ensures.sound c.is_reachable.ensures.bounded c.requires.in_range)).1
 
 pub returns-in-Looked-clause-made : goal.returns-in-Looked-clause-made
-returns-in-Looked-clause-made g c =
+returns-in-Looked-clause-made c =
     let is = looked _ c.args.outcome.now c.args.change.now c.args.decision c.in-Looked.look c.requires.plan c.in-Looked.is in
     record {
       meets = λ w stands. meets_looked c.args.self.now w c.args.room c.args.who c.args.call c.in-Looked.look is stands;
@@ -95,7 +95,7 @@ returns-in-Looked-clause-made g c =
     }
 
 pub returns-after-call-clause-made : goal.returns-after-call-clause-made
-returns-after-call-clause-made g c =
+returns-after-call-clause-made c =
     let same : c.match-call.self ≡ c.args.self.now = search rules in
     record {
       meets = λ w stands. subst (λ (e : Remembered). Meets c.args.self.now e w (step w c.args.room c.args.who c.args.call) c.refuse.result) (sym same)
@@ -105,7 +105,7 @@ returns-after-call-clause-made g c =
     }
 
 pub returns-in-Accepted-clause-made : goal.returns-in-Accepted-clause-made
-returns-in-Accepted-clause-made g c =
+returns-in-Accepted-clause-made c =
     let a = answered _ c.args.outcome.now c.args.change.now c.args.decision c.requires.plan c.in-Accepted.is in
     record {
       meets = λ w stands. meets_done c.args.self.now w c.args.room c.args.who c.args.call c.enter.new.self a.answer c.args.change.now c.enter.new.outcome
@@ -115,7 +115,7 @@ returns-in-Accepted-clause-made g c =
     }
 
 pub returns-in-Accepted-clause-bound : goal.returns-in-Accepted-clause-bound
-returns-in-Accepted-clause-bound g c is =
+returns-in-Accepted-clause-bound c is =
     let e = c.args.self.now in
     let a = answered _ c.args.outcome.now c.args.change.now c.args.decision c.requires.plan c.in-Accepted.is in
     let takes_one = takes e.world (e.made + 1) c.args.room c.args.who c.args.call a.answer c.args.change.now is a.does in

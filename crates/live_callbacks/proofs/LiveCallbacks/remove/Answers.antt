@@ -8,23 +8,23 @@ use Rattle.live_callbacks.specs.Lists.{IsAtHome, marks}
 use Rattle.live_callbacks.proofs.Parts.{left}
 use Rattle.live_callbacks.proofs.Settled.{IsStep}
 use Rattle.live_callbacks.proofs.Standing.{among, count_fewer, key_found, key_is, may_group, may_line, may_object, of_none, out_among, rows_out, stand}
-use Rattle.live_callbacks.proofs.LiveCallbacks.remove_with.Goals as goal
+use Rattle.live_callbacks.proofs.LiveCallbacks.remove.Goals as goal
 
 pub unwrap-key-requires : goal.unwrap-key-requires
-unwrap-key-requires g c =
+unwrap-key-requires c =
     let i = c.self.inside in
     let row = c.args.row.now in
     let is = among c.self.invariant.rising.0 i.rows.held row c.self.invariant.rising.1 c.len-known.ensures.apart (rw (← c.self.view_is) at c.requires.found) in
     ap is_some (c.remove.ensures.key ∙ key_found is row.number refl)
 
 pub overflow_sub-self : goal.overflow_sub-self
-overflow_sub-self g c =
+overflow_sub-self c =
     let i = c.self.inside in
     let row = c.args.row.now in
     omega (arith, c.self.invariant.counted, c.operations.ensures, count_fewer (λ (x : CallbackRow). is_operating x.status) c.self.invariant.rising.0 row 0 (rows_of i.rows.held) c.self.invariant.rising.1 (rw (← c.self.view_is) at c.requires.found))
 
 pub settle-requires-clause-line : goal.settle-requires-clause-line
-settle-requires-clause-line g c =
+settle-requires-clause-line c =
     let i = c.self.inside in
     let row = c.args.row.now in
     let is = among c.self.invariant.rising.0 i.rows.held row c.self.invariant.rising.1 c.len-known.ensures.apart (rw (← c.self.view_is) at c.requires.found) in
@@ -33,7 +33,7 @@ settle-requires-clause-line g c =
     may_line c.unwrap-key.result c.nowhere-to.result (λ heads line. heads) c.self.invariant.standing (of_none i.lists c.nowhere-to.result c.nowhere-to.ensures) c.self.invariant.rising.0 c.self.invariant.rising.1 (omega (arith, same, within))
 
 pub settle-requires-clause-object : goal.settle-requires-clause-object
-settle-requires-clause-object g c =
+settle-requires-clause-object c =
     let i = c.self.inside in
     let row = c.args.row.now in
     let is = among c.self.invariant.rising.0 i.rows.held row c.self.invariant.rising.1 c.len-known.ensures.apart (rw (← c.self.view_is) at c.requires.found) in
@@ -42,7 +42,7 @@ settle-requires-clause-object g c =
     may_object c.unwrap-key.result c.nowhere-to.result (λ heads line. heads) c.self.invariant.standing (of_none i.lists c.nowhere-to.result c.nowhere-to.ensures) c.self.invariant.rising.0 c.self.invariant.rising.1 (omega (arith, same, within))
 
 pub settle-requires-clause-group : goal.settle-requires-clause-group
-settle-requires-clause-group g c =
+settle-requires-clause-group c =
     let i = c.self.inside in
     let row = c.args.row.now in
     let is = among c.self.invariant.rising.0 i.rows.held row c.self.invariant.rising.1 c.len-known.ensures.apart (rw (← c.self.view_is) at c.requires.found) in
@@ -51,7 +51,7 @@ settle-requires-clause-group g c =
     may_group c.unwrap-key.result c.nowhere-to.result (λ heads line. heads) c.self.invariant.standing (of_none i.lists c.nowhere-to.result c.nowhere-to.ensures) c.self.invariant.rising.0 c.self.invariant.rising.1 (omega (arith, same, within))
 
 pub invariant_of-self : goal.invariant_of-self
-invariant_of-self g c =
+invariant_of-self c =
     let i = c.self.inside in
     let k = c.self.invariant in
     let row = c.args.row.now in
@@ -79,7 +79,7 @@ invariant_of-self g c =
     })
 
 pub returns : goal.returns
-returns g c =
+returns c =
     let i = c.self.inside in
     let rows = rows_out c.args.row.now.number i.rows.held in
     let done = c.settle.ensures.settled in

@@ -13,7 +13,7 @@ use Rattle.live_callbacks.specs.Lists.{IsAtHome}
 use Rattle.live_callbacks.specs.declared.LiveCallbacks.TheInside.{Inside}
 use Rattle.live_callbacks.proofs.Parts.{came}
 use Rattle.live_callbacks.proofs.Standing.{count_more, count_most, may_group, may_line, may_object, of_row, stand}
-use Rattle.live_callbacks.proofs.LiveCallbacks.push_with.Goals as goal
+use Rattle.live_callbacks.proofs.LiveCallbacks.push.Goals as goal
 
 -- a new row in terms of the parts
 record IsComing (i : Inside) (r : CallbackRow) : Type 0 where
@@ -40,13 +40,13 @@ rising_below low number next_number [] le rising below = le
 rising_below low number next_number (h ∷ hs) le rising below = (rising.0, rising_below (h.row.number + 1) number next_number hs (omega (arith, below.0)) rising.1 below.1)
 
 pub push-key-requires-clause-last : goal.push-key-requires-clause-last
-push-key-requires-clause-last g c =
+push-key-requires-clause-last c =
     let i = c.self.inside in
     let new = coming i c.args.row c.args.self.now c.self.view_is c.requires.room c.requires.pool c.requires.object c.requires.last in
     All-from_recursion (λ (h : Held). h.row.number < c.args.row.number) i.rows.held new.above
 
 pub overflow_add-self : goal.overflow_add-self
-overflow_add-self g c =
+overflow_add-self c =
     let i = c.self.inside in
     let new = coming i c.args.row c.args.self.now c.self.view_is c.requires.room c.requires.pool c.requires.object c.requires.last in
     let most = count_most (λ (x : CallbackRow). is_operating x.status) (rows_of i.rows.held) in
@@ -57,19 +57,19 @@ overflow_add-self g c =
     one false = omega arith
 
 pub settle-requires-clause-line : goal.settle-requires-clause-line
-settle-requires-clause-line g c =
+settle-requires-clause-line c =
     may_line c.push-key.result c.stands-to.result (λ heads line. line c.args.row) c.self.invariant.standing (of_row c.self.inside.lists c.stands-to.result c.args.row c.stands-to.ensures) c.self.invariant.rising.0 c.self.invariant.rising.1 (rw c.push-key.ensures.after at c.push-key.ensures.within)
 
 pub settle-requires-clause-object : goal.settle-requires-clause-object
-settle-requires-clause-object g c =
+settle-requires-clause-object c =
     may_object c.push-key.result c.stands-to.result (λ heads line. line c.args.row) c.self.invariant.standing (of_row c.self.inside.lists c.stands-to.result c.args.row c.stands-to.ensures) c.self.invariant.rising.0 c.self.invariant.rising.1 (rw c.push-key.ensures.after at c.push-key.ensures.within)
 
 pub settle-requires-clause-group : goal.settle-requires-clause-group
-settle-requires-clause-group g c =
+settle-requires-clause-group c =
     may_group c.push-key.result c.stands-to.result (λ heads line. line c.args.row) c.self.invariant.standing (of_row c.self.inside.lists c.stands-to.result c.args.row c.stands-to.ensures) c.self.invariant.rising.0 c.self.invariant.rising.1 (rw c.push-key.ensures.after at c.push-key.ensures.within)
 
 pub invariant_of-self : goal.invariant_of-self
-invariant_of-self g c =
+invariant_of-self c =
     let i = c.self.inside in
     let k = c.self.invariant in
     let r = c.args.row in
@@ -88,7 +88,7 @@ invariant_of-self g c =
     })
 
 pub returns : goal.returns
-returns g c =
+returns c =
     let i = c.self.inside in
     let h : Held = record { key = c.push-key.result; row = c.args.row } in
     let rows : rows_of (i.rows.held ++ h ∷ []) ≡ rows_of i.rows.held ++ c.args.row ∷ [] = map-append (λ (x : Held). x.row) i.rows.held (h ∷ []) in
