@@ -47,7 +47,7 @@ impl Notices {
 
     // The first object of an actor, or None where it has no notice to give.
     pub(crate) fn first(&self, actor: u32) -> Option<ObjectId>
-        requires there { actor < length self.now.lists }
+        requires { actor < length self.now.lists }
         ensures { result ≡ slice_get (told_at self.now actor) 0 }
     {
         let mut steps = Steps::new();
@@ -70,7 +70,7 @@ impl Notices {
 
     // An actor's first object goes, if it has one.
     pub(crate) fn take_first(&mut self, actor: u32)
-        requires there { actor < length self.old.lists }
+        requires { actor < length self.old.lists }
         ensures { self.new ≡ with_told self.old actor (drop 1 (told_at self.old actor)) }
     {
         let mut steps = Steps::new();
@@ -81,7 +81,7 @@ impl Notices {
 
     // All objects of an actor go.
     pub(crate) fn clear(&mut self, actor: u32)
-        requires there { actor < length self.old.lists }
+        requires { actor < length self.old.lists }
         ensures { self.new ≡ with_told self.old actor [] }
     {
         let mut steps = Steps::new();

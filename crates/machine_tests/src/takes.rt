@@ -1,4 +1,4 @@
-//! How many nodes of lists a take reads, where a pool has as many pending callbacks as there can be.
+//! How many nodes of lists a take reads, where as many callbacks are pending as there can be.
 
 ghost use Rattle.std.specs.Prelude.{◌≡◌, ◌+◌, ◌^◌, ◌<◌, ◌≤◌};
 ghost use Rattle.tp_base.specs.Ranges.{IsCallInRange};
@@ -8,11 +8,14 @@ use pool_core::Engine;
 use recorded::program_limits;
 use std::process::Abort;
 use steps::Steps;
-use tp_base::answers::{Answer, Look, Outcome, TakeResult};
+use tp_base::answers::{Answer, Look, Outcome, SlotWord, TakeResult};
 use tp_base::calls::{Call, Environ, Priority};
 use tp_base::ids::{GroupId, ObjectId, PoolId, RoutineId, Who};
+use tp_base::plans::Change;
 
 const PENDING: u64 = 8_192;
+
+const TAKES: u64 = 2_000_000;
 
 const ROOM: u64 = 65_536;
 
@@ -34,64 +37,91 @@ fn submit() -> Call
 }
 
 // Makes a call, which comes to this.
-fn check_step(rt: &impl Abort, engine: &mut Engine, who: Who, call: Call, wanted: Answer)
+fn check_step(
+    rt: &impl Abort,
+    engine: &mut Engine,
+    change: &mut Change,
+    who: Who,
+    call: Call,
+    wanted: Answer,
+)
     requires { IsCallInRange call }
 {
     assert!(rt; engine.age() < 1 << 47);
     let mut told = Outcome::Look(Look::Stay);
-    engine.step_into(who, &call, ROOM, &mut told);
+    engine.step_into(who, &call, ROOM, &mut told, change);
     expect_eq(rt, told, Outcome::Done(wanted));
 }
 
-// Submits callbacks, of the numbers from 1 on.
-fn submit_all(rt: &impl Abort, engine: &mut Engine, count: u64) {
-    for made in 0..count {
-        let queued = Answer::Queued {
-            first: made + 1,
-            count: 1,
-        };
-        check_step(rt, engine, Who::Client(1), submit(), queued);
-    }
-}
-
 // What the take of worker 1 comes to. However many callbacks are pending, its steps are three at most.
-fn counted_take(engine: &mut Engine, steps: &mut Steps) -> Outcome
+fn counted_take(engine: &mut Engine, change: &mut Change, steps: &mut Steps) -> Outcome
     requires { engine.old.age < 2 ^ 47 }
     ensures { steps.new ≤ steps.old + 3 }
 {
     let mut told = Outcome::Look(Look::Stay);
-    engine.step_counted(Who::Worker(1), &Call::Take, ROOM, &mut told, steps);
+    engine.step_counted(Who::Worker(1), &Call::Take, ROOM, &mut told, change, steps);
     told
 }
 
-// The same, with a counter of its own.
-fn first_take(engine: &mut Engine) -> Outcome
-    requires young { engine.old.age < 2 ^ 47 }
-{
-    let mut steps = Steps::new();
-    counted_take(engine, &mut steps)
+// Submits the callback of this number, behind all that are pending.
+fn check_submit(rt: &impl Abort, engine: &mut Engine, change: &mut Change, number: u64) {
+    let queued = Answer::Queued {
+        first: number,
+        count: 1,
+    };
+    check_step(rt, engine, change, Who::Client(1), submit(), queued);
 }
 
-#[test]
-fn the_first_of_many_is_taken_in_three_steps(rt: HostRuntime) {
-    let mut engine = expect_ok(&rt, Engine::open(rt.alloc(), program_limits(1, 1)));
-    submit_all(&rt, &mut engine, PENDING);
-    let (worker, pool) = (Who::Worker(1), PoolId(0));
-    check_step(
-        &rt,
-        &mut engine,
-        worker,
-        Call::Attach,
-        Answer::Attached { pool },
-    );
-    assert!(&rt; engine.age() < 1 << 47);
+// The callback of this number is the first: worker 1 takes it.
+fn check_take(rt: &impl Abort, engine: &mut Engine, change: &mut Change, number: u64) {
+    assert!(rt; engine.age() < 1 << 47);
     let taken = Answer::Taken {
-        callback: 1,
+        callback: number,
         object: ObjectId(0),
         routine: RoutineId(1),
         context: 70,
         result: TakeResult::Plain,
     };
-    expect_eq(&rt, first_take(&mut engine), Outcome::Done(taken));
+    let told = counted_take(engine, change, &mut Steps::new());
+    expect_eq(rt, told, Outcome::Done(taken));
+}
+
+#[test]
+fn two_million_are_taken_in_three_steps_each(rt: HostRuntime) {
+    let mut engine = expect_ok(&rt, Engine::open(rt.alloc(), program_limits(1, 1)));
+    let mut change = Change::Keep;
+    let worker = Who::Worker(1);
+    for made in 0..PENDING {
+        check_submit(&rt, &mut engine, &mut change, made + 1);
+    }
+    let attached = Answer::Attached { pool: PoolId(0) };
+    check_step(
+        &rt,
+        &mut engine,
+        &mut change,
+        worker,
+        Call::Attach,
+        attached,
+    );
+    let returned = Answer::Returned {
+        section: SlotWord::Unasked,
+        mutex: SlotWord::Unasked,
+        semaphore: SlotWord::Unasked,
+        event: SlotWord::Unasked,
+        first: 0,
+        count: 0,
+    };
+    for taken in 0..TAKES {
+        check_take(&rt, &mut engine, &mut change, taken + 1);
+        check_step(
+            &rt,
+            &mut engine,
+            &mut change,
+            worker,
+            Call::Return,
+            returned,
+        );
+        check_submit(&rt, &mut engine, &mut change, PENDING + taken + 1);
+    }
     drop(engine);
 }

@@ -30,6 +30,7 @@ use tp_base::answers::Outcome;
 use tp_base::calls::Call;
 use tp_base::ids::{ObjectId, Who};
 use tp_base::limits::Limits;
+use tp_base::plans::Change;
 use tp_model::Left;
 
 mod past;
@@ -37,6 +38,8 @@ mod past;
 /// A history that is being made, and the machine that it is made on.
 pub struct Book {
     engine: Engine,
+    // Where the engine writes what an accepted call changes.
+    change: Change,
     limits: Limits,
     capacity: u32,
     len: u32,
@@ -61,6 +64,7 @@ impl Drop for Book {
     fn drop(self) {
         let Book {
             engine,
+            change: _,
             limits: _,
             capacity: _,
             len: _,
@@ -77,6 +81,7 @@ impl Recorded for Book {
         let engine = Engine::open(alloc, limits)?;
         Ok(Book {
             engine,
+            change: Change::Keep,
             limits,
             capacity,
             len: 0,
@@ -87,7 +92,8 @@ impl Recorded for Book {
     #[inline(always)]
     fn step_into(&mut self, who: Who, call: &Call, outcome: &mut Outcome) {
         let room = self.room();
-        self.engine.step_into(who, call, room, outcome);
+        self.engine
+            .step_into(who, call, room, outcome, &mut self.change);
         if let Outcome::Done(answer) = outcome {
             self.len += 1;
             self.past.push(&who, call, answer);

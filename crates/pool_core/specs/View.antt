@@ -3,7 +3,7 @@ use Rattle.std.specs.Prelude.{◌≡◌, ◌+◌, ◌*◌, ◌≤◌}
 use Rattle.tp_model.specs.Counts.{owed}
 use Rattle.tp_model.specs.Support.Ranged.{AreRowsInRange, AreTakenAtMost}
 use Rattle.tp_model.specs.Support.Remembered.{Remembered}
-use Rattle.pool_core.specs.declared.machine.Machine.TheInside.{Inside}
+use Rattle.pool_core.specs.declared.Engine.TheInside.{Inside}
 
 abbrev pub remembered : Inside → Remembered
 remembered a = record { world = a.live.world; made = a.live.made; age = a.age }

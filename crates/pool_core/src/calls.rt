@@ -14,28 +14,24 @@ use steps::Steps;
 use tp_base::answers::{ActionKind, Outcome};
 use tp_base::calls::{Call, Environ, Kind, Lock};
 use tp_base::ids::{GroupId, KernelId, ObjectId, PoolId, RoutineId, Who};
+use tp_base::plans::Change;
 
 // Makes a call by the method that has its fields. That of a Take counts.
 macro_rules! one_of {
-    ($engine:ident, $who:ident, $call:ident, $room:ident, $outcome:ident, $steps:ident: $($variant:ident $({ $($field:ident),+ })? => $method:ident;)+) => {
+    ($engine:ident, $who:ident, $call:ident, $room:ident, $outcome:ident, $change:ident, $steps:ident: $($variant:ident $({ $($field:ident),+ })? => $method:ident;)+) => {
         match *$call {
-            Call::Take => $engine.take($who, $room, $outcome, $steps),
-            $(Call::$variant $({ $($field),+ })? => $engine.$method($who, $($($field,)+)? $room, $outcome),)+
+            Call::Take => $engine.take($who, $room, $outcome, $change, $steps),
+            $(Call::$variant $({ $($field),+ })? => $engine.$method($who, $($($field,)+)? $room, $outcome, $change),)+
         }
     };
 }
 
 // Decides a call, and has that settled.
 macro_rules! settled {
-    ($engine:ident, $who:ident, $room:ident, $outcome:ident: $call:expr => $module:ident::$plan:ident($($field:ident),*)) => {{
-        let decision = $module::$plan(
-            $engine.machine.world(),
-            $who,
-            $($field,)*
-            &mut $engine.change,
-            $outcome,
-        );
-        $engine.machine.settle($who, $call, decision, &$engine.change, $room, $outcome);
+    ($engine:ident, $who:ident, $room:ident, $outcome:ident, $change:ident: $call:expr => $module:ident::$plan:ident($($field:ident),*)) => {{
+        let mut steps = Steps::new();
+        let decision = $module::$plan($engine.world(), $who, $($field,)* $change, $outcome);
+        $engine.settle($who, $call, decision, $change, $room, $outcome, &mut steps);
     }};
 }
 
@@ -49,6 +45,7 @@ impl Engine {
         call: &Call,
         room: u64,
         outcome: &mut Outcome,
+        change: &mut Change,
         steps: &mut Steps,
     )
         requires in_range { IsCallInRange call.now }
@@ -57,7 +54,7 @@ impl Engine {
         ensures counted { steps.old ≤ steps.new }
         ensures bound { call.now ≡ Call.Take → steps.new ≤ steps.old + 3 }
     {
-        one_of!(self, who, call, room, outcome, steps:
+        one_of!(self, who, call, room, outcome, change, steps:
             CreatePool => create_pool;
             ClosePool { pool } => close_pool;
             SetMaximum { pool, value } => set_maximum;
@@ -99,55 +96,85 @@ impl Engine {
     }
 
     #[inline(never)]
-    fn create_pool(&mut self, who: Who, room: u64, outcome: &mut Outcome)
+    fn create_pool(&mut self, who: Who, room: u64, outcome: &mut Outcome, change: &mut Change)
         requires young { self.old.age < 2 ^ 47 }
         ensures made { IsMade self.old self.new room who Call.CreatePool outcome.new }
     {
-        settled!(self, who, room, outcome: Call::CreatePool => pools::create_pool());
+        settled!(self, who, room, outcome, change: Call::CreatePool => pools::create_pool());
     }
 
     #[inline(never)]
-    fn close_pool(&mut self, who: Who, pool: PoolId, room: u64, outcome: &mut Outcome)
+    fn close_pool(
+        &mut self,
+        who: Who,
+        pool: PoolId,
+        room: u64,
+        outcome: &mut Outcome,
+        change: &mut Change,
+    )
         requires in_range { IsCallInRange (Call.ClosePool pool) }
         requires young { self.old.age < 2 ^ 47 }
         ensures made { IsMade self.old self.new room who (Call.ClosePool pool) outcome.new }
     {
-        settled!(self, who, room, outcome: Call::ClosePool { pool } => pools::close_pool(pool));
+        settled!(self, who, room, outcome, change: Call::ClosePool { pool } => pools::close_pool(pool));
     }
 
     #[inline(never)]
-    fn set_maximum(&mut self, who: Who, pool: PoolId, value: u32, room: u64, outcome: &mut Outcome)
+    fn set_maximum(
+        &mut self,
+        who: Who,
+        pool: PoolId,
+        value: u32,
+        room: u64,
+        outcome: &mut Outcome,
+        change: &mut Change,
+    )
         requires in_range { IsCallInRange (Call.SetMaximum pool value) }
         requires young { self.old.age < 2 ^ 47 }
         ensures made { IsMade self.old self.new room who (Call.SetMaximum pool value) outcome.new }
     {
-        settled!(self, who, room, outcome: Call::SetMaximum { pool, value } => pools::set_maximum(pool, value));
+        settled!(self, who, room, outcome, change: Call::SetMaximum { pool, value } => pools::set_maximum(pool, value));
     }
 
     #[inline(never)]
-    fn set_minimum(&mut self, who: Who, pool: PoolId, value: u32, room: u64, outcome: &mut Outcome)
+    fn set_minimum(
+        &mut self,
+        who: Who,
+        pool: PoolId,
+        value: u32,
+        room: u64,
+        outcome: &mut Outcome,
+        change: &mut Change,
+    )
         requires in_range { IsCallInRange (Call.SetMinimum pool value) }
         requires young { self.old.age < 2 ^ 47 }
         ensures made { IsMade self.old self.new room who (Call.SetMinimum pool value) outcome.new }
     {
-        settled!(self, who, room, outcome: Call::SetMinimum { pool, value } => pools::set_minimum(pool, value));
+        settled!(self, who, room, outcome, change: Call::SetMinimum { pool, value } => pools::set_minimum(pool, value));
     }
 
     #[inline(never)]
-    fn create_group(&mut self, who: Who, room: u64, outcome: &mut Outcome)
+    fn create_group(&mut self, who: Who, room: u64, outcome: &mut Outcome, change: &mut Change)
         requires young { self.old.age < 2 ^ 47 }
         ensures made { IsMade self.old self.new room who Call.CreateGroup outcome.new }
     {
-        settled!(self, who, room, outcome: Call::CreateGroup => groups::create_group());
+        settled!(self, who, room, outcome, change: Call::CreateGroup => groups::create_group());
     }
 
     #[inline(never)]
-    fn close_group(&mut self, who: Who, group: GroupId, room: u64, outcome: &mut Outcome)
+    fn close_group(
+        &mut self,
+        who: Who,
+        group: GroupId,
+        room: u64,
+        outcome: &mut Outcome,
+        change: &mut Change,
+    )
         requires in_range { IsCallInRange (Call.CloseGroup group) }
         requires young { self.old.age < 2 ^ 47 }
         ensures made { IsMade self.old self.new room who (Call.CloseGroup group) outcome.new }
     {
-        settled!(self, who, room, outcome: Call::CloseGroup { group } => groups::close_group(group));
+        settled!(self, who, room, outcome, change: Call::CloseGroup { group } => groups::close_group(group));
     }
 
     #[inline(never)]
@@ -159,12 +186,13 @@ impl Engine {
         context: u64,
         room: u64,
         outcome: &mut Outcome,
+        change: &mut Change,
     )
         requires in_range { IsCallInRange (Call.BeginClose group cancel context) }
         requires young { self.old.age < 2 ^ 47 }
         ensures made { IsMade self.old self.new room who (Call.BeginClose group cancel context) outcome.new }
     {
-        settled!(self, who, room, outcome: Call::BeginClose { group, cancel, context } => groups::begin_close(group, cancel, context));
+        settled!(self, who, room, outcome, change: Call::BeginClose { group, cancel, context } => groups::begin_close(group, cancel, context));
     }
 
     #[inline(never)]
@@ -177,12 +205,13 @@ impl Engine {
         env: Environ,
         room: u64,
         outcome: &mut Outcome,
+        change: &mut Change,
     )
         requires in_range { IsCallInRange (Call.Create kind routine context env) }
         requires young { self.old.age < 2 ^ 47 }
         ensures made { IsMade self.old self.new room who (Call.Create kind routine context env) outcome.new }
     {
-        settled!(self, who, room, outcome: Call::Create { kind, routine, context, env } => objects::create(kind, routine, context, env));
+        settled!(self, who, room, outcome, change: Call::Create { kind, routine, context, env } => objects::create(kind, routine, context, env));
     }
 
     #[inline(never)]
@@ -193,12 +222,13 @@ impl Engine {
         object: ObjectId,
         room: u64,
         outcome: &mut Outcome,
+        change: &mut Change,
     )
         requires in_range { IsCallInRange (Call.CloseObject kind object) }
         requires young { self.old.age < 2 ^ 47 }
         ensures made { IsMade self.old self.new room who (Call.CloseObject kind object) outcome.new }
     {
-        settled!(self, who, room, outcome: Call::CloseObject { kind, object } => objects::close_object(kind, object));
+        settled!(self, who, room, outcome, change: Call::CloseObject { kind, object } => objects::close_object(kind, object));
     }
 
     #[inline(never)]
@@ -210,21 +240,29 @@ impl Engine {
         env: Environ,
         room: u64,
         outcome: &mut Outcome,
+        change: &mut Change,
     )
         requires in_range { IsCallInRange (Call.SubmitSimple routine context env) }
         requires young { self.old.age < 2 ^ 47 }
         ensures made { IsMade self.old self.new room who (Call.SubmitSimple routine context env) outcome.new }
     {
-        settled!(self, who, room, outcome: Call::SubmitSimple { routine, context, env } => work::submit_simple(routine, context, env));
+        settled!(self, who, room, outcome, change: Call::SubmitSimple { routine, context, env } => work::submit_simple(routine, context, env));
     }
 
     #[inline(never)]
-    fn submit_work(&mut self, who: Who, object: ObjectId, room: u64, outcome: &mut Outcome)
+    fn submit_work(
+        &mut self,
+        who: Who,
+        object: ObjectId,
+        room: u64,
+        outcome: &mut Outcome,
+        change: &mut Change,
+    )
         requires in_range { IsCallInRange (Call.SubmitWork object) }
         requires young { self.old.age < 2 ^ 47 }
         ensures made { IsMade self.old self.new room who (Call.SubmitWork object) outcome.new }
     {
-        settled!(self, who, room, outcome: Call::SubmitWork { object } => work::submit_work(object));
+        settled!(self, who, room, outcome, change: Call::SubmitWork { object } => work::submit_work(object));
     }
 
     #[inline(never)]
@@ -237,12 +275,13 @@ impl Engine {
         window: u32,
         room: u64,
         outcome: &mut Outcome,
+        change: &mut Change,
     )
         requires in_range { IsCallInRange (Call.SetTimer object due period window) }
         requires young { self.old.age < 2 ^ 47 }
         ensures made { IsMade self.old self.new room who (Call.SetTimer object due period window) outcome.new }
     {
-        settled!(self, who, room, outcome: Call::SetTimer { object, due, period, window } => timers::set_timer(object, due, period, window));
+        settled!(self, who, room, outcome, change: Call::SetTimer { object, due, period, window } => timers::set_timer(object, due, period, window));
     }
 
     #[inline(never)]
@@ -255,30 +294,45 @@ impl Engine {
         window: u32,
         room: u64,
         outcome: &mut Outcome,
+        change: &mut Change,
     )
         requires in_range { IsCallInRange (Call.SetTimerEx object due period window) }
         requires young { self.old.age < 2 ^ 47 }
         ensures made { IsMade self.old self.new room who (Call.SetTimerEx object due period window) outcome.new }
     {
-        settled!(self, who, room, outcome: Call::SetTimerEx { object, due, period, window } => timers::set_timer_ex(object, due, period, window));
+        settled!(self, who, room, outcome, change: Call::SetTimerEx { object, due, period, window } => timers::set_timer_ex(object, due, period, window));
     }
 
     #[inline(never)]
-    fn is_timer_set(&mut self, who: Who, object: ObjectId, room: u64, outcome: &mut Outcome)
+    fn is_timer_set(
+        &mut self,
+        who: Who,
+        object: ObjectId,
+        room: u64,
+        outcome: &mut Outcome,
+        change: &mut Change,
+    )
         requires in_range { IsCallInRange (Call.IsTimerSet object) }
         requires young { self.old.age < 2 ^ 47 }
         ensures made { IsMade self.old self.new room who (Call.IsTimerSet object) outcome.new }
     {
-        settled!(self, who, room, outcome: Call::IsTimerSet { object } => timers::is_timer_set(object));
+        settled!(self, who, room, outcome, change: Call::IsTimerSet { object } => timers::is_timer_set(object));
     }
 
     #[inline(never)]
-    fn advance(&mut self, who: Who, ticks: u64, room: u64, outcome: &mut Outcome)
+    fn advance(
+        &mut self,
+        who: Who,
+        ticks: u64,
+        room: u64,
+        outcome: &mut Outcome,
+        change: &mut Change,
+    )
         requires in_range { IsCallInRange (Call.Advance ticks) }
         requires young { self.old.age < 2 ^ 47 }
         ensures made { IsMade self.old self.new room who (Call.Advance ticks) outcome.new }
     {
-        settled!(self, who, room, outcome: Call::Advance { ticks } => timers::advance(ticks));
+        settled!(self, who, room, outcome, change: Call::Advance { ticks } => timers::advance(ticks));
     }
 
     #[inline(never)]
@@ -290,39 +344,61 @@ impl Engine {
         timeout: Option<i64>,
         room: u64,
         outcome: &mut Outcome,
+        change: &mut Change,
     )
         requires in_range { IsCallInRange (Call.SetWait object kernel timeout) }
         requires young { self.old.age < 2 ^ 47 }
         ensures made { IsMade self.old self.new room who (Call.SetWait object kernel timeout) outcome.new }
     {
-        settled!(self, who, room, outcome: Call::SetWait { object, kernel, timeout } => wait_objects::set_wait(object, kernel, timeout));
+        settled!(self, who, room, outcome, change: Call::SetWait { object, kernel, timeout } => wait_objects::set_wait(object, kernel, timeout));
     }
 
     #[inline(never)]
-    fn start_io(&mut self, who: Who, object: ObjectId, room: u64, outcome: &mut Outcome)
+    fn start_io(
+        &mut self,
+        who: Who,
+        object: ObjectId,
+        room: u64,
+        outcome: &mut Outcome,
+        change: &mut Change,
+    )
         requires in_range { IsCallInRange (Call.StartIo object) }
         requires young { self.old.age < 2 ^ 47 }
         ensures made { IsMade self.old self.new room who (Call.StartIo object) outcome.new }
     {
-        settled!(self, who, room, outcome: Call::StartIo { object } => io::start_io(object));
+        settled!(self, who, room, outcome, change: Call::StartIo { object } => io::start_io(object));
     }
 
     #[inline(never)]
-    fn issue_io(&mut self, who: Who, object: ObjectId, room: u64, outcome: &mut Outcome)
+    fn issue_io(
+        &mut self,
+        who: Who,
+        object: ObjectId,
+        room: u64,
+        outcome: &mut Outcome,
+        change: &mut Change,
+    )
         requires in_range { IsCallInRange (Call.IssueIo object) }
         requires young { self.old.age < 2 ^ 47 }
         ensures made { IsMade self.old self.new room who (Call.IssueIo object) outcome.new }
     {
-        settled!(self, who, room, outcome: Call::IssueIo { object } => io::issue_io(object));
+        settled!(self, who, room, outcome, change: Call::IssueIo { object } => io::issue_io(object));
     }
 
     #[inline(never)]
-    fn cancel_io(&mut self, who: Who, object: ObjectId, room: u64, outcome: &mut Outcome)
+    fn cancel_io(
+        &mut self,
+        who: Who,
+        object: ObjectId,
+        room: u64,
+        outcome: &mut Outcome,
+        change: &mut Change,
+    )
         requires in_range { IsCallInRange (Call.CancelIo object) }
         requires young { self.old.age < 2 ^ 47 }
         ensures made { IsMade self.old self.new room who (Call.CancelIo object) outcome.new }
     {
-        settled!(self, who, room, outcome: Call::CancelIo { object } => io::cancel_io(object));
+        settled!(self, who, room, outcome, change: Call::CancelIo { object } => io::cancel_io(object));
     }
 
     #[inline(never)]
@@ -334,12 +410,13 @@ impl Engine {
         bytes: u64,
         room: u64,
         outcome: &mut Outcome,
+        change: &mut Change,
     )
         requires in_range { IsCallInRange (Call.CompleteIo callback error bytes) }
         requires young { self.old.age < 2 ^ 47 }
         ensures made { IsMade self.old self.new room who (Call.CompleteIo callback error bytes) outcome.new }
     {
-        settled!(self, who, room, outcome: Call::CompleteIo { callback, error, bytes } => io::complete_io(callback, error, bytes));
+        settled!(self, who, room, outcome, change: Call::CompleteIo { callback, error, bytes } => io::complete_io(callback, error, bytes));
     }
 
     #[inline(never)]
@@ -351,29 +428,37 @@ impl Engine {
         cancel: bool,
         room: u64,
         outcome: &mut Outcome,
+        change: &mut Change,
     )
         requires in_range { IsCallInRange (Call.BeginWait kind object cancel) }
         requires young { self.old.age < 2 ^ 47 }
         ensures made { IsMade self.old self.new room who (Call.BeginWait kind object cancel) outcome.new }
     {
-        settled!(self, who, room, outcome: Call::BeginWait { kind, object, cancel } => waits::begin_wait(kind, object, cancel));
+        settled!(self, who, room, outcome, change: Call::BeginWait { kind, object, cancel } => waits::begin_wait(kind, object, cancel));
     }
 
     #[inline(never)]
-    fn begin_acquire(&mut self, who: Who, kernel: KernelId, room: u64, outcome: &mut Outcome)
+    fn begin_acquire(
+        &mut self,
+        who: Who,
+        kernel: KernelId,
+        room: u64,
+        outcome: &mut Outcome,
+        change: &mut Change,
+    )
         requires in_range { IsCallInRange (Call.BeginAcquire kernel) }
         requires young { self.old.age < 2 ^ 47 }
         ensures made { IsMade self.old self.new room who (Call.BeginAcquire kernel) outcome.new }
     {
-        settled!(self, who, room, outcome: Call::BeginAcquire { kernel } => waits::begin_acquire(kernel));
+        settled!(self, who, room, outcome, change: Call::BeginAcquire { kernel } => waits::begin_acquire(kernel));
     }
 
     #[inline(never)]
-    fn end(&mut self, who: Who, room: u64, outcome: &mut Outcome)
+    fn end(&mut self, who: Who, room: u64, outcome: &mut Outcome, change: &mut Change)
         requires young { self.old.age < 2 ^ 47 }
         ensures made { IsMade self.old self.new room who Call.End outcome.new }
     {
-        settled!(self, who, room, outcome: Call::End => waits::end(room));
+        settled!(self, who, room, outcome, change: Call::End => waits::end(room));
     }
 
     #[inline(never)]
@@ -384,11 +469,12 @@ impl Engine {
         signalled: bool,
         room: u64,
         outcome: &mut Outcome,
+        change: &mut Change,
     )
         requires young { self.old.age < 2 ^ 47 }
         ensures made { IsMade self.old self.new room who (Call.CreateEvent manual signalled) outcome.new }
     {
-        settled!(self, who, room, outcome: Call::CreateEvent { manual, signalled } => kernels::create_event(manual, signalled));
+        settled!(self, who, room, outcome, change: Call::CreateEvent { manual, signalled } => kernels::create_event(manual, signalled));
     }
 
     #[inline(never)]
@@ -399,38 +485,61 @@ impl Engine {
         maximum: u32,
         room: u64,
         outcome: &mut Outcome,
+        change: &mut Change,
     )
         requires in_range { IsCallInRange (Call.CreateSemaphore initial maximum) }
         requires young { self.old.age < 2 ^ 47 }
         ensures made { IsMade self.old self.new room who (Call.CreateSemaphore initial maximum) outcome.new }
     {
-        settled!(self, who, room, outcome: Call::CreateSemaphore { initial, maximum } => kernels::create_semaphore(initial, maximum));
+        settled!(self, who, room, outcome, change: Call::CreateSemaphore { initial, maximum } => kernels::create_semaphore(initial, maximum));
     }
 
     #[inline(never)]
-    fn create_lock(&mut self, who: Who, lock: Lock, owned: bool, room: u64, outcome: &mut Outcome)
+    fn create_lock(
+        &mut self,
+        who: Who,
+        lock: Lock,
+        owned: bool,
+        room: u64,
+        outcome: &mut Outcome,
+        change: &mut Change,
+    )
         requires young { self.old.age < 2 ^ 47 }
         ensures made { IsMade self.old self.new room who (Call.CreateLock lock owned) outcome.new }
     {
-        settled!(self, who, room, outcome: Call::CreateLock { lock, owned } => kernels::create_lock(lock, owned));
+        settled!(self, who, room, outcome, change: Call::CreateLock { lock, owned } => kernels::create_lock(lock, owned));
     }
 
     #[inline(never)]
-    fn set_event(&mut self, who: Who, kernel: KernelId, room: u64, outcome: &mut Outcome)
+    fn set_event(
+        &mut self,
+        who: Who,
+        kernel: KernelId,
+        room: u64,
+        outcome: &mut Outcome,
+        change: &mut Change,
+    )
         requires in_range { IsCallInRange (Call.SetEvent kernel) }
         requires young { self.old.age < 2 ^ 47 }
         ensures made { IsMade self.old self.new room who (Call.SetEvent kernel) outcome.new }
     {
-        settled!(self, who, room, outcome: Call::SetEvent { kernel } => kernels::set_event(kernel));
+        settled!(self, who, room, outcome, change: Call::SetEvent { kernel } => kernels::set_event(kernel));
     }
 
     #[inline(never)]
-    fn reset_event(&mut self, who: Who, kernel: KernelId, room: u64, outcome: &mut Outcome)
+    fn reset_event(
+        &mut self,
+        who: Who,
+        kernel: KernelId,
+        room: u64,
+        outcome: &mut Outcome,
+        change: &mut Change,
+    )
         requires in_range { IsCallInRange (Call.ResetEvent kernel) }
         requires young { self.old.age < 2 ^ 47 }
         ensures made { IsMade self.old self.new room who (Call.ResetEvent kernel) outcome.new }
     {
-        settled!(self, who, room, outcome: Call::ResetEvent { kernel } => kernels::reset_event(kernel));
+        settled!(self, who, room, outcome, change: Call::ResetEvent { kernel } => kernels::reset_event(kernel));
     }
 
     #[inline(never)]
@@ -441,12 +550,13 @@ impl Engine {
         count: u32,
         room: u64,
         outcome: &mut Outcome,
+        change: &mut Change,
     )
         requires in_range { IsCallInRange (Call.ReleaseSemaphore kernel count) }
         requires young { self.old.age < 2 ^ 47 }
         ensures made { IsMade self.old self.new room who (Call.ReleaseSemaphore kernel count) outcome.new }
     {
-        settled!(self, who, room, outcome: Call::ReleaseSemaphore { kernel, count } => kernels::release_semaphore(kernel, count));
+        settled!(self, who, room, outcome, change: Call::ReleaseSemaphore { kernel, count } => kernels::release_semaphore(kernel, count));
     }
 
     #[inline(never)]
@@ -457,71 +567,71 @@ impl Engine {
         kernel: KernelId,
         room: u64,
         outcome: &mut Outcome,
+        change: &mut Change,
     )
         requires in_range { IsCallInRange (Call.ReleaseLock lock kernel) }
         requires young { self.old.age < 2 ^ 47 }
         ensures made { IsMade self.old self.new room who (Call.ReleaseLock lock kernel) outcome.new }
     {
-        settled!(self, who, room, outcome: Call::ReleaseLock { lock, kernel } => kernels::release_lock(lock, kernel));
+        settled!(self, who, room, outcome, change: Call::ReleaseLock { lock, kernel } => kernels::release_lock(lock, kernel));
     }
 
     #[inline(never)]
-    fn attach(&mut self, who: Who, room: u64, outcome: &mut Outcome)
+    fn attach(&mut self, who: Who, room: u64, outcome: &mut Outcome, change: &mut Change)
         requires young { self.old.age < 2 ^ 47 }
         ensures made { IsMade self.old self.new room who Call.Attach outcome.new }
     {
-        settled!(self, who, room, outcome: Call::Attach => workers::attach());
+        settled!(self, who, room, outcome, change: Call::Attach => workers::attach());
     }
 
     #[inline(never)]
-    fn detach(&mut self, who: Who, room: u64, outcome: &mut Outcome)
+    fn detach(&mut self, who: Who, room: u64, outcome: &mut Outcome, change: &mut Change)
         requires young { self.old.age < 2 ^ 47 }
         ensures made { IsMade self.old self.new room who Call.Detach outcome.new }
     {
-        settled!(self, who, room, outcome: Call::Detach => workers::detach());
+        settled!(self, who, room, outcome, change: Call::Detach => workers::detach());
     }
 
     #[inline(never)]
-    fn take(&mut self, who: Who, room: u64, outcome: &mut Outcome, steps: &mut Steps)
+    fn take(
+        &mut self,
+        who: Who,
+        room: u64,
+        outcome: &mut Outcome,
+        change: &mut Change,
+        steps: &mut Steps,
+    )
         requires young { self.old.age < 2 ^ 47 }
         ensures made { IsMade self.old self.new room who Call.Take outcome.new }
         ensures counted { steps.old ≤ steps.new }
         ensures bound { steps.new ≤ steps.old + 3 }
     {
-        let decision = workers::take(self.machine.world(), who, &mut self.change, outcome, steps);
-        self.machine.settle_counted(
-            who,
-            Call::Take,
-            decision,
-            &self.change,
-            room,
-            outcome,
-            steps,
-        );
+        let decision = workers::take(self.world(), who, change, outcome, steps);
+        self.settle(who, Call::Take, decision, change, room, outcome, steps);
     }
 
     #[inline(never)]
-    fn return_callback(&mut self, who: Who, room: u64, outcome: &mut Outcome)
+    fn return_callback(&mut self, who: Who, room: u64, outcome: &mut Outcome, change: &mut Change)
         requires young { self.old.age < 2 ^ 47 }
         ensures made { IsMade self.old self.new room who Call.Return outcome.new }
     {
-        settled!(self, who, room, outcome: Call::Return => workers::return_callback());
+        settled!(self, who, room, outcome, change: Call::Return => workers::return_callback());
     }
 
     #[inline(never)]
-    fn may_run_long(&mut self, who: Who, room: u64, outcome: &mut Outcome)
+    fn may_run_long(&mut self, who: Who, room: u64, outcome: &mut Outcome, change: &mut Change)
         requires young { self.old.age < 2 ^ 47 }
         ensures made { IsMade self.old self.new room who Call.MayRunLong outcome.new }
     {
-        settled!(self, who, room, outcome: Call::MayRunLong => in_callback::may_run_long());
+        settled!(self, who, room, outcome, change: Call::MayRunLong => in_callback::may_run_long());
     }
 
     #[inline(never)]
-    fn disassociate(&mut self, who: Who, room: u64, outcome: &mut Outcome)
+    fn disassociate(&mut self, who: Who, room: u64, outcome: &mut Outcome, change: &mut Change)
         requires young { self.old.age < 2 ^ 47 }
         ensures made { IsMade self.old self.new room who Call.Disassociate outcome.new }
     {
-        settled!(self, who, room, outcome: Call::Disassociate => in_callback::disassociate());
+        settled!(self, who, room, outcome, change: Call::Disassociate => in_callback::disassociate());
     }
 
     #[inline(never)]
@@ -533,19 +643,20 @@ impl Engine {
         count: u32,
         room: u64,
         outcome: &mut Outcome,
+        change: &mut Change,
     )
         requires in_range { IsCallInRange (Call.OnReturn kind kernel count) }
         requires young { self.old.age < 2 ^ 47 }
         ensures made { IsMade self.old self.new room who (Call.OnReturn kind kernel count) outcome.new }
     {
-        settled!(self, who, room, outcome: Call::OnReturn { kind, kernel, count } => in_callback::on_return(kind, kernel, count));
+        settled!(self, who, room, outcome, change: Call::OnReturn { kind, kernel, count } => in_callback::on_return(kind, kernel, count));
     }
 
     #[inline(never)]
-    fn finish(&mut self, who: Who, room: u64, outcome: &mut Outcome)
+    fn finish(&mut self, who: Who, room: u64, outcome: &mut Outcome, change: &mut Change)
         requires young { self.old.age < 2 ^ 47 }
         ensures made { IsMade self.old self.new room who Call.Finish outcome.new }
     {
-        settled!(self, who, room, outcome: Call::Finish => clients::finish());
+        settled!(self, who, room, outcome, change: Call::Finish => clients::finish());
     }
 }

@@ -4,10 +4,13 @@
 //! ```text
 //! let mut engine = Engine::open(alloc, limits)?;         // of one client
 //! engine.owed()                                          // 1: the client has to finish
-//! let mut outcome = Outcome::Look(Look::Stay);
-//! engine.step_into(Who::Client(1), &Call::CreatePool, 100, &mut outcome);  // Done(Made { number: 1 })
-//! engine.step_into(Who::Worker(1), &Call::Take, 100, &mut outcome);        // Done(Refused(NotAttached))
-//! engine.step_into(Who::Worker(1), &Call::Attach, 100, &mut outcome);      // Look(NoNeed)
+//! let (mut outcome, mut change) = (Outcome::Look(Look::Stay), Change::Keep);
+//! engine.step_into(Who::Client(1), &Call::CreatePool, 100, &mut outcome, &mut change);
+//! outcome                                                // Done(Made { number: 1 })
+//! engine.step_into(Who::Worker(1), &Call::Take, 100, &mut outcome, &mut change);
+//! outcome                                                // Done(Refused(NotAttached))
+//! engine.step_into(Who::Worker(1), &Call::Attach, 100, &mut outcome, &mut change);
+//! outcome                                                // Look(NoNeed)
 //! engine.age()                                           // 1: one call was accepted
 //! ```
 //!
@@ -55,7 +58,7 @@ ghost use Rattle.tp_model.specs.Counts.{owed};
 ghost use Rattle.tp_model.specs.Over.{is_over, left_after, row_of};
 ghost use Rattle.tp_model.specs.Support.Remembered.{StandsFor};
 
-use machine::Machine;
+use live_world::LiveWorld;
 use std::alloc::{AllocError, Global};
 use std::marker::Model;
 use steps::Steps;
@@ -67,15 +70,15 @@ use tp_base::plans::Change;
 use tp_model::Left;
 
 mod calls;
-mod machine;
 mod prices;
+mod settling;
 
 /// A machine that is being played.
 #[derive(Drop)]
 pub struct Engine {
-    machine: Machine,
-    // Where the change of an accepted call is written. It says nothing of the machine.
-    change: Change,
+    live: LiveWorld,
+    owed: u64,
+    age: u64,
 }
 
 impl Model for Engine {
@@ -83,7 +86,11 @@ impl Model for Engine {
 
     ghost Value = { Remembered };
 
-    ghost view = { λ engine. engine.machine };
+    ghost use Rattle.pool_core.specs.View.{remembered, IsMachine};
+
+    ghost view = { remembered };
+
+    ghost invariant = { IsMachine };
 }
 
 impl Engine {
@@ -97,24 +104,45 @@ impl Engine {
         ensures age { IfOk result (λ engine. engine.age ≡ 0) }
     {
         Ok(Engine {
-            machine: Machine::open(alloc, limits)?,
-            change: Change::Keep,
+            live: LiveWorld::open(alloc, limits)?,
+            owed: u64::from(limits.clients),
+            age: 0,
         })
+    }
+
+    // The world that it remembers, for what is decided of a call. Few callbacks were made, where it is young.
+    #[inline(always)]
+    fn world(&self) -> &LiveWorld
+        requires young { self.now.age < 2 ^ 47 }
+        ensures world { result.now.world ≡ self.now.world }
+        ensures made { result.now.made ≡ self.now.made }
+        ensures few { self.now.made < 2 ^ 63 }
+    {
+        &self.live
     }
 
     /// Makes a call of an actor, and puts its outcome where it is wanted, in place of what is there.
     ///
     /// `room` is how many more entries the history has room for, less those that are owed. The
     /// outcome is the answer, which is the call's entry; or a look, where nothing happened yet; or
-    /// Full, where the call costs more than there is room for. It takes no memory.
+    /// Full, where the call costs more than there is room for. `change` is a place for what an accepted
+    /// call changes, on its way into the world: nothing is read there before it is written, and what is
+    /// left there means nothing. It takes no memory.
     #[inline(always)]
-    pub fn step_into(&mut self, who: Who, call: &Call, room: u64, outcome: &mut Outcome)
+    pub fn step_into(
+        &mut self,
+        who: Who,
+        call: &Call,
+        room: u64,
+        outcome: &mut Outcome,
+        change: &mut Change,
+    )
         requires in_range { IsCallInRange call.now }
         requires young { self.old.age < 2 ^ 47 }
         ensures made { IsMade self.old self.new room who call.now outcome.new }
     {
         let mut steps = Steps::new();
-        self.step_counted(who, call, room, outcome, &mut steps);
+        self.step_counted(who, call, room, outcome, change, &mut steps);
     }
 
     /// The number of entries for which the history must keep room: each running callback returns,
@@ -123,7 +151,7 @@ impl Engine {
     pub fn owed(&self) -> u64
         ensures { (w : World) → StandsFor self.now w → result ≡ owed w }
     {
-        self.machine.owed()
+        self.owed
     }
 
     /// Whether all is over: every client has finished, no callback runs, and the history, which has
@@ -132,7 +160,7 @@ impl Engine {
     pub fn is_over(&self, room: u64) -> bool
         ensures { (w : World) → StandsFor self.now w → result ≡ is_over w room }
     {
-        self.machine.is_over(room)
+        live_queries::is_over(&self.live, room)
     }
 
     /// Of the callbacks that may still run the one of least number above this one, if there is one: its
@@ -140,13 +168,13 @@ impl Engine {
     pub fn left_after(&self, number: u64) -> Option<(u64, ObjectId, Left)>
         ensures { (w : World) → StandsFor self.now w → option_map row_of result ≡ left_after w number }
     {
-        self.machine.left_after(number)
+        live_queries::left_after(&self.live, number)
     }
 
     /// The number of steps that were accepted since the engine was opened.
     pub fn age(&self) -> u64
         ensures { result ≡ self.now.age }
     {
-        self.machine.age()
+        self.age
     }
 }

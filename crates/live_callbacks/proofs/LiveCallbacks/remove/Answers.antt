@@ -14,20 +14,20 @@ pub unwrap-key-requires : goal.unwrap-key-requires
 unwrap-key-requires c =
     let i = c.self.inside in
     let row = c.args.row.now in
-    let is = among c.self.invariant.rising.0 i.rows.held row c.self.invariant.rising.1 c.len-known.ensures.apart (rw (← c.self.view_is) at c.requires.found) in
+    let is = among c.self.invariant.rising.0 i.rows.held row c.self.invariant.rising.1 c.len-known.ensures.apart (rw (← c.self.view_is) at c.requires) in
     ap is_some (c.remove.ensures.key ∙ key_found is row.number refl)
 
 pub overflow_sub-self : goal.overflow_sub-self
 overflow_sub-self c =
     let i = c.self.inside in
     let row = c.args.row.now in
-    omega (arith, c.self.invariant.counted, c.operations.ensures, count_fewer (λ (x : CallbackRow). is_operating x.status) c.self.invariant.rising.0 row 0 (rows_of i.rows.held) c.self.invariant.rising.1 (rw (← c.self.view_is) at c.requires.found))
+    omega (arith, c.self.invariant.counted, c.operations.ensures, count_fewer (λ (x : CallbackRow). is_operating x.status) c.self.invariant.rising.0 row 0 (rows_of i.rows.held) c.self.invariant.rising.1 (rw (← c.self.view_is) at c.requires))
 
 pub settle-requires-clause-line : goal.settle-requires-clause-line
 settle-requires-clause-line c =
     let i = c.self.inside in
     let row = c.args.row.now in
-    let is = among c.self.invariant.rising.0 i.rows.held row c.self.invariant.rising.1 c.len-known.ensures.apart (rw (← c.self.view_is) at c.requires.found) in
+    let is = among c.self.invariant.rising.0 i.rows.held row c.self.invariant.rising.1 c.len-known.ensures.apart (rw (← c.self.view_is) at c.requires) in
     let same = key_is is row.number refl c.remove.result c.unwrap-key.result c.remove.ensures.key c.unwrap-key.ensures in
     let within : is.held.key < i.rows.places = find_all (λ (h : Held). h.key < i.rows.places) (λ (h : Held). h.row.number == row.number) is.held i.rows.held c.len-known.ensures.within is.found in
     may_line c.unwrap-key.result c.nowhere-to.result (λ heads line. heads) c.self.invariant.standing (of_none i.lists c.nowhere-to.result c.nowhere-to.ensures) c.self.invariant.rising.0 c.self.invariant.rising.1 (omega (arith, same, within))
@@ -36,7 +36,7 @@ pub settle-requires-clause-object : goal.settle-requires-clause-object
 settle-requires-clause-object c =
     let i = c.self.inside in
     let row = c.args.row.now in
-    let is = among c.self.invariant.rising.0 i.rows.held row c.self.invariant.rising.1 c.len-known.ensures.apart (rw (← c.self.view_is) at c.requires.found) in
+    let is = among c.self.invariant.rising.0 i.rows.held row c.self.invariant.rising.1 c.len-known.ensures.apart (rw (← c.self.view_is) at c.requires) in
     let same = key_is is row.number refl c.remove.result c.unwrap-key.result c.remove.ensures.key c.unwrap-key.ensures in
     let within : is.held.key < i.rows.places = find_all (λ (h : Held). h.key < i.rows.places) (λ (h : Held). h.row.number == row.number) is.held i.rows.held c.len-known.ensures.within is.found in
     may_object c.unwrap-key.result c.nowhere-to.result (λ heads line. heads) c.self.invariant.standing (of_none i.lists c.nowhere-to.result c.nowhere-to.ensures) c.self.invariant.rising.0 c.self.invariant.rising.1 (omega (arith, same, within))
@@ -45,7 +45,7 @@ pub settle-requires-clause-group : goal.settle-requires-clause-group
 settle-requires-clause-group c =
     let i = c.self.inside in
     let row = c.args.row.now in
-    let is = among c.self.invariant.rising.0 i.rows.held row c.self.invariant.rising.1 c.len-known.ensures.apart (rw (← c.self.view_is) at c.requires.found) in
+    let is = among c.self.invariant.rising.0 i.rows.held row c.self.invariant.rising.1 c.len-known.ensures.apart (rw (← c.self.view_is) at c.requires) in
     let same = key_is is row.number refl c.remove.result c.unwrap-key.result c.remove.ensures.key c.unwrap-key.ensures in
     let within : is.held.key < i.rows.places = find_all (λ (h : Held). h.key < i.rows.places) (λ (h : Held). h.row.number == row.number) is.held i.rows.held c.len-known.ensures.within is.found in
     may_group c.unwrap-key.result c.nowhere-to.result (λ heads line. heads) c.self.invariant.standing (of_none i.lists c.nowhere-to.result c.nowhere-to.ensures) c.self.invariant.rising.0 c.self.invariant.rising.1 (omega (arith, same, within))
@@ -56,7 +56,7 @@ invariant_of-self c =
     let k = c.self.invariant in
     let row = c.args.row.now in
     let hs = i.rows.held in
-    let found = rw (← c.self.view_is) at c.requires.found in
+    let found = rw (← c.self.view_is) at c.requires in
     let is = among k.rising.0 hs row k.rising.1 c.len-known.ensures.apart found in
     let same = key_is is row.number refl c.remove.result c.unwrap-key.result c.remove.ensures.key c.unwrap-key.ensures in
     let done = c.settle.ensures.settled in

@@ -23,10 +23,10 @@ use Rattle.pool_core.specs.Entered.{unless_dear}
 use Rattle.pool_plans.specs.declared.decisions.Decision.{Decision}
 use Rattle.pool_plans.specs.declared.decisions.Decision.TheVariants.{Looked, Refused, Accepted}
 use Rattle.pool_core.specs.View.{remembered, IsMachine}
-use Rattle.pool_core.specs.declared.machine.Machine.TheInside.{Inside}
+use Rattle.pool_core.specs.declared.Engine.TheInside.{Inside}
 use Rattle.pool_core.proofs.Counting.{taken_within}
 use Rattle.pool_core.proofs.Stepping.{meets_looked, meets_refused, meets_done, takes}
-use Rattle.pool_core.proofs.machine.Machine.settle_counted.Goals as goal
+use Rattle.pool_core.proofs.Engine.settle.Goals as goal
 
 -- ---- the plan is what was decided
 

@@ -1,104 +1,34 @@
-//! A machine that is being played: what it remembers of the world, what the history owes, and its age.
+//! What was decided of a call is done: a refusal or a look is put down, and the change of an accepted call is made, where
+//! the history has room for it.
 
-ghost use Rattle.std.specs.Prelude.{◌≡◌, ◌+◌, ◌^◌, ◌<◌, ◌≤◌, IfOk, nat_lt, option_map, true, Some};
+ghost use Rattle.std.specs.Prelude.{◌≡◌, ◌+◌, ◌^◌, ◌<◌, ◌≤◌, nat_lt, true, Some};
 ghost use Rattle.live_world.specs.Steps.{is_take};
 ghost use Rattle.pool_plans.specs.Decided.{decided};
 ghost use Rattle.pool_core.specs.Entered.{outcome_of_entry, unless_dear};
 ghost use Rattle.pool_core.specs.Made.{IsMade};
-ghost use Rattle.tp_base.specs.Ranges.{AreLimitsInRange, IsCallInRange, IsOutcomeInRange, IsRefusalInRange};
-ghost use Rattle.tp_model.specs.World.{World, opening};
-ghost use Rattle.tp_model.specs.Counts.{owed};
+ghost use Rattle.tp_base.specs.Ranges.{IsCallInRange, IsOutcomeInRange, IsRefusalInRange};
 ghost use Rattle.tp_model.specs.Changes.{changed};
-ghost use Rattle.tp_model.specs.Over.{is_over, left_after, row_of};
 ghost use Rattle.tp_model.specs.Support.Allowed.{IsAllowed, price as price_of};
 ghost use Rattle.tp_model.specs.Support.Ranged.{IsChangeInRange};
 ghost use Rattle.tp_model.specs.Table.{plan_at};
-ghost use Rattle.tp_model.specs.Support.Remembered.{StandsFor, remembered_in};
+ghost use Rattle.tp_model.specs.Support.Remembered.{remembered_in};
 
+use crate::Engine;
 use crate::prices::price;
-use live_world::LiveWorld;
 use pool_plans::decisions::Decision;
-use std::alloc::{AllocError, Global};
-use std::marker::Model;
 use steps::Steps;
 use tp_base::answers::{Answer, Outcome, Refusal};
 use tp_base::calls::Call;
-use tp_base::ids::{ObjectId, Who};
-use tp_base::limits::Limits;
+use tp_base::ids::Who;
 use tp_base::plans::Change;
-use tp_model::Left;
 
-/// A machine that is being played.
-#[derive(Drop)]
-pub(crate) struct Machine {
-    live: LiveWorld,
-    owed: u64,
-    age: u64,
-}
-
-impl Model for Machine {
-    ghost use Rattle.tp_model.specs.Support.Remembered.{Remembered};
-
-    ghost Value = { Remembered };
-
-    ghost use Rattle.pool_core.specs.View.{remembered, IsMachine};
-
-    ghost view = { remembered };
-
-    ghost invariant = { IsMachine };
-}
-
-impl Machine {
+impl Engine {
     ghost use Rattle.pool_core.specs.Entered.{after_entry};
 
-    /// A machine with these limits, before its first call.
-    pub(crate) fn open(alloc: Global, limits: Limits) -> Result<Machine, AllocError>
-        requires { AreLimitsInRange limits }
-        ensures stands { IfOk result (λ machine. StandsFor machine (opening limits)) }
-        ensures age { IfOk result (λ machine. machine.age ≡ 0) }
-    {
-        Ok(Machine {
-            live: LiveWorld::open(alloc, limits)?,
-            owed: u64::from(limits.clients),
-            age: 0,
-        })
-    }
-
-    /// The world that it remembers, for what is decided of a call. Few callbacks were made, where it is young.
-    #[inline(always)]
-    pub(crate) fn world(&self) -> &LiveWorld
-        requires young { self.now.age < 2 ^ 47 }
-        ensures world { result.now.world ≡ self.now.world }
-        ensures made { result.now.made ≡ self.now.made }
-        ensures few { self.now.made < 2 ^ 63 }
-    {
-        &self.live
-    }
-
     /// Does what was decided of a call, and puts what that comes to where it is wanted. The change is that of an
-    /// accepted call, and its answer stands in the outcome already.
+    /// accepted call, and its answer stands in the outcome already. Counts the nodes that a Take reads.
     #[inline(always)]
     pub(crate) fn settle(
-        &mut self,
-        who: Who,
-        call: Call,
-        decision: Decision,
-        change: &Change,
-        room: u64,
-        outcome: &mut Outcome,
-    )
-        requires in_range { IsCallInRange call }
-        requires young { self.old.age < 2 ^ 47 }
-        requires plan { decided decision outcome.old change.now ≡ Some (plan_at self.old.world (self.old.made + 1) room who call) }
-        ensures made { IsMade self.old self.new room who call outcome.new }
-    {
-        let mut steps = Steps::new();
-        self.settle_counted(who, call, decision, change, room, outcome, &mut steps);
-    }
-
-    /// As `settle`, and counts the nodes that a Take reads.
-    #[inline(always)]
-    pub(crate) fn settle_counted(
         &mut self,
         who: Who,
         call: Call,
@@ -174,34 +104,6 @@ impl Machine {
         self.owed = self.owed + price(change) - 1;
         self.age += 1;
         self.live.apply(change, steps);
-    }
-
-    /// The number of entries for which the history must keep room.
-    pub(crate) fn owed(&self) -> u64
-        ensures { (w : World) → StandsFor self.now w → result ≡ owed w }
-    {
-        self.owed
-    }
-
-    /// Whether all is over where the history has this room left.
-    pub(crate) fn is_over(&self, room: u64) -> bool
-        ensures { (w : World) → StandsFor self.now w → result ≡ is_over w room }
-    {
-        live_queries::is_over(&self.live, room)
-    }
-
-    /// The first callback above this number that may still run.
-    pub(crate) fn left_after(&self, number: u64) -> Option<(u64, ObjectId, Left)>
-        ensures { (w : World) → StandsFor self.now w → option_map row_of result ≡ left_after w number }
-    {
-        live_queries::left_after(&self.live, number)
-    }
-
-    /// The number of accepted steps.
-    pub(crate) fn age(&self) -> u64
-        ensures { result ≡ self.now.age }
-    {
-        self.age
     }
 }
 

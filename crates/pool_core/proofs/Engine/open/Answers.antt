@@ -3,7 +3,7 @@ use Rattle.tp_model.specs.Counts.{owed}
 use Rattle.tp_model.specs.Support.Ranged.{AreRowsInRange, AreTakenAtMost}
 use Rattle.live_world.specs.Live.{Live}
 use Rattle.pool_core.proofs.Counting.{owed_opening}
-use Rattle.pool_core.proofs.machine.Machine.open.Goals as goal
+use Rattle.pool_core.proofs.Engine.open.Goals as goal
 
 pub invariant_of-result : goal.invariant_of-result
 invariant_of-result c =

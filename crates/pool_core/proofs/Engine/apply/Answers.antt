@@ -14,9 +14,9 @@ use Rattle.tp_model.proofs.Takings.{taken_more}
 use Rattle.live_world.specs.Bounds.{IsBounded}
 use Rattle.live_world.specs.Live.{Live}
 use Rattle.pool_core.specs.View.{remembered, IsMachine}
-use Rattle.pool_core.specs.declared.machine.Machine.TheInside.{Inside}
+use Rattle.pool_core.specs.declared.Engine.TheInside.{Inside}
 use Rattle.pool_core.proofs.Counting.{AreFew, few, taken_within}
-use Rattle.pool_core.proofs.machine.Machine.apply.Goals as goal
+use Rattle.pool_core.proofs.Engine.apply.Goals as goal
 
 allowed_here : (i : Inside) (e : Remembered) (ch : Change) → remembered i ≡ e → IsAllowed (e.made + 1) e.world ch → IsAllowed (i.live.made + 1) i.live.world ch
 allowed_here i e ch same allowed = subst (λ (r : Remembered). IsAllowed (r.made + 1) r.world ch) (sym same) allowed
