@@ -80,10 +80,6 @@ fired_twice {objects} {made} {now} {count} {s} {t} {u} {c} {d} {e} f g h k =
       number = omega (arith, h.number, k.number, length-append f.jobs g.jobs);
     }
 
--- from other sources, where no callback was made
-pub fired_from : {objects : List ObjectRow} {made count : ℕ} {s t u : SourceRows} {c d : Callbacks} (f : Firing) (x : Sources) → t ≡ with_sources s x → IsFired f objects made count t u c d → IsFired f objects made count s u c d
-fired_from f x is h = record { sources = h.sources ∙ ap (λ (r : SourceRows). with_sources r f.sources) is; callbacks = h.callbacks; number = h.number }
-
 -- where nothing fires
 pub fired_none : (objects : List ObjectRow) (made : ℕ) (s t : SourceRows) (c : Callbacks) (x : Sources) → t ≡ with_sources s x → IsFired (jobless x) objects made made s t c c
 fired_none objects made s t c x is = record { sources = is; callbacks = ap (λ rows. record c { rows = rows }) (sym (append-nil c.rows)); number = omega arith }
@@ -113,10 +109,6 @@ quiet now s none =
 pub fired_quiet : (objects : List ObjectRow) (made now count : ℕ) (s t : SourceRows) (c : Callbacks) → count ≡ length (firing (Advance now) s.sources).jobs → count ≡ 0 → t ≡ with_sources s (record s.sources { now = now }) → IsFired (firing (Advance now) s.sources) objects made made s t c c
 fired_quiet objects made now count s t c counted zero is =
     rw (quiet now s.sources (sym counted ∙ zero)) (fired_none objects made s t c (record s.sources { now = now }) is)
-
--- and where one job does
-pub fired_one : (objects : List ObjectRow) (made count : ℕ) (s t : SourceRows) (c d : Callbacks) (x : Sources) (j : Job) → t ≡ with_sources s x → d ≡ with_jobs c objects (made + 1) (j ∷ []) → count ≡ made + 1 → IsFired (record { sources = x; jobs = j ∷ [] }) objects made count s t c d
-fired_one objects made count s t c d x j is now more = record { sources = is; callbacks = now; number = omega (arith, more) }
 
 -- ---- all that a cause fires, in part
 

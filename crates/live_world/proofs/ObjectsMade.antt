@@ -25,16 +25,3 @@ object_made objects c sound =
     let there : c.object.0 - 1 < length objects = made objects (c.object.0 - 1) (ap is_some at.0) in
     omega (arith, there, at.1))
     (cases_eq c.object.0 0)
-
--- the next callback of an object that isn't released
-pub next_is_new : (w : World) (next_number : ℕ) (object : ObjectId) (told : TakeResult) (row : ObjectRow) (c : CallbackRow) → c ≡ new_callback next_number object row told
-    → numbered w.objects object.0 ≡ Some row → is_standing w.objects object.0 ≡ true → IsSound next_number w → lacks_slots_for w 1 ≡ false → IsNewCallback next_number w c
-next_is_new w next_number object told row c is found stands sound room =
-    subst (IsNewCallback next_number w) (sym is) (record {
-      number = refl;
-      pending = refl;
-      object = λ _. record { row = row; stands = found; home = refl; group = refl };
-      home = all_get (λ (o : ObjectRow). o.env.pool.0 < length w.pools) w.objects (object.0 - 1) row sound.object_pools (numbered_some w.objects object.0 row found).0;
-      room = room;
-      stands = λ _. stands;
-    })

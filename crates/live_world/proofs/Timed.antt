@@ -139,7 +139,3 @@ timed_released limits rows object row sources from_one gone k =
         ap is_open (numbered_place after (suc n) (omega arith) ∙ get_set_other rows (object.0 - 1) (suc n - 1) row (λ e. apart (omega (arith, e, from_one))) ∙ sym (numbered_place rows (suc n) (omega arith)))
 
 -- ---- an object that the world has is there
-
-pub object_there : (limits : Limits) (w : World) (sources : SourceRows) (of : Kind) (object : ObjectId) → AreTimed limits w.objects sources → is_timed_kind of ≡ true → IsObjectOf of w object → is_there sources object.0 ≡ true
-object_there limits w sources of object k timed o =
-    k.there object.0 ∙ ap is_open o.stands ∙ ap₂ (λ b t. not b && is_timed_kind t) o.unreleased o.kind ∙ timed

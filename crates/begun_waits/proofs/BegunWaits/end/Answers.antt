@@ -8,7 +8,7 @@ invariant_of-self g c =
     let i = c.self.inside in
     rw c.end.ensures (kept_unended i.limits i.purposes.items i.notices i.list.waits i.waiting c.self.invariant c.args.who (sym c.place_of.ensures ∙ c.in_default.is))
 
-pub clear-requires : goal.clear-requires-clause-there
+pub clear-requires : goal.clear-requires
 clear-requires g c = omega (arith, place_there c.self.inside.limits c.args.who c.in-Some.place (sym c.place_of.ensures ∙ c.in-Some.is), c.self.invariant.lists)
 
 pub invariant_of-self-2 : goal.invariant_of-self-2

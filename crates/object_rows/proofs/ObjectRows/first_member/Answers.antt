@@ -9,7 +9,7 @@ listed : (c : After-first) (place : Option ℕ) → c.first.result ≡ place →
 listed c place was =
     let i = c.self.inside in
     let k = c.self.invariant in
-    let stood = has_stood i.groups.items c.args.group.0 (rw (← c.self.view_is) at c.requires.made) in
+    let stood = has_stood i.groups.items c.args.group.0 (rw (← c.self.view_is) at c.requires) in
     rw (← c.self.view_is) (first_listed i.group_limit i.object_limit i.objects.items i.members c.args.group.0 k.membered (omega (arith, stood.1, k.groups_within)) place (sym was ∙ c.first.ensures.value))
 
 pub returns-in_err-place : goal.returns-in_err-place
