@@ -22,6 +22,7 @@ use Rattle.tp_model.specs.Waits.{is_cancelled_by, is_covered_by, cancelled, canc
 use Rattle.tp_model.proofs.Forgetting.{over_not_cancelled, over_not_covered}
 use Rattle.tp_model.proofs.Lists.{any_filter, filter_filter, find_agree}
 use Rattle.tp_model.proofs.Refusals.{and_false, is_own_actor, neither}
+use Rattle.tp_model.proofs.Calls.Objects.{over_not_operation}
 use Rattle.live_world.specs.Closing.{begin_close_wait, closed_members, settled_group}
 use Rattle.live_world.specs.Live.{Live, with_world, moved}
 use Rattle.live_world.proofs.Along.{number_of}
@@ -55,17 +56,6 @@ not_settled_group l group living =
 
 -- ---- no operation is under way
 
-over_idle : (k : ℕ) (c : CallbackRow) → lives c ≡ false → is_operation_of k c ≡ false
-over_idle k c over = ap (λ b. b && (c.object.0 == k)) (idle c.status over)
-  where
-    idle : (s : Status) → is_live s ≡ false → is_operating s ≡ false
-    idle Expected e = absurd cc
-    idle Issued e = absurd cc
-    idle Pending e = absurd cc
-    idle (Running worker associated slots) e = absurd cc
-    idle Returned e = refl
-    idle Cancelled e = refl
-
 -- what is cancelled has none
 same_operations : (group : GroupId) (cancel : Bool) (k : ℕ) (cs : List CallbackRow) → list_any (is_operation_of k) (cancel_where (is_cancelled_by (Group group) cancel) cs) ≡ list_any (is_operation_of k) cs
 same_operations group cancel k [] = refl
@@ -89,7 +79,7 @@ pub settled_idle : (l m : Live) (group : GroupId) (cancel : Bool) → m ≡ sett
 settled_idle l m group cancel is idle =
     ap (λ (x : Live). first_operating x.world group.0) is
     ∙ find_agree (is_operating_member (settled_group l group cancel).world group.0) (is_operating_member l.world group.0)
-    (λ k. ap (λ b. is_member_at l.world group.0 k && b) (any_filter (is_operation_of k) lives (over_idle k) (cancel_where (is_cancelled_by (Group group) cancel) l.world.callbacks) ∙ same_operations group cancel k l.world.callbacks))
+    (λ k. ap (λ b. is_member_at l.world group.0 k && b) (any_filter (is_operation_of k) lives (over_not_operation k) (cancel_where (is_cancelled_by (Group group) cancel) l.world.callbacks) ∙ same_operations group cancel k l.world.callbacks))
     (numbers_in l.world.objects)
     ∙ idle
 
@@ -97,7 +87,7 @@ pub begun_idle : (l m : Live) (who : Who) (group : GroupId) (cancel : Bool) (con
 begun_idle l m who group cancel context is idle =
     ap (λ (x : Live). first_operating x.world group.0) is
     ∙ find_agree (is_operating_member (with_world l (begin_close_wait l.world who group cancel context)).world group.0) (is_operating_member l.world group.0)
-    (λ k. ap (λ b. is_member_at l.world group.0 k && b) (any_filter (is_operation_of k) lives (over_idle k) l.world.callbacks))
+    (λ k. ap (λ b. is_member_at l.world group.0 k && b) (any_filter (is_operation_of k) lives (over_not_operation k) l.world.callbacks))
     (numbers_in l.world.objects)
     ∙ idle
 

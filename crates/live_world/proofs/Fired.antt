@@ -13,9 +13,10 @@ use Rattle.tp_base.specs.declared.rows.ObjectRow.{ObjectRow}
 use Rattle.live_callbacks.specs.Callbacks.{Callbacks}
 use Rattle.sources.specs.Firing.{before}
 use Rattle.sources.specs.Rows.{SourceRows, with_sources}
+use Rattle.sources.proofs.Armed.{behind_none}
 use Rattle.tp_model.specs.Sources.{Sources, Firing, Job, expiry_job, firing, jobless, new_callback, object_row, rows_of}
 use Rattle.tp_model.proofs.Firing.{length_rows}
-use Rattle.tp_model.proofs.Lists.{all_along}
+use Rattle.tp_model.proofs.Lists.{all_along, all_appended}
 use Rattle.live_world.specs.Making.{CanMake, IsFired, IsUsable, with_jobs}
 
 -- ---- the rows of jobs
@@ -30,10 +31,6 @@ rows_append objects number (j ∷ js) ks =
 rows_below : (objects : List ObjectRow) (number most : ℕ) (js : List Job) → number + length js ≤ most → AllByRecursion (λ (c : CallbackRow). c.number < most) (rows_of objects number js)
 rows_below objects number most [] le = tt
 rows_below objects number most (j ∷ js) le = (omega (arith, le), rows_below objects (number + 1) most js (omega (arith, le)))
-
-all_append : {X : Type 0} (P : X → Type 0) (xs ys : List X) → AllByRecursion P xs → AllByRecursion P ys → AllByRecursion P (xs ++ ys)
-all_append P [] ys h k = k
-all_append P (x ∷ xs) ys h k = (h.0, all_append P xs ys h.1 k)
 
 all_parts : {X : Type 0} (P : X → Type 0) (xs ys : List X) → AllByRecursion P (xs ++ ys) → AllByRecursion P xs × AllByRecursion P ys
 all_parts P [] ys h = (tt, h)
@@ -54,7 +51,7 @@ module _ (callbacks : Callbacks) (objects : List ObjectRow) (number : ℕ) (js k
   can_behind can =
       record {
         room = omega (arith, can.room, length-append js ks, length-append callbacks.rows (rows_of objects number js), length_rows objects number js);
-        last = all_append (λ (c : CallbackRow). c.number < number + length js) callbacks.rows (rows_of objects number js)
+        last = all_appended (λ (c : CallbackRow). c.number < number + length js) callbacks.rows (rows_of objects number js)
             (all_along (λ (c : CallbackRow). c.number < number) (λ (c : CallbackRow). c.number < number + length js) (λ c lt. omega (arith, lt)) callbacks.rows can.last)
             (rows_below objects number (number + length js) js (omega arith));
         usable = all_along (λ (j : Job). IsUsable callbacks objects j.object) (λ (j : Job). IsUsable (with_jobs callbacks objects number js) objects j.object)
@@ -92,10 +89,6 @@ kept_all p (x ∷ xs) none =
       | false ↦ λ e. ap (λ ys. x ∷ ys) (kept_all p xs e)
     ] none
 
-armed_still : (armings : List Arming) → armed_behind [] armings ≡ armings
-armed_still [] = refl
-armed_still (a ∷ armings) = ap (λ others. a ∷ others) (armed_still armings)
-
 -- nothing is due at this moment: the clock comes to it, and that is all
 quiet : (now : ℕ) (s : Sources) → length (firing (Advance now) s).jobs ≡ 0 → firing (Advance now) s ≡ jobless (record s { now = now })
 quiet now s none =
@@ -104,7 +97,7 @@ quiet now s none =
       sources = record s { settings = set_all_again now due (filter (λ (t : TimerSetting). not (is_due now t)) s.settings); armings = armed_behind due s.armings; now = now };
       jobs = map (expiry_job s.armings) due;
     }) (nil_from_length (expired now s.settings) nobody)
-    ∙ ap₂ (λ settings armings. jobless (record s { settings = settings; armings = armings; now = now })) (kept_all (is_due now) s.settings nobody) (armed_still s.armings)
+    ∙ ap₂ (λ settings armings. jobless (record s { settings = settings; armings = armings; now = now })) (kept_all (is_due now) s.settings nobody) (behind_none s.armings)
 
 pub fired_quiet : (objects : List ObjectRow) (made now count : ℕ) (s t : SourceRows) (c : Callbacks) → count ≡ length (firing (Advance now) s.sources).jobs → count ≡ 0 → t ≡ with_sources s (record s.sources { now = now }) → IsFired (firing (Advance now) s.sources) objects made made s t c c
 fired_quiet objects made now count s t c counted zero is =

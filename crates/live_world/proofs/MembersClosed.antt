@@ -21,7 +21,7 @@ use Rattle.tp_model.specs.Support.Sound.{IsSound, is_told}
 use Rattle.tp_model.proofs.Lists.{filter_agree, find_passes}
 use Rattle.tp_model.proofs.Members.{release_goes_on, released_all}
 use Rattle.tp_model.proofs.Refusals.{and_false, both, false_true}
-use Rattle.tp_model.proofs.Releasing.{one_released, that_kept, that_made, that_row, that_stands, none_in_range, released_if}
+use Rattle.tp_model.proofs.Releasing.{none_in_range, not_true_false, one_released, released_if, that_kept, that_made, that_row, that_stands}
 use Rattle.live_world.specs.Closing.{MayHaveNotices, MayNote, closed_members, noted}
 use Rattle.live_world.specs.Live.{Live, with_world, moved}
 use Rattle.live_world.proofs.Lists.{filter_both}
@@ -89,10 +89,6 @@ members_are_closed who group cancel before now none living k =
 first_is_member : (w : World) (group n : ℕ) → first_member w group ≡ Some n → is_member_at w group n ≡ true
 first_is_member w group n first = find_passes (is_member_at w group) n (numbers_in w.objects) first
 
-not_not : (b : Bool) → not b ≡ true → b ≡ false
-not_not false e = refl
-not_not true e = absurd (false_true e)
-
 -- the least is released
 pub may_release : (who : Who) (group : GroupId) (cancel : Bool) (before now : Live) (n : ℕ) → first_member now.world group.0 ≡ Some n → ClosingMembers who group cancel before now → IsUnreleased now.world (record { 0 = n })
 may_release who group cancel before now n first k =
@@ -101,7 +97,7 @@ may_release who group cancel before now n first k =
     record {
       row = row.0;
       stands = row.1;
-      unreleased = not_not row.0.released (both (not row.0.released) (row.0.env.group.0 == group.0) row.2).0;
+      unreleased = not_true_false row.0.released (both (not row.0.released) (row.0.env.group.0 == group.0) row.2).0;
       idle = k.idle n member;
     }
 
@@ -237,7 +233,7 @@ module _ (who : Who) (group : GroupId) (cancel : Bool) (before now mid : Live) (
       unreleased : is_object_that is_told w.objects n ≡ false
       unreleased =
           that_stands is_told w.objects n found.0 found.1
-          ∙ ap (λ b. b && has_cancel found.0) (not_not found.0.released (both (not found.0.released) (found.0.env.group.0 == group.0) found.2).0)
+          ∙ ap (λ b. b && has_cancel found.0) (not_true_false found.0.released (both (not found.0.released) (found.0.env.group.0 == group.0) found.2).0)
 
       of_notices : (os : List ObjectId) → AllByRecursion (λ (o : ObjectId). is_object_that is_told w.objects o.0 ≡ true) os → list_any (λ (o : ObjectId). o.0 == n) os ≡ false
       of_notices [] all = refl

@@ -26,7 +26,7 @@ use Rattle.tp_base.specs.Armings.{is_arming_on}
 use Rattle.tp_base.specs.Kernels.{is_signalled, passes_by, state_after, taken}
 use Rattle.live_callbacks.specs.Callbacks.{Callbacks}
 use Rattle.sources.specs.Rows.{SourceRows, Suits}
-use Rattle.sources.proofs.Releasing.{times_before}
+use Rattle.sources.proofs.Releasing.{changed_length, times_before}
 use Rattle.tp_model.specs.World.{World}
 use Rattle.tp_model.specs.Counts.{numbered}
 use Rattle.tp_model.specs.Kernels.{is_kernel_that, is_one_that}
@@ -38,7 +38,6 @@ use Rattle.tp_model.proofs.Refusals.{numbered_at, numbered_some}
 use Rattle.live_world.specs.Making.{CanMake, IsFired, with_jobs}
 use Rattle.live_world.specs.Performing.{MayAlter, MayPerform, MayPerformAll, eventless, locks_only, section_only}
 use Rattle.live_world.proofs.Fired.{behind, can_behind, can_front, fired_twice}
-use Rattle.live_world.proofs.Takings.{changed_length}
 
 -- ---- one behind another
 

@@ -24,6 +24,7 @@ use Rattle.tp_model.specs.Support.Sound.{IsSound, IsRising, IsNamed, IsCallbackS
 use Rattle.tp_model.proofs.Lists.{find_all, find_kept, find_passes}
 use Rattle.tp_model.proofs.Callbacks.{find_numbered, found_bounds, rising_filter}
 use Rattle.tp_model.proofs.Refusals.{both, and_false, false_true}
+use Rattle.tp_model.proofs.Fates.{pending_left}
 use Rattle.live_world.specs.Waiting.{held_by, is_pending_for, pending_of}
 use Rattle.live_world.proofs.Along.{first_passes, first_by_number}
 use Rattle.live_world.proofs.Moving.{pending_tied}
@@ -77,14 +78,6 @@ first_least low next_number n d (c ∷ cs) rising found =
     ] refl found
 
 -- ---- of a wait
-
-pending_left : (s : Status) → is_pending s ≡ true → is_left s ≡ true
-pending_left Pending e = refl
-pending_left Expected e = absurd (false_true e)
-pending_left Issued e = absurd (false_true e)
-pending_left (Running worker associated slots) e = absurd (false_true e)
-pending_left Returned e = absurd (false_true e)
-pending_left Cancelled e = absurd (false_true e)
 
 -- callbacks of one object are of one pool
 one_pool : (objects : List ObjectRow) (c d : CallbackRow) → IsCallbackSound objects c → IsCallbackSound objects d → c.object.0 ≡ d.object.0 → d.object.0 ≢ 0 → c.pool ≡ d.pool

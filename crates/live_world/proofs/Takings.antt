@@ -22,14 +22,6 @@ use Rattle.tp_model.proofs.Refusals.{numbered_some}
 use Rattle.begun_waits.specs.Begun.{kernel_in, wanted_by}
 use Rattle.live_world.specs.Taking.{IsFreeFor, rows_left}
 
--- there are as many as before
-pub changed_length : (f : KernelState → KernelState) (rows : List KernelRow) (kernel : ℕ) → length (kernel_changed f rows kernel) ≡ length rows
-changed_length f rows kernel = known (numbered rows kernel)
-  where
-    known : (o : Option KernelRow) → length (with_row f rows kernel o) ≡ length rows
-    known None = refl
-    known (Some row) = length-set rows (kernel - 1) (record row { state = f row.state })
-
 -- ---- a wait for a kernel object ends
 
 free_for : (w : World) (who : Who) (target : WaitTarget) (kernel : KernelId) → kernel_in target ≡ Some kernel → IsTakeable w who target → AreTakenAtMost (2 ^ 47) w → IsFreeFor who w.kernels kernel.0

@@ -16,6 +16,7 @@ use Rattle.tp_model.specs.Groups.{numbers_in, is_object_that, gets_notice, notic
 use Rattle.tp_model.specs.Support.Allowed.{IsAllowed, price, news}
 use Rattle.tp_model.specs.Support.Remembered.{forget}
 use Rattle.tp_model.proofs.Performing.{returning_within}
+use Rattle.tp_model.proofs.Fitting.{all_of, none_of}
 use Rattle.live_world.specs.Bounds.{IsBounded}
 
 -- a change makes no more callbacks than have their slots, and costs little
@@ -62,18 +63,10 @@ few next_number w (change.Finish client) most room objects a = record { made = o
 pub taken_within : (w : World) → IsBounded w → slots w ≤ w.limits.slots
 taken_within w b = omega (arith, b.slots_most, length-filter (λ (c : CallbackRow). is_live c.status) w.callbacks, count_by-le-length (λ (c : CallbackRow). is_live c.status) w.callbacks)
 
-none_pass : {X : Type 0} (p : X → Bool) (x : X) → p x ≡ false → (n : ℕ) → length (filter p (replicate n x)) ≡ 0
-none_pass p x out zero = refl
-none_pass p x out (suc n) = ap (λ b. length (cond b (x ∷ filter p (replicate n x)) (filter p (replicate n x)))) out ∙ none_pass p x out n
-
-each_passes : {X : Type 0} (p : X → Bool) (x : X) → p x ≡ true → (n : ℕ) → length (filter p (replicate n x)) ≡ n
-each_passes p x here zero = refl
-each_passes p x here (suc n) = ap (λ b. length (cond b (x ∷ filter p (replicate n x)) (filter p (replicate n x)))) here ∙ ap suc (each_passes p x here n)
-
 -- at first each client is to finish
 pub owed_opening : (limits : Limits) → owed (forget (opening limits)) ≡ limits.clients
 owed_opening limits = omega (
   arith,
-  none_pass (λ (r : WorkerRow). is_some r.pool) unattached refl limits.workers,
-  each_passes (λ (r : ClientRow). not r.finished) unfinished refl limits.clients,
+  none_of (λ (r : WorkerRow). is_some r.pool) unattached refl limits.workers,
+  all_of (λ (r : ClientRow). not r.finished) unfinished refl limits.clients,
 )

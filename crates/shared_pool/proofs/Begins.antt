@@ -24,6 +24,7 @@ use Rattle.tp_model.specs.Stages.{waits_step}
 use Rattle.tp_model.specs.Step.{Accepted, Full, Refused, cost, outcome_of, stepped, within}
 use Rattle.tp_model.specs.Table.{step}
 use Rattle.tp_model.specs.World.{World}
+use Rattle.tp_model.proofs.Refusals.{neither, none_holds, not_false}
 use Rattle.shared_pool.specs.Waits.{is_begin}
 
 -- no look; and what isn't refused has the plan's answer
@@ -46,25 +47,9 @@ comes w left None a ch =
       | false ↦ record { no_look = λ look e. absurd cc; done = λ x e taken. (refl, let same : a ≡ x = cc in same) }
     ]
 
-neither : (a b : Bool) → (a || b) ≡ false → (a ≡ false) × (b ≡ false)
-neither true b e = absurd cc
-neither false b e = (refl, e)
-
-not_false : (b : Bool) → not b ≡ false → b ≡ true
-not_false true e = refl
-not_false false e = absurd cc
-
 abbrev NoneHolds : List (Bool × Refusal) → Type 0
 NoneHolds [] = Unit {0}
 NoneHolds (r ∷ rs) = (r.0 ≡ false) × NoneHolds rs
-
-none_holds : (rs : List (Bool × Refusal)) → first_refusal rs ≡ None → NoneHolds rs
-none_holds [] e = tt
-none_holds (r ∷ rs) e =
-    elim r.0 as (λ b. cond b (Some r.1) (first_refusal rs) ≡ None → (b ≡ false) × NoneHolds rs) [
-      | true ↦ λ h. absurd cc
-      | false ↦ λ h. (refl, none_holds rs h)
-    ] e
 
 -- the call is never a look; where it is accepted, its actor is there, and its answer says that a wait is begun
 pub record IsBeginning (w : World) (who : Who) (call : Call) (told : Outcome) : Type 0 where

@@ -19,15 +19,13 @@ use Rattle.turn_lock.specs.declared.seats.Seat.{Seat}
 use Rattle.turn_lock.specs.Histories.{actor_of, StartsWith}
 use Rattle.turn_lock.specs.Seats.{seen_of, mine_of, met_of, setup_in, actor_in, IsIdle, Same}
 use Rattle.turn_lock.specs.Views.{recording_of}
+use Rattle.turn_lock.proofs.Beginnings.{starts_through}
 use Rattle.shared_pool.specs.Calls.{comes_to, entry_of, HasCalled, HasEnded, HasLookedFor, HasMetMore}
 use Rattle.shared_pool.specs.Waits.{is_accepted, is_begin, HasStayed, IsInWait, IsUnbegun, IsWaiting}
 use Rattle.shared_pool.proofs.Begins.{beginning, IsBeginning}
 
 abbrev pub GivesFacts : Type 0
 GivesFacts = (limits : Limits) (capacity : ℕ) (history : List Entry) → IsLegal limits capacity history → MachineFacts limits history
-
-through : (history front first : List Entry) → StartsWith history front → StartsWith front first → StartsWith history first
-through history front first s t = record { rest = t.rest ++ s.rest; is = s.is ∙ (ap (λ (h : List Entry). h ++ s.rest) t.is ∙ append_assoc first t.rest s.rest) }
 
 module _ {B : Type 0} where
   pub actor_same : (a b : Seat B) → Same a b → actor_in b ≡ actor_in a
@@ -103,7 +101,7 @@ module _ {B : Type 0} where
   stays_itself a idle = record { same = record { lock = refl; number = refl; setup = refl }; idle = idle; seen = record { rest = []; is = sym (append-nil (seen_of a)) }; mine = refl }
 
   pub stays_on : (call : Call) (told : Outcome) (a m b : Seat B) → HasStayed a m → HasLookedFor call told m b → HasStayed a b
-  stays_on call told a m b s h = record { same = same_through a m b s.same h.same; idle = h.idle; seen = through (seen_of b) (seen_of m) (seen_of a) h.seen s.seen; mine = h.mine ∙ s.mine }
+  stays_on call told a m b s h = record { same = same_through a m b s.same h.same; idle = h.idle; seen = starts_through (seen_of b) (seen_of m) (seen_of a) h.seen s.seen; mine = h.mine ∙ s.mine }
 
   pub still_in_wait : (a m : Seat B) → HasStayed a m → IsInWait a → IsInWait m
   still_in_wait a m s w = record { actor = still_actor a m s.same w.actor; begun = ap (waits_from false) s.mine ∙ w.begun }
@@ -113,7 +111,7 @@ module _ {B : Type 0} where
     same = same_through a m b s.same h.same;
     idle = h.idle;
     before = h.before;
-    since = through h.before (seen_of m) (seen_of a) h.since s.seen;
+    since = starts_through h.before (seen_of m) (seen_of a) h.since s.seen;
     legal_before = h.legal_before;
     own_before = sym s.mine ∙ h.own_before;
     came = h.came;

@@ -15,18 +15,12 @@ use Rattle.tp_model.specs.Laws.Covered.{ends, end_in}
 use Rattle.tp_model.specs.Laws.Entries.{Begins, begins_by, is_ending, notice_by, Creation, created_by}
 use Rattle.tp_model.specs.Laws.Notices.{given, notices_due, due_among, due_of, due_to, is_due_behind, numbers_created, notice_for, IsClosing}
 use Rattle.tp_model.specs.Stages.{waits_after}
+use Rattle.tp_model.proofs.Refusals.{is_own_actor}
 use Rattle.turn_lock.specs.Histories.{own}
 use Rattle.shared_pool.specs.declared.notices.Told.{Told}
 use Rattle.shared_pool.specs.Waits.{notice_told}
 
-pub same_self : (who : Who) → is_same_actor who who ≡ true
-same_self (Client n) = eq-eqb n n refl
-same_self (Worker n) = eq-eqb n n refl
-
 -- ---- an actor's own entries
-
-pub own_last : (who : Who) (entries : List Entry) (entry : Entry) → entry.who ≡ who → own who (entries ++ entry ∷ []) ≡ own who entries ++ entry ∷ []
-own_last who entries entry is = filter-append (λ (e : Entry). is_same_actor e.who who) entries (entry ∷ []) ∙ ap (λ b. own who entries ++ cond b (entry ∷ []) []) (ap (λ w. is_same_actor w who) is ∙ same_self who)
 
 pub end_own : (who : Who) (entries : List Entry) → end_in who entries ≡ find is_ending (own who entries)
 end_own who [] = refl

@@ -29,18 +29,20 @@ use Rattle.tp_model.specs.Laws.Covered.{ends, end_in, IsCovered}
 use Rattle.tp_model.specs.Laws.Entries.{Begins, begins_by, begins_call, is_ending, Notice, notice_by}
 use Rattle.tp_model.specs.Laws.Notices.{given, notices_due, numbers_created, created_number, IsClosing, IsFront}
 use Rattle.tp_model.specs.Stages.{is_wait_answer, waits_after, waits_from, IsActor}
+use Rattle.tp_model.proofs.Refusals.{is_own_actor}
 use Rattle.recorded.specs.Recordings.{outcome_behind, room_of}
 use Rattle.turn_lock.specs.declared.seats.Seat.{Seat}
 use Rattle.turn_lock.specs.declared.views.Setup.{Setup}
 use Rattle.turn_lock.specs.Histories.{own}
 use Rattle.turn_lock.specs.Seats.{seen_of, mine_of, setup_in, actor_in}
 use Rattle.turn_lock.specs.Views.{recording_of}
+use Rattle.turn_lock.proofs.Beginnings.{own_more}
 use Rattle.shared_pool.specs.declared.notices.Told.{Told}
 use Rattle.shared_pool.specs.Calls.{entry_of, HasCalled}
 use Rattle.shared_pool.specs.Waits.{notice_entry, notice_told, with_told, HasClosed, HasWaitedFor, IsAnswered, IsFreed, IsTelling, IsUnbegun, IsWaiting, IsWaitOver}
 use Rattle.shared_pool.proofs.Begins.{beginning}
 use Rattle.shared_pool.proofs.Calling.{actor_same, same_through, still_actor}
-use Rattle.shared_pool.proofs.Entries.{all_given, begins_none, begins_of, closing_first, end_own, given_own, none_ends, notice_by_who, notices_few, own_last, same_self, still_waits}
+use Rattle.shared_pool.proofs.Entries.{all_given, begins_none, begins_of, closing_first, end_own, given_own, none_ends, notice_by_who, notices_few, still_waits}
 
 told_none : (was : Option (List Told)) → was ≡ with_told [] was
 told_none None = refl
@@ -117,7 +119,7 @@ module _ {B : Type 0} where
         between = w.between ++ last ∷ [];
         seen = w.seen ∙ append_assoc w.before (entry_of b begin w.begun ∷ w.between) (last ∷ []);
         own_before = w.own_before;
-        own_between = own_last (actor_in b) w.between last refl ∙ (ap (λ l. l ++ last ∷ []) w.own_between ∙ all);
+        own_between = own_more (actor_in b) w.between last refl ∙ (ap (λ l. l ++ last ∷ []) w.own_between ∙ all);
         mine = mine;
         laws = w.laws;
       }
@@ -186,7 +188,7 @@ module _ {B : Type 0} where
       all = given_own (actor_in b) w.between ∙ (ap (filter_map (λ (e : Entry). notice_by e.answer)) w.own_between ∙ all_given (actor_in b) told)
 
       ends_it : last ≡ answer.Ended → ends (actor_in b) final ≡ true
-      ends_it is = ap (λ x. is_same_actor (actor_in b) (actor_in b) && is_ending (entry_of b End x)) is ∙ ap (λ t. t && true) (same_self (actor_in b))
+      ends_it is = ap (λ x. is_same_actor (actor_in b) (actor_in b) && is_ending (entry_of b End x)) is ∙ ap (λ t. t && true) (is_own_actor (actor_in b))
 
       covered : last ≡ answer.Ended → (begins : Begins) → begins_by first ≡ Some begins → (later : List Entry) → IsLegal (setup_in b).limits (setup_in b).capacity (seen_of b ++ later) → IsCovered begins w.before first w.between later
       covered is begins by later legal = of_target begins.target refl

@@ -89,12 +89,6 @@ without_length o (a ∷ armings) h =
       | false ↦ λ _. omega (arith, without_length o armings h.1)
     ] refl
 
-pub without_unarmed : (o : ℕ) (armings : List Arming) → is_armed o armings ≡ false → without_arming o armings ≡ armings
-without_unarmed o [] h = refl
-without_unarmed o (a ∷ armings) h =
-    let both = neither (a.object.0 == o) (is_armed o armings) h in
-    ap (λ b. cond (not b) (a ∷ without_arming o armings) (without_arming o armings)) both.0 ∙ ap (λ rest. a ∷ rest) (without_unarmed o armings both.1)
-
 pub is_gone : (o : ℕ) (armings : List Arming) → is_armed o (without_arming o armings) ≡ false
 is_gone o [] = refl
 is_gone o (a ∷ armings) =

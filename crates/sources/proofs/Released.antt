@@ -23,11 +23,12 @@ use Rattle.tp_base.specs.Actions.{is_performed, left_out, may_perform, may_raise
 use Rattle.tp_base.specs.Armings.{is_armed, is_arming_of, is_arming_on, without_arming}
 use Rattle.tp_base.specs.Kernels.{is_event, is_signalled, owns, state_after, taken}
 use Rattle.kernel_events.specs.Armed.{waits_on}
+use Rattle.kernel_events.proofs.Rows.{without_none}
 use Rattle.tp_model.specs.Counts.{numbered}
 use Rattle.tp_model.specs.Kernels.{is_one_that, kernel_changed, with_row}
 use Rattle.tp_model.specs.Sources.{Firing, Sources, job, jobless, release_first, release_times, release_to, signal, with_state}
 use Rattle.tp_model.specs.Actions.{act, perform, performed}
-use Rattle.tp_model.proofs.Arming.{count_one, one_if, signal_within}
+use Rattle.tp_model.proofs.Arming.{count_one, one_if, release_idle, signal_within}
 use Rattle.tp_model.proofs.Lists.{get_set, get_set_other}
 use Rattle.tp_model.proofs.Performing.{performed_keeps}
 use Rattle.tp_model.proofs.Refusals.{false_true, numbered_at, numbered_some}
@@ -35,9 +36,8 @@ use Rattle.sources.specs.declared.LiveSources.TheInside.{Inside}
 use Rattle.sources.specs.Counts.{released_by, releases, word_of, words_of}
 use Rattle.sources.specs.Kept.{AreOnce, IsKept, shown}
 use Rattle.sources.specs.Rows.{SourceRows}
-use Rattle.sources.proofs.Armed.{found_is_armed, once_filter, without_unarmed}
+use Rattle.sources.proofs.Armed.{found_is_armed, once_filter}
 use Rattle.sources.proofs.Keeping.{armed_few}
-use Rattle.sources.proofs.Releasing.{times_idle}
 
 -- ---- one kernel object changes
 
@@ -74,7 +74,7 @@ none_on kernel (x ∷ armings) found =
 
 -- the first of an object that is armed once
 without_first : (x : Arming) (armings : List Arming) → is_armed x.object.0 armings ≡ false → without_arming x.object.0 (x ∷ armings) ≡ armings
-without_first x armings once = ap (λ b. cond (not b) (x ∷ without_arming x.object.0 armings) (without_arming x.object.0 armings)) (eq-eqb x.object.0 x.object.0 refl) ∙ without_unarmed x.object.0 armings once
+without_first x armings once = ap (λ b. cond (not b) (x ∷ without_arming x.object.0 armings) (without_arming x.object.0 armings)) (eq-eqb x.object.0 x.object.0 refl) ∙ without_none x.object.0 armings once
 
 -- the earliest is disarmed: one fewer is armed on its kernel object
 one_fewer : (kernel : ℕ) (armings : List Arming) (a : Arming) → find (is_arming_on kernel) armings ≡ Some a → AreOnce armings → count_on kernel (without_arming a.object.0 armings) + 1 ≡ count_on kernel armings
@@ -157,7 +157,7 @@ times_count (suc n) kernel f row stands once few = of_signal (times_count n kern
     armed = count_on kernel f.sources.armings
 
     idle : release_first kernel f ≡ f → releases row.state armed ≡ 0 → length (release_times (suc n) kernel f).jobs ≡ length f.jobs + releases row.state armed
-    idle same none = omega (arith, ap (λ (g : Firing). length g.jobs) (times_idle (suc n) kernel f same), none)
+    idle same none = omega (arith, ap (λ (g : Firing). length g.jobs) (release_idle (suc n) kernel f same), none)
 
     of_first : AreCounted n kernel → (first : Option Arming) → find (is_arming_on kernel) f.sources.armings ≡ first → is_signalled row.state ≡ true → release_first kernel f ≡ release_to kernel f first
         → length (release_times (suc n) kernel f).jobs ≡ length f.jobs + releases row.state armed
@@ -201,7 +201,7 @@ signal_count how kernel f once = of_row (numbered f.sources.kernels kernel) refl
     of_row : (o : Option KernelRow) → numbered f.sources.kernels kernel ≡ o → length (signal how kernel f).jobs ≡ length f.jobs + released how (option_map (λ (k : KernelRow). k.state) o) (count_on kernel f.sources.armings)
     of_row None is =
         let gone : numbered g.sources.kernels kernel ≡ None = ap (λ o. numbered (with_row (state_after how) f.sources.kernels kernel o) kernel) is ∙ is in
-        omega (arith, ap (λ (h : Firing). length h.jobs) (times_idle (length f.sources.armings) kernel g (is_idle kernel g (ap (λ o. option_map_or (λ (k : KernelRow). is_signalled k.state) o false) gone))))
+        omega (arith, ap (λ (h : Firing). length h.jobs) (release_idle (length f.sources.armings) kernel g (is_idle kernel g (ap (λ o. option_map_or (λ (k : KernelRow). is_signalled k.state) o false) gone))))
     of_row (Some row) is =
         times_count (length f.sources.armings) kernel g (record row { state = state_after how row.state }) (changed_row (state_after how) f.sources.kernels kernel row is) once
         (count_within (is_arming_on kernel) f.sources.armings)

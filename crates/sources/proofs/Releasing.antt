@@ -16,7 +16,7 @@ use Rattle.timer_objects.specs.Settings.{Timers, is_there}
 use Rattle.tp_model.specs.Counts.{numbered}
 use Rattle.tp_model.specs.Kernels.{is_one_that, kernel_changed, with_row}
 use Rattle.tp_model.specs.Sources.{Sources, Firing, Job, disarmed, job, jobless, release, release_first, release_times, release_to, with_state}
-use Rattle.tp_model.proofs.Arming.{one_if}
+use Rattle.tp_model.proofs.Arming.{one_if, release_idle}
 use Rattle.tp_model.proofs.Lists.{find_all}
 use Rattle.sources.specs.declared.firing.Cause.TheVariants.{Kernel}
 use Rattle.sources.specs.declared.LiveSources.TheInside.{Inside}
@@ -35,7 +35,7 @@ same_rows f rows kernel = known (numbered rows kernel)
     known None = refl
     known (Some row) = refl
 
-changed_length : (f : KernelState → KernelState) (rows : List KernelRow) (kernel : ℕ) → length (kernel_changed f rows kernel) ≡ length rows
+pub changed_length : (f : KernelState → KernelState) (rows : List KernelRow) (kernel : ℕ) → length (kernel_changed f rows kernel) ≡ length rows
 changed_length f rows kernel = known (numbered rows kernel)
   where
     known : (o : Option KernelRow) → length (with_row f rows kernel o) ≡ length rows
@@ -58,10 +58,6 @@ first_before jobs kernel f =
 pub times_before : (jobs : List Job) (n kernel : ℕ) (f : Firing) → release_times n kernel (before jobs f) ≡ before jobs (release_times n kernel f)
 times_before jobs zero kernel f = refl
 times_before jobs (suc n) kernel f = ap (release_times n kernel) (first_before jobs kernel f) ∙ times_before jobs n kernel (release_first kernel f)
-
-pub times_idle : (n kernel : ℕ) (f : Firing) → release_first kernel f ≡ f → release_times n kernel f ≡ f
-times_idle zero kernel f idle = refl
-times_idle (suc n) kernel f idle = ap (release_times n kernel) idle ∙ times_idle n kernel f idle
 
 -- each callback takes the slot of one arming
 times_fit : (n kernel : ℕ) (f : Firing) → AreOnce f.sources.armings → length f.jobs + length f.sources.armings ≤ length (release_times n kernel f).jobs + length (release_times n kernel f).sources.armings
@@ -205,7 +201,7 @@ pub none_fires : (i : Inside) (l : SourceRows) (on : KernelId) (kernels : Kernel
 none_fires i l on kernels is none now =
     let s : Sources = (shown i).sources in
     let idle = none_is on.0 i none in
-    let rest : release on.0 (jobless s) ≡ jobless s = times_idle (length s.armings) on.0 (jobless s) idle.1 in
+    let rest : release on.0 (jobless s) ≡ jobless s = release_idle (length s.armings) on.0 (jobless s) idle.1 in
     let here : Fires (Kernel on) (shown i) (shown i) None = record {
       after = sym idle.1;
       others = refl;

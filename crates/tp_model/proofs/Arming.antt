@@ -330,7 +330,7 @@ expiry_within now s once =
 
 -- ---- a release ends where the object is no longer signalled, or no wait is armed on it
 
-release_idle : (n kernel : ℕ) (f : Firing) → release_first kernel f ≡ f → release_times n kernel f ≡ f
+pub release_idle : (n kernel : ℕ) (f : Firing) → release_first kernel f ≡ f → release_times n kernel f ≡ f
 release_idle zero kernel f idle = refl
 release_idle (suc n) kernel f idle = ap (release_times n kernel) idle ∙ release_idle n kernel f idle
 

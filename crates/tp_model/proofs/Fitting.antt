@@ -77,11 +77,11 @@ step_enters w left entry sound e = plan_enters w left entry (plan w left entry.w
 
 -- ---- at the beginning
 
-none_of : {X : Type 0} (p : X → Bool) (x : X) → p x ≡ false → (n : ℕ) → length (filter p (replicate n x)) ≡ 0
+pub none_of : {X : Type 0} (p : X → Bool) (x : X) → p x ≡ false → (n : ℕ) → length (filter p (replicate n x)) ≡ 0
 none_of p x out zero = refl
 none_of p x out (suc n) = ap (λ b. length (cond b (x ∷ filter p (replicate n x)) (filter p (replicate n x)))) out ∙ none_of p x out n
 
-all_of : {X : Type 0} (p : X → Bool) (x : X) → p x ≡ true → (n : ℕ) → length (filter p (replicate n x)) ≡ n
+pub all_of : {X : Type 0} (p : X → Bool) (x : X) → p x ≡ true → (n : ℕ) → length (filter p (replicate n x)) ≡ n
 all_of p x here zero = refl
 all_of p x here (suc n) = ap (λ b. length (cond b (x ∷ filter p (replicate n x)) (filter p (replicate n x)))) here ∙ ap suc (all_of p x here n)
 

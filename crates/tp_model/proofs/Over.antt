@@ -11,16 +11,7 @@ use Rattle.tp_model.specs.Over.{goes_on, is_over, left_after}
 use Rattle.tp_model.specs.Support.Remembered.{forget, lives}
 use Rattle.tp_model.specs.World.{World}
 use Rattle.tp_model.proofs.Callbacks.{over_not_left, over_not_pending, over_not_running}
-use Rattle.tp_model.proofs.Lists.{filter_filter}
-
--- what fails q fails p too, so that p is passed by one of all where it is by one of those that pass q
-any_filter : {X : Type 0} (p q : X → Bool) → ((x : X) → q x ≡ false → p x ≡ false) → (xs : List X) → list_any p (filter q xs) ≡ list_any p xs
-any_filter p q over [] = refl
-any_filter {X} p q over (x ∷ xs) =
-    elim (q x) as (λ b. q x ≡ b → list_any p (cond b (x ∷ filter q xs) (filter q xs)) ≡ (p x || list_any p xs)) [
-      | true ↦ λ _. ap (λ b. p x || b) (any_filter p q over xs)
-      | false ↦ λ e. any_filter p q over xs ∙ ap (λ b. b || list_any p xs) (sym (over x e))
-    ] refl
+use Rattle.tp_model.proofs.Lists.{any_filter, filter_filter}
 
 over_goes_not_on : (w : World) (room : ℕ) (c : CallbackRow) → lives c ≡ false → goes_on w room c ≡ false
 over_goes_not_on w room c e = ap₂ (λ a b. a || (b && not (lacks_room_to_run w room c.pool.0))) (over_not_running c.status e) (over_not_pending c.status e)

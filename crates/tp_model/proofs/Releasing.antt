@@ -15,7 +15,7 @@ use Rattle.tp_model.specs.Groups.{is_object_that, is_member, is_member_at, relea
 use Rattle.tp_model.specs.Support.Sound.{IsMade, is_standing, count_set, count_armed, IsTimedOut}
 use Rattle.tp_model.proofs.Firing.{numbered_made}
 use Rattle.tp_model.proofs.Lists.{any_filter, all_filter, filter_filter, get_set, get_set_other}
-use Rattle.tp_model.proofs.Refusals.{neither, false_true, numbered_some, numbered_at}
+use Rattle.tp_model.proofs.Refusals.{false_true, neither, not_false, numbered_at, numbered_some}
 
 -- ---- objects by a test
 
@@ -115,10 +115,6 @@ pub not_true_false : (b : Bool) → not b ≡ true → b ≡ false
 not_true_false true e = absurd (false_true e)
 not_true_false false e = refl
 
-not_false_true : (b : Bool) → not b ≡ false → b ≡ true
-not_false_true true e = refl
-not_false_true false e = absurd (false_true (sym e))
-
 abbrev one_if : Bool → ℕ
 one_if b = cond b 1 0
 
@@ -147,7 +143,7 @@ module _ (gone : ℕ → Bool) where
     where
       known : (b : Bool) → (k == n) ≡ b → (k == n) ≡ false
       known false e = e
-      known true e = absurd (false_true (sym stays ∙ ap gone (sym (eqb-true k n e)) ∙ not_false_true (gone k) out))
+      known true e = absurd (false_true (sym stays ∙ ap gone (sym (eqb-true k n e)) ∙ not_false (gone k) out))
 
   same_set : (n : ℕ) → gone n ≡ false → (settings : List TimerSetting) → count_set n (settings_left settings) ≡ count_set n settings
   same_set n stays settings = ap length (filter_filter (λ (s : TimerSetting). s.object.0 == n) (λ (s : TimerSetting). not (gone s.object.0)) (λ s out. other_of s.object.0 n stays out) settings)

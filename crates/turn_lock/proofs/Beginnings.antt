@@ -8,6 +8,7 @@ use Rattle.tp_base.specs.declared.ids.Who.TheVariants.{Client, Worker}
 use Rattle.tp_base.specs.declared.limits.Limits.{Limits}
 use Rattle.tp_base.specs.Actors.{is_same_actor}
 use Rattle.turn_lock.specs.Histories.{actor_of, own, StartsWith}
+use Rattle.tp_model.proofs.Refusals.{is_own_actor, same_actor_is}
 
 pub starts_itself : (history : List Entry) → StartsWith history history
 starts_itself history = record { rest = []; is = sym (append-nil history) }
@@ -21,24 +22,14 @@ starts_longer history front more s = record { rest = s.rest ++ more; is = ap (λ
 pub starts_through : (history front first : List Entry) → StartsWith history front → StartsWith front first → StartsWith history first
 starts_through history front first s t = record { rest = t.rest ++ s.rest; is = s.is ∙ (ap (λ (h : List Entry). h ++ s.rest) t.is ∙ append_assoc first t.rest s.rest) }
 
-pub same_actor : (a b : Who) → is_same_actor a b ≡ true → a ≡ b
-same_actor (Client a) (Client b) is = ap Client (eqb-true a b is)
-same_actor (Worker a) (Worker b) is = ap Worker (eqb-true a b is)
-same_actor (Client a) (Worker b) is = absurd (cc)
-same_actor (Worker a) (Client b) is = absurd (cc)
-
-pub actor_itself : (a : Who) → is_same_actor a a ≡ true
-actor_itself (Client a) = eq-eqb a a refl
-actor_itself (Worker a) = eq-eqb a a refl
-
 pub own_more : (who : Who) (history : List Entry) (entry : Entry) → entry.who ≡ who → own who (history ++ entry ∷ []) ≡ own who history ++ entry ∷ []
-own_more who history entry is = filter-append (λ (e : Entry). is_same_actor e.who who) history (entry ∷ []) ∙ ap (λ (b : Bool). own who history ++ cond b (entry ∷ []) []) (ap (λ (w : Who). is_same_actor w who) is ∙ actor_itself who)
+own_more who history entry is = filter-append (λ (e : Entry). is_same_actor e.who who) history (entry ∷ []) ∙ ap (λ (b : Bool). own who history ++ cond b (entry ∷ []) []) (ap (λ (w : Who). is_same_actor w who) is ∙ is_own_actor who)
 
 own_other_at : (who : Who) (history : List Entry) (entry : Entry) (b : Bool) → is_same_actor entry.who who ≡ b → b ≡ false → own who (history ++ entry ∷ []) ≡ own who history
 own_other_at who history entry b is off = filter-append (λ (e : Entry). is_same_actor e.who who) history (entry ∷ []) ∙ (ap (λ (x : Bool). own who history ++ cond x (entry ∷ []) []) (is ∙ off) ∙ append-nil (own who history))
 
 not_same : (a b : Who) (x : Bool) → (a ≡ b → ⊥) → is_same_actor a b ≡ x → x ≡ false
-not_same a b true apart is = absurd (apart (same_actor a b is))
+not_same a b true apart is = absurd (apart (same_actor_is a b is))
 not_same a b false apart is = refl
 
 pub own_other : (who : Who) (history : List Entry) (entry : Entry) → (entry.who ≡ who → ⊥) → own who (history ++ entry ∷ []) ≡ own who history

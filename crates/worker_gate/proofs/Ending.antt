@@ -12,9 +12,9 @@ use Rattle.tp_base.specs.declared.plans.Stage.{Stage}
 use Rattle.tp_base.specs.declared.plans.Stage.TheVariants.{Away, Busy, Idle, Over, Playing}
 use Rattle.tp_base.specs.Actors.{is_same_actor}
 use Rattle.tp_model.specs.Stages.{is_in_part, IsActor}
+use Rattle.tp_model.proofs.Refusals.{is_own_actor}
 use Rattle.recorded.specs.Recordings.{Recording}
 use Rattle.turn_lock.specs.Histories.{own}
-use Rattle.turn_lock.proofs.Beginnings.{actor_itself}
 use Rattle.worker_gate.specs.declared.place.Place.{Place}
 use Rattle.worker_gate.specs.declared.role.Role.{Role}
 use Rattle.worker_gate.specs.Closing.{IsCutIn, IsFirstPlayed}
@@ -107,14 +107,14 @@ none_own who (e ∷ rest) none = (off_by (is_same_actor e.who who) e (own who re
 
 same_or_apart : (a b : Who) (x : Bool) → is_same_actor a b ≡ x → ((a ≡ b → ⊥) → ⊥) → x ≡ true
 same_or_apart a b true is not_apart = refl
-same_or_apart a b false is not_apart = absurd (not_apart (λ same. let t : true ≡ false = sym (ap (λ (w : Who). is_same_actor w b) same ∙ actor_itself b) ∙ is in absurd (cc)))
+same_or_apart a b false is not_apart = absurd (not_apart (λ same. let t : true ≡ false = sym (ap (λ (w : Who). is_same_actor w b) same ∙ is_own_actor b) ∙ is in absurd (cc)))
 
 -- of a front in which no other actor has an entry
 alone_own : (limits : Limits) (who : Who) (front : List Entry) → AllByRecursion (λ (e : Entry). IsActor limits e.who) front → ((other : Who) → IsActor limits other → (other ≡ who → ⊥) → own other front ≡ [])
     → AllByRecursion (λ (e : Entry). is_same_actor e.who who ≡ true) front
 alone_own limits who [] known alone = tt
 alone_own limits who (e ∷ front) known alone = (
-  same_or_apart e.who who (is_same_actor e.who who) refl (λ apart. cons_none (is_same_actor e.who e.who) e (own e.who front) (actor_itself e.who) (alone e.who known.0 apart)),
+  same_or_apart e.who who (is_same_actor e.who who) refl (λ apart. cons_none (is_same_actor e.who e.who) e (own e.who front) (is_own_actor e.who) (alone e.who known.0 apart)),
   alone_own limits who front known.1 (λ other actor apart. rest_none (is_same_actor e.who other) e (own other front) (alone other actor apart)),
 )
 
