@@ -10,7 +10,7 @@
 //! let mut callbacks = LiveCallbacks::open(alloc, 8, 2, 4, 0)?;
 //! callbacks.push(first);                // number 1, of object 3 and pool 0, pending
 //! callbacks.next(PoolId(0), &mut steps) // Some(first)
-//! callbacks.change(&first, running);    // the same, and a worker runs it
+//! callbacks.change(&first, running, &mut steps);    // the same, and a worker runs it
 //! callbacks.next(PoolId(0), &mut steps) // None
 //! callbacks.first_outstanding(ObjectId(3))  // Some(running)
 //! callbacks.remove(&running);
@@ -314,20 +314,11 @@ impl LiveCallbacks {
     /// It stays of its number, object, pool, group and priority. It leaves the lists that its status is no longer
     /// for, and comes to the queue of its pool where it is pending now. Outstanding, expected or operating it is
     /// afterwards only if it was so before.
+    ///
+    /// It counts the nodes that it reads: two at most where the callback is neither pending then nor has its
+    /// operation under way, however many others there are.
     #[inline(always)]
-    pub fn change(&mut self, before: &CallbackRow, after: CallbackRow)
-        requires found { find (λ c. c.number == before.now.number) self.old.rows ≡ Some before.now }
-        requires goes { MovesOn before.now after }
-        ensures { self.new ≡ record self.old { rows = map (λ c. if c.number == after.number then after else c) self.old.rows } }
-    {
-        let mut steps = Steps::new();
-        self.change_counted(before, after, &mut steps);
-    }
-
-    /// As `change`, and counts the nodes that it reads: two at most where the callback is neither pending then
-    /// nor has its operation under way, however many others there are.
-    #[inline(always)]
-    pub fn change_counted(&mut self, before: &CallbackRow, after: CallbackRow, steps: &mut Steps)
+    pub fn change(&mut self, before: &CallbackRow, after: CallbackRow, steps: &mut Steps)
         requires found { find (λ c. c.number == before.now.number) self.old.rows ≡ Some before.now }
         requires goes { MovesOn before.now after }
         ensures moved { self.new ≡ record self.old { rows = map (λ c. if c.number == after.number then after else c) self.old.rows } }

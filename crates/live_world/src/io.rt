@@ -6,6 +6,7 @@ ghost use Rattle.tp_model.specs.Support.Allowed.{IsAllowed};
 ghost use Rattle.live_world.specs.Live.{moved};
 
 use crate::LiveWorld;
+use steps::Steps;
 use tp_base::answers::TakeResult;
 use tp_base::plans::{Change, IoStep};
 use tp_base::rows::{CallbackRow, Status};
@@ -55,7 +56,7 @@ impl LiveWorld {
             status: Status::Issued,
             ..callback
         };
-        self.callbacks.change(&callback, issued);
+        self.callbacks.change(&callback, issued, &mut Steps::new());
     }
 
     // The operation isn't issued, and the callback never runs.
@@ -76,6 +77,7 @@ impl LiveWorld {
             result: TakeResult::Io { error, bytes },
             ..callback
         };
-        self.callbacks.change(&callback, completed);
+        self.callbacks
+            .change(&callback, completed, &mut Steps::new());
     }
 }

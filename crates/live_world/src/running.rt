@@ -87,7 +87,7 @@ impl LiveWorld {
             },
             ..callback
         };
-        self.callbacks.change_counted(&callback, running, steps);
+        self.callbacks.change(&callback, running, steps);
         self.pools.take(by.worker, callback.number, callback.long);
     }
 
@@ -112,7 +112,7 @@ impl LiveWorld {
             long: true,
             ..by.callback
         };
-        self.callbacks.change(&by.callback, long);
+        self.callbacks.change(&by.callback, long, &mut Steps::new());
         self.pools.mark_long(by.worker);
     }
 
@@ -125,7 +125,8 @@ impl LiveWorld {
             status: loosened(by.callback.status),
             ..by.callback
         };
-        self.callbacks.change(&by.callback, loose);
+        self.callbacks
+            .change(&by.callback, loose, &mut Steps::new());
     }
 
     // Notes that a running callback asks for an action on its return.
@@ -137,7 +138,8 @@ impl LiveWorld {
             status: asking(kind, action, by.callback.status),
             ..by.callback
         };
-        self.callbacks.change(&by.callback, asking);
+        self.callbacks
+            .change(&by.callback, asking, &mut Steps::new());
     }
 
     // Ends the callback that a worker runs. The worker stays attached.

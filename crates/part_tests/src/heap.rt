@@ -3,6 +3,7 @@
 ghost use Rattle.std.specs.Prelude.{◌≡◌};
 
 use crate::checks::{expect_eq, expect_ok};
+use steps::Steps;
 use timer_heap::DueHeap;
 
 const KEYS: u32 = 1_000_000;
@@ -10,9 +11,10 @@ const KEYS: u32 = 1_000_000;
 #[test]
 fn keys_come_due_in_order(rt: HostRuntime) {
     let mut heap = expect_ok(&rt, DueHeap::open(rt.alloc(), 3));
-    heap.set(2, 70);
-    heap.set(1, 50);
-    heap.set(0, 50);
+    let mut steps = Steps::new();
+    heap.set(2, 70, &mut steps);
+    heap.set(1, 50, &mut steps);
+    heap.set(0, 50, &mut steps);
     heap.note_due(50);
     expect_eq(
         &rt,
@@ -21,10 +23,10 @@ fn keys_come_due_in_order(rt: HostRuntime) {
             heap.count_due(50),
             heap.count_due_where(50, &|key| key > 0),
             heap.due_of(2),
-            heap.pop_due(49),
-            heap.pop_due(60),
+            heap.pop_due(49, &mut steps),
+            heap.pop_due(60, &mut steps),
             heap.count_due(50),
-            heap.unset(2),
+            heap.unset(2, &mut steps),
         ),
         (3, 2, 1, Some(70), None, Some((50, 0)), 1, true),
     );
@@ -40,7 +42,7 @@ fn set_all(heap: &mut DueHeap, keys: u32)
     requires { heap.old.keys ≡ keys }
 {
     for key in 0..keys {
-        heap.set(key, due_at(key));
+        heap.set(key, due_at(key), &mut Steps::new());
     }
 }
 
@@ -48,7 +50,7 @@ fn set_all(heap: &mut DueHeap, keys: u32)
 fn unset_thirds(heap: &mut DueHeap, keys: u32) {
     for key in 0..keys {
         if key % 3 == 0 {
-            heap.unset(key);
+            heap.unset(key, &mut Steps::new());
         }
     }
 }
@@ -70,7 +72,7 @@ fn is_next(last: Option<(u64, u32)>, next: Option<(u64, u32)>) -> bool {
 fn pop_in_order(heap: &mut DueHeap, count: u32) -> bool {
     let mut last = None;
     for _ in 0..count {
-        let next = heap.pop_due(u64::MAX);
+        let next = heap.pop_due(u64::MAX, &mut Steps::new());
         if !is_next(last, next) {
             return false;
         }

@@ -3,7 +3,7 @@
 //!
 //! ```text
 //! let mut steps = Steps::new();
-//! heap.set_counted(key, due, &mut steps);     // its contract bounds what it adds
+//! heap.set(key, due, &mut steps);     // its contract bounds what it adds
 //! ```
 
 #![tactic(auto)]

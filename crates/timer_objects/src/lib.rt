@@ -38,6 +38,7 @@ mod moments;
 pub use moments::{moment_of, next_due};
 use std::alloc::{AllocError, Global};
 use std::marker::Model;
+use steps::Steps;
 use timer_heap::DueHeap;
 use tp_base::ids::ObjectId;
 use tp_base::rows::TimerSetting;
@@ -145,7 +146,7 @@ impl TimerObjects {
         if !self.is_there(object) {
             return false;
         }
-        self.dues.unset(key_of(object));
+        self.dues.unset(key_of(object), &mut Steps::new());
         self.there[object.0 as usize] = false;
         true
     }
@@ -193,7 +194,7 @@ impl TimerObjects {
         ensures was { result ≡ is_set object.0 self.old.settings }
         ensures after { self.new ≡ record self.old { settings = without_setting object self.old.settings } }
     {
-        self.dues.unset(key_of(object))
+        self.dues.unset(key_of(object), &mut Steps::new())
     }
 
     // Begins a setting of a timer that isn't set. Says whether it expires at once.
@@ -215,9 +216,10 @@ impl TimerObjects {
         self.paces[key as usize] = Pace { period, window };
         let fires = due <= now;
         if !fires {
-            self.dues.set(key, due);
+            self.dues.set(key, due, &mut Steps::new());
         } else if period > 0 {
-            self.dues.set(key, next_due(due, period, now));
+            self.dues
+                .set(key, next_due(due, period, now), &mut Steps::new());
         }
         fires
     }
@@ -268,10 +270,11 @@ impl TimerObjects {
         ensures left { after_expiry now self.new.settings ≡ after_expiry now self.old.settings }
         ensures done { IfNone result (after_expiry now self.new.settings ≡ self.new.settings) }
     {
-        let (due, key) = self.dues.pop_due(now)?;
+        let (due, key) = self.dues.pop_due(now, &mut Steps::new())?;
         let pace = self.paces[key as usize];
         if pace.period > 0 {
-            self.dues.set(key, next_due(due, pace.period, now));
+            self.dues
+                .set(key, next_due(due, pace.period, now), &mut Steps::new());
         }
         Some((due, ObjectId(key + 1)))
     }

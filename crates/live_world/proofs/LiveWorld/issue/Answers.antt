@@ -16,7 +16,7 @@ change-requires c =
     }
 
 pub invariant_of-self : goal.invariant_of-self
-invariant_of-self c = (operated_by c.self.inside c.args.self.now c.args.callback Issue c.change.new.self c.self.view_is c.self.invariant c.requires refl c.change.ensures).keeps
+invariant_of-self c = (operated_by c.self.inside c.args.self.now c.args.callback Issue c.change.new.self c.self.view_is c.self.invariant c.requires refl c.change.ensures.moved).keeps
 
 pub returns : goal.returns
-returns c = (operated_by c.self.inside c.args.self.now c.args.callback Issue c.change.new.self c.self.view_is c.self.invariant c.requires refl c.change.ensures).becomes
+returns c = (operated_by c.self.inside c.args.self.now c.args.callback Issue c.change.new.self c.self.view_is c.self.invariant c.requires refl c.change.ensures.moved).becomes

@@ -37,9 +37,9 @@ change-requires c =
 pub invariant_of-self : goal.invariant_of-self
 invariant_of-self c =
     (asked_by c.self.inside c.args.self.now c.args.by c.args.kind c.args.action c.change.new.self c.self.view_is c.self.invariant c.requires
-    (replaced_now c.self.inside.callbacks c.args.by.callback c.args.kind c.args.action c.asking.result c.change.new.self c.asking.ensures c.change.ensures)).keeps
+    (replaced_now c.self.inside.callbacks c.args.by.callback c.args.kind c.args.action c.asking.result c.change.new.self c.asking.ensures c.change.ensures.moved)).keeps
 
 pub returns : goal.returns
 returns c =
     (asked_by c.self.inside c.args.self.now c.args.by c.args.kind c.args.action c.change.new.self c.self.view_is c.self.invariant c.requires
-    (replaced_now c.self.inside.callbacks c.args.by.callback c.args.kind c.args.action c.asking.result c.change.new.self c.asking.ensures c.change.ensures)).becomes
+    (replaced_now c.self.inside.callbacks c.args.by.callback c.args.kind c.args.action c.asking.result c.change.new.self c.asking.ensures c.change.ensures.moved)).becomes

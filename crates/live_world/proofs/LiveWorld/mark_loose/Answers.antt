@@ -31,9 +31,9 @@ change-requires c =
 pub invariant_of-self : goal.invariant_of-self
 invariant_of-self c =
     (loosened_by c.self.inside c.args.self.now c.args.by c.change.new.self c.self.view_is c.self.invariant c.requires
-    (replaced_now c.self.inside.callbacks c.args.by.callback c.loosened.result c.change.new.self c.loosened.ensures c.change.ensures)).keeps
+    (replaced_now c.self.inside.callbacks c.args.by.callback c.loosened.result c.change.new.self c.loosened.ensures c.change.ensures.moved)).keeps
 
 pub returns : goal.returns
 returns c =
     (loosened_by c.self.inside c.args.self.now c.args.by c.change.new.self c.self.view_is c.self.invariant c.requires
-    (replaced_now c.self.inside.callbacks c.args.by.callback c.loosened.result c.change.new.self c.loosened.ensures c.change.ensures)).becomes
+    (replaced_now c.self.inside.callbacks c.args.by.callback c.loosened.result c.change.new.self c.loosened.ensures c.change.ensures.moved)).becomes

@@ -4,8 +4,8 @@ use Rattle.live_world.proofs.CallbackMoves.{taken_by}
 use Rattle.live_world.proofs.Moving.{found_here, goes_with, idles_here, pending_tied}
 use Rattle.live_world.proofs.LiveWorld.take.Goals as goal
 
-pub change_counted-requires : goal.change_counted-requires
-change_counted-requires c =
+pub change-requires : goal.change-requires
+change-requires c =
     let d = c.args.callback in
     record {
       found = found_here c.self.inside c.args.self.now d c.self.view_is c.requires.found;
@@ -21,7 +21,7 @@ pub take-requires-clause-idle : goal.take-requires-clause-idle
 take-requires-clause-idle c = idles_here c.self.inside c.args.self.now c.args.by c.self.view_is c.requires.idles
 
 pub invariant_of-self : goal.invariant_of-self
-invariant_of-self c = (taken_by c.self.inside c.args.self.now c.args.by c.args.callback c.take.new.self c.change_counted.new.self c.self.view_is c.self.invariant c.requires c.take.ensures c.change_counted.ensures.moved).keeps
+invariant_of-self c = (taken_by c.self.inside c.args.self.now c.args.by c.args.callback c.take.new.self c.change.new.self c.self.view_is c.self.invariant c.requires c.take.ensures c.change.ensures.moved).keeps
 
 pub returns-clause-after : goal.returns-clause-after
-returns-clause-after c = (taken_by c.self.inside c.args.self.now c.args.by c.args.callback c.take.new.self c.change_counted.new.self c.self.view_is c.self.invariant c.requires c.take.ensures c.change_counted.ensures.moved).becomes
+returns-clause-after c = (taken_by c.self.inside c.args.self.now c.args.by c.args.callback c.take.new.self c.change.new.self c.self.view_is c.self.invariant c.requires c.take.ensures c.change.ensures.moved).becomes

@@ -39,7 +39,7 @@ pub invariant_of-self-then-pace-gt0 : goal.invariant_of-self-then-pace-gt0
 invariant_of-self-then-pace-gt0 c =
     kept_set _ _ _ (kept_popped _ _ _ _ _ c.self.invariant c.pop_due.ensures.after) _ _ _ _
     (first_alive _ _ _ _ _ _ c.self.invariant c.in_ok-due.ensures.distinct (sym c.in_ok-due.ensures.first))
-    c.set.ensures refl
+    c.set.ensures.after refl
 
 pub invariant_of-self-else-pace-gt0 : goal.invariant_of-self-else-pace-gt0
 invariant_of-self-else-pace-gt0 c = kept_popped _ _ _ _ _ c.self.invariant c.pop_due.ensures.after
@@ -51,7 +51,7 @@ after c =
     elim c.if-pace-gt0.branch [
       | then-pace-gt0 w ↦
           let shown = shown_back c.self.inside.paces.items _ _ _ _ is w.next_due.result (rw pace w.if-pace-gt0.true) (rw pace w.next_due.ensures.value) in
-          w.self-is ∙ rw (w.set.ensures, c.pop_due.ensures.after, ← c.self.view_is) (rw shown refl)
+          w.self-is ∙ rw (w.set.ensures.after, c.pop_due.ensures.after, ← c.self.view_is) (rw shown refl)
       | else-pace-gt0 w ↦
           let shown = shown_gone c.self.inside.paces.items _ _ _ _ is (rw pace w.if-pace-gt0.false) in
           w.self-is ∙ rw (c.pop_due.ensures.after, ← c.self.view_is) (rw shown refl)

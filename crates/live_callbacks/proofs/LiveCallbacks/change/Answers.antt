@@ -19,7 +19,7 @@ use Rattle.live_callbacks.proofs.Found.{owner_is}
 use Rattle.live_callbacks.proofs.Lines.{priority_most}
 use Rattle.live_callbacks.proofs.Parts.{changed}
 use Rattle.live_callbacks.proofs.Standing.{IsAmong, among, key_found, key_is, may_group, may_line, may_object, of_row, put_among, rows_put, stand}
-use Rattle.live_callbacks.proofs.LiveCallbacks.change_counted.Goals as goal
+use Rattle.live_callbacks.proofs.LiveCallbacks.change.Goals as goal
 
 -- the row before is among the rows, and that after is of a pool and an object that there may be
 record IsMoving (i : Inside) (b r : CallbackRow) : Type 0 where
