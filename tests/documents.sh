@@ -6,6 +6,23 @@
 #   output and standard error;
 # - a block marked `history`: a legal history;
 # - a block marked `text` or `c` is no example. No block stands without a mark.
+#
+# What they say of the sources, held against these. A paragraph, a row or a bullet is looked at by itself.
+#
+# - `NAME` (`FILE`), `NAME` in `FILE`, also with several names: the file defines the name. A file is a path from `src`,
+#   `specs`, `proofs` or `must-fail` on, without an ending or with one, and is there. It is of the crate that stands
+#   behind it (`FILE` of CRATE), or else of that with which the row or the bullet begins; in the README of a crate of
+#   that crate; and elsewhere of the crate that was named last. CRATE/FILE has its crate;
+# - `NAME` of CRATE, and `NAME` behind the crate in the first cell of a row: the crate defines the name;
+# - `TYPE::NAME`: a crate defines both;
+# - any other name with an underscore, or of several words with capitals, in the README of a crate and in the documents
+#   on the code: it stands in the sources, is a file, a crate or one of the kit's, or is a function of Windows;
+# - `CRATE` stands on `CRATE`, also with several: so says crates.txt;
+# - a list of files with a witness (docs/ARCHITECTURE.md, 'Where to change what'; its form is in tests/witnesses.awk):
+#   its files are those of `src`, `specs` and `proofs` in which the witness stands;
+# - the table of docs/PROVED.md under 'What you have to believe': its files, and the kit's crates before it, are those
+#   of which the contract of `tp_main` is made;
+# - the table of docs/ARCHITECTURE.md under 'Where its meaning stands': a row for each library.
 # shellcheck shell=bash
 
 # Compares the program's answers to calls with those that stand beside them, from lines CALL TAB ANSWER.
@@ -127,7 +144,7 @@ stands_there() {
     [[ $1 =~ ^[a-zA-Z0-9_./{},-]+$ ]] && eval "paths=($1)" && inside "$here" ls -d "${paths[@]}"
 }
 
-for file in "$here"/README.md "$here/docs"/*.md "$here/windows/README.md"; do
+for file in "$here"/README.md "$here/docs"/*.md "$here/windows/README.md" "$here/crates"/*/README.md; do
     page=${file#"$here"/}
     each_part plays "$page, table" < <(tables_of "$file" '| Call | Prints |')
     each_part bad_lines "$page, bad lines" < <(tables_of "$file" '| Line | Column |')
@@ -142,3 +159,86 @@ for file in "$here"/README.md "$here/docs"/*.md "$here/windows/README.md"; do
         try "$page: the path $path" 0 '~*' '' stands_there "$path"
     done < <(awk '{ while (match($0, /`(crates|docs|examples|script|tests|windows)\/[^` ]*`/)) { print substr($0, RSTART + 1, RLENGTH - 2); $0 = substr($0, RSTART + RLENGTH) } }' "$file" | awk '!seen[$0]++')
 done
+
+# --- what the documents say of the sources
+
+# The sources and definitions of all crates, or of those with one of these endings; not what a build left.
+sources() {
+    find crates -name out -prune -o -name must-fail -prune -o \( -name '*.rt' -o -name '*.antt' \) -print
+}
+
+# What is defined, by crate, file and name; the edits that must be refused as files without a name; and every word.
+list_defined() {
+    mapfile -t all < <(sources)
+    awk -f tests/defined.awk "${all[@]}"
+    find crates -path '*/must-fail/*.edit' | sed 's/^crates.//; s/\// /; s/\.edit$/ -/'
+    grep -ohwE '[A-Za-z_][A-Za-z_0-9]*' "${all[@]}" | LC_ALL=C sort -u | sed 's/^/- - /'
+}
+inside "$here" list_defined >"$room/defined"
+
+names_stand() { awk -f tests/named.awk "$room/defined" crates.txt README.md docs/*.md crates/*/README.md; }
+try 'names in the documents are defined where these say' 0 '' '' inside "$here" names_stand
+
+crates_stand() { awk -f tests/stands_on.awk crates.txt README.md docs/*.md crates/*/README.md; }
+try 'crates stand on those that the documents say' 0 '' '' inside "$here" crates_stand
+
+crate_names() { sed -n 's/^\([a-z][a-z_0-9]*\):.*/\1/p' crates.txt; }
+
+# The files of some crates in which a word of a pattern stands, but for worked examples.
+files_with() {
+    local pattern=$1 crate folder folders=()
+    shift
+    for crate; do
+        for folder in src specs proofs; do
+            [[ $crate == *_tests || ! -d crates/$crate/$folder ]] || folders+=("crates/$crate/$folder")
+        done
+    done
+    grep -rlwE "$pattern" "${folders[@]}" --exclude='*Examples.antt' | LC_ALL=C sort
+}
+
+# What a list of files lacks, behind `>`, and what it has besides, behind `<`.
+list_is() {
+    local pattern=$1 scope=$2 files=$3
+    [[ $scope != all ]] || scope=$(crate_names)
+    # shellcheck disable=SC2086
+    diff <(tr ' ' '\n' <<<"$files" | LC_ALL=C sort -u) <(files_with "$pattern" $scope)
+}
+lists=0
+while IFS=$'\t' read -r title scope pattern files; do
+    lists=$((lists + 1))
+    try "the files of: $title" 0 '' '' inside "$here" list_is "$pattern" "$scope" "$files"
+done < <(awk -f "$here/tests/witnesses.awk" "$here/docs/ARCHITECTURE.md")
+bullets=$(grep -c '^- .*as `[^`]*`.*:$' "$here/docs/ARCHITECTURE.md")
+try 'each list with a witness is looked at' 0 '' '' test "$lists" -eq "$bullets"
+
+# The files of which the contract of `tp_main` is made, and the kit's crates.
+believed() {
+    mapfile -t all < <(sources)
+    awk -v contract=crates/tp_run/src/top.rt -v of=tp_main \
+        -v traits='crates/tp_edge/src/source.rt crates/tp_edge/src/sink.rt' -f tests/believed.awk "${all[@]}"
+}
+# Those that docs/PROVED.md lists.
+told_to_believe() {
+    local path paths kit
+    while IFS= read -r path; do
+        [[ $path =~ ^[a-zA-Z0-9_./{},]+$ ]] && eval "paths=($path)" && printf '%s\n' "${paths[@]}"
+    done < <(sed -n '/^# What you have to believe/,$ s/^| \(`[^|]*`\) |.*/\1/p' docs/PROVED.md | grep -o '`[^`]*`' | tr -d '`')
+    for kit in $(sed -n "s/.*Of the kit's crates they import \([^.]*\)\..*/\1/p" docs/PROVED.md | sed 's/,//g; s/ and / /'); do
+        echo "kit: $kit"
+    done
+}
+is_all_to_believe() { diff <(told_to_believe | LC_ALL=C sort) <(believed | LC_ALL=C sort); }
+try 'docs/PROVED.md lists what the contract of tp_main is made of' 0 '' '' inside "$here" is_all_to_believe
+
+# The crates with a row in the table of meanings, and those that should have one: all that others can stand on.
+has_meaning() {
+    diff <(sed -n '/^## Where its meaning stands/,/^## The contract/ s/^| \([a-z_]*\) |.*/\1/p' docs/ARCHITECTURE.md | LC_ALL=C sort) \
+        <(crate_names | grep -v '_tests$' | while IFS= read -r crate; do [[ ! -e crates/$crate/src/lib.rt ]] || echo "$crate"; done | LC_ALL=C sort)
+}
+try 'each library has a row that says where its meaning stands' 0 '' '' inside "$here" has_meaning
+
+# --- the clauses of a crate, as script/clauses prints them
+
+try 'script/clauses prints each public function with its clauses' 0 "$(text_of "$here/tests/clauses")"$'\n' '' "$here/script/clauses" callback_env
+try 'script/clauses lists the crates' 0 "$(inside "$here" crate_names)"$'\n' '' "$here/script/clauses"
+try 'script/clauses knows no such crate' 1 '' $'clauses: no crate none; without a crate they are listed\n' "$here/script/clauses" none
