@@ -1,6 +1,6 @@
 # What a refusal, a look or a wait that stalled is about, where the calls and answers so far tell that; nothing else is asked, so
 # what they don't tell isn't written. `workers` is how many the machine has. Who lays out answers calls `about`
-# with each call and its answer, in their order.
+# with each call and its answer, in their order. What has a name in `known_as` is told by that.
 
 BEGIN {
     put(object_at, 3, "submit set-timer set-timer-ex is-timer-set set-wait start-io issue-io cancel-io")
@@ -56,39 +56,39 @@ function subject() {
     if ($1 != "look") return ""
     if ($2 == "not-yet" && $3 == "callback") return both(of_callback($4), stage_of($4))
     if ($2 == "not-yet") return $4 in kernel_kind ? both(named(kernel_kind[$4]), owner_of($4)) : ""
-    return $2 != "no-need" && actor in pool_of ? "pool " pool_of[actor] : ""
+    return $2 != "no-need" && actor in pool_of ? called("pool", pool_of[actor]) : ""
 }
 
 function of_refusal(name) {
     if (name == "no-such") return never_made()
-    if (name == "released") return both(actor in finished ? "client " substr(actor, 2) : "", object in gone ? "object " object : "")
+    if (name == "released") return both(actor in finished ? "client " substr(actor, 2) : "", object in gone ? called("object", object) : "")
     if (name == "wrong-kind") return other_kind()
     if (name == "not-waitable") return other_kind_of_kernel()
     if (name == "not-owner") return owner_of(kernel)
     if (name == "in-wait" && actor in waits_for) return waits_for[actor]
     if (name ~ /^(still-running|own-callback)$/ && actor in runs) return "callback " runs[actor]
-    if (name ~ /^(has-members|operations-outstanding)$/) return $3 ? "object " $3 : "simple callbacks"
-    if (name == "already-attached" && actor in pool_of) return "pool " pool_of[actor]
+    if (name ~ /^(has-members|operations-outstanding)$/) return $3 ? called("object", $3) : "simple callbacks"
+    if (name == "already-attached" && actor in pool_of) return called("pool", pool_of[actor])
     return ""
 }
 
 # All that a call names and that was never made.
 function never_made(    found) {
     if (actor ~ /^w/ && substr(actor, 2) + 0 > workers) found = "worker " substr(actor, 2)
-    if (object != "" && !(object in object_kind)) found = both(found, "object " object)
-    if (kernel != "" && !(kernel in kernel_kind)) found = both(found, "kernel object " kernel)
-    if (pool + 0 > pools) found = both(found, "pool " pool)
-    if (group + 0 > groups) found = both(found, "group " group)
+    if (object != "" && !(object in object_kind)) found = both(found, called("object", object))
+    if (kernel != "" && !(kernel in kernel_kind)) found = both(found, called("kernel object", kernel))
+    if (pool + 0 > pools) found = both(found, called("pool", pool))
+    if (group + 0 > groups) found = both(found, called("group", group))
     return found
 }
 
 function other_kind() {
     if (call == "finish") return actor " is a worker"
-    return object in object_kind ? "object " object " is " named(object_kind[object]) : other_kind_of_kernel()
+    return object in object_kind ? called("object", object) " is " named(object_kind[object]) : other_kind_of_kernel()
 }
 
 function other_kind_of_kernel() {
-    return kernel in kernel_kind ? "kernel object " kernel " is " named(kernel_kind[kernel]) : ""
+    return kernel in kernel_kind ? called("kernel object", kernel) " is " named(kernel_kind[kernel]) : ""
 }
 
 function named(kind) {
@@ -104,12 +104,17 @@ function owner_of(lock) {
 
 function of_callback(number) {
     if (!(number in object_of)) return ""
-    return object_of[number] ? "object " object_of[number] : "a simple callback"
+    return object_of[number] ? called("object", object_of[number]) : "a simple callback"
 }
 
 function stage_of(number) {
     if (number in runner) return runner[number] " runs it"
     return number in operation ? "its operation is " operation[number] : "it is pending"
+}
+
+# A thing by its name, or else by its kind and number.
+function called(kind, number) {
+    return (kind, number) in known_as ? known_as[kind, number] : kind " " number
 }
 
 function both(one, other) {
@@ -165,17 +170,17 @@ function learn_returned(number) {
 }
 
 function learn_wait(    number) {
-    if ($1 == "begun") waits_for[actor] = "its wait for object " object
-    else if (call == "acquire") { waits_for[actor] = "its wait for kernel object " kernel; takes[actor] = kernel }
+    if ($1 == "begun") waits_for[actor] = "its wait for " called("object", object)
+    else if (call == "acquire") { waits_for[actor] = "its wait for " called("kernel object", kernel); takes[actor] = kernel }
     else if ($1 == "closing") {
-        waits_for[actor] = "its close of group " group
+        waits_for[actor] = "its close of " called("group", group)
         notices[actor] = $4
         given[actor] = 0
         for (number in group_of) if (group_of[number] == group) gone[number]
     }
     else if ($1 == "notice") given[actor]++
     else if (call == "end") {
-        if (actor in takes && kernel_kind[takes[actor]] ~ /^(mutex|section)$/) take_lock(takes[actor])
+        if ($1 == "ended" && actor in takes && kernel_kind[takes[actor]] ~ /^(mutex|section)$/) take_lock(takes[actor])
         delete waits_for[actor]
         delete takes[actor]
         delete notices[actor]
@@ -189,4 +194,26 @@ function take_lock(lock) {
 
 function give_back(lock) {
     if (--times[lock] == 0) delete owner[lock]
+}
+
+# Forgets all entries, for those of another history.
+function forget() {
+    split("", pool_of)
+    split("", finished)
+    split("", gone)
+    split("", object_kind)
+    split("", group_of)
+    split("", kernel_kind)
+    split("", owner)
+    split("", times)
+    split("", runs)
+    split("", runner)
+    split("", object_of)
+    split("", operation)
+    split("", action)
+    split("", waits_for)
+    split("", takes)
+    split("", notices)
+    split("", given)
+    pools = groups = 0
 }

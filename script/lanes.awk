@@ -1,21 +1,47 @@
 # Lays out a history: the number of each entry, its actor, the call and the answer, and behind a refusal and a wait
 # that stalled what it is about. In `columns` columns, where they suffice, each actor has a lane of its own, so that
 # time goes down the page; what an actor did alone before all others stands above the lanes. What stands behind the
-# history, as its summary, is below.
+# history, as its summary, is below, and above that who waited for whom in a wait that stalled. The first file is the
+# script that the history came of, if it is known, and the entry `wrong` has an answer that is not the machine's,
+# which is `said`.
 
-NR == 1 { workers = $6; next }
-over { print (over++ == 1 ? "\n" : "") $0; next }
-/^end / { lay_out(); over = 1; next }
+FILENAME == ARGV[1] { read_script_line($0); next }
+!begun++ { workers = $6; begin_names(); next }
+over && $1 == "name" { take_name($0); next }
+over { below[++behind] = $0; next }
+/^end / { over = 1; next }
 
 {
     cut = index($0, " -> ")
-    entry = substr($0, 1, cut - 1)
-    answers[++count] = substr($0, cut + 4)
-    answers[count] = answers[count] about(entry, answers[count])
-    cut = index(entry, " ")
-    by[count] = substr(entry, 1, cut - 1)
-    calls[count] = substr(entry, cut + 1)
-    last[by[count]] = count
+    calls[++count] = substr($0, 1, cut - 1)
+    answers[count] = substr($0, cut + 4)
+    learn_names(calls[count], answers[count])
+}
+
+END {
+    if (!begun) exit
+    for (at = 1; at <= count; at++) tell_entry(at)
+    lay_out()
+    if (stalls != "") printf "\n%s", stalls
+    if (behind) print ""
+    for (at = 1; at <= behind; at++) print below[at]
+}
+
+# Makes of an entry what is written of it.
+function tell_entry(at,    call, answer, cut) {
+    call = calls[at]
+    answer = answers[at]
+    cut = index(call, " ")
+    by[at] = substr(call, 1, cut - 1)
+    last[by[at]] = at
+    if (answer == "stalled") stalls = stalls "entry " at " stalled: " find_ring(by[at]) "\n"
+    calls[at] = substr(call_with_names(call), cut + 1)
+    answers[at] = answer_with_names(call, answer)
+    if (at == wrong) answers[at] = answers[at] "  <- the machine says: " answer_with_names(call, said) about(call, said)
+    else {
+        answers[at] = answers[at] about(call, answer)
+        follow()
+    }
 }
 
 function lay_out(    alone) {

@@ -1,83 +1,165 @@
-# Plays a script again and again, and tells which histories came of it.
+# Plays a script again and again, and tells what came of it.
 # shellcheck shell=bash
 
-# The runs whose outputs are kept until they are looked at together.
+# The runs of a share whose outputs are kept until they are looked at together.
 batch=50
+# From how many seconds on it is said beforehand how long it takes.
+long=10
 
-# Plays the script of standard input `runs` times. An interrupt ends that, and what came is told.
+# Plays the script of standard input `runs` times, in shares that go on side by side. An interrupt ends that, and what
+# came is told.
 play_runs() {
-    local played=0 wrong=0 interrupted=''
-    words_of_a_run
+    local interrupted='' shares=1 wrong=0 share
     make_room
-    if ((start > 0)); then
-        input_again >"$room/script"
-        exec <"$room/script"
-        start=0
-    fi
+    input_again >"$room/script"
+    settle_runs
+    probe || return
     trap 'interrupted=yes' INT
-    while ((played < runs && wrong == 0)) && [[ -z $interrupted ]]; do
-        play_batch
+    for ((share = 1; share <= shares; share++)); do
+        mkdir "$room/share-$share"
+        play_share "$share" |
+            folder=$room/share-$share awk -f "$home/script/about.awk" -f "$home/script/ring.awk" -f "$home/script/names.awk" \
+                -f "$home/script/runs.awk" "$room/script" - >"$room/told-$share" 2>/dev/null &
     done
+    until wait; do :; done
     trap - INT
     tell_runs
-    if [[ -n $interrupted ]]; then
-        return 130
+}
+
+# What the program is asked for, and how many shares there are: by seeds one a processor, each with every so manieth
+# seed; on threads, which take the processors themselves, one.
+settle_runs() {
+    [[ -n $threads ]] || threads=0
+    words=(run "${options[@]}")
+    if ((threads == 0)) && [[ $state == current ]]; then
+        shares=$(nproc)
+        ((shares < runs)) || shares=$runs
     fi
-    return "$wrong"
+    [[ -z $keep ]] || { mkdir -p -- "$keep" && [[ -d $keep && -w $keep ]]; } 2>/dev/null || fail 4 "write fault: nothing can be written into $keep"
+    awk '!/^ *(#|$)/ { found = 1; exit } END { exit !found }' "$room/script" || say 'the script is empty'
 }
 
-# What the program is asked for: the options without --json, which changes what it writes, and the threads.
-words_of_a_run() {
-    local word
-    words=(run)
-    for word in "${options[@]}"; do
-        [[ $word == --json ]] || words+=("$word")
-    done
-    [[ " ${words[*]}" == *' --threads='* ]] || words+=("--threads=$threads")
+# Plays once, which shows whether the script can be played, and how long it takes. Sources are not played for that alone.
+probe() {
+    local said status begin=${EPOCHREALTIME/[.,]/} seconds
+    [[ $state == current ]] || return 0
+    said=$(play_once 1 2>&1 >/dev/null)
+    status=$?
+    seconds=$(((${EPOCHREALTIME/[.,]/} - begin) * runs / shares / 1000000))
+    case $status in
+    0 | 8 | 9) ((seconds < long)) || say "$runs runs take about $(span "$seconds")" ;;
+    *) hand_on "$said" "$status" ;;
+    esac
 }
 
-# Plays some runs, and looks at what they wrote.
-play_batch() {
-    local status most=$((played + batch))
-    ((most < runs)) || most=$runs
-    while ((played < most && wrong == 0)) && [[ -z $interrupted ]]; do
-        (run_program "${words[@]}") </dev/stdin >"$room/run-$played" 2>"$room/said"
+# A number of seconds in words.
+span() {
+    if (($1 < 100)); then
+        echo "$1 seconds"
+    elif (($1 < 6000)); then
+        echo "$((($1 + 30) / 60)) minutes"
+    else
+        echo "$((($1 + 1800) / 3600)) hours"
+    fi
+}
+
+# Plays the run of a number, in place of a subshell.
+play_once() {
+    local seed=()
+    ((threads > 0)) || seed=("--seed=$1")
+    run_program "${words[@]}" "${seed[@]}" <"$room/script"
+}
+
+# Plays each run of a share, until one goes wrong or an interrupt comes, and hands on what they write.
+play_share() {
+    local number status ended=()
+    cd "$room/share-$1" || return
+    trap 'interrupted=yes' INT
+    for ((number = $1; number <= runs; number += shares)); do
+        (play_once "$number") >"run-$number" 2>said
         status=$?
+        [[ -z $interrupted && ! -e $room/wrong ]] || break
         case $status in
-        0 | 8 | 9)
-            echo "run-$played $status" >>"$room/ended"
-            played=$((played + 1))
-            ;;
+        0 | 8 | 9) ended+=("$number" "$status") ;;
         *)
-            rm -f "$room/run-$played"
-            [[ -n $interrupted ]] || wrong=$status
+            cp said "$room/said" && echo "$status" >"$room/wrong"
+            break
             ;;
         esac
+        ((${#ended[@]} < 2 * batch)) || hand_over "$1"
     done
-    [[ ! -e $room/ended ]] || look_at_runs
-    [[ ! -t 2 ]] || printf '\r%d of %d runs' "$played" "$runs" >&2
+    rm -f "run-$number"
+    ((${#ended[@]} == 0)) || hand_over "$1"
 }
 
-# Counts the histories of the runs that were played, and keeps the shortest of each kind. An interrupt doesn't end it.
-look_at_runs() {
-    [[ -n ${kept-} ]] || kept=$(mktemp -d "${TMPDIR:-/tmp}/tpool-runs-XXXXXX") || fail 126 'there is no room for the histories'
-    (
-        trap '' INT
-        cd "$room" && touch known && sha256sum run-* | awk -v kept="$kept" -f "$home/script/runs.awk" known ended - >counted &&
-            mv -f counted known && rm -f ended run-*
-    )
+# Hands on what some runs wrote, with their ends and the sums by which they are known.
+hand_over() {
+    printf 'ended %d %d\n' "${ended[@]}"
+    sha256sum run-*
+    tail -v -n +1 run-*
+    rm -f run-*
+    ended=()
+    [[ ! -t 2 ]] || (($1 > 1)) || printf '\r%d of %d runs' "$number" "$runs" >&2
 }
 
-# Tells what came of all runs.
+# Tells what came of all runs. The status is that of the first kind of --fail-on that came, or of a run that went wrong.
 tell_runs() {
+    local played
     [[ ! -t 2 ]] || printf '\r\033[K' >&2
-    if ((wrong)); then
+    if [[ -e $room/wrong ]]; then
+        wrong=$(<"$room/wrong")
         hand_on "$(<"$room/said")" "$wrong"
         ((wrong < 10 || wrong == 126 || wrong == 127)) || say "a run ended with the status $wrong"
     fi
+    played=$(awk -F '\t' '$1 == "history" { sum += $3 } END { print sum + 0 }' "$room"/told-*)
     if ((played == 0)); then
         ((wrong)) || say 'no run came to its end'
-        return
+    else
+        choose_folder
+        print_line "$(tell_kinds)"
+        keep_histories
     fi
-    print_line "$(awk -v played="$played" -v runs="$runs" -v threads="$threads" -v kept="$kept" -f "$home/script/kinds.awk" "$room/known")"
+    if [[ -n $interrupted ]]; then
+        return 130
+    fi
+    ((wrong == 0)) || return "$wrong"
+    status_of_runs
+}
+
+# Where the histories are kept: in the folder that is asked for, or, where no seed shows them again, in one of their own.
+choose_folder() {
+    kept=$keep
+    [[ -n $kept ]] || ((threads == 0)) || kept=$(mktemp -d "${TMPDIR:-/tmp}/tpool-runs-XXXXXX" 2>/dev/null) ||
+        fail 126 "there is no room for the histories in ${TMPDIR:-/tmp}"
+}
+
+# Tells the kinds of all shares, and lists their files.
+tell_kinds() {
+    kept=$kept list=$room/list came=$room/came \
+        awk -v played="$played" -v runs="$runs" -v threads="$threads" -v json="$json" -f "$home/script/kinds.awk" "$room"/told-*
+}
+
+keep_histories() {
+    local file name
+    [[ -n $kept ]] || return 0
+    while IFS=$'\t' read -r file name; do
+        cp -- "$file" "$kept/$name" 2>/dev/null || fail 4 "write fault: nothing can be written into $kept"
+    done <"$room/list"
+}
+
+# The status for the kinds of --fail-on that came: as the program's own, where it has one.
+status_of_runs() {
+    ! came 'exhausted left' || return 8
+    ! came stalled || return 9
+    ! came 'refused cancelled' || return 7
+}
+
+# Whether one of these words is asked for and came.
+came() {
+    local word all
+    all=$'\n'$(<"$room/came")$'\n'
+    for word in $1; do
+        [[ ,$fail_on, != *",$word,"* || $all != *$'\n'"$word"$'\n'* ]] || return 0
+    done
+    return 1
 }
