@@ -7,14 +7,16 @@ line_of_input() {
     tail -c +$((start + 1)) /dev/stdin 2>/dev/null | head -n "$1" | tail -n +"$1"
 }
 
-# Shows a bad line with a mark under the column, below its place and a likely cause.
+# Shows a bad line with a mark under the column, below its place and a likely cause; and below that, where nothing
+# better is known of a call, the words of its line.
 show_fault() {
-    local line=$1 column=$2 from=1 text
+    local line=$1 column=$2 from=1 text cause='' form=''
     ((column <= 70)) || from=$((column - 60))
     text=$(line_of_input "$line" | LC_ALL=C cut -b "$from-$((from + 99))" | LC_ALL=C tr -c '\n -~' '?')
     ((from == 1)) || text=..${text:2}
-    printf '%s%d:%d: %s\n    %s\n    %*s\n' "$origin" "$line" "$column" "$(find_cause "$line" "$column")" \
-        "$text" $((column - from + 1)) '^' >&2
+    find_cause "$line" "$column"
+    printf '%s%d:%d: %s\n    %s\n    %*s\n' "$origin" "$line" "$column" "$cause" "$text" $((column - from + 1)) '^' >&2
+    [[ -z $form ]] || printf '    the line is: %s\n' "$form" >&2
 }
 
 # The bytes of line $1 from byte $2 on, at most $3, without any NUL.
@@ -22,9 +24,11 @@ rest_of_line() {
     line_of_input "$1" | tail -c +"$2" | head -c "$3" | tr -d '\000'
 }
 
-# A likely cause of a fault, where its place shows one.
+# Finds a likely cause of a fault, where its place shows one, and the `form` of a call where it doesn't.
 find_cause() {
-    local line=$1 column=$2 byte before rest cause=
+    local line=$1 column=$2 rest
+    cause=$(find_coding "$line")
+    [[ -z $cause ]] || return 0
     rest=$(rest_of_line "$line" "$column" 60)
     case $command:$line:$column:$rest in
     trace:1:1:'history '* | run*:1:1:'history '*) cause='this is a history: ./tpool check reads it' ;;
@@ -38,13 +42,40 @@ find_cause() {
     trace:*:*:' -> '*) cause='an answer stands here, as in a history: ./tpool check reads those' ;;
     *) cause=${cause:-$(find_meant "$line" "$column")} ;;
     esac
-    if [[ -z $cause ]]; then
-        byte=$(line_of_input "$line" | tail -c +"$column" | head -c 1 | od -An -tu1)
-        before=$( ((column == 1)) || rest_of_line "$line" $((column - 1)) 1)
-        cause=$(name_byte "${byte// /}" "$line" "$column" "$before" "$rest")
+    [[ -n $cause ]] || find_byte "$line" "$column" "$rest"
+    [[ -n $cause || $command != check || $(rest_of_line "$line" 1 4) != 'end ' ]] || cause='the end line has the number of the entries'
+    [[ $command == run* || -n $cause && $cause != 'the line ends here, '* ]] || find_form "$line" "$column"
+    cause=${cause:-no good line goes on like this}
+}
+
+# What tells that the bytes are not those of plain lines, whatever else is wrong: a mark in front, or CR LF.
+find_coding() {
+    local first
+    first=$(line_of_input 1 | head -c 3 | od -An -tx1)
+    if (($1 == 1)) && [[ $first == ' ef bb bf'* || $first == ' ff fe'* || $first == ' fe ff'* ]]; then
+        echo 'a byte order mark, it seems: the lines are plain ASCII'
+    elif [[ $(line_of_input "$1" | tr -d '\000') == *$'\r' ]]; then
+        echo 'a carriage return: lines end in LF alone, and not in CR LF'
     fi
-    [[ -n $cause || $command:$(rest_of_line "$line" 1 4) != 'check:end ' ]] || cause='the end line has the number of the entries'
-    echo "${cause:-no good line goes on like this}"
+}
+
+# Finds what the byte at the fault's place may mean.
+find_byte() {
+    local byte before
+    byte=$(line_of_input "$1" | tail -c +"$2" | head -c 1 | od -An -tu1)
+    before=$( (($2 == 1)) || rest_of_line "$1" $(($2 - 1)) 1)
+    cause=$(name_byte "${byte// /}" "$1" "$2" "$before" "$3")
+}
+
+# Finds what the line of the call looks like, and which of its words is missing, if the line ends too early.
+find_form() {
+    local word what=line
+    {
+        read -r word
+        IFS= read -r form
+    } < <(rest_of_line "$1" 1 $(($2 + 99)) | LC_ALL=C awk -v column="$2" -f "$home/script/headings.awk" -f "$home/script/form.awk" - "$pages" 2>/dev/null)
+    [[ $(rest_of_line "$1" "$2" 1) != [-\ ] ]] || what=call
+    [[ -z $word || -z $form ]] || cause="the $what ends here, and $word is missing"
 }
 
 # Whether the first line begins as one of a script does.
@@ -71,7 +102,6 @@ name_byte() {
     10:*:1) echo 'an empty line' ;;
     10:*) echo 'the line ends here, and something is missing' ;;
     13:*) echo 'a carriage return: lines end in LF alone, and not in CR LF' ;;
-    239:1:1 | 25[45]:1:1) echo 'a byte order mark, it seems: the lines are plain ASCII' ;;
     32:*:1) echo 'a space in front of the line' ;;
     32:*) [[ $4 != ' ' && -n ${5// /} ]] || echo 'a space too many' ;;
     4[89]:* | 5[0-7]:*) [[ $4 != 0 ]] || echo 'a number has no leading zeros' ;;
@@ -81,11 +111,12 @@ name_byte() {
     esac
 }
 
-# Shows the entry of a history whose answer is wrong: its line, what it claims, and what the machine says.
+# Shows the entry of a history whose answer is wrong: its line, what it claims, and what the machine says, and why.
 show_wrong_answer() {
-    local line=$(($1 + 1)) said=$2 text call
+    local line=$(($1 + 1)) text call why
     text=$(line_of_input "$line")
     call=${text%% -> *}
+    why=$(input_again | awk -v wrong="$1" -v said="$2" -f "$home/script/about.awk" -f "$home/script/why.awk")
     printf '%s%d:%d: %s\n    the history says: %s\n    the machine says: %s\n' \
-        "$origin" "$line" $((${#call} + 5)) "$call" "${text#* -> }" "$said" >&2
+        "$origin" "$line" $((${#call} + 5)) "$call" "${text#* -> }" "$why" >&2
 }
