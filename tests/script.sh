@@ -28,7 +28,9 @@ refuses() {
 }
 refuses 'there is no command foo' foo
 refuses 'there is no option -x' -x
-refuses 'there is no option --json' --json
+refuses 'there is no option --jsn' --jsn trace
+refuses 'a command is missing behind --json' --json
+refuses 'a command is missing behind --workers' --workers
 refuses 'there is no option -x' show -x
 refuses 'there is no option --jsn' check --jsn a
 refuses '--events wants a number' show --events
@@ -41,6 +43,14 @@ refuses 'one word too many: b' run a b
 refuses 'a script is played 1 to 9999999 times, and not 0' runs a 0
 refuses 'a script is played 1 to 9999999 times, and not often' runs a often
 refuses 'one word too many: c' runs a 1 c
+refuses '--keep is no option of run' run --keep a b
+refuses '--summary is no option of runs' runs --summary b
+refuses '--script wants a word behind it' show --script
+refuses '--fail-on wants refused, stalled, exhausted, left or cancelled, with commas between, or none' runs --fail-on stall a
+refuses 'install wants the folder to install below' install
+refuses 'one word too many: b' install a b
+too_wide() { "$tpool" help | awk 'length > 80'; }
+try 'help fits 80 columns' 0 '' '' too_wide
 
 # --- Calls
 lists() { "$tpool" calls | awk '/^  / { lines++; words[$1] } END { for (word in words) calls++; print lines, calls }'; }
@@ -53,6 +63,13 @@ try 'a call of two words' 0 $'~### `create timer`: CreateThreadpoolTimer\n*' '' 
 of_one_word() { "$tpool" calls create | sed -n 's/^### //p'; }
 try 'calls of one first word' 0 $'~`create work`: *`create timer`: *`create wait`: *`create io`: *' '' of_one_word
 try 'the second of two functions' 0 $'~### `create-lock`: *' '' "$tpool" calls InitializeCriticalSection
+try 'a function by the name of its wide characters' 0 "$("$tpool" calls CreateEvent)"$'\n' '' "$tpool" calls CreateEventW
+# What is no call: `first_words NAME` are those that are said of it.
+first_words() { "$tpool" calls "$1" | head -n 1 | cut -c 1-31; }
+try 'what is not built' 0 $'Not built yet: **Environments**\n' '' first_words SetThreadpoolCallbackPersistent
+try 'what is left out' 0 $'Left out: **Waits and locks tha\n' '' first_words AcquireSRWLockShared
+try 'an operation of scripts' 0 $'In a script: `release LOCK`: ReleaseLock of the name\'s kind\n' '' "$tpool" calls release
+try 'what begins a section of a script' 0 $'~In a script: A section begins with *' '' "$tpool" calls routine
 try 'a function without a line' 0 $'~### SetThreadpoolCallbackPool\n*' '' "$tpool" calls SetThreadpoolCallbackPool
 
 # --- Files and places
@@ -96,6 +113,11 @@ shows() {
     input=$4
     try "cause: $5" 2 '' "~tpool: bad line $2 column $3"$'\n'"$2:$3: $5"$'\n    *^\n' "$tpool" "$1"
 }
+# forms COMMAND LINE COLUMN INPUT CAUSE FORM: the same, with the words of the call's line below it.
+forms() {
+    input=$4
+    try "cause: $5, form: $6" 2 '' "~tpool: bad line $2 column $3"$'\n'"$2:$3: $5"$'\n    *^\n    the line is: '"$6"$'\n' "$tpool" "$1"
+}
 end=$'history 1 clients 1 workers 1 events 16\n'
 shows trace 1 10 $'w1 attach\r\n' 'a carriage return: lines end in LF alone, and not in CR LF'
 shows trace 1 10 'w1 attach' 'the input ends here: the line feed is missing, or more'
@@ -116,10 +138,14 @@ shows trace 1 10 $'w1 attach \n' 'a space too many'
 shows trace 1 1 $' w1 attach\n' 'a space in front of the line'
 shows trace 1 1 $'C1 take\n' 'words are in small letters'
 shows trace 1 12 $'c1 submit 01\n' 'a number has no leading zeros'
-shows trace 1 10 $'c1 submit\n' 'the line ends here, and something is missing'
+forms trace 1 10 $'c1 submit\n' 'the line ends here, and OBJECT is missing' 'submit OBJECT'
+forms trace 1 24 $'c1 create work r1 x0 p0\n' 'the line ends here, and PRIORITY is missing' 'create work ROUTINE CONTEXT ENVIRONMENT'
+forms trace 1 20 $'c1 create-event man\n' 'the line ends here, and something is missing' 'create-event RESET SIGNAL'
+forms check 2 11 "$end"$'c1 submit -> ok\nend 1\n' 'the call ends here, and OBJECT is missing' 'submit OBJECT'
+shows check 2 21 "$end"$'c1 submit 1 -> queue\nend 1\n' 'the line ends here, and something is missing'
 shows trace 1 4 $'w1 \xc3\xa4\n' 'a byte that is not ASCII'
 shows trace 1 4 $'w1 \x01\n' 'a control character: the lines are plain ASCII'
-shows trace 1 42 $'c1 create work r1 x7 p0 normal short g0 q3\n' 'no good line goes on like this'
+forms trace 1 42 $'c1 create work r1 x7 p0 normal short g0 q3\n' 'no good line goes on like this' 'create work ROUTINE CONTEXT ENVIRONMENT'
 meant() { shows trace 1 "$1" "$2"$'\n' "\`$3\` is meant, it seems${4:+: ./tpool calls $4}"; }
 meant 6 'c1 sumbit 1' submit submit
 meant 8 'w1 attahc' attach attach
@@ -135,7 +161,12 @@ shows trace 1 4 $'c1 SubmitThreadpoolWork(1)\n' 'SubmitThreadpoolWork is written
 shows check 2 10 "$end"$'c1 createEventA auto clear -> made 1\nend 1\n' 'CreateEvent is written `create-event`: ./tpool calls CreateEvent'
 shows trace 1 4 $'c1 SetThreadpoolCallbackPool 1\n' 'SetThreadpoolCallbackPool has no line of its own: ./tpool calls SetThreadpoolCallbackPool'
 shows trace 1 1 $'submit 1\n' 'a line begins with an actor, as c1 or w1'
-shows trace 1 10 $'c1 finish now\n' 'no good line goes on like this'
+forms trace 1 10 $'c1 finish now\n' 'no good line goes on like this' finish
+# A mark in front of all, and CR LF, are told before anything else.
+shows trace 1 6 $'c1 sumbit 1\r\n' 'a carriage return: lines end in LF alone, and not in CR LF'
+shows run 1 1 $'done\r\n' 'a carriage return: lines end in LF alone, and not in CR LF'
+shows run 1 1 $'\xef\xbb\xbfpool p\n' 'a byte order mark, it seems: the lines are plain ASCII'
+shows check 1 1 $'\xff\xfeh\n' 'a byte order mark, it seems: the lines are plain ASCII'
 input="c1 submit $(printf '%0300d' 0)"$'\n'
 try 'a long line' 2 '' $'~tpool: bad line 1 column 12\n1:12: a number has no leading zeros\n    c1 submit 000*0\n               ^\n' "$tpool" trace
 input=$'w1 take\nc1 submit 01\n'
@@ -155,6 +186,10 @@ wrong=$'3:14: w1 attach\n    the history says: attached 0\n    the machine says:
 try 'a wrong answer' 7 $'not legal at 2: look no-need\n' "$wrong" "$tpool" check
 try 'a wrong answer, by a pipe' 7 $'not legal at 2: look no-need\n' "$wrong" by_pipe "$tpool" check
 try 'a wrong answer in a file' 7 $'not legal at 2: look no-need\n' "$room/input:$wrong" "$tpool" check "$room/input"
+input="${end}c1 create work r1 x0 p0 normal short g0 q0 -> made 1"$'\nc1 submit 1 -> queued 1 1\nw1 attach -> attached 0\nw1 take -> taken 1 o1 r1 x0 plain\nc1 wait work 1 keep -> begun 1 0\nc1 end -> ended\nend 6\n'
+why=$'7:11: c1 end\n    the history says: ended\n    the machine says: look not-yet callback 1 (object 1, w1 runs it)\n'
+try 'why an answer is wrong' 7 $'not legal at 6: look not-yet callback 1\n' "$why" "$tpool" check
+try 'its row is marked' 7 $'~*\n6  c1   end * ended  <- the machine says: look not-yet callback 1 (object 1, w1 runs it)\n' "~*$why" "$tpool" show
 try 'a verdict that can not be written' 4 '' $'tpool: write fault\n' to /dev/full "$tpool" check
 
 # --- Layouts
@@ -171,6 +206,13 @@ try 'the history of a trace' 0 "$(<"$history")"$'\n' '' "$tpool" history
 input=
 try 'nothing to show' 0 '' '' "$tpool" show
 try 'the history of nothing' 0 $'history 1 clients 0 workers 4 events 65536\nend 0\n' '' "$tpool" history
+again() { "$tpool" calls-of "$1" | "$tpool" trace; }
+try 'the calls of a history' 0 "$(<"$trace")"$'\n' '' "$tpool" calls-of "$history"
+try 'they are answered as they were' 0 "$answers" '' again "$history"
+input=$'history 1 clients 2 workers 1 events 65536\nc1 finish -> ok\nend 1\n'
+try 'the machine of a history is another one' 0 $'c1 finish\n' $'tpool: the same machine is that of ./tpool trace --workers 1\ntpool: the history has 2 clients, and a trace as many as its greatest number\n' "$tpool" calls-of
+input=$'history 1 clients 2 workers 1 events 65536\nc1 finish\n'
+try 'the calls of what is no history' 2 '' '~tpool: bad line 2 column 10'$'\n*' "$tpool" calls-of
 input=$'c3 submit 1\nw1 attach\nc2 finish\n'
 try 'looks are no entries' 0 $'history 1 clients 3 workers 4 events 65536\nc3 submit 1 -> refused no-such\nc2 finish -> ok\nend 2\n' '' "$tpool" history
 try 'looks have no number of an entry' 0 $'1  1  c3 submit 1  refused no-such (object 1)\n2     w1 attach    look no-need\n3  2  c2 finish    ok\n' '' "$tpool" show
@@ -202,10 +244,17 @@ for command in trace show history; do
 done
 full_history() { "$tpool" history "$room/long" 2>/dev/null | "$tpool" check; }
 try 'the history of a trace that fills it is legal' 0 $'legal 65535\n' '' full_history
+for words in help calls 'calls submit' "calls-of $history" "show $trace" "history $trace" "check $here/examples/guide-mended.history" "run $here/examples/server.script" 'gen 7'; do
+    # shellcheck disable=SC2086
+    try "one line is read, and nothing is said: $words" 0 '~*' '' first_line "$tpool" $words
+done
+without_temporary_folder() { TMPDIR=$room/none "$@"; }
+try 'no folder for temporary files' 126 '' "tpool: there is no room for temporary files in $room/none"$'\n' without_temporary_folder "$tpool" show "$trace"
 # The options of the machine's size, and the script of a number.
 of_sixteen() { echo 'c16 submit 1' | "$tpool" trace --events 16; }
 input=$'c2 submit 1\nw5 attach\n'
 try 'a machine of another size' 0 $'refused no-such\nlook no-need\n' '' "$tpool" trace --workers 5
+try 'options before the command' 0 $'refused no-such\nlook no-need\n' '' "$tpool" --workers 5 --events=100 trace -
 try 'the history of one' 0 $'history 1 clients 2 workers 5 events 100\nc2 submit 1 -> refused no-such\nend 1\n' '' "$tpool" history --workers=5 --events 100
 try 'one is shown' 0 $'1  1  c2 submit 1  refused no-such (object 1)\n2     w5 attach    look no-need\n' '' "$tpool" show --events 100 --workers 5
 try 'a small one is full' 0 $'full 0 1\n' $'~tpool: 1 of the calls are full: *\n' of_sixteen
@@ -217,3 +266,32 @@ try 'the script of a number' 0 $'pool p max 3 min 0\n' '' first_line "$tpool" ge
 try 'the script of no number' 1 '' $'~tpool: bad words\ntpool: gen wants a number, *\n' "$tpool" gen seven
 pools_history() { "$tpool" history "$here/examples/pools.trace" | "$tpool" check; }
 try 'the history of the pools is legal' 0 $'legal 18\n' '' pools_history
+
+# --- The page of man, completion, and what is installed
+page_warnings() { groff -ww -man -Tascii "$here/docs/tpool.1" 2>&1 >/dev/null; }
+! command -v groff >/dev/null || try 'the page of man' 0 '' '' page_warnings
+# Each command and each option that help has.
+words_of_help() { "$tpool" help | grep -oE '^  \./tpool [a-z-]+|^  --[a-z-]+' | sed 's/.* //' | sort -u; }
+unknown_to() { words_of_help | while read -r word; do [[ $(sed 's/\\-/-/g' "$1") == *"$word"* ]] || echo "$word"; done; }
+try 'the page of man has all words of help' 0 '' '' unknown_to "$here/docs/tpool.1"
+try 'completion has all words of help' 0 '' '' unknown_to "$here/script/completion.bash"
+# completes WORD..: what the last of the words is completed to.
+completes() {
+    bash -c '. "$1"; shift; COMP_WORDS=("$@"); COMP_CWORD=$(($# - 1)); _tpool "$1" "${*: -1}" "${@: -2:1}"; echo "${COMPREPLY[*]}"' _ "$here/script/completion.bash" "$tpool" "$@"
+}
+try 'a command is completed' 0 $'calls-of calls\n' '' completes ca
+try 'an option of a command is completed' 0 $'--threads\n' '' completes runs --t
+try 'a kind is completed' 0 $'stalled\n' '' completes runs --fail-on st
+try 'a call is completed' 0 $'set-timer set-timer-ex\n' '' completes calls set-ti
+try 'a function is completed' 0 $'SubmitThreadpoolWork\n' '' completes calls Sub
+try 'a file is completed' 0 "$here/examples/server.script"$'\n' '' completes run "$here/examples/serv"
+input=
+try 'it is installed' 0 '' "~tpool: installed below $room/prefix, [1-9]* KiB: $room/prefix/bin/tpool"$'\n' "$tpool" install "$room/prefix"
+try 'and again' 0 '' '~tpool: installed below *' "$tpool" install "$room/prefix"
+mv "$room/prefix" "$room/a prefix"
+installed="$room/a prefix/bin/tpool"
+try 'an installed one, in another folder' 0 "$answers" '' inside "$room/a prefix/share/doc/tpool" without_rt "$installed" trace examples/first.trace
+try 'its version' 0 "$("$tpool" --version)"$'\n' '' without_rt "$installed" --version
+try 'its calls' 0 "$("$tpool" calls submit)"$'\n' '' without_rt "$installed" calls submit
+try 'it is not installed from there' 126 '' $'tpool: this is installed already: the folder can be copied as it is\n' without_rt "$installed" install "$room/other"
+try 'nothing can be installed there' 4 '' $'tpool: write fault: not all can be written below /proc/none\n' "$tpool" install /proc/none
