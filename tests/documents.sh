@@ -9,7 +9,8 @@
 #
 # What they say of the sources, held against these. A paragraph, a row or a bullet is looked at by itself.
 #
-# - `NAME` (`FILE`), `NAME` in `FILE`, also with several names: the file defines the name. A file is a path from `src`,
+# - `NAME` (`FILE`), `NAME` in `FILE`, and cells with the one and the other, also with several names: the file defines the
+#   name. A file is a path from `src`,
 #   `specs`, `proofs` or `must-fail` on, without an ending or with one, and is there. It is of the crate that stands
 #   behind it (`FILE` of CRATE), or else of that with which the row or the bullet begins; in the README of a crate of
 #   that crate; and elsewhere of the crate that was named last. CRATE/FILE has its crate;
@@ -22,6 +23,8 @@
 #   its files are those of `src`, `specs` and `proofs` in which the witness stands;
 # - the table of docs/PROVED.md under 'What you have to believe': its files, and the kit's crates before it, are those
 #   of which the contract of `tp_main` is made;
+# - the tables of docs/PROVED.md that begin with `Clause`, `Field` and `Law`: their rows are the clauses of `tp_main`, and
+#   the fields of `IsPlayed` with `IsRunOf` and of `KeepsLaws`;
 # - the table of docs/ARCHITECTURE.md under 'Where its meaning stands': a row for each library.
 # shellcheck shell=bash
 
@@ -229,6 +232,30 @@ told_to_believe() {
 }
 is_all_to_believe() { diff <(told_to_believe | LC_ALL=C sort) <(believed | LC_ALL=C sort); }
 try 'docs/PROVED.md lists what the contract of tp_main is made of' 0 '' '' inside "$here" is_all_to_believe
+
+# The names in the first cells of a table of docs/PROVED.md that begins so.
+first_cells() {
+    awk -v header="| $1 |" 'index($0, header) == 1 { inside = 1; getline; next } !/^\|/ { inside = 0 }
+        inside { split($0, cells, "|"); count = split(cells[2], names, "`"); for (at = 2; at <= count; at += 2) print names[at] }' docs/PROVED.md | LC_ALL=C sort
+}
+# The fields of a record in a file.
+fields_of() {
+    awk -v record="record $2 " '/^(pub )?record / { inside = index($0, record) } /^$/ { inside = 0 }
+        inside && match($0, /^  pub [a-z_]+ :/) { print $2 }' "$1"
+}
+clauses_of_main() {
+    script/clauses tp_run | awk '/^  [A-Za-z]/ { inside = /^  tp_main:/ } inside && $1 == "ensures" { print $2 }' | LC_ALL=C sort
+}
+has_clauses() { diff <(first_cells Clause) <(clauses_of_main); }
+# Whether the table that begins so has the fields of these records of a file.
+has_fields() {
+    local header=$1 file=$2 record
+    shift 2
+    diff <(first_cells "$header") <(for record; do fields_of "$file" "$record"; done | LC_ALL=C sort)
+}
+try 'docs/PROVED.md has each clause of tp_main' 0 '' '' inside "$here" has_clauses
+try 'docs/PROVED.md has what holds of a run' 0 '' '' inside "$here" has_fields Field crates/tp_run/specs/Played.antt IsPlayed IsRunOf
+try 'docs/PROVED.md has each law' 0 '' '' inside "$here" has_fields Law crates/tp_model/specs/Laws.antt KeepsLaws
 
 # The crates with a row in the table of meanings, and those that should have one: all that others can stand on.
 has_meaning() {

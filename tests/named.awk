@@ -108,11 +108,11 @@ function crate_behind(at,    text) {
     return text in crates ? text : ""
 }
 
-# The place of the file that stands in brackets behind a name, or behind further names of the same list, or behind
-# "in"; 0 where there is none.
+# The place of the file that stands behind a name, or behind further names of the same list, in brackets, behind "in" or
+# in the next cell; 0 where there is none.
 function place_of_file(at) {
     while (at < spans && before[at + 1] ~ /^,? ?(and|or)? ?$/ && is_name(span[at + 1])) at++
-    return at < spans && before[at + 1] ~ /^ (in|\() ?$/ && is_path(span[at + 1]) ? at + 1 : 0
+    return at < spans && before[at + 1] ~ /^ (in|\(|\|) ?$/ && is_path(span[at + 1]) ? at + 1 : 0
 }
 function file_of(at,    place) {
     place = place_of_file(at)
