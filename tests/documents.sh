@@ -25,8 +25,9 @@
 #   of which the contract of `tp_main` is made;
 # - the tables of docs/PROVED.md that begin with `Clause`, `Field` and `Law`: their rows are the clauses of `tp_main`, and
 #   the fields of `IsPlayed` with `IsRunOf` and of `KeepsLaws`;
+# - the table of docs/LIBRARY.md that begins with `Kind`: its methods are those of `src/win32.rt` of shared_pool;
 # - the table of docs/ARCHITECTURE.md under 'Where its meaning stands': a row for each library.
-# shellcheck shell=bash
+# shellcheck shell=bash disable=SC2016
 
 # Compares the program's answers to calls with those that stand beside them, from lines CALL TAB ANSWER.
 plays() {
@@ -222,13 +223,11 @@ believed() {
 }
 # Those that docs/PROVED.md lists.
 told_to_believe() {
-    local path paths kit
+    local path paths
     while IFS= read -r path; do
         [[ $path =~ ^[a-zA-Z0-9_./{},]+$ ]] && eval "paths=($path)" && printf '%s\n' "${paths[@]}"
     done < <(sed -n '/^# What you have to believe/,$ s/^| \(`[^|]*`\) |.*/\1/p' docs/PROVED.md | grep -o '`[^`]*`' | tr -d '`')
-    for kit in $(sed -n "s/.*Of the kit's crates they import \([^.]*\)\..*/\1/p" docs/PROVED.md | sed 's/,//g; s/ and / /'); do
-        echo "kit: $kit"
-    done
+    sed -n "s/.*Of the kit's crates they import \([^.]*\)\..*/\1/p" docs/PROVED.md | sed 's/,* and /, /; s/, /\n/g' | sed 's/^/kit: /'
 }
 is_all_to_believe() { diff <(told_to_believe | LC_ALL=C sort) <(believed | LC_ALL=C sort); }
 try 'docs/PROVED.md lists what the contract of tp_main is made of' 0 '' '' inside "$here" is_all_to_believe
@@ -256,6 +255,13 @@ has_fields() {
 try 'docs/PROVED.md has each clause of tp_main' 0 '' '' inside "$here" has_clauses
 try 'docs/PROVED.md has what holds of a run' 0 '' '' inside "$here" has_fields Field crates/tp_run/specs/Played.antt IsPlayed IsRunOf
 try 'docs/PROVED.md has each law' 0 '' '' inside "$here" has_fields Law crates/tp_model/specs/Laws.antt KeepsLaws
+
+# The methods that docs/LIBRARY.md lists by kind, and those that are there.
+has_methods() {
+    diff <(sed -n '/^| Kind | Methods |/,/^$/p' docs/LIBRARY.md | grep -o '`[a-z_]*`' | tr -d '`' | LC_ALL=C sort) \
+        <(sed -n 's/^ *pub fn \([a-z_]*\).*/\1/p' crates/shared_pool/src/win32.rt | LC_ALL=C sort)
+}
+try 'docs/LIBRARY.md has each method of a Win32 function' 0 '' '' inside "$here" has_methods
 
 # The crates with a row in the table of meanings, and those that should have one: all that others can stand on.
 has_meaning() {

@@ -82,7 +82,7 @@ function check_span(at, crate,    text, file, of) {
     of = crate_behind(at)
     if (of != "") crate = of
     if (is_path(text)) check_path(text, crate)
-    else if (text ~ /^[A-Z][A-Za-z0-9]*(<[A-Z]>)?::[A-Za-z_][A-Za-z_0-9]*$/) check_member(text)
+    else if (text ~ /^[A-Z][A-Za-z0-9]*(<[A-Z]>)?::[A-Za-z_][A-Za-z_0-9]*$/) check_member(text, of != "" ? of : is_head(at) ? crate : "")
     else if (is_name(text)) {
         file = file_of(at)
         if (file != "") check_in_file(text, file, crate_of_file(at, crate))
@@ -156,12 +156,13 @@ function check_in_file(name, path, crate) {
         fault(name " isn't defined in " path " of " crate)
 }
 function check_in_crate(name, crate) { if (!((crate, name) in by_crate)) fault(name " isn't defined in " crate) }
-# A member is defined in a crate that defines its type.
-function check_member(text,    parts, crate) {
+# A member is defined in a crate that defines its type: in the one that is named, if one is.
+function check_member(text, crate,    parts, each) {
     split(text, parts, "::")
     sub(/<.*/, "", parts[1])
-    for (crate in crates) if ((crate, parts[1]) in by_crate && (crate, parts[2]) in by_crate) return
-    fault(text " is defined nowhere")
+    for (each in crates)
+        if ((crate == "" || each == crate) && ((each, parts[1]) in by_crate) && ((each, parts[2]) in by_crate)) return
+    fault(text " is defined nowhere" (crate == "" ? "" : " in " crate))
 }
 
 function fault(what) { print page ":" FNR ": " what }
