@@ -18,7 +18,7 @@
 # - `TYPE::NAME`: a crate defines both;
 # - any other name with an underscore, or of several words with capitals, in the README of a crate and in the documents
 #   on the code: it stands in the sources, is a file, a crate or one of the kit's, or is a function of Windows;
-# - `CRATE` stands on `CRATE`, also with several: so says crates.txt;
+# - `CRATE` stands on `CRATE`, also with several, and CRATE -- CRATE in a picture: so says crates.txt;
 # - a list of files with a witness (docs/ARCHITECTURE.md, 'Where to change what'; its form is in tests/witnesses.awk):
 #   its files are those of `src`, `specs` and `proofs` in which the witness stands;
 # - the table of docs/PROVED.md under 'What you have to believe': its files, and the kit's crates before it, are those

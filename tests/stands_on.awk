@@ -1,6 +1,7 @@
 # Says which crates stand on others in a document and not in crates.txt, which it reads first. It looks at clauses in
 # which a crate in backticks, or a list of them, stands right before "stands on" or "stand on"; what they stand on are
-# all names in backticks up to the next full stop or semicolon.
+# all names in backticks up to the next full stop or semicolon. In a picture it looks at `CRATE -- CRATE`, with more
+# hyphens too.
 
 FNR == NR {
     if (/^[a-z]/) {
@@ -8,6 +9,16 @@ FNR == NR {
         sub(/:$/, "", crate)
         crates[crate]
         for (at = 2; at <= NF; at++) stands[crate, $at]
+    }
+    next
+}
+/^```/ { is_picture = !is_picture && /text$/ }
+is_picture {
+    line = $0
+    while (match(line, /[a-z_]+ --+ [a-z_]+/)) {
+        split(substr(line, RSTART, RLENGTH), words, " ")
+        line = substr(line, RSTART + length(words[1]))
+        check(words[1], words[3])
     }
     next
 }
@@ -33,6 +44,9 @@ function look(above, below,    uppers, lowers, count, each, other, all) {
     count = names_in(above, uppers)
     all = names_in(below, lowers)
     for (each = 1; each <= count; each++)
-        for (other = 1; other <= all; other++)
-            if ((uppers[each] in crates) && !((uppers[each], lowers[other]) in stands)) print FILENAME ":" FNR ": " uppers[each] " doesn't stand on " lowers[other]
+        for (other = 1; other <= all; other++) check(uppers[each], lowers[other])
+}
+
+function check(upper, lower) {
+    if ((upper in crates) && !((upper, lower) in stands)) print FILENAME ":" FNR ": " upper " doesn't stand on " lower
 }
