@@ -2,21 +2,22 @@
 
 ghost use Rattle.std.specs.Prelude.{◌≡◌, ◌≤◌, ◌∷◌, All};
 ghost use Rattle.shared_pool.specs.Pools.{setup_at, HaveAll, IsPlayer, IsSeatOf};
+ghost use Rattle.tp_base.specs.Ranges.{IsEnvironInRange};
 ghost use Rattle.turn_lock.specs.Seats.{number_of};
 
 use crate::expect::{expect_eq, expect_ok};
 use pool_book::Book;
 use recorded::{Recorded, program_limits};
-use shared_pool::{NoticeList, Over, SharedPool, Told, Tried};
+use shared_pool::{NoticeList, Notices, Over, SharedPool, Told, Tried};
 use std::alloc::Global;
 use std::process::Abort;
 use std::snapshot::Snapshot;
 use std::sync::Wait;
 use std::thread;
 use std::thread::{Promise, Threads};
-use tp_base::answers::{Answer, Outcome, Refusal};
-use tp_base::calls::{Call, Environ, Priority};
-use tp_base::ids::{GroupId, ObjectId, PoolId, RoutineId};
+use tp_base::answers::{Answer, Outcome, Refusal, SlotWord};
+use tp_base::calls::{Call, Environ, Lock, Priority};
+use tp_base::ids::{GroupId, KernelId, ObjectId, PoolId, RoutineId};
 use turn_lock::Seat;
 
 // How many calls each thread makes.
@@ -340,7 +341,126 @@ fn notices_told(rt: HostRuntime) {
     expect_eq(&rt, notices.get(0), told_of(1, 5));
     expect_eq(&rt, notices.get(1), told_of(2, 6));
     expect_eq(&rt, notices.get(2), None);
+    expect_eq(&rt, notices.spare(), 4_093);
     drop(worker);
+    drop(seats);
+    drop(pool);
+}
+
+// The answer that a call is expected to have.
+fn expect_answer(rt: &impl Abort, tried: Tried, wanted: Answer) {
+    assert!(rt; matches!(tried, Tried::Done(answer) if answer == wanted));
+}
+
+// A timer, a wait object, an I/O object and a work object, from first to last.
+fn try_objects<B: Recorded>(
+    rt: &impl Abort,
+    pool: &SharedPool<B>,
+    seat: &mut Seat<B>,
+    env: Environ,
+)
+    requires player { IsPlayer pool.now seat.old }
+    requires env { IsEnvironInRange env }
+    ensures { IsPlayer pool.now seat.new }
+{
+    let routine = RoutineId(1);
+    let (first, count) = (0, 0);
+    let was = false;
+    let freed = Answer::Closed { later: false };
+    expect_answer(rt, pool.create_timer(seat, routine, 0, env), Answer::Made { number: 1 });
+    let set = pool.set_timer_ex(seat, ObjectId(1), Some(5), 0, 0);
+    expect_answer(rt, set, Answer::WasSet { was, first, count });
+    expect_answer(rt, pool.is_timer_set(seat, ObjectId(1)), Answer::Flag { value: true });
+    expect_answer(rt, pool.close_timer(seat, ObjectId(1)), freed);
+    expect_answer(rt, pool.create_wait(seat, routine, 0, env), Answer::Made { number: 2 });
+    let set = pool.set_wait(seat, ObjectId(2), None, None);
+    expect_answer(rt, set, Answer::Queued { first, count });
+    expect_answer(rt, pool.close_wait(seat, ObjectId(2)), freed);
+    expect_answer(rt, pool.create_io(seat, routine, 0, env), Answer::Made { number: 3 });
+    expect_answer(rt, pool.start_io(seat, ObjectId(3)), Answer::Started { callback: 1 });
+    expect_answer(rt, pool.cancel_io(seat, ObjectId(3)), Answer::Cancelled { callback: 1 });
+    expect_answer(rt, pool.close_io(seat, ObjectId(3)), freed);
+    expect_answer(rt, pool.create_work(seat, routine, 0, env), Answer::Made { number: 4 });
+    expect_answer(rt, pool.close_work(seat, ObjectId(4)), freed);
+}
+
+// An event, a semaphore and a mutex, which are kernel objects 1 to 3, and a section, which is 4.
+fn try_kernels<B: Recorded>(rt: &impl Abort, pool: &SharedPool<B>, seat: &mut Seat<B>)
+    requires { IsPlayer pool.now seat.old }
+    ensures { IsPlayer pool.now seat.new }
+{
+    let (first, count) = (0, 0);
+    let (manual, signalled) = (true, false);
+    pool.try_call(seat, Call::CreateEvent { manual, signalled });
+    expect_answer(rt, pool.set_event(seat, KernelId(1)), Answer::Queued { first, count });
+    expect_answer(rt, pool.reset_event(seat, KernelId(1)), Answer::Done);
+    let (initial, maximum, previous) = (2, 5, 2);
+    pool.try_call(seat, Call::CreateSemaphore { initial, maximum });
+    let released = pool.release_semaphore(seat, KernelId(2), 1);
+    expect_answer(rt, released, Answer::Count { previous, first, count });
+    let (lock, owned) = (Lock::Mutex, true);
+    pool.try_call(seat, Call::CreateLock { lock, owned });
+    let (lock, owned) = (Lock::Section, false);
+    pool.try_call(seat, Call::CreateLock { lock, owned });
+    expect_answer(rt, pool.release_lock(seat, Lock::Mutex, KernelId(3)), Answer::Done);
+}
+
+// A worker's callback, which leaves three actions to its return.
+fn try_callback<B: Recorded>(rt: &impl Abort, pool: &SharedPool<B>, seat: &mut Seat<B>)
+    requires { IsPlayer pool.now seat.old }
+    ensures { IsPlayer pool.now seat.new }
+{
+    pool.try_call(seat, Call::Attach);
+    pool.try_call(seat, Call::Take);
+    expect_answer(rt, pool.may_run_long(seat), Answer::Flag { value: false });
+    expect_answer(rt, pool.leave_section_on_return(seat, KernelId(4), 1), Answer::Done);
+    expect_answer(rt, pool.release_mutex_on_return(seat, KernelId(3), 1), Answer::Done);
+    expect_answer(rt, pool.release_semaphore_on_return(seat, KernelId(2), 2), Answer::Done);
+    let returned = Answer::Returned {
+        section: SlotWord::NotOwner,
+        mutex: SlotWord::NotOwner,
+        semaphore: SlotWord::Performed,
+        event: SlotWord::Unasked,
+        first: 0,
+        count: 0,
+    };
+    expect_answer(rt, pool.try_call(seat, Call::Return), returned);
+}
+
+// What a client and a worker call by name, on a pool of which nothing has been asked.
+fn try_by_name<B: Recorded>(
+    rt: &impl Abort,
+    pool: &SharedPool<B>,
+    client: Seat<B>,
+    worker: Seat<B>,
+)
+    requires client { IsPlayer pool.now client }
+    requires worker { IsPlayer pool.now worker }
+{
+    let (mut client, mut worker) = (client, worker);
+    let env = Environ {
+        pool: PoolId(1),
+        group: GroupId(0),
+        cancel: RoutineId(0),
+        priority: Priority::Normal,
+        long: false,
+    };
+    expect_answer(rt, pool.create_pool(&mut client), Answer::Made { number: 1 });
+    expect_answer(rt, pool.set_minimum(&mut client, PoolId(1), 1), Answer::Done);
+    try_objects(rt, pool, &mut client, env);
+    try_kernels(rt, pool, &mut client);
+    let submitted = pool.submit_simple(&mut client, RoutineId(1), 0, env);
+    expect_answer(rt, submitted, Answer::Queued { first: 2, count: 1 });
+    try_callback(rt, pool, &mut worker);
+}
+
+/// The calls by the names of the Win32 functions that no program makes.
+#[test]
+fn calls_by_name(rt: HostRuntime) {
+    let opened = SharedPool::<Book>::open(rt.alloc(), program_limits(1, 1), 64);
+    let (pool, mut seats) = expect_ok(&rt, opened);
+    let (client, worker) = take_two(&rt, &pool, &mut seats);
+    try_by_name(&rt, &pool, client, worker);
     drop(seats);
     drop(pool);
 }
