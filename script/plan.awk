@@ -3,7 +3,7 @@
 # behind those that it stands on. `at_once` of them are proved side by side, those that stand on fewest first: each waits
 # for those below it in the place that it took.
 
-# What a crate takes that has nothing in it, and how many bytes of sources and of proofs are checked in a second.
+# The seconds that a crate takes which has nothing in it, and how many bytes of sources and of proofs are checked in one.
 BEGIN {
     loading = 15
     source_rate = 400

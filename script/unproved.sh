@@ -75,7 +75,7 @@ run_sources() {
         status=$?
     } 3>&1
     if ((status == 134)); then
-        why=$(sed -n 's/^==[0-9]*==ERROR: //p' <<<"$said" | head -n 1)
+        why=$(sed -n '/^==[0-9]*==ERROR: /{ s///; s/ on [a-z ]*address .*//; p; q; }' <<<"$said")
         fail 126 "no answer: a check has failed in the sources (${why:-they were stopped}). On the same input, rt try -- $* in crates/$program says where"
     fi
     [[ -z $said ]] || printf '%s\n' "$said" >&2

@@ -23,6 +23,7 @@ cat >"$fake_kit/bin/rt" <<'END_OF_RT'
 #!/usr/bin/env bash
 [[ $1 == version || $1 == doc ]] || echo "$PWD: $*" >>"$log"
 use_time() { SECONDS=0; while ((SECONDS < $1)); do :; done; }
+change() { echo '// Meanwhile.' >>"$copy/crates/tp_base/src/lib.rt"; }
 case "$1 ${2-}:$fake" in
 version*) sed -n "s/^kit='\(.*\)'/\1/p" "$copy/tpool" ;;
 doc*:no-kit) echo "$copy/README.md" ;;
@@ -30,12 +31,13 @@ doc*) echo "$fake_kit/START-HERE.md" ;;
 *:no-proof) printf '== tp_base\n== summary\ntp_base: ok\ntp_model: failed (1)\n1 of 2 crates ok\n'; exit 1 ;;
 'all check:stuck') echo "== tp_base"; exec sleep 60 ;;
 'all check:slow') use_time 4; echo "== tp_base" ;;
+'all check:changing') change; echo "== tp_base" ;;
 'all check:'*) for name in tp_base tp_model; do echo "== $name"; done ;;
 'run --:'*) mkdir -p out && cp "$real" out/tp_top ;;
 'try :broken') echo 'src/lib.rt:1:1: error[syntax]: a word too many' >&2; exit 1 ;;
 'try :interrupted') exit 130 ;;
 'try :'*)
-    [[ $fake != changing ]] || echo '// Meanwhile.' >>"$copy/crates/tp_base/src/lib.rt"
+    [[ $fake != changing ]] || change
     folder=$(mktemp -d) && cd "$folder" && "${0%/*}/../toolchain/bin/ld.lld" -m elf_x86_64 -o program input-0 &&
         { ./program <&0; status=$?; }
     rm -rf "$folder"
@@ -50,7 +52,7 @@ END_OF_LINKER
 # A program that stops at a check.
 cat >"$room/stops" <<'END_OF_PROGRAM'
 #!/usr/bin/env bash
-printf 'AddressSanitizer:DEADLYSIGNAL\n==7==ERROR: AddressSanitizer: ILL on unknown address\nframe 0x1\n' >&2
+printf 'AddressSanitizer:DEADLYSIGNAL\n==7==ERROR: AddressSanitizer: ILL on unknown address 0x5c692 (pc 0x5c692 T0)\nframe 0x1\n' >&2
 kill -ABRT $$
 END_OF_PROGRAM
 : >"$fake_kit/bin/rtlib.py"
@@ -124,7 +126,7 @@ try 'nothing is kept of these' 0 $'0\n' '' kept_programs
 fake=
 real=$room/stops
 for command in trace show check run runs; do
-    try "a check fails: $command" 126 '' $'~tpool: nothing is proved *tpool: no answer: a check has failed in the sources (AddressSanitizer: ILL on unknown address). On the same input, rt try -- *in crates/tp_top says where\n' with_rt "$copy/tpool" "$command"
+    try "a check fails: $command" 126 '' $'~tpool: nothing is proved *tpool: no answer: a check has failed in the sources (AddressSanitizer: ILL). On the same input, rt try -- *in crates/tp_top says where\n' with_rt "$copy/tpool" "$command"
 done
 real=$program
 drop_kept
@@ -141,8 +143,12 @@ try 'a build that stands still' 126 '' $'~*tpool: 1 of *tpool: nothing has moved
 fake=slow
 try 'a build that is slow' 0 '' $'~*tpool: 0 of *tpool: 1 of *tpool: proved and built\n' with_rt "$copy/tpool" prove
 drop_kept
-with_rt "$copy/tpool" trace <<<'c1 submit 1' >/dev/null 2>&1
+fake=changing
+try 'a build of sources that change meanwhile' 126 '' $'~*tpool: building tp_top\ntpool: proved and built, but of sources that have changed meanwhile\n' with_rt "$copy/tpool" prove
+try 'the version then' 0 '~*; the program is older than its sources'$'\n' '' without_rt "$copy/tpool" --version
+drop_kept
 fake=
+with_rt "$copy/tpool" trace <<<'c1 submit 1' >/dev/null 2>&1
 : >"$log"
 try 'the first build' 0 '' '~tpool: proving [1-9]* crates, up to [1-9]* at once, in about * minute*tpool: 1 of * crates done, about * to go: *tpool: 2 of *tpool: proved and built'$'\n' with_rt "$copy/tpool" prove
 is_asked() { [[ $(<"$log") == "$copy/crates/tp_top: all check --jobs "[1-9]*$'\n'"$copy/crates/tp_top: run -- trace" ]]; }
