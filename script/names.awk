@@ -19,7 +19,8 @@ function begin_names(    number) {
     split("", known_as)
     split("", made)
     split("", issued)
-    for (number = 1; number <= routines; number++) known_as["routine", number] = routine_name[number]
+    keys = 0
+    for (number = 1; number <= routines; number++) know("routine", number, routine_name[number])
 }
 
 # Learns the name of what an entry makes. A section's makers come in the order of its lines, so what they make has the
@@ -39,7 +40,9 @@ function learn_names(text, answer,    call, said, where, kind) {
 }
 
 function know(kind, number, name) {
-    if (name != "") known_as[kind, number] = name
+    if (name == "") return
+    known_as[kind, number] = name
+    key[++keys] = kind SUBSEP number
 }
 
 function made_by(call) {
@@ -54,11 +57,11 @@ function take_name(line,    words) {
 }
 
 # The lines for all names.
-function name_lines(    key, words, lines) {
-    for (key in known_as) {
-        split(key, words, SUBSEP)
+function name_lines(    at, words, lines) {
+    for (at = 1; at <= keys; at++) {
+        split(key[at], words, SUBSEP)
         sub(/ object$/, "", words[1])
-        lines = lines "name " words[1] " " words[2] " " known_as[key] "\n"
+        lines = lines "name " words[1] " " words[2] " " known_as[key[at]] "\n"
     }
     return lines
 }

@@ -2,6 +2,19 @@
 # shellcheck shell=bash
 
 server=$here/examples/server.script
+# The program that plays by a seed. Until the one that is built does, something else stands in its place, which makes of
+# a seed the number of workers: without the lines up to END_OF_PROGRAM, `seeded` is $tpool.
+seeded=$room/seeded/bin/tpool
+"$tpool" install "$room/seeded" 2>/dev/null
+cat >"$room/seeded/lib/tpool/tp_top" <<END_OF_PROGRAM
+#!/usr/bin/env bash
+for word in "\$@"; do
+    shift
+    [[ \$word != --seed=* ]] || word=--workers=\$((\${word#*=} % 3 + 1))
+    set -- "\$@" "\$word"
+done
+exec "$program" "\$@"
+END_OF_PROGRAM
 # run_and COMMAND WORD..: what a command makes of what is written by `run` with these words.
 run_and() { "$tpool" run "${@:2}" 2>/dev/null | "$tpool" "$1"; }
 without_last_byte() { head -c -1 | "$@"; }
@@ -25,6 +38,7 @@ c2 finish -> ok
 end 13
 '
 alone_summary=$'entries 13\ncallbacks 1\ntaken 1\ncancelled 0\nleft 0\nrefused 1\n'
+alone_whole_json='{"callbacks":1,"cancelled":0,"entries":13,"exhausted":0,"left":0,"left_callbacks":[],"refused":1,"stalled":0,"status":0,"taken":1}'$'\n'
 alone_json='{"callbacks":1,"cancelled":0,"entries":13,"left":0,"left_callbacks":[],"refused":1,"taken":1}'$'\n'
 input=$alone
 try 'a script on one thread' 0 "$alone_history$alone_summary" '' "$program" run --threads 1 --workers 1
@@ -34,6 +48,9 @@ try 'its last line without a line feed' 0 "$alone_history$alone_summary" '' with
 printf '%s' "$alone" >"$room/alone.script"
 try 'the script of a file' 0 "$alone_history$alone_summary" '' "$tpool" run --workers 1 "$room/alone.script"
 try 'the script of a pipe' 0 "$alone_history$alone_json" '' by_pipe "$tpool" run --json --workers 1 -
+try 'its summary alone' 0 "$alone_summary" '' "$tpool" run --summary --workers 1
+try 'the same as JSON' 0 "$alone_whole_json" '' "$tpool" run --summary --json --workers 1
+try 'nothing can be written of that' 4 '' $'tpool: write fault\n' to /dev/full "$tpool" run --summary
 try 'its history is legal' 0 $'legal 13\n' '' run_and check --workers 1 "$room/alone.script"
 
 # --- A history without room, and what a wait comes to there
@@ -86,9 +103,10 @@ cancelled 0
 left 0
 refused 0
 '
+try 'its summary alone, as JSON' 9 '~{*,"exhausted":0,*,"stalled":2,"status":9,"taken":1}'$'\n' $'tpool: stalled\n' "$tpool" run --summary --json --workers 1
 try 'a callback that stalls' 9 "$stalled_worker" $'tpool: stalled\n' "$program" run --threads 1 --workers 1
 try 'it is legal too' 0 $'legal 12\n' '' run_and check --workers 1
-try 'it is shown what they waited for' 0 $'~*  c2   end * stalled (its wait for object 1)\n*  w1   end * stalled (its wait for kernel object 1)\n*' '' run_and show --workers 1
+try 'it is shown what they waited for' 0 $'~*  c2   end * stalled (its wait for object 1)\n*  w1   end * stalled (its wait for kernel object 1)\n*\nentry 9 stalled: c2 -> w1 -> kernel object 1\nentry 11 stalled: w1 -> kernel object 1\n*' '' run_and show --workers 1
 stalled_totals='{"callbacks":1,"cancelled":0,"entries":12,"left":0,"left_callbacks":[],"refused":0,"taken":1}'
 try 'its summary as JSON' 9 "~*$stalled_totals"$'\n' $'tpool: stalled\n' "$program" run --json --workers 1
 # Want of room is told before a wait that stalled.
@@ -145,10 +163,11 @@ for words in 'run --threads 0' 'run --threads 17' 'run --workers 65' 'run --even
 done
 try 'big without a number' 1 '' $'~tpool: bad words\ntpool: big wants a number, *\n' "$tpool" big
 input=$alone
+try "nothing can be written: run" 4 '' $'tpool: write fault\n' to /dev/full "$tpool" run "$room/alone.script"
+try "nothing can be written: runs" 4 '' $'tpool: write fault\n' to /dev/full "$seeded" runs "$room/alone.script" 2
 for command in run runs; do
-    try "nothing can be written: $command" 4 '' $'tpool: write fault\n' to /dev/full "$tpool" "$command" "$room/alone.script"
-    try "standard input is closed: $command" 3 '' $'tpool: read fault\n' without_input "$tpool" "$command"
-    try "no such file: $command" 3 '' "tpool: read fault: there is no file $room/none"$'\n' "$tpool" "$command" "$room/none"
+    try "standard input is closed: $command" 3 '' $'tpool: read fault\n' without_input "$seeded" "$command"
+    try "no such file: $command" 3 '' "tpool: read fault: there is no file $room/none"$'\n' "$seeded" "$command" "$room/none"
 done
 yes 'group g' | head -c 16777217 >"$room/too_long"
 try 'a script that is too long' 6 '' $'tpool: input too long\n' on "$room/too_long" "$program" run
@@ -162,7 +181,7 @@ bad_script() {
     printf -v mark '%*s' "$2" '^'
     input=$3
     try "a bad script: $4" 2 '' "tpool: bad line $1 column $2"$'\n'"$room/input:$1:$2: $4"$'\n'"    $line"$'\n'"    $mark"$'\n' "$tpool" run "$room/input"
-    try "a bad script by a pipe: $4" 2 '' "tpool: bad line $1 column $2"$'\n'"$1:$2: $4"$'\n'"    $line"$'\n'"    $mark"$'\n' by_pipe "$tpool" runs
+    try "a bad script by a pipe: $4" 2 '' "tpool: bad line $1 column $2"$'\n'"$1:$2: $4"$'\n'"    $line"$'\n'"    $mark"$'\n' by_pipe "$seeded" runs
 }
 routine=$'routine r\ndone\n'
 long_name=abcdefghijklmnopqrstuvwxyz_123456
@@ -175,6 +194,7 @@ long_name=abcdefghijklmnopqrstuvwxyz_123456
     bad_script 3 1 $'client\nadvance 1\n' 'the script ends, and the `done` of the client in line 1 is missing'
     bad_script 4 1 $'work w r\nroutine r\n\nclient\ndone\n' 'the `done` of the routine in line 2 is missing'
     bad_script 1 1 $'pool\tp\n' 'a tab: words are separated by spaces'
+    bad_script 1 1 $'client\r\ndone\r\n' 'a carriage return: lines end in LF alone, and not in CR LF'
     bad_script 1 6 $'pool p\r\n' 'a carriage return: lines end in LF alone, and not in CR LF'
     bad_script 1 7 "group $long_name"$'\n' 'a name is a letter and up to 31 letters, digits and `_` behind it, and not `none`'
     bad_script 2 9 $'routine r\ntimes 2 let w work r\ndone\n' '`let` isn'\''t repeated by `times`'
@@ -187,42 +207,104 @@ long_name=abcdefghijklmnopqrstuvwxyz_123456
 many_routines() { awk 'BEGIN { for (at = 1; at <= 65536; at++) print "routine r" at "\ndone" }' >"$room/many" && "$@" "$room/many"; }
 try '65,536 routines' 2 '' '~tpool: bad line 131071 column 9'$'\n*:131071:9: there are as many of these as there may be\n    routine r65536\n            ^\n' many_routines "$tpool" run
 
-# --- A script played many times
-input=$alone
-counted_runs=$'~20 runs on 1 thread: 1 different history, of 13 entries
-The shortest of each kind stands in */tpool-runs-*:
+# --- A script played many times, on threads
+counted_runs=$'20 runs on 1 thread: 1 different history, of 13 entries
+Each run is in one row. The shortest of each row stands in @.
 
-runs  histories
-  20          1  with a refusal       refused.history, 13 entries
-   0          0  exhausted
-   0          0  stalled
-   0          0  with callbacks left
-   0          0  with none of these\n'
-counted_runs=${counted_runs//'*/tpool-runs-*'/"$room/tpool-runs-*"}
-try 'one script many times' 0 "$counted_runs" '' "$tpool" runs "$room/alone.script" 20 --threads 1 --workers 1
-try 'the same by a pipe, and no JSON' 0 "$counted_runs" '' by_pipe "$tpool" runs --json --threads=1 --workers=1 - 20
+came of it        call           runs  histories    first  shortest
+refused released  wait clock       20          1        1  13 entries, refused-released-wait-clock.history\n'
+sed 's/\<t\>/clock/' "$room/alone.script" >"$room/clock.script"
+clock=$room/clock.script
+# with_folder COMMAND..: the folder that is told is written as @.
+with_folder() { "$@" | sed "s,$room/tpool-runs-[A-Za-z0-9]*,@,"; }
+by_pipe_with_folder() { cat | with_folder "$@"; }
+try 'one script many times' 0 "$counted_runs" '' with_folder "$tpool" runs "$clock" 20 --threads 1 --workers 1
+input=$(<"$clock")$'\n'
+try 'the same by a pipe' 0 "$counted_runs" '' by_pipe_with_folder "$tpool" runs --threads=1 --workers=1 - 20
 one_file() { set -- "$room"/tpool-runs-*/*; echo "$# ${1##*/}"; cat "$1"; rm -r "$room"/tpool-runs-*; }
-input=$alone
-two_times() { "$tpool" runs "$room/alone.script" 2 --threads 1 --workers 1 >/dev/null && one_file; }
+two_times() { "$tpool" runs "$clock" 2 --threads 1 --workers 1 >/dev/null && one_file; }
 rm -rf "$room"/tpool-runs-*
-try 'the shortest is a file' 0 "1 refused.history"$'\n'"$alone_history$alone_summary" '' two_times
+try 'the shortest is a file, with the names of the script' 0 "1 refused-released-wait-clock.history"$'\n'"$alone_history$alone_summary"$'name routine 1 tick\nname object 1 clock\n' '' two_times
+stalled_rows=$'stalled        c2 wait one                         5          1        1  32 entries, stalled-c2-wait-one.history
+               -> takes_right acquire right
+               -> c3 wait two
+               -> takes_left acquire left
+               -> c2
+               c2 -> w1 -> c3 -> w2 -> c2\n'
+rows_of() { "$tpool" runs "$@" | sed 1,4d; return "${PIPESTATUS[0]}"; }
+input=
+try 'runs that stall, and who waits for whom' 9 "$stalled_rows" '' rows_of "$deadlock" 5 --threads 1
+try 'a stall is no failure where none is asked for' 0 "$stalled_rows" '' rows_of "$deadlock" 5 --threads 1 --fail-on none
+try 'runs without room' 8 $'~exhausted  * 5 * 1[0-6] entries, exhausted*.history\n*' '' rows_of "$room/full.script" 5 --threads 1 --events 16
+try 'a refusal is a failure where that is asked for' 7 '~refused released *' '' rows_of "$clock" 3 --threads 1 --fail-on=refused
+try 'a failure is one of those that are asked for' 0 '~refused released *' '' rows_of "$clock" 3 --threads 1 --fail-on=cancelled,left
+printf 'io file r\nroutine r\ndone\nclient\n  start-io file\ndone\n' >"$room/left.script"
+left_rows=$'left expected  file        3          1        1  4 entries, left-expected-file.history\n'
+try 'callbacks that are left' 8 "$left_rows" '' rows_of "$room/left.script" 3 --threads 1
 sums_up() {
-    "$tpool" runs "$1" "$2" | awk -v wanted="$2 runs on 4 threads: " 'NR == 1 { good = index($0, wanted) == 1 } / with (a refusal|none of these)/ { sum += $1 } END { print good, sum }'
-    cat "$room"/tpool-runs-*/*.history | awk '/^history / { count++ } END { print (count ? "files" : "no file") }'
-    for file in "$room"/tpool-runs-*/*.history; do "$tpool" check "$file"; done | sed '/^legal /d'
-    rm -r "$room"/tpool-runs-*
+    "$tpool" runs "$@" | awk -v wanted="$2 runs" 'NR == 1 { good = index($0, wanted) == 1 } NR > 4 && match($0, /  +[0-9]+  +[0-9]+  +[0-9]+  /) { split(substr($0, RSTART), figure, " "); sum += figure[1] } END { print good, sum }'
 }
-try 'the server many times' 0 $'1 60\nfiles\n' '' sums_up "$server" 60
-stalled_runs() { "$tpool" runs "$deadlock" 5 --threads 1 | sed -n '/  stalled/p'; }
-try 'runs that stall' 0 $'   5          1  stalled              stalled.history, 32 entries\n' '' stalled_runs
-exhausted_runs() { "$tpool" runs "$room/full.script" 5 --events 16 | sed -n '/  exhausted/p'; }
-try 'runs without room' 0 $'~   5          [1-5]  exhausted            exhausted.history, 1[0-6] entries\n' '' exhausted_runs
-interrupted() { timeout --preserve-status -s INT 1 "$tpool" runs "$server" 1000000; }
-try 'runs that are interrupted' 130 '~[1-9]* of 1000000 runs on 4 threads: *The shortest of each kind*' '' interrupted
+try 'the server many times: each run is in one row' 0 $'1 60\n' '' sums_up "$server" 60 --threads 4
+legal_files() { for file in "$room"/tpool-runs-*/*.history; do "$tpool" check "$file"; done | awk '!/^legal /; END { print (NR ? "files" : "no file") }'; }
+try 'the shortest are legal' 0 $'files\n' '' legal_files
 rm -rf "$room"/tpool-runs-*
+interrupted() { timeout --preserve-status -s INT 2 "$tpool" runs "$server" 1000000 --threads 4; }
+try 'runs that are interrupted' 130 '~[1-9]* of 1000000 runs on 4 threads: *The shortest of each row*' '~tpool: 1000000 runs take about *' interrupted
+rm -rf "$room"/tpool-runs-*
+try 'nothing is kept where nothing was played' 2 '' '~tpool: bad line 3 column 1*' "$tpool" runs --threads 2 "$here/README.md" 5
+no_folder() { ls -d "$room"/tpool-runs-* 2>/dev/null; }
+try 'and no folder is left' '~[12]' '' '' no_folder
+try 'a folder that can not be written' 4 '' $'tpool: write fault: nothing can be written into /proc/none\n' "$tpool" runs --keep /proc/none "$clock"
 unset TMPDIR
 
+# --- The same by seeds
+export TMPDIR=$room
+try 'by seeds nothing is kept' 0 $'~40 runs, of the seeds 1 to 40: *\nEach run is in one row. ./tpool run --seed K FILE shows the run of seed K again.\n*' '' "$seeded" runs "$server" 40
+try 'no folder is left of that' '~[12]' '' '' no_folder
+unset TMPDIR
+sums_by_seeds() { tpool=$seeded sums_up "$@"; }
+try 'each run by a seed is in one row' 0 $'1 150\n' '' sums_by_seeds "$server" 150
+twice() { cmp <("$seeded" runs "$server" 60) <("$seeded" runs "$server" 60); }
+try 'the same seeds, the same table' 0 '' '' twice
+try 'one seed' 0 '~1 run, of the seed 1: 1 different history, of *' '' "$seeded" runs "$server" 1
+# The shortest of the first row, as it is kept and as its seed shows it again.
+shown_again() {
+    local seed
+    seed=$("$seeded" runs "$server" 30 | sed -n '5s/.*, seed //p')
+    "$seeded" runs "$server" 30 --keep "$room/kept" >/dev/null &&
+        file=$("$seeded" runs "$server" 30 --keep "$room/kept" | sed -n '5s/.*entries, //p') &&
+        cmp <("$seeded" run --seed "$seed" "$server") <(sed '/^name /d' "$room/kept/$file")
+}
+try 'a run is shown again by its seed' 0 '' '' shown_again
+as_json() {
+    "$seeded" runs "$server" 30 --json | python3 -c 'import json, sys; table = json.load(sys.stdin); print(table["of"], sum(kind["runs"] for kind in table["kinds"]), sorted(table))'
+}
+! command -v python3 >/dev/null ||
+    try 'the table as JSON' 0 $'30 30 [\'folder\', \'histories\', \'kinds\', \'longest\', \'of\', \'runs\', \'shortest\', \'threads\']\n' '' as_json
+try 'an empty script is told' 0 '~3 runs, of the seeds 1 to 3: *' $'tpool: the script is empty\n' "$seeded" runs - 3
+in_a_while() { timeout --preserve-status -s INT 3 "$seeded" runs "$server" 1000000; }
+try 'how long it takes is said, and what came until an interrupt' 130 '~[1-9]* of 1000000 runs, of the seeds up to 1000000: *' '~tpool: 1000000 runs take about [1-9]*' in_a_while
+
+# --- The names of a script in a history, and the rings of stalls
+named() { "$tpool" run "$1" 2>/dev/null | "$tpool" show --script "$1"; }
+try 'a history with the names of its script' 0 '~*20  c2   end * stalled (its wait for one)
+*
+entry 20 stalled: c2 -> w1 -> c3 -> w2 -> c2
+
+entries 32
+*' '' named "$deadlock"
+let_script=$'event gone manual clear\nio file heard\nroutine heard\nlet again work heard\nsubmit again\nwait again cancel\nclose again\ndone\nclient\nstart-io file\nissue-io file read\ncomplete-io read 0 5\nlet own timer heard\nis-timer-set own\nacquire gone\ndone\n'
+printf '%s' "$let_script" >"$room/let.script"
+try 'names that a section makes' 0 '~*complete-io read 0 5 *create timer heard x0 p0 normal short g0 q0  made own
+*taken 1 file heard x0 io 0 5
+*is-timer-set own *submit again *close work again *' '' named "$room/let.script"
+named_again() { "$tpool" runs "$1" 1 --keep "$room/named" --threads 1 >/dev/null; "$tpool" show "$room/named"/*; }
+try 'a history that runs kept has them too' 0 "$(named "$deadlock")"$'\n' '' named_again "$deadlock"
+try 'no script' 3 '' "tpool: read fault: the script $room/none can't be read"$'\n' "$tpool" show --script "$room/none"
+try 'a trace is shown by no script' 0 $'1  1  c1 submit 1  refused no-such (object 1)\n' '' "$tpool" show --script "$deadlock" <(echo 'c1 submit 1')
+
 # --- A history laid out
+input=$alone
 try 'the example is played' 0 '~*c2 end -> ended*' '' "$program" run --workers 1
 "$program" run --workers 1 <"$room/input" >"$room/alone.history"
 listed=' 1  c1   create timer r1 x0 p0 normal short g0 q0  made 1
@@ -298,7 +380,7 @@ on_terminal() { script -qec "stty cols 120; $tpool show $room/alone.history" /de
 ! command -v script >/dev/null || try 'on a terminal' 0 "$in_lanes" '' on_terminal
 try 'nothing can be written of lanes' 4 '' $'tpool: write fault\n' in_columns 120 to /dev/full "$tpool" show
 input=$'history 1 clients 1 workers 1 events 16\nw1 attach -> attached 0\nend 1\n'
-try 'a history that is not legal is shown' 7 $'1  w1   attach  attached 0\n' $'tpool: not legal at 1: look no-need\n2:14: w1 attach\n    the history says: attached 0\n    the machine says: look no-need\n' "$tpool" show
+try 'a history that is not legal is shown' 7 $'1  w1   attach  attached 0  <- the machine says: look no-need\n' $'tpool: not legal at 1: look no-need\n2:14: w1 attach\n    the history says: attached 0\n    the machine says: look no-need\n' "$tpool" show
 input=$'history 1 clients 1 workers 1 events 16\nend 0\n'
 try 'a history of nothing is shown' 0 '' '' "$tpool" show
 input=$'history 1 clients 1 workers 1 events 16\nend 1\n'

@@ -268,7 +268,7 @@ pools_history() { "$tpool" history "$here/examples/pools.trace" | "$tpool" check
 try 'the history of the pools is legal' 0 $'legal 18\n' '' pools_history
 
 # --- The page of man, completion, and what is installed
-page_warnings() { groff -ww -man -Tascii "$here/docs/tpool.1" 2>&1 >/dev/null; }
+page_warnings() { { groff -ww -man -Tascii "$here/docs/tpool.1" >/dev/null; } 2>&1; }
 ! command -v groff >/dev/null || try 'the page of man' 0 '' '' page_warnings
 # Each command and each option that help has.
 words_of_help() { "$tpool" help | grep -oE '^  \./tpool [a-z-]+|^  --[a-z-]+' | sed 's/.* //' | sort -u; }
