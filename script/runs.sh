@@ -114,6 +114,7 @@ tell_runs() {
     played=$(awk -F '\t' '$1 == "history" { sum += $3 } END { print sum + 0 }' "$room"/told-*)
     if ((played == 0)); then
         ((wrong)) || say 'no run came to its end'
+        ((wrong)) || wrong=126
     else
         choose_folder
         print_line "$(tell_kinds)"

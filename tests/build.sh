@@ -84,7 +84,7 @@ try 'to a full device' 4 '' "$next"$'tpool: write fault\n' to /dev/full with_rt 
 input=$'c1 submit 01\n'
 try 'a bad line' 2 '' "$next"$'tpool: bad line 1 column 12\n1:12: a number has no leading zeros\n    c1 submit 01\n               ^\n' with_rt "$copy/tpool" trace
 input=$'history 1 clients 1 workers 1 events 16\nc1 submit 1 -> queued 1 1\nend 1\n'
-try 'a wrong answer' 7 $'not legal at 1: refused no-such\n' "~$next"$'2:16: c1 submit 1\n*the machine says: refused no-such\n' with_rt "$copy/tpool" check
+try 'a wrong answer' 7 $'not legal at 1: refused no-such\n' "~$next"$'2:16: c1 submit 1\n*the machine says: refused no-such (object 1)\n' with_rt "$copy/tpool" check
 input=$'c1 submit 1\n'
 try 'rt was not asked again' 0 '' '' has_asked "$copy/crates/tp_top: try"
 try 'the version then' 0 '~*; the program is not proved and built'$'\n' '' without_rt "$copy/tpool" --version
