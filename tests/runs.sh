@@ -209,7 +209,7 @@ try '65,536 routines' 2 '' '~tpool: bad line 131071 column 9'$'\n*:131071:9: the
 
 # --- A script played many times, on threads
 counted_runs=$'20 runs on 1 thread: 1 different history, of 13 entries
-Each run is in one row. The shortest of each row stands in @.
+Each run is in one row. The shortest ones stand in @.
 
 came of it        call           runs  histories    first  shortest
 refused released  wait clock       20          1        1  13 entries, refused-released-wait-clock.history\n'
@@ -242,14 +242,14 @@ printf 'io file r\nroutine r\ndone\nclient\n  start-io file\ndone\n' >"$room/lef
 left_rows=$'left expected  file        3          1        1  4 entries, left-expected-file.history\n'
 try 'callbacks that are left' 8 "$left_rows" '' rows_of "$room/left.script" 3 --threads 1
 sums_up() {
-    "$tpool" runs "$@" | awk -v wanted="$2 runs" 'NR == 1 { good = index($0, wanted) == 1 } NR > 4 && match($0, /  +[0-9]+  +[0-9]+  +[0-9]+  /) { split(substr($0, RSTART), figure, " "); sum += figure[1] } END { print good, sum }'
+    "$tpool" runs "$@" | awk -v wanted="$2 runs" 'NR == 1 { good = index($0, wanted) == 1 } /^Each run is in one row/ { sum = 0 } match($0, /  +[0-9]+  +[0-9]+  +[0-9]+  /) { split(substr($0, RSTART), figure, " "); sum += figure[1] } END { print good, sum }'
 }
 try 'the server many times: each run is in one row' 0 $'1 60\n' '' sums_up "$server" 60 --threads 4
 legal_files() { for file in "$room"/tpool-runs-*/*.history; do "$tpool" check "$file"; done | awk '!/^legal /; END { print (NR ? "files" : "no file") }'; }
 try 'the shortest are legal' 0 $'files\n' '' legal_files
 rm -rf "$room"/tpool-runs-*
 interrupted() { timeout --preserve-status -s INT 2 "$tpool" runs "$server" 1000000 --threads 4; }
-try 'runs that are interrupted' 130 '~[1-9]* of 1000000 runs on 4 threads: *The shortest of each row*' '~tpool: 1000000 runs take about *' interrupted
+try 'runs that are interrupted' 130 '~[1-9]* of 1000000 runs on 4 threads: *The shortest ones stand in*' '~tpool: 1000000 runs take about *' interrupted
 rm -rf "$room"/tpool-runs-*
 try 'nothing is kept where nothing was played' 2 '' '~tpool: bad line 3 column 1*' "$tpool" runs --threads 2 "$here/README.md" 5
 no_folder() { ls -d "$room"/tpool-runs-* 2>/dev/null; }
@@ -259,7 +259,7 @@ unset TMPDIR
 
 # --- The same by seeds
 export TMPDIR=$room
-try 'by seeds nothing is kept' 0 $'~40 runs, of the seeds 1 to 40: *\nEach run is in one row. ./tpool run --seed K FILE shows the run of seed K again.\n*' '' "$seeded" runs "$server" 40
+try 'by seeds nothing is kept' 0 $'~40 runs, of the seeds 1 to 40: *\n* ./tpool run --seed K FILE shows run K again.\n*' '' "$seeded" runs "$server" 40
 try 'no folder is left of that' '~[12]' '' '' no_folder
 unset TMPDIR
 sums_by_seeds() { tpool=$seeded sums_up "$@"; }
@@ -277,10 +277,10 @@ shown_again() {
 }
 try 'a run is shown again by its seed' 0 '' '' shown_again
 as_json() {
-    "$seeded" runs "$server" 30 --json | python3 -c 'import json, sys; table = json.load(sys.stdin); print(table["of"], sum(kind["runs"] for kind in table["kinds"]), sorted(table))'
+    "$seeded" runs "$server" 30 --json | python3 -c 'import json, sys; table = json.load(sys.stdin); print(table["of"], sum(kind["runs"] for kind in table["kinds"]), sum(kind["runs"] for kind in table["kinds"] for thing in kind["things"]) == sum(thing["runs"] for thing in table["things"]), sorted(table))'
 }
 ! command -v python3 >/dev/null ||
-    try 'the table as JSON' 0 $'30 30 [\'folder\', \'histories\', \'kinds\', \'longest\', \'of\', \'runs\', \'shortest\', \'threads\']\n' '' as_json
+    try 'the table as JSON' 0 $'30 30 True [\'folder\', \'histories\', \'kinds\', \'longest\', \'of\', \'runs\', \'shortest\', \'things\', \'threads\']\n' '' as_json
 try 'an empty script is told' 0 '~3 runs, of the seeds 1 to 3: *' $'tpool: the script is empty\n' "$seeded" runs - 3
 in_a_while() { timeout --preserve-status -s INT 3 "$seeded" runs "$server" 1000000; }
 try 'how long it takes is said, and what came until an interrupt' 130 '~[1-9]* of 1000000 runs, of the seeds up to 1000000: *' '~tpool: 1000000 runs take about [1-9]*' in_a_while
