@@ -9,7 +9,7 @@ long=10
 # Plays the script of standard input `runs` times, in shares that go on side by side. An interrupt ends that, and what
 # came is told.
 play_runs() {
-    local interrupted='' shares=1 wrong=0 share
+    local interrupted='' shares=1 wrong=0 words=() kept='' share
     make_room
     input_again >"$room/script"
     settle_runs
@@ -29,9 +29,8 @@ play_runs() {
 # What the program is asked for, and how many shares there are: by seeds one a processor, each with every so manieth
 # seed; on threads, which take the processors themselves, one.
 settle_runs() {
-    [[ -n $threads ]] || threads=0
     words=(run "${options[@]}")
-    if ((threads == 0)) && [[ $state == current ]]; then
+    if [[ -z $threads && $state == current ]]; then
         shares=$(nproc)
         ((shares < runs)) || shares=$runs
     fi
@@ -66,7 +65,7 @@ span() {
 # Plays the run of a number, in place of a subshell.
 play_once() {
     local seed=()
-    ((threads > 0)) || seed=("--seed=$1")
+    [[ -n $threads ]] || seed=("--seed=$1")
     run_program "${words[@]}" "${seed[@]}" <"$room/script"
 }
 
@@ -130,14 +129,14 @@ tell_runs() {
 # Where the histories are kept: in the folder that is asked for, or, where no seed shows them again, in one of their own.
 choose_folder() {
     kept=$keep
-    [[ -n $kept ]] || ((threads == 0)) || kept=$(mktemp -d "${TMPDIR:-/tmp}/tpool-runs-XXXXXX" 2>/dev/null) ||
+    [[ -n $kept || -z $threads ]] || kept=$(mktemp -d "${TMPDIR:-/tmp}/tpool-runs-XXXXXX" 2>/dev/null) ||
         fail 126 "there is no room for the histories in ${TMPDIR:-/tmp}"
 }
 
 # Tells the kinds of all shares, and lists their files.
 tell_kinds() {
     kept=$kept list=$room/list came=$room/came \
-        awk -v played="$played" -v runs="$runs" -v threads="$threads" -v json="$json" -f "$home/script/kinds.awk" "$room"/told-*
+        awk -v played="$played" -v runs="$runs" -v threads="${threads:-0}" -v json="$json" -f "$home/script/kinds.awk" "$room"/told-*
 }
 
 keep_histories() {

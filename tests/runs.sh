@@ -2,11 +2,15 @@
 # shellcheck shell=bash
 
 server=$here/examples/server.script
-# The program that plays by a seed. Until the one that is built does, something else stands in its place, which makes of
-# a seed the number of workers: without the lines up to END_OF_PROGRAM, `seeded` is $tpool.
-seeded=$room/seeded/bin/tpool
-"$tpool" install "$room/seeded" 2>/dev/null
-cat >"$room/seeded/lib/tpool/tp_top" <<END_OF_PROGRAM
+# The program that plays by a seed. Where the one that is built has no seeds, something else stands in its place, which
+# makes of a seed the number of workers.
+seeded=$tpool
+has_seeds=yes
+if ! "$program" run --seed=1 </dev/null >/dev/null 2>&1; then
+    has_seeds=
+    seeded=$room/seeded/bin/tpool
+    "$tpool" install "$room/seeded" 2>/dev/null
+    cat >"$room/seeded/lib/tpool/tp_top" <<END_OF_PROGRAM
 #!/usr/bin/env bash
 for word in "\$@"; do
     shift
@@ -15,6 +19,7 @@ for word in "\$@"; do
 done
 exec "$program" "\$@"
 END_OF_PROGRAM
+fi
 # run_and COMMAND WORD..: what a command makes of what is written by `run` with these words.
 run_and() { "$tpool" run "${@:2}" 2>/dev/null | "$tpool" "$1"; }
 without_last_byte() { head -c -1 | "$@"; }
@@ -282,6 +287,13 @@ as_json() {
 ! command -v python3 >/dev/null ||
     try 'the table as JSON' 0 $'30 30 True [\'folder\', \'histories\', \'kinds\', \'longest\', \'of\', \'runs\', \'shortest\', \'things\', \'threads\']\n' '' as_json
 try 'an empty script is told' 0 '~3 runs, of the seeds 1 to 3: *' $'tpool: the script is empty\n' "$seeded" runs - 3
+# How many runs of a script had a refusal.
+refusals() { "$seeded" runs "$@" --json | sed 's/.*"things"://' | awk '{ print (/"came":"refused released"/ ? "some" : "none") }'; }
+if [[ -n $has_seeds ]]; then
+    try 'a timer that is left set is found' 0 $'some\n' '' refusals "$here/examples/timer-left-set.script" 100
+    try 'one that is unset has nothing to be found' 0 $'none\n' '' refusals "$here/examples/timer-unset.script" 1000
+fi
+try 'one line of the table is read' 0 '~3 runs, *' '' first_line "$seeded" runs "$server" 3
 in_a_while() { timeout --preserve-status -s INT 3 "$seeded" runs "$server" 1000000; }
 try 'how long it takes is said, and what came until an interrupt' 130 '~[1-9]* of 1000000 runs, of the seeds up to 1000000: *' '~tpool: 1000000 runs take about [1-9]*' in_a_while
 
@@ -300,6 +312,8 @@ try 'names that a section makes' 0 '~*complete-io read 0 5 *create timer heard x
 *is-timer-set own *submit again *close work again *' '' named "$room/let.script"
 named_again() { "$tpool" runs "$1" 1 --keep "$room/named" --threads 1 >/dev/null; "$tpool" show "$room/named"/*; }
 try 'a history that runs kept has them too' 0 "$(named "$deadlock")"$'\n' '' named_again "$deadlock"
+cp "$deadlock" "$room/a=b.script"
+try 'a script whose name has a sign in it' 0 "$(named "$deadlock")"$'\n' '' inside "$room" named a=b.script
 try 'no script' 3 '' "tpool: read fault: the script $room/none can't be read"$'\n' "$tpool" show --script "$room/none"
 try 'a trace is shown by no script' 0 $'1  1  c1 submit 1  refused no-such (object 1)\n' '' "$tpool" show --script "$deadlock" <(echo 'c1 submit 1')
 

@@ -46,6 +46,7 @@ refuses 'one word too many: c' runs a 1 c
 refuses '--keep is no option of run' run --keep a b
 refuses '--summary is no option of runs' runs --summary b
 refuses '--script wants a word behind it' show --script
+refuses '--seed is no option of runs, which plays each seed' runs --seed 1 a
 refuses '--fail-on wants refused, stalled, exhausted, left or cancelled, with commas between, or none' runs --fail-on stall a
 refuses 'install wants the folder to install below' install
 refuses 'one word too many: b' install a b
@@ -248,6 +249,9 @@ for words in help calls 'calls submit' "calls-of $history" "show $trace" "histor
     # shellcheck disable=SC2086
     try "one line is read, and nothing is said: $words" 0 '~*' '' first_line "$tpool" $words
 done
+typed_in() { script -qec "$tpool trace" /dev/null </dev/null 2>&1 | tr -d '\r' | head -n 1; }
+! command -v script >/dev/null ||
+    try 'standard input is a terminal' 0 $'tpool: reading from the terminal, up to its end (Ctrl-D)\n' '' typed_in
 without_temporary_folder() { TMPDIR=$room/none "$@"; }
 try 'no folder for temporary files' 126 '' "tpool: there is no room for temporary files in $room/none"$'\n' without_temporary_folder "$tpool" show "$trace"
 # The options of the machine's size, and the script of a number.
@@ -258,6 +262,9 @@ try 'options before the command' 0 $'refused no-such\nlook no-need\n' '' "$tpool
 try 'the history of one' 0 $'history 1 clients 2 workers 5 events 100\nc2 submit 1 -> refused no-such\nend 1\n' '' "$tpool" history --workers=5 --events 100
 try 'one is shown' 0 $'1  1  c2 submit 1  refused no-such (object 1)\n2     w5 attach    look no-need\n' '' "$tpool" show --events 100 --workers 5
 try 'a small one is full' 0 $'full 0 1\n' $'~tpool: 1 of the calls are full: *\n' of_sixteen
+for words in 'many' '"a[0]"'; do
+    try "bad words: runs on $words threads" 1 '' $'~tpool: bad words\ntpool: an option is there once, *\n' "$tpool" runs --threads "$words"
+done
 for words in '--workers 65' '--events=15' '--workers 4 --workers 4' '--json --json'; do
     # shellcheck disable=SC2086
     try "bad words: '$words'" 1 '' $'~tpool: bad words\ntpool: an option is there once, *\n' "$tpool" trace $words
