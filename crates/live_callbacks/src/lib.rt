@@ -3,8 +3,9 @@
 //!
 //! `open` takes the memory, and no other call takes any. A callback comes by `push`, moves on by `change`
 //! and leaves by `remove`, and each of these knows every list: the queue of its pool, where it waits for a
-//! worker; what is outstanding for its object; and of that what expects an operation, and what expects one
-//! or has it under way. So a caller tells what becomes of a callback, and of no list.
+//! worker; what is outstanding for its object; of that what expects an operation, and what expects one or
+//! has it under way; and what was made with its group. So a caller tells what becomes of a callback, and of
+//! no list.
 //!
 //! ```text
 //! let mut callbacks = LiveCallbacks::open(alloc, 8, 2, 4, 0)?;

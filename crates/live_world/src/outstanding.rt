@@ -1,5 +1,5 @@
-//! What is outstanding for an object: its callbacks that are pending, and those that run and were
-//! not disassociated from it.
+//! What is outstanding for an object: its callbacks whose operations are announced or under way, those that
+//! are pending, and those that run and were not disassociated from it.
 
 ghost use Rattle.std.specs.Prelude.{◌≡◌, ◌+◌, ◌≤◌, if◌then◌else◌, nat_lt, filter, length, slice_get};
 ghost use Rattle.tp_model.specs.Waits.{count_outstanding};
