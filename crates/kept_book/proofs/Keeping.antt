@@ -1,5 +1,5 @@
--- How a kept history goes on with a call.
-use Rattle.std.proofs.Common.{◌≡◌, ℕ, ◌+◌, ◌<◌, ◌≤◌, List, [], ◌∷◌, ◌++◌, length, max, ap, ◌∙◌, subst, arith, length-append}
+-- How an observed history goes on with an entry.
+use Rattle.std.proofs.Common.{◌≡◌, ℕ, ◌+◌, ◌<◌, ◌≤◌, List, [], ◌∷◌, length, max, ap, ◌∙◌, arith, length-append}
 use Rattle.tp_base.specs.declared.answers.Answer.{Answer}
 use Rattle.tp_base.specs.declared.answers.Entry.{Entry}
 use Rattle.tp_base.specs.declared.answers.Outcome.{Outcome}
@@ -10,18 +10,19 @@ use Rattle.tp_base.specs.declared.limits.Limits.{Limits}
 use Rattle.tp_model.specs.Counts.{owed}
 use Rattle.tp_model.specs.History.{IsLegal, after}
 use Rattle.recorded.specs.Recordings.{Recording, recorded}
-use Rattle.kept_book.specs.Kept.{IsKept}
+use Rattle.kept_book.specs.Observed.{with_entry}
 
--- there is memory for the entry of an answer, since the history with it is legal
-pub has_memory : (legal_fits : (limits : Limits) (capacity most : ℕ) (history : List Entry) → capacity ≤ most → limits.clients ≤ most → IsLegal limits capacity history → length history + owed (after limits history) ≤ most)
-    → (old new : Recording) (entries : List Entry) (len places : ℕ) (who : Who) (call : Call) (told : Outcome) (answer : Answer)
-    → IsKept old entries places → len ≡ length entries → told ≡ Done answer → new ≡ recorded old who call told → IsLegal new.limits new.capacity new.history → len < places
-has_memory legal_fits old new entries len places who call told answer kept counts done grown legal =
-    let entry : Entry = record { who = who; call = call; answer = answer } in
-    let longer : Recording = record old { history = old.history ++ entry ∷ [] } in
-    let is : new ≡ longer = grown ∙ ap (λ o. recorded old who call o) done in
-    let right : IsLegal old.limits old.capacity longer.history = subst (λ (r : Recording). IsLegal r.limits r.capacity r.history) is legal in
-    let most : ℕ = max old.capacity old.limits.clients in
-    let fits = legal_fits old.limits old.capacity most longer.history (omega arith) (omega arith) right in
-    let size : length longer.history ≡ length old.history + 1 = length-append old.history (entry ∷ []) in
-    omega (arith, fits, size, counts, ap length kept.same, kept.room)
+module _ (old new : Recording) (who : Who) (call : Call) (told : Outcome) (answer : Answer) (done : told ≡ Done answer) (grown : new ≡ recorded old who call told) where
+  is_longer : new ≡ with_entry old (record { who = who; call = call; answer = answer })
+  is_longer = grown ∙ ap (λ o. recorded old who call o) done
+
+  pub one_more : length new.history ≡ length old.history + 1
+  one_more = ap (λ (r : Recording). length r.history) is_longer ∙ length-append old.history ((record { who = who; call = call; answer = answer }) ∷ [])
+
+  -- the history with the entry is legal, so it isn't longer than one may be
+  pub is_below : ((limits : Limits) (capacity most : ℕ) (history : List Entry) → capacity ≤ most → limits.clients ≤ most → IsLegal limits capacity history → length history + owed (after limits history) ≤ most)
+      → IsLegal new.limits new.capacity new.history → length old.history < max old.capacity old.limits.clients
+  is_below legal_fits legal =
+      let fits = legal_fits new.limits new.capacity (max new.capacity new.limits.clients) new.history (omega arith) (omega arith) legal in
+      let same : max new.capacity new.limits.clients ≡ max old.capacity old.limits.clients = ap (λ (r : Recording). max r.capacity r.limits.clients) is_longer in
+      omega (arith, fits, same, one_more)

@@ -5,8 +5,8 @@ use pool_book::Book;
 use recorded::{Recorded, program_limits};
 use std::alloc::Global;
 use std::process::Abort;
-use tp_lines::parse::parse_call;
-use tp_report::{Counted, Verdict, Written, check, print_json, print_summary};
+use tp_lines::calls::read_call_line;
+use tp_report::{Counted, Verdict, Written, check, into_history, print_json, print_summary};
 
 /// A client waits for one callback of a work object that another client made.
 const ONE_WAIT: [&[u8]; 9] = [
@@ -56,7 +56,7 @@ fn played<B: Recorded>(rt: &impl Abort, alloc: Global, workers: u32, lines: &[&[
 }
 
 fn make_call<B: Recorded>(rt: &impl Abort, book: &mut B, line: &[u8]) {
-    let (who, call) = expect_ok(rt, parse_call(line));
+    let ((who, call), _) = expect_ok(rt, read_call_line(line));
     assert!(rt; call.in_range());
     book.step(who, call);
 }
@@ -70,7 +70,7 @@ fn expect_text(rt: &impl Abort, told: &[u8], wanted: &str) {
 fn a_history_is_told(rt: HostRuntime) {
     let alloc = rt.alloc();
     let book = played::<Written<Book>>(&rt, alloc, 1, &ONE_WAIT);
-    let (book, text) = expect_ok(&rt, book.into_history(alloc));
+    let (book, text) = expect_ok(&rt, into_history(alloc, book));
     expect_text(
         &rt,
         &text,

@@ -2,10 +2,18 @@
 
 ghost use Rattle.std.specs.Prelude.{◌≡◌};
 ghost use Rattle.tp_model.specs.Laws.Entries.{is_complete_call};
+ghost use Rattle.tp_report.specs.Counting.{AreCounts};
 ghost use Rattle.tp_report.specs.EarlyEnds.{is_end};
 
+use kept_book::{Observed, Observer};
+use std::alloc::{AllocError, Global};
 use tp_base::answers::Answer;
 use tp_base::calls::Call;
+use tp_base::ids::Who;
+use tp_base::limits::Limits;
+
+/// A machine, and the counts of its history's entries, taken as they are made.
+pub type Counted<B> = Observed<B, Counts>;
 
 /// How a wait ends that doesn't come to what it waits for.
 #[derive(Clone, Copy)]
@@ -29,14 +37,27 @@ pub struct Counts {
     pub stalled: bool,
 }
 
+impl Observer for Counts {
+    ghost HasNoted = { λ r counts. AreCounts r.history counts };
+
+    fn open(_alloc: Global, _limits: Limits, _capacity: u32) -> Result<Counts, AllocError> {
+        Ok(Counts::none())
+    }
+
+    #[inline(always)]
+    fn note(&mut self, _who: Who, call: &Call, answer: &Answer) {
+        self.add(call, answer);
+    }
+}
+
 impl Counts {
     ghost use Rattle.std.specs.Prelude.{◌≡◌, ◌+◌, ◌<◌, ◌≤◌, ◌-◌, ◌^◌, [], if◌then◌else◌};
     ghost use Rattle.tp_base.specs.declared.ids.Who.{Who as Actor};
     ghost use Rattle.tp_model.specs.Laws.Entries.{is_complete_call};
     ghost use Rattle.tp_report.specs.Counting.{AreCounts, IsCounted};
 
-    /// Those of no entries.
-    pub fn none() -> Counts
+    // Those of no entries.
+    fn none() -> Counts
         ensures { AreCounts [] result }
     {
         Counts {
@@ -48,10 +69,10 @@ impl Counts {
         }
     }
 
-    /// Counts one more entry, of any actor.
+    // Counts one more entry, of any actor.
     #[inline(always)]
     #[tactic(auto, using(crate::proofs::Tallies::range_length))]
-    pub fn add(&mut self, call: &Call, answer: &Answer)
+    fn add(&mut self, call: &Call, answer: &Answer)
         requires made { self.old.made + 2 ^ 32 ≤ 2 ^ 64 }
         requires taken { self.old.taken < 2 ^ 32 - 1 }
         requires refused { self.old.refused < 2 ^ 32 - 1 }

@@ -8,7 +8,7 @@ ghost use Rattle.tp_report.specs.Json.{json_line, json_of_totals, numbers_of};
 ghost use Rattle.tp_report.specs.Summaries.{totals_behind, IsNoneLost};
 ghost use Rattle.tp_report.specs.Summing.{totals_told};
 
-use crate::counted::Counted;
+use crate::counts::Counted;
 use crate::left::LeftRow;
 use crate::summary::{Summary, summarize};
 use recorded::Recorded;

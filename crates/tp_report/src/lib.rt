@@ -19,13 +19,12 @@
 //!
 //! let mut book = Written::<Book>::open(alloc, program_limits(1, 4), 65_536)?;
 //! book.step(Who::Client(1), Call::Finish);                       // Outcome::Done(Answer::Done)
-//! book.into_history(alloc)    // Ok((.., "history 1 clients 1 workers 4 events 65536\nc1 finish -> ok\nend 1\n"))
+//! into_history(alloc, book)    // Ok((.., "history 1 clients 1 workers 4 events 65536\nc1 finish -> ok\nend 1\n"))
 //! ```
 
 #![tactic(auto)]
 
 mod checking;
-mod counted;
 mod counts;
 mod faults;
 mod headers;
@@ -39,12 +38,11 @@ mod verdict;
 mod written;
 
 pub use checking::check;
-pub use counted::Counted;
-pub use counts::Counts;
+pub use counts::{Counted, Counts};
 pub use faults::{CheckFault, TextFault};
 pub use json::print_json;
 pub use left::{LeftRow, left_callbacks};
 pub use playing::{MachineSize, trace};
 pub use summary::print_summary;
 pub use verdict::{Verdict, print_verdict};
-pub use written::Written;
+pub use written::{Written, WrittenLines, into_history};

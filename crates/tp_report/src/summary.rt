@@ -6,7 +6,7 @@ ghost use Rattle.tp_model.specs.Over.{row_of, status_of};
 ghost use Rattle.tp_report.specs.Summaries.{count_line, left_line, status_word, text_of_totals, totals_behind, IsNoneLost};
 ghost use Rattle.tp_report.specs.Summing.{totals_told};
 
-use crate::counted::Counted;
+use crate::counts::Counted;
 use crate::left::{LeftRow, left_callbacks};
 use itoa::Buffer;
 use recorded::Recorded;
@@ -55,7 +55,7 @@ pub fn summarize<B: Recorded>(alloc: Global, book: &Counted<B>) -> Result<Summar
     ensures none_lost { IsNoneLost (totals_behind book.now) }
 {
     let entries = book.len();
-    let counts = book.counts();
+    let counts = book.observer();
     let left = left_callbacks(alloc, book)?;
     Ok(Summary {
         entries,

@@ -18,7 +18,7 @@ use std::sync::Wait;
 use std::thread::Threads;
 use tp_model::{Left, legal_keeps_laws};
 use tp_report::{
-    Counted, LeftRow, MachineSize, Written, left_callbacks, print_json, print_summary,
+    Counted, LeftRow, MachineSize, Written, into_history, left_callbacks, print_json, print_summary,
 };
 use tp_script::Script;
 use worker_gate::{Gate, Run, play_routines, play_routines_alone};
@@ -125,7 +125,7 @@ fn whole_output<B: Recorded>(
     legal_keeps_laws();
     let Run { book, cut } = played;
     let _len = book.len();
-    let (counted, history) = book.into_history(alloc)?;
+    let (counted, history) = into_history(alloc, book)?;
     output_behind(alloc, history, json, cut, &counted)
 }
 
@@ -160,7 +160,7 @@ fn output_behind<B: Recorded>(
     let _len = book.len();
     append_totals(alloc, json, book, &mut text)?;
     let left = left_callbacks(alloc, book)?;
-    let counts = book.counts();
+    let counts = book.observer();
     let ending = ending_by(cut, counts.exhausted, has_pending(&left), counts.stalled);
     Ok(Output { text, ending })
 }

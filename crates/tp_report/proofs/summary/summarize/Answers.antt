@@ -16,8 +16,8 @@ overflow_sub-result g c =
     omega (
       arith,
       c.from.ensures,
-      c.counts-counts.ensures.made,
-      c.counts-counts.ensures.taken,
+      c.observer-counts.ensures.made,
+      c.observer-counts.ensures.taken,
       made_counted r.limits r.capacity r.history c.len-entries.ensures.legal,
       none_lost r.limits r.capacity r.history c.len-entries.ensures.legal,
     )
@@ -31,8 +31,8 @@ overflow_sub-result-2 g c =
       c.len.ensures,
       length-map c.in_ok-left.left.items row_of,
       ap length c.in_ok-left.ensures,
-      c.counts-counts.ensures.made,
-      c.counts-counts.ensures.taken,
+      c.observer-counts.ensures.made,
+      c.observer-counts.ensures.taken,
       made_counted r.limits r.capacity r.history c.len-entries.ensures.legal,
       none_lost r.limits r.capacity r.history c.len-entries.ensures.legal,
     )
@@ -40,11 +40,12 @@ overflow_sub-result-2 g c =
 pub returns-clause-ok : goal.returns-clause-ok
 returns-clause-ok g c =
     let r = c.args.book.now in
-    let told = c.counts-counts in
+    let told = c.observer-counts.result.now in
+    let counted = c.observer-counts.ensures in
     let size : c.len.result ≡ length (map row_of c.in_ok-left.left.items) = omega (arith, c.len.ensures, length-map c.in_ok-left.left.items row_of) in
-    same_totals c.len-entries.result told.result.made told.result.taken (told.result.made - c.from.result - c.len.result) (map row_of c.in_ok-left.left.items) told.result.refused (totals_behind r)
-    (none_lost r.limits r.capacity r.history c.len-entries.ensures.legal) c.len-entries.ensures.len (told.ensures.made ∙ made_counted r.limits r.capacity r.history c.len-entries.ensures.legal) told.ensures.taken
-    (ap₂ (λ t n. told.result.made - t - n) c.from.ensures size) c.in_ok-left.ensures told.ensures.refused
+    same_totals c.len-entries.result told.made told.taken (told.made - c.from.result - c.len.result) (map row_of c.in_ok-left.left.items) told.refused (totals_behind r)
+    (none_lost r.limits r.capacity r.history c.len-entries.ensures.legal) c.len-entries.ensures.len (counted.made ∙ made_counted r.limits r.capacity r.history c.len-entries.ensures.legal) counted.taken
+    (ap₂ (λ t n. told.made - t - n) c.from.ensures size) c.in_ok-left.ensures counted.refused
 
 pub returns-clause-none_lost : goal.returns-clause-none_lost
 returns-clause-none_lost g c = let r = c.args.book.now in none_lost r.limits r.capacity r.history c.len-entries.ensures.legal
