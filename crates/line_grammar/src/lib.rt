@@ -8,7 +8,7 @@
 //!
 //! - `read_number` and `read_prefixed` read numbers of a range, without leading zeros, and `read_signed`
 //!   those of 64 bits with a sign;
-//! - `read_word` reads one word, and `further` chooses among readers; where the word stands for nothing,
+//! - `read_bytes` reads one word, and `further` chooses among readers; where the word stands for nothing,
 //!   `something` is what the other reader found;
 //! - `behind` takes one byte off, and `size_before` finds a separator.
 //!
@@ -19,7 +19,7 @@
 //! read_number(b"12 3", 0, 65_535)              // Ok((12, 2)): the value, and the size of its text
 //! read_number(b"65536", 0, 65_535)             // Ok((6553, 4)): no number goes on by that 6
 //! read_number(b"5", 16, 131_072)               // Err(1): it may go on, and is none yet
-//! read_word(2, "set-timer-ex", b"set-timer-e") // Err(11)
+//! read_bytes(2, b"set-timer-ex", b"set-timer-e") // Err(11)
 //! ```
 
 #![tactic(auto)]

@@ -5,13 +5,6 @@ ghost use Rattle.line_grammar.specs.Language.{IsRead};
 ghost use Rattle.line_grammar.specs.Parts.{Opens};
 ghost use Rattle.line_grammar.specs.Words.{Word, EndsWord, further_of, is_solid, lacks, something_of};
 
-/// Reads the word at the front of the text, which then stands for `meaning`.
-pub fn read_word<V: Copy>(meaning: V, word: &str, text: &[u8]) -> Result<(V, usize), usize>
-    ensures { IsRead (Word meaning word.now) text.now result }
-{
-    read_bytes(meaning, word.as_bytes(), text)
-}
-
 /// Reads the word with these bytes at the front of the text, which then stands for `meaning`.
 pub fn read_bytes<V: Copy>(meaning: V, word: &[u8], text: &[u8]) -> Result<(V, usize), usize>
     ensures { IsRead (Word meaning word.now) text.now result }

@@ -3,8 +3,11 @@
 
 ghost use Rattle.std.specs.Prelude.{◌≡◌, Ok};
 
+use std::alloc::Global;
 use std::fmt::Debug;
 use std::process::Abort;
+use tp_base::answers::Entry;
+use tp_lines::reserved::ReservedLines;
 
 /// Ends the test where a value isn't the one that is expected.
 pub fn expect_eq<T: PartialEq + Debug + Drop>(rt: &impl Abort, told: T, wanted: T) {
@@ -19,4 +22,12 @@ pub fn expect_ok<T: Drop, E: Debug + Drop>(rt: &impl Abort, told: Result<T, E>) 
         Ok(value) => value,
         Err(error) => panic!(rt; "{error:?}"),
     }
+}
+
+/// Ends the test where the entry isn't printed as this line.
+pub fn expect_line(rt: &impl Abort, alloc: Global, entry: &Entry, line: &str) {
+    let mut lines = expect_ok(rt, ReservedLines::behind(Vec::new(alloc), 1));
+    lines.entry(entry.who, &entry.call, &entry.answer);
+    let text = lines.into_text();
+    expect_eq(rt, text.strip_suffix(b"\n"), Some(line.as_bytes()));
 }

@@ -1,4 +1,4 @@
-//! Columns of faults in drawn lines, against a finder of places that is written apart.
+//! Places of faults in drawn lines, against a finder of places that is written apart.
 //!
 //! Patterns are a line each of one text, which costs the check the same however long it is.
 //! A pattern is the fields of a line with a space between each two. A field is its alternatives with `|`
@@ -8,7 +8,8 @@
 use crate::checks::{expect_eq, expect_ok};
 use std::alloc::Global;
 use std::process::Abort;
-use tp_lines::parse::{LineFault, LineKind, parse_call, parse_entry};
+use tp_lines::calls::read_call_line;
+use tp_lines::entries::read_entry;
 
 const CALL_PATTERNS: &str = "c&|w~ create-pool\n\
     c&|w~ close-pool #\n\
@@ -320,28 +321,8 @@ fn drawn_byte(draws: &mut Draws) -> u8 {
     bytes.get(index).copied().unwrap_or(b' ')
 }
 
-// The fault is where the finder says, and there is none where it finds all of the text.
-fn check_fault(rt: &impl Abort, text: &[u8], fault: Option<LineFault>, reach: Reach) {
-    let (Ok(place) | Err(place)) = reach;
-    let kind = if place == text.len() {
-        LineKind::Unfinished
-    } else {
-        LineKind::Unexpected
-    };
-    let wanted = if reach == Ok(text.len()) {
-        None
-    } else {
-        Some((place.saturating_add(1), kind))
-    };
-    let found = match fault {
-        Some(fault) => Some((fault.column as usize, fault.kind)),
-        None => None,
-    };
-    expect_eq(rt, (text, found), (text, wanted));
-}
-
 #[test]
-fn columns_of_drawn_lines(rt: HostRuntime) {
+fn places_in_drawn_lines(rt: HostRuntime) {
     let mut draws = Draws { state: 7 };
     for _round in 0..10_u64 {
         for call in CALL_PATTERNS.split('\n') {
@@ -362,10 +343,13 @@ fn check_drawn(rt: &impl Abort, alloc: Global, call: &str, answer: &str, draws: 
     check_entry(rt, &draw_fault(rt, alloc, &line, draws));
 }
 
+// Each text is read up to where the finder says, as one that is whole there or as one that isn't.
 fn check_call(rt: &impl Abort, text: &[u8]) {
-    check_fault(rt, text, parse_call(text).err(), call_reach(text));
+    let read = read_call_line(text).map(|(_, size)| size);
+    expect_eq(rt, (text, read), (text, call_reach(text)));
 }
 
 fn check_entry(rt: &impl Abort, text: &[u8]) {
-    check_fault(rt, text, parse_entry(text).err(), entry_reach(text));
+    let read = read_entry(text).map(|(_, size)| size);
+    expect_eq(rt, (text, read), (text, entry_reach(text)));
 }

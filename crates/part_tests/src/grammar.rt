@@ -3,7 +3,7 @@
 use crate::checks::expect_eq;
 use line_grammar::numbers::{read_number, read_prefixed, read_signed};
 use line_grammar::words::{
-    behind, behind_word, further, read_bytes, read_word, size_before, something, word_size,
+    behind, behind_word, further, read_bytes, size_before, something, word_size,
 };
 
 #[test]
@@ -36,7 +36,7 @@ fn numbers_at_the_front(rt: HostRuntime) {
 #[test]
 fn words_at_the_front(rt: HostRuntime) {
     let text = b"set-timer-e 5";
-    let short = read_word(1_u8, "set-timer", text);
+    let short = read_bytes(1_u8, b"set-timer", text);
     let long = read_bytes(2_u8, b"set-timer-ex", text);
     expect_eq(
         &rt,

@@ -2,15 +2,16 @@
 //!
 //! What a line stands for is said by the definitions, and shown by examples in the proofs of `tp_lines`.
 
-use crate::checks::{expect_eq, expect_ok};
+use crate::checks::{expect_eq, expect_line, expect_ok};
 use frequent_lines::{read_good_call, read_good_entry, read_rare_call, read_rare_entry};
 use std::alloc::Global;
 use std::process::Abort;
 use tp_base::answers::{Answer, Entry, Look, Outcome};
 use tp_base::calls::Call;
 use tp_base::ids::Who;
-use tp_lines::parse::{parse_call, parse_entry};
-use tp_lines::print::{Lines, print_answer, print_entry, print_full, print_look, print_outcome};
+use tp_lines::calls::read_call_line;
+use tp_lines::entries::read_entry;
+use tp_lines::print::{Lines, print_outcome};
 
 // A line of each call and of each answer: one text, which costs the check the same however long it is.
 const ENTRIES: &str = "c1 create-pool -> made 65535
@@ -72,18 +73,14 @@ fn lines_are_printed_as_they_were_read(rt: HostRuntime) {
 
 // The line is read as an entry, and its front as a call. Both are printed as that line again.
 fn check_line(rt: &impl Abort, alloc: Global, line: &str) {
-    let entry = expect_ok(rt, parse_entry(line.as_bytes()));
-    check_printed(rt, alloc, line, &entry);
+    let (entry, size) = expect_ok(rt, read_entry(line.as_bytes()));
+    expect_eq(rt, (line, size), (line, line.len()));
+    expect_line(rt, alloc, &entry, line);
     let (front, _) = expect_ok(rt, line.split_once(" -> ").ok_or(line));
-    let (who, call) = expect_ok(rt, parse_call(front.as_bytes()));
+    let ((who, call), size) = expect_ok(rt, read_call_line(front.as_bytes()));
+    expect_eq(rt, (line, size), (line, front.len()));
     let answer = entry.answer;
-    check_printed(rt, alloc, line, &Entry { who, call, answer });
-}
-
-fn check_printed(rt: &impl Abort, alloc: Global, line: &str, entry: &Entry) {
-    let mut out = Vec::new(alloc);
-    expect_ok(rt, print_entry(entry, &mut out));
-    expect_eq(rt, (line, out.as_slice()), (line, line.as_bytes()));
+    expect_line(rt, alloc, &Entry { who, call, answer }, line);
 }
 
 /// What is found is the line, by contract; but nothing may be found.
@@ -164,20 +161,13 @@ fn rare_lines_are_found(rt: HostRuntime) {
 fn outcomes_are_printed(rt: HostRuntime) {
     let mut lines = Lines::new(rt.alloc());
     expect_ok(&rt, lines.outcome(&Outcome::Done(Answer::Ended)));
+    expect_ok(&rt, lines.outcome(&Outcome::Look(Look::Stay)));
     expect_ok(&rt, lines.outcome(&Outcome::Full { room: 1, cost: 3 }));
+    let mut text = lines.into_text();
+    expect_ok(&rt, print_outcome(&Outcome::Look(Look::Empty), &mut text));
     expect_eq(
         &rt,
-        lines.into_text().as_slice(),
-        "ended\nfull 1 3\n".as_bytes(),
-    );
-    let mut out = Vec::new(rt.alloc());
-    expect_ok(&rt, print_outcome(&Outcome::Look(Look::Stay), &mut out));
-    expect_ok(&rt, print_answer(&Answer::Done, &mut out));
-    expect_ok(&rt, print_look(&Look::Empty, &mut out));
-    expect_ok(&rt, print_full(1, 3, &mut out));
-    expect_eq(
-        &rt,
-        out.as_slice(),
-        "look stayoklook emptyfull 1 3".as_bytes(),
+        text.as_slice(),
+        "ended\nlook stay\nfull 1 3\nlook empty".as_bytes(),
     );
 }

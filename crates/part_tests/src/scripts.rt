@@ -1,13 +1,12 @@
 //! Scripts: which texts are one, the place and kind of the first fault of the others, and the calls of their parts.
 
-use crate::checks::{expect_eq, expect_ok};
+use crate::checks::{expect_eq, expect_line, expect_ok};
 use crate::drawn_scripts::DRAWN_SCRIPTS;
 use std::alloc::{AllocError, Global};
 use std::process::Abort;
 use tp_base::answers::Entry;
 use tp_base::ids::RoutineId;
-use tp_lines::parse::parse_entry;
-use tp_lines::print::print_entry;
+use tp_lines::entries::read_entry;
 use tp_script::{Part, Progress, Routines, Script, ScriptFault, parse_script};
 
 // What is told of a text stands before it, with `--` between each two: one text, which costs the check the same however
@@ -461,10 +460,8 @@ fn expect_entry(
     at: &mut Progress,
     line: &str,
 ) {
-    let Entry { who, answer, .. } = expect_ok(rt, parse_entry(line.as_bytes()));
+    let (Entry { who, answer, .. }, _) = expect_ok(rt, read_entry(line.as_bytes()));
     let call = expect_ok(rt, script.next(part, at).ok_or(line));
-    let mut out = Vec::new(alloc);
-    expect_ok(rt, print_entry(&Entry { who, call, answer }, &mut out));
-    expect_eq(rt, out.as_slice(), line.as_bytes());
+    expect_line(rt, alloc, &Entry { who, call, answer }, line);
     script.after(part, at, answer);
 }

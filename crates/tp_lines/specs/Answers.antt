@@ -1,5 +1,6 @@
 -- The rows of answers, looks and full, and the lines of entries.
 use Rattle.std.specs.Prelude.{◌≡◌, ℕ, true, false, List, [], ◌∷◌, ◌++◌, codes}
+use Rattle.line_grammar.specs.Language.{AnyOf}
 use Rattle.tp_base.specs.declared.answers.Answer.{Answer}
 use Rattle.tp_base.specs.declared.answers.Answer.TheVariants as answer
 use Rattle.tp_base.specs.declared.answers.Entry.{Entry}
@@ -93,12 +94,6 @@ row_of_look seen = (word.Look, parts_of (row_of_state seen))
 abbrev pub row_of_full : ℕ → ℕ → Word × List Part
 row_of_full room cost = (word.Full, part.Large room ∷ part.Large cost ∷ [])
 
--- the word and the parts of what a call came to
-abbrev pub row_of_outcome : Outcome → Word × List Part
-row_of_outcome (outcome.Done given) = row_of_answer given
-row_of_outcome (outcome.Look seen) = row_of_look seen
-row_of_outcome (outcome.Full room cost) = row_of_full room cost
-
 abbrev pub text_of_answer : Answer → List ℕ
 text_of_answer given = row_text (row_of_answer given)
 
@@ -136,3 +131,6 @@ pub record IsEntryLine (entry : Entry) (text : List ℕ) : Type 0 where
 
 abbrev pub EntryLines : Entry → List ℕ → Type 0
 EntryLines entry text = IsEntryLine entry text
+
+abbrev pub IsEntry : List ℕ → Type 0
+IsEntry = AnyOf EntryLines

@@ -1,5 +1,6 @@
 -- The rows of calls, and the lines of calls.
 use Rattle.std.specs.Prelude.{◌≡◌, ℕ, ◌+◌, ◌≤◌, List, [], ◌∷◌, ◌++◌, Option, Some, None}
+use Rattle.line_grammar.specs.Language.{AnyOf}
 use Rattle.tp_base.specs.declared.calls.Call.{Call}
 use Rattle.tp_base.specs.declared.calls.Call.TheVariants as call
 use Rattle.tp_base.specs.declared.calls.Environ.{Environ}
@@ -79,6 +80,9 @@ pub record IsCallLine (who : Who) (made : Call) (text : List ℕ) : Type 0 where
 
 abbrev pub CallLines : (Who × Call) → List ℕ → Type 0
 CallLines (who, made) text = IsCallLine who made text
+
+abbrev pub IsLine : List ℕ → Type 0
+IsLine = AnyOf CallLines
 
 -- the texts of calls behind their actor
 abbrev pub CallTexts : Call → List ℕ → Type 0

@@ -1,7 +1,7 @@
-//! Printing of entries, answers, looks and full.
+//! Printing of what calls come to, and writing of entries.
 
 ghost use Rattle.std.specs.Prelude.{◌≡◌, ◌+◌, ◌≤◌, ◌++◌, ◌∷◌, [], ℕ, List, IfOk, OnErr, OnOk, length, take};
-ghost use Rattle.tp_lines.specs.Answers.{line_of_entry, text_of_answer, text_of_full, text_of_look, text_of_outcome};
+ghost use Rattle.tp_lines.specs.Answers.{line_of_entry, text_of_full, text_of_look, text_of_outcome};
 ghost use Rattle.tp_lines.specs.Writing.{IsPut};
 
 use crate::answers::put_answer;
@@ -11,7 +11,7 @@ use crate::line::parts;
 use crate::words::Word;
 use std::alloc::{AllocError, Global};
 use std::marker::Model;
-use tp_base::answers::{Answer, Entry, Look, Outcome};
+use tp_base::answers::{Answer, Look, Outcome};
 use tp_base::calls::Call;
 use tp_base::ids::Who;
 
@@ -103,55 +103,6 @@ pub fn print_outcome(outcome: &Outcome, out: &mut Vec<u8>) -> Result<(), AllocEr
     let at = out.len();
     out.resize(at + ROOM, 0)?;
     let end = put_outcome(outcome, out, at);
-    out.truncate(end);
-    Ok(())
-}
-
-/// Appends the text of an answer. On want of memory nothing is appended.
-pub fn print_answer(answer: &Answer, out: &mut Vec<u8>) -> Result<(), AllocError>
-    ensures ok { OnOk result (out.new.items ≡ out.old.items ++ text_of_answer answer.now) }
-    ensures err { OnErr result (out.new.items ≡ out.old.items) }
-{
-    let at = out.len();
-    out.resize(at + ROOM, 0)?;
-    let end = put_answer(answer, out, at);
-    out.truncate(end);
-    Ok(())
-}
-
-/// Appends the text of a look. On want of memory nothing is appended.
-pub fn print_look(look: &Look, out: &mut Vec<u8>) -> Result<(), AllocError>
-    ensures ok { OnOk result (out.new.items ≡ out.old.items ++ text_of_look look.now) }
-    ensures err { OnErr result (out.new.items ≡ out.old.items) }
-{
-    let at = out.len();
-    out.resize(at + ROOM, 0)?;
-    let end = put_look(look, out, at);
-    out.truncate(end);
-    Ok(())
-}
-
-/// Appends what stands for a history that is full: how many entries it has room for, and how many the
-/// call costs. On want of memory nothing is appended.
-pub fn print_full(room: u64, cost: u64, out: &mut Vec<u8>) -> Result<(), AllocError>
-    ensures ok { OnOk result (out.new.items ≡ out.old.items ++ text_of_full room cost) }
-    ensures err { OnErr result (out.new.items ≡ out.old.items) }
-{
-    let at = out.len();
-    out.resize(at + ROOM, 0)?;
-    let end = put_full(room, cost, out, at);
-    out.truncate(end);
-    Ok(())
-}
-
-/// Appends the line of an entry, without its line feed. On want of memory nothing is appended.
-pub fn print_entry(entry: &Entry, out: &mut Vec<u8>) -> Result<(), AllocError>
-    ensures ok { OnOk result (out.new.items ≡ out.old.items ++ line_of_entry entry.now) }
-    ensures err { OnErr result (out.new.items ≡ out.old.items) }
-{
-    let at = out.len();
-    out.resize(at + ROOM, 0)?;
-    let end = put_entry(entry.who, &entry.call, &entry.answer, out, at);
     out.truncate(end);
     Ok(())
 }

@@ -13,8 +13,7 @@ use Rattle.tp_base.specs.declared.calls.Call.{Call}
 use Rattle.tp_base.specs.declared.ids.Who.{Who}
 use Rattle.tp_base.specs.declared.ids.Who.TheVariants.{Client, Worker}
 use Rattle.tp_lines.specs.Answers.{text_of_outcome}
-use Rattle.tp_lines.specs.Calls.{CallLines, IsWhoInRange}
-use Rattle.tp_lines.specs.Faults.{IsLine}
+use Rattle.tp_lines.specs.Calls.{CallLines, IsLine, IsWhoInRange}
 use Rattle.tp_model.specs.History.{play}
 use Rattle.tp_report.specs.Playing.{IsPlayed, IsPlayedOf, IsPlayedTo, IsReadTo}
 use Rattle.tp_report.specs.declared.playing.MachineSize.{MachineSize}

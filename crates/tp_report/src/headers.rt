@@ -6,7 +6,7 @@ ghost use Rattle.tp_report.specs.Histories.{HeaderLines};
 ghost use Rattle.tp_report.specs.Readings.{Keyed, Sizes};
 
 use line_grammar::numbers::read_prefixed;
-use line_grammar::words::read_word;
+use line_grammar::words::read_bytes;
 use recorded::program_limits;
 use tp_base::limits::Limits;
 
@@ -39,7 +39,7 @@ impl Header {
 pub fn read_header(text: &[u8]) -> Result<(Header, usize), usize>
     ensures { IsRead HeaderLines text.now result }
 {
-    match read_keyed("history 1 clients", text, 0, 16) {
+    match read_keyed(b"history 1 clients", text, 0, 16) {
         Err(place) => Err(place),
         Ok((clients, size)) => {
             let (_, rest) = text.split_at(size);
@@ -62,11 +62,11 @@ pub fn read_header(text: &[u8]) -> Result<(Header, usize), usize>
 fn read_sizes(text: &[u8]) -> Result<((u64, u64), usize), usize>
     ensures { IsRead Sizes text.now result }
 {
-    match read_keyed(" workers", text, 1, 64) {
+    match read_keyed(b" workers", text, 1, 64) {
         Err(place) => Err(place),
         Ok((workers, size)) => {
             let (_, rest) = text.split_at(size);
-            match read_keyed(" events", rest, 16, 131_072) {
+            match read_keyed(b" events", rest, 16, 131_072) {
                 Err(place) => Err(size + place),
                 Ok((events, more)) => Ok(((workers, events), size + more)),
             }
@@ -75,12 +75,12 @@ fn read_sizes(text: &[u8]) -> Result<((u64, u64), usize), usize>
 }
 
 // Reads a word, a space and a number.
-fn read_keyed(word: &str, text: &[u8], least: u64, most: u64) -> Result<(u64, usize), usize>
+fn read_keyed(word: &[u8], text: &[u8], least: u64, most: u64) -> Result<(u64, usize), usize>
     requires least_most { least ≤ most }
     requires least_low { 1 < least → (least ≤ 19) × (199 ≤ most) }
     ensures { IsRead (Keyed word.now least most) text.now result }
 {
-    match read_word(0_u8, word, text) {
+    match read_bytes(0_u8, word, text) {
         Err(place) => Err(place),
         Ok((_, size)) => {
             let (_, rest) = text.split_at(size);

@@ -10,7 +10,7 @@ ghost use Rattle.tp_report.specs.Readings.{Ended, IsEndRead, IsNext, read_as};
 
 use crate::headers::{Header, read_header};
 use frequent_lines::{read_good_call, read_good_entry, read_rare_call, read_rare_entry};
-use line_grammar::words::{behind, read_word};
+use line_grammar::words::{behind, read_bytes};
 use std::alloc::{AllocError, Global};
 use tp_base::answers::Entry;
 use tp_base::calls::Call;
@@ -117,7 +117,7 @@ fn read_end_line(alloc: Global, text: &[u8], len: u32) -> Result<Option<usize>, 
 {
     let line = end_text(alloc, len)?;
     let none: Option<Entry> = None;
-    match read_word(none, line.as_str(), text) {
+    match read_bytes(none, line.as_bytes(), text) {
         Ok(_) => Ok(None),
         Err(place) => Ok(Some(place)),
     }

@@ -5,7 +5,7 @@ use Rattle.script_generator.specs.Scripts.{generated}
 use Rattle.tp_base.specs.declared.calls.Call.{Call}
 use Rattle.tp_base.specs.declared.ids.Who.{Who}
 use Rattle.tp_edge.specs.Taken.{AreAll}
-use Rattle.tp_lines.specs.Faults.{IsLine}
+use Rattle.tp_lines.specs.Calls.{IsLine}
 use Rattle.tp_run.specs.declared.command.Command.{Command}
 use Rattle.tp_run.specs.declared.command.Command.TheVariants.{Trace, Check, Gen, Run, Big}
 use Rattle.tp_run.specs.declared.played.Layout.{Layout}

@@ -1,7 +1,7 @@
 use Rattle.std.proofs.Common.{◌≡◌, ◌+◌, ◌<◌, length, arith, refl, subst, sym, ◌∙◌}
 use Rattle.std.proofs.lemmas.Bool.{eqb-false, eqb-true}
 use Rattle.line_grammar.specs.Traces.{IsTraceFault}
-use Rattle.tp_lines.specs.Faults.{IsLine}
+use Rattle.tp_lines.specs.Calls.{IsLine}
 use Rattle.tp_report.specs.Faults.{IsPlace}
 use Rattle.tp_report.specs.Playing.{IsPlayedOf, IsPlayedTo, size_of}
 use Rattle.tp_report.proofs.Traced.{played_none, played_few, played_next, played_fault, played_no, played_all, played_only}

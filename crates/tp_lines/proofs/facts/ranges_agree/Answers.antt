@@ -1,5 +1,5 @@
 use Rattle.tp_lines.proofs.Agree.{fits_range, range_fits}
-use Rattle.tp_lines.proofs.parse.ranges_agree.Goals as goal
+use Rattle.tp_lines.proofs.facts.ranges_agree.Goals as goal
 
 pub returns-clause-fits : goal.returns-clause-fits
 returns-clause-fits c = λ made h. fits_range made h

@@ -1,5 +1,5 @@
 use Rattle.tp_lines.proofs.Feeds.{entry_feedless, line_feedless}
-use Rattle.tp_lines.proofs.parse.lines_hold_no_feed.Goals as goal
+use Rattle.tp_lines.proofs.facts.lines_hold_no_feed.Goals as goal
 
 pub returns-clause-calls : goal.returns-clause-calls
 returns-clause-calls c = λ text line. line_feedless line.0 text line.1
