@@ -1,17 +1,9 @@
 -- Readings of a whole text, behind a first element, and of other names for the values.
 use Rattle.std.proofs.Common.{◌≡◌, ℕ, suc, ◌+◌, ◌<◌, List, [], ◌∷◌, ◌++◌, length, take, drop, refl, sym, ap, ◌∙◌, subst, arith, length-drop}
-use Rattle.std.proofs.lemmas.List.{append-nil, append_assoc, take-append-drop, take_all}
+use Rattle.std.proofs.lemmas.List.{append-nil, append_assoc, take-append-drop}
 use Rattle.std.specs.Prelude.{Result, Ok, Err}
-use Rattle.line_grammar.specs.Language.{Begins, Stops, AnyOf, IsReadTo, IsStuck, IsRead, IsFault, IsWhole}
+use Rattle.line_grammar.specs.Language.{Begins, Stops, AnyOf, IsReadTo, IsStuck, IsRead, IsFault}
 use Rattle.line_grammar.specs.Parts.{Led, Opens, IsPart, IsTail}
-
--- a text that is read to its end is that value's alone
-pub whole_text : {V A : Type 0} (W : V → List A → Type 0) → ((v w : V) (text : List A) → W v text → W w text → v ≡ w)
-    → (text : List A) (v : V) (n : ℕ) → IsReadTo W text v n → n ≡ length text → IsWhole W text v
-whole_text W unique text v n read e =
-    let all : take n text ≡ text = take_all n text (omega arith) in
-    let here : W v text = subst (λ l. W v l) all read.text_of in
-    record { text_of = here; only = λ other q. unique other v text q here }
 
 stops_inside : {A : Type 0} (L : List A → Type 0) (front rest : List A) → Stops L front rest → 0 < length rest → L (front ++ rest) → ⊥
 stops_inside L front [] stops long l = let no_such : ⊥ = omega arith in no_such

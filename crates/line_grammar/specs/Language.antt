@@ -50,8 +50,3 @@ pub record IsFront {V A : Type 0} (W : V → List A → Type 0) (text : List A) 
 abbrev pub IsRead : {V A : Type 0} → (V → List A → Type 0) → List A → Result (V × ℕ) ℕ → Type 0
 IsRead W text (Ok (value, size)) = IsReadTo W text value size
 IsRead W text (Err place) = IsStuck W text place
-
--- What a reader finds in a text that it reads to its end: the one value whose text it is, or its fault.
-pub record IsWhole {V A : Type 0} (W : V → List A → Type 0) (text : List A) (value : V) : Type 0 where
-  pub text_of : W value text
-  pub only : (other : V) → W other text → other ≡ value

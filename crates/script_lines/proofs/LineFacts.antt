@@ -16,7 +16,7 @@ use Rattle.script_lines.specs.Lines.{form_of, may_end}
 use Rattle.script_lines.specs.Readings.{Fails, Goes, IsLineRead, Steps, StepsBy, Trail, first_trail, moved}
 use Rattle.script_lines.specs.Texts.{Spot}
 use Rattle.script_lines.specs.Tokens.{FitsForm, IsDueToken}
-use Rattle.script_lines.proofs.TokenFacts.{due_apart}
+use Rattle.tp_lines.proofs.DueFacts.{due_apart}
 
 -- numbers of a form are of 64 bits
 abbrev IsBounded : Form → Type 0

@@ -22,10 +22,6 @@ first_line (byte ∷ line) rest lacking opened some = by (nat_eq byte 10) lackin
     by true h more = let no_such : ⊥ = cc in absurd no_such
     by false h more = behind line rest (more h)
 
--- a space, and the words behind it
-pub space_first : (column : ℕ) (bytes : List ℕ) → words_from column (32 ∷ bytes) ≡ words_from (column + 1) bytes
-space_first column bytes = refl
-
 ended : (rest : List ℕ) → Opens 32 rest → ends_word rest ≡ true
 ended [] opened = refl
 ended (byte ∷ rest) opened = subst (λ b. nat_eq b 32 ≡ true) (sym opened) refl

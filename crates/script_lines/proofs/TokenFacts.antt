@@ -1,8 +1,8 @@
 -- What a word says in its field.
-use Rattle.std.proofs.Common.{◌≡◌, ℕ, ℤ, ◌<◌, ◌^◌, List, Option, Some, None, MatchOption, codes, sym, arith}
+use Rattle.std.proofs.Common.{◌≡◌, ℕ, ◌<◌, ◌^◌, List, Option, Some, None, MatchOption, codes, sym, arith}
 use Rattle.line_grammar.specs.Language.{AnyOf}
 use Rattle.line_grammar.specs.Numbers.{Numbers, Signed}
-use Rattle.line_grammar.proofs.NumberFacts.{numbers_part, signed_first}
+use Rattle.line_grammar.proofs.NumberFacts.{numbers_part}
 use Rattle.script_lines.specs.declared.line.Token.{Token}
 use Rattle.script_lines.specs.Tokens.{IsDueToken, IsNumberToken}
 
@@ -18,9 +18,6 @@ one_number least most v w text bound a b =
 -- a text that is no number to `most` is none from `least` on
 pub no_number : (least most : ℕ) (text : List ℕ) → (AnyOf (Numbers 0 most) text → ⊥) → (said : Token) → IsNumberToken least most text said → ⊥
 no_number least most text none said (n, e, a) = none (n, record { at_least = omega arith; at_most = a.at_most; split = a.split })
-
-pub due_apart : (z : ℤ) → Signed z (codes "none") → ⊥
-due_apart z a = omega (arith, signed_first z a.fits 110 (codes "one") (sym a.split))
 
 -- neither `none` nor a number
 pub no_due : (text : List ℕ) → (text ≡ codes "none" → ⊥) → (AnyOf Signed text → ⊥) → (said : Token) → IsDueToken text said → ⊥

@@ -3,7 +3,7 @@ use Rattle.std.proofs.Common.{ℕ, ◌*◌, ◌<◌, ◌≤◌, ◌^◌, List, [
 use Rattle.std.proofs.lemmas.Fmt.{length-decimal-le}
 use Rattle.std.proofs.lemmas.List.{length-append, length-take-le}
 use Rattle.std.specs.Prelude.{decimal}
-use Rattle.line_grammar.specs.Language.{IsReadTo, IsStuck}
+use Rattle.line_grammar.specs.Language.{IsStuck}
 use Rattle.tp_base.specs.declared.calls.Call.{Call}
 use Rattle.tp_base.specs.declared.ids.Who.{Who}
 use Rattle.tp_base.specs.declared.ids.Who.TheVariants.{Client, Worker}
@@ -25,7 +25,7 @@ use Rattle.tp_lines.proofs.RowFacts.{room_after}
 use Rattle.tp_lines.proofs.WhoFacts.{line_back}
 use Rattle.tp_lines.proofs.WordRules.{short}
 
-decimal_short : (n : ℕ) → n < 2 ^ 64 → length (decimal n) ≤ 20
+pub decimal_short : (n : ℕ) → n < 2 ^ 64 → length (decimal n) ≤ 20
 decimal_short n bound = length-decimal-le 20 n (omega arith) (omega arith) bound
 
 number_short : (f : Field) (n : ℕ) → n < 2 ^ 64 → length (text_of_part (number_part f n)) ≤ 30
@@ -63,12 +63,8 @@ line_short (who, c) t a =
     let pair = line_back who c t a in
     omega (arith, ap length pair.split, length-append pair.front pair.back, ap length pair.first.split, who_short who pair.first.in_range, row_short field.Call row_of c pair.back pair.second)
 
--- nor is what a reader reads
-module _ {V : Type 0} (W : V → List ℕ → Type 0) (bound : ℕ) (short : (v : V) (t : List ℕ) → W v t → length t ≤ bound) where
-  pub read_short : (text : List ℕ) (v : V) (n : ℕ) → IsReadTo W text v n → n ≤ bound
-  read_short text v n read = omega (arith, short v (take n text) read.text_of, length-take-le n text read.within)
-
-  pub stuck_short : (text : List ℕ) (k : ℕ) → IsStuck W text k → k ≤ bound
-  stuck_short text k stuck =
-      let more = stuck.reaches.begins in
-      omega (arith, short more.1.0 (take k text ++ more.0) more.1.1, length-append (take k text) more.0, length-take-le k text stuck.within)
+-- nor is what goes along with a text
+pub stuck_short : {V : Type 0} (W : V → List ℕ → Type 0) (bound : ℕ) → ((v : V) (t : List ℕ) → W v t → length t ≤ bound) → (text : List ℕ) (k : ℕ) → IsStuck W text k → k ≤ bound
+stuck_short W bound short text k stuck =
+    let more = stuck.reaches.begins in
+    omega (arith, short more.1.0 (take k text ++ more.0) more.1.1, length-append (take k text) more.0, length-take-le k text stuck.within)

@@ -26,8 +26,8 @@ pub due_lacks : (separator : ℕ) → separator < 45 → (due : Option ℤ) → 
 due_lacks separator low None h = solid_lacks separator low (codes "none") refl
 due_lacks separator low (Some z) h = signed_lacks separator low z h
 
-no_number : (z : ℤ) → Signed z (codes "none") → ⊥
-no_number z a = omega (arith, signed_first z a.fits 110 (codes "one") (sym a.split))
+pub due_apart : (z : ℤ) → Signed z (codes "none") → ⊥
+due_apart z a = omega (arith, signed_first z a.fits 110 (codes "one") (sym a.split))
 
 pub dues_part : IsPart 32 DueTexts
-dues_part = optional_part (codes "none") Signed 32 refl signed_unique (λ z t a. subst (λ l. IsTrue (lacks 32 l)) (sym a.split) (signed_lacks 32 (omega arith) z a.fits)) no_number
+dues_part = optional_part (codes "none") Signed 32 refl signed_unique (λ z t a. subst (λ l. IsTrue (lacks 32 l)) (sym a.split) (signed_lacks 32 (omega arith) z a.fits)) due_apart

@@ -3,7 +3,7 @@ mod AnswerFacts
 pub mod Bounds
 mod CallFacts
 mod Choices
-mod DueFacts
+pub mod DueFacts
 pub mod EntryFacts
 mod Examples
 pub mod Feeds
@@ -15,4 +15,3 @@ mod RowFacts
 mod Tables
 pub mod WhoFacts
 pub mod WordRules
-mod WriteFacts

@@ -19,13 +19,10 @@ use Rattle.tp_base.specs.declared.answers.SlotWord.{SlotWord}
 use Rattle.tp_base.specs.declared.answers.SlotWord.TheVariants.{Unasked, Performed, NotOwner, OverMaximum}
 use Rattle.tp_base.specs.declared.answers.TakeResult.{TakeResult}
 use Rattle.tp_base.specs.declared.answers.TakeResult.TheVariants as taken
+use Rattle.tp_model.proofs.Refusals.{both}
 
 pub false_true : false ≡ true → ⊥
 false_true e = cc
-
-both : (a b : Bool) → (a && b) ≡ true → (a ≡ true) × (b ≡ true)
-both true b e = (refl, e)
-both false b e = absurd cc
 
 conjoined : (a b : Bool) → a ≡ true → b ≡ true → (a && b) ≡ true
 conjoined a b p q = ap (λ x. x && b) p ∙ q

@@ -16,6 +16,12 @@ use Rattle.tp_report.specs.Verdicts.{IsVerdict, IsWrongAt, outcome_behind}
 comes_to : World → ℕ → ℕ → Entry → Outcome
 comes_to w capacity entries entry = outcome_of (step w (room capacity w entries) entry.who entry.call)
 
+first : (x y : Entry) (xs ys : List Entry) → x ∷ xs ≡ y ∷ ys → x ≡ y
+first x y xs ys h = cc
+
+none : (n : ℕ) → n + 0 ≡ n
+none n = omega arith
+
 -- two places of a history, both with right answers before them and a wrong one there, are the same
 same_place : (w : World) (capacity entries : ℕ) (before other : List Entry) (a b : Entry) (behind rest : List Entry) → before ++ a ∷ behind ≡ other ++ b ∷ rest
     → IsLegalFrom w capacity entries before → IsLegalFrom w capacity entries other
@@ -23,25 +29,10 @@ same_place : (w : World) (capacity entries : ℕ) (before other : List Entry) (a
     → (before ≡ other) × (a ≡ b)
 unfolding comes_to
 same_place w capacity entries [] [] a b behind rest e right also wrong too = (refl, first a b behind rest e)
-  where
-    first : (x y : Entry) (xs ys : List Entry) → x ∷ xs ≡ y ∷ ys → x ≡ y
-    first x y xs ys h = cc
 same_place w capacity entries [] (o ∷ os) a b behind rest e right also wrong too =
     absurd (wrong (subst (λ x. comes_to w capacity (entries + 0) x ≡ Done x.answer) (sym (first a o behind (os ++ b ∷ rest) e)) (ap (λ n. comes_to w capacity n o) (none entries) ∙ also.0)))
-  where
-    first : (x y : Entry) (xs ys : List Entry) → x ∷ xs ≡ y ∷ ys → x ≡ y
-    first x y xs ys h = cc
-
-    none : (n : ℕ) → n + 0 ≡ n
-    none n = omega arith
 same_place w capacity entries (p ∷ ps) [] a b behind rest e right also wrong too =
     absurd (too (subst (λ x. comes_to w capacity (entries + 0) x ≡ Done x.answer) (first p b (ps ++ a ∷ behind) rest e) (ap (λ n. comes_to w capacity n p) (none entries) ∙ right.0)))
-  where
-    first : (x y : Entry) (xs ys : List Entry) → x ∷ xs ≡ y ∷ ys → x ≡ y
-    first x y xs ys h = cc
-
-    none : (n : ℕ) → n + 0 ≡ n
-    none n = omega arith
 same_place w capacity entries (p ∷ ps) (o ∷ os) a b behind rest e right also wrong too =
     let heads : p ≡ o = first p o (ps ++ a ∷ behind) (os ++ b ∷ rest) e in
     let tails : ps ++ a ∷ behind ≡ os ++ b ∷ rest = others p o (ps ++ a ∷ behind) (os ++ b ∷ rest) e in
@@ -51,9 +42,6 @@ same_place w capacity entries (p ∷ ps) (o ∷ os) a b behind rest e right also
     (λ h. too (ap₂ (λ x n. comes_to (after_from (led_to w x) os) capacity n b) (sym heads) (more entries (length os)) ∙ h)) in
     (ap₂ (λ x xs. x ∷ xs) heads there.0, there.1)
   where
-    first : (x y : Entry) (xs ys : List Entry) → x ∷ xs ≡ y ∷ ys → x ≡ y
-    first x y xs ys h = cc
-
     others : (x y : Entry) (xs ys : List Entry) → x ∷ xs ≡ y ∷ ys → xs ≡ ys
     others x y xs ys h = cc
 

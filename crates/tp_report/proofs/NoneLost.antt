@@ -1,5 +1,5 @@
 -- What the entries of a legal history tell of its callbacks, and the world after it.
-use Rattle.std.proofs.Common.{◌≡◌, ℕ, suc, ◌+◌, Bool, cond, List, [], ◌∷◌, length, Option, Some, None, refl, ap, ◌∙◌, arith, filter}
+use Rattle.std.proofs.Common.{◌≡◌, ℕ, suc, ◌+◌, cond, List, [], ◌∷◌, length, Option, Some, None, refl, ap, ◌∙◌, arith, filter}
 use Rattle.std.specs.Prelude.{is_some}
 use Rattle.std.specs.List.{cons_option}
 use Rattle.std.proofs.lemmas.List.FromFn.{length-range_with_len}
@@ -16,6 +16,7 @@ use Rattle.tp_model.specs.World.{World, opening}
 use Rattle.tp_model.proofs.Callbacks.{rising_filter}
 use Rattle.tp_model.proofs.Entries.{IsKept, entry_leads, kept_to_end, next_number_in}
 use Rattle.tp_model.proofs.Laws.{are_once}
+use Rattle.tp_model.proofs.Lists.{filter_agree}
 use Rattle.tp_model.proofs.Once.{AgreesAfter, agrees_on, is_cancelled as is_dropped}
 use Rattle.tp_model.proofs.Sound.{opening_sound}
 use Rattle.tp_report.specs.Summaries.{IsNoneLost, is_cancelled, totals_of}
@@ -45,10 +46,6 @@ told_length : (entries : List Entry) → length (numbers_taken entries) ≡ leng
 told_length [] = refl
 told_length (entry ∷ entries) = told_more (taken_by entry.answer) (numbers_taken entries) entry (filter is_taken entries) (told_length entries)
 
-filter_same : {X : Type 0} (p q : X → Bool) → ((x : X) → p x ≡ q x) → (xs : List X) → filter p xs ≡ filter q xs
-filter_same p q same [] = refl
-filter_same {X} p q same (x ∷ xs) = ap (λ b. cond b (x ∷ filter p xs) (filter p xs)) (same x) ∙ ap (λ l. cond (q x) (x ∷ l) l) (filter_same p q same xs)
-
 same_cancelled : (s : Status) → is_dropped s ≡ is_cancelled s
 same_cancelled Cancelled = refl
 same_cancelled _ = refl
@@ -63,7 +60,7 @@ module _ (limits : Limits) (capacity : ℕ) (history : List Entry) (legal : IsLe
   pub none_lost : IsNoneLost (totals_of limits history)
   none_lost =
       let cancelled : count_cancelled history + length (numbers_cancelled history) ≡ length (filter (λ (c : CallbackRow). is_cancelled c.status) (after limits history).callbacks)
-      = at_end.agrees.as_many_cancelled ∙ ap length (filter_same (λ (c : CallbackRow). is_dropped c.status) (λ (c : CallbackRow). is_cancelled c.status) (λ c. same_cancelled c.status) (after limits history).callbacks) in
+      = at_end.agrees.as_many_cancelled ∙ ap length (filter_agree (λ (c : CallbackRow). is_dropped c.status) (λ (c : CallbackRow). is_cancelled c.status) (λ c. same_cancelled c.status) (after limits history).callbacks) in
       omega (arith, made_counted, (are_once limits capacity history legal).none_lost, told_length history, cancelled)
 
   pub left_rise : AreRising 0 (left (after limits history))

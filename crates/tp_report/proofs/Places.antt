@@ -2,7 +2,6 @@
 use Rattle.std.proofs.Common.{◌≡◌, ℕ, ◌<◌, ◌≤◌, ◌^◌, List, [], ◌∷◌, ◌++◌, length, take, drop, get_or, refl, sym, ap, ◌∙◌, subst, arith, ◌⊎◌, inl, inr, max, Bool, true, false}
 use Rattle.std.specs.Prelude.{codes, decimal, Option, None, Some, Err, nat_lt, if◌then◌else◌}
 use Rattle.std.proofs.lemmas.Bool.{ltb-true, ltb-false}
-use Rattle.std.proofs.lemmas.Fmt.{length-decimal-le}
 use Rattle.std.proofs.lemmas.List.{append_assoc, append-nil, length-append}
 use Rattle.line_grammar.specs.Language.{AnyOf, Stops, IsRead, IsReadTo, IsStuck}
 use Rattle.line_grammar.specs.Parts.{IsPart}
@@ -17,7 +16,7 @@ use Rattle.tp_lines.specs.Answers.{EntryLines, IsEntryLine, text_of_answer}
 use Rattle.tp_lines.specs.Calls.{CallLines, line_of_call, row_of}
 use Rattle.tp_lines.specs.Parts.{row_text}
 use Rattle.tp_lines.specs.Words.{text_of_who}
-use Rattle.tp_lines.proofs.Bounds.{stuck_short}
+use Rattle.tp_lines.proofs.Bounds.{decimal_short, stuck_short}
 use Rattle.tp_lines.proofs.EntryFacts.{entries_part, entry_short}
 use Rattle.tp_lines.proofs.Feeds.{line_feedless}
 use Rattle.tp_lines.proofs.WhoFacts.{lines_part}
@@ -146,9 +145,6 @@ module _ (events len : ℕ) where
       (further_is text i j (nat_lt i j) refl (either_read Another (Ends len) text (Err i) (Err j) another ends))
 
 -- no line of a history is long
-decimal_short : (n : ℕ) → n < 2 ^ 64 → length (decimal n) ≤ 20
-decimal_short n bound = length-decimal-le 20 n (omega arith) (omega arith) bound
-
 header_short : (header : Header) (line : List ℕ) → HeaderLines header line → length line ≤ 700
 header_short header line h =
     let c = decimal header.clients in let w = decimal header.workers in let e = decimal header.events in

@@ -1,14 +1,15 @@
 -- What is counted while the entries of a history come.
-use Rattle.std.proofs.Common.{◌≡◌, ℕ, ◌+◌, ◌*◌, ◌<◌, ◌≤◌, Bool, true, false, cond, List, [], ◌∷◌, ◌++◌, length, refl, sym, ap, ap₂, ◌∙◌, arith, filter, length-append}
+use Rattle.std.proofs.Common.{◌≡◌, ℕ, ◌+◌, ◌≤◌, Bool, true, false, cond, List, [], ◌∷◌, ◌++◌, length, sym, ap, ◌∙◌, arith, filter, length-append}
 use Rattle.std.specs.Prelude.{◌||◌}
 use Rattle.std.specs.List.{list_any, range_with_len}
 use Rattle.std.proofs.lemmas.Grind.{flat_map-append}
 use Rattle.std.proofs.lemmas.List.{append-nil}
-use Rattle.std.proofs.lemmas.List.Elements.{filter-append}
 use Rattle.std.proofs.lemmas.List.Folds.{list_any-append}
 use Rattle.std.proofs.lemmas.List.FromFn.{length-range_with_len}
 use Rattle.tp_base.specs.declared.answers.Entry.{Entry}
 use Rattle.tp_model.specs.Laws.Entries.{is_taken, made_by, numbers_made}
+use Rattle.tp_model.proofs.Arming.{count_last}
+use Rattle.tp_model.proofs.Refusals.{or_false}
 use Rattle.tp_report.specs.Counting.{AreCounts, IsCounted, one_if}
 use Rattle.tp_report.specs.EarlyEnds.{has_early_end, is_early_end}
 use Rattle.tp_report.specs.Summaries.{is_refused}
@@ -27,20 +28,8 @@ filter_few p (x ∷ xs) =
       | false ↦ omega (arith, filter_few p xs)
     ]
 
-length-filter_last : {X : Type 0} (p : X → Bool) (xs : List X) (x : X) → length (filter p (xs ++ x ∷ [])) ≡ length (filter p xs) + one_if (p x)
-length-filter_last p xs x =
-    ap length (filter-append p xs (x ∷ []))
-    ∙ elim (p x) as (λ b. length (filter p xs ++ cond b (x ∷ []) []) ≡ length (filter p xs) + one_if b) [
-      | true ↦ length-append (filter p xs) (x ∷ [])
-      | false ↦ length-append (filter p xs) []
-    ]
-
-or-false : (b : Bool) → (b || false) ≡ b
-or-false true = refl
-or-false false = refl
-
 list_any_last : {X : Type 0} (p : X → Bool) (xs : List X) (x : X) → list_any p (xs ++ x ∷ []) ≡ (list_any p xs || p x)
-list_any_last p xs x = list_any-append p xs (x ∷ []) ∙ ap (λ b. list_any p xs || b) (or-false (p x))
+list_any_last p xs x = list_any-append p xs (x ∷ []) ∙ ap (λ b. list_any p xs || b) (or_false (p x))
 
 module _ (entries : List Entry) (counts : Counts) (a : AreCounts entries counts) where
   pub few_taken : counts.taken ≤ length entries
@@ -59,8 +48,8 @@ module _ (entries : List Entry) (counts : Counts) (a : AreCounts entries counts)
       = λ which before after was is. is ∙ ap (λ b. b || is_early_end which entry) was ∙ sym (list_any_last (is_early_end which) entries entry) in
       record {
         made = omega (arith, counted.made, a.made, made);
-        taken = counted.taken ∙ ap (λ n. n + one_if (is_taken entry)) a.taken ∙ sym (length-filter_last is_taken entries entry);
-        refused = counted.refused ∙ ap (λ n. n + one_if (is_refused entry)) a.refused ∙ sym (length-filter_last is_refused entries entry);
+        taken = counted.taken ∙ ap (λ n. n + one_if (is_taken entry)) a.taken ∙ sym (count_last is_taken entries entry);
+        refused = counted.refused ∙ ap (λ n. n + one_if (is_refused entry)) a.refused ∙ sym (count_last is_refused entries entry);
         exhausted = ended early.Exhausted _ _ a.exhausted counted.exhausted;
         stalled = ended early.Stalled _ _ a.stalled counted.stalled;
         few = omega (arith, counted.few, a.few, longer);

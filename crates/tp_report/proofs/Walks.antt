@@ -1,5 +1,5 @@
 -- How the callbacks that are left are gone through, by rising number.
-use Rattle.std.proofs.Common.{◌≡◌, ℕ, suc, ◌+◌, ◌<◌, ◌≤◌, Bool, true, false, cond, List, [], ◌∷◌, ◌++◌, length, nat_lt, Some, None, refl, sym, ap, ◌∙◌, arith, find, append_assoc, length-append, subst}
+use Rattle.std.proofs.Common.{◌≡◌, ℕ, ◌+◌, ◌<◌, ◌≤◌, Bool, true, false, cond, List, [], ◌∷◌, ◌++◌, nat_lt, Some, None, refl, sym, ap, ◌∙◌, arith, find, append_assoc, subst}
 use Rattle.std.specs.Prelude.{map}
 use Rattle.std.proofs.lemmas.List.{append-nil}
 use Rattle.tp_base.specs.declared.ids.ObjectId.{ObjectId}
@@ -82,13 +82,6 @@ module _ (all shown : List Row) (number : ℕ) (w : IsWalked all shown number) w
             passed = find_behind (above row.0) shown (row ∷ []) (none_above number row.0 shown (omega (arith, below)) w.passed) ∙ ap (λ b. cond b (Some row) None) (lt_false row.0 row.0 (omega arith));
             rising = subst (λ (y : Row). AreRising y.0 xs) same r.1;
           }
-
-  pub walk_goes_on : (row : Row) → find (above number) all ≡ Some row → length shown < length all
-  walk_goes_on row found = of_rest w.rest w.split (sym found_in_rest ∙ found)
-    where
-      of_rest : (rest : List Row) → all ≡ shown ++ rest → find (above number) rest ≡ Some row → length shown < length all
-      of_rest [] e f = absurd cc
-      of_rest (x ∷ xs) e f = let sum : length all ≡ length shown + suc (length xs) = ap length e ∙ length-append shown (x ∷ xs) in omega (arith, sum)
 
   pub walk_ends : find (above number) all ≡ None → shown ≡ all
   walk_ends none = of_rest w.rest w.split w.rising (sym found_in_rest ∙ none)

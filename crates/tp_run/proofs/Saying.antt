@@ -1,7 +1,6 @@
 -- What is said by a list of words, from a place on.
-use Rattle.std.proofs.Common.{◌≡◌, ℕ, ◌≤◌, suc, List, [], ◌∷◌, length, drop, None, Some, refl, sym, ap, ◌∙◌, arith, length-drop}
+use Rattle.std.proofs.Common.{◌≡◌, ℕ, suc, List, [], ◌∷◌, drop, None, Some, refl, sym, ap, ◌∙◌}
 use Rattle.std.specs.Prelude.{option_and_then, slice_get}
-use Rattle.std.proofs.lemmas.List.{nil_from_length}
 use Rattle.std.proofs.lemmas.Option.{get_or_from_slice_get, slice_get_within}
 use Rattle.std.proofs.Math.Seq.{drop-cons}
 use Rattle.tp_run.specs.Commands.{command_of, command_said}
@@ -26,8 +25,3 @@ module _ (words : List (List ℕ)) (i : ℕ) (said : Said) (so_far : said_by (So
   said_refused word e refused =
       ap (λ s. option_and_then command_said s)
       (sym so_far ∙ said_at words i word said e ∙ ap (λ s. said_by s (drop (suc i) words)) refused ∙ said_none (drop (suc i) words))
-
-  pub said_all : length words ≤ i → command_of words ≡ command_said said
-  said_all all =
-      ap (λ s. option_and_then command_said s) (sym so_far)
-      ∙ ap (λ ws. option_and_then command_said (said_by (Some said) ws)) (nil_from_length (drop i words) (omega (arith, all, length-drop i words)))
