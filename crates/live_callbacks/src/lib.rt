@@ -46,7 +46,7 @@ mod lists;
 mod places;
 mod rows;
 
-use lists::{Lists, after_in, first_in, has_list, lent_behind, lines, row_behind};
+use lists::{Lists, after_in, first_in, has_list, lent_behind, lines};
 use rows::Rows;
 
 /// The callbacks that live.
@@ -132,14 +132,6 @@ impl LiveCallbacks {
         ensures { option_copied result ≡ find (λ c. c.number == number) self.now.rows }
     {
         self.rows.get(number)
-    }
-
-    /// The same, copied.
-    #[inline(always)]
-    pub fn find(&self, number: u64) -> Option<CallbackRow>
-        ensures { result ≡ find (λ c. c.number == number) self.now.rows }
-    {
-        self.rows.find(number)
     }
 
     /// The first callback whose number is above this one, or None where there is none.
@@ -264,11 +256,12 @@ impl LiveCallbacks {
         }
         let _known = self.rows.len();
         let place = first_in(&self.lists.lines, 3 * self.lists.pools + object.0);
-        row_behind(
+        lent_behind(
             &self.rows,
             lines(self.lists.pools, self.lists.objects),
             place,
         )
+        .copied()
     }
 
     /// Whether a callback of an object expects an operation or has it under way.

@@ -145,15 +145,6 @@ pub(crate) fn lent_behind(rows: &Rows, heads: u32, place: Option<u32>) -> Option
     }
 }
 
-// The same, copied.
-#[inline(always)]
-pub(crate) fn row_behind(rows: &Rows, heads: u32, place: Option<u32>) -> Option<CallbackRow>
-    requires { IfSome place (IsHeldAt heads rows.now.held) }
-    ensures { result ≡ row_behind_place heads rows.now.held place }
-{
-    lent_behind(rows, heads, place).copied()
-}
-
 impl Lists {
     // Empty lists, with the memory for so many keys.
     pub fn open(

@@ -260,12 +260,3 @@ pub(crate) fn lent_row(rows: &Slab<CallbackRow>, entry: Option<Entry>) -> Option
         None => None,
     }
 }
-
-// The same, copied.
-#[inline(always)]
-pub(crate) fn row_of(rows: &Slab<CallbackRow>, entry: Option<Entry>) -> Option<CallbackRow>
-    requires { IfSome entry (λ e. ContainsKey rows.now e.key) }
-    ensures { result ≡ option_map (λ e. row_at rows.now e.key) entry }
-{
-    lent_row(rows, entry).copied()
-}

@@ -13,7 +13,7 @@ ghost use Rattle.live_callbacks.specs.Held.{AreApart, rows_of};
 use crate::beside::place_beside;
 use crate::places::{
     Entry, entry_behind, entry_of, first_of_group_from, lent_row, make_place, most_entries,
-    place_behind, place_of, row_of,
+    place_behind, place_of,
 };
 use linked_lists::LinkedLists;
 use slab::Slab;
@@ -93,20 +93,12 @@ impl Rows {
         lent_row(&self.rows, entry_of(&self.entries, number))
     }
 
-    /// The same, copied.
-    #[inline(always)]
-    pub fn find(&self, number: u64) -> Option<CallbackRow>
-        ensures { result ≡ find (λ c. c.number == number) (rows_of self.now.held) }
-    {
-        self.get(number).copied()
-    }
-
     /// The first row whose number is above this one, or None where there is none.
     #[inline(always)]
     pub fn after(&self, number: u64) -> Option<CallbackRow>
         ensures { result ≡ find (λ c. nat_lt number c.number) (rows_of self.now.held) }
     {
-        row_of(&self.rows, entry_behind(&self.entries, number))
+        lent_row(&self.rows, entry_behind(&self.entries, number)).copied()
     }
 
     /// The key of the row of this number, or None where there is none.

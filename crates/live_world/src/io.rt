@@ -16,12 +16,10 @@ impl LiveWorld {
     pub fn issued(&self, callback: u64) -> Option<CallbackRow>
         ensures { result ≡ issued_of self.now.world callback }
     {
-        match self.callbacks.find(callback) {
-            Some(row) => match row.status {
-                Status::Issued => Some(row),
-                _ => None,
-            },
-            None => None,
+        let row = self.callbacks.get(callback)?;
+        match row.status {
+            Status::Issued => Some(*row),
+            _ => None,
         }
     }
 

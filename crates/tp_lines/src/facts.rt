@@ -23,17 +23,10 @@ pub fn ranges_agree()
     ensures in_range { (call : Call) → IsCallInRange call → FitsCall call }
 {}
 
-/// A text is the line of at most one call by one actor.
-pub fn one_call_a_line()
-    ensures { (one other : Who × Call) (text : List ℕ) → CallLines one text → CallLines other text → one ≡ other }
-{}
-
-/// A text is the line of at most one entry.
-pub fn one_entry_a_line()
-    ensures { (one other : Entry) (text : List ℕ) → EntryLines one text → EntryLines other text → one ≡ other }
-{}
-
-/// Two outcomes with one text are one outcome, where their numbers are in the ranges of the grammar.
-pub fn one_outcome_a_text()
-    ensures { (one other : Outcome) → FitsOutcome one → FitsOutcome other → text_of_outcome one ≡ text_of_outcome other → one ≡ other }
+/// A text is the line of at most one call by one actor, and of at most one entry. Two outcomes with one text are
+/// one outcome, where their numbers are in the ranges of the grammar.
+pub fn one_text_tells_one()
+    ensures call { (one other : Who × Call) (text : List ℕ) → CallLines one text → CallLines other text → one ≡ other }
+    ensures entry { (one other : Entry) (text : List ℕ) → EntryLines one text → EntryLines other text → one ≡ other }
+    ensures outcome { (one other : Outcome) → FitsOutcome one → FitsOutcome other → text_of_outcome one ≡ text_of_outcome other → one ≡ other }
 {}

@@ -11,7 +11,7 @@ use crate::line::parts;
 use crate::words::Word;
 use std::alloc::{AllocError, Global};
 use std::marker::Model;
-use tp_base::answers::{Answer, Look, Outcome};
+use tp_base::answers::{Answer, Entry, Look, Outcome};
 use tp_base::calls::Call;
 use tp_base::ids::Who;
 
@@ -103,6 +103,18 @@ pub fn print_outcome(outcome: &Outcome, out: &mut Vec<u8>) -> Result<(), AllocEr
     let at = out.len();
     out.resize(at + ROOM, 0)?;
     let end = put_outcome(outcome, out, at);
+    out.truncate(end);
+    Ok(())
+}
+
+/// Appends the line of an entry, without its line feed. On want of memory nothing is appended.
+pub fn print_entry(entry: &Entry, out: &mut Vec<u8>) -> Result<(), AllocError>
+    ensures ok { OnOk result (out.new.items ≡ out.old.items ++ line_of_entry entry.now) }
+    ensures err { OnErr result (out.new.items ≡ out.old.items) }
+{
+    let at = out.len();
+    out.resize(at + ROOM, 0)?;
+    let end = put_entry(entry.who, &entry.call, &entry.answer, out, at);
     out.truncate(end);
     Ok(())
 }

@@ -15,8 +15,8 @@ returns-then-object-self c =
     rw (← c.self.view_is)
     (sym (find_none (is_expected_of c.args.object.0) cs (no_object i.lists.pools i.lists.objects c.args.object.0 c.if-object-self.true (λ (x : CallbackRow). is_expected x.status) cs c.self.invariant.homes)))
 
-pub row_behind-requires : goal.row_behind-requires
-row_behind-requires c =
+pub lent_behind-requires : goal.lent_behind-requires
+lent_behind-requires c =
     let i = c.self.inside in
     let line = line_of i.lists.pools i.lists.objects in
     let list = 3 * i.lists.pools + c.args.object.0 in
@@ -30,7 +30,7 @@ returns c =
     let list = 3 * i.lists.pools + c.args.object.0 in
     let first = c.first_in-place.ensures ∙ first_is (lines i.lists.pools i.lists.objects) line list i.rows.held c.self.invariant.standing.by_line (omega (arith, c.if-object-self.false)) in
     rw (← c.self.view_is)
-    (c.row_behind.ensures
+    (c.copied.ensures ∙ c.lent_behind.ensures
     ∙ ap (λ heads. row_behind heads i.rows.held c.first_in-place.result) c.lines.ensures
     ∙ place_row (lines i.lists.pools i.lists.objects) i.rows.held c.len-known.ensures.apart (λ x. line x == list) c.first_in-place.result first
     ∙ find_same (λ x. line x == list) (is_expected_of c.args.object.0) (rows_of i.rows.held) (expected_agree i.lists.pools i.lists.objects c.args.object.0 c.if-object-self.false (rows_of i.rows.held) c.self.invariant.homes))
