@@ -14,6 +14,7 @@ play_runs() {
     input_again >"$room/script"
     settle_runs
     probe || return
+    [[ -z $keep ]] || { mkdir -p -- "$keep" && [[ -w $keep ]]; } 2>/dev/null || fail 4 "write fault: nothing can be written into $keep"
     trap 'interrupted=yes' INT
     for ((share = 1; share <= shares; share++)); do
         mkdir "$room/share-$share"
@@ -34,7 +35,6 @@ settle_runs() {
         shares=$(nproc)
         ((shares < runs)) || shares=$runs
     fi
-    [[ -z $keep ]] || { mkdir -p -- "$keep" && [[ -d $keep && -w $keep ]]; } 2>/dev/null || fail 4 "write fault: nothing can be written into $keep"
     awk '!/^ *(#|$)/ { found = 1; exit } END { exit !found }' "$room/script" || say 'the script is empty'
 }
 

@@ -256,10 +256,13 @@ rm -rf "$room"/tpool-runs-*
 interrupted() { timeout --preserve-status -s INT 2 "$tpool" runs "$server" 1000000 --threads 4; }
 try 'runs that are interrupted' 130 '~[1-9]* of 1000000 runs on 4 threads: *The shortest ones stand in*' '~tpool: 1000000 runs take about *' interrupted
 rm -rf "$room"/tpool-runs-*
-try 'nothing is kept where nothing was played' 2 '' '~tpool: bad line 3 column 1*' "$tpool" runs --threads 2 "$here/README.md" 5
+for words in '--threads 2' "--threads 2 --keep $room/tpool-runs-kept"; do
+    # shellcheck disable=SC2086
+    try "nothing is kept where nothing was played: $words" 2 '' '~tpool: bad line 3 column 1*' "$tpool" runs $words "$here/README.md" 5
+done
 no_folder() { ls -d "$room"/tpool-runs-* 2>/dev/null; }
 try 'and no folder is left' '~[12]' '' '' no_folder
-try 'a folder that can not be written' 4 '' $'tpool: write fault: nothing can be written into /proc/none\n' "$tpool" runs --keep /proc/none "$clock"
+try 'a folder that can not be written' 4 '' $'tpool: write fault: nothing can be written into /proc/none\n' "$seeded" runs --keep /proc/none "$clock"
 unset TMPDIR
 
 # --- The same by seeds
