@@ -1,6 +1,5 @@
 -- A seat keeps its number, whatever calls are made with it.
 use Rattle.std.specs.Prelude.{◌≡◌, List}
-use Rattle.std.proofs.Common.{absurd}
 use Rattle.tp_base.specs.declared.answers.Answer.TheVariants as answer
 use Rattle.tp_base.specs.declared.answers.Outcome.{Outcome}
 use Rattle.tp_base.specs.declared.answers.Outcome.TheVariants as outcome

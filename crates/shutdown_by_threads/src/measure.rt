@@ -20,11 +20,16 @@ use turn_lock::Seat;
 // Room for as many entries as there are calls.
 const CAPACITY: u32 = 4_000_000_000;
 
-/// Submits a request and calls it off, so many times: three calls each time.
+/// Submits a request and calls it off, so many times: three calls each time. It makes a work object first, so
+/// that there is one; all requests are for the first of them.
 fn call_off<B: Recorded, Rt: Wait>(rt: &Rt, pool: &SharedPool<B>, seat: Seat<B>, times: u32)
     requires { IsPlayer pool.now seat }
 {
     let mut seat = seat;
+    let env = CallbackEnviron::initialize().plain();
+    retry(rt, pool, &mut seat, |seat| {
+        pool.create_work(seat, RoutineId(1), 0, env)
+    });
     for _ in 0..times {
         retry(rt, pool, &mut seat, |seat| {
             pool.submit_work(seat, REQUESTS)
@@ -43,21 +48,12 @@ fn share<B: Recorded + Send, Rt: Threads + Wait + Sync>(
     requires { threads ≤ 16 }
 {
     // There is room for each client.
-    let Ok((pool, mut seats)) =
-        SharedPool::<B>::open(alloc, program_limits(threads + 1, 1), CAPACITY)
+    let Ok((pool, mut seats)) = SharedPool::<B>::open(alloc, program_limits(threads, 1), CAPACITY)
     else {
         return Err(AllocError);
     };
-    // The last seat is the worker's, and the one before it makes the work object.
+    // The last seat is the worker's.
     seats.pop();
-    if let Some(mut maker) = seats.pop() {
-        pool.create_work(
-            &mut maker,
-            RoutineId(1),
-            0,
-            CallbackEnviron::initialize().plain(),
-        );
-    }
     let pool = &pool;
     thread::map_vec(
         rt,
@@ -67,6 +63,11 @@ fn share<B: Recorded + Send, Rt: Threads + Wait + Sync>(
         { call_off(rt, pool, seat, times) },
     )?;
     Ok(())
+}
+
+/// How many calls a second that is, of so many requests that took this time.
+fn rate(requests: u64, micros: u128) -> u128 {
+    u128::from(requests) * 3_000_000 / micros.max(1)
 }
 
 /// Measures that with so many threads, and prints the line. Opening the machine and starting the threads is
@@ -79,10 +80,9 @@ pub fn measure<Rt: Threads + Wait + Sync>(
 ) -> io::Result<()>
     requires { threads ≤ 16 }
 {
+    let requests = u64::from(threads) * u64::from(times);
     let start = Instant::now(host)?;
     share::<Book, _>(rt, host.alloc(), threads, times)?;
-    let micros = start.elapsed(host)?.as_micros();
-    let calls = 3 * u128::from(threads) * u128::from(times);
-    let rate = calls * 1_000_000 / micros.max(1);
+    let rate = rate(requests, start.elapsed(host)?.as_micros());
     println!(host; "{threads} threads: {rate} calls a second")
 }
