@@ -247,7 +247,7 @@ printf 'io file r\nroutine r\ndone\nclient\n  start-io file\ndone\n' >"$room/lef
 left_rows=$'left expected  file        3          1        1  4 entries, left-expected-file.history\n'
 try 'callbacks that are left' 8 "$left_rows" '' rows_of "$room/left.script" 3 --threads 1
 sums_up() {
-    "$tpool" runs "$@" | awk -v wanted="$2 runs" 'NR == 1 { good = index($0, wanted) == 1 } /^Each run is in one row/ { sum = 0 } match($0, /  +[0-9]+  +[0-9]+  +[0-9]+  /) { split(substr($0, RSTART), figure, " "); sum += figure[1] } END { print good, sum }'
+    "$tpool" runs "$@" 2>/dev/null | awk -v wanted="$2 runs" 'NR == 1 { good = index($0, wanted) == 1 } /^Each run is in one row/ { sum = 0 } match($0, /  +[0-9]+  +[0-9]+  +[0-9]+  /) { split(substr($0, RSTART), figure, " "); sum += figure[1] } END { print good, sum }'
 }
 try 'the server many times: each run is in one row' 0 $'1 60\n' '' sums_up "$server" 60 --threads 4
 legal_files() { for file in "$room"/tpool-runs-*/*.history; do "$tpool" check "$file"; done | awk '!/^legal /; END { print (NR ? "files" : "no file") }'; }
@@ -262,7 +262,7 @@ for words in '--threads 2' "--threads 2 --keep $room/tpool-runs-kept"; do
 done
 no_folder() { ls -d "$room"/tpool-runs-* 2>/dev/null; }
 try 'and no folder is left' '~[12]' '' '' no_folder
-try 'a folder that can not be written' 4 '' $'tpool: write fault: nothing can be written into /proc/none\n' "$seeded" runs --keep /proc/none "$clock"
+try 'a folder that can not be written' 4 '' $'tpool: write fault: nothing can be written into /proc/none\n' "$seeded" runs --keep /proc/none "$clock" 2
 unset TMPDIR
 
 # --- The same by seeds
@@ -291,7 +291,7 @@ as_json() {
     try 'the table as JSON' 0 $'30 30 True [\'folder\', \'histories\', \'kinds\', \'longest\', \'of\', \'runs\', \'shortest\', \'things\', \'threads\']\n' '' as_json
 try 'an empty script is told' 0 '~3 runs, of the seeds 1 to 3: *' $'tpool: the script is empty\n' "$seeded" runs - 3
 # How many runs of a script had a refusal.
-refusals() { "$seeded" runs "$@" --json | sed 's/.*"things"://' | awk '{ print (/"came":"refused released"/ ? "some" : "none") }'; }
+refusals() { "$seeded" runs "$@" --json 2>/dev/null | sed 's/.*"things"://' | awk '{ print (/"came":"refused released"/ ? "some" : "none") }'; }
 if [[ -n $has_seeds ]]; then
     try 'a timer that is left set is found' 0 $'some\n' '' refusals "$here/examples/timer-left-set.script" 100
     try 'one that is unset has nothing to be found' 0 $'none\n' '' refusals "$here/examples/timer-unset.script" 1000
