@@ -31,17 +31,16 @@ play_runs() {
 # seed; on threads, which take the processors themselves, one.
 settle_runs() {
     words=(run "${options[@]}")
-    if [[ -z $threads && $state == current ]]; then
+    if [[ -z $threads ]]; then
         shares=$(nproc)
         ((shares < runs)) || shares=$runs
     fi
     awk '!/^ *(#|$)/ { found = 1; exit } END { exit !found }' "$room/script" || say 'the script is empty'
 }
 
-# Plays once, which shows whether the script can be played, and how long it takes. Sources are not played for that alone.
+# Plays once, which shows whether the script can be played, and how long it takes.
 probe() {
     local said status begin=${EPOCHREALTIME/[.,]/} seconds
-    [[ $state == current ]] || return 0
     said=$(play_once 1 2>&1 >/dev/null)
     status=$?
     seconds=$(((${EPOCHREALTIME/[.,]/} - begin) * runs / shares / 1000000))
