@@ -20,7 +20,7 @@ use Rattle.worker_gate.specs.declared.role.Role.{Role}
 use Rattle.worker_gate.specs.Closing.{IsCutIn, IsFirstPlayed}
 use Rattle.worker_gate.specs.Places.{Given, opening, place_after, place_from}
 use Rattle.worker_gate.specs.Roles.{is_stage_of, turned, who_of, IsOf}
-use Rattle.worker_gate.specs.Rounds.{awake, round_of, rounds, scene, AllOf, ArePlayed, HasRole, HaveAllRoles, HaveEnded, Scene}
+use Rattle.worker_gate.specs.Rounds.{awake, round_of, rounds, scene, AllOf, ArePlayed, HasPlayed, HasRole, HaveAllRoles, HaveEnded, Scene}
 use Rattle.worker_gate.specs.Runs.{is_over_in, AreKnown, ComesFirst, IsCutShort, Runs, Whole}
 use Rattle.worker_gate.specs.Walks.{FollowsAt, Leads}
 use Rattle.worker_gate.proofs.Lasting.{played_whos, role_kept, same_whos}
@@ -40,14 +40,14 @@ pub record Follows (P : Who → Type 0) (history later : List Entry) : Type 0 wh
   pub is : later ≡ history ++ more
   pub known : AllByRecursion (λ (e : Entry). P e.who) more
 
-follows_itself : (P : Who → Type 0) (history : List Entry) → Follows P history history
+pub follows_itself : (P : Who → Type 0) (history : List Entry) → Follows P history history
 follows_itself P history = record { more = []; is = sym (append-nil history); known = tt }
 
 known_both : (P : Who → Type 0) (xs ys : List Entry) → AllByRecursion (λ (e : Entry). P e.who) xs → AllByRecursion (λ (e : Entry). P e.who) ys → AllByRecursion (λ (e : Entry). P e.who) (xs ++ ys)
 known_both P [] ys first next = next
 known_both P (x ∷ xs) ys first next = (first.0, known_both P xs ys first.1 next)
 
-follows_through : (P : Who → Type 0) (history mid later : List Entry) → Follows P history mid → Follows P mid later → Follows P history later
+pub follows_through : (P : Who → Type 0) (history mid later : List Entry) → Follows P history mid → Follows P mid later → Follows P history later
 follows_through P history mid later first next = record {
   more = first.more ++ next.more;
   is = next.is ∙ (ap (λ (h : List Entry). h ++ next.more) first.is ∙ append_assoc history first.more next.more);
@@ -57,7 +57,7 @@ follows_through P history mid later first next = record {
 abbrev pub AreBy : (Who → Type 0) → List Role → Type 0
 AreBy P roles = AllByRecursion (λ (r : Role). P r.who) roles
 
-same_actors : (P : Who → Type 0) (xs ys : List Role) → map who_of ys ≡ map who_of xs → AreBy P xs → AreBy P ys
+pub same_actors : (P : Who → Type 0) (xs ys : List Role) → map who_of ys ≡ map who_of xs → AreBy P xs → AreBy P ys
 same_actors P [] [] same actors = tt
 same_actors P (x ∷ xs) (y ∷ ys) same actors =
     let head : who_of y ≡ who_of x = cc in
@@ -191,30 +191,34 @@ module _ (g : Given) (limits : Limits) (capacity : ℕ) (history : List Entry) w
       let r = get_or roles has.0 has.1 in
       subst (λ (w : Who). Whole g limits capacity history w (own w history)) (ap who_of has.3 ∙ has.4) (whole_of r (all.of has.0 has.1 has.2) (ended has.0 has.1 has.2))
 
+-- ---- who plays in rounds
+
+pub actors_of : (g : Given) (limits : Limits) (capacity : ℕ) (history : List Entry) (roles : List Role) → AllByRecursion (λ (r : Role). IsOf g limits capacity history (own r.who history) r) roles → AreBy (IsActor limits) roles
+actors_of g limits capacity history [] of = tt
+actors_of g limits capacity history (r ∷ roles) of = (of.0.actor, actors_of g limits capacity history roles of.1)
+
+module _ (g : Given) (limits : Limits) (capacity : ℕ) (history later : List Entry) (roles after : List Role) (played : HasPlayed g limits capacity history roles later after) where
+  pub rounds_whos : map who_of after ≡ map who_of roles
+  rounds_whos = played_whos g limits capacity (scene history (map awake roles)) (scene later after) played ∙ same_whos roles
+
+  pub rounds_more : AllOf g limits capacity history roles → Follows (IsActor limits) history later
+  rounds_more all =
+      let actors = actors_of g limits capacity history roles (recursion_from_All (λ (r : Role). IsOf g limits capacity history (own r.who history) r) roles all.of) in
+      played_follows (IsActor limits) g limits capacity (scene history (map awake roles)) (scene later after) (same_actors (IsActor limits) roles (map awake roles) (same_whos roles) actors) played
+
 -- what is played on from roles of which client 1's has finished before all others, until all have ended, is a run
 module _ (g : Given) (start : Recording) (limits : Limits) (capacity : ℕ) (later : List Entry) (roles after : List Role) (all_before : AllOf g start.limits start.capacity start.history roles)
     (has : HaveAllRoles start.limits roles) (known : AreKnown start.limits start.history) (first : IsFirstPlayed start.limits start.history roles) (client : 1 ≤ start.limits.clients)
     (limits_are : limits ≡ start.limits) (capacity_is : capacity ≡ start.capacity)
-    (played : ArePlayed g start.limits start.capacity (scene start.history (map awake roles)) (scene later after)) (all : AllOf g limits capacity later after) (ended : HaveEnded after) (over : is_over_in limits capacity later ≡ true) where
+    (whos : map who_of after ≡ map who_of roles) (more : Follows (IsActor start.limits) start.history later) (all : AllOf g limits capacity later after) (ended : HaveEnded after) (over : is_over_in limits capacity later ≡ true) where
   all_there : AllOf g start.limits start.capacity later after
   all_there = subst (λ (l : Limits). AllOf g l start.capacity later after) limits_are (subst (λ (n : ℕ). AllOf g limits n later after) capacity_is all)
 
   over_there : is_over_in start.limits start.capacity later ≡ true
   over_there = sym (ap (λ (l : Limits). is_over_in l capacity later) limits_are ∙ ap (λ (n : ℕ). is_over_in start.limits n later) capacity_is) ∙ over
 
-  whos : map who_of after ≡ map who_of roles
-  whos = played_whos g start.limits start.capacity (scene start.history (map awake roles)) (scene later after) played ∙ same_whos roles
-
   pub has_after : HaveAllRoles start.limits after
   has_after who actor = role_kept roles after who whos (has who actor)
-
-  actors : (xs : List Role) → AllByRecursion (λ (r : Role). IsOf g start.limits start.capacity start.history (own r.who start.history) r) xs → AreBy (IsActor start.limits) xs
-  actors [] of = tt
-  actors (r ∷ xs) of = (of.0.actor, actors xs of.1)
-
-  more : Follows (IsActor start.limits) start.history later
-  more = played_follows (IsActor start.limits) g start.limits start.capacity (scene start.history (map awake roles)) (scene later after)
-      (same_actors (IsActor start.limits) roles (map awake roles) (same_whos roles) (actors roles (recursion_from_All (λ (r : Role). IsOf g start.limits start.capacity start.history (own r.who start.history) r) roles all_before.of))) played
 
   whole : (who : Who) → IsActor start.limits who → Whole g start.limits start.capacity later who (own who later)
   whole who actor = whole_by g start.limits start.capacity later after who all_there ended (has_after who actor)

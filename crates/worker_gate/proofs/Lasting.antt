@@ -35,7 +35,7 @@ use Rattle.worker_gate.proofs.Walking.{own_append}
 over_step : (move : StageStep) → stage_by Over move ≡ Over
 over_step _ = refl
 
-over_grows : (who : Who) (history more : List Entry) → stage_of who history ≡ Over → stage_of who (history ++ more) ≡ Over
+pub over_grows : (who : Who) (history more : List Entry) → stage_of who history ≡ Over → stage_of who (history ++ more) ≡ Over
 over_grows who history more over =
     ap (stage_from (first_stage who)) (own_append who history more) ∙ (fold-append step (first_stage who) (own who history) (own who more)
     ∙ (ap (λ (at : Stage). stage_from at (own who more)) over ∙ fold_stays step Over (λ e. over_step (stage_step e.answer e.call)) (own who more)))
@@ -136,14 +136,14 @@ module _ (g : Given) (limits : Limits) (capacity : ℕ) where
   next_scene s = round_of g limits capacity s.history s.roles
 
   -- the entries that the history may still get, and the roles that haven't ended
-  abbrev left : Scene → ℕ
+  abbrev pub left : Scene → ℕ
   left s = (capacity + limits.clients - length s.history) + (length s.roles - count_ended s.roles)
 
   -- twice as many rounds, since one of two may leave all as it is, but for the marks
   abbrev pub rounds_left : Scene → ℕ
   rounds_left s = 2 * left s + idle_ahead (nat_lt (left (next_scene s)) (left s))
 
-  few_ended : (roles : List Role) → count_ended roles ≤ length roles
+  pub few_ended : (roles : List Role) → count_ended roles ≤ length roles
   few_ended [] = omega arith
   few_ended (r ∷ roles) = by r.ended (few_ended roles)
     where
@@ -175,7 +175,7 @@ module _ (g : Given) (limits : Limits) (capacity : ℕ) where
           omega (arith, more, as_many s, as_many (next_scene s), few_ended (next_scene (next_scene s)).roles, round_longer g limits capacity s.history s.roles, round_longer g limits capacity (next_scene s).history (next_scene s).roles)
       of_kind (HadEnded all) = absurd (going all)
 
-  fewer_rounds : (s : Scene) → IsFit g limits capacity s → (HaveEnded s.roles → ⊥) → rounds_left (next_scene s) < rounds_left s
+  pub fewer_rounds : (s : Scene) → IsFit g limits capacity s → (HaveEnded s.roles → ⊥) → rounds_left (next_scene s) < rounds_left s
   fewer_rounds s fit going = by (nat_lt (left (next_scene s)) (left s)) refl
     where
       one_most : (b : Bool) → idle_ahead b ≤ 1

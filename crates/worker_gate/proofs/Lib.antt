@@ -22,3 +22,6 @@ pub mod SettingUp
 pub mod OneThread
 pub mod OneHistory
 pub mod Crowds
+pub mod Drawing
+pub mod DrawnPass
+pub mod DrawnRun

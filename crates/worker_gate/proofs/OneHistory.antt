@@ -14,7 +14,7 @@ use Rattle.worker_gate.proofs.Playing.{on_off, or_off, turned_is}
 
 module _ (g : Given) (limits : Limits) (capacity : ℕ) where
   -- who has ended does nothing
-  ended_still : (history : List Entry) (r : Role) → r.ended ≡ true → turned g limits capacity history r ≡ ended_turn history r
+  pub ended_still : (history : List Entry) (r : Role) → r.ended ≡ true → turned g limits capacity history r ≡ ended_turn history r
   ended_still history r ended =
       turned_is g limits capacity (λ (t : Turned). t ≡ ended_turn history r) history r (λ ends. refl) (λ on. absurd (on_off r.ended ended (or_off r.ended _ on)))
 
@@ -39,11 +39,11 @@ module _ (g : Given) (limits : Limits) (capacity : ℕ) where
   same_by s n m false is first next = let less : m < n = grind (arith, nat_tests) in rounds_still s m (n - m) n (omega (arith, less)) next
 
   -- so rounds until all have ended lead to one scene
-  ends_same : (s t u : Scene) → ArePlayed g limits capacity s t → ArePlayed g limits capacity s u → HaveEnded t.roles → HaveEnded u.roles → t ≡ u
+  pub ends_same : (s t u : Scene) → ArePlayed g limits capacity s t → ArePlayed g limits capacity s u → HaveEnded t.roles → HaveEnded u.roles → t ≡ u
   ends_same s t u first next t_ended u_ended =
       sym first.1 ∙ (same_by s first.0 next.0 (nat_le first.0 next.0) refl (subst (λ (x : Scene). HaveEnded x.roles) (sym first.1) t_ended) (subst (λ (x : Scene). HaveEnded x.roles) (sym next.1) u_ended) ∙ next.1)
 
-  all_of_one : (r : Role) → r.ended ≡ true → HaveEnded (r ∷ [])
+  pub all_of_one : (r : Role) → r.ended ≡ true → HaveEnded (r ∷ [])
   all_of_one r ended = All-cons (λ (x : Role). x.ended ≡ true) r [] ended (All-nil (λ (x : Role). x.ended ≡ true))
 
   pub one_alone : (history later : List Entry) → IsAlone g limits capacity history → IsAlone g limits capacity later → history ≡ later

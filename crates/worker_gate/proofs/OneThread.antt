@@ -1,5 +1,5 @@
 -- What one thread plays is a run.
-use Rattle.std.proofs.Common.{◌≡◌, ℕ, zero, suc, ◌+◌, ◌-◌, ◌<◌, ◌≤◌, Bool, true, cond, List, [], ◌∷◌, Some, length, map, set, get_or, slice_get, refl, sym, ap, subst, ◌∙◌, arith}
+use Rattle.std.proofs.Common.{◌≡◌, ℕ, zero, suc, ◌+◌, ◌-◌, ◌<◌, ◌≤◌, Bool, true, false, cond, ◌⊎◌, inl, inr, List, [], ◌∷◌, Some, length, map, set, get_or, slice_get, refl, sym, ap, subst, ◌∙◌, arith}
 use Rattle.std.specs.List.{range_with_len, AllByRecursion}
 use Rattle.std.proofs.lemmas.List.Elements.{All-cons, All-from_recursion, All-tail}
 use Rattle.std.proofs.lemmas.List.FromFn.{get_or-range_with_len, length-range_with_len}
@@ -20,9 +20,10 @@ use Rattle.turn_lock.proofs.Beginnings.{actors_apart, starts_itself}
 use Rattle.worker_gate.specs.declared.role.Role.{Role}
 use Rattle.worker_gate.specs.Alone.{all_roles, new_roles, other_roles, IsAlone}
 use Rattle.worker_gate.specs.Closing.{IsFirstPlayed}
+use Rattle.worker_gate.specs.Drawn.{AreDrawn, IsDrawn}
 use Rattle.worker_gate.specs.Places.{Given}
 use Rattle.worker_gate.specs.Roles.{ended_turn, ends_at, new_role, turned, who_of, IsOf, Turned}
-use Rattle.worker_gate.specs.Rounds.{awake, round_of, rounds, scene, AllOf, ArePlayed, HasPlayed, HaveAllRoles, HaveEnded, IsSameMachine, NeverWaits, PlaysAlone, Scene}
+use Rattle.worker_gate.specs.Rounds.{awake, round_of, rounds, scene, AllOf, ArePlayed, EndedWell, HasPlayed, HaveAllRoles, HaveEnded, IsSameMachine, NeverWaits, PlaysAlone, Scene}
 use Rattle.worker_gate.specs.Runs.{is_over_in, AreKnown}
 use Rattle.worker_gate.proofs.Back.{is_actor_of, le_on, mapped, number_for}
 use Rattle.worker_gate.proofs.Ending.{by_actor, finished_client, played_follows}
@@ -292,6 +293,18 @@ module _ (g : Given) (limits : Limits) (capacity : ℕ) (client : 1 ≤ limits.c
     pub now_first : IsFirstPlayed now.limits now.history later
     now_first = subst (λ (l : Limits). IsFirstPlayed l now.history later) (sym now_limits) (subst (IsFirstPlayed limits now.history) (sym later_is) (first_played g limits capacity client now.history q played' of' who' ended))
 
+    -- client 1 has finished, and no other has ended
+    others_play : (numbers : List ℕ) → AllByRecursion (λ (r : Role). r.ended ≡ true → (r.place.stage ≡ Over) ⊎ (is_over_in limits capacity now.history ≡ true)) (map (λ (number : ℕ). new_role (actor_of limits number)) numbers)
+    others_play [] = tt
+    others_play (number ∷ numbers) = ((λ (on : false ≡ true). absurd cc), others_play numbers)
+
+    pub now_well : EndedWell now.limits now.capacity now.history later
+    now_well =
+        let over : q.place.stage ≡ Over = finished_client 1 q.who q.place.stage who' of'.sorted (of'.rests ended) in
+        subst (λ (x : Recording). EndedWell x.limits x.capacity x.history later) (sym now_is)
+        (subst (EndedWell limits capacity now.history) (sym later_is)
+        (All-from_recursion (λ (r : Role). r.ended ≡ true → (r.place.stage ≡ Over) ⊎ (is_over_in limits capacity now.history ≡ true)) (q ∷ other_roles limits) ((λ _. inl over), others_play (range_with_len 2 (limits.clients + limits.workers - 1)))))
+
     pub now_client : 1 ≤ now.limits.clients
     now_client = subst (λ (l : Limits). 1 ≤ l.clients) (sym now_limits) client
 
@@ -316,3 +329,15 @@ module _ (g : Given) (limits : Limits) (capacity : ℕ) (client : 1 ≤ limits.c
           let rounds' : HasPlayed g limits capacity now.history (q ∷ other_roles limits) last.history after =
           subst (λ (xs : List Role). HasPlayed g limits capacity now.history xs last.history after) later_is (subst (λ (x : Recording). HasPlayed g x.limits x.capacity x.history later last.history after) now_is rounds_played) in
           alone_of g limits capacity now.history q played' of' who' ended last.history after rounds' all_ended
+
+      pub last_drawn : (seed : ℕ) → AreDrawn g now.limits now.capacity seed (scene now.history later) (scene last.history after) → HaveEnded after → IsDrawn seed g limits capacity last.history
+      last_drawn seed drawn all_ended = record {
+        front = now.history;
+        first = q;
+        set_up = played';
+        first_ended = ended;
+        later = after;
+        turns_of_others = subst (λ (xs : List Role). AreDrawn g limits capacity seed (scene now.history xs) (scene last.history after)) later_is
+            (subst (λ (x : Recording). AreDrawn g x.limits x.capacity seed (scene now.history later) (scene last.history after)) now_is drawn);
+        all_ended = all_ended;
+      }

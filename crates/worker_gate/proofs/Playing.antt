@@ -273,6 +273,50 @@ wakes_all roles later place end so =
     let all : place ≡ length roles = end ∙ so.0 in
     so.1 ∙ (ap (λ (n : ℕ). map awake (take n roles) ++ drop n roles) all ∙ (ap (λ (l : List Role). map awake l ++ drop (length roles) roles) (take-length roles) ∙ (ap (λ (l : List Role). map awake roles ++ l) (drop-length roles) ∙ append-nil (map awake roles))))
 
+-- ---- roles of a machine, and a turn of one of them
+
+module _ (g : Given) where
+  pub record AreStanding (now : Recording) (later : List Role) : Type 0 where
+    pub legal : IsLegal now.limits now.capacity now.history
+    pub all : AllOf g now.limits now.capacity now.history later
+    pub well : EndedWell now.limits now.capacity now.history later
+
+  module _ (now : Recording) (later : List Role) (place : ℕ) (r : Role) (there : place < length later) (so : AreStanding now later) (at : r ≡ get_or later place r) where
+    abbrev next_of : Turned
+    next_of = turned g now.limits now.capacity now.history r
+
+    is_at : slice_get later place ≡ Some r
+    is_at = slice_get-get_or later place r there ∙ ap Some (sym at)
+
+    of_it : IsOf g now.limits now.capacity now.history (own r.who now.history) r
+    of_it = subst (λ (q : Role). IsOf g now.limits now.capacity now.history (own q.who now.history) q) (sym at) (so.all.of place r there)
+
+    well_it : WellAt g now.limits now.capacity now.history r
+    well_it = subst (λ (q : Role). WellAt g now.limits now.capacity now.history q) (sym at) (so.well place r there)
+
+    of_other : (k : ℕ) (d : Role) → k < length later → (k ≡ place → ⊥) → IsOf g now.limits now.capacity next_of.history (own (get_or later k d).who next_of.history) (get_or later k d)
+    of_other k d inside apart =
+        let q : Role = get_or later k d in
+        let adds = turned_adds g now.limits now.capacity now.history r in
+        let others : r.who ≡ q.who → ⊥ = λ same. apart (so.all.once k place q r (slice_get-get_or later k d inside) is_at (sym same)) in
+        let grown = of_grows g now.limits now.capacity now.history next_of.history (own q.who now.history) q (adds_starts r.who now.history next_of.history adds) (so.all.of k d inside) in
+        subst (λ (entries : List Entry). IsOf g now.limits now.capacity next_of.history entries q) (sym (adds_apart r.who q.who now.history next_of.history adds others)) grown
+
+    whos : map who_of (set later place next_of.role) ≡ map who_of later
+    whos = map-set_same who_of later place next_of.role r (turned_who g now.limits now.capacity now.history r ∙ ap who_of at)
+
+    -- they are behind it
+    pub turn_stands : IsOf g now.limits now.capacity next_of.history (own next_of.role.who next_of.history) next_of.role → AreStanding (record now { history = next_of.history }) (set later place next_of.role)
+    turn_stands of = record {
+      legal = legal_turned g now.limits now.capacity now.history r so.legal;
+      all = record {
+        of = all_put (λ (q : Role). IsOf g now.limits now.capacity next_of.history (own q.who next_of.history) q) later place next_of.role there of of_other;
+        once = once_by later (set later place next_of.role) whos so.all.once;
+      };
+      well = all_put (WellAt g now.limits now.capacity next_of.history) later place next_of.role there (well_turned g now.limits now.capacity now.history r well_it)
+          (λ k d inside apart. well_grows g now.limits now.capacity now.history r (get_or later k d) so.legal of_it (so.well k d inside));
+    }
+
 -- ---- a round
 
 abbrev has_ended : Role → Bool
@@ -334,26 +378,6 @@ module _ (g : Given) where
     abbrev turned_to : Recording
     turned_to = record now { history = next.history }
 
-    is_at : slice_get later place ≡ Some r
-    is_at = slice_get-get_or later place r there ∙ ap Some (sym at)
-
-    of_it : IsOf g now.limits now.capacity now.history (own r.who now.history) r
-    of_it = subst (λ (q : Role). IsOf g now.limits now.capacity now.history (own q.who now.history) q) (sym at) (so.all.of place r there)
-
-    well_it : WellAt g now.limits now.capacity now.history r
-    well_it = subst (λ (q : Role). WellAt g now.limits now.capacity now.history q) (sym at) (so.well place r there)
-
-    of_other : (k : ℕ) (d : Role) → k < length later → (k ≡ place → ⊥) → IsOf g now.limits now.capacity next.history (own (get_or later k d).who next.history) (get_or later k d)
-    of_other k d inside apart =
-        let q : Role = get_or later k d in
-        let adds = turned_adds g now.limits now.capacity now.history r in
-        let others : r.who ≡ q.who → ⊥ = λ same. apart (so.all.once k place q r (slice_get-get_or later k d inside) is_at (sym same)) in
-        let grown = of_grows g now.limits now.capacity now.history next.history (own q.who now.history) q (adds_starts r.who now.history next.history adds) (so.all.of k d inside) in
-        subst (λ (entries : List Entry). IsOf g now.limits now.capacity next.history entries q) (sym (adds_apart r.who q.who now.history next.history adds others)) grown
-
-    whos : map who_of (set later place next.role) ≡ map who_of later
-    whos = map-set_same who_of later place next.role r (turned_who g now.limits now.capacity now.history r ∙ ap who_of at)
-
     -- one more has had its turn
     goes_on : IsOf g now.limits now.capacity next.history (own next.role.who next.history) next.role → RoundSoFar start turned_to roles (set later place next.role) (place + 1) (if all_ended then is_last_turn next.turn else false)
     goes_on of =
@@ -361,18 +385,15 @@ module _ (g : Given) where
         let front : take (place + 1) (set later place next.role) ≡ take place later ++ next.role ∷ [] = take_more_set later place next.role there in
         let behind : drop (place + 1) (set later place next.role) ≡ drop (suc place) later = drop-set-lt (place + 1) later place next.role (omega arith) ∙ ap (λ (n : ℕ). drop n later) one in
         let todo : drop place later ≡ r ∷ drop (suc place) later = drop-cons later place r there ∙ ap (λ (q : Role). q ∷ drop (suc place) later) (sym at) in
+        let stands = turn_stands g now later place r there (record { legal = so.legal; all = so.all; well = so.well }) at of in
         record {
           same = record { limits = so.same.limits; capacity = so.same.capacity };
-          legal = legal_turned g now.limits now.capacity now.history r so.legal;
+          legal = stands.legal;
           count = length-set later place next.role ∙ so.count;
           played = so.played ∙ (ap (join now.limits now.capacity now.history (take place later)) todo ∙ (join_next now.limits now.capacity now.history (take place later) r (drop (suc place) later)
               ∙ (ap (λ (done : List Role). join now.limits now.capacity next.history done (drop (suc place) later)) (sym front) ∙ ap (join now.limits now.capacity next.history (take (place + 1) (set later place next.role))) (sym behind))));
-          all = record {
-            of = all_put (λ (q : Role). IsOf g now.limits now.capacity next.history (own q.who next.history) q) later place next.role there of of_other;
-            once = once_by later (set later place next.role) whos so.all.once;
-          };
-          well = all_put (WellAt g now.limits now.capacity next.history) later place next.role there (well_turned g now.limits now.capacity now.history r well_it)
-              (λ k d inside apart. well_grows g now.limits now.capacity now.history r (get_or later k d) so.legal of_it (so.well k d inside));
+          all = stands.all;
+          well = stands.well;
           ended = still_is all_ended (is_last_turn next.turn) next.role.ended (last_turned g now.limits now.capacity now.history r)
               ∙ (ap (λ (b : Bool). b && (next.role.ended && true)) so.ended ∙ (sym (list_all-append has_ended (take place later) (next.role ∷ [])) ∙ ap (list_all has_ended) (sym front)));
         }

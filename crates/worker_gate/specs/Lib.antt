@@ -3,6 +3,7 @@ pub mod Alone
 pub mod Closing
 pub mod Crews
 pub mod Crowds
+pub mod Drawn
 pub mod Lively
 pub mod Places
 pub mod Roles

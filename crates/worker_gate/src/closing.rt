@@ -1,15 +1,17 @@
 //! All actors come back, and what is left is played.
 
-ghost use Rattle.std.specs.Prelude.{◌≡◌, ◌≤◌, ◌↔◌, true, map, Any, IfOk};
+ghost use Rattle.std.specs.Prelude.{◌≡◌, ◌≤◌, ◌↔◌, true, map, Any, IfOk, OnOk};
 ghost use Rattle.worker_gate.specs.Acting.{role_in, seat_in};
 ghost use Rattle.worker_gate.specs.Closing.{AllBack, FirstTold, IsCutIn, IsFirstPlayed};
+ghost use Rattle.worker_gate.specs.Drawn.{AreDrawn};
 ghost use Rattle.worker_gate.specs.Places.{given};
-ghost use Rattle.worker_gate.specs.Rounds.{AllOf, HasPlayed, HaveAllRoles, HaveEnded, IsSameMachine};
+ghost use Rattle.worker_gate.specs.Rounds.{scene, AllOf, EndedWell, HasPlayed, HaveAllRoles, HaveEnded, IsSameMachine};
 ghost use Rattle.worker_gate.specs.Runs.{AreKnown, IsCutShort, Runs};
 ghost use Rattle.tp_model.specs.History.{IsLegal};
 ghost use Rattle.shared_pool.specs.Pools.{setup_at};
 
 use crate::actor::Actor;
+use crate::drawn::play_drawn;
 use crate::role::{Gate, Role};
 use crate::rounds::play_alone;
 use recorded::Recorded;
@@ -99,4 +101,32 @@ pub(crate) fn end_run<B: Recorded, R: Routines, G: Gate>(
 {
     play_alone(book, roles, routines, gate);
     any_cut(roles)
+}
+
+// The same with turns that are drawn from a seed, of roles of which none that has ended is of a worker.
+pub(crate) fn end_drawn_run<B: Recorded, R: Routines, G: Gate>(
+    alloc: Global,
+    book: &mut B,
+    roles: &mut Vec<Role>,
+    seed: u64,
+    routines: &R,
+    gate: &G,
+) -> Result<bool, AllocError>
+    requires all { AllOf (given R.next_of R.after_of routines.now) (B.recording book.old).limits (B.recording book.old).capacity (B.recording book.old).history roles.old.items }
+    requires covers { HaveAllRoles (B.recording book.old).limits roles.old.items }
+    requires legal { IsLegal (B.recording book.old).limits (B.recording book.old).capacity (B.recording book.old).history }
+    requires ended { EndedWell (B.recording book.old).limits (B.recording book.old).capacity (B.recording book.old).history roles.old.items }
+    requires client { 1 ≤ (B.recording book.old).limits.clients }
+    requires worker { 1 ≤ (B.recording book.old).limits.workers }
+    requires known { AreKnown (B.recording book.old).limits (B.recording book.old).history }
+    requires first { IsFirstPlayed (B.recording book.old).limits (B.recording book.old).history roles.old.items }
+    ensures same { OnOk result (IsSameMachine (B.recording book.old) (B.recording book.new)) }
+    ensures drawn { OnOk result (AreDrawn (given R.next_of R.after_of routines.now) (B.recording book.old).limits (B.recording book.old).capacity seed (scene (B.recording book.old).history roles.old.items) (scene (B.recording book.new).history roles.new.items)) }
+    ensures legal { OnOk result (IsLegal (B.recording book.new).limits (B.recording book.new).capacity (B.recording book.new).history) }
+    ensures ended { OnOk result (HaveEnded roles.new.items) }
+    ensures runs { OnOk result (Runs (given R.next_of R.after_of routines.now) (B.recording book.new).limits (B.recording book.new).capacity (B.recording book.new).history) }
+    ensures cut { IfOk result (λ cut. (cut ≡ true) ↔ IsCutShort (given R.next_of R.after_of routines.now) (B.recording book.new).limits (B.recording book.new).history) }
+{
+    play_drawn(alloc, book, roles, seed, routines, gate)?;
+    Ok(any_cut(roles))
 }

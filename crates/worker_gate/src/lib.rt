@@ -30,6 +30,7 @@
 mod actor;
 mod closing;
 mod crew;
+mod drawn;
 mod place;
 mod role;
 mod rounds;
@@ -39,8 +40,11 @@ mod telling;
 pub use actor::Actor;
 pub use closing::{Run, close_run};
 pub use crew::{play_crew, play_crews};
+pub use drawn::play_drawn;
 pub use place::Place;
 pub use role::{Gate, Role, Turn};
 pub use rounds::{play_alone, set_up};
-pub use run::{one_history_alone, play_routines, play_routines_alone};
+pub use run::{
+    one_history_alone, one_history_drawn, play_routines, play_routines_alone, play_routines_drawn,
+};
 pub use telling::{finish, tell_all};

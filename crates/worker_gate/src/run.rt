@@ -12,13 +12,14 @@ ghost use Rattle.shared_pool.specs.Pools.{pool_setup, setup_at};
 ghost use Rattle.worker_gate.specs.Acting.{seat_in};
 ghost use Rattle.worker_gate.specs.Alone.{all_roles, IsAlone};
 ghost use Rattle.worker_gate.specs.Crowds.{AreNew, IsNewActor, IsNewSeat};
+ghost use Rattle.worker_gate.specs.Drawn.{IsDrawn};
 ghost use Rattle.worker_gate.specs.Places.{given, Given};
 ghost use Rattle.worker_gate.specs.Roles.{new_role};
 ghost use Rattle.worker_gate.specs.Rounds.{NeverWaits};
 ghost use Rattle.worker_gate.specs.Runs.{IsCutShort, Runs};
 
 use crate::actor::Actor;
-use crate::closing::{Run, close_run, end_run};
+use crate::closing::{Run, close_run, end_drawn_run, end_run};
 use crate::crew::play_crews;
 use crate::role::{Gate, Role};
 use crate::rounds::set_up;
@@ -107,6 +108,43 @@ pub fn play_routines_alone<B: Recorded, R: Routines, G: Gate>(
     let mut roles = new_roles(alloc, limits)?;
     set_up(&mut book, &mut roles[0], routines, gate);
     let cut = end_run(&mut book, &mut roles, routines, gate);
+    Ok(Run { book, cut })
+}
+
+/// What turns that are drawn from a seed make of given routines, limits and capacity is one history: no two
+/// of them differ.
+pub fn one_history_drawn()
+    ensures { (seed : ℕ) (known : Given) (limits : Bounds) (capacity : ℕ) (history other : List Entry) → IsDrawn seed known limits capacity history → IsDrawn seed known limits capacity other → history ≡ other }
+{}
+
+/// The same as `play_routines_alone`, but behind client 1's part each turn is that of an actor that is
+/// drawn: evenly from those that haven't ended and have had no turn since the last entry, in the order of
+/// their numbers with the clients first; where each has had one, again from all that haven't ended.
+///
+/// The draws are those of `seed`. There is one history alone that comes of it (`one_history_drawn`). An
+/// `AllocError` comes where memory isn't there; all is lost then.
+pub fn play_routines_drawn<B: Recorded, R: Routines, G: Gate>(
+    alloc: Global,
+    limits: Limits,
+    capacity: u32,
+    seed: u64,
+    routines: &R,
+    gate: &G,
+) -> Result<Run<B>, AllocError>
+    requires limits { AreLimitsInRange limits }
+    requires client { 1 ≤ limits.clients }
+    requires calm { NeverWaits (given R.next_of R.after_of routines.now) (Part.Client 1) first_progress }
+    ensures limits { IfOk result (λ run. (B.recording run.book).limits ≡ limits) }
+    ensures capacity { IfOk result (λ run. (B.recording run.book).capacity ≡ capacity) }
+    ensures legal { IfOk result (λ run. IsLegal limits capacity (B.recording run.book).history) }
+    ensures runs { IfOk result (λ run. Runs (given R.next_of R.after_of routines.now) (B.recording run.book).limits (B.recording run.book).capacity (B.recording run.book).history) }
+    ensures drawn { IfOk result (λ run. IsDrawn seed (given R.next_of R.after_of routines.now) limits capacity (B.recording run.book).history) }
+    ensures cut { IfOk result (λ run. (run.cut ≡ true) ↔ IsCutShort (given R.next_of R.after_of routines.now) (B.recording run.book).limits (B.recording run.book).history) }
+{
+    let mut book = B::open(alloc, limits, capacity)?;
+    let mut roles = new_roles(alloc, limits)?;
+    set_up(&mut book, &mut roles[0], routines, gate);
+    let cut = end_drawn_run(alloc, &mut book, &mut roles, seed, routines, gate)?;
     Ok(Run { book, cut })
 }
 
