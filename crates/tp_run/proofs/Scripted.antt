@@ -12,7 +12,7 @@ use Rattle.tp_model.specs.Laws.Once.{left}
 use Rattle.recorded.specs.Recordings.{Recording}
 use Rattle.tp_model.specs.Laws.{KeepsLaws}
 use Rattle.tp_report.specs.Summaries.{totals_behind, IsNoneLost}
-use Rattle.tp_run.specs.Played.{ending_by, has_pending, limits_for, long_script, printed, routines_of, EndsRun, IsOutputOf, IsPlayed, RanOut}
+use Rattle.tp_run.specs.Played.{ending_by, has_pending, limits_for, long_script, printed, routines_of, EndsRun, IsOfOne, IsOutputOf, IsPlayed, RanOut}
 use Rattle.tp_report.specs.EarlyEnds.{has_early_end}
 use Rattle.tp_report.specs.declared.counts.EarlyEnd.TheVariants as early
 use Rattle.tp_report.specs.declared.playing.MachineSize.{MachineSize}
@@ -35,7 +35,7 @@ use Rattle.tp_script.specs.Calls.{begins_wait_call}
 use Rattle.tp_script.specs.Machines.{NeverWaitsAtFirst}
 use Rattle.tp_script.specs.Nexts.{first_progress, next_call}
 use Rattle.tp_script.specs.declared.routines.Part.TheVariants as part
-use Rattle.worker_gate.specs.Alone.{IsAlone}
+use Rattle.worker_gate.specs.Drawn.{IsDrawn}
 use Rattle.worker_gate.specs.Places.{Given}
 use Rattle.worker_gate.specs.Rounds.{begins_wait, NeverWaits}
 use Rattle.worker_gate.specs.Runs.{IsCutShort, Runs}
@@ -71,36 +71,36 @@ never_waits script calm = λ answers. calm_call (next_call script (part.Client 1
 
 -- ---- a run that was played
 
-module _ (script : List Line) (threads : ℕ) (layout : Layout) (output : List ℕ) (ending : Ending) where
+module _ (script : List Line) (threads : ℕ) (seed : Option ℕ) (layout : Layout) (output : List ℕ) (ending : Ending) where
   pub run_played : (r : Recording) (limits : Limits) (capacity : ℕ) → r.limits ≡ limits → r.capacity ≡ capacity
       → IsLegal r.limits r.capacity r.history → KeepsLaws r.limits r.history → Runs (routines_of script) r.limits r.capacity r.history
-      → (threads ≡ 1 → IsAlone (routines_of script) limits capacity r.history) → IsNoneLost (totals_behind r)
+      → (threads ≡ 1 → IsOfOne seed (routines_of script) limits capacity r.history) → IsNoneLost (totals_behind r)
       → output ≡ printed layout r.limits r.capacity r.history → EndsRun (routines_of script) r.limits r.history ending
-      → IsPlayed script threads limits capacity layout output ending
+      → IsPlayed script threads seed limits capacity layout output ending
   run_played r limits capacity same_limits same_capacity legal laws runs alone none_lost text ends =
       let g = routines_of script in
-      let alone_there : threads ≡ 1 → IsAlone g r.limits r.capacity r.history =
-      λ one. subst (λ (e : ℕ). IsAlone g r.limits e r.history) (sym same_capacity) (subst (λ (l : Limits). IsAlone g l capacity r.history) (sym same_limits) (alone one)) in
-      let there : IsPlayed script threads r.limits r.capacity layout output ending =
+      let alone_there : threads ≡ 1 → IsOfOne seed g r.limits r.capacity r.history =
+      λ one. subst (λ (e : ℕ). IsOfOne seed g r.limits e r.history) (sym same_capacity) (subst (λ (l : Limits). IsOfOne seed g l capacity r.history) (sym same_limits) (alone one)) in
+      let there : IsPlayed script threads seed r.limits r.capacity layout output ending =
       record {
         history = r.history;
         is_run = record { legal = legal; laws = laws; runs = runs; alone = alone_there; none_lost = none_lost };
         output_is = text;
         ends = ends;
       } in
-      subst (λ (e : ℕ). IsPlayed script threads limits e layout output ending) same_capacity
-      (subst (λ (l : Limits). IsPlayed script threads l r.capacity layout output ending) same_limits there)
+      subst (λ (e : ℕ). IsPlayed script threads seed limits e layout output ending) same_capacity
+      (subst (λ (l : Limits). IsPlayed script threads seed l r.capacity layout output ending) same_limits there)
 
 -- what is made of a run that was played
-pub run_output : {E : Type 0} (script : List Line) (threads : ℕ) (layout : Layout) (r : Recording) (cut : Bool) (limits : Limits) (capacity : ℕ) (result : Result Output E) → r.limits ≡ limits → r.capacity ≡ capacity
-    → Runs (routines_of script) r.limits r.capacity r.history → (threads ≡ 1 → IsAlone (routines_of script) limits capacity r.history) → (cut ≡ true) ↔ IsCutShort (routines_of script) r.limits r.history
+pub run_output : {E : Type 0} (script : List Line) (threads : ℕ) (seed : Option ℕ) (layout : Layout) (r : Recording) (cut : Bool) (limits : Limits) (capacity : ℕ) (result : Result Output E) → r.limits ≡ limits → r.capacity ≡ capacity
+    → Runs (routines_of script) r.limits r.capacity r.history → (threads ≡ 1 → IsOfOne seed (routines_of script) limits capacity r.history) → (cut ≡ true) ↔ IsCutShort (routines_of script) r.limits r.history
     → IsLegal r.limits r.capacity r.history → KeepsLaws r.limits r.history → IfOk result (λ output. IsOutputOf layout cut r output)
-    → IfOk result (λ output. IsPlayed script threads limits capacity layout output.text.items output.ending)
-run_output script threads layout r cut limits capacity (Err none) same_limits same_capacity runs alone short legal laws told = told
-run_output script threads layout r cut limits capacity (Ok output) same_limits same_capacity runs alone short legal laws told =
+    → IfOk result (λ output. IsPlayed script threads seed limits capacity layout output.text.items output.ending)
+run_output script threads seed layout r cut limits capacity (Err none) same_limits same_capacity runs alone short legal laws told = told
+run_output script threads seed layout r cut limits capacity (Ok output) same_limits same_capacity runs alone short legal laws told =
     let g = routines_of script in
     let ends = subst (λ ending. EndsRun g r.limits r.history ending) (sym told.ending) (run_ends g r.limits r.history cut _ _ _ short refl refl refl) in
-    run_played script threads layout output.text.items output.ending r limits capacity same_limits same_capacity legal laws runs alone told.none_lost told.text ends
+    run_played script threads seed layout output.text.items output.ending r limits capacity same_limits same_capacity legal laws runs alone told.none_lost told.text ends
 
 -- ---- one thread
 
@@ -118,12 +118,20 @@ one_ending g limits history NotLegal b p q = absurd p
 one_ending g limits history a NotLegal p q = absurd q
 
 -- a script has one history on one thread
-abbrev pub OneHistory : Type 0
-OneHistory = (g : Given) (limits : Limits) (capacity : ℕ) (history other : List Entry) → IsAlone g limits capacity history → IsAlone g limits capacity other → history ≡ other
+abbrev pub OneHistory : Option ℕ → Type 0
+OneHistory seed = (g : Given) (limits : Limits) (capacity : ℕ) (history other : List Entry) → IsOfOne seed g limits capacity history → IsOfOne seed g limits capacity other → history ≡ other
 
-one_played : OneHistory → (script : List Line) (threads : ℕ) → threads ≡ 1 → (limits : Limits) (capacity : ℕ) (layout : Layout) (output other : List ℕ) (ending other_end : Ending)
-    → IsPlayed script threads limits capacity layout output ending → IsPlayed script threads limits capacity layout other other_end → (output ≡ other) × (ending ≡ other_end)
-one_played one_history script threads one limits capacity layout output other ending other_end a b =
+-- and one for each seed
+abbrev pub OneDrawn : Type 0
+OneDrawn = (seed : ℕ) (g : Given) (limits : Limits) (capacity : ℕ) (history other : List Entry) → IsDrawn seed g limits capacity history → IsDrawn seed g limits capacity other → history ≡ other
+
+pub one_of : OneHistory None → OneDrawn → (seed : Option ℕ) → OneHistory seed
+one_of alone drawn None = alone
+one_of alone drawn (Some seed) = drawn seed
+
+one_played : (seed : Option ℕ) → OneHistory seed → (script : List Line) (threads : ℕ) → threads ≡ 1 → (limits : Limits) (capacity : ℕ) (layout : Layout) (output other : List ℕ) (ending other_end : Ending)
+    → IsPlayed script threads seed limits capacity layout output ending → IsPlayed script threads seed limits capacity layout other other_end → (output ≡ other) × (ending ≡ other_end)
+one_played seed one_history script threads one limits capacity layout output other ending other_end a b =
     let g = routines_of script in
     let same = one_history g limits capacity a.history b.history (a.is_run.alone one) (b.is_run.alone one) in (
       a.output_is ∙ ap (λ h. printed layout limits capacity h) same ∙ sym b.output_is,
@@ -134,13 +142,13 @@ one_played one_history script threads one limits capacity layout output other en
 abbrev pub OneScript : Type 0
 OneScript = (text : List ℕ) (lines other : List Line) → IsScript text lines → IsScript text other → lines ≡ other
 
-one_played_of : OneHistory → OneScript → (text : List ℕ) (threads : ℕ) → threads ≡ 1
+one_played_of : (seed : Option ℕ) → OneHistory seed → OneScript → (text : List ℕ) (threads : ℕ) → threads ≡ 1
     → (machine : MachineSize) (layout : Layout) (output other : List ℕ) (ending other_end : Ending)
-    → IsPlayedOf text threads machine layout output ending → IsPlayedOf text threads machine layout other other_end → (output ≡ other) × (ending ≡ other_end)
-one_played_of one_history one_script text threads one machine layout output other ending other_end a b =
+    → IsPlayedOf text threads seed machine layout output ending → IsPlayedOf text threads seed machine layout other other_end → (output ≡ other) × (ending ≡ other_end)
+one_played_of seed one_history one_script text threads one machine layout output other ending other_end a b =
     let same = one_script text a.0 b.0 a.1 b.1 in
-    one_played one_history b.0 threads one (limits_for b.0 machine) machine.events layout output other ending other_end
-    (subst (λ script. IsPlayed script threads (limits_for script machine) machine.events layout output ending) same a.2) b.2
+    one_played seed one_history b.0 threads one (limits_for b.0 machine) machine.events layout output other ending other_end
+    (subst (λ script. IsPlayed script threads seed (limits_for script machine) machine.events layout output ending) same a.2) b.2
 
 -- ---- what becomes of a text that is to be played
 
@@ -153,22 +161,22 @@ script_end bytes fault (Err status) h place only = subst (λ s. IsScriptEnd byte
     of_fault NoMemory place only = tt
     of_fault (At line column kind) place only = ((kind, place), only)
 
-pub run_reply : (bytes : List ℕ) (threads : ℕ) (machine : MachineSize) (json : Bool) (reply : Result Output Status)
-    → OneHistory → OneScript → IfOk reply (λ output. IsPlayedOf bytes threads machine (whole_layout json) output.text.items output.ending) → IfErr reply (IsScriptEnd bytes)
-    → IsReply (Run threads machine json) bytes reply
-run_reply bytes threads machine json (Ok output) one_history one_script ok err = record {
+pub run_reply : (bytes : List ℕ) (threads : ℕ) (seed : Option ℕ) (machine : MachineSize) (json : Bool) (reply : Result Output Status)
+    → OneHistory seed → OneScript → IfOk reply (λ output. IsPlayedOf bytes threads seed machine (whole_layout json) output.text.items output.ending) → IfErr reply (IsScriptEnd bytes)
+    → IsReply (Run threads seed machine json) bytes reply
+run_reply bytes threads seed machine json (Ok output) one_history one_script ok err = record {
   gives = ok;
   only = λ one other other_end g.
-      one_played_of one_history one_script bytes threads one machine (whole_layout json) output.text.items other output.ending other_end ok g;
+      one_played_of seed one_history one_script bytes threads one machine (whole_layout json) output.text.items other output.ending other_end ok g;
 }
-run_reply bytes threads machine json (Err (BadLine line column)) one_history one_script ok err = record { at = err.0; none = λ h. err.1 h.0 h.1 }
-run_reply bytes threads machine json (Err end.NoMemory) one_history one_script ok err = tt
-run_reply bytes threads machine json (Err _) one_history one_script ok err = absurd err
+run_reply bytes threads seed machine json (Err (BadLine line column)) one_history one_script ok err = record { at = err.0; none = λ h. err.1 h.0 h.1 }
+run_reply bytes threads seed machine json (Err end.NoMemory) one_history one_script ok err = tt
+run_reply bytes threads seed machine json (Err _) one_history one_script ok err = absurd err
 
-pub big_output : (bytes : List ℕ) (number : ℕ) (machine : MachineSize) (json : Bool) (output : Output) → OneHistory → OneScript
-    → IsPlayedOf (long_script number) 1 machine (short_layout json) output.text.items output.ending → IsOutput (Big number machine json) bytes output.text.items output.ending
+pub big_output : (bytes : List ℕ) (number : ℕ) (machine : MachineSize) (json : Bool) (output : Output) → OneHistory None → OneScript
+    → IsPlayedOf (long_script number) 1 None machine (short_layout json) output.text.items output.ending → IsOutput (Big number machine json) bytes output.text.items output.ending
 big_output bytes number machine json output one_history one_script played = record {
   gives = played;
   only = λ determined other other_end g.
-      one_played_of one_history one_script (long_script number) 1 refl machine (short_layout json) output.text.items other output.ending other_end played g;
+      one_played_of None one_history one_script (long_script number) 1 refl machine (short_layout json) output.text.items other output.ending other_end played g;
 }

@@ -1,5 +1,5 @@
 -- What a command makes of its input.
-use Rattle.std.specs.Prelude.{◌≡◌, ℕ, ◌≤◌, Bool, true, false, List, [], Option, None, Some}
+use Rattle.std.specs.Prelude.{◌≡◌, ℕ, ◌≤◌, Bool, true, false, List, [], Option, None, Some, is_some}
 use Rattle.line_grammar.specs.Traces.{IsTraceFault}
 use Rattle.script_generator.specs.Scripts.{generated}
 use Rattle.tp_base.specs.declared.calls.Call.{Call}
@@ -43,8 +43,8 @@ abbrev pub IsScriptFaultAt : List ℕ → ℕ → ℕ → Type 0
 IsScriptFaultAt text line column = (kind : ScriptKind) × IsFaultIn text line column kind
 
 -- the text is a script, and this is written of a run of it, and its ending
-abbrev pub IsPlayedOf : List ℕ → ℕ → MachineSize → Layout → List ℕ → Ending → Type 0
-IsPlayedOf text threads machine layout output ending = (script : List Line) × IsScript text script × IsPlayed script threads (limits_for script machine) machine.events layout output ending
+abbrev pub IsPlayedOf : List ℕ → ℕ → Option ℕ → MachineSize → Layout → List ℕ → Ending → Type 0
+IsPlayedOf text threads seed machine layout output ending = (script : List Line) × IsScript text script × IsPlayed script threads seed (limits_for script machine) machine.events layout output ending
 
 -- what is written of a run besides the summary, which may be JSON: the history, or nothing
 abbrev pub whole_layout : Bool → Layout
@@ -53,12 +53,12 @@ whole_layout json = record { history = true; json = json }
 abbrev pub short_layout : Bool → Layout
 short_layout json = record { history = false; json = json }
 
--- the machine of a trace or a run is of a size that there is, and a run has a thread
+-- the machine of a trace or a run is of a size that there is, and a run has a thread, and one alone where it has a seed
 abbrev pub IsPlayable : Command → Type 0
 IsPlayable (Trace machine) = IsMachineSize machine
 IsPlayable Check = Unit {0}
 IsPlayable (Gen number) = Unit {0}
-IsPlayable (Run threads machine json) = (1 ≤ threads) × IsMachineSize machine
+IsPlayable (Run threads seed machine json) = (1 ≤ threads) × (is_some seed ≡ true → threads ≡ 1) × IsMachineSize machine
 IsPlayable (Big number machine json) = IsMachineSize machine
 
 -- whether a command has an input, which is what the source has
@@ -67,7 +67,7 @@ reads None = false
 reads (Some (Trace machine)) = true
 reads (Some Check) = true
 reads (Some (Gen number)) = false
-reads (Some (Run threads machine json)) = true
+reads (Some (Run threads seed machine json)) = true
 reads (Some (Big number machine json)) = false
 
 -- the command's input, where the source tells what it has; that of a command which reads nothing is empty
@@ -92,12 +92,12 @@ Gives None bytes output ending = ⊥
 Gives (Some (Trace machine)) bytes output ending = (calls : List (Who × Call)) × IsTraceOf bytes calls × (output ≡ output_of machine calls) × (ending ≡ Fine)
 Gives (Some Check) bytes output ending = IsChecked bytes output ending
 Gives (Some (Gen number)) bytes output ending = (output ≡ generated number 64) × (ending ≡ Fine)
-Gives (Some (Run threads machine json)) bytes output ending = IsPlayedOf bytes threads machine (whole_layout json) output ending
-Gives (Some (Big number machine json)) bytes output ending = IsPlayedOf (long_script number) 1 machine (short_layout json) output ending
+Gives (Some (Run threads seed machine json)) bytes output ending = IsPlayedOf bytes threads seed machine (whole_layout json) output ending
+Gives (Some (Big number machine json)) bytes output ending = IsPlayedOf (long_script number) 1 None machine (short_layout json) output ending
 
 -- the command has one output for an input; a run on several threads may have more, by the order in which its actors have turns
 abbrev pub IsDetermined : Option Command → Type 0
-IsDetermined (Some (Run threads machine json)) = threads ≡ 1
+IsDetermined (Some (Run threads seed machine json)) = threads ≡ 1
 IsDetermined _ = Unit {0}
 
 -- the bytes are in the grammar of the command's input
@@ -106,7 +106,7 @@ IsInGrammar None bytes = ⊥
 IsInGrammar (Some (Trace machine)) bytes = (calls : List (Who × Call)) × IsTraceOf bytes calls
 IsInGrammar (Some Check) bytes = (header : Header) × (entries : List Entry) × IsHistory bytes header entries
 IsInGrammar (Some (Gen number)) bytes = Unit {0}
-IsInGrammar (Some (Run threads machine json)) bytes = (script : List Line) × IsScript bytes script
+IsInGrammar (Some (Run threads seed machine json)) bytes = (script : List Line) × IsScript bytes script
 IsInGrammar (Some (Big number machine json)) bytes = Unit {0}
 
 -- the bytes are not in the grammar of the command's input, and this is the place of their first fault
@@ -115,5 +115,5 @@ IsFaultyAt None bytes line column = ⊥
 IsFaultyAt (Some (Trace machine)) bytes line column = IsTraceFault IsLine bytes line column
 IsFaultyAt (Some Check) bytes line column = IsHistoryFault bytes line column
 IsFaultyAt (Some (Gen number)) bytes line column = ⊥
-IsFaultyAt (Some (Run threads machine json)) bytes line column = IsScriptFaultAt bytes line column
+IsFaultyAt (Some (Run threads seed machine json)) bytes line column = IsScriptFaultAt bytes line column
 IsFaultyAt (Some (Big number machine json)) bytes line column = ⊥

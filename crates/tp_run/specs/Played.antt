@@ -1,5 +1,5 @@
 -- What the runs of a script are, and what is made of one.
-use Rattle.std.specs.Prelude.{◌≡◌, ℕ, Bool, true, false, List, [], ◌++◌, ◌⊎◌}
+use Rattle.std.specs.Prelude.{◌≡◌, ℕ, Bool, true, false, List, [], ◌++◌, ◌⊎◌, Option, None, Some}
 use Rattle.std.specs.List.{list_any}
 use Rattle.recorded.specs.ProgramLimits.{limits_with}
 use Rattle.recorded.specs.Recordings.{Recording}
@@ -25,6 +25,7 @@ use Rattle.tp_run.specs.declared.status.Ending.TheVariants.{Fine, NotLegal, Exha
 use Rattle.script_lines.specs.declared.line.Line.{Line}
 use Rattle.tp_script.specs.Nexts.{clients_of, next_at, progress_after}
 use Rattle.worker_gate.specs.Alone.{IsAlone}
+use Rattle.worker_gate.specs.Drawn.{IsDrawn}
 use Rattle.worker_gate.specs.Places.{given, Given}
 use Rattle.worker_gate.specs.Runs.{IsCutShort, Runs}
 
@@ -57,14 +58,19 @@ RanOut g limits history = IsCutShort g limits history ⊎ (has_early_end early.E
 
 -- ---- runs
 
+-- the history that one thread makes: in rounds, or of turns that are drawn from a seed
+abbrev pub IsOfOne : Option ℕ → Given → Limits → ℕ → List Entry → Type 0
+IsOfOne None g limits capacity history = IsAlone g limits capacity history
+IsOfOne (Some seed) g limits capacity history = IsDrawn seed g limits capacity history
+
 -- a history that the script's clients and the workers have made, on so many threads
-pub record IsRunOf (script : List Line) (threads : ℕ) (limits : Limits) (capacity : ℕ) (history : List Entry) : Type 0 where
+pub record IsRunOf (script : List Line) (threads : ℕ) (seed : Option ℕ) (limits : Limits) (capacity : ℕ) (history : List Entry) : Type 0 where
   -- each answer is the machine's
   pub legal : IsLegal limits capacity history
   pub laws : KeepsLaws limits history
   pub runs : Runs (routines_of script) limits capacity history
   -- with one thread there is one order of the calls
-  pub alone : threads ≡ 1 → IsAlone (routines_of script) limits capacity history
+  pub alone : threads ≡ 1 → IsOfOne seed (routines_of script) limits capacity history
   -- each callback was taken or cancelled, or is left
   pub none_lost : IsNoneLost (totals_of limits history)
 
@@ -101,9 +107,9 @@ abbrev pub printed : Layout → Limits → ℕ → List Entry → List ℕ
 printed layout limits capacity history = history_if layout.history limits capacity history ++ totals_text layout.json limits history
 
 -- the script was played on a machine of these limits, and this was written of the run, and its ending
-pub record IsPlayed (script : List Line) (threads : ℕ) (limits : Limits) (capacity : ℕ) (layout : Layout) (output : List ℕ) (ending : Ending) : Type 0 where
+pub record IsPlayed (script : List Line) (threads : ℕ) (seed : Option ℕ) (limits : Limits) (capacity : ℕ) (layout : Layout) (output : List ℕ) (ending : Ending) : Type 0 where
   pub history : List Entry
-  pub is_run : IsRunOf script threads limits capacity history
+  pub is_run : IsRunOf script threads seed limits capacity history
   pub output_is : output ≡ printed layout limits capacity history
   pub ends : EndsRun (routines_of script) limits history ending
 

@@ -6,10 +6,10 @@ use Rattle.tp_run.specs.declared.said.Name.{Name}
 use Rattle.tp_run.specs.declared.said.Name.TheVariants.{Trace, Check, Gen, Run, Big}
 use Rattle.tp_run.specs.declared.said.Said.{Said}
 use Rattle.tp_run.specs.declared.said.Setting.{Setting}
-use Rattle.tp_run.specs.declared.said.Setting.TheVariants.{Threads, Workers, Events}
+use Rattle.tp_run.specs.declared.said.Setting.TheVariants.{Threads, Seed, Workers, Events}
 
 abbrev pub nothing : Said
-nothing = record { command = None; number = None; threads = None; workers = None; events = None; json = false; awaited = None; closed = false }
+nothing = record { command = None; number = None; threads = None; seed = None; workers = None; events = None; json = false; awaited = None; closed = false }
 
 -- ---- words by themselves
 
@@ -19,7 +19,7 @@ name_in word = if bytes_eq word (codes "trace") then Some Trace else if bytes_eq
 
 -- the option that a word is
 abbrev pub setting_in : List ℕ → Option Setting
-setting_in word = if bytes_eq word (codes "--threads") then Some Threads else if bytes_eq word (codes "--workers") then Some Workers else if bytes_eq word (codes "--events") then Some Events else None
+setting_in word = if bytes_eq word (codes "--threads") then Some Threads else if bytes_eq word (codes "--seed") then Some Seed else if bytes_eq word (codes "--workers") then Some Workers else if bytes_eq word (codes "--events") then Some Events else None
 
 -- what stands behind the front of a text
 abbrev pub stripped : List ℕ → List ℕ → Option (List ℕ)
@@ -50,6 +50,7 @@ with_alone word said = alone_behind said.command word said
 -- an option is there once at most
 abbrev pub with_setting : Setting → ℕ → Said → Option Said
 with_setting Threads value said = if is_some said.threads then None else Some (record said { threads = Some value; awaited = None })
+with_setting Seed value said = if is_some said.seed then None else Some (record said { seed = Some value; awaited = None })
 with_setting Workers value said = if is_some said.workers then None else Some (record said { workers = Some value; awaited = None })
 with_setting Events value said = if is_some said.events then None else Some (record said { events = Some value; awaited = None })
 
@@ -68,9 +69,10 @@ value_or setting (Some value) said other = with_value setting value said
 abbrev pub with_joined : List ℕ → Said → Option Said
 with_joined word said =
     value_or Threads (stripped (codes "--threads=") word) said
+    (value_or Seed (stripped (codes "--seed=") word) said
     (value_or Workers (stripped (codes "--workers=") word) said
     (value_or Events (stripped (codes "--events=") word) said
-    (with_alone word said)))
+    (with_alone word said))))
 
 -- an option whose value is the next word
 abbrev pub awaiting_or : Option Setting → Said → Option Said → Option Said

@@ -22,9 +22,11 @@ pub enum Command {
         number: u64,
     },
     /// Plays the script that is the input on so many threads, from 1 to 16, on a machine of this size, and
-    /// writes the history and its summary, which is JSON if that is wanted.
+    /// writes the history and its summary, which is JSON if that is wanted. With a seed, which is for one
+    /// thread, the turns are drawn from it.
     Run {
         threads: u32,
+        seed: Option<u64>,
         machine: MachineSize,
         json: bool,
     },

@@ -1,6 +1,6 @@
 //! Scripts that are played, and what is written of a run.
 
-ghost use Rattle.std.specs.Prelude.{◌≡◌, ◌≤◌, ◌++◌, ◌↔◌, true, false, map, IfOk, OnOk};
+ghost use Rattle.std.specs.Prelude.{◌≡◌, ◌≤◌, ◌++◌, ◌↔◌, true, false, map, None, Some, IfOk, OnOk};
 ghost use Rattle.recorded.specs.Recordings.{Recording};
 ghost use Rattle.tp_model.specs.History.{IsLegal};
 ghost use Rattle.tp_model.specs.Laws.{KeepsLaws};
@@ -21,7 +21,7 @@ use tp_report::{
     Counted, LeftRow, MachineSize, Written, into_history, left_callbacks, print_json, print_summary,
 };
 use tp_script::Script;
-use worker_gate::{Gate, Run, play_routines, play_routines_alone};
+use worker_gate::{Gate, Run, play_routines, play_routines_alone, play_routines_drawn};
 
 /// What is written of a run.
 #[derive(Clone, Copy)]
@@ -49,7 +49,7 @@ pub fn play_script<Rt: Threads + Wait + Sync, B: Recorded + Send, G: Gate + Sync
     requires calm { NeverWaitsAtFirst script.now }
     requires threads { 1 ≤ threads }
     requires size { IsMachineSize machine }
-    ensures { IfOk result (λ output. IsPlayed script.now threads (limits_for script.now machine) machine.events (record { history = true; json = json }) output.text.items output.ending) }
+    ensures { IfOk result (λ output. IsPlayed script.now threads None (limits_for script.now machine) machine.events (record { history = true; json = json }) output.text.items output.ending) }
 {
     let limits = program_limits(script.clients(), machine.workers);
     let played = play_routines::<Rt, Written<Counted<B>>, Script, G>(
@@ -75,7 +75,7 @@ pub fn play_script_alone<B: Recorded, G: Gate>(
     requires clients { HasFewClients script.now }
     requires calm { NeverWaitsAtFirst script.now }
     requires size { IsMachineSize machine }
-    ensures { IfOk result (λ output. IsPlayed script.now 1 (limits_for script.now machine) machine.events (record { history = true; json = json }) output.text.items output.ending) }
+    ensures { IfOk result (λ output. IsPlayed script.now 1 None (limits_for script.now machine) machine.events (record { history = true; json = json }) output.text.items output.ending) }
 {
     let limits = program_limits(script.clients(), machine.workers);
     let played = play_routines_alone::<Written<Counted<B>>, Script, G>(
@@ -88,7 +88,33 @@ pub fn play_script_alone<B: Recorded, G: Gate>(
     whole_output(alloc, json, played)
 }
 
-/// The same, but of the run nothing is to be written besides its summary.
+/// The same with turns that are drawn from a seed.
+pub fn play_script_drawn<B: Recorded, G: Gate>(
+    alloc: Global,
+    script: &Script,
+    seed: u64,
+    machine: MachineSize,
+    json: bool,
+    gate: &G,
+) -> Result<Output, AllocError>
+    requires clients { HasFewClients script.now }
+    requires calm { NeverWaitsAtFirst script.now }
+    requires size { IsMachineSize machine }
+    ensures { IfOk result (λ output. IsPlayed script.now 1 (Some seed) (limits_for script.now machine) machine.events (record { history = true; json = json }) output.text.items output.ending) }
+{
+    let limits = program_limits(script.clients(), machine.workers);
+    let played = play_routines_drawn::<Written<Counted<B>>, Script, G>(
+        alloc,
+        limits,
+        machine.events,
+        seed,
+        script,
+        gate,
+    )?;
+    whole_output(alloc, json, played)
+}
+
+/// What `play_script_alone` does, but of the run nothing is to be written besides its summary.
 pub fn play_unwritten<B: Recorded, G: Gate>(
     alloc: Global,
     script: &Script,
@@ -99,7 +125,7 @@ pub fn play_unwritten<B: Recorded, G: Gate>(
     requires clients { HasFewClients script.now }
     requires calm { NeverWaitsAtFirst script.now }
     requires size { IsMachineSize machine }
-    ensures { IfOk result (λ output. IsPlayed script.now 1 (limits_for script.now machine) machine.events (record { history = false; json = json }) output.text.items output.ending) }
+    ensures { IfOk result (λ output. IsPlayed script.now 1 None (limits_for script.now machine) machine.events (record { history = false; json = json }) output.text.items output.ending) }
 {
     let limits = program_limits(script.clients(), machine.workers);
     let played = play_routines_alone::<Counted<B>, Script, G>(

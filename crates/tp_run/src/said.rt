@@ -2,6 +2,7 @@
 
 ghost use Rattle.std.specs.Prelude.{◌≡◌, ◌≤◌, IfSome};
 ghost use Rattle.std.specs.Option.{option_copied};
+ghost use Rattle.tp_run.specs.Commands.{is_one};
 ghost use Rattle.tp_run.specs.Said.{bounded, name_in, setting_in, stripped};
 
 use crate::command::Command;
@@ -22,6 +23,7 @@ pub enum Name {
 #[derive(Clone, Copy)]
 pub enum Setting {
     Threads,
+    Seed,
     Workers,
     Events,
 }
@@ -35,6 +37,8 @@ pub struct Said {
     pub number: Option<u64>,
     /// The value of `--threads`.
     pub threads: Option<u64>,
+    /// The value of `--seed`.
+    pub seed: Option<u64>,
     /// The value of `--workers`.
     pub workers: Option<u64>,
     /// The value of `--events`.
@@ -49,7 +53,7 @@ pub struct Said {
 
 impl Said {
     ghost use Rattle.std.specs.Prelude.{◌≡◌, Some, IfSome};
-    ghost use Rattle.tp_run.specs.Commands.{command_said};
+    ghost use Rattle.tp_run.specs.Commands.{command_said, is_seed_for_nothing};
     ghost use Rattle.tp_run.specs.Inputs.{IsPlayable};
     ghost use Rattle.tp_run.specs.Said.{nothing, with_alone, with_joined, with_json, with_number, with_option, with_setting, with_value, with_word};
 
@@ -61,6 +65,7 @@ impl Said {
             command: None,
             number: None,
             threads: None,
+            seed: None,
             workers: None,
             events: None,
             json: false,
@@ -155,6 +160,9 @@ impl Said {
         if let Some(value) = behind(b"--threads=", word) {
             return self.with_value(Setting::Threads, value);
         }
+        if let Some(value) = behind(b"--seed=", word) {
+            return self.with_value(Setting::Seed, value);
+        }
         if let Some(value) = behind(b"--workers=", word) {
             return self.with_value(Setting::Workers, value);
         }
@@ -187,6 +195,14 @@ impl Said {
                     ..self
                 }),
             },
+            Setting::Seed => match self.seed {
+                Some(_) => None,
+                None => Some(Said {
+                    seed: Some(value),
+                    awaited: None,
+                    ..self
+                }),
+            },
             Setting::Workers => match self.workers {
                 Some(_) => None,
                 None => Some(Said {
@@ -206,12 +222,20 @@ impl Said {
         }
     }
 
-    /// The command that was said, or `None` where it is none, or a value is out of its range.
+    // Whether there is a seed, and no run on one thread.
+    fn is_seed_for_nothing(self) -> bool
+        ensures { result ≡ is_seed_for_nothing self }
+    {
+        self.seed.is_some() && !(matches!(self.command, Some(Name::Run)) && is_one(self.threads))
+    }
+
+    /// The command that was said, or `None` where it is none, a value is out of its range, or a seed is
+    /// for no run on one thread.
     pub fn command(self) -> Option<Command>
         ensures value { result ≡ command_said self }
         ensures playable { IfSome result (λ command. IsPlayable command) }
     {
-        if self.awaited.is_some() {
+        if self.awaited.is_some() || self.is_seed_for_nothing() {
             return None;
         }
         let threads = bounded(self.threads, 1, 16, 1)?;
@@ -219,6 +243,7 @@ impl Said {
         let events = bounded(self.events, 16, 131_072, 65_536)?;
         let machine = MachineSize { workers, events };
         let json = self.json;
+        let seed = self.seed;
         match self.command? {
             Name::Trace => Some(Command::Trace { machine }),
             Name::Check => Some(Command::Check),
@@ -228,6 +253,7 @@ impl Said {
             }
             Name::Run => Some(Command::Run {
                 threads,
+                seed,
                 machine,
                 json,
             }),
@@ -263,6 +289,8 @@ fn setting_in(word: &[u8]) -> Option<Setting>
 {
     if word == "--threads".as_bytes() {
         Some(Setting::Threads)
+    } else if word == "--seed".as_bytes() {
+        Some(Setting::Seed)
     } else if word == "--workers".as_bytes() {
         Some(Setting::Workers)
     } else if word == "--events".as_bytes() {
@@ -277,6 +305,16 @@ fn behind<'a>(front: &[u8], word: &'a [u8]) -> Option<&'a [u8]>
     ensures { option_copied result ≡ stripped front.now word.now }
 {
     word.strip_prefix(front)
+}
+
+// Whether a number of threads is one, which stands for none too.
+fn is_one(threads: Option<u64>) -> bool
+    ensures { result ≡ is_one threads }
+{
+    match threads {
+        Some(threads) => threads == 1,
+        None => true,
+    }
 }
 
 // A value in its range, or what stands for none.

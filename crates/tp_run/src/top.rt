@@ -1,6 +1,6 @@
 //! All that the program does, over any machine, any source, any sink and any gate.
 
-ghost use Rattle.std.specs.Prelude.{◌≡◌, ◌≢◌, ◌↔◌, ◌≤◌, ◌⊎◌, ℕ, false, List, [], IfErr, IfOk, Some, None, Err, length};
+ghost use Rattle.std.specs.Prelude.{◌≡◌, ◌≢◌, ◌↔◌, ◌≤◌, ◌⊎◌, ℕ, false, true, List, [], IfErr, IfOk, Some, None, Err, is_some, length};
 ghost use Rattle.tp_edge.specs.Counts.{Rose};
 ghost use Rattle.tp_edge.specs.Given.{with_given, TookFirst};
 ghost use Rattle.tp_edge.specs.Reading.{IsRead};
@@ -15,7 +15,7 @@ ghost use Rattle.tp_run.specs.Runs.{IsAnswered, IsBadLine, IsBadLineOf, IsReadTo
 ghost use Rattle.tp_run.specs.declared.status.Ending.{Ending};
 
 use crate::command::{Command, command_in};
-use crate::played::{play_script, play_script_alone, play_unwritten};
+use crate::played::{play_script, play_script_alone, play_script_drawn, play_unwritten};
 use crate::status::{Ending, Status};
 use crate::words::WordList;
 use recorded::Recorded;
@@ -26,7 +26,7 @@ use std::thread::Threads;
 use tp_edge::{ReadFault, Sink, Source, WriteFault, give_all, read_all};
 use tp_report::{MachineSize, Verdict, check, print_verdict, trace};
 use tp_script::{one_script_a_text, parse_script};
-use worker_gate::{Gate, one_history_alone};
+use worker_gate::{Gate, one_history_alone, one_history_drawn};
 
 /// The most bytes that an input may have.
 const INPUT_LIMIT: usize = 16_777_216;
@@ -201,15 +201,14 @@ fn reply<Rt: Threads + Wait + Sync, B: Recorded + Send, G: Gate + Sync>(
         }
         Command::Run {
             threads,
+            seed,
             machine,
             json,
         } => {
             one_history_alone();
+            one_history_drawn();
             one_script_a_text();
-            match threads {
-                1 => play_text_alone::<B, G>(alloc, bytes, machine, json, gate),
-                _ => play_text::<Rt, B, G>(rt, alloc, bytes, threads, machine, json, gate),
-            }
+            play_turns::<Rt, B, G>(rt, alloc, bytes, threads, seed, machine, json, gate)
         }
         Command::Big {
             number,
@@ -237,7 +236,32 @@ fn output_of(alloc: Global, verdict: &Verdict) -> Result<Output, AllocError>
     })
 }
 
-// What `run` writes of the script that is its input.
+// What `run` writes of the script that is its input, of which the turns are drawn if there is a seed.
+fn play_turns<Rt: Threads + Wait + Sync, B: Recorded + Send, G: Gate + Sync>(
+    rt: &Rt,
+    alloc: Global,
+    bytes: &[u8],
+    threads: u32,
+    seed: Option<u64>,
+    machine: MachineSize,
+    json: bool,
+    gate: &G,
+) -> Result<Output, Status>
+    requires few { length bytes.now ≤ INPUT_LIMIT }
+    requires threads { 1 ≤ threads }
+    requires alone { is_some seed ≡ true → threads ≡ 1 }
+    requires size { IsMachineSize machine }
+    ensures ok { IfOk result (λ output. IsPlayedOf bytes.now threads seed machine (whole_layout json) output.text.items output.ending) }
+    ensures err { IfErr result (IsScriptEnd bytes.now) }
+{
+    match (seed, threads) {
+        (Some(seed), _) => play_text_drawn::<B, G>(alloc, bytes, seed, machine, json, gate),
+        (None, 1) => play_text_alone::<B, G>(alloc, bytes, machine, json, gate),
+        (None, _) => play_text::<Rt, B, G>(rt, alloc, bytes, threads, machine, json, gate),
+    }
+}
+
+// The same on so many threads.
 fn play_text<Rt: Threads + Wait + Sync, B: Recorded + Send, G: Gate + Sync>(
     rt: &Rt,
     alloc: Global,
@@ -250,7 +274,7 @@ fn play_text<Rt: Threads + Wait + Sync, B: Recorded + Send, G: Gate + Sync>(
     requires few { length bytes.now ≤ INPUT_LIMIT }
     requires threads { 1 ≤ threads }
     requires size { IsMachineSize machine }
-    ensures ok { IfOk result (λ output. IsPlayedOf bytes.now threads machine (whole_layout json) output.text.items output.ending) }
+    ensures ok { IfOk result (λ output. IsPlayedOf bytes.now threads None machine (whole_layout json) output.text.items output.ending) }
     ensures err { IfErr result (IsScriptEnd bytes.now) }
 {
     let script = parse_script(alloc, bytes)?;
@@ -268,11 +292,30 @@ fn play_text_alone<B: Recorded, G: Gate>(
 ) -> Result<Output, Status>
     requires few { length bytes.now ≤ INPUT_LIMIT }
     requires size { IsMachineSize machine }
-    ensures ok { IfOk result (λ output. IsPlayedOf bytes.now 1 machine (whole_layout json) output.text.items output.ending) }
+    ensures ok { IfOk result (λ output. IsPlayedOf bytes.now 1 None machine (whole_layout json) output.text.items output.ending) }
     ensures err { IfErr result (IsScriptEnd bytes.now) }
 {
     let script = parse_script(alloc, bytes)?;
     let output = play_script_alone::<B, G>(alloc, &script, machine, json, gate)?;
+    Ok(output)
+}
+
+// The same with turns that are drawn from a seed.
+fn play_text_drawn<B: Recorded, G: Gate>(
+    alloc: Global,
+    bytes: &[u8],
+    seed: u64,
+    machine: MachineSize,
+    json: bool,
+    gate: &G,
+) -> Result<Output, Status>
+    requires few { length bytes.now ≤ INPUT_LIMIT }
+    requires size { IsMachineSize machine }
+    ensures ok { IfOk result (λ output. IsPlayedOf bytes.now 1 (Some seed) machine (whole_layout json) output.text.items output.ending) }
+    ensures err { IfErr result (IsScriptEnd bytes.now) }
+{
+    let script = parse_script(alloc, bytes)?;
+    let output = play_script_drawn::<B, G>(alloc, &script, seed, machine, json, gate)?;
     Ok(output)
 }
 
@@ -285,7 +328,7 @@ fn play_number<B: Recorded, G: Gate>(
     gate: &G,
 ) -> Result<Output, AllocError>
     requires size { IsMachineSize machine }
-    ensures { IfOk result (λ output. IsPlayedOf (long_script number) 1 machine (short_layout json) output.text.items output.ending) }
+    ensures { IfOk result (λ output. IsPlayedOf (long_script number) 1 None machine (short_layout json) output.text.items output.ending) }
 {
     let text = generate(alloc, number, LONG_SCRIPT_LENGTH)?;
     if INPUT_LIMIT < text.len() {

@@ -2,7 +2,7 @@ use Rattle.std.proofs.Common.{sym, subst, ap, ◌∙◌}
 use Rattle.tp_run.specs.Ends.{IsOutput, IsReply}
 use Rattle.tp_run.specs.declared.command.Command.TheVariants.{Run}
 use Rattle.tp_run.proofs.Checked.{output_of_verdict, reply_of_fault}
-use Rattle.tp_run.proofs.Scripted.{big_output, run_reply}
+use Rattle.tp_run.proofs.Scripted.{big_output, one_of, run_reply}
 use Rattle.tp_run.proofs.top.reply.Goals as goal
 
 pub returns-in_err-verdict-in-Check : goal.returns-in_err-verdict-in-Check
@@ -18,17 +18,12 @@ returns-in_ok-output_of-in-Check g c =
     (output_of_verdict c.args.bytes.now output.field-0.text.items c.in_ok-verdict-in-Check.verdict output.field-0.ending
     c.in_ok-verdict-in-Check.ensures.ok c.in_ok-verdict-in-Check.ensures.only output.ensures.text output.ensures.ending)
 
-pub returns-in-1 : goal.returns-in-1
-returns-in-1 g c =
+pub returns-in-Run : goal.returns-in-Run
+returns-in-Run g c =
     let made = c.in-Run in
-    subst (λ k. IsReply k c.args.bytes.now c.play_text_alone.result) (sym (made.is ∙ ap (λ n. Run n made.machine made.json) c.in-1.is))
-    (run_reply c.args.bytes.now 1 made.machine made.json c.play_text_alone.result c.one_history_alone.ensures c.one_script_a_text.ensures c.play_text_alone.ensures.ok c.play_text_alone.ensures.err)
-
-pub returns-in_default : goal.returns-in_default
-returns-in_default g c =
-    let made = c.in-Run in
-    subst (λ k. IsReply k c.args.bytes.now c.play_text.result) (sym made.is)
-    (run_reply c.args.bytes.now made.threads made.machine made.json c.play_text.result c.one_history_alone.ensures c.one_script_a_text.ensures c.play_text.ensures.ok c.play_text.ensures.err)
+    let told = c.play_turns.ensures in
+    subst (λ k. IsReply k c.args.bytes.now c.play_turns.result) (sym made.is)
+    (run_reply c.args.bytes.now made.threads made.seed made.machine made.json c.play_turns.result (one_of c.one_history_alone.ensures c.one_history_drawn.ensures made.seed) c.one_script_a_text.ensures told.ok told.err)
 
 pub returns-in_ok-output-in-Big : goal.returns-in_ok-output-in-Big
 returns-in_ok-output-in-Big g c =
