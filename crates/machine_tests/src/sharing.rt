@@ -352,8 +352,8 @@ fn expect_answer(rt: &impl Abort, tried: Tried, wanted: Answer) {
     assert!(rt; matches!(tried, Tried::Done(answer) if answer == wanted));
 }
 
-// A timer, a wait object, an I/O object and a work object, from first to last.
-fn try_objects<B: Recorded>(
+// A timer and a wait object, from first to last.
+fn try_timer_and_wait<B: Recorded>(
     rt: &impl Abort,
     pool: &SharedPool<B>,
     seat: &mut Seat<B>,
@@ -363,24 +363,43 @@ fn try_objects<B: Recorded>(
     requires env { IsEnvironInRange env }
     ensures { IsPlayer pool.now seat.new }
 {
-    let routine = RoutineId(1);
-    let (first, count) = (0, 0);
-    let was = false;
+    let (routine, was, first, count) = (RoutineId(1), false, 0, 0);
     let freed = Answer::Closed { later: false };
-    expect_answer(rt, pool.create_timer(seat, routine, 0, env), Answer::Made { number: 1 });
+    let made = pool.create_timer(seat, routine, 0, env);
+    expect_answer(rt, made, Answer::Made { number: 1 });
     let set = pool.set_timer_ex(seat, ObjectId(1), Some(5), 0, 0);
     expect_answer(rt, set, Answer::WasSet { was, first, count });
-    expect_answer(rt, pool.is_timer_set(seat, ObjectId(1)), Answer::Flag { value: true });
+    let set = pool.is_timer_set(seat, ObjectId(1));
+    expect_answer(rt, set, Answer::Flag { value: true });
     expect_answer(rt, pool.close_timer(seat, ObjectId(1)), freed);
-    expect_answer(rt, pool.create_wait(seat, routine, 0, env), Answer::Made { number: 2 });
+    let made = pool.create_wait(seat, routine, 0, env);
+    expect_answer(rt, made, Answer::Made { number: 2 });
     let set = pool.set_wait(seat, ObjectId(2), None, None);
     expect_answer(rt, set, Answer::Queued { first, count });
     expect_answer(rt, pool.close_wait(seat, ObjectId(2)), freed);
-    expect_answer(rt, pool.create_io(seat, routine, 0, env), Answer::Made { number: 3 });
-    expect_answer(rt, pool.start_io(seat, ObjectId(3)), Answer::Started { callback: 1 });
-    expect_answer(rt, pool.cancel_io(seat, ObjectId(3)), Answer::Cancelled { callback: 1 });
+}
+
+// An I/O object and a work object.
+fn try_io_and_work<B: Recorded>(
+    rt: &impl Abort,
+    pool: &SharedPool<B>,
+    seat: &mut Seat<B>,
+    env: Environ,
+)
+    requires player { IsPlayer pool.now seat.old }
+    requires env { IsEnvironInRange env }
+    ensures { IsPlayer pool.now seat.new }
+{
+    let freed = Answer::Closed { later: false };
+    let made = pool.create_io(seat, RoutineId(1), 0, env);
+    expect_answer(rt, made, Answer::Made { number: 3 });
+    let started = pool.start_io(seat, ObjectId(3));
+    expect_answer(rt, started, Answer::Started { callback: 1 });
+    let cancelled = pool.cancel_io(seat, ObjectId(3));
+    expect_answer(rt, cancelled, Answer::Cancelled { callback: 1 });
     expect_answer(rt, pool.close_io(seat, ObjectId(3)), freed);
-    expect_answer(rt, pool.create_work(seat, routine, 0, env), Answer::Made { number: 4 });
+    let made = pool.create_work(seat, RoutineId(1), 0, env);
+    expect_answer(rt, made, Answer::Made { number: 4 });
     expect_answer(rt, pool.close_work(seat, ObjectId(4)), freed);
 }
 
@@ -392,17 +411,33 @@ fn try_kernels<B: Recorded>(rt: &impl Abort, pool: &SharedPool<B>, seat: &mut Se
     let (first, count) = (0, 0);
     let (manual, signalled) = (true, false);
     pool.try_call(seat, Call::CreateEvent { manual, signalled });
-    expect_answer(rt, pool.set_event(seat, KernelId(1)), Answer::Queued { first, count });
+    expect_answer(
+        rt,
+        pool.set_event(seat, KernelId(1)),
+        Answer::Queued { first, count },
+    );
     expect_answer(rt, pool.reset_event(seat, KernelId(1)), Answer::Done);
     let (initial, maximum, previous) = (2, 5, 2);
     pool.try_call(seat, Call::CreateSemaphore { initial, maximum });
     let released = pool.release_semaphore(seat, KernelId(2), 1);
-    expect_answer(rt, released, Answer::Count { previous, first, count });
+    expect_answer(
+        rt,
+        released,
+        Answer::Count {
+            previous,
+            first,
+            count,
+        },
+    );
     let (lock, owned) = (Lock::Mutex, true);
     pool.try_call(seat, Call::CreateLock { lock, owned });
     let (lock, owned) = (Lock::Section, false);
     pool.try_call(seat, Call::CreateLock { lock, owned });
-    expect_answer(rt, pool.release_lock(seat, Lock::Mutex, KernelId(3)), Answer::Done);
+    expect_answer(
+        rt,
+        pool.release_lock(seat, Lock::Mutex, KernelId(3)),
+        Answer::Done,
+    );
 }
 
 // A worker's callback, which leaves three actions to its return.
@@ -413,9 +448,21 @@ fn try_callback<B: Recorded>(rt: &impl Abort, pool: &SharedPool<B>, seat: &mut S
     pool.try_call(seat, Call::Attach);
     pool.try_call(seat, Call::Take);
     expect_answer(rt, pool.may_run_long(seat), Answer::Flag { value: false });
-    expect_answer(rt, pool.leave_section_on_return(seat, KernelId(4), 1), Answer::Done);
-    expect_answer(rt, pool.release_mutex_on_return(seat, KernelId(3), 1), Answer::Done);
-    expect_answer(rt, pool.release_semaphore_on_return(seat, KernelId(2), 2), Answer::Done);
+    expect_answer(
+        rt,
+        pool.leave_section_on_return(seat, KernelId(4), 1),
+        Answer::Done,
+    );
+    expect_answer(
+        rt,
+        pool.release_mutex_on_return(seat, KernelId(3), 1),
+        Answer::Done,
+    );
+    expect_answer(
+        rt,
+        pool.release_semaphore_on_return(seat, KernelId(2), 2),
+        Answer::Done,
+    );
     let returned = Answer::Returned {
         section: SlotWord::NotOwner,
         mutex: SlotWord::NotOwner,
@@ -428,12 +475,7 @@ fn try_callback<B: Recorded>(rt: &impl Abort, pool: &SharedPool<B>, seat: &mut S
 }
 
 // What a client and a worker call by name, on a pool of which nothing has been asked.
-fn try_by_name<B: Recorded>(
-    rt: &impl Abort,
-    pool: &SharedPool<B>,
-    client: Seat<B>,
-    worker: Seat<B>,
-)
+fn try_by_name<B: Recorded>(rt: &impl Abort, pool: &SharedPool<B>, client: Seat<B>, worker: Seat<B>)
     requires client { IsPlayer pool.now client }
     requires worker { IsPlayer pool.now worker }
 {
@@ -445,9 +487,18 @@ fn try_by_name<B: Recorded>(
         priority: Priority::Normal,
         long: false,
     };
-    expect_answer(rt, pool.create_pool(&mut client), Answer::Made { number: 1 });
-    expect_answer(rt, pool.set_minimum(&mut client, PoolId(1), 1), Answer::Done);
-    try_objects(rt, pool, &mut client, env);
+    expect_answer(
+        rt,
+        pool.create_pool(&mut client),
+        Answer::Made { number: 1 },
+    );
+    expect_answer(
+        rt,
+        pool.set_minimum(&mut client, PoolId(1), 1),
+        Answer::Done,
+    );
+    try_timer_and_wait(rt, pool, &mut client, env);
+    try_io_and_work(rt, pool, &mut client, env);
     try_kernels(rt, pool, &mut client);
     let submitted = pool.submit_simple(&mut client, RoutineId(1), 0, env);
     expect_answer(rt, submitted, Answer::Queued { first: 2, count: 1 });
