@@ -32,7 +32,9 @@ fn history_text(alloc: Global, book: &Kept<Book>) -> Result<Vec<u8>, AllocError>
     let limits = book.limits();
     let (clients, workers) = (limits.clients, limits.workers);
     let events = book.capacity();
-    let first = format!(in alloc; "history 1 clients {clients} workers {workers} events {events}\n")?;
+    let first = format!(in alloc;
+        "history 1 clients {clients} workers {workers} events {events}\n"
+    )?;
     let last = format!(in alloc; "end {}\n", book.len())?;
     let mut text = Vec::from_slice(alloc, first.as_bytes())?;
     append_entries(book, None, &mut text)?;
@@ -45,7 +47,12 @@ pub fn print_shutdown<Rt: Threads + Wait + Sync>(host: &HostRuntime, rt: &Rt) ->
     let alloc = host.alloc();
     let (book, served) = play::<Kept<Book>, _>(rt, alloc)?;
     let mut out = Vec::new(alloc);
-    for who in [Who::Client(1), Who::Client(2), Who::Worker(1), Who::Worker(2)] {
+    for who in [
+        Who::Client(1),
+        Who::Client(2),
+        Who::Worker(1),
+        Who::Worker(2),
+    ] {
         append_entries(&book, Some(who), &mut out)?;
     }
     let Ok(verdict) = check::<Book>(alloc, &history_text(alloc, &book)?) else {

@@ -33,8 +33,11 @@ const EVENTS: u32 = 1_024;
 
 // What the server makes is numbered from 1 on.
 const HALL: PoolId = PoolId(1);
+
 const ALL: GroupId = GroupId(1);
+
 pub const REQUESTS: ObjectId = ObjectId(1);
+
 const MINUTE: ObjectId = ObjectId(2);
 
 /// The event that is set as the callback of the first request returns.
