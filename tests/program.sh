@@ -7,6 +7,8 @@ for words in '' 'foo' 'trac' 'traced' 'tra ce' 'trace trace' 'Trace' ''$'\xff' '
     'run --threads 0' 'run --threads 17' 'run --workers 65' 'run --events 15' 'run --threads' 'run --threads 1 --threads 1' 'big 7 --threads 0' \
     'trace --workers' 'trace --workers=' 'trace --workers 0' 'trace --workers 65' 'trace --workers 04' 'trace --workers -4' \
     'trace --workers -- 4' 'trace --worker 4' 'trace --workers 4 --workers=4' 'trace --threads 17' 'gen 7 --threads=0' \
+    'run --seed' 'run --seed -1' 'run --seed 07' 'run --seed 18446744073709551616' 'run --seed 1 --seed=1' 'run --seed 1 --threads 2' \
+    'trace --seed 1' 'check --seed 1' 'gen 7 --seed 1' 'big 7 --seed=1' '--seed 1' \
     'trace --events 15' 'trace --events=131073' 'trace --json --json' 'trace --json=1' '-- --json trace' 'trace -- --'; do
     # shellcheck disable=SC2086
     try "bad words: '$words'" 1 '' $'tpool: bad words\n' "$program" $words
@@ -18,7 +20,8 @@ for words in 'trace --json' '--json trace' 'trace --' '-- trace' '--workers 4 tr
     try "good words: '$words'" 0 '' '' "$program" $words
 done
 set_up_alone=$'history 1 clients 1 workers 1 events 16\nc1 finish -> ok\nend 1\nentries 1\ncallbacks 0\ntaken 0\ncancelled 0\nleft 0\nrefused 0\n'
-for words in '--workers 1 run --events=16' 'run --threads=16 --workers 1 --events 16' '--workers=1 --events=16 -- run'; do
+for words in '--workers 1 run --events=16' 'run --threads=16 --workers 1 --events 16' '--workers=1 --events=16 -- run' \
+    '--seed 0 run --workers 1 --events 16' 'run --seed=18446744073709551615 --threads 1 --workers 1 --events=16'; do
     # shellcheck disable=SC2086
     try "good words: '$words'" 0 "$set_up_alone" '' "$program" $words
 done

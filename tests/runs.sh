@@ -2,24 +2,6 @@
 # shellcheck shell=bash
 
 server=$here/examples/server.script
-# The program that plays by a seed. Where the one that is built has no seeds, something else stands in its place, which
-# makes of a seed the number of workers.
-seeded=$tpool
-has_seeds=yes
-if ! "$program" run --seed=1 </dev/null >/dev/null 2>&1; then
-    has_seeds=
-    seeded=$room/seeded/bin/tpool
-    "$tpool" install "$room/seeded" 2>/dev/null
-    cat >"$room/seeded/lib/tpool/tp_top" <<END_OF_PROGRAM
-#!/usr/bin/env bash
-for word in "\$@"; do
-    shift
-    [[ \$word != --seed=* ]] || word=--workers=\$((\${word#*=} % 3 + 1))
-    set -- "\$@" "\$word"
-done
-exec "$program" "\$@"
-END_OF_PROGRAM
-fi
 # run_and COMMAND WORD..: what a command makes of what is written by `run` with these words.
 run_and() { "$tpool" run "${@:2}" 2>/dev/null | "$tpool" "$1"; }
 without_last_byte() { head -c -1 | "$@"; }
@@ -169,10 +151,10 @@ done
 try 'big without a number' 1 '' $'~tpool: bad words\ntpool: big wants a number, *\n' "$tpool" big
 input=$alone
 try "nothing can be written: run" 4 '' $'tpool: write fault\n' to /dev/full "$tpool" run "$room/alone.script"
-try "nothing can be written: runs" 4 '' $'tpool: write fault\n' to /dev/full "$seeded" runs "$room/alone.script" 2
+try "nothing can be written: runs" 4 '' $'tpool: write fault\n' to /dev/full "$tpool" runs "$room/alone.script" 2
 for command in run runs; do
-    try "standard input is closed: $command" 3 '' $'tpool: read fault\n' without_input "$seeded" "$command"
-    try "no such file: $command" 3 '' "tpool: read fault: there is no file $room/none"$'\n' "$seeded" "$command" "$room/none"
+    try "standard input is closed: $command" 3 '' $'tpool: read fault\n' without_input "$tpool" "$command"
+    try "no such file: $command" 3 '' "tpool: read fault: there is no file $room/none"$'\n' "$tpool" "$command" "$room/none"
 done
 yes 'group g' | head -c 16777217 >"$room/too_long"
 try 'a script that is too long' 6 '' $'tpool: input too long\n' on "$room/too_long" "$program" run
@@ -186,7 +168,7 @@ bad_script() {
     printf -v mark '%*s' "$2" '^'
     input=$3
     try "a bad script: $4" 2 '' "tpool: bad line $1 column $2"$'\n'"$room/input:$1:$2: $4"$'\n'"    $line"$'\n'"    $mark"$'\n' "$tpool" run "$room/input"
-    try "a bad script by a pipe: $4" 2 '' "tpool: bad line $1 column $2"$'\n'"$1:$2: $4"$'\n'"    $line"$'\n'"    $mark"$'\n' by_pipe "$seeded" runs
+    try "a bad script by a pipe: $4" 2 '' "tpool: bad line $1 column $2"$'\n'"$1:$2: $4"$'\n'"    $line"$'\n'"    $mark"$'\n' by_pipe "$tpool" runs
 }
 routine=$'routine r\ndone\n'
 long_name=abcdefghijklmnopqrstuvwxyz_123456
@@ -262,42 +244,39 @@ for words in '--threads 2' "--threads 2 --keep $room/tpool-runs-kept"; do
 done
 no_folder() { ls -d "$room"/tpool-runs-* 2>/dev/null; }
 try 'and no folder is left' '~[12]' '' '' no_folder
-try 'a folder that can not be written' 4 '' $'tpool: write fault: nothing can be written into /proc/none\n' "$seeded" runs --keep /proc/none "$clock" 2
+try 'a folder that can not be written' 4 '' $'tpool: write fault: nothing can be written into /proc/none\n' "$tpool" runs --keep /proc/none "$clock" 2
 unset TMPDIR
 
 # --- The same by seeds
 export TMPDIR=$room
-try 'by seeds nothing is kept' 0 $'~40 runs, of the seeds 1 to 40: *\n* ./tpool run --seed K FILE shows run K again.\n*' '' "$seeded" runs "$server" 40
+try 'by seeds nothing is kept' 0 $'~40 runs, of the seeds 1 to 40: *\n* ./tpool run --seed K FILE shows run K again.\n*' '' "$tpool" runs "$server" 40
 try 'no folder is left of that' '~[12]' '' '' no_folder
 unset TMPDIR
-sums_by_seeds() { tpool=$seeded sums_up "$@"; }
-try 'each run by a seed is in one row' 0 $'1 150\n' '' sums_by_seeds "$server" 150
-twice() { cmp <("$seeded" runs "$server" 60) <("$seeded" runs "$server" 60); }
+try 'each run by a seed is in one row' 0 $'1 150\n' '' sums_up "$server" 150
+twice() { cmp <("$tpool" runs "$server" 60) <("$tpool" runs "$server" 60); }
 try 'the same seeds, the same table' 0 '' '' twice
-try 'one seed' 0 '~1 run, of the seed 1: 1 different history, of *' '' "$seeded" runs "$server" 1
+try 'one seed' 0 '~1 run, of the seed 1: 1 different history, of *' '' "$tpool" runs "$server" 1
 # The shortest of the first row, as it is kept and as its seed shows it again.
 shown_again() {
     local seed
-    seed=$("$seeded" runs "$server" 30 | sed -n '5s/.*, seed //p')
-    "$seeded" runs "$server" 30 --keep "$room/kept" >/dev/null &&
-        file=$("$seeded" runs "$server" 30 --keep "$room/kept" | sed -n '5s/.*entries, //p') &&
-        cmp <("$seeded" run --seed "$seed" "$server") <(sed '/^name /d' "$room/kept/$file")
+    seed=$("$tpool" runs "$server" 30 | sed -n '5s/.*, seed //p')
+    "$tpool" runs "$server" 30 --keep "$room/kept" >/dev/null &&
+        file=$("$tpool" runs "$server" 30 --keep "$room/kept" | sed -n '5s/.*entries, //p') &&
+        cmp <("$tpool" run --seed "$seed" "$server") <(sed '/^name /d' "$room/kept/$file")
 }
 try 'a run is shown again by its seed' 0 '' '' shown_again
 as_json() {
-    "$seeded" runs "$server" 30 --json | python3 -c 'import json, sys; table = json.load(sys.stdin); print(table["of"], sum(kind["runs"] for kind in table["kinds"]), sum(kind["runs"] for kind in table["kinds"] for thing in kind["things"]) == sum(thing["runs"] for thing in table["things"]), sorted(table))'
+    "$tpool" runs "$server" 30 --json | python3 -c 'import json, sys; table = json.load(sys.stdin); print(table["of"], sum(kind["runs"] for kind in table["kinds"]), sum(kind["runs"] for kind in table["kinds"] for thing in kind["things"]) == sum(thing["runs"] for thing in table["things"]), sorted(table))'
 }
 ! command -v python3 >/dev/null ||
     try 'the table as JSON' 0 $'30 30 True [\'folder\', \'histories\', \'kinds\', \'longest\', \'of\', \'runs\', \'shortest\', \'things\', \'threads\']\n' '' as_json
-try 'an empty script is told' 0 '~3 runs, of the seeds 1 to 3: *' $'tpool: the script is empty\n' "$seeded" runs - 3
+try 'an empty script is told' 0 '~3 runs, of the seeds 1 to 3: *' $'tpool: the script is empty\n' "$tpool" runs - 3
 # How many runs of a script had a refusal.
-refusals() { "$seeded" runs "$@" --json 2>/dev/null | sed 's/.*"things"://' | awk '{ print (/"came":"refused released"/ ? "some" : "none") }'; }
-if [[ -n $has_seeds ]]; then
-    try 'a timer that is left set is found' 0 $'some\n' '' refusals "$here/examples/timer-left-set.script" 100
-    try 'one that is unset has nothing to be found' 0 $'none\n' '' refusals "$here/examples/timer-unset.script" 1000
-fi
-try 'one line of the table is read' 0 '~3 runs, *' '' first_line "$seeded" runs "$server" 3
-in_a_while() { timeout --preserve-status -s INT 3 "$seeded" runs "$server" 1000000; }
+refusals() { "$tpool" runs "$@" --json 2>/dev/null | sed 's/.*"things"://' | awk '{ print (/"came":"refused released"/ ? "some" : "none") }'; }
+try 'a timer that is left set is found' 0 $'some\n' '' refusals "$here/examples/timer-left-set.script" 100
+try 'one that is unset has nothing to be found' 0 $'none\n' '' refusals "$here/examples/timer-unset.script" 1000
+try 'one line of the table is read' 0 '~3 runs, *' '' first_line "$tpool" runs "$server" 3
+in_a_while() { timeout --preserve-status -s INT 3 "$tpool" runs "$server" 1000000; }
 try 'how long it takes is said, and what came until an interrupt' 130 '~[1-9]* of 1000000 runs, of the seeds up to 1000000: *' '~tpool: 1000000 runs take about [1-9]*' in_a_while
 
 # --- The names of a script in a history, and the rings of stalls
