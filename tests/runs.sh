@@ -134,6 +134,26 @@ thousand() {
 try 'a thousand runs on four threads come to different histories, each of them legal' 0 $'at least ten\n' '' thousand
 rm -rf "$room/thousand"
 
+# --- Turns that are drawn
+two_times_drawn() {
+    "$program" run --seed 7 <"$server" >"$room/drawn" && "$program" run --threads 1 --seed=7 <"$server" | cmp - "$room/drawn" && "$program" run <"$server" | cmp -s - "$room/drawn"
+    echo $?
+}
+try 'a seed gives the same bytes again, and others than turns in rounds' 0 $'1\n' '' two_times_drawn
+# A hundred seeds, each history legal. How many of them are there?
+hundred_seeds() {
+    local seed
+    mkdir -p "$room/seeds"
+    for ((seed = 0; seed < 100; seed++)); do
+        "$program" run --seed "$seed" <"$server" >"$room/seeds/$seed" || return
+        "$program" check <"$room/seeds/$seed" || return
+    done | awk '!/^legal /'
+    (cd "$room/seeds" && sha256sum -- * | awk '!seen[$1]++ { count++ } END { print (count < 90 ? count : "at least ninety") }')
+}
+try 'a hundred seeds come to different histories, each of them legal' 0 $'at least ninety\n' '' hundred_seeds
+rm -rf "$room/seeds"
+try 'the script of a file with a seed' 0 "$("$program" run --seed 7 <"$server")"$'\n' '' "$tpool" run --seed 7 "$server"
+
 # --- The long script of a number
 try 'big' 0 '~entries *callbacks *taken *cancelled *left 0'$'\n''refused *' '' "$program" big 7
 try 'it is the same again, from the script' 0 "$("$program" big 7)"$'\n' '' "$tpool" big 7
