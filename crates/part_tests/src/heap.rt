@@ -8,31 +8,6 @@ use timer_heap::DueHeap;
 
 const KEYS: u32 = 1_000_000;
 
-#[test]
-fn keys_come_due_in_order(rt: HostRuntime) {
-    let mut heap = expect_ok(&rt, DueHeap::open(rt.alloc(), 3));
-    let mut steps = Steps::new();
-    heap.set(2, 70, &mut steps);
-    heap.set(1, 50, &mut steps);
-    heap.set(0, 50, &mut steps);
-    heap.note_due(50);
-    expect_eq(
-        &rt,
-        (
-            heap.len(),
-            heap.count_due(50),
-            heap.count_due_where(50, &|key| key > 0),
-            heap.due_of(2),
-            heap.pop_due(49, &mut steps),
-            heap.pop_due(60, &mut steps),
-            heap.count_due(50),
-            heap.unset(2, &mut steps),
-        ),
-        (3, 2, 1, Some(70), None, Some((50, 0)), 1, true),
-    );
-    drop(heap);
-}
-
 fn due_at(key: u32) -> u64 {
     u64::from(key) * 7919 % 1_000_000
 }
