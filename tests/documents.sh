@@ -186,6 +186,24 @@ try 'names in the documents are defined where these say' 0 '' '' inside "$here" 
 crates_stand() { awk -f tests/stands_on.awk crates.txt README.md docs/*.md crates/*/README.md; }
 try 'crates stand on those that the documents say' 0 '' '' inside "$here" crates_stand
 
+# The crates that no program stands on.
+unused_crates() {
+    (cd "$here/crates" && printf '%s\n' */src/main.rt) | awk -F '[:/]' '
+        FNR == NR { wanted[$1]; next }
+        /^[a-z]/ { crates[++count] = $1; below[$1] = $2 }
+        END {
+            do {
+                grown = 0
+                for (at = 1; at <= count; at++) {
+                    if (!(crates[at] in wanted)) continue
+                    libraries = split(below[crates[at]], library, " ")
+                    for (one = 1; one <= libraries; one++) if (!(library[one] in wanted)) { wanted[library[one]]; grown = 1 }
+                }
+            } while (grown)
+            for (at = 1; at <= count; at++) if (!(crates[at] in wanted)) print crates[at]
+        }' - "$here/crates.txt"
+}
+try 'a program stands on each crate but those of tests' 0 $'machine_tests\npart_tests\n' '' unused_crates
 crate_names() { sed -n 's/^\([a-z][a-z_0-9]*\):.*/\1/p' crates.txt; }
 
 # The files of some crates in which a word of a pattern stands, but for worked examples.
