@@ -35,10 +35,14 @@ sum_of() {
     echo "${sum%% *}"
 }
 
-# The sum of crates.txt and of all sources and proofs that the program is built of, with their names.
+# The sum of what the program is built of: its crates with those that they stand on, and all their sources and
+# proofs with their names.
 sum_sources() {
-    { sha256sum <"$home/crates.txt" && find_files \( -name '*.rt' -o -name '*.antt' \) -exec sha256sum {} +; } |
-        LC_ALL=C sort | sum_of
+    local name
+    {
+        for name in "${crates[@]}"; do printf '%s:%s\n' "$name" "${below[$name]}"; done
+        find_files \( -name '*.rt' -o -name '*.antt' \) -exec sha256sum {} +
+    } | LC_ALL=C sort | sum_of
 }
 
 # Whether the program is the one of these sources, by their sums and its own. Of a program that rt has built by itself

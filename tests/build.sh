@@ -171,11 +171,19 @@ find "$copy/crates" -exec touch {} +
 is_current 'all dates are new' "$copy"
 find "$copy/crates" -exec touch -d 2020-01-01 {} +
 is_current 'all dates are old' "$copy"
+echo 'of_no_program: tp_base' >>"$copy/crates.txt"
+is_current 'a crate that the program lacks came' "$copy"
+make_change() {
+    case $1 in
+    */crates.txt) sed -i 's/^steps:.*/& slab/' "$1" ;;
+    *) echo '# A change.' >>"$1" ;;
+    esac
+}
 for part in crates/tp_base/specs/Lib.antt crates/steps/proofs/New.antt crates.txt; do
     mkdir -p "$(dirname "$copy/$part")" && touch "$copy/$part" && cp -p "$copy/$part" "$room/part"
     touch -d 2020-01-01 "$room/part"
     with_rt "$copy/tpool" prove 2>/dev/null
-    echo '# A change.' >>"$copy/$part"
+    make_change "$copy/$part"
     touch -d 2020-01-01 "$copy/$part"
     try "$part changed" 0 $'refused no-such\n' "$older" with_rt "$copy/tpool" trace
     is_older 'the version then' "$copy"
@@ -183,7 +191,7 @@ for part in crates/tp_base/specs/Lib.antt crates/steps/proofs/New.antt crates.tx
     is_older 'so in a copy' "$room/another"
     cp -p "$room/part" "$copy/$part"
     is_current 'as it was before' "$copy"
-    echo '# A change.' >>"$copy/$part"
+    make_change "$copy/$part"
     try 'it is built again' 0 '' '~*proved and built'$'\n' with_rt "$copy/tpool" prove
     try 'and starts at once' 0 $'refused no-such\n' '' without_rt "$copy/tpool" trace
     rm -rf "$room/another" && cp -r "$copy" "$room/another"
