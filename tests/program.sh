@@ -55,8 +55,16 @@ on() { "${@:2}" <"$1"; }
 to() { "${@:2}" >"$1"; }
 errors_to() { "${@:2}" 2>"$1"; }
 without_input() { "$@" <&-; }
-# The program's status at the front of a pipe that nobody reads.
-into_closed_pipe() { { sleep 0.2; "$@"; echo $? >"$room/status"; } | true; return "$(<"$room/status")"; }
+# A command at the front of a pipe that nobody reads any more.
+into_closed_pipe() {
+    local pipe status
+    exec {pipe}> >(:)
+    wait $!
+    "$@" >&"$pipe"
+    status=$?
+    exec {pipe}>&-
+    return "$status"
+}
 
 try 'a directory is read' 3 '' $'tpool: read fault\n' on / "$program" trace
 input=$'c1 submit 1\n'
