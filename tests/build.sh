@@ -52,7 +52,7 @@ END_OF_LINKER
 # A program that stops at a check.
 cat >"$room/stops" <<'END_OF_PROGRAM'
 #!/usr/bin/env bash
-printf 'AddressSanitizer:DEADLYSIGNAL\n==7==ERROR: AddressSanitizer: ILL on unknown address 0x5c692 (pc 0x5c692 T0)\nframe 0x1\n' >&2
+printf 'AddressSanitizer:DEADLYSIGNAL\n==7==ERROR: AddressSanitizer: ILL on unknown address 0x5c692 (pc 0x5c692)\nframe 0x1\n' >&2
 kill -ABRT $$
 END_OF_PROGRAM
 : >"$fake_kit/bin/rtlib.py"
