@@ -15,7 +15,7 @@ use Rattle.turn_lock.specs.declared.views.Part.{Part}
 use Rattle.turn_lock.specs.declared.views.Setup.{Setup}
 use Rattle.turn_lock.specs.declared.views.View.{View}
 use Rattle.turn_lock.specs.Histories.{actor_of, own}
-use Rattle.turn_lock.specs.Rule.{IsSeated, Stands, Holds, Fits, IsHome, Ruled}
+use Rattle.turn_lock.specs.Rule.{IsAnother, IsSeated, Stands, Holds, Fits, IsHome, Ruled}
 use Rattle.turn_lock.specs.Steps.{Informs, fronted, grabbed, appended, gave_back, history_in_hand}
 use Rattle.turn_lock.specs.Views.{part, HasNumber, informed, holding, let_go, has_met, recording_of, opening_view}
 use Rattle.turn_lock.proofs.Beginnings.{starts_itself, starts_nothing, starts_longer, own_other, actors_apart}
@@ -111,16 +111,20 @@ module _ {B : Type 0} (recording : B → Recording) (setup : Setup) where
       }
 
   -- another seat holds it
-  misses : (s : State B View) (r : Rule s) (id number : ℕ) (mine : List Entry) (v : View) → get_elem? s.views id ≡ some v → v.holds ≡ false → v.parts ≡ part number mine ∷ [] → r.holder ≢ 0 → (r.holder ≢ number) × (r.holder < 2 ^ 32)
+  misses : (s : State B View) (r : Rule s) (id number : ℕ) (mine : List Entry) (v : View) → get_elem? s.views id ≡ some v → v.holds ≡ false → v.parts ≡ part number mine ∷ [] → r.holder ≢ 0 → IsAnother setup number r.holder × (r.holder < 2 ^ 32)
   misses s r id number mine v at off parts some_holder =
       let h = r.held some_holder in
       let u = r.each h.seat h.view h.at in
       let in_range = has_stands setup r.history h.view.parts r.holder h.number u.parts in
       let few = r.few in (
-        (λ is.
-            let here : HasNumber r.holder v.parts = subst (HasNumber r.holder) (sym parts) (inl (sym is)) in
-            let same : v ≡ h.view = one_view s.views id h.seat v h.view (r.once id h.seat v h.view r.holder at h.at here h.number) at h.at in
-            true≢false (sym h.holds ∙ (ap (λ (x : View). x.holds) (sym same) ∙ off))),
+        record {
+          least = in_range.0;
+          most = in_range.1;
+          apart = λ is.
+              let here : HasNumber r.holder v.parts = subst (HasNumber r.holder) (sym parts) (inl (sym is)) in
+              let same : v ≡ h.view = one_view s.views id h.seat v h.view (r.once id h.seat v h.view r.holder at h.at here h.number) at h.at in
+              true≢false (sym h.holds ∙ (ap (λ (x : View). x.holds) (sym same) ∙ off));
+        },
         omega arith,
       )
 
@@ -147,7 +151,9 @@ module _ {B : Type 0} (recording : B → Recording) (setup : Setup) where
       ))
       (λ (taken : x ≢ 0).
       let some_holder : r.holder ≢ 0 = λ z. taken (holder_is s r ∙ z) in
-      let missed = misses s r id number mine v at off parts some_holder in (
+      let missed = misses s r id number mine v at off parts some_holder in
+      let is : v.setup ≡ setup = f.setup_is there in
+      let other : IsAnother v.setup number x = subst (λ (t : Setup × ℕ). IsAnother t.0 number t.1) (λ i. (sym is i, sym (holder_is s r) i)) missed.0 in (
         has_met v x,
         keeps,
         tt,
@@ -155,7 +161,7 @@ module _ {B : Type 0} (recording : B → Recording) (setup : Setup) where
             (record { setup_is = f.setup_is; seen = f.seen; told = f.told; parts = f.parts; turn = λ on. absurd (true≢false (sym on ∙ off)) }) refl refl,
         (
           (λ free. absurd (taken free)),
-          (λ _. record { other = λ is. missed.0 (sym (holder_is s r) ∙ is); small = subst (λ (n : ℕ). n < 2 ^ 32) (sym (holder_is s r)) missed.1; seat = refl }),
+          (λ _. record { other = other; small = subst (λ (n : ℕ). n < 2 ^ 32) (sym (holder_is s r)) missed.1; seat = refl }),
         ),
       ))
 

@@ -11,7 +11,7 @@ use Rattle.turn_lock.specs.declared.views.Part.{Part}
 use Rattle.turn_lock.specs.declared.views.Setup.{Setup}
 use Rattle.turn_lock.specs.declared.views.View.{View}
 use Rattle.turn_lock.specs.Histories.{actor_of, own, StartsWith}
-use Rattle.turn_lock.specs.Rule.{Stands}
+use Rattle.turn_lock.specs.Rule.{IsAnother, Stands}
 use Rattle.turn_lock.specs.Seats.{mine_in, mine_of, seen_of, actor_in, parts_of, IsWhole, IsIdle, IsAtTurn, IsInformed, HasLooked, HasEntered, HasMet, HasLeft, IsWritten, HasAppended, IsCopy}
 use Rattle.turn_lock.specs.Steps.{Informs, Fronted, Took, Missed, history_in_hand}
 use Rattle.turn_lock.proofs.Beginnings.{own_more}
@@ -104,7 +104,6 @@ module _ {B : Type 0} where
       let parts : raw.me.0.parts ≡ a.raw.me.0.parts = ap (λ (v : View). v.parts) e in
       let setup : raw.me.0.setup ≡ a.raw.me.0.setup = ap (λ (v : View). v.setup) e in
       let seen : raw.me.0.seen ≡ a.raw.me.0.seen = ap (λ (v : View). v.seen) e in
-      let other = m.other in
       record {
         same = record { lock = lock; number = refl; setup = setup };
         idle = record {
@@ -115,7 +114,7 @@ module _ {B : Type 0} where
         seen = seen;
         mine = ap mine_in parts;
         met = ap (λ (v : View). v.met) e;
-        other = λ same. other (same ∙ sym is);
+        other = subst (λ (n : ℕ). IsAnother a.raw.me.0.setup n found) is m.other;
       }
 
   pub leaves : (a : Seat B) (raw : Raw B View) (book : B) → raw.table_id ≡ a.raw.table_id → IsAtTurn a book → raw.me ≡ (let_go a.raw.me.0, rest a.raw.me.1) → HasLeft a (seat_with a raw)

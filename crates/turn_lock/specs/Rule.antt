@@ -20,6 +20,12 @@ pub record IsSeated (setup : Setup) (who : Who) : Type 0 where
   pub most : number ≤ setup.seats
   pub is : who ≡ actor_of setup.limits number
 
+-- the number is one of those that were dealt, and not this one
+pub record IsAnother (setup : Setup) (number other : ℕ) : Type 0 where
+  pub least : 1 ≤ other
+  pub most : other ≤ setup.seats
+  pub apart : other ≢ number
+
 -- the number is one of those that were dealt, and these are its actor's entries
 pub record Stands (setup : Setup) (history : List Entry) (p : Part) : Type 0 where
   pub least : 1 ≤ p.number

@@ -11,7 +11,7 @@ use Rattle.turn_lock.specs.declared.views.Part.{Part}
 use Rattle.turn_lock.specs.declared.views.Setup.{Setup}
 use Rattle.turn_lock.specs.declared.views.View.{View}
 use Rattle.turn_lock.specs.Histories.{actor_of, own, StartsWith}
-use Rattle.turn_lock.specs.Rule.{IsSeated}
+use Rattle.turn_lock.specs.Rule.{IsAnother, IsSeated}
 use Rattle.turn_lock.specs.Views.{part, recording_of}
 
 abbrev pub mine_in : List Part → List Entry
@@ -105,7 +105,7 @@ module _ {B : Type 0} where
     pub seen : seen_of b ≡ seen_of a
     pub mine : mine_of b ≡ mine_of a
     pub met : met_of b ≡ met_of a ++ holder ∷ []
-    pub other : ¬ (holder ≡ a.number)
+    pub other : IsAnother (setup_in a) a.number holder
 
   -- a seat that has seen as much as this one, and stands for nobody
   pub record IsCopy (seat copy : Seat B) : Type 0 where

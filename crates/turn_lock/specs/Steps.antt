@@ -6,7 +6,7 @@ use Rattle.tp_model.specs.History.{IsLegal}
 use Rattle.recorded.specs.Recordings.{Recording}
 use Rattle.turn_lock.specs.declared.views.View.{View}
 use Rattle.turn_lock.specs.Histories.{StartsWith}
-use Rattle.turn_lock.specs.Rule.{IsSeated, Stands}
+use Rattle.turn_lock.specs.Rule.{IsAnother, IsSeated, Stands}
 use Rattle.turn_lock.specs.Views.{informed, holding, let_go, has_met, entered, recording_of}
 
 -- what is known of the history by a look at its length
@@ -35,7 +35,7 @@ pub record Took {B : Type 0} (recording : B → Recording) (m n : Me B View) : T
 
 -- another seat held it
 pub record Missed {B : Type 0} (number : ℕ) (m : Me B View) (found : ℕ) (n : Me B View) : Type 0 where
-  pub other : found ≢ number
+  pub other : IsAnother m.0.setup number found
   pub small : found < 2 ^ 32
   pub seat : n ≡ (has_met m.0 found, m.1)
 
