@@ -15,7 +15,6 @@ use Rattle.script_lines.specs.declared.words.Field.TheVariants as field
 use Rattle.script_lines.specs.declared.words.Sort.{Sort}
 use Rattle.script_lines.specs.declared.words.Sort.TheVariants as sort
 use Rattle.script_lines.specs.declared.words.Tally.{Tally}
-use Rattle.script_lines.specs.declared.words.TheConstants.{WORDS}
 use Rattle.script_lines.specs.declared.words.Want.{Want}
 use Rattle.script_lines.specs.declared.words.Want.TheVariants as want
 use Rattle.script_lines.specs.declared.words.Word.{Word}
@@ -23,7 +22,7 @@ use Rattle.script_lines.specs.declared.words.Word.TheVariants as word
 use Rattle.script_lines.specs.Known.{found_in, is_standing}
 use Rattle.script_lines.specs.Lines.{form_of, put, put_by_sort, put_word}
 use Rattle.script_lines.specs.Readings.{Goes, IsLineRead, StepsBy, Trail, first_trail}
-use Rattle.script_lines.specs.Shapes.{class_of, text_of_word}
+use Rattle.script_lines.specs.Shapes.{all_words, class_of, text_of_word}
 use Rattle.script_lines.specs.States.{count_of, limit_of}
 use Rattle.script_lines.specs.Texts.{Spot, is_name}
 use Rattle.script_lines.specs.Tokens.{FitsForm, armed_of, choice_of, fresh_of, has_room, is_at, is_head, is_repeated, may_stand, name_of, suits, token_of_word, word_at}
@@ -75,7 +74,7 @@ module _ (state : State) where
   choice_head : (part : Field) (text : List ℕ) (said : Token) → choice_of state part text ≡ Some said → SaysHead state said
   choice_head part text said e =
       chosen_head part (word_at state.place part text) said
-      (λ head found. both_true (bytes_eq (text_of_word head) text) (may_stand state.place part (class_of head)) (found_passes (is_at state.place part text) WORDS head found))
+      (λ head found. both_true (bytes_eq (text_of_word head) text) (may_stand state.place part (class_of head)) (found_passes (is_at state.place part text) all_words head found))
       e
 
   fresh_head : (known : Known) (tally : Tally) (text : List ℕ) (said : Token) → fresh_of known tally text ≡ Some said → SaysHead state said

@@ -1,5 +1,5 @@
 pub mod HeadFacts
 pub mod LineFacts
 mod NameFacts
-mod TextFacts
+pub mod TextFacts
 mod TokenFacts

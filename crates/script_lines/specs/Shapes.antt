@@ -1,5 +1,7 @@
 -- The words of scripts: among which each stands, its text, and the fields behind it.
-use Rattle.std.specs.Prelude.{ℕ, List, [], ◌∷◌, codes}
+use Rattle.std.specs.Prelude.{ℕ, true, false, List, [], ◌∷◌, codes}
+use Rattle.tp_base.specs.declared.calls.Kind.TheVariants as kind
+use Rattle.tp_base.specs.declared.calls.Priority.TheVariants as priority
 use Rattle.tp_lines.specs.Words.{text_of_kind, text_of_priority, text_of_how, text_of_reset, text_of_signal}
 use Rattle.script_lines.specs.declared.words.Class.{Class}
 use Rattle.script_lines.specs.declared.words.Class.TheVariants as class
@@ -76,3 +78,14 @@ text_of_word word = (shape_of word).text
 
 abbrev pub fields_of : Word → List Field
 fields_of word = (shape_of word).fields
+
+-- all words
+abbrev pub all_words : List Word
+all_words =
+    word.Pool ∷ word.Group ∷ word.Event ∷ word.Semaphore ∷ word.Mutex ∷ word.Section ∷ word.Object kind.Work ∷ word.Object kind.Timer ∷ word.Object kind.Wait ∷ word.Object kind.Io ∷
+    word.Routine ∷ word.Client ∷ word.Done ∷ word.Submit ∷ word.Simple ∷ word.SetTimer ∷ word.SetTimerEx ∷ word.IsTimerSet ∷ word.SetWait ∷ word.StartIo ∷ word.CancelIo ∷
+    word.IssueIo ∷ word.CompleteIo ∷ word.Let ∷ word.Close ∷ word.BeginWait ∷ word.CloseMembers ∷ word.CloseGroup ∷ word.ClosePool ∷ word.SetMaximum ∷ word.SetMinimum ∷
+    word.SetEvent ∷ word.ResetEvent ∷ word.ReleaseSemaphore ∷ word.Release ∷ word.Acquire ∷ word.Advance ∷ word.MayRunLong ∷ word.Disassociate ∷ word.OnReturn ∷ word.Times ∷
+    word.Context ∷ word.In ∷ word.OfPriority ∷ word.Long ∷ word.InGroup ∷ word.CancelBy ∷ word.Maximum ∷ word.Minimum ∷ word.Kind kind.Work ∷ word.Kind kind.Timer ∷
+    word.Kind kind.Wait ∷ word.Kind kind.Io ∷ word.Priority priority.High ∷ word.Priority priority.Normal ∷ word.Priority priority.Low ∷ word.How true ∷ word.How false ∷
+    word.Reset true ∷ word.Reset false ∷ word.Signal true ∷ word.Signal false ∷ []

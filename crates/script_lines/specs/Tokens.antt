@@ -20,14 +20,13 @@ use Rattle.script_lines.specs.declared.words.Field.TheVariants as field
 use Rattle.script_lines.specs.declared.words.Sort.{Sort}
 use Rattle.script_lines.specs.declared.words.Sort.TheVariants as sort
 use Rattle.script_lines.specs.declared.words.Tally.{Tally}
-use Rattle.script_lines.specs.declared.words.TheConstants.{WORDS}
 use Rattle.script_lines.specs.declared.words.Want.{Want}
 use Rattle.script_lines.specs.declared.words.Want.TheVariants as want
 use Rattle.script_lines.specs.declared.words.Word.{Word}
 use Rattle.script_lines.specs.declared.words.Word.TheVariants as word
 use Rattle.script_lines.specs.Known.{found_in, is_known, is_standing}
 use Rattle.script_lines.specs.Lines.{form_of}
-use Rattle.script_lines.specs.Shapes.{class_of, text_of_word}
+use Rattle.script_lines.specs.Shapes.{all_words, class_of, text_of_word}
 use Rattle.script_lines.specs.States.{count_of, is_before_clients, is_declaring, is_in_routine, is_inside, is_outside, limit_of}
 use Rattle.script_lines.specs.Texts.{is_name}
 
@@ -101,7 +100,7 @@ is_at place field text word = bytes_eq (text_of_word word) text && may_stand pla
 
 -- the word with this text that may stand in the field
 abbrev pub word_at : Place → Field → List ℕ → Option Word
-word_at place field text = find (is_at place field text) WORDS
+word_at place field text = find (is_at place field text) all_words
 
 -- whether there may be one more of what the word begins: clients are limited
 abbrev pub has_room : State → Word → Bool
