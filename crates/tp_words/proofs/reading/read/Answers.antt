@@ -1,10 +1,11 @@
-use Rattle.std.proofs.Common.{rules, ◌≡◌, ◌∙◌, ℕ, List, [], Some, ap, ap₂, map, sym}
+use Rattle.std.proofs.Common.{rules, ◌≡◌, ◌∙◌, ℕ, List, [], Some, ap, ap₂, map, subst, sym}
 use Rattle.std.specs.Prelude.{codes, string_bytes}
 use Rattle.clap.specs.Words.{app_of, fault_of, first_of, found_of, is_simple, is_simple_and_free, matches_of, rows_of}
 use Rattle.clap.proofs.WalkLemmas.{first_value-rows}
 use Rattle.tp_words.specs.Rules.{tpool}
-use Rattle.tp_words.specs.Said.{is_true, said_by_rows}
-use Rattle.tp_words.proofs.Faults.{is_fault, is_free, is_plain, unless_none, unless_some}
+use Rattle.tp_words.specs.Said.{is_true, said}
+use Rattle.tp_words.proofs.Faults.{is_fault, is_free, is_plain, parsed, said_by_rows, unless_none, unless_some}
+use Rattle.tp_words.proofs.SaidIsRead.{said_is_read, strings_are_texts}
 use Rattle.tp_words.proofs.reading.read.Goals as goal
 
 pub returns-in-Ok-clause-ok : goal.returns-in-Ok-clause-ok
@@ -12,6 +13,7 @@ returns-in-Ok-clause-ok c =
     let words = c.args.words.now in
     let command_is : app_of c.in_ok-command.command ≡ tpool = c.in_ok-command.ensures in
     let words_are : map string_bytes c.as_slice.result.now ≡ words = c.as_slice.ensures in
+    let is_read : parsed words ≡ said words = subst (λ w. parsed w ≡ said w) words_are (said_is_read _ (strings_are_texts c.as_slice.result.now)) in
     let rows : rows_of (found_of c.in-Ok.matches) ≡ matches_of tpool words =
     (c.in-Ok.ensures.matches (ap is_simple command_is ∙ is_plain)).0 ∙ ap₂ matches_of command_is words_are in
     let faults : fault_of tpool words ≡ [] =
@@ -24,7 +26,7 @@ returns-in-Ok-clause-ok c =
     let workers = c.get_str-in-Ok-4.ensures ∙ at (codes "workers") in
     let events = c.get_str-in-Ok-5.ensures ∙ at (codes "events") in
     let json = c.is_true.ensures ∙ ap is_true (c.get_str-in-Ok-6.ensures ∙ at (codes "json")) in
-    unless_none (fault_of tpool words) (Some (said_by_rows (matches_of tpool words))) faults
+    sym is_read ∙ (unless_none (fault_of tpool words) (Some (said_by_rows (matches_of tpool words))) faults
     ∙ (λ i. Some (record {
       command = sym command i;
       number = sym number i;
@@ -33,16 +35,17 @@ returns-in-Ok-clause-ok c =
       workers = sym workers i;
       events = sym events i;
       json = sym json i;
-    }))
+    })))
 
 pub returns : goal.returns
 returns c =
     let words = c.args.words.now in
     let command_is : app_of c.in_ok-command.command ≡ tpool = c.in_ok-command.ensures in
     let words_are : map string_bytes c.as_slice.result.now ≡ words = c.as_slice.ensures in
+    let is_read : parsed words ≡ said words = subst (λ w. parsed w ≡ said w) words_are (said_is_read _ (strings_are_texts c.as_slice.result.now)) in
     record {
       ok = tt;
-      refused = λ _. unless_some (fault_of tpool words) (Some (said_by_rows (matches_of tpool words)))
+      refused = λ _. sym is_read ∙ unless_some (fault_of tpool words) (Some (said_by_rows (matches_of tpool words)))
           (λ none. is_fault _ c.in-Err.error (c.in-Err.ensures.kinds (ap is_simple_and_free command_is ∙ is_free))
           (search rules) (ap₂ fault_of command_is words_are ∙ none));
     }
