@@ -157,11 +157,19 @@ pub defaults_are : (rows : List Row) → fold with_default rows rules ≡ with_d
 unfolding rules
 defaults_are rows = kept ones (flag_rule ∷ []) (
   no_default (codes "command") None (Some 1),
-  (no_default (codes "number") None (Some 2),
-  (no_default (codes "threads") (Some (codes "threads")) None,
-  (no_default (codes "seed") (Some (codes "seed")) None,
-  (no_default (codes "workers") (Some (codes "workers")) None,
-  (no_default (codes "events") (Some (codes "events")) None, tt))))),
+  (
+    no_default (codes "number") None (Some 2),
+    (
+      no_default (codes "threads") (Some (codes "threads")) None,
+      (
+        no_default (codes "seed") (Some (codes "seed")) None,
+        (
+          no_default (codes "workers") (Some (codes "workers")) None,
+          (no_default (codes "events") (Some (codes "events")) None, tt),
+        ),
+      ),
+    ),
+  ),
 ) rows
 
 -- no argument's default is a fault
@@ -184,12 +192,22 @@ pub no_default_fault : (rows : List Row) → defaults_fault rows rules ≡ []
 unfolding rules
 no_default_fault rows = quiet rules (
   one_default (codes "command") None (Some 1),
-  (one_default (codes "number") None (Some 2),
-  (one_default (codes "threads") (Some (codes "threads")) None,
-  (one_default (codes "seed") (Some (codes "seed")) None,
-  (one_default (codes "workers") (Some (codes "workers")) None,
-  (one_default (codes "events") (Some (codes "events")) None,
-  (flag_default, tt)))))),
+  (
+    one_default (codes "number") None (Some 2),
+    (
+      one_default (codes "threads") (Some (codes "threads")) None,
+      (
+        one_default (codes "seed") (Some (codes "seed")) None,
+        (
+          one_default (codes "workers") (Some (codes "workers")) None,
+          (
+            one_default (codes "events") (Some (codes "events")) None,
+            (flag_default, tt),
+          ),
+        ),
+      ),
+    ),
+  ),
 ) rows
 
 pub no_check_fault : (rows : List Row) (has_subcommand : Bool) → check_fault shape rows has_subcommand ≡ []

@@ -204,12 +204,12 @@ placed id long index rows pending waiting position closed word by =
     ap (λ o. to_positional rules o word (at rows pending waiting position closed) (held rows pending)) by ∙ go (is_pending (one id long index) pending) closed
   where
     go : (b c : Bool) → record {
-          held = pushed id word (cond (b && false) (held rows pending) (settled rules (held rows pending)));
-          waiting = idle;
-          position = min (position + 1) usize_max;
-          is_trailing = c || false;
-          stopped = None;
-        } ≡ at (settled_rows rules pending rows) (Some (id, word ∷ [])) idle (min (position + 1) usize_max) c
+      held = pushed id word (cond (b && false) (held rows pending) (settled rules (held rows pending)));
+      waiting = idle;
+      position = min (position + 1) usize_max;
+      is_trailing = c || false;
+      stopped = None;
+    } ≡ at (settled_rows rules pending rows) (Some (id, word ∷ [])) idle (min (position + 1) usize_max) c
     go true true = refl
     go true false = refl
     go false true = refl
@@ -323,6 +323,7 @@ short_chars (b ∷ bs) flags utf8 e = go (b == 45) refl e
         by : (ls : List ℕ) → encode_utf8_all ls ≡ c ∷ cs → (letter : ℕ) × (slice_get ls 0 ≡ Some letter)
         by [] none = absurd (cc)
         by (letter ∷ ls) some = (letter, refl)
+
     from : (rest : Text) → IsUtf8 rest → short_of_rest rest ≡ Some flags
         → (letter : ℕ) × (size : ℕ) × (slice_get (chars flags) 0 ≡ Some letter) × (length flags ≡ suc size)
     from [] utf r = absurd (cc)
@@ -335,6 +336,7 @@ short_chars (b ∷ bs) flags utf8 e = go (b == 45) refl e
             let same : c ∷ cs ≡ flags = cc in
             let found = letters c cs utf in
             (found.0, length cs, subst (λ t. slice_get (chars t) 0 ≡ Some found.0) same found.1, sym (ap length same))
+
     go : (h : Bool) → (b == 45) ≡ h → option_and_then short_of_rest (cond h (Some bs) None) ≡ Some flags
         → (letter : ℕ) × (size : ℕ) × (slice_get (chars flags) 0 ≡ Some letter) × (length flags ≡ suc size)
     go false other q = absurd (cc)
@@ -445,6 +447,7 @@ open_word state unclosed rows spot word words utf8 all = by_dashes state unclose
     by_short (free false h) unclosed d l (Some flags) e = short_word h rows spot word flags words utf8 d l e
     by_short (waits id is) unclosed d l None e = value_word id is rows spot word words all d l e
     by_short (waits id is) unclosed d l (Some flags) e = short_waiting id is rows spot word flags words utf8 d l e
+
     by_long : (s : State) → ((h : Hold) → s ≡ free true h → ⊥) → bytes_eq word (45 ∷ 45 ∷ []) ≡ false → (o : Option (Text × Option Text)) → long_of word ≡ o
         → Agrees rows spot s (word ∷ words)
     by_long (free true h) unclosed d o e = absurd (unclosed h refl)
@@ -452,6 +455,7 @@ open_word state unclosed rows spot word words utf8 all = by_dashes state unclose
     by_long (free false h) unclosed d (Some (name, given)) e = long_word h rows spot word name given words all d e (long_cases name)
     by_long (waits id is) unclosed d None e = by_short (waits id is) unclosed d e (short_of word) refl
     by_long (waits id is) unclosed d (Some (name, given)) e = long_waiting id is rows spot word name given words d e (long_cases name)
+
     by_dashes : (s : State) → ((h : Hold) → s ≡ free true h → ⊥) → (b : Bool) → bytes_eq word (45 ∷ 45 ∷ []) ≡ b → Agrees rows spot s (word ∷ words)
     by_dashes (free true h) unclosed b e = absurd (unclosed h refl)
     by_dashes (free false h) unclosed true e = close_word h rows spot word words all e
