@@ -15,9 +15,11 @@
 
 #![tactic(auto)]
 
-ghost use Rattle.std.specs.Prelude.{◌≡◌, List, ◌++◌};
+ghost use Rattle.std.specs.Prelude.{◌≡◌, ℕ, ◌+◌, ◌≤◌, List, ◌++◌, length};
 ghost use Rattle.tp_base.specs.declared.answers.Entry.{Entry};
-ghost use Rattle.tp_model.specs.History.{IsLegal};
+ghost use Rattle.tp_base.specs.declared.limits.Limits.{Limits as Bounds};
+ghost use Rattle.tp_model.specs.Counts.{owed};
+ghost use Rattle.tp_model.specs.History.{after, room, IsLegal};
 ghost use Rattle.tp_model.specs.Laws.{KeepsLaws};
 ghost use Rattle.tp_model.specs.Stalling.{StaysStalled};
 
@@ -137,3 +139,12 @@ impl Book {
         let _ = &self.len;
     }
 }
+
+/// No call gives room back: behind a legal history there are never fewer entries, with those that are owed, than
+/// behind an earlier part of it. So the `room` that a book has told once is the most that it will ever have, and
+/// where it was too little for something, it stays so. It does nothing: who calls it knows this.
+#[tactic(auto, using(crate::proofs::Spending::never_falls, crate::proofs::Spending::room_never_grows))]
+pub fn legal_gives_no_room_back()
+    ensures spent { (limits : Bounds) (capacity : ℕ) (history more : List Entry) → IsLegal limits capacity (history ++ more) → length history + owed (after limits history) ≤ length (history ++ more) + owed (after limits (history ++ more)) }
+    ensures room { (limits : Bounds) (capacity : ℕ) (history more : List Entry) → IsLegal limits capacity (history ++ more) → room capacity (after limits (history ++ more)) (length (history ++ more)) ≤ room capacity (after limits history) (length history) }
+{}
