@@ -31,7 +31,7 @@ play_takes() { timeout 10 "$program" trace --events 131072 <"$room/$1"; }
 milliseconds() {
     local TIMEFORMAT='%3U %3S' user system
     read -r user system < <({ time play_takes "$1" >"$room/played"; } 2>&1)
-    echo $((10#${user/./} + 10#${system/./}))
+    echo $((10#${user/[.,]/} + 10#${system/[.,]/}))
 }
 # Whether takes among much take up to three times as long as among little, in the least of some runs each, in turn. They
 # take about as long; by a walk along what is pending they would take fifty times as long.
