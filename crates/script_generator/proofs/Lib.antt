@@ -1,1 +1,5 @@
+mod Clients
 pub mod Examples
+mod Knowing
+mod Points
+mod Whole

@@ -3,7 +3,8 @@
 //! `generate` writes the script that stands for a number: a pool, a group, a timer and a few work
 //! objects, and four clients that submit, wait, let time pass and close the group at the end. The same
 //! number gives the same script, byte for byte. What is drawn, and what is written with it, is
-//! `generated` of `specs/Scripts`.
+//! `generated` of `specs/Scripts`. That it can be read is a law of its own (`generated_is_script`): no
+//! code here reads a script.
 //!
 //! ```text
 //! generate(alloc, 7, 64)?     // b"pool p max 3 min 0\ngroup g\n.."
@@ -11,7 +12,9 @@
 
 #![tactic(auto)]
 
-ghost use Rattle.std.specs.Prelude.{◌≡◌, ◌≤◌, IfOk};
+ghost use Rattle.std.specs.Prelude.{◌≡◌, ◌≤◌, ◌+◌, ◌*◌, ℕ, List, IfOk, length};
+ghost use Rattle.script_lines.specs.declared.line.Line.{Line};
+ghost use Rattle.tp_script.specs.Scripts.{IsScript};
 ghost use Rattle.script_generator.specs.Scripts.{generated, most_of, priority_word};
 
 use itoa::Buffer;
@@ -34,6 +37,12 @@ pub fn generate(alloc: Global, number: u64, length: u32) -> Result<Vec<u8>, Allo
     script.body(length)?;
     Ok(script.text)
 }
+
+/// What is written for a number is a script, and a short one, if each drawn client has from 1 to 10,000 lines.
+pub fn generated_is_script()
+    ensures script { (number each : ℕ) → 1 ≤ each → each ≤ 10000 → (lines : List Line) × IsScript (generated number each) lines }
+    ensures short { (number each : ℕ) → 1 ≤ each → each ≤ 10000 → length (generated number each) ≤ 1000 + 45 * each }
+{}
 
 /// A script that is being written.
 #[derive(Drop)]
