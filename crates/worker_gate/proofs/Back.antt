@@ -12,7 +12,7 @@ use Rattle.tp_model.specs.History.{IsLegal}
 use Rattle.tp_model.specs.Stages.{IsActor}
 use Rattle.recorded.specs.Recordings.{Recording}
 use Rattle.turn_lock.specs.declared.views.Setup.{Setup}
-use Rattle.turn_lock.specs.Histories.{actor_of, own}
+use Rattle.turn_lock.specs.Histories.{actor_of, own, StartsWith}
 use Rattle.turn_lock.specs.Rule.{IsSeated}
 use Rattle.turn_lock.specs.Seats.{actor_in, mine_of, number_of, seen_of, setup_in, IsLast}
 use Rattle.turn_lock.proofs.Beginnings.{starts_through}
@@ -21,7 +21,7 @@ use Rattle.shared_pool.specs.Pools.{setup_at, IsSeatOf}
 use Rattle.worker_gate.specs.declared.actor.Actor.{Actor}
 use Rattle.worker_gate.specs.declared.role.Role.{Role}
 use Rattle.worker_gate.specs.Acting.{role_in, seat_in, IsReady}
-use Rattle.worker_gate.specs.Closing.{AllBack, FirstTold, IsFirstPlayed}
+use Rattle.worker_gate.specs.Closing.{AllBack, BeginsAsSeen, FirstTold, IsFirstPlayed}
 use Rattle.worker_gate.specs.Places.{Given}
 use Rattle.worker_gate.specs.Roles.{IsOf}
 use Rattle.worker_gate.specs.Rounds.{AllOf, HaveAllRoles}
@@ -90,6 +90,10 @@ module _ {B : Type 0} where
 
     ready_at : (k : ℕ) (a : Actor B) → slice_get actors k ≡ Some a → IsReady g pool a
     ready_at k a is = at_all (IsReady g pool) actors k a back.ready is
+
+    -- what each has seen stands at the beginning of a history that goes on from there
+    pub seen_last : (later : List Entry) → StartsWith later last.history → BeginsAsSeen later actors
+    seen_last later more k d inside = let l = last_at k (get_or actors k d) (slice_get-get_or actors k d inside) in starts_through later last.history (seen_of (get_or actors k d).seat) more l.seen
 
     setup_same : (k : ℕ) (a : Actor B) → slice_get actors k ≡ Some a → setup_in a.seat ≡ setup_at pool
     setup_same k a is = (ready_at k a is).player.of.setup_is

@@ -1,9 +1,7 @@
 -- Turns that are drawn, and who may be drawn.
-use Rattle.std.proofs.Common.{◌≡◌, ℕ, zero, suc, ◌+◌, ◌-◌, ◌*◌, ◌<◌, ◌≤◌, Bool, true, false, cond, if◌then◌else◌, ◌||◌, List, [], ◌∷◌, ◌++◌, ◌⊎◌, inl, inr, Option, None, Some}
-use Rattle.std.proofs.Common.{length, map, set, get_or, slice_get, filter, refl, sym, ap, subst, ◌∙◌, append-nil, append_assoc, length-append, arith}
-use Rattle.std.specs.Prelude.{remove}
+use Rattle.std.proofs.Common.{◌≡◌, ℕ, zero, suc, ◌+◌, ◌≤◌, Bool, true, false, cond, if◌then◌else◌, List, [], ◌∷◌, Option, None, Some}
+use Rattle.std.proofs.Common.{length, map, set, slice_get, filter, refl, sym, ap, subst, ◌∙◌, append-nil, length-append, arith}
 use Rattle.std.specs.List.{AllByRecursion}
-use Rattle.std.proofs.lemmas.Bool.{both_ways}
 use Rattle.tp_base.specs.declared.answers.Entry.{Entry}
 use Rattle.tp_base.specs.declared.answers.Outcome.{Outcome}
 use Rattle.tp_base.specs.declared.answers.Outcome.TheVariants as outcome
@@ -14,15 +12,15 @@ use Rattle.recorded.specs.Recordings.{entries_told}
 use Rattle.worker_gate.specs.declared.role.Role.{Role}
 use Rattle.worker_gate.specs.declared.role.Turn.{Turn}
 use Rattle.worker_gate.specs.declared.role.Turn.TheVariants.{Moved, Waiting, Ended}
-use Rattle.worker_gate.specs.Drawn.{drawn_turn, drawn_turns, index_drawn, left_after, open_from, open_places, or_all, progress, ready_after, scene_of, with_place, with_turn, Drawing}
+use Rattle.worker_gate.specs.Drawn.{drawn_turn, drawn_turns, index_drawn, open_from, scene_of, with_place, with_turn, Drawing}
 use Rattle.worker_gate.specs.Lively.{count_ended}
 use Rattle.worker_gate.specs.Places.{Given}
-use Rattle.worker_gate.specs.Roles.{due_of, ended_turn, is_last_turn, played_turn, took, turned, who_of, Turned}
-use Rattle.worker_gate.specs.Rounds.{round_of, scene, HaveEnded, Scene}
+use Rattle.worker_gate.specs.Roles.{due_of, played_turn, turned, who_of, Turned}
+use Rattle.worker_gate.specs.Rounds.{scene}
 use Rattle.worker_gate.specs.Walks.{comes_to}
 use Rattle.worker_gate.proofs.Ending.{by_actor, follows_itself, follows_through, same_actors, AreBy, Follows}
 use Rattle.worker_gate.proofs.OneHistory.{ended_still}
-use Rattle.worker_gate.proofs.Playing.{or_off, turned_adds, turned_is, turned_who}
+use Rattle.worker_gate.proofs.Playing.{turned_adds, turned_is, turned_who}
 
 -- ---- the places of those that haven't ended
 
@@ -118,7 +116,7 @@ module _ (g : Given) (limits : Limits) (capacity : ℕ) where
   turn_in d = drawn_turn g limits capacity d
 
   -- nobody may be drawn; or a role has a turn
-  turn_by : (Q : Drawing → Type 0) (d : Drawing) → Q d → ((index place : ℕ) (r : Role) → slice_get d.roles place ≡ Some r → Q (with_turn g limits capacity index place d (Some r))) → Q (turn_in d)
+  pub turn_by : (Q : Drawing → Type 0) (d : Drawing) → Q d → ((index place : ℕ) (r : Role) → slice_get d.roles place ≡ Some r → Q (with_turn g limits capacity index place d (Some r))) → Q (turn_in d)
   turn_by Q d none one = by_place (index_drawn d.draws (length d.ready)) (slice_get d.ready (index_drawn d.draws (length d.ready)))
     where
       by_role : (index place : ℕ) (o : Option Role) → slice_get d.roles place ≡ o → Q (with_turn g limits capacity index place d o)

@@ -1,13 +1,12 @@
 -- Passes until all have ended, and the one history that they make.
-use Rattle.std.proofs.Common.{◌≡◌, ℕ, zero, suc, ◌+◌, ◌-◌, ◌*◌, ◌<◌, ◌≤◌, Bool, true, false, nat_le, nat_lt, List, [], ◌∷◌, ◌++◌, ◌⊎◌, inl, inr, length, map, refl, sym, ap, subst, ◌∙◌, arith}
+use Rattle.std.proofs.Common.{◌≡◌, ℕ, zero, suc, ◌+◌, ◌-◌, ◌<◌, ◌≤◌, Bool, true, false, nat_le, nat_lt, List, [], ◌∷◌, ◌++◌, ◌⊎◌, inl, inr, length, map, refl, sym, ap, subst, ◌∙◌, arith}
+use Rattle.std.proofs.lemmas.Bool.{cases_lt}
 use Rattle.std.proofs.lemmas.Bool.Decides.{nat_tests}
 use Rattle.std.proofs.lemmas.List.{length-map}
 use Rattle.std.proofs.lemmas.List.Elements.{All-from_recursion, recursion_from_All}
 use Rattle.tp_base.specs.declared.answers.Entry.{Entry}
-use Rattle.tp_base.specs.declared.ids.Who.{Who}
-use Rattle.tp_base.specs.declared.ids.Who.TheVariants.{Client, Worker}
+use Rattle.tp_base.specs.declared.ids.Who.TheVariants.{Worker}
 use Rattle.tp_base.specs.declared.limits.Limits.{Limits}
-use Rattle.tp_base.specs.declared.plans.Stage.{Stage}
 use Rattle.tp_base.specs.declared.plans.Stage.TheVariants.{Over}
 use Rattle.tp_model.specs.History.{IsLegal}
 use Rattle.tp_model.specs.Stages.{is_over_stage, stage_of, IsActor}
@@ -18,14 +17,14 @@ use Rattle.recorded.specs.Recordings.{Recording}
 use Rattle.turn_lock.specs.Histories.{own}
 use Rattle.worker_gate.specs.declared.role.Role.{Role}
 use Rattle.worker_gate.specs.Alone.{other_roles}
-use Rattle.worker_gate.specs.Drawn.{drawing, drawn_turn, drawn_turns, open_places, progress, scene_of, seeded, AreDrawn, AreDrawnFrom, Drawing, HasPassed, IsDrawn}
-use Rattle.worker_gate.specs.Lively.{count_ended}
+use Rattle.worker_gate.specs.Drawn.{drawing, drawn_turns, open_places, scene_of, seeded, AreDrawn, AreDrawnFrom, AreDrawnOn, Drawing, HasPassed, IsDrawn, IsSound}
 use Rattle.worker_gate.specs.Places.{Given}
-use Rattle.worker_gate.specs.Roles.{new_role, who_of, IsOf}
-use Rattle.worker_gate.specs.Rounds.{round_of, scene, AllOf, ArePlayed, EndedWell, HasRole, HaveEnded, HaveOpenRoles, IsSameMachine, Scene}
+use Rattle.worker_gate.specs.Roles.{who_of, IsOf}
+use Rattle.worker_gate.specs.Rounds.{round_of, scene, AllOf, EndedWell, HasRole, HaveEnded, HaveOpenRoles, IsSameMachine, Scene}
 use Rattle.worker_gate.specs.Runs.{is_over_in}
 use Rattle.worker_gate.proofs.Drawing.{all_ended_none, none_open_ended, turn_still, turns_both, turns_follow, turns_whos}
-use Rattle.worker_gate.proofs.Ending.{actors_of, same_actors, AreBy, Follows}
+use Rattle.worker_gate.proofs.DrawnLively.{two_passes}
+use Rattle.worker_gate.proofs.Ending.{actors_of, AreBy, Follows}
 use Rattle.worker_gate.proofs.Lasting.{few_ended, fewer_rounds, idle_ahead, left, over_by, over_grows, role_kept, rounds_left}
 use Rattle.worker_gate.proofs.OneHistory.{all_of_one, ends_same}
 use Rattle.worker_gate.proofs.Playing.{AreStanding}
@@ -60,7 +59,13 @@ module _ (g : Given) where
   passes_begin start roles seed draws seeded_is legal all well open_roles worker = record {
     same = record { limits = refl; capacity = refl };
     stands = record { legal = legal; all = all; well = well };
-    drawn = (0, ap (λ (x : Lcg). drawing x (scene start.history roles)) (sym seeded_is));
+    drawn = record {
+      count = 0;
+      lead = ap (λ (x : Lcg). drawing x (scene start.history roles)) (sym seeded_is);
+      sound = λ n low.
+          let none : 0 ≡ n = omega (arith, low) in
+          subst (λ (k : ℕ). IsSound g start.limits start.capacity (scene_of (drawn_turns g start.limits start.capacity k (drawing (seeded seed) (scene start.history roles))))) none (record { legal = legal; all = all; well = well });
+    };
     open_roles = open_roles;
     worker = worker;
   }
@@ -79,27 +84,42 @@ module _ (g : Given) where
     from_now = drawing draws (scene now.history later)
 
     whos : map who_of after ≡ map who_of later
-    whos = sym (ap (λ (d : Drawing). map who_of d.roles) drawn.1) ∙ turns_whos g now.limits now.capacity drawn.0 from_now
+    whos = sym (ap (λ (d : Drawing). map who_of d.roles) drawn.lead) ∙ turns_whos g now.limits now.capacity drawn.count from_now
 
     actors : AreBy (IsActor now.limits) later
     actors = actors_of g now.limits now.capacity now.history later (recursion_from_All (λ (r : Role). IsOf g now.limits now.capacity now.history (own r.who now.history) r) later so.stands.all.of)
 
     more : Follows (IsActor now.limits) now.history last.history
-    more = subst (λ (d : Drawing). Follows (IsActor now.limits) now.history d.history) drawn.1 (turns_follow g now.limits now.capacity (IsActor now.limits) drawn.0 from_now actors)
+    more = subst (λ (d : Drawing). Follows (IsActor now.limits) now.history d.history) drawn.lead (turns_follow g now.limits now.capacity (IsActor now.limits) drawn.count from_now actors)
 
     drawn_there : AreDrawnFrom g start.limits start.capacity draws (scene now.history later) next (scene last.history after)
     drawn_there =
         subst (λ (l : Limits). AreDrawnFrom g l start.capacity draws (scene now.history later) next (scene last.history after)) so.same.limits
         (subst (λ (n : ℕ). AreDrawnFrom g now.limits n draws (scene now.history later) next (scene last.history after)) so.same.capacity drawn)
 
+    abbrev from_start : Drawing
+    from_start = drawing (seeded seed) (scene start.history roles)
+
+    abbrev all_turns : ℕ
+    all_turns = drawn_there.count + so.drawn.count
+
+    both_turns : (k n : ℕ) → k ≡ n + so.drawn.count → drawn_turns g start.limits start.capacity k from_start ≡ drawn_turns g start.limits start.capacity n (drawing draws (scene now.history later))
+    both_turns k n is = turns_both g start.limits start.capacity n so.drawn.count k from_start is ∙ ap (drawn_turns g start.limits start.capacity n) so.drawn.lead
+
+    all_sound : (k : ℕ) → k ≤ all_turns → IsSound g start.limits start.capacity (scene_of (drawn_turns g start.limits start.capacity k from_start))
+    all_sound k low = by (cases_lt k so.drawn.count)
+      where
+        by : (k < so.drawn.count) ⊎ (so.drawn.count ≤ k) → IsSound g start.limits start.capacity (scene_of (drawn_turns g start.limits start.capacity k from_start))
+        by (inl before) = so.drawn.sound k (omega (arith, before))
+        by (inr behind) =
+            let is : k ≡ k - so.drawn.count + so.drawn.count = omega (arith, behind) in
+            subst (λ (d : Drawing). IsSound g start.limits start.capacity (scene_of d)) (sym (both_turns k (k - so.drawn.count) is)) (drawn_there.sound (k - so.drawn.count) (omega (arith, low, behind)))
+
     pub passes_go_on : PassesSoFar start last roles after seed next
     passes_go_on = record {
       same = record { limits = same.limits ∙ so.same.limits; capacity = same.capacity ∙ so.same.capacity };
       stands = stands;
-      drawn = (
-        drawn_there.0 + so.drawn.0,
-        turns_both g start.limits start.capacity drawn_there.0 so.drawn.0 (drawn_there.0 + so.drawn.0) (drawing (seeded seed) (scene start.history roles)) refl ∙ (ap (drawn_turns g start.limits start.capacity drawn_there.0) so.drawn.1 ∙ drawn_there.1),
-      );
+      drawn = record { count = all_turns; lead = both_turns all_turns drawn_there.count refl ∙ drawn_there.lead; sound = all_sound };
       open_roles = subst (λ (l : Limits). HaveOpenRoles l last.history after) (sym same.limits) (open_kept now.limits now.history last.history later after whos more so.open_roles);
       worker = subst (λ (l : Limits). 1 ≤ l.workers) (sym same.limits) so.worker;
     }
@@ -153,7 +173,33 @@ module _ (g : Given) where
         of_role (inr has) = over_by g now.limits now.capacity now.history later 1 has so.stands.all so.stands.well passes_ended
 
     pub passes_drawn : AreDrawn g start.limits start.capacity seed (scene start.history roles) (scene now.history later)
-    passes_drawn = (so.drawn.0, ap scene_of so.drawn.1)
+    passes_drawn = (so.drawn.count, ap scene_of so.drawn.lead)
+
+    pub passes_lively : HaveOpenRoles start.limits start.history roles → 1 ≤ start.limits.workers → AreDrawnOn g start.limits start.capacity seed (scene start.history roles) (scene now.history later)
+    passes_lively open_roles worker = record {
+      count = so.drawn.count;
+      lead = ap scene_of so.drawn.lead;
+      go_on = λ n after within. two_passes g start.limits start.capacity n after (drawing (seeded seed) (scene start.history roles)) (fit_at n after within);
+    }
+      where
+        at : ℕ → Scene
+        at n = scene_of (drawn_turns g start.limits start.capacity n (drawing (seeded seed) (scene start.history roles)))
+
+        actors : AreBy (IsActor start.limits) roles
+        actors =
+            actors_of g start.limits start.capacity start.history roles (recursion_from_All (λ (r : Role). IsOf g start.limits start.capacity start.history (own r.who start.history) r) roles (so.drawn.sound 0 (omega arith)).all.of)
+
+        fit_at : (n after : ℕ) → after ≤ so.drawn.count → n ≤ after → IsFit g start.limits start.capacity (at n)
+        fit_at n after within low =
+            let sound = so.drawn.sound n (omega (arith, within, low)) in
+            record {
+              legal = sound.legal;
+              all = sound.all;
+              well = sound.well;
+              open_roles = open_kept start.limits start.history (at n).history roles (at n).roles (turns_whos g start.limits start.capacity n (drawing (seeded seed) (scene start.history roles)))
+                  (turns_follow g start.limits start.capacity (IsActor start.limits) n (drawing (seeded seed) (scene start.history roles)) actors) open_roles;
+              worker = worker;
+            }
 
 -- ---- one history
 

@@ -23,5 +23,7 @@ pub mod OneThread
 pub mod OneHistory
 pub mod Crowds
 pub mod Drawing
+pub mod PassLots
 pub mod DrawnPass
+pub mod DrawnLively
 pub mod DrawnRun

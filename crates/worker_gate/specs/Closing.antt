@@ -39,6 +39,10 @@ module _ {B : Type 0} where
 
   -- ---- all are back
 
+  -- the history begins with what each of them has seen
+  abbrev pub BeginsAsSeen : List Entry → List (Actor B) → Type 0
+  BeginsAsSeen history actors = All (λ (a : Actor B). StartsWith history (seen_of a.seat)) actors
+
   -- client 1 has finished, when no other had made an entry: `front` is the history of that time
   pub record FirstTold (limits : Limits) (actors : List (Actor B)) : Type 0 where
     pub at : ℕ

@@ -1,19 +1,20 @@
 -- What one thread plays where turns are drawn: client 1 to its end, and then one turn after another, each of an actor that
 -- is drawn.
-use Rattle.std.specs.Prelude.{◌≡◌, ℕ, zero, suc, ◌+◌, ◌%◌, ◌<◌, ◌⊎◌, true, List, [], ◌∷◌, if◌then◌else◌, length, set, remove, slice_get, Option, None, Some}
+use Rattle.std.specs.Prelude.{◌≡◌, ℕ, zero, suc, ◌+◌, ◌*◌, ◌%◌, ◌<◌, ◌≤◌, ◌⊎◌, true, List, [], ◌∷◌, if◌then◌else◌, length, set, remove, slice_get, Option, None, Some}
 use Rattle.rand_pcg.specs.Lcg.{increment_of, started, Lcg}
 use Rattle.rand_pcg.specs.Pcg.{multiplier_64, pcg32}
 use Rattle.tp_base.specs.declared.answers.Entry.{Entry}
 use Rattle.tp_base.specs.declared.ids.Who.TheVariants.{Client}
 use Rattle.tp_base.specs.declared.limits.Limits.{Limits}
+use Rattle.tp_model.specs.History.{IsLegal}
 use Rattle.worker_gate.specs.declared.role.Role.{Role}
 use Rattle.worker_gate.specs.declared.role.Turn.{Turn}
 use Rattle.worker_gate.specs.declared.role.Turn.TheVariants.{Moved, Waiting, Ended}
 use Rattle.worker_gate.specs.Alone.{other_roles}
-use Rattle.worker_gate.specs.Lively.{count_ended}
+use Rattle.worker_gate.specs.Lively.{count_ended, GoesOn}
 use Rattle.worker_gate.specs.Places.{Given}
 use Rattle.worker_gate.specs.Roles.{new_role, turned}
-use Rattle.worker_gate.specs.Rounds.{round_of, scene, ArePlayed, HaveEnded, Scene}
+use Rattle.worker_gate.specs.Rounds.{round_of, scene, AllOf, ArePlayed, EndedWell, HaveEnded, Scene}
 
 -- ---- draws
 
@@ -66,6 +67,10 @@ scene_of d = scene d.history d.roles
 abbrev pub drawing : Lcg → Scene → Drawing
 drawing draws s = record { history = s.history; roles = s.roles; ready = open_places s.roles; draws = draws }
 
+-- from where all that haven't ended may be drawn, twice as many turns as there are of these bring the roles on
+abbrev pub GoOnBy : ℕ → ℕ → Drawing → Drawing → Type 0
+GoOnBy n later d e = d.ready ≡ open_places d.roles → later ≡ n + 2 * length d.ready → GoesOn (scene_of d) (scene_of e)
+
 -- the entries, and those that have ended
 abbrev pub progress : Scene → ℕ
 progress s = length s.history + count_ended s.roles
@@ -98,13 +103,28 @@ module _ (g : Given) (limits : Limits) (capacity : ℕ) where
 
   -- ---- passes
 
+  -- a legal history, and roles that stand for it
+  pub record IsSound (s : Scene) : Type 0 where
+    pub legal : IsLegal limits capacity s.history
+    pub all : AllOf g limits capacity s.history s.roles
+    pub well : EndedWell limits capacity s.history s.roles
+
   -- some turns lead from one scene to the other, in both of which all that haven't ended may be drawn
-  abbrev pub AreDrawnFrom : Lcg → Scene → Lcg → Scene → Type 0
-  AreDrawnFrom draws s later t = (n : ℕ) × (drawn_turns n (drawing draws s) ≡ drawing later t)
+  pub record AreDrawnFrom (draws : Lcg) (s : Scene) (later : Lcg) (t : Scene) : Type 0 where
+    pub count : ℕ
+    pub lead : drawn_turns count (drawing draws s) ≡ drawing later t
+    pub sound : (n : ℕ) → n ≤ count → IsSound (scene_of (drawn_turns n (drawing draws s)))
 
   -- in a pass there is an entry, or one ends; or it is a round in which there is none
   abbrev pub HasPassed : Scene → Scene → Type 0
   HasPassed s t = (progress s < progress t) ⊎ (t ≡ round_of g limits capacity s.history s.roles)
+
+  -- some turns that are drawn from a seed lead from one scene to the other. Wherever all that haven't ended may be drawn, twice
+  -- as many turns as there are of these, which are two passes if nothing happens in them, move a role or end one, or all had ended
+  pub record AreDrawnOn (seed : ℕ) (s t : Scene) : Type 0 where
+    pub count : ℕ
+    pub lead : scene_of (drawn_turns count (drawing (seeded seed) s)) ≡ t
+    pub go_on : (n later : ℕ) → later ≤ count → GoOnBy n later (drawn_turns n (drawing (seeded seed) s)) (drawn_turns later (drawing (seeded seed) s))
 
 -- client 1 has turns, from the empty history on, until it has ended; then turns of the other clients and of the workers are
 -- drawn from the seed, until all of them have ended

@@ -2,7 +2,7 @@
 
 ghost use Rattle.std.specs.Prelude.{◌≡◌, ◌≤◌, ◌↔◌, true, map, Any, IfOk, OnOk};
 ghost use Rattle.worker_gate.specs.Acting.{role_in, seat_in};
-ghost use Rattle.worker_gate.specs.Closing.{AllBack, FirstTold, IsCutIn, IsFirstPlayed};
+ghost use Rattle.worker_gate.specs.Closing.{AllBack, BeginsAsSeen, FirstTold, IsCutIn, IsFirstPlayed};
 ghost use Rattle.worker_gate.specs.Drawn.{AreDrawn};
 ghost use Rattle.worker_gate.specs.Places.{given};
 ghost use Rattle.worker_gate.specs.Rounds.{scene, AllOf, EndedWell, HasPlayed, HaveAllRoles, HaveEnded, IsSameMachine};
@@ -31,7 +31,8 @@ pub struct Run<B> {
 }
 
 /// Closes a pool whose actors have all come back, plays what they still have to do, and gives the
-/// machine: its history is a run of these routines.
+/// machine: its history is a run of these routines, and begins with what each actor has seen, in which
+/// stands all that the actor has made.
 ///
 /// Client 1 has to have finished before any other made a call (`finish`, `tell_all`). An `AllocError`
 /// comes where memory for the seats and the roles isn't there; all is lost then.
@@ -47,6 +48,7 @@ pub fn close_run<B: Recorded, R: Routines, G: Gate>(
     ensures limits { IfOk result (λ run. (B.recording run.book).limits ≡ (setup_at pool).limits) }
     ensures capacity { IfOk result (λ run. (B.recording run.book).capacity ≡ (setup_at pool).capacity) }
     ensures legal { IfOk result (λ run. IsLegal (B.recording run.book).limits (B.recording run.book).capacity (B.recording run.book).history) }
+    ensures seen { IfOk result (λ run. BeginsAsSeen (B.recording run.book).history actors.items) }
     ensures runs { IfOk result (λ run. Runs (given R.next_of R.after_of routines.now) (B.recording run.book).limits (B.recording run.book).capacity (B.recording run.book).history) }
     ensures cut { IfOk result (λ run. (run.cut ≡ true) ↔ IsCutShort (given R.next_of R.after_of routines.now) (B.recording run.book).limits (B.recording run.book).history) }
 {

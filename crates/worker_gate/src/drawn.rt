@@ -3,7 +3,7 @@
 ghost use Rattle.std.specs.Prelude.{◌≡◌, ◌≤◌, true, OnOk};
 ghost use Rattle.recorded.specs.Recordings.{is_over_behind};
 ghost use Rattle.tp_model.specs.History.{IsLegal};
-ghost use Rattle.worker_gate.specs.Drawn.{open_places, AreDrawn, AreDrawnFrom, HasPassed};
+ghost use Rattle.worker_gate.specs.Drawn.{open_places, AreDrawn, AreDrawnFrom, AreDrawnOn, HasPassed};
 ghost use Rattle.worker_gate.specs.Places.{given};
 ghost use Rattle.worker_gate.specs.Rounds.{scene, AllOf, EndedWell, HaveEnded, HaveOpenRoles, IsSameMachine};
 
@@ -41,6 +41,7 @@ pub fn play_drawn<B: Recorded, R: Routines, G: Gate>(
     requires worker { 1 ≤ (B.recording book.old).limits.workers }
     ensures same { OnOk result (IsSameMachine (B.recording book.old) (B.recording book.new)) }
     ensures drawn { OnOk result (AreDrawn (given R.next_of R.after_of routines.now) (B.recording book.old).limits (B.recording book.old).capacity seed (scene (B.recording book.old).history roles.old.items) (scene (B.recording book.new).history roles.new.items)) }
+    ensures lively { OnOk result (AreDrawnOn (given R.next_of R.after_of routines.now) (B.recording book.old).limits (B.recording book.old).capacity seed (scene (B.recording book.old).history roles.old.items) (scene (B.recording book.new).history roles.new.items)) }
     ensures all { OnOk result (AllOf (given R.next_of R.after_of routines.now) (B.recording book.new).limits (B.recording book.new).capacity (B.recording book.new).history roles.new.items) }
     ensures legal { OnOk result (IsLegal (B.recording book.new).limits (B.recording book.new).capacity (B.recording book.new).history) }
     ensures ended { OnOk result (HaveEnded roles.new.items) }

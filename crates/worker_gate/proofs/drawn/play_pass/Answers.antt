@@ -1,4 +1,4 @@
-use Rattle.std.proofs.Common.{◌≡◌, if◌then◌else◌, List, [], get_or, length, ap, sym, ◌∙◌, arith, rules}
+use Rattle.std.proofs.Common.{◌≡◌, if◌then◌else◌, [], get_or, ap, sym, ◌∙◌, arith, rules}
 use Rattle.std.specs.Prelude.{remove}
 use Rattle.worker_gate.specs.Roles.{is_last_turn}
 use Rattle.worker_gate.specs.Drawn.{left_after, open_places}
