@@ -1,15 +1,23 @@
 -- The script of a number is a script, and short.
-use Rattle.std.proofs.Common.{◌≡◌, ℕ, zero, suc, ◌+◌, ◌*◌, ◌<◌, ◌≤◌, Bool, true, false, List, [], ◌∷◌, ◌++◌, Some, bytes_eq, codes, cond, decimal, length as list_length, refl, sym, ap, ◌∙◌, subst, arith, append-nil, ◌⊎◌, inl, inr, eq-or-lt_of_le}
+use Rattle.std.proofs.Common.{◌≡◌, ℕ, zero, suc, ◌+◌, ◌*◌, ◌<◌, ◌≤◌, Bool, true, false, List, [], ◌∷◌, ◌++◌, Some, bytes_eq, codes, cond, decimal, length as list_length, refl, sym, ap, ◌∙◌, subst, arith, append-nil, length-append, add-zero, if◌then◌else◌, nat_lt, ◌⊎◌, inl, inr, eq-or-lt_of_le}
 use Rattle.std.specs.Fmt.{digits}
 use Rattle.std.specs.Map.{lookup}
 use Rattle.std.proofs.lemmas.Bool.Decides.{nat_tests}
+use Rattle.script_lines.specs.declared.judge.Known.{Known}
 use Rattle.script_lines.specs.declared.line.Line.{Line}
 use Rattle.script_lines.specs.declared.names.Named.{Named}
 use Rattle.script_lines.specs.declared.words.Sort.TheVariants as sort
 use Rattle.script_lines.specs.Names.{Names}
 use Rattle.script_lines.specs.States.{first_state}
 use Rattle.script_lines.specs.Texts.{lines_of}
-use Rattle.tp_script.specs.Scripts.{IsScript, Reads, with_routines}
+use Rattle.script_lines.specs.declared.state.State.{State}
+use Rattle.script_lines.specs.declared.words.Word.{Word}
+use Rattle.script_lines.specs.declared.words.Word.TheVariants as word
+use Rattle.script_lines.specs.States.{state_after}
+use Rattle.script_lines.proofs.HeadFacts.{MayHead, line_head}
+use Rattle.tp_script.specs.declared.script.Opening.TheVariants as opening
+use Rattle.tp_script.specs.Nexts.{clients_of, opens, places_behind}
+use Rattle.tp_script.specs.Scripts.{IsScript, Reads, known_after, with_routines, words_of}
 use Rattle.script_generator.specs.Scripts.{Generated, client_line, draw_of, drawn, generated, group_and_timer, last_client, most_of, pool_line, priority_word, routines, with_client, with_clients, with_lines, with_text, with_works, work_line}
 use Rattle.script_generator.proofs.Clients.{Knows, client_closes, client_opens, last_leads, line_leads}
 use Rattle.script_generator.proofs.Knowing.{behind, declared, head_leads, named, names_with, routine_names, routines_lead, start, within, work_leads}
@@ -121,8 +129,38 @@ generated_leads number length some small =
     let more : ℕ = draw_of (drawn state) 5 in
     (more, body_leads more length (record { state = drawn state; text = pool_line (1 + draw) ++ group_and_timer }) (draw_below (drawn state) 5 (omega arith)) some small (head_leads draw (draw_below state 4 (omega arith))))
 
--- from the first line to behind a client's end
-script_of : (text : List ℕ) (more most : ℕ) → Leads start (ended more) text most → (lines : List Line) × IsScript text lines
+-- ---- its clients
+
+-- a line that begins a client is counted, and no other
+counted : (state : State) (head : Word) → MayHead state head → (state_after state head).clients ≡ state.clients + (if opens opening.Client head then 1 else 0)
+counted state word.Client (inl e) = let no_such : ⊥ = cc in absurd no_such
+counted state word.Client (inr (room, may)) = by (nat_lt state.clients 15) room
+  where
+    by : (b : Bool) → b ≡ true → (if b then state.clients + 1 else state.clients) ≡ state.clients + 1
+    by true e = refl
+    by false e = let no_such : ⊥ = cc in absurd no_such
+counted state _ may = omega arith
+
+one_place : (b : Bool) (place : ℕ) → list_length (if b then place ∷ [] else []) ≡ (if b then 1 else 0)
+one_place true place = refl
+one_place false place = refl
+
+clients_read : (texts : List (List ℕ)) (known end : Known) (lines : List Line) (at : ℕ) → Reads known texts lines end → end.state.clients ≡ known.state.clients + list_length (places_behind opening.Client at lines)
+clients_read [] known end lines at (none, e) = subst (λ (ls : List Line). end.state.clients ≡ known.state.clients + list_length (places_behind opening.Client at ls)) (sym none) (ap (λ (k : Known). k.state.clients) e ∙ sym (add-zero known.state.clients))
+clients_read (text ∷ texts) known end lines at (inl (blank, reads)) = clients_read texts known end lines at reads
+clients_read (text ∷ texts) known end lines at (inr (solid, (line, name, more, read, e, reads))) =
+    subst (λ (ls : List Line). end.state.clients ≡ known.state.clients + list_length (places_behind opening.Client at ls)) (sym e)
+    (omega (
+      arith,
+      clients_read texts (known_after known line name) end more (at + 1) reads,
+      counted known.state line.head (line_head known (words_of text) line name read),
+      one_place (opens opening.Client line.head) (at + 1),
+      length-append (if opens opening.Client line.head then (at + 1) ∷ [] else []) (places_behind opening.Client (at + 1) more),
+    ))
+
+-- ---- a text that leads from the first line to behind the fourth client
+
+script_of : (text : List ℕ) (more most : ℕ) → Leads start (ended more) text most → (lines : List Line) × IsScript text lines × (clients_of lines ≡ 5)
 script_of text more most leads =
     let read = leads.reads [] [] (ended more).known (refl, refl) in
     let begun : with_routines [] (lines_of text) ≡ routine_names = ap (λ (t : List ℕ). with_routines [] (lines_of t)) (sym (append-nil text)) ∙ leads.begins [] in
@@ -133,9 +171,10 @@ script_of text more most leads =
         reads = subst (λ (names : Names). Reads (record { names = []; routines = names; state = first_state }) (lines_of text) read.0 (ended more).known) (sym begun) reads;
         closed = refl;
       },
+      omega (arith, clients_read (lines_of text) start.known (ended more).known read.0 0 reads),
     )
 
-pub generated_script : (number length : ℕ) → 1 ≤ length → length ≤ 10000 → (lines : List Line) × IsScript (generated number length) lines
+pub generated_script : (number length : ℕ) → 1 ≤ length → length ≤ 10000 → (lines : List Line) × IsScript (generated number length) lines × (clients_of lines ≡ 5)
 generated_script number length some small =
     let leads = generated_leads number length some small in
     script_of (generated number length) leads.0 (1000 + 45 * length) leads.1

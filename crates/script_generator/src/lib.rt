@@ -14,6 +14,7 @@
 
 ghost use Rattle.std.specs.Prelude.{◌≡◌, ◌≤◌, ◌+◌, ◌*◌, ℕ, List, IfOk, length};
 ghost use Rattle.script_lines.specs.declared.line.Line.{Line};
+ghost use Rattle.tp_script.specs.Nexts.{clients_of};
 ghost use Rattle.tp_script.specs.Scripts.{IsScript};
 ghost use Rattle.script_generator.specs.Scripts.{generated, most_of, priority_word};
 
@@ -38,9 +39,10 @@ pub fn generate(alloc: Global, number: u64, length: u32) -> Result<Vec<u8>, Allo
     Ok(script.text)
 }
 
-/// What is written for a number is a script, and a short one, if each drawn client has from 1 to 10,000 lines.
+/// What is written for a number is a script with four clients behind the one that declares, and a short one, if each
+/// drawn client has from 1 to 10,000 lines.
 pub fn generated_is_script()
-    ensures script { (number each : ℕ) → 1 ≤ each → each ≤ 10000 → (lines : List Line) × IsScript (generated number each) lines }
+    ensures script { (number each : ℕ) → 1 ≤ each → each ≤ 10000 → (lines : List Line) × IsScript (generated number each) lines × (clients_of lines ≡ 5) }
     ensures short { (number each : ℕ) → 1 ≤ each → each ≤ 10000 → length (generated number each) ≤ 1000 + 45 * each }
 {}
 
