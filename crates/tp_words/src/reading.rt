@@ -34,7 +34,7 @@ pub struct Texts<'a> {
 pub enum WordFault {
     /// Memory was refused, which tells nothing of the words.
     NoMemory,
-    /// The words say nothing.
+    /// An option is unknown, is there twice or lacks its value, or there is a word too many.
     Refused,
 }
 
