@@ -15,7 +15,7 @@ use Rattle.tp_run.specs.Inputs.{ending_of}
 use Rattle.tp_run.specs.declared.command.Command.TheVariants.{Check}
 use Rattle.tp_run.specs.declared.status.Ending.{Ending}
 use Rattle.tp_run.specs.declared.status.Status.{Status}
-use Rattle.tp_run.specs.declared.top.Output.{Output}
+use Rattle.tp_run.specs.declared.replies.Output.{Output}
 
 pub reply_of_fault : (bytes : List ℕ) (fault : TextFault) (reply : Result Output Status) → IsErrAnd reply (λ status. status ≡ status_of_text fault) → IsPlace (IsHistoryFault bytes) fault
     → ((header : Header) (entries : List Entry) → IsHistory bytes header entries → IsOrNoMemory (IsVerdict (limits_of header) header.events entries) (Err fault))

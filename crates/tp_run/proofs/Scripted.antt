@@ -1,5 +1,5 @@
 -- What the program makes of the run of a script.
-use Rattle.std.proofs.Common.{◌≡◌, ℕ, Bool, true, false, List, Option, None, Some, Result, Ok, Err, refl, sym, ap, ◌∙◌, subst, inl, inr}
+use Rattle.std.proofs.Common.{◌≡◌, ℕ, Bool, true, false, List, Option, None, Some, Result, Ok, Err, ◌<◌, arith, refl, sym, ap, ◌∙◌, subst, inl, inr}
 use Rattle.std.specs.Prelude.{◌↔◌, IfErr, IfOk, IfSome}
 use Rattle.std.specs.Result.{IsErrAnd}
 use Rattle.std.proofs.lemmas.Bool.{false≢true}
@@ -23,7 +23,7 @@ use Rattle.tp_run.specs.declared.played.Layout.{Layout}
 use Rattle.tp_run.specs.declared.status.Status.{Status}
 use Rattle.tp_run.specs.declared.status.Status.TheVariants as end
 use Rattle.tp_run.specs.declared.status.Status.TheVariants.{BadLine}
-use Rattle.tp_run.specs.declared.top.Output.{Output}
+use Rattle.tp_run.specs.declared.replies.Output.{Output}
 use Rattle.script_lines.specs.declared.line.Line.{Line}
 use Rattle.tp_script.specs.Answers.{IsScriptFault, IsThat}
 use Rattle.tp_script.specs.Scripts.{IsScript}
@@ -150,6 +150,23 @@ one_played_of seed one_history one_script text threads one machine layout output
     one_played seed one_history b.0 threads one (limits_for b.0 machine) machine.events layout output other ending other_end
     (subst (λ script. IsPlayed script threads seed (limits_for script machine) machine.events layout output ending) same a.2) b.2
 
+-- ---- several threads
+
+-- of them it is said less than of one
+played_on_any : (script : List Line) (threads : ℕ) (seed : Option ℕ) (limits : Limits) (capacity : ℕ) (layout : Layout) (output : List ℕ) (ending : Ending)
+    → IsPlayed script 1 seed limits capacity layout output ending → IsPlayed script threads seed limits capacity layout output ending
+played_on_any script threads seed limits capacity layout output ending p = record {
+  history = p.history;
+  is_run = record { legal = p.is_run.legal; laws = p.is_run.laws; runs = p.is_run.runs; alone = λ _. p.is_run.alone refl; none_lost = p.is_run.none_lost };
+  output_is = p.output_is;
+  ends = p.ends;
+}
+
+all_played_on_any : (text : List ℕ) (threads : ℕ) (seed : Option ℕ) (machine : MachineSize) (layout : Layout) (output : List ℕ) (ending : Ending)
+    → IsPlayedOf text 1 seed machine layout output ending → IsPlayedOf text threads seed machine layout output ending
+all_played_on_any text threads seed machine layout output ending p =
+    (p.0, p.1, played_on_any p.0 threads seed (limits_for p.0 machine) machine.events layout output ending p.2)
+
 -- ---- what becomes of a text that is to be played
 
 pub script_end : (bytes : List ℕ) (fault : ScriptFault) (reply : Result Output Status) → IsErrAnd reply (λ status. status ≡ status_of_script fault) → IsScriptFault bytes fault
@@ -161,17 +178,35 @@ script_end bytes fault (Err status) h place only = subst (λ s. IsScriptEnd byte
     of_fault NoMemory place only = tt
     of_fault (At line column kind) place only = ((kind, place), only)
 
-pub run_reply : (bytes : List ℕ) (threads : ℕ) (seed : Option ℕ) (machine : MachineSize) (json : Bool) (reply : Result Output Status)
-    → OneHistory seed → OneScript → IfOk reply (λ output. IsPlayedOf bytes threads seed machine (whole_layout json) output.text.items output.ending) → IfErr reply (IsScriptEnd bytes)
+unplayed_reply : (bytes : List ℕ) (threads : ℕ) (seed : Option ℕ) (machine : MachineSize) (json : Bool) (status : Status) → IsScriptEnd bytes status → IsReply (Run threads seed machine json) bytes (Err status)
+unplayed_reply bytes threads seed machine json (BadLine line column) e = record { at = e.0; none = λ h. e.1 h.0 h.1 }
+unplayed_reply bytes threads seed machine json end.NoMemory e = tt
+unplayed_reply bytes threads seed machine json _ e = absurd e
+
+-- played on several, of which there may be other outputs
+pub several_output : (bytes : List ℕ) (threads : ℕ) (seed : Option ℕ) (machine : MachineSize) (json : Bool) (output : Output) → 1 < threads
+    → IsPlayedOf bytes threads seed machine (whole_layout json) output.text.items output.ending → IsOutput (Run threads seed machine json) bytes output.text.items output.ending
+several_output bytes threads seed machine json output several played = record { gives = played; only = λ one other other_end g. absurd (omega (arith, several, one)) }
+
+pub several_unplayed : (bytes : List ℕ) (threads : ℕ) (seed : Option ℕ) (machine : MachineSize) (json : Bool) (reply : Result Output Status) (fault : ScriptFault)
+    → IsErrAnd reply (λ status. status ≡ status_of_script fault) → IsScriptFault bytes fault → ((lines : List Line) → IsScript bytes lines → IsThat lines (Err fault))
     → IsReply (Run threads seed machine json) bytes reply
-run_reply bytes threads seed machine json (Ok output) one_history one_script ok err = record {
-  gives = ok;
-  only = λ one other other_end g.
-      one_played_of seed one_history one_script bytes threads one machine (whole_layout json) output.text.items other output.ending other_end ok g;
-}
-run_reply bytes threads seed machine json (Err (BadLine line column)) one_history one_script ok err = record { at = err.0; none = λ h. err.1 h.0 h.1 }
-run_reply bytes threads seed machine json (Err end.NoMemory) one_history one_script ok err = tt
-run_reply bytes threads seed machine json (Err _) one_history one_script ok err = absurd err
+several_unplayed bytes threads seed machine json (Ok output) fault h place only = absurd h
+several_unplayed bytes threads seed machine json (Err status) fault h place only =
+    unplayed_reply bytes threads seed machine json status (script_end bytes fault (Err status) h place only)
+
+-- played on one thread, where the command may have more
+pub run_reply : (bytes : List ℕ) (threads : ℕ) (seed : Option ℕ) (machine : MachineSize) (json : Bool) (reply : Result Output Status)
+    → OneHistory seed → OneScript → IfOk reply (λ output. IsPlayedOf bytes 1 seed machine (whole_layout json) output.text.items output.ending) → IfErr reply (IsScriptEnd bytes)
+    → IsReply (Run threads seed machine json) bytes reply
+run_reply bytes threads seed machine json (Ok output) one_history one_script ok err =
+    let gives = all_played_on_any bytes threads seed machine (whole_layout json) output.text.items output.ending ok in
+    record {
+      gives = gives;
+      only = λ one other other_end g.
+          one_played_of seed one_history one_script bytes threads one machine (whole_layout json) output.text.items other output.ending other_end gives g;
+    }
+run_reply bytes threads seed machine json (Err status) one_history one_script ok err = unplayed_reply bytes threads seed machine json status err
 
 pub big_output : (bytes : List ℕ) (number : ℕ) (machine : MachineSize) (json : Bool) (output : Output) → OneHistory None → OneScript
     → IsPlayedOf (long_script number) 1 None machine (short_layout json) output.text.items output.ending → IsOutput (Big number machine json) bytes output.text.items output.ending

@@ -13,7 +13,7 @@ use Rattle.tp_run.specs.declared.status.Ending.{Ending}
 use Rattle.tp_run.specs.declared.status.Ending.TheVariants as ending
 use Rattle.tp_run.specs.declared.status.Status.{Status}
 use Rattle.tp_run.specs.declared.status.Status.TheVariants.{Fine, Words, BadLine, ReadFault, WriteFault, NoMemory, TooLong, NotLegal, Exhausted, Stalled}
-use Rattle.tp_run.specs.declared.top.Output.{Output}
+use Rattle.tp_run.specs.declared.replies.Output.{Output}
 use Rattle.script_lines.specs.declared.line.Line.{Line}
 use Rattle.tp_script.specs.Scripts.{IsScript}
 use Rattle.tp_script.specs.declared.fault.ScriptFault.{ScriptFault}

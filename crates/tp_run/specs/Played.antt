@@ -19,7 +19,7 @@ use Rattle.tp_report.specs.Summaries.{summary_text, totals_of, IsNoneLost}
 use Rattle.tp_report.specs.declared.counts.EarlyEnd.TheVariants as early
 use Rattle.tp_report.specs.declared.playing.MachineSize.{MachineSize}
 use Rattle.tp_run.specs.declared.played.Layout.{Layout}
-use Rattle.tp_run.specs.declared.top.Output.{Output}
+use Rattle.tp_run.specs.declared.replies.Output.{Output}
 use Rattle.tp_run.specs.declared.status.Ending.{Ending}
 use Rattle.tp_run.specs.declared.status.Ending.TheVariants.{Fine, NotLegal, Exhausted, Stalled}
 use Rattle.script_lines.specs.declared.line.Line.{Line}

@@ -39,9 +39,45 @@ pub enum Command {
     },
 }
 
+/// A run on several threads.
+#[derive(Clone, Copy)]
+pub struct Several {
+    /// How many there are, 2 at least.
+    pub threads: u32,
+    /// The size of the machine.
+    pub machine: MachineSize,
+    /// Whether the summary is JSON.
+    pub json: bool,
+}
+
 impl Command {
-    ghost use Rattle.std.specs.Prelude.{◌≡◌, Some};
-    ghost use Rattle.tp_run.specs.Inputs.{reads};
+    ghost use Rattle.std.specs.Prelude.{◌≡◌, ◌<◌, None, Some, IfSome};
+    ghost use Rattle.tp_report.specs.Traces.{IsMachineSize};
+    ghost use Rattle.tp_run.specs.Inputs.{reads, IsDetermined, IsPlayable};
+    ghost use Rattle.tp_run.specs.declared.command.Command.TheVariants.{Run};
+
+    /// The run on several threads that the command is, if it is one.
+    pub fn on_several(self) -> Option<Several>
+        requires { IsPlayable self }
+        ensures run { IfSome result (λ several. self ≡ Run several.threads None several.machine several.json) }
+        ensures threads { IfSome result (λ several. 1 < several.threads) }
+        ensures size { IfSome result (λ several. IsMachineSize several.machine) }
+        ensures none { result ≡ None → IsDetermined (Some self) }
+    {
+        match self {
+            Command::Run {
+                threads,
+                seed: None,
+                machine,
+                json,
+            } if threads > 1 => Some(Several {
+                threads,
+                machine,
+                json,
+            }),
+            _ => None,
+        }
+    }
 
     /// Whether the command has an input.
     pub fn reads(self) -> bool

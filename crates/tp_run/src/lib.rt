@@ -4,6 +4,7 @@
 //! the command makes of it to its sink; it answers how the program ends. The machine is a
 //! `recorded::Recorded`, the streams are those of `tp_edge` and the gate is `worker_gate`'s, so nothing
 //! here depends on an engine or on the streams of the system: the program `tp_top` gives it all three.
+//! `tp_main_alone` does the same for a program without threads, and plays each script on its own.
 //!
 //! ```text
 //! words.push("trace")?;
@@ -15,11 +16,12 @@
 mod command;
 mod number;
 mod played;
+mod replies;
 mod said;
 mod status;
 mod top;
 mod words;
 
 pub use status::Status;
-pub use top::tp_main;
+pub use top::{tp_main, tp_main_alone};
 pub use words::WordList;

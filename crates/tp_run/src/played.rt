@@ -10,8 +10,8 @@ ghost use Rattle.tp_report.specs.Traces.{IsMachineSize};
 ghost use Rattle.tp_run.specs.Played.{ending_by, ending_of_run, has_pending, is_pending_row, limits_for, totals_text, IsOutputOf, IsPlayed};
 ghost use Rattle.tp_script.specs.Machines.{HasFewClients, NeverWaitsAtFirst};
 
+use crate::replies::Output;
 use crate::status::Ending;
-use crate::top::Output;
 use recorded::{Recorded, program_limits};
 use std::alloc::{AllocError, Global};
 use std::sync::Wait;

@@ -1,41 +1,32 @@
 //! All that the program does, over any machine, any source, any sink and any gate.
 
-ghost use Rattle.std.specs.Prelude.{◌≡◌, ◌≢◌, ◌↔◌, ◌≤◌, ◌⊎◌, ℕ, false, true, List, [], IfErr, IfOk, Some, None, Err, is_some, length};
+ghost use Rattle.std.specs.Prelude.{◌≡◌, ◌↔◌, ◌<◌, ◌≤◌, ◌⊎◌, ℕ, false, List, [], IfOk, Option, Some, None, Err, length};
 ghost use Rattle.tp_edge.specs.Counts.{Rose};
 ghost use Rattle.tp_edge.specs.Given.{with_given, TookFirst};
 ghost use Rattle.tp_edge.specs.Reading.{IsRead};
 ghost use Rattle.tp_edge.specs.Taken.{behind, IsAbove, IsEnded};
 ghost use Rattle.tp_run.specs.Commands.{command_of};
-ghost use Rattle.tp_run.specs.Ends.{IsAllRead, IsReply, IsRun, IsScriptEnd, IsTakenTo, status_of};
+ghost use Rattle.tp_run.specs.Ends.{IsAllRead, IsRun, IsTakenTo, status_of};
 ghost use Rattle.tp_report.specs.Traces.{IsMachineSize};
-ghost use Rattle.tp_report.specs.Verdicts.{verdict_text};
-ghost use Rattle.tp_run.specs.Inputs.{ending_of, short_layout, whole_layout, Gives, IsDetermined, IsInGrammar, IsPlayable, IsPlayedOf, IsTold, reads};
-ghost use Rattle.tp_run.specs.Played.{long_script};
+ghost use Rattle.tp_run.specs.Inputs.{Gives, IsDetermined, IsInGrammar, IsPlayable, IsTold, reads};
 ghost use Rattle.tp_run.specs.Runs.{IsAnswered, IsBadLine, IsBadLineOf, IsReadToEnd, IsUnwritten, IsWhole, IsWithin};
+ghost use Rattle.tp_run.specs.declared.command.Command.{Command};
+ghost use Rattle.tp_run.specs.declared.command.Command.TheVariants.{Run};
 ghost use Rattle.tp_run.specs.declared.status.Ending.{Ending};
 
-use crate::command::{Command, command_in};
-use crate::played::{play_script, play_script_alone, play_script_drawn, play_unwritten};
-use crate::status::{Ending, Status};
+use crate::command::{Command, Several, command_in};
+use crate::replies::{Output, reply, reply_on_several};
+use crate::status::Status;
 use crate::words::WordList;
 use recorded::Recorded;
-use script_generator::generate;
-use std::alloc::{AllocError, Global};
+use std::alloc::Global;
 use std::sync::Wait;
 use std::thread::Threads;
 use tp_edge::{ReadFault, Sink, Source, WriteFault, give_all, read_all};
-use tp_report::{MachineSize, Verdict, check, print_verdict, trace};
-use tp_script::{one_script_a_text, parse_script};
-use worker_gate::{Gate, one_history_alone, one_history_drawn};
+use worker_gate::Gate;
 
 /// The most bytes that an input may have.
-const INPUT_LIMIT: usize = 16_777_216;
-
-/// How many lines each drawn client has in the script that is written for a number.
-const SCRIPT_LENGTH: u32 = 64;
-
-/// The same in the script that is played for a number.
-const LONG_SCRIPT_LENGTH: u32 = 2_000;
+pub const INPUT_LIMIT: usize = 16_777_216;
 
 /// Does what the words ask for on a machine, a `B`: reads the source to its end, and then writes to the
 /// sink.
@@ -46,8 +37,8 @@ const LONG_SCRIPT_LENGTH: u32 = 2_000;
 /// anything is written.
 ///
 /// `run` and `big` play with all clients and workers at the gate. A wait of theirs that nobody can end is
-/// answered `stalled`, so that the script goes on to its end. `run` with one thread, and `big`, are played
-/// by calls that take no `rt`, as all other commands are; with more threads `run` waits for them.
+/// answered `stalled`, so that the script goes on to its end. `run` with more than one thread waits for
+/// them. All else is done by functions that take no `rt`, so that they return.
 pub fn tp_main<Rt: Threads + Wait + Sync, B: Recorded + Send, S: Source, K: Sink, G: Gate + Sync>(
     rt: &Rt,
     alloc: Global,
@@ -91,22 +82,67 @@ pub fn tp_main<Rt: Threads + Wait + Sync, B: Recorded + Send, S: Source, K: Sink
 {
     match command_in(words) {
         None => Status::Words,
-        Some(command) => run::<Rt, B, S, K, G>(rt, alloc, command, source, sink, gate),
+        Some(command) => match command.on_several() {
+            Some(several) => {
+                run_on_several::<Rt, B, S, K, G>(rt, alloc, several, source, sink, gate)
+            }
+            None => run::<B, S, K, G>(alloc, command, source, sink, gate),
+        },
     }
 }
 
-/// What a command makes of its input.
-#[derive(Drop)]
-pub struct Output {
-    /// All that is to be written.
-    pub text: Vec<u8>,
-    /// How the program ends once it is written.
-    pub ending: Ending,
+/// What `tp_main` does, on this thread alone. It has nothing to wait by, and returns.
+///
+/// A script whose words ask for more threads is played on this one: of the outputs that there may be with
+/// those, it writes the one that there is with one.
+pub fn tp_main_alone<B: Recorded, S: Source, K: Sink, G: Gate>(
+    alloc: Global,
+    words: &WordList,
+    source: &mut S,
+    sink: &mut K,
+    gate: &G,
+) -> Status
+    // The words alone decide whether they are a command; if not, nothing is done.
+    ensures words { (result ≡ Status.Words) ↔ (command_of words.now ≡ None) }
+    ensures unread { reads (command_of words.now) ≡ false → source.new ≡ source.old }
+    ensures unwritten { IsUnwritten result → sink.new ≡ sink.old }
+    // A fault of a stream has risen in this call.
+    ensures read_fault { result ≡ Status.ReadFault → Rose (S.failures source.old) (S.failures source.new) }
+    ensures write_fault { result ≡ Status.WriteFault → Rose (K.failures sink.old) (K.failures sink.new) }
+    ensures source_never_falls { S.failures source.old ≤ S.failures source.new }
+    ensures sink_never_falls { K.failures sink.old ≤ K.failures sink.new }
+    // What was taken from the source.
+    ensures taken { (taken : List ℕ) × (S.left source.old ≡ behind taken (S.left source.new)) × IsWithin result taken }
+    ensures too_long { result ≡ Status.TooLong → IsAbove INPUT_LIMIT (S.left source.old) }
+    ensures ended { IsReadToEnd (command_of words.now) result → IsEnded (S.left source.new) }
+    // A bad line is the first fault of the input, which is then in no grammar of the command.
+    ensures bad_line { IsBadLineOf (command_of words.now) (S.left source.old) result }
+    ensures bad_only { (bytes : List ℕ) → IsTold (command_of words.now) bytes (S.left source.old) → IsInGrammar (command_of words.now) bytes →
+        IsBadLine result → ⊥ }
+    // The sink gets an output for the input, once; and where the command has one, there is no other.
+    ensures whole { IsWhole result → IsAnswered (command_of words.now) (S.left source.old)
+        (λ output ending. (result ≡ status_of ending) × (K.holds sink.new ≡ with_given output (K.holds sink.old))) }
+    ensures whole_only { (bytes output : List ℕ) (ending : Ending) → IsDetermined (command_of words.now) → IsTold (command_of words.now) bytes (S.left source.old) → Gives (command_of words.now) bytes output ending →
+        IsWhole result → (result ≡ status_of ending) × (K.holds sink.new ≡ with_given output (K.holds sink.old)) }
+    // A sink that has a fault holds the first bytes of the output.
+    ensures first { result ≡ Status.WriteFault → IsAnswered (command_of words.now) (S.left source.old)
+        (λ output ending. TookFirst (K.holds sink.old) (K.holds sink.new) output) }
+    ensures first_only { (bytes output : List ℕ) (ending : Ending) → IsDetermined (command_of words.now) → IsTold (command_of words.now) bytes (S.left source.old) → Gives (command_of words.now) bytes output ending →
+        result ≡ Status.WriteFault → TookFirst (K.holds sink.old) (K.holds sink.new) output }
+    // Nothing but want of memory keeps an input in the grammar from its output where no stream has a fault.
+    ensures complete { (bytes : List ℕ) → IsTold (command_of words.now) bytes (S.left source.old) → IsInGrammar (command_of words.now) bytes →
+        length bytes ≤ INPUT_LIMIT →
+        (Rose (S.failures source.old) (S.failures source.new) → ⊥) → (Rose (K.failures sink.old) (K.failures sink.new) → ⊥) →
+        IsWhole result ⊎ (result ≡ Status.NoMemory) }
+{
+    match command_in(words) {
+        None => Status::Words,
+        Some(command) => run::<B, S, K, G>(alloc, command, source, sink, gate),
+    }
 }
 
 // Reads the command's input, and writes its output.
-fn run<Rt: Threads + Wait + Sync, B: Recorded + Send, S: Source, K: Sink, G: Gate + Sync>(
-    rt: &Rt,
+fn run<B: Recorded, S: Source, K: Sink, G: Gate>(
     alloc: Global,
     command: Command,
     source: &mut S,
@@ -122,7 +158,41 @@ fn run<Rt: Threads + Wait + Sync, B: Recorded + Send, S: Source, K: Sink, G: Gat
     ensures source_never_falls { S.failures source.old ≤ S.failures source.new }
     ensures sink_never_falls { K.failures sink.old ≤ K.failures sink.new }
 {
-    match read_output::<Rt, B, S, G>(rt, alloc, command, source, gate) {
+    let reply = read_output::<B, S, G>(alloc, command, source, gate);
+    write_reply(sink, reply)
+}
+
+// Reads a script, plays it on several threads, and writes what is to be written of the run.
+fn run_on_several<
+    Rt: Threads + Wait + Sync,
+    B: Recorded + Send,
+    S: Source,
+    K: Sink,
+    G: Gate + Sync,
+>(rt: &Rt, alloc: Global, several: Several, source: &mut S, sink: &mut K, gate: &G) -> Status
+    requires threads { 1 < several.threads }
+    requires size { IsMachineSize several.machine }
+    ensures run { IsRun (Run several.threads None several.machine several.json) (S.left source.old) (S.left source.new) (K.holds sink.old) (K.holds sink.new) result }
+    ensures unwritten { IsUnwritten result → sink.new ≡ sink.old }
+    ensures read_fault { result ≡ Status.ReadFault → Rose (S.failures source.old) (S.failures source.new) }
+    ensures write_fault { result ≡ Status.WriteFault → Rose (K.failures sink.old) (K.failures sink.new) }
+    ensures source_never_falls { S.failures source.old ≤ S.failures source.new }
+    ensures sink_never_falls { K.failures sink.old ≤ K.failures sink.new }
+{
+    let reply = play_on_several::<Rt, B, S, G>(rt, alloc, several, source, gate);
+    write_reply(sink, reply)
+}
+
+// Writes what a command came to.
+fn write_reply<K: Sink>(sink: &mut K, reply: Result<Output, Status>) -> Status
+    ensures run { (command : Command) (left now : Option (List ℕ)) → IsTakenTo command left now reply →
+        IsRun command left now (K.holds sink.old) (K.holds sink.new) result }
+    ensures unwritten { IsUnwritten result → sink.new ≡ sink.old }
+    ensures read_fault { result ≡ Status.ReadFault → reply ≡ Err Status.ReadFault }
+    ensures write_fault { result ≡ Status.WriteFault → (reply ≡ Err Status.WriteFault) ⊎ Rose (K.failures sink.old) (K.failures sink.new) }
+    ensures never_falls { K.failures sink.old ≤ K.failures sink.new }
+{
+    match reply {
         Err(status) => status,
         Ok(output) => match give_all(sink, &output.text) {
             Ok(()) => output.ending.into(),
@@ -132,8 +202,7 @@ fn run<Rt: Threads + Wait + Sync, B: Recorded + Send, S: Source, K: Sink, G: Gat
 }
 
 // Reads the command's input to its end, and answers its output.
-fn read_output<Rt: Threads + Wait + Sync, B: Recorded + Send, S: Source, G: Gate + Sync>(
-    rt: &Rt,
+fn read_output<B: Recorded, S: Source, G: Gate>(
     alloc: Global,
     command: Command,
     source: &mut S,
@@ -146,7 +215,31 @@ fn read_output<Rt: Threads + Wait + Sync, B: Recorded + Send, S: Source, G: Gate
     ensures never_falls { S.failures source.old ≤ S.failures source.new }
 {
     let bytes = read_input(alloc, command, source)?;
-    reply::<Rt, B, G>(rt, alloc, command, &bytes, gate)
+    reply::<B, G>(alloc, command, &bytes, gate)
+}
+
+// Reads a script to its end, and answers what is to be written of a run of it on several threads.
+fn play_on_several<Rt: Threads + Wait + Sync, B: Recorded + Send, S: Source, G: Gate + Sync>(
+    rt: &Rt,
+    alloc: Global,
+    several: Several,
+    source: &mut S,
+    gate: &G,
+) -> Result<Output, Status>
+    requires threads { 1 < several.threads }
+    requires size { IsMachineSize several.machine }
+    ensures taken { IsTakenTo (Run several.threads None several.machine several.json) (S.left source.old) (S.left source.new) result }
+    ensures read_fault { result ≡ Err Status.ReadFault → Rose (S.failures source.old) (S.failures source.new) }
+    ensures never_falls { S.failures source.old ≤ S.failures source.new }
+{
+    let command = Command::Run {
+        threads: several.threads,
+        seed: None,
+        machine: several.machine,
+        json: several.json,
+    };
+    let bytes = read_input(alloc, command, source)?;
+    reply_on_several::<Rt, B, G>(rt, alloc, &bytes, several, gate)
 }
 
 // All that the source has, or nothing where the command has no input.
@@ -166,176 +259,4 @@ fn read_input<S: Source>(
     } else {
         Ok(Vec::new(alloc))
     }
-}
-
-// The command's output for its whole input.
-fn reply<Rt: Threads + Wait + Sync, B: Recorded + Send, G: Gate + Sync>(
-    rt: &Rt,
-    alloc: Global,
-    command: Command,
-    bytes: &[u8],
-    gate: &G,
-) -> Result<Output, Status>
-    requires few { length bytes.now ≤ INPUT_LIMIT }
-    requires playable { IsPlayable command }
-    ensures { IsReply command bytes.now result }
-{
-    match command {
-        Command::Trace { machine } => {
-            let text = trace::<B>(alloc, bytes, machine)?;
-            Ok(Output {
-                text,
-                ending: Ending::Fine,
-            })
-        }
-        Command::Check => {
-            let verdict = check::<B>(alloc, bytes)?;
-            Ok(output_of(alloc, &verdict)?)
-        }
-        Command::Gen { number } => {
-            let text = generate(alloc, number, SCRIPT_LENGTH)?;
-            Ok(Output {
-                text,
-                ending: Ending::Fine,
-            })
-        }
-        Command::Run {
-            threads,
-            seed,
-            machine,
-            json,
-        } => {
-            one_history_alone();
-            one_history_drawn();
-            one_script_a_text();
-            play_turns::<Rt, B, G>(rt, alloc, bytes, threads, seed, machine, json, gate)
-        }
-        Command::Big {
-            number,
-            machine,
-            json,
-        } => {
-            one_history_alone();
-            one_script_a_text();
-            let output = play_number::<B, G>(alloc, number, machine, json, gate)?;
-            Ok(output)
-        }
-    }
-}
-
-// What `check` writes of a verdict, and how it ends.
-fn output_of(alloc: Global, verdict: &Verdict) -> Result<Output, AllocError>
-    ensures text { IfOk result (λ output. output.text.items ≡ verdict_text verdict.now) }
-    ensures ending { IfOk result (λ output. output.ending ≡ ending_of verdict.now) }
-{
-    let mut text = Vec::new(alloc);
-    print_verdict(alloc, verdict, &mut text)?;
-    Ok(Output {
-        text,
-        ending: verdict.into(),
-    })
-}
-
-// What `run` writes of the script that is its input, of which the turns are drawn if there is a seed.
-fn play_turns<Rt: Threads + Wait + Sync, B: Recorded + Send, G: Gate + Sync>(
-    rt: &Rt,
-    alloc: Global,
-    bytes: &[u8],
-    threads: u32,
-    seed: Option<u64>,
-    machine: MachineSize,
-    json: bool,
-    gate: &G,
-) -> Result<Output, Status>
-    requires few { length bytes.now ≤ INPUT_LIMIT }
-    requires threads { 1 ≤ threads }
-    requires alone { is_some seed ≡ true → threads ≡ 1 }
-    requires size { IsMachineSize machine }
-    ensures ok { IfOk result (λ output. IsPlayedOf bytes.now threads seed machine (whole_layout json) output.text.items output.ending) }
-    ensures err { IfErr result (IsScriptEnd bytes.now) }
-{
-    match (seed, threads) {
-        (Some(seed), _) => play_text_drawn::<B, G>(alloc, bytes, seed, machine, json, gate),
-        (None, 1) => play_text_alone::<B, G>(alloc, bytes, machine, json, gate),
-        (None, _) => play_text::<Rt, B, G>(rt, alloc, bytes, threads, machine, json, gate),
-    }
-}
-
-// The same on so many threads.
-fn play_text<Rt: Threads + Wait + Sync, B: Recorded + Send, G: Gate + Sync>(
-    rt: &Rt,
-    alloc: Global,
-    bytes: &[u8],
-    threads: u32,
-    machine: MachineSize,
-    json: bool,
-    gate: &G,
-) -> Result<Output, Status>
-    requires few { length bytes.now ≤ INPUT_LIMIT }
-    requires threads { 1 ≤ threads }
-    requires size { IsMachineSize machine }
-    ensures ok { IfOk result (λ output. IsPlayedOf bytes.now threads None machine (whole_layout json) output.text.items output.ending) }
-    ensures err { IfErr result (IsScriptEnd bytes.now) }
-{
-    let script = parse_script(alloc, bytes)?;
-    let output = play_script::<Rt, B, G>(rt, alloc, &script, threads, machine, json, gate)?;
-    Ok(output)
-}
-
-// The same on this thread alone.
-fn play_text_alone<B: Recorded, G: Gate>(
-    alloc: Global,
-    bytes: &[u8],
-    machine: MachineSize,
-    json: bool,
-    gate: &G,
-) -> Result<Output, Status>
-    requires few { length bytes.now ≤ INPUT_LIMIT }
-    requires size { IsMachineSize machine }
-    ensures ok { IfOk result (λ output. IsPlayedOf bytes.now 1 None machine (whole_layout json) output.text.items output.ending) }
-    ensures err { IfErr result (IsScriptEnd bytes.now) }
-{
-    let script = parse_script(alloc, bytes)?;
-    let output = play_script_alone::<B, G>(alloc, &script, machine, json, gate)?;
-    Ok(output)
-}
-
-// The same with turns that are drawn from a seed.
-fn play_text_drawn<B: Recorded, G: Gate>(
-    alloc: Global,
-    bytes: &[u8],
-    seed: u64,
-    machine: MachineSize,
-    json: bool,
-    gate: &G,
-) -> Result<Output, Status>
-    requires few { length bytes.now ≤ INPUT_LIMIT }
-    requires size { IsMachineSize machine }
-    ensures ok { IfOk result (λ output. IsPlayedOf bytes.now 1 (Some seed) machine (whole_layout json) output.text.items output.ending) }
-    ensures err { IfErr result (IsScriptEnd bytes.now) }
-{
-    let script = parse_script(alloc, bytes)?;
-    let output = play_script_drawn::<B, G>(alloc, &script, seed, machine, json, gate)?;
-    Ok(output)
-}
-
-// What `big` writes of the long script of a number.
-fn play_number<B: Recorded, G: Gate>(
-    alloc: Global,
-    number: u64,
-    machine: MachineSize,
-    json: bool,
-    gate: &G,
-) -> Result<Output, AllocError>
-    requires size { IsMachineSize machine }
-    ensures { IfOk result (λ output. IsPlayedOf (long_script number) 1 None machine (short_layout json) output.text.items output.ending) }
-{
-    let text = generate(alloc, number, LONG_SCRIPT_LENGTH)?;
-    if INPUT_LIMIT < text.len() {
-        return Err(AllocError);
-    }
-    let Ok(script) = parse_script(alloc, &text) else {
-        return Err(AllocError);
-    };
-    play_unwritten::<B, G>(alloc, &script, machine, json, gate)
 }

@@ -1,9 +1,8 @@
-use Rattle.std.proofs.Common.{sym, subst, ap, ◌∙◌}
+use Rattle.std.proofs.Common.{sym, subst}
 use Rattle.tp_run.specs.Ends.{IsOutput, IsReply}
-use Rattle.tp_run.specs.declared.command.Command.TheVariants.{Run}
 use Rattle.tp_run.proofs.Checked.{output_of_verdict, reply_of_fault}
 use Rattle.tp_run.proofs.Scripted.{big_output, one_of, run_reply}
-use Rattle.tp_run.proofs.top.reply.Goals as goal
+use Rattle.tp_run.proofs.replies.reply.Goals as goal
 
 pub returns-in_err-verdict-in-Check : goal.returns-in_err-verdict-in-Check
 returns-in_err-verdict-in-Check g c =

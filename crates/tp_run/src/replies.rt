@@ -1,0 +1,207 @@
+//! What a command makes of its input.
+
+ghost use Rattle.std.specs.Prelude.{◌≡◌, ◌<◌, ◌≤◌, true, false, Some, None, IfErr, IfOk, length};
+ghost use Rattle.tp_run.specs.Ends.{IsReply, IsScriptEnd};
+ghost use Rattle.tp_report.specs.Traces.{IsMachineSize};
+ghost use Rattle.tp_report.specs.Verdicts.{verdict_text};
+ghost use Rattle.tp_run.specs.Inputs.{ending_of, short_layout, whole_layout, IsPlayable, IsPlayedOf};
+ghost use Rattle.tp_run.specs.Played.{long_script};
+ghost use Rattle.tp_run.specs.declared.command.Command.TheVariants.{Run};
+
+use crate::command::{Command, Several};
+use crate::played::{play_script, play_script_alone, play_script_drawn, play_unwritten};
+use crate::status::{Ending, Status};
+use crate::top::INPUT_LIMIT;
+use recorded::Recorded;
+use script_generator::generate;
+use std::alloc::{AllocError, Global};
+use std::sync::Wait;
+use std::thread::Threads;
+use tp_report::{MachineSize, Verdict, check, print_verdict, trace};
+use tp_script::{one_script_a_text, parse_script};
+use worker_gate::{Gate, one_history_alone, one_history_drawn};
+
+/// How many lines each drawn client has in the script that is written for a number.
+const SCRIPT_LENGTH: u32 = 64;
+
+/// The same in the script that is played for a number.
+const LONG_SCRIPT_LENGTH: u32 = 2_000;
+
+/// What a command makes of its input.
+#[derive(Drop)]
+pub struct Output {
+    /// All that is to be written.
+    pub text: Vec<u8>,
+    /// How the program ends once it is written.
+    pub ending: Ending,
+}
+
+/// The command's output for its whole input. A script is played on this thread, also where the command has
+/// more threads.
+pub fn reply<B: Recorded, G: Gate>(
+    alloc: Global,
+    command: Command,
+    bytes: &[u8],
+    gate: &G,
+) -> Result<Output, Status>
+    requires few { length bytes.now ≤ INPUT_LIMIT }
+    requires playable { IsPlayable command }
+    ensures { IsReply command bytes.now result }
+{
+    match command {
+        Command::Trace { machine } => {
+            let text = trace::<B>(alloc, bytes, machine)?;
+            Ok(Output {
+                text,
+                ending: Ending::Fine,
+            })
+        }
+        Command::Check => {
+            let verdict = check::<B>(alloc, bytes)?;
+            Ok(output_of(alloc, &verdict)?)
+        }
+        Command::Gen { number } => {
+            let text = generate(alloc, number, SCRIPT_LENGTH)?;
+            Ok(Output {
+                text,
+                ending: Ending::Fine,
+            })
+        }
+        Command::Run {
+            seed,
+            machine,
+            json,
+            ..
+        } => {
+            one_history_alone();
+            one_history_drawn();
+            one_script_a_text();
+            play_turns::<B, G>(alloc, bytes, seed, machine, json, gate)
+        }
+        Command::Big {
+            number,
+            machine,
+            json,
+        } => {
+            one_history_alone();
+            one_script_a_text();
+            let output = play_number::<B, G>(alloc, number, machine, json, gate)?;
+            Ok(output)
+        }
+    }
+}
+
+// What `check` writes of a verdict, and how it ends.
+fn output_of(alloc: Global, verdict: &Verdict) -> Result<Output, AllocError>
+    ensures text { IfOk result (λ output. output.text.items ≡ verdict_text verdict.now) }
+    ensures ending { IfOk result (λ output. output.ending ≡ ending_of verdict.now) }
+{
+    let mut text = Vec::new(alloc);
+    print_verdict(alloc, verdict, &mut text)?;
+    Ok(Output {
+        text,
+        ending: verdict.into(),
+    })
+}
+
+// What `run` writes of the script that is its input, played on this thread. The turns are drawn if there
+// is a seed.
+fn play_turns<B: Recorded, G: Gate>(
+    alloc: Global,
+    bytes: &[u8],
+    seed: Option<u64>,
+    machine: MachineSize,
+    json: bool,
+    gate: &G,
+) -> Result<Output, Status>
+    requires few { length bytes.now ≤ INPUT_LIMIT }
+    requires size { IsMachineSize machine }
+    ensures ok { IfOk result (λ output. IsPlayedOf bytes.now 1 seed machine (whole_layout json) output.text.items output.ending) }
+    ensures err { IfErr result (IsScriptEnd bytes.now) }
+{
+    match seed {
+        Some(seed) => play_text_drawn::<B, G>(alloc, bytes, seed, machine, json, gate),
+        None => play_text_alone::<B, G>(alloc, bytes, machine, json, gate),
+    }
+}
+
+// The same in rounds.
+fn play_text_alone<B: Recorded, G: Gate>(
+    alloc: Global,
+    bytes: &[u8],
+    machine: MachineSize,
+    json: bool,
+    gate: &G,
+) -> Result<Output, Status>
+    requires few { length bytes.now ≤ INPUT_LIMIT }
+    requires size { IsMachineSize machine }
+    ensures ok { IfOk result (λ output. IsPlayedOf bytes.now 1 None machine (whole_layout json) output.text.items output.ending) }
+    ensures err { IfErr result (IsScriptEnd bytes.now) }
+{
+    let script = parse_script(alloc, bytes)?;
+    let output = play_script_alone::<B, G>(alloc, &script, machine, json, gate)?;
+    Ok(output)
+}
+
+// The same with turns that are drawn from a seed.
+fn play_text_drawn<B: Recorded, G: Gate>(
+    alloc: Global,
+    bytes: &[u8],
+    seed: u64,
+    machine: MachineSize,
+    json: bool,
+    gate: &G,
+) -> Result<Output, Status>
+    requires few { length bytes.now ≤ INPUT_LIMIT }
+    requires size { IsMachineSize machine }
+    ensures ok { IfOk result (λ output. IsPlayedOf bytes.now 1 (Some seed) machine (whole_layout json) output.text.items output.ending) }
+    ensures err { IfErr result (IsScriptEnd bytes.now) }
+{
+    let script = parse_script(alloc, bytes)?;
+    let output = play_script_drawn::<B, G>(alloc, &script, seed, machine, json, gate)?;
+    Ok(output)
+}
+
+// What `big` writes of the long script of a number.
+fn play_number<B: Recorded, G: Gate>(
+    alloc: Global,
+    number: u64,
+    machine: MachineSize,
+    json: bool,
+    gate: &G,
+) -> Result<Output, AllocError>
+    requires size { IsMachineSize machine }
+    ensures { IfOk result (λ output. IsPlayedOf (long_script number) 1 None machine (short_layout json) output.text.items output.ending) }
+{
+    let text = generate(alloc, number, LONG_SCRIPT_LENGTH)?;
+    if INPUT_LIMIT < text.len() {
+        return Err(AllocError);
+    }
+    let Ok(script) = parse_script(alloc, &text) else {
+        return Err(AllocError);
+    };
+    play_unwritten::<B, G>(alloc, &script, machine, json, gate)
+}
+
+/// The output of a run on several threads for its whole input. It waits for them.
+pub fn reply_on_several<Rt: Threads + Wait + Sync, B: Recorded + Send, G: Gate + Sync>(
+    rt: &Rt,
+    alloc: Global,
+    bytes: &[u8],
+    several: Several,
+    gate: &G,
+) -> Result<Output, Status>
+    requires few { length bytes.now ≤ INPUT_LIMIT }
+    requires threads { 1 < several.threads }
+    requires size { IsMachineSize several.machine }
+    ensures { IsReply (Run several.threads None several.machine several.json) bytes.now result }
+{
+    let script = parse_script(alloc, bytes)?;
+    let Several {
+        threads,
+        machine,
+        json,
+    } = several;
+    let output = play_script::<Rt, B, G>(rt, alloc, &script, threads, machine, json, gate)?;
+    Ok(output)
+}
