@@ -1,11 +1,17 @@
 -- A round in which a client has had its turn that plays on.
-use Rattle.std.proofs.Common.{◌≡◌, ℕ, ◌+◌, ◌<◌, Bool, true, false, if◌then◌else◌, List, length, set, get_or, refl, sym, ap, ◌∙◌, arith}
+use Rattle.std.proofs.Common.{◌≡◌, ℕ, suc, ◌+◌, ◌<◌, Bool, true, false, ◌||◌, if◌then◌else◌, List, [], ◌∷◌, length, set, get_or, refl, sym, ap, ◌∙◌, arith}
+use Rattle.std.specs.Prelude.{All}
+use Rattle.std.specs.List.{list_any}
 use Rattle.std.proofs.lemmas.List.{get_or-set_same, get_or-set_other}
+use Rattle.tp_base.specs.declared.answers.Entry.{Entry}
+use Rattle.tp_base.specs.declared.limits.Limits.{Limits}
+use Rattle.tp_model.specs.History.{IsLegal}
 use Rattle.tp_model.proofs.Facts.{machine_facts}
 use Rattle.recorded.specs.Recordings.{Recording}
+use Rattle.turn_lock.specs.Histories.{own}
 use Rattle.worker_gate.specs.declared.role.Role.{Role}
 use Rattle.worker_gate.specs.Places.{Given}
-use Rattle.worker_gate.specs.Roles.{is_open}
+use Rattle.worker_gate.specs.Roles.{is_open, IsOf}
 use Rattle.worker_gate.specs.Runs.{is_over_in}
 use Rattle.worker_gate.proofs.Playing.{over_open, RoundSoFar}
 
@@ -45,3 +51,17 @@ module _ (g : Given) (start now : Recording) (roles later : List Role) (place : 
   pub open_on : (b : Role) (plays still : Bool) → (plays ≡ true → IsOneOpen later place) → still ≡ (if plays then true else is_open b.place.stage) → still ≡ true → IsOneOpen (set later place b) (place + 1)
   open_on b true still one is on = one_stays b (one refl)
   open_on b false still one is on = one_more b (sym is ∙ on)
+
+module _ (g : Given) (limits : Limits) (capacity : ℕ) (history : List Entry) where
+  none_plays : is_over_in limits capacity history ≡ true → IsLegal limits capacity history → (roles : List Role) → All (λ (r : Role). IsOf g limits capacity history (own r.who history) r) roles → list_any (λ (r : Role). is_open r.place.stage) roles ≡ true → ⊥
+  none_plays over legal [] all any = absurd cc
+  none_plays over legal (r ∷ roles) all any = by (none_plays over legal roles (λ k d less. all (suc k) d (omega (arith, less)))) (is_open r.place.stage) refl any
+    where
+      by : (list_any (λ (q : Role). is_open q.place.stage) roles ≡ true → ⊥) → (b : Bool) → is_open r.place.stage ≡ b → (b || list_any (λ (q : Role). is_open q.place.stage) roles) ≡ true → ⊥
+      by none true plays any = over_open g limits capacity history (machine_facts limits capacity history legal) over r (all 0 r (omega arith)) plays
+      by none false plays any = none any
+
+  -- where some client plays on, all isn't over
+  pub any_not_over : IsLegal limits capacity history → (roles : List Role) → All (λ (r : Role). IsOf g limits capacity history (own r.who history) r) roles → list_any (λ (r : Role). is_open r.place.stage) roles ≡ true
+      → is_over_in limits capacity history ≡ false
+  any_not_over legal roles all any = never_true (is_over_in limits capacity history) (λ over. none_plays over legal roles all any)

@@ -12,6 +12,7 @@ use rand_core::utils::NextWord;
 use rand_pcg::Pcg32;
 use recorded::Recorded;
 use std::alloc::{AllocError, Global};
+use tp_base::answers::{Look, Outcome};
 use tp_script::Routines;
 
 // The stream of the generator.
@@ -76,10 +77,12 @@ fn play_pass<B: Recorded, R: Routines, G: Gate>(
     ensures going { OnOk result (lots.new.going.items ≡ open_places roles.new.items) }
 {
     lots.fill()?;
+    let mut outcome = Outcome::Look(Look::Stay);
     while !lots.ready.is_empty() {
         let index = lots.draw();
         let place = lots.ready[index];
-        let turn = roles[place].turn(book, routines, gate);
+        let any_open = lots.is_first_open(roles);
+        let turn = roles[place].turn_into(book, routines, gate, any_open, &mut outcome);
         lots.go_on(index, turn, roles)?;
     }
     Ok(())
@@ -112,9 +115,10 @@ struct Lots {
 
 impl Lots {
     ghost use Rattle.std.specs.Prelude.{◌≡◌, ◌<◌, true, false, OnOk, length, remove, if◌then◌else◌};
+    ghost use Rattle.std.specs.List.{list_any};
     ghost use Rattle.rand_pcg.specs.Pcg.{pcg32};
     ghost use Rattle.worker_gate.specs.Drawn.{index_drawn, left_after, open_places, seeded};
-    ghost use Rattle.worker_gate.specs.Roles.{is_last_turn};
+    ghost use Rattle.worker_gate.specs.Roles.{is_last_turn, is_open};
 
     // Nobody may be drawn.
     fn new(alloc: Global, seed: u64) -> Lots
@@ -140,6 +144,20 @@ impl Lots {
     {
         let word = self.draws.next_word();
         (u64::from(word) % self.ready.len() as u64) as usize
+    }
+
+    // Whether the first that hasn't ended is a client that hasn't finished: then all isn't over. The clients
+    // stand before the workers.
+    fn is_first_open(&self, roles: &[Role]) -> bool
+        ensures { result ≡ true → list_any (λ r. is_open r.place.stage) roles.now ≡ true }
+    {
+        match self.going.first() {
+            Some(first) => match roles.get(*first) {
+                Some(role) => role.is_open(),
+                None => false,
+            },
+            None => false,
+        }
     }
 
     // All that haven't ended may be drawn.

@@ -143,7 +143,7 @@ impl Role {
     // A turn of a round, with a place for what its call comes to. A call that is of no part is known where it is made, and
     // isn't told apart once more. Where a client is known not to have finished, whether all is over isn't asked. It is
     // large, and compiled into the loop of a round since it is called there alone.
-    #[inline]
+    #[inline(always)]
     pub(crate) fn turn_into<B: Recorded, R: Routines, G: Gate>(
         &mut self,
         book: &mut B,
