@@ -1,45 +1,71 @@
 -- Which lists of words are a command.
-use Rattle.std.specs.Prelude.{ℕ, Bool, true, false, ◌&&◌, ◌||◌, ◌==◌, not, List, is_some, if◌then◌else◌, None, Some, Option, option_and_then, option_map}
+use Rattle.std.specs.Prelude.{ℕ, Bool, true, false, ◌&&◌, ◌==◌, not, List, codes, is_some, nat_le, if◌then◌else◌, None, Some, Option, option_and_then, option_map}
+use Rattle.std.specs.Str.{bytes_eq}
 use Rattle.tp_report.specs.declared.playing.MachineSize.{MachineSize}
-use Rattle.tp_run.specs.Said.{bounded, nothing, said_by}
+use Rattle.tp_run.specs.Numbers.{number_in}
 use Rattle.tp_run.specs.declared.command.Command.{Command}
 use Rattle.tp_run.specs.declared.command.Command.TheVariants.{Trace, Check, Gen, Run, Big}
-use Rattle.tp_run.specs.declared.said.Name.{Name}
-use Rattle.tp_run.specs.declared.said.Name.TheVariants as name
-use Rattle.tp_run.specs.declared.said.Said.{Said}
+use Rattle.tp_run.specs.declared.command.Name.{Name}
+use Rattle.tp_run.specs.declared.command.Name.TheVariants as name
+use Rattle.tp_words.specs.Said.{said, Said}
 
--- the command of a name, with so many threads, the seed if there is one, a machine of this size, whether JSON was asked for, and
--- the number that was said
-abbrev pub command_named : Option Name → ℕ → Option ℕ → MachineSize → Bool → Option ℕ → Option Command
-command_named None threads seed machine json number = None
-command_named (Some name.Trace) threads seed machine json number = Some (Trace machine)
-command_named (Some name.Check) threads seed machine json number = Some Check
-command_named (Some name.Gen) threads seed machine json number = option_map (λ n. Gen n) number
-command_named (Some name.Run) threads seed machine json number = Some (Run threads seed machine json)
-command_named (Some name.Big) threads seed machine json number = option_map (λ n. Big n machine json) number
+-- the command that a word names
+abbrev pub name_in : List ℕ → Option Name
+name_in word = if bytes_eq word (codes "trace") then Some name.Trace else if bytes_eq word (codes "check") then Some name.Check else if bytes_eq word (codes "gen") then Some name.Gen else if bytes_eq word (codes "run") then Some name.Run else if bytes_eq word (codes "big") then Some name.Big else None
 
--- a seed is for a run on one thread, as it is without a number of threads
-abbrev pub is_run : Option Name → Bool
-is_run (Some name.Run) = true
+-- ---- values of options
+
+-- a value is a number in its range, and something stands for none
+abbrev pub bounded : ℕ → ℕ → ℕ → Option (List ℕ) → Option ℕ
+bounded least most usual None = Some usual
+bounded least most usual (Some text) = option_and_then (λ value. if nat_le least value && nat_le value most then Some value else None) (number_in text)
+
+-- a seed is any number, or there is none
+abbrev pub seed_in : Option (List ℕ) → Option (Option ℕ)
+seed_in None = Some None
+seed_in (Some text) = option_map (λ seed. Some seed) (number_in text)
+
+-- a seed is for a run on one thread
+abbrev pub is_run : Name → Bool
+is_run name.Run = true
 is_run _ = false
 
-abbrev pub is_one : Option ℕ → Bool
-is_one (Some threads) = threads == 1
-is_one None = true
+abbrev pub is_seed_for_nothing : Name → ℕ → Option ℕ → Bool
+is_seed_for_nothing name threads seed = is_some seed && not (is_run name && (threads == 1))
 
-abbrev pub is_seed_for_nothing : Said → Bool
-is_seed_for_nothing said = is_some said.seed && not (is_run said.command && is_one said.threads)
+-- ---- commands
 
--- each value is in its range, no value is missing, and no seed is for nothing
+-- behind `gen` and `big` a number has to stand, and behind the others none
+abbrev pub without_number : Option (List ℕ) → Command → Option Command
+without_number None command = Some command
+without_number (Some text) command = None
+
+abbrev pub with_number : Option (List ℕ) → (ℕ → Command) → Option Command
+with_number text command = option_map command (option_and_then number_in text)
+
+-- the command of a name, with so many threads, the seed if there is one, a machine of this size, whether JSON was asked for, and
+-- the text behind the name
+abbrev pub command_named : Name → ℕ → Option ℕ → MachineSize → Bool → Option (List ℕ) → Option Command
+command_named name.Trace threads seed machine json number = without_number number (Trace machine)
+command_named name.Check threads seed machine json number = without_number number Check
+command_named name.Gen threads seed machine json number = with_number number (λ n. Gen n)
+command_named name.Run threads seed machine json number = without_number number (Run threads seed machine json)
+command_named name.Big threads seed machine json number = with_number number (λ n. Big n machine json)
+
+-- each value is in its range, and no seed is for nothing
 abbrev pub command_said : Said → Option Command
-command_said said = if is_some said.awaited || is_seed_for_nothing said then None else
+command_said said =
     option_and_then (λ threads.
     option_and_then (λ workers.
-    option_and_then (λ events. command_named said.command threads said.seed (record { workers = workers; events = events }) said.json said.number)
+    option_and_then (λ events.
+    option_and_then (λ seed.
+    option_and_then (λ name. if is_seed_for_nothing name threads seed then None else command_named name threads seed (record { workers = workers; events = events }) said.json said.number)
+    (option_and_then name_in said.command))
+    (seed_in said.seed))
     (bounded 16 131072 65536 said.events))
     (bounded 1 64 4 said.workers))
     (bounded 1 16 1 said.threads)
 
 -- the command that the words are, if they are one
 abbrev pub command_of : List (List ℕ) → Option Command
-command_of words = option_and_then command_said (said_by (Some nothing) words)
+command_of words = option_and_then command_said (said words)

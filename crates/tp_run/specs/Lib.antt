@@ -5,5 +5,3 @@ pub mod Inputs
 pub mod Numbers
 pub mod Played
 pub mod Runs
-pub mod Said
-pub mod Words

@@ -1,12 +1,14 @@
 //! What the program is asked to do.
 
-ghost use Rattle.std.specs.Prelude.{◌≡◌, IfSome};
-ghost use Rattle.tp_run.specs.Commands.{command_of};
+ghost use Rattle.std.specs.Prelude.{◌≡◌, ◌≤◌, IfOk, IfSome, Err, None, Some, option_map};
+ghost use Rattle.tp_run.specs.Commands.{bounded, command_of, command_said, name_in, seed_in, without_number};
 ghost use Rattle.tp_run.specs.Inputs.{IsPlayable};
+ghost use Rattle.tp_words.specs.Said.{said_in};
 
-use crate::said::Said;
-use crate::words::WordList;
+use crate::number::number;
+use std::alloc::Global;
 use tp_report::MachineSize;
+use tp_words::{Texts, WordFault, WordList, read};
 
 /// What the program is asked to do.
 #[derive(Clone, Copy)]
@@ -90,14 +92,123 @@ impl Command {
     }
 }
 
-/// The command that the words are, or `None` where they are none.
-pub fn command_in(words: &WordList) -> Option<Command>
-    ensures value { result ≡ command_of words.now }
+/// What a word names.
+#[derive(Clone, Copy)]
+pub enum Name {
+    Trace,
+    Check,
+    Gen,
+    Run,
+    Big,
+}
+
+/// The command that the words are. `Refused` comes only where they are none.
+pub fn command_in(alloc: Global, words: &WordList) -> Result<Command, WordFault>
+    ensures ok { IfOk result (λ command. command_of words.now ≡ Some command) }
+    ensures refused { result ≡ Err WordFault.Refused → command_of words.now ≡ None }
+    ensures playable { IfOk result (λ command. IsPlayable command) }
+{
+    let texts = read(alloc, words)?;
+    match command_said(&texts) {
+        Some(command) => Ok(command),
+        None => Err(WordFault::Refused),
+    }
+}
+
+// The command that was said, or `None` where it is none: a text is no number, a value is out of its range, a
+// number is missing or there for nothing, or a seed is for no run on one thread.
+fn command_said(texts: &Texts) -> Option<Command>
+    ensures value { result ≡ command_said (said_in texts.now) }
     ensures playable { IfSome result (λ command. IsPlayable command) }
 {
-    let mut said = Said::nothing();
-    for index in 0..words.len() {
-        said = said.with_word(words.get(index)?)?;
+    let threads = bounded(texts.threads, 1, 16, 1)?;
+    let workers = bounded(texts.workers, 1, 64, 4)?;
+    let events = bounded(texts.events, 16, 131_072, 65_536)?;
+    let seed = seed_in(texts.seed)?;
+    let machine = MachineSize { workers, events };
+    let json = texts.json;
+    let name = name_in(texts.command?)?;
+    if seed.is_some() && !(matches!(name, Name::Run) && threads == 1) {
+        return None;
     }
-    said.command()
+    match name {
+        Name::Trace => without_number(texts.number, Command::Trace { machine }),
+        Name::Check => without_number(texts.number, Command::Check),
+        Name::Gen => {
+            let number = number(texts.number?.as_bytes())?;
+            Some(Command::Gen { number })
+        }
+        Name::Run => without_number(
+            texts.number,
+            Command::Run {
+                threads,
+                seed,
+                machine,
+                json,
+            },
+        ),
+        Name::Big => {
+            let number = number(texts.number?.as_bytes())?;
+            Some(Command::Big {
+                number,
+                machine,
+                json,
+            })
+        }
+    }
+}
+
+// The command that a word names.
+fn name_in(word: &str) -> Option<Name>
+    ensures { result ≡ name_in word.now }
+{
+    match word.as_bytes() {
+        b"trace" => Some(Name::Trace),
+        b"check" => Some(Name::Check),
+        b"gen" => Some(Name::Gen),
+        b"run" => Some(Name::Run),
+        b"big" => Some(Name::Big),
+        _ => None,
+    }
+}
+
+// A value in its range, or what stands for none.
+fn bounded(value: Option<&str>, least: u32, most: u32, usual: u32) -> Option<u32>
+    requires least { least ≤ usual }
+    requires most { usual ≤ most }
+    ensures value { result ≡ bounded least most usual (option_map (λ text. text.now) value.entry) }
+    ensures in_range { IfSome result (λ number. (least ≤ number) × (number ≤ most)) }
+{
+    let Some(text) = value else {
+        return Some(usual);
+    };
+    let value = number(text.as_bytes())?;
+    if u64::from(least) <= value && value <= u64::from(most) {
+        Some(value as u32)
+    } else {
+        None
+    }
+}
+
+// The seed, or that there is none.
+fn seed_in(value: Option<&str>) -> Option<Option<u64>>
+    ensures { result ≡ seed_in (option_map (λ text. text.now) value.entry) }
+{
+    match value {
+        None => Some(None),
+        Some(text) => {
+            let seed = number(text.as_bytes())?;
+            Some(Some(seed))
+        }
+    }
+}
+
+// A command that wants no number behind it.
+fn without_number(number: Option<&str>, command: Command) -> Option<Command>
+    ensures { result ≡ without_number (option_map (λ text. text.now) number.entry) command }
+{
+    match number {
+        None => Some(command),
+        Some(_) => None,
+    }
 }

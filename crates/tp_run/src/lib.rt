@@ -17,11 +17,9 @@ mod command;
 mod number;
 mod played;
 mod replies;
-mod said;
 mod status;
 mod top;
-mod words;
 
 pub use status::Status;
 pub use top::{tp_main, tp_main_alone};
-pub use words::WordList;
+pub use tp_words::WordList;

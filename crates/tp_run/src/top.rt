@@ -1,6 +1,6 @@
 //! All that the program does, over any machine, any source, any sink and any gate.
 
-ghost use Rattle.std.specs.Prelude.{◌≡◌, ◌↔◌, ◌<◌, ◌≤◌, ◌⊎◌, ℕ, false, List, [], IfOk, Option, Some, None, Err, length};
+ghost use Rattle.std.specs.Prelude.{◌≡◌, ◌<◌, ◌≤◌, ◌⊎◌, ℕ, false, List, [], IfOk, Option, Some, None, Err, length};
 ghost use Rattle.tp_edge.specs.Counts.{Rose};
 ghost use Rattle.tp_edge.specs.Given.{with_given, TookFirst};
 ghost use Rattle.tp_edge.specs.Reading.{IsRead};
@@ -17,12 +17,12 @@ ghost use Rattle.tp_run.specs.declared.status.Ending.{Ending};
 use crate::command::{Command, Several, command_in};
 use crate::replies::{Output, reply, reply_on_several};
 use crate::status::Status;
-use crate::words::WordList;
 use recorded::Recorded;
 use std::alloc::Global;
 use std::sync::Wait;
 use std::thread::Threads;
 use tp_edge::{ReadFault, Sink, Source, WriteFault, give_all, read_all};
+use tp_words::{WordFault, WordList};
 use worker_gate::Gate;
 
 /// The most bytes that an input may have.
@@ -32,7 +32,7 @@ pub const INPUT_LIMIT: usize = 16_777_216;
 /// sink.
 ///
 /// `words` are those behind the program's name. The answer is the first of these that applies:
-/// `Words`; `ReadFault` and `TooLong`, at which reading ends; `NoMemory` of reading; `BadLine`;
+/// `NoMemory` of the words; `Words`; `ReadFault` and `TooLong`, at which reading ends; `NoMemory` of reading; `BadLine`;
 /// `NoMemory`; `WriteFault`; `NotLegal` and `Exhausted`; `Stalled`; `Fine`. All memory is taken before
 /// anything is written.
 ///
@@ -47,8 +47,9 @@ pub fn tp_main<Rt: Threads + Wait + Sync, B: Recorded + Send, S: Source, K: Sink
     sink: &mut K,
     gate: &G,
 ) -> Status
-    // The words alone decide whether they are a command; if not, nothing is done.
-    ensures words { (result ≡ Status.Words) ↔ (command_of words.now ≡ None) }
+    // Words that are no command are told so, or want of memory comes first; nothing is done then.
+    ensures words { result ≡ Status.Words → command_of words.now ≡ None }
+    ensures words_only { command_of words.now ≡ None → (result ≡ Status.Words) ⊎ (result ≡ Status.NoMemory) }
     ensures unread { reads (command_of words.now) ≡ false → source.new ≡ source.old }
     ensures unwritten { IsUnwritten result → sink.new ≡ sink.old }
     // A fault of a stream has risen in this call.
@@ -80,9 +81,10 @@ pub fn tp_main<Rt: Threads + Wait + Sync, B: Recorded + Send, S: Source, K: Sink
         (Rose (S.failures source.old) (S.failures source.new) → ⊥) → (Rose (K.failures sink.old) (K.failures sink.new) → ⊥) →
         IsWhole result ⊎ (result ≡ Status.NoMemory) }
 {
-    match command_in(words) {
-        None => Status::Words,
-        Some(command) => match command.on_several() {
+    match command_in(alloc, words) {
+        Err(WordFault::Refused) => Status::Words,
+        Err(WordFault::NoMemory) => Status::NoMemory,
+        Ok(command) => match command.on_several() {
             Some(several) => {
                 run_on_several::<Rt, B, S, K, G>(rt, alloc, several, source, sink, gate)
             }
@@ -102,8 +104,9 @@ pub fn tp_main_alone<B: Recorded, S: Source, K: Sink, G: Gate>(
     sink: &mut K,
     gate: &G,
 ) -> Status
-    // The words alone decide whether they are a command; if not, nothing is done.
-    ensures words { (result ≡ Status.Words) ↔ (command_of words.now ≡ None) }
+    // Words that are no command are told so, or want of memory comes first; nothing is done then.
+    ensures words { result ≡ Status.Words → command_of words.now ≡ None }
+    ensures words_only { command_of words.now ≡ None → (result ≡ Status.Words) ⊎ (result ≡ Status.NoMemory) }
     ensures unread { reads (command_of words.now) ≡ false → source.new ≡ source.old }
     ensures unwritten { IsUnwritten result → sink.new ≡ sink.old }
     // A fault of a stream has risen in this call.
@@ -135,9 +138,10 @@ pub fn tp_main_alone<B: Recorded, S: Source, K: Sink, G: Gate>(
         (Rose (S.failures source.old) (S.failures source.new) → ⊥) → (Rose (K.failures sink.old) (K.failures sink.new) → ⊥) →
         IsWhole result ⊎ (result ≡ Status.NoMemory) }
 {
-    match command_in(words) {
-        None => Status::Words,
-        Some(command) => run::<B, S, K, G>(alloc, command, source, sink, gate),
+    match command_in(alloc, words) {
+        Err(WordFault::Refused) => Status::Words,
+        Err(WordFault::NoMemory) => Status::NoMemory,
+        Ok(command) => run::<B, S, K, G>(alloc, command, source, sink, gate),
     }
 }
 
