@@ -22,6 +22,7 @@ use Rattle.script_generator.proofs.Points.{Leads, Point, joined, one_line}
 
 -- ---- names
 
+-- what a name of the whole script stands for
 abbrev pub named : Sort → ℕ → Named
 named of number = record { meaning = record { sort = of; local = false; number = number }; section = 0 }
 
@@ -35,6 +36,7 @@ names_with (suc number) = names_with number ++ (codes "w" ++ decimal (suc number
 
 -- ---- points
 
+-- at such a place, with these names, so many objects, routines and clients, and the routines that were begun
 abbrev pub point : Place → Names → ℕ → ℕ → ℕ → Names → Point
 point place names objects made clients begun = record {
   known = record {
@@ -45,6 +47,7 @@ point place names objects made clients begun = record {
   begun = begun;
 }
 
+-- before the first line
 abbrev pub start : Point
 start = record { known = record { names = []; routines = routine_names; state = first_state }; begun = [] }
 
@@ -52,6 +55,7 @@ start = record { known = record { names = []; routines = routine_names; state = 
 abbrev pub declared : ℕ → Point
 declared works = point Declarations (names_with works) (suc works) 0 0 []
 
+-- in a client, the last of so many
 abbrev pub within : Names → ℕ → ℕ → Point
 within names objects clients = point InClient names objects 3 clients routine_names
 
@@ -62,6 +66,7 @@ behind names objects (suc clients) = point Clients names objects 3 (suc clients)
 
 -- ---- the head
 
+-- what a word says that is a number
 pub number_token : (least most number : ℕ) (text : List ℕ) → least ≤ number → number ≤ most → text ≡ decimal number → IsNumberToken least most text (token.Number number)
 number_token least most number text low high e = (number, refl, record { at_least = low; at_most = high; split = e })
 
