@@ -13,12 +13,12 @@ use crate::played::{play_script, play_script_alone, play_script_drawn, play_unwr
 use crate::status::{Ending, Status};
 use crate::top::INPUT_LIMIT;
 use recorded::Recorded;
-use script_generator::generate;
+use script_generator::{generate, generated_is_script};
 use std::alloc::{AllocError, Global};
 use std::sync::Wait;
 use std::thread::Threads;
 use tp_report::{MachineSize, Verdict, check, print_verdict, trace};
-use tp_script::{one_script_a_text, parse_script};
+use tp_script::{ScriptFault, one_script_a_text, parse_script};
 use worker_gate::{Gate, one_history_alone, one_history_drawn};
 
 /// How many lines each drawn client has in the script that is written for a number.
@@ -173,12 +173,12 @@ fn play_number<B: Recorded, G: Gate>(
     requires size { IsMachineSize machine }
     ensures { IfOk result (λ output. IsPlayedOf (long_script number) 1 None machine (short_layout json) output.text.items output.ending) }
 {
+    generated_is_script();
     let text = generate(alloc, number, LONG_SCRIPT_LENGTH)?;
-    if INPUT_LIMIT < text.len() {
-        return Err(AllocError);
-    }
-    let Ok(script) = parse_script(alloc, &text) else {
-        return Err(AllocError);
+    let script = match parse_script(alloc, &text) {
+        Ok(script) => script,
+        Err(ScriptFault::NoMemory) => return Err(AllocError),
+        Err(ScriptFault::At { .. }) => unreachable!(),
     };
     play_unwritten::<B, G>(alloc, &script, machine, json, gate)
 }
