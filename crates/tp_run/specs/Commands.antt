@@ -11,7 +11,13 @@ use Rattle.tp_words.specs.Said.{said, Said}
 
 -- the command that a word names
 abbrev pub name_in : List ℕ → Option Name
-name_in word = if bytes_eq word (codes "trace") then Some name.Trace else if bytes_eq word (codes "check") then Some name.Check else if bytes_eq word (codes "gen") then Some name.Gen else if bytes_eq word (codes "run") then Some name.Run else if bytes_eq word (codes "big") then Some name.Big else None
+name_in word =
+    if bytes_eq word (codes "trace") then Some name.Trace
+    else if bytes_eq word (codes "check") then Some name.Check
+    else if bytes_eq word (codes "gen") then Some name.Gen
+    else if bytes_eq word (codes "run") then Some name.Run
+    else if bytes_eq word (codes "big") then Some name.Big
+    else None
 
 -- ---- values of options
 
