@@ -44,6 +44,7 @@ function read_call(text,    at) {
         pool = substr(word[at], 2)
         group = substr(word[at + 3], 2)
         if (group == "0") group = ""
+        persistent = word[at + 2] ~ /^persistent/
     }
 }
 
@@ -56,7 +57,13 @@ function subject() {
     if ($1 != "look") return ""
     if ($2 == "not-yet" && $3 == "callback") return both(of_callback($4), stage_of($4))
     if ($2 == "not-yet") return $4 in kernel_kind ? both(named(kernel_kind[$4]), owner_of($4)) : ""
-    return $2 != "no-need" && actor in pool_of ? called("pool", pool_of[actor]) : ""
+    return $2 != "no-need" && actor in pool_of ? both(called("pool", pool_of[actor]), $2 == "empty" ? for_whom(pool_of[actor]) : "") : ""
+}
+
+# Whom all that is pending in a pool is for, where the actor may take nothing and something is.
+function for_whom(home,    number) {
+    if (home in stays) for (number in reserved) if (reserved[number] == home) return "what is pending is for " stays[home]
+    return ""
 }
 
 function of_refusal(name) {
@@ -126,7 +133,7 @@ function both(one, other) {
 function learn() {
     if ($1 == "made") learn_made($2)
     else if ($1 == "attached") pool_of[actor] = $2
-    else if (call == "detach") delete pool_of[actor]
+    else if (call == "detach") learn_detached(pool_of[actor])
     else if (call == "finish") finished[actor]
     else if (call == "close") gone[object]
     else if ($1 == "queued") learn_queued($2, $3)
@@ -141,7 +148,7 @@ function learn() {
 }
 
 function learn_made(number) {
-    if (call == "create") { object_kind[number] = word[3]; group_of[number] = group }
+    if (call == "create") { object_kind[number] = word[3]; group_of[number] = group; if (persistent) home_of[number] = pool }
     else if (call == "create-pool") pools = number
     else if (call == "create-group") groups = number
     else if (call == "create-lock") { kernel_kind[number] = word[3]; if (word[4] == "owned") take_lock(number) }
@@ -151,13 +158,24 @@ function learn_made(number) {
 # The callbacks that a call makes of its own object, or of none. Those that the clock or a signal makes are
 # known when they are taken.
 function learn_queued(first, many,    number) {
-    if (call == "complete-io") delete operation[first]
+    if (call == "complete-io") { delete operation[first]; reserve(first) }
     if (call !~ /^(submit|submit-simple|set-timer|set-timer-ex|set-wait)$/) return
     for (number = first; number < first + many; number++) object_of[number] = object
+    for (number = first; number < first + many; number++) reserve(number)
+}
+
+# A persistent callback is pending, in its pool.
+function reserve(number,    of) {
+    of = object_of[number]
+    if (of == "" ? !persistent : !(of in home_of)) return
+    reserved[number] = of == "" ? pool : home_of[of]
+    closed_by[number] = of == "" ? group : group_of[of]
 }
 
 function learn_taken(number) {
     object_of[number] = substr($3, 2) + 0
+    if (number in reserved || object_of[number] in home_of) stays[pool_of[actor]] = actor
+    delete reserved[number]
     runner[number] = actor
     runs[actor] = number
 }
@@ -169,14 +187,23 @@ function learn_returned(number) {
     if ($3 == "done") give_back(action[actor, "mutex"])
 }
 
+function learn_detached(home) {
+    if (home in stays && stays[home] == actor) delete stays[home]
+    delete pool_of[actor]
+}
+
 function learn_wait(    number) {
-    if ($1 == "begun") waits_for[actor] = "its wait for " called("object", object)
+    if ($1 == "begun") {
+        waits_for[actor] = "its wait for " called("object", object)
+        if (word[5] == "cancel") for (number in reserved) if (object_of[number] == object) delete reserved[number]
+    }
     else if (call == "acquire") { waits_for[actor] = "its wait for " called("kernel object", kernel); takes[actor] = kernel }
     else if ($1 == "closing") {
         waits_for[actor] = "its close of " called("group", group)
         notices[actor] = $4
         given[actor] = 0
         for (number in group_of) if (group_of[number] == group) gone[number]
+        if (word[4] == "cancel") for (number in reserved) if (closed_by[number] == group) delete reserved[number]
     }
     else if ($1 == "notice") given[actor]++
     else if (call == "end") {
@@ -203,6 +230,10 @@ function forget() {
     split("", gone)
     split("", object_kind)
     split("", group_of)
+    split("", home_of)
+    split("", reserved)
+    split("", closed_by)
+    split("", stays)
     split("", kernel_kind)
     split("", owner)
     split("", times)

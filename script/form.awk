@@ -33,5 +33,5 @@ function missing(    plain, part, parts) {
 # Whether a word needs no more letters, as far as that is seen.
 function is_whole(text, wanted) {
     return text == wanted || text ~ /^[a-z]?[0-9]+$/ || \
-        text ~ /^(work|timer|wait|io|high|normal|low|short|long|keep|cancel|manual|auto|set|clear|mutex|section|semaphore|event|free|owned|none)$/
+        text ~ /^(work|timer|wait|io|high|normal|low|short|long|persistent|persistent-long|keep|cancel|manual|auto|set|clear|mutex|section|semaphore|event|free|owned|none)$/
 }

@@ -57,7 +57,7 @@ function consider_choices(    each, count) {
 
 function choices_of(call, at) {
     if (call == "create" && at == 7 || call == "submit-simple" && at == 6) return "high normal low"
-    if (call == "create" && at == 8 || call == "submit-simple" && at == 7) return "short long"
+    if (call == "create" && at == 8 || call == "submit-simple" && at == 7) return "short long persistent persistent-long"
     if (call == "wait" && at == 5 || call == "close-members" && at == 4) return "keep cancel"
     if (call == "create-event") return at == 3 ? "manual auto" : at == 4 ? "set clear" : ""
     if (call == "create-lock") return at == 3 ? "mutex section" : at == 4 ? "free owned" : ""

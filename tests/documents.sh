@@ -132,7 +132,7 @@ tables_are() {
     diff <(tables_of "$here/$page" '| Call | Prints |' | sed -n '/^--$/d;s/\t.*//p') <(cd "$here/examples" && cat "$@")
 }
 try 'the tables of the README are its examples' 0 '' '' tables_are README.md shutdown.trace pools.trace
-try 'the tables of docs/MACHINE.md are its examples' 0 '' '' tables_are docs/MACHINE.md kind-work.trace kind-timer.trace kind-wait.trace kind-io.trace kind-pool.trace kind-group.trace kind-callback.trace kind-kernel.trace kind-actors.trace
+try 'the tables of docs/MACHINE.md are its examples' 0 '' '' tables_are docs/MACHINE.md kind-work.trace kind-timer.trace kind-wait.trace kind-io.trace kind-pool.trace kind-group.trace kind-callback.trace kind-kernel.trace kind-actors.trace kind-environment.trace
 try 'the tables of docs/GUIDE.md are its examples' 0 '' '' tables_are docs/GUIDE.md guide-quiet.trace guide-disassociated.trace guide-late-submit.trace guide-half-mended.trace guide-mended.trace
 
 # The script of the README is that of its example, without the comments.

@@ -67,7 +67,7 @@ try 'the second of two functions' 0 $'~### `create-lock`: *' '' "$tpool" calls I
 try 'a function by the name of its wide characters' 0 "$("$tpool" calls CreateEvent)"$'\n' '' "$tpool" calls CreateEventW
 # What is no call: `first_words NAME` are those that are said of it.
 first_words() { "$tpool" calls "$1" | head -n 1 | cut -c 1-31; }
-try 'what is not built' 0 $'Not built yet: **Environments**\n' '' first_words SetThreadpoolCallbackPersistent
+try 'what is not built' 0 $'Not built yet: **Environments**\n' '' first_words SetThreadpoolCallbackLibrary
 try 'what is left out' 0 $'Left out: **Waits and locks tha\n' '' first_words AcquireSRWLockShared
 try 'an operation of scripts' 0 $'In a script: `release LOCK`: ReleaseLock of the name\'s kind\n' '' "$tpool" calls release
 try 'what begins a section of a script' 0 $'~In a script: A section begins with *' '' "$tpool" calls routine

@@ -4,7 +4,7 @@ use Rattle.tp_base.specs.declared.calls.Environ.{Environ}
 use Rattle.tp_base.specs.declared.calls.Priority.TheVariants.{Normal}
 use Rattle.tp_base.specs.declared.ids.RoutineId.{RoutineId}
 
--- the default pool, no cleanup group, the priority Normal, and no long mark
+-- the default pool, no cleanup group, the priority Normal, and no mark
 abbrev pub initialized : Environ
 initialized = record {
   pool = record { 0 = 0 };
@@ -12,6 +12,7 @@ initialized = record {
   cancel = record { 0 = 0 };
   priority = Normal;
   long = false;
+  persistent = false;
 }
 
 -- the routine, or 0 for none

@@ -1,7 +1,7 @@
 //! The callback environment, as `TP_CALLBACK_ENVIRON`: how the callbacks of an object are run.
 //!
 //! An environment is seen as the plain `Environ` that a call of the machine takes. It is made by
-//! `initialize` and changed by four setters, each of which sets its own fields alone; `plain` hands
+//! `initialize` and changed by five setters, each of which sets its own fields alone; `plain` hands
 //! it out. After `initialize`, `set_pool(PoolId(2))` and `set_runs_long` it has pool 2, no cleanup
 //! group, the priority Normal and the long mark. None of the calls takes memory.
 //!
@@ -36,8 +36,8 @@ impl Model for CallbackEnviron {
 }
 
 impl CallbackEnviron {
-    /// An environment of the default pool with no cleanup group, the priority Normal and no long
-    /// mark: `InitializeThreadpoolEnvironment`.
+    /// An environment of the default pool with no cleanup group, the priority Normal and no mark:
+    /// `InitializeThreadpoolEnvironment`.
     pub fn initialize() -> CallbackEnviron
         ensures { result ≡ initialized }
     {
@@ -48,6 +48,7 @@ impl CallbackEnviron {
                 cancel: RoutineId(0),
                 priority: Priority::Normal,
                 long: false,
+                persistent: false,
             },
         }
     }
@@ -84,6 +85,14 @@ impl CallbackEnviron {
         ensures { self.new ≡ record self.old { long = true } }
     {
         self.environ.long = true;
+    }
+
+    /// Says that the callbacks run on the persistent worker of their pool, which is the first that takes one and
+    /// leaves only once the pool is closed: `SetThreadpoolCallbackPersistent`. The default pool is never closed.
+    pub fn set_persistent(&mut self)
+        ensures { self.new ≡ record self.old { persistent = true } }
+    {
+        self.environ.persistent = true;
     }
 
     /// The environment as the calls of the machine take it.

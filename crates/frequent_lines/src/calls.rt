@@ -1,10 +1,10 @@
 //! Calls, each with the space before it.
 
-ghost use Rattle.std.specs.Prelude.{◌≡◌, [], ◌∷◌, ◌++◌, IfSome};
+ghost use Rattle.std.specs.Prelude.{◌≡◌, [], ◌∷◌, ◌++◌, false, IfSome};
 ghost use Rattle.line_grammar.specs.Language.{IsFront};
 ghost use Rattle.tp_lines.specs.Calls.{CallTexts, FitsCall, row_of};
 ghost use Rattle.tp_lines.specs.Parts.{row_text};
-ghost use Rattle.tp_lines.specs.Words.{text_of_how, text_of_kind, text_of_long, text_of_priority};
+ghost use Rattle.tp_lines.specs.Words.{text_of_how, text_of_kind, text_of_length, text_of_priority};
 ghost use Rattle.frequent_lines.specs.Environs.{IsEnvironFront};
 
 use crate::numbers::{front_number, front_signed};
@@ -277,6 +277,7 @@ fn front_environ(text: &[u8]) -> Option<(Environ, &[u8])>
         cancel: RoutineId(cancel as u32),
         priority,
         long,
+        persistent: false,
     };
     Some((env, rest))
 }
@@ -291,9 +292,9 @@ fn front_priority(text: &[u8]) -> Option<(Priority, &[u8])>
     }
 }
 
-// Whether callbacks run long, with the space before it.
+// Whether callbacks run long, with the space before it: those that aren't persistent.
 fn front_length(text: &[u8]) -> Option<(bool, &[u8])>
-    ensures { IfSome result (λ read. text.now ≡ 32 ∷ text_of_long read.0 ++ read.1.now) }
+    ensures { IfSome result (λ read. text.now ≡ 32 ∷ text_of_length read.0 false ++ read.1.now) }
 {
     if let Some(rest) = behind_word(b" short", text) {
         return Some((false, rest));

@@ -1,5 +1,6 @@
 pub mod Following
 pub mod Found
+pub mod Halves
 pub mod Lines
 pub mod Numbers
 pub mod Parts

@@ -4,4 +4,5 @@ pub mod Held
 pub mod Kept
 pub mod Lists
 pub mod Places
+pub mod Queues
 pub mod Reserved

@@ -18,13 +18,20 @@ priority_number High = 0
 priority_number Normal = 1
 priority_number Low = 2
 
--- three lines a pool, and two an object
+-- a queue of a pool for each priority, and three more for the persistent callbacks
+abbrev pub first_of_half : Bool → ℕ
+first_of_half persistent = if persistent then 3 else 0
+
+abbrev pub queue_number : Bool → Priority → ℕ
+queue_number persistent priority = first_of_half persistent + priority_number priority
+
+-- six lines a pool, and two an object
 abbrev pub lines : ℕ → ℕ → ℕ
-lines pools objects = 3 * pools + 2 * (objects + 1)
+lines pools objects = 6 * pools + 2 * (objects + 1)
 
 abbrev pub line_by : ℕ → ℕ → ℕ → ℕ → Status → ℕ
-line_by pools objects queue object Expected = 3 * pools + object
-line_by pools objects queue object Issued = 3 * pools + (objects + 1) + object
+line_by pools objects queue object Expected = 6 * pools + object
+line_by pools objects queue object Issued = 6 * pools + (objects + 1) + object
 line_by pools objects queue object Pending = queue
 line_by pools objects queue object (Running worker associated slots) = lines pools objects
 line_by pools objects queue object Returned = lines pools objects
@@ -32,7 +39,7 @@ line_by pools objects queue object Cancelled = lines pools objects
 
 -- what it waits for: a worker, that its operation begins, or that it ends
 abbrev pub line_of : ℕ → ℕ → CallbackRow → ℕ
-line_of pools objects c = line_by pools objects (3 * c.pool.0 + priority_number c.priority) c.object.0 c.status
+line_of pools objects c = line_by pools objects (6 * c.pool.0 + queue_number c.persistent c.priority) c.object.0 c.status
 
 -- what it is outstanding for
 abbrev pub object_of : ℕ → CallbackRow → ℕ
@@ -99,3 +106,7 @@ pub record IsSettled (heads : ℕ) (old new : Linked) (key list number : ℕ) : 
 -- of three lists, from this one on, the first that isn't empty, or the last
 abbrev pub first_queue_of : Linked → ℕ → ℕ
 first_queue_of all high = if length (list_of all high) == 0 then (if length (list_of all (high + 1)) == 0 then high + 2 else high + 1) else high
+
+-- how many these three have
+abbrev pub count_queues_of : Linked → ℕ → ℕ
+count_queues_of all high = length (list_of all high) + length (list_of all (high + 1)) + length (list_of all (high + 2))

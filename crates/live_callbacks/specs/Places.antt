@@ -37,6 +37,7 @@ no_row = record {
   group = record { 0 = 0 };
   priority = Normal;
   long = false;
+  persistent = false;
   result = Plain;
   status = Returned;
 }

@@ -10,9 +10,9 @@
 //! ```text
 //! let mut callbacks = LiveCallbacks::open(alloc, 8, 2, 4, 0)?;
 //! callbacks.push(first);                // number 1, of object 3 and pool 0, pending
-//! callbacks.next(PoolId(0), &mut steps) // Some(first)
+//! callbacks.next(PoolId(0), true, &mut steps) // Some(first)
 //! callbacks.change(&first, running, &mut steps);    // the same, and a worker runs it
-//! callbacks.next(PoolId(0), &mut steps) // None
+//! callbacks.next(PoolId(0), true, &mut steps) // None
 //! callbacks.first_outstanding(ObjectId(3))  // Some(running)
 //! callbacks.remove(&running);
 //! callbacks.first_outstanding(ObjectId(3))  // None
@@ -26,13 +26,14 @@
 
 #![tactic(auto)]
 
-ghost use Rattle.std.specs.Prelude.{◌≡◌, ◌+◌, ◌^◌, ◌<◌, ◌≤◌, ◌==◌, ◌++◌, ◌∷◌, [], All, IfOk, Some, false, filter, find, length, map, nat_lt, not, slice_get, if◌then◌else◌};
+ghost use Rattle.std.specs.Prelude.{◌≡◌, ◌+◌, ◌^◌, ◌<◌, ◌≤◌, ◌==◌, ◌++◌, ◌∷◌, [], All, IfOk, Some, false, true, filter, find, length, map, nat_lt, not, slice_get, if◌then◌else◌};
 ghost use Rattle.std.specs.List.{list_any};
 ghost use Rattle.std.specs.Option.{option_copied};
 ghost use Rattle.tp_model.specs.Calls.Io.{is_expected_of};
 ghost use Rattle.tp_model.specs.Conditions.{is_operation_of};
 ghost use Rattle.tp_model.specs.Counts.{is_operating, is_pending, is_pending_in};
-ghost use Rattle.live_callbacks.specs.Callbacks.{MovesOn, outstanding_among, queue_among};
+ghost use Rattle.live_callbacks.specs.Callbacks.{MovesOn, is_open, is_waiting_persistent, outstanding_among, queue_among};
+ghost use Rattle.live_callbacks.specs.Queues.{half_among, is_pending_half, sooner_of};
 
 use std::alloc::{AllocError, Global};
 use std::marker::Model;
@@ -46,7 +47,7 @@ mod lists;
 mod places;
 mod rows;
 
-use lists::{Lists, after_in, first_in, has_list, lent_behind, lines};
+use lists::{Lists, after_in, first_in, has_list, lent_behind, lines, priority_number};
 use rows::Rows;
 
 /// The callbacks that live.
@@ -56,6 +57,8 @@ pub struct LiveCallbacks {
     lists: Lists,
     // How many expect an operation or have it under way.
     operating: u32,
+    // How many are persistent and pending.
+    persistent: u32,
 }
 
 impl Model for LiveCallbacks {
@@ -92,6 +95,36 @@ fn operations(callback: &CallbackRow) -> u32
     }
 }
 
+// One where a callback is persistent and pending, else none.
+#[inline(always)]
+fn waiting_persistent(callback: &CallbackRow) -> u32
+    ensures { result ≡ if is_waiting_persistent callback.now then 1 else 0 }
+{
+    u32::from(callback.persistent && matches!(callback.status, Status::Pending))
+}
+
+// Which of two callbacks is taken before the other.
+#[inline(always)]
+fn sooner<'a>(
+    one: Option<&'a CallbackRow>,
+    other: Option<&'a CallbackRow>,
+) -> Option<&'a CallbackRow>
+    ensures { option_copied result ≡ sooner_of (option_copied one.entry) (option_copied other.entry) }
+{
+    match (one, other) {
+        (None, other) => other,
+        (one, None) => one,
+        (Some(a), Some(b)) => {
+            let (first, second) = (priority_number(a.priority), priority_number(b.priority));
+            if first < second || (first == second && a.number <= b.number) {
+                Some(a)
+            } else {
+                Some(b)
+            }
+        }
+    }
+}
+
 impl LiveCallbacks {
     /// No callbacks, with the memory for `slots` of them, of pools below `pools` and of objects up to `objects`.
     ///
@@ -113,6 +146,7 @@ impl LiveCallbacks {
             rows,
             lists,
             operating: 0,
+            persistent: 0,
         })
     }
 
@@ -170,18 +204,21 @@ impl LiveCallbacks {
         lent_behind(&self.rows, self.lists.groups + 1, place)
     }
 
-    /// The pending callback of a pool that is taken next, or None where none is pending: that of the
-    /// highest priority, and among those of one priority that of the least number. Of a pool that there can't
-    /// be none is pending. `steps` counts the nodes that it reads: one at most, however many are pending.
+    // Of a pool's persistent callbacks, or of its others, the one that is taken next.
     #[inline(always)]
-    pub fn next(&self, pool: PoolId, steps: &mut Steps) -> Option<&CallbackRow>
-        ensures value { option_copied result ≡ slice_get (queue_among self.now.rows pool.0) 0 }
+    fn first_of_half(
+        &self,
+        pool: PoolId,
+        persistent: bool,
+        steps: &mut Steps,
+    ) -> Option<&CallbackRow>
+        ensures value { option_copied result ≡ slice_get (half_among self.now.rows pool.0 persistent) 0 }
         ensures counted { steps.old ≤ steps.new }
         ensures bound { steps.new ≤ steps.old + 1 }
     {
         let _known = self.rows.len();
         let place = if pool.0 < self.lists.pools {
-            let line = self.lists.first_queue(pool.0);
+            let line = self.lists.first_queue(pool.0, persistent);
             self.lists.lines.first(line, steps)
         } else {
             None
@@ -193,19 +230,57 @@ impl LiveCallbacks {
         )
     }
 
-    /// How many callbacks of a pool are pending.
+    /// The pending callback of a pool that is taken next, by who takes persistent ones too (`all`) or only others,
+    /// or None where none of these is pending: that of the highest priority, and among those of one priority that
+    /// of the least number. Of a pool that there can't be none is pending. `steps` counts the nodes that it reads,
+    /// however many are pending: two at most, and one where none is persistent that is pending.
     #[inline(always)]
-    pub fn pending(&self, pool: PoolId) -> u32
-        ensures { result ≡ length (filter (is_pending_in pool.0) self.now.rows) }
+    pub fn next(&self, pool: PoolId, all: bool, steps: &mut Steps) -> Option<&CallbackRow>
+        ensures value { option_copied result ≡ slice_get (queue_among self.now.rows pool.0 all) 0 }
+        ensures counted { steps.old ≤ steps.new }
+        ensures bound { steps.new ≤ steps.old + 2 }
+        ensures fewer { list_any is_waiting_persistent self.now.rows ≡ false → steps.new ≤ steps.old + 1 }
+    {
+        let first = self.first_of_half(pool, false, steps);
+        if !all || self.persistent == 0 {
+            return first;
+        }
+        sooner(first, self.first_of_half(pool, true, steps))
+    }
+
+    // How many of a pool's persistent callbacks are pending, or of its others.
+    #[inline(always)]
+    fn count_half(&self, pool: PoolId, persistent: bool) -> u32
+        ensures { result ≡ length (filter (is_pending_half pool.0 persistent) self.now.rows) }
     {
         if pool.0 >= self.lists.pools {
             return 0;
         }
         let _known = self.rows.len();
-        let high = self.lists.lines.len(3 * pool.0);
-        let normal = self.lists.lines.len(3 * pool.0 + 1);
-        let low = self.lists.lines.len(3 * pool.0 + 2);
-        high + normal + low
+        self.lists.count_queues(pool.0, persistent)
+    }
+
+    /// How many callbacks of a pool are pending that one may take who takes persistent ones too (`all`), or only
+    /// others.
+    #[inline(always)]
+    pub fn takeable(&self, pool: PoolId, all: bool) -> u32
+        ensures { result ≡ length (filter (is_open pool.0 all) self.now.rows) }
+    {
+        let count = self.count_half(pool, false);
+        if !all || self.persistent == 0 {
+            return count;
+        }
+        let _known = self.rows.len();
+        count + self.count_half(pool, true)
+    }
+
+    /// How many callbacks of a pool are pending.
+    #[inline(always)]
+    pub fn pending(&self, pool: PoolId) -> u32
+        ensures value { result ≡ length (filter (is_pending_in pool.0) self.now.rows) }
+        ensures all { result ≡ length (filter (is_open pool.0 true) self.now.rows) }
+    {
+        self.takeable(pool, true)
     }
 
     /// How many callbacks are outstanding for an object. Those that have no object are outstanding for object 0.
@@ -255,7 +330,7 @@ impl LiveCallbacks {
             return None;
         }
         let _known = self.rows.len();
-        let place = first_in(&self.lists.lines, 3 * self.lists.pools + object.0);
+        let place = first_in(&self.lists.lines, 6 * self.lists.pools + object.0);
         lent_behind(
             &self.rows,
             lines(self.lists.pools, self.lists.objects),
@@ -272,8 +347,8 @@ impl LiveCallbacks {
         if object.0 > self.lists.objects {
             return false;
         }
-        let expected = 3 * self.lists.pools + object.0;
-        let issued = 3 * self.lists.pools + (self.lists.objects + 1) + object.0;
+        let expected = 6 * self.lists.pools + object.0;
+        let issued = 6 * self.lists.pools + (self.lists.objects + 1) + object.0;
         self.lists.lines.len(expected) != 0 || self.lists.lines.len(issued) != 0
     }
 
@@ -300,12 +375,13 @@ impl LiveCallbacks {
         let to = self.lists.stands(&row);
         let key = self.rows.push(row);
         self.operating += operations(&row);
+        self.persistent += waiting_persistent(&row);
         self.lists.settle(key, row.number, to, to.line, &mut steps);
     }
 
     /// A callback moves on: `after` comes in the place of `before`, which is its row as it stands.
     ///
-    /// It stays of its number, object, pool, group and priority. It leaves the lists that its status is no longer
+    /// It stays of its number, object, pool, group and priority, and persistent if it was. It leaves the lists that its status is no longer
     /// for, and comes to the queue of its pool where it is pending now. Outstanding, expected or operating it is
     /// afterwards only if it was so before.
     ///
@@ -325,6 +401,7 @@ impl LiveCallbacks {
         let near = self.lists.near(&self.rows, &after, to.line, steps);
         self.rows.replace(key, after);
         self.operating -= operations(before) - operations(&after);
+        self.persistent = self.persistent - waiting_persistent(before) + waiting_persistent(&after);
         self.lists.settle(key, after.number, to, near, steps);
     }
 
@@ -339,6 +416,7 @@ impl LiveCallbacks {
         let to = self.lists.nowhere();
         let key = self.rows.remove(row.number).unwrap();
         self.operating -= operations(row);
+        self.persistent -= waiting_persistent(row);
         self.lists.settle(key, row.number, to, to.line, &mut steps);
     }
 }

@@ -7,7 +7,7 @@ ghost use Rattle.linked_lists.specs.Linked.{AreInOrder, IsOf, list_of, owner_of,
 ghost use Rattle.tp_model.specs.Counts.{is_pending};
 ghost use Rattle.live_callbacks.specs.Families.{AreSettled, HaveRoom, IsNowhere, IsStanding, OnlyLeaves, StandIn};
 ghost use Rattle.live_callbacks.specs.Held.{IsHeldAt, row_behind as row_behind_place};
-ghost use Rattle.live_callbacks.specs.Lists.{IsAtHome, MaySettle, first_queue_of, group_of as group_of_row, has_list as has_group_list, line_of as line_of_row, lines, object_of as object_of_row, priority_number as priority_number_of};
+ghost use Rattle.live_callbacks.specs.Lists.{IsAtHome, MaySettle, count_queues_of, first_queue_of, first_of_half as first_of_half_by, group_of as group_of_row, has_list as has_group_list, line_of as line_of_row, lines, object_of as object_of_row, priority_number as priority_number_of};
 
 use crate::rows::Rows;
 use linked_lists::LinkedLists;
@@ -23,7 +23,7 @@ pub(crate) struct Lists {
     pub pools: u32,
     pub objects: u32,
     pub groups: u32,
-    // A queue for each pool and priority, and for each object what expects its operation and what has it
+    // Two queues for each pool and priority, and for each object what expects its operation and what has it
     // under way.
     pub lines: LinkedLists,
     // What is outstanding, by object.
@@ -39,18 +39,18 @@ pub(crate) struct Standing {
     pub group: u32,
 }
 
-// Three lines a pool and two an object.
+// Six lines a pool and two an object.
 #[inline(always)]
 pub(crate) fn lines(pools: u32, objects: u32) -> u32
     requires { lines pools objects < 2 ^ 32 }
     ensures { result ≡ lines pools objects }
 {
-    3 * pools + 2 * (objects + 1)
+    6 * pools + 2 * (objects + 1)
 }
 
 // The priority as the queues know it.
 #[inline(always)]
-fn priority_number(priority: Priority) -> u32
+pub(crate) fn priority_number(priority: Priority) -> u32
     ensures { result ≡ priority_number_of priority }
 {
     match priority {
@@ -58,6 +58,14 @@ fn priority_number(priority: Priority) -> u32
         Priority::Normal => 1,
         Priority::Low => 2,
     }
+}
+
+// How many queues of a pool come before those of persistent callbacks, or of others.
+#[inline(always)]
+fn first_of_half(persistent: bool) -> u32
+    ensures { result ≡ first_of_half_by persistent }
+{
+    if persistent { 3 } else { 0 }
 }
 
 // Whether a group has a list of its callbacks, where so many have one.
@@ -77,9 +85,12 @@ fn line_of(pools: u32, objects: u32, callback: &CallbackRow) -> u32
     ensures within { result ≤ lines pools objects }
 {
     match callback.status {
-        Status::Expected => 3 * pools + callback.object.0,
-        Status::Issued => 3 * pools + (objects + 1) + callback.object.0,
-        Status::Pending => 3 * callback.pool.0 + priority_number(callback.priority),
+        Status::Expected => 6 * pools + callback.object.0,
+        Status::Issued => 6 * pools + (objects + 1) + callback.object.0,
+        Status::Pending => {
+            6 * callback.pool.0
+                + (first_of_half(callback.persistent) + priority_number(callback.priority))
+        }
         Status::Running { .. } | Status::Returned | Status::Cancelled => lines(pools, objects),
     }
 }
@@ -158,7 +169,7 @@ impl Lists {
         ensures objects { IfOk result (λ made. made.objects ≡ objects) }
         ensures empty { IfOk result (StandIn places []) }
     {
-        let lines = 3 * pools as u64 + 2 * (objects as u64 + 1);
+        let lines = 6 * pools as u64 + 2 * (objects as u64 + 1);
         let most = lines.max(groups as u64 + 1) + places as u64;
         if most > u32::MAX as u64 {
             return Err(AllocError);
@@ -257,15 +268,15 @@ impl Lists {
             .move_to(to.group, to.group, self.groups + 1 + key, number, steps);
     }
 
-    // The line of a pool's queue that is first of those that aren't empty, or its last.
+    // Of the queues of a pool's persistent callbacks, or of its others, the first that isn't empty, or the last.
     #[inline(always)]
-    pub fn first_queue(&self, pool: u32) -> u32
+    pub fn first_queue(&self, pool: u32, persistent: bool) -> u32
         requires pool { pool < self.now.pools }
         requires many { length self.now.lines.lists ≡ lines self.now.pools self.now.objects }
         requires fits { HaveRoom self.now }
-        ensures { result ≡ first_queue_of self.now.lines (3 * pool) }
+        ensures { result ≡ first_queue_of self.now.lines (6 * pool + first_of_half_by persistent) }
     {
-        let high = 3 * pool;
+        let high = 6 * pool + first_of_half(persistent);
         if self.lines.len(high) != 0 {
             high
         } else if self.lines.len(high + 1) != 0 {
@@ -273,5 +284,18 @@ impl Lists {
         } else {
             high + 2
         }
+    }
+
+    // How many are in these queues.
+    #[inline(always)]
+    pub fn count_queues(&self, pool: u32, persistent: bool) -> u32
+        requires pool { pool < self.now.pools }
+        requires many { length self.now.lines.lists ≡ lines self.now.pools self.now.objects }
+        requires fits { HaveRoom self.now }
+        requires few { count_queues_of self.now.lines (6 * pool + first_of_half_by persistent) < 2 ^ 32 }
+        ensures { result ≡ count_queues_of self.now.lines (6 * pool + first_of_half_by persistent) }
+    {
+        let high = 6 * pool + first_of_half(persistent);
+        self.lines.len(high) + self.lines.len(high + 1) + self.lines.len(high + 2)
     }
 }

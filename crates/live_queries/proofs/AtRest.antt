@@ -8,7 +8,7 @@ use Rattle.tp_base.specs.declared.ids.Who.TheVariants.{Client}
 use Rattle.tp_base.specs.declared.rows.CallbackRow.{CallbackRow}
 use Rattle.tp_model.specs.Conditions.{is_finished}
 use Rattle.tp_model.specs.Counts.{is_pending, is_running, is_pending_in, is_running_in}
-use Rattle.tp_model.specs.Counts.{lacks_room_to_run}
+use Rattle.tp_model.specs.Stalled.{is_free, lacks_room_to_run}
 use Rattle.tp_model.specs.Over.{goes_on, is_over}
 use Rattle.tp_model.specs.World.{World}
 use Rattle.live_queries.specs.Resting.{is_pool_over}
@@ -109,9 +109,9 @@ module _ (short : ℕ → Bool) where
 -- ---- of a world
 
 over_by_pools : (w : World) (room : ℕ) → AllByRecursion (λ (c : CallbackRow). c.pool.0 < length w.pools) w.callbacks
-    → list_all (is_pool_over w room) (range_with_len 0 (length w.pools)) ≡ not (list_any (goes_on w room) w.callbacks)
+    → list_all (is_pool_over w room (list_any (is_free w) w.workers)) (range_with_len 0 (length w.pools)) ≡ not (list_any (goes_on w room) w.callbacks)
 over_by_pools w room homes = all_at_rest (lacks_room_to_run w room) (length w.pools) w.callbacks homes
 
 pub over_by_numbers : (w : World) (room : ℕ) → AllByRecursion (λ (c : CallbackRow). c.pool.0 < length w.pools) w.callbacks
-    → is_over w room ≡ (list_all (λ number. is_finished w (Client number)) (range_with_len 1 (length w.clients)) && list_all (is_pool_over w room) (range_with_len 0 (length w.pools)))
+    → is_over w room ≡ (list_all (λ number. is_finished w (Client number)) (range_with_len 1 (length w.clients)) && list_all (is_pool_over w room (list_any (is_free w) w.workers)) (range_with_len 0 (length w.pools)))
 over_by_numbers w room homes = ap₂ (λ a b. a && b) (sym (finished_by_number w)) (sym (over_by_pools w room homes))

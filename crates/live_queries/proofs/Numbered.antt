@@ -1,13 +1,11 @@
 -- All rows pass a test where all of their numbers do.
-use Rattle.std.proofs.Common.{◌≡◌, ◌+◌, ◌-◌, Bool, false, cond, ◌&&◌, ◌==◌, slice_get, List, [], ◌∷◌, ◌++◌, length, is_some, None, Some, refl, sym, ap, ap₂, ◌∙◌, arith, ne_eqb, append_assoc, length-append}
+use Rattle.std.proofs.Common.{◌≡◌, ◌+◌, ◌-◌, Bool, false, cond, ◌&&◌, ◌==◌, slice_get, List, [], ◌∷◌, ◌++◌, length, None, Some, refl, sym, ap, ap₂, ◌∙◌, arith, ne_eqb, append_assoc, length-append}
 use Rattle.std.specs.List.{list_all, range_with_len}
 use Rattle.std.specs.Option.{option_map_or}
-use Rattle.tp_base.specs.declared.ids.Who.TheVariants.{Client, Worker}
+use Rattle.tp_base.specs.declared.ids.Who.TheVariants.{Client}
 use Rattle.tp_base.specs.declared.rows.ClientRow.{ClientRow}
-use Rattle.tp_base.specs.declared.rows.WorkerRow.{WorkerRow}
-use Rattle.tp_model.specs.Conditions.{is_finished, runs_callback}
+use Rattle.tp_model.specs.Conditions.{is_finished}
 use Rattle.tp_model.specs.Counts.{numbered}
-use Rattle.tp_model.specs.Stalled.{are_all_busy}
 use Rattle.tp_model.specs.World.{World}
 
 -- ---- the rows that follow some others, by their numbers
@@ -39,9 +37,6 @@ all_behind test front (r ∷ rows) = ap₂ (λ a b. a && b) here (longer ∙ all
     longer = ap₂ (λ xs k. list_all (λ n. option_map_or test (numbered xs n) false) (range_with_len (k + 1) (length rows))) (sym (append_assoc front (r ∷ []) rows)) one_more
 
 -- ---- of a world
-
-pub busy_by_number : (w : World) → list_all (λ number. runs_callback w (Worker number)) (range_with_len 1 (length w.workers)) ≡ are_all_busy w
-busy_by_number w = all_behind (λ (r : WorkerRow). is_some r.callback) [] w.workers
 
 pub finished_by_number : (w : World) → list_all (λ number. is_finished w (Client number)) (range_with_len 1 (length w.clients)) ≡ list_all (λ (r : ClientRow). r.finished) w.clients
 finished_by_number w = all_behind (λ (r : ClientRow). r.finished) [] w.clients

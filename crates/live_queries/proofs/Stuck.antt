@@ -1,48 +1,25 @@
 -- Whether no worker can take a callback, told by the workers' numbers and the pools.
-use Rattle.std.proofs.Common.{◌≡◌, ◌<◌, ◌≤◌, ℕ, Bool, true, false, cond, arith, filter, not, ◌&&◌, ◌||◌, ◌==◌, nat_le, List, [], ◌∷◌, length, Option, Some, None, is_none, refl, sym, ap, ◌∙◌}
+use Rattle.std.proofs.Common.{◌≡◌, ◌<◌, ◌≤◌, ℕ, Bool, true, false, cond, arith, filter, not, ◌&&◌, ◌||◌, List, [], ◌∷◌, length, Option, Some, None, is_none, refl, sym, ap, ◌∙◌}
 use Rattle.std.specs.List.{list_all, list_any, range_with_len}
 use Rattle.std.proofs.Math.Bool.{and_assoc, and_comm}
 use Rattle.tp_base.specs.Actors.{is_same_actor}
 use Rattle.tp_base.specs.declared.ids.Who.{Who}
 use Rattle.tp_base.specs.declared.ids.Who.TheVariants.{Worker}
-use Rattle.tp_model.specs.Counts.{lacks_room_to_run, maximum, pending, running}
 use Rattle.tp_model.specs.Calls.Waits.{end_wait}
 use Rattle.tp_model.specs.Conditions.{is_in_wait, runs_callback}
-use Rattle.tp_model.specs.Stalled.{are_all_busy, is_client_stuck, is_look, is_pool_stuck, is_stalled, is_worker_stuck, waits_on}
+use Rattle.tp_model.specs.Stalled.{is_client_stuck, is_free, is_look, is_pool_stuck, is_stalled, is_worker_stuck, waits_on}
 use Rattle.tp_model.specs.Waits.{wait_of}
 use Rattle.tp_model.specs.World.{World, BegunWait}
-use Rattle.tp_model.proofs.Lists.{all_agree}
 use Rattle.tp_model.proofs.Refusals.{neither}
 use Rattle.live_world.proofs.Covered.{not_found}
 use Rattle.live_queries.specs.Resting.{is_pool_blocked, is_worker_free}
-use Rattle.live_queries.proofs.Numbered.{busy_by_number}
 
 -- ---- the pools
 
-one_pool : (a b busy d : Bool) → (a || b || busy || d) ≡ (busy || (a || b || d))
-one_pool true true true d = refl
-one_pool true true false d = refl
-one_pool true false true d = refl
-one_pool true false false d = refl
-one_pool false true true d = refl
-one_pool false true false d = refl
-one_pool false false true d = refl
-one_pool false false false d = refl
-
-all_or : (busy : Bool) (test : ℕ → Bool) (ns : List ℕ) → list_all (λ n. busy || test n) ns ≡ (busy || list_all test ns)
-all_or true test [] = refl
-all_or true test (n ∷ ns) = all_or true test ns
-all_or false test ns = refl
-
--- either no worker is left, or none of the pools lets one take
+-- none of the pools lets a worker take
 pub stuck_by_pools : (w : World) (room : ℕ)
-    → list_all (is_pool_stuck w room) (range_with_len 0 (length w.pools))
-    ≡ (list_all (λ number. runs_callback w (Worker number)) (range_with_len 1 (length w.workers)) || list_all (is_pool_blocked w room) (range_with_len 0 (length w.pools)))
-stuck_by_pools w room =
-    all_agree (is_pool_stuck w room) (λ pool. are_all_busy w || is_pool_blocked w room pool)
-    (λ pool. one_pool (pending w pool == 0) (nat_le (maximum w pool) (running w pool)) (are_all_busy w) (lacks_room_to_run w room pool)) (range_with_len 0 (length w.pools))
-    ∙ all_or (are_all_busy w) (is_pool_blocked w room) (range_with_len 0 (length w.pools))
-    ∙ ap (λ b. b || list_all (is_pool_blocked w room) (range_with_len 0 (length w.pools))) (sym (busy_by_number w))
+    → list_all (is_pool_blocked w room (list_any (is_free w) w.workers)) (range_with_len 0 (length w.pools)) ≡ list_all (is_pool_stuck w room) (range_with_len 0 (length w.pools))
+stuck_by_pools w room = refl
 
 -- whether a machine is stalled, in whichever order it is asked of its clients, its workers and its pools
 pub stalled_by_pools : (w : World) (room : ℕ)

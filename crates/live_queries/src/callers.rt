@@ -58,10 +58,12 @@ pub fn idle(world: &LiveWorld, who: Who) -> Option<Idle>
                 WorkerRow {
                     pool: Some(pool),
                     callback: None,
+                    persistent,
                 },
             ) => Some(Idle {
                 worker: number,
                 pool,
+                persistent,
             }),
             _ => None,
         },
@@ -74,6 +76,8 @@ pub struct AtWork<'a> {
     pub worker: u32,
     pub pool: PoolId,
     pub callback: &'a CallbackRow,
+    /// It is the pool's persistent worker.
+    pub persistent: bool,
 }
 
 /// The actor as a worker that runs a callback, if it is one.
@@ -88,12 +92,14 @@ pub fn at_work(world: &LiveWorld, who: Who) -> Option<AtWork<'_>>
                 WorkerRow {
                     pool: Some(pool),
                     callback: Some(callback),
+                    persistent,
                 },
             ) => match callback_of(world, callback) {
                 Some(callback) => Some(AtWork {
                     worker: number,
                     pool,
                     callback,
+                    persistent,
                 }),
                 None => None,
             },
@@ -112,6 +118,7 @@ pub fn busy(world: &LiveWorld, who: Who) -> Option<Busy>
             worker: by.worker,
             pool: by.pool,
             callback: *by.callback,
+            persistent: by.persistent,
         }),
         None => None,
     }

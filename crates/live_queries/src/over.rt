@@ -8,25 +8,27 @@ ghost use Rattle.tp_model.specs.Over.{is_over, left_after, row_of, status_of};
 ghost use Rattle.live_queries.specs.Resting.{is_pool_over};
 
 use crate::callers::{clients, has_finished};
+use crate::pools::lacks_room;
 use live_world::LiveWorld;
 use tp_base::ids::{ObjectId, PoolId, Who};
 use tp_base::rows::Status;
 use tp_model::Left;
 
-// Whether nothing of the pool runs, and what of it is pending can't be run any more.
-fn is_pool_over(world: &LiveWorld, pool: PoolId, room: u64) -> bool
-    ensures { result ≡ is_pool_over world.now.world room pool.0 }
+// Whether nothing of the pool runs, and what of it is pending can't be run any more, where a worker is free or
+// none is.
+fn is_pool_over(world: &LiveWorld, pool: PoolId, room: u64, free: bool) -> bool
+    ensures { result ≡ is_pool_over world.now.world room free pool.0 }
 {
     let tally = world.tally(pool);
-    let lacks_room = room < 2 || (room < 4 && tally.idle == 0);
+    let lacks_room = lacks_room(&tally, room, free);
     tally.running == 0 && (tally.pending == 0 || lacks_room)
 }
 
 // Whether no callback runs, and none that is pending can be run any more.
-fn are_pools_over(world: &LiveWorld, room: u64) -> bool
-    ensures { result ≡ list_all (is_pool_over world.now.world room) (range_with_len 0 (length world.now.world.pools)) }
+fn are_pools_over(world: &LiveWorld, room: u64, free: bool) -> bool
+    ensures { result ≡ list_all (is_pool_over world.now.world room free) (range_with_len 0 (length world.now.world.pools)) }
 {
-    (0..world.next_pool()).all(|pool| is_pool_over(world, PoolId(pool), room))
+    (0..world.next_pool()).all(|pool| is_pool_over(world, PoolId(pool), room, free))
 }
 
 // Whether every client has finished.
@@ -37,13 +39,13 @@ fn have_clients_finished(world: &LiveWorld) -> bool
 }
 
 /// Whether every client has finished, no callback runs, and the history, which has this room
-/// left, has none for a pending one to be run. Walks the clients and the pools.
+/// left, has none for a pending one to be run, or no worker is left for it. Walks the clients and the pools.
 #[tactic(auto, using(crate::proofs::AtRest::over_by_numbers))]
 pub fn is_over(world: &LiveWorld, room: u64) -> bool
     ensures { result ≡ is_over world.now.world room }
 {
     world.is_reachable();
-    have_clients_finished(world) && are_pools_over(world, room)
+    have_clients_finished(world) && are_pools_over(world, room, world.is_any_free())
 }
 
 // How far a callback has come that may still run.

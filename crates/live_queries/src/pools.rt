@@ -1,15 +1,17 @@
 //! Pools: which of them needs a worker, and whether one is still used.
 
-ghost use Rattle.std.specs.Prelude.{◌≡◌, ◌&&◌, ◌||◌, ◌==◌, not, length};
+ghost use Rattle.std.specs.Prelude.{◌≡◌, ◌&&◌, ◌||◌, ◌==◌, nat_lt, not, length};
 ghost use Rattle.std.specs.List.{list_any, range_with_len};
 ghost use Rattle.tp_model.specs.Counts.{is_below_minimum, is_in_need, is_live, least_pool};
 ghost use Rattle.tp_model.specs.Conditions.{is_closed_pool, is_pool};
 ghost use Rattle.tp_model.specs.Calls.Pools.{is_used};
-ghost use Rattle.tp_model.specs.Calls.Workers.{may_leave, pool_to_join};
+ghost use Rattle.tp_model.specs.Calls.Workers.{is_let_go, may_leave, pool_to_join};
 ghost use Rattle.tp_model.specs.Calls.InCallback.{has_spare};
 
 use live_world::LiveWorld;
+use live_world::pools::Tally;
 use tp_base::ids::PoolId;
+use tp_base::plans::Idle;
 
 /// Whether a pool of this number was made.
 pub fn is_pool(world: &LiveWorld, pool: PoolId) -> bool
@@ -36,12 +38,20 @@ pub fn has_spare(world: &LiveWorld, pool: PoolId) -> bool
     0 < tally.idle || tally.attached < tally.maximum
 }
 
-// Whether callbacks wait, no attached worker is free, and the pool may have another.
+// Whether callbacks wait that a further worker may take, no attached worker is free, and the pool may have another.
 fn is_in_need(world: &LiveWorld, pool: PoolId) -> bool
     ensures { result ≡ is_in_need world.now.world pool.0 }
 {
     let tally = world.tally(pool);
-    0 < tally.pending && tally.idle == 0 && tally.attached < tally.maximum
+    0 < tally.takeable && tally.idle == 0 && tally.attached < tally.maximum
+}
+
+/// Whether the history, which has this room left, has none for a callback of a pool to be run, of which so much is
+/// counted, where a worker is free or none is.
+pub(crate) fn lacks_room(tally: &Tally, room: u64, free: bool) -> bool
+    ensures { result ≡ (nat_lt room 2 || ((tally.now.idle == 0) && (nat_lt room 4 || not free))) }
+{
+    room < 2 || (tally.idle == 0 && (room < 4 || !free))
 }
 
 // Whether too few workers are free for short callbacks, and the pool may have another.
@@ -103,14 +113,23 @@ pub fn pool_to_join(world: &LiveWorld) -> Option<u32>
     }
 }
 
-/// Whether an idle worker of the pool may leave it.
-pub fn may_leave(world: &LiveWorld, pool: PoolId) -> bool
-    ensures { result ≡ may_leave world.now.world pool.0 }
+// Whether the worker isn't the persistent worker of a pool that is open.
+fn is_let_go(world: &LiveWorld, by: &Idle) -> bool
+    ensures { result ≡ is_let_go world.now.world by.now }
 {
-    let tally = world.tally(pool);
-    tally.maximum < tally.attached
-        || (tally.pending == 0
-            && (tally.minimum < tally.available || least_other_in_need(world, pool).is_some()))
+    !by.persistent || is_closed_pool(world, by.pool)
+}
+
+/// Whether an idle worker may leave its pool.
+pub fn may_leave(world: &LiveWorld, by: &Idle) -> bool
+    ensures { result ≡ may_leave world.now.world by.now }
+{
+    let tally = world.tally(by.pool);
+    is_let_go(world, by)
+        && (tally.maximum < tally.attached
+            || (world.takeable(by.pool, by.persistent) == 0
+                && (tally.minimum < tally.available
+                    || least_other_in_need(world, by.pool).is_some())))
 }
 
 // Whether a callback of the pool is under way. Walks the callbacks.

@@ -8,6 +8,7 @@ ghost use Rattle.tp_model.specs.Stalled.{is_client_stuck, is_pool_stuck, is_stal
 ghost use Rattle.live_queries.specs.Resting.{is_pool_blocked, is_worker_free};
 
 use crate::callers::{clients, has_finished, workers};
+use crate::pools::lacks_room;
 use live_world::LiveWorld;
 use live_world::waits::Progress;
 use tp_base::ids::{PoolId, Who};
@@ -67,15 +68,15 @@ fn is_worker_stuck(world: &LiveWorld, number: u32, room: u64) -> bool
     !is_busy(world, number) || waits_on(world, Who::Worker(number), room)
 }
 
-// Whether no callback of the pool can be taken, though a worker runs none.
-fn is_pool_blocked(world: &LiveWorld, pool: PoolId, room: u64) -> bool
-    ensures { result ≡ is_pool_blocked world.now.world room pool.0 }
+// Whether no callback of the pool can be taken, where a worker is free or none is.
+fn is_pool_blocked(world: &LiveWorld, pool: PoolId, room: u64, free: bool) -> bool
+    ensures { result ≡ is_pool_blocked world.now.world room free pool.0 }
 {
     let tally = world.tally(pool);
     tally.pending == 0
         || tally.maximum <= tally.running
-        || room < 2
-        || (room < 4 && tally.idle == 0)
+        || (tally.takeable == 0 && tally.occupied)
+        || lacks_room(&tally, room, free)
 }
 
 // Whether no client makes a call.
@@ -92,18 +93,11 @@ fn are_workers_stuck(world: &LiveWorld, room: u64) -> bool
     (1..workers(world) + 1).all(|number| is_worker_stuck(world, number, room))
 }
 
-// Whether every worker runs a callback.
-fn are_all_busy(world: &LiveWorld) -> bool
-    ensures { result ≡ list_all (λ number. runs_callback world.now.world (Who.Worker number)) (range_with_len 1 (length world.now.world.workers)) }
+// Whether no callback can be taken, where a worker is free or none is.
+fn are_pools_blocked(world: &LiveWorld, room: u64, free: bool) -> bool
+    ensures { result ≡ list_all (is_pool_blocked world.now.world room free) (range_with_len 0 (length world.now.world.pools)) }
 {
-    (1..workers(world) + 1).all(|number| is_busy(world, number))
-}
-
-// Whether no callback can be taken, though a worker runs none.
-fn are_pools_blocked(world: &LiveWorld, room: u64) -> bool
-    ensures { result ≡ list_all (is_pool_blocked world.now.world room) (range_with_len 0 (length world.now.world.pools)) }
-{
-    (0..world.next_pool()).all(|pool| is_pool_blocked(world, PoolId(pool), room))
+    (0..world.next_pool()).all(|pool| is_pool_blocked(world, PoolId(pool), room, free))
 }
 
 // Whether no worker can take a callback.
@@ -111,7 +105,7 @@ fn are_pools_blocked(world: &LiveWorld, room: u64) -> bool
 fn are_pools_stuck(world: &LiveWorld, room: u64) -> bool
     ensures { result ≡ list_all (is_pool_stuck world.now.world room) (range_with_len 0 (length world.now.world.pools)) }
 {
-    are_all_busy(world) || are_pools_blocked(world, room)
+    are_pools_blocked(world, room, world.is_any_free())
 }
 
 // Whether nobody can go on, asked of the pools, then of the workers up to one that goes on, and only then of

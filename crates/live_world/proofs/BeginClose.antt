@@ -8,7 +8,7 @@ use Rattle.tp_base.specs.declared.rows.Status.{Status}
 use Rattle.tp_base.specs.declared.rows.Status.TheVariants.{Expected, Issued, Pending, Running, Returned, Cancelled}
 use Rattle.tp_base.specs.declared.rows.CallbackRow.{CallbackRow}
 use Rattle.tp_base.specs.declared.rows.WaitTarget.TheVariants.{Group}
-use Rattle.tp_model.specs.Counts.{is_operating, is_pending, is_live}
+use Rattle.tp_model.specs.Counts.{is_operating, is_pending}
 use Rattle.tp_model.specs.Conditions.{is_in_wait, is_operation_of}
 use Rattle.tp_model.specs.World.{BegunWait}
 use Rattle.tp_base.specs.declared.ids.ObjectId.{ObjectId}

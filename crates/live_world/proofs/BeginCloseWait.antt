@@ -1,5 +1,5 @@
 -- What the parts show after a close of a group begins, and after it gets a notice to give and gives one.
-use Rattle.std.proofs.Common.{◌≡◌, ℕ, ◌+◌, Bool, true, false, cond, not, ◌&&◌, ◌||◌, ◌==◌, List, [], ◌∷◌, ◌++◌, map, Option, Some, None, refl, sym, ap, ap₂, ◌∙◌, subst, arith, filter, find}
+use Rattle.std.proofs.Common.{◌≡◌, ℕ, ◌+◌, Bool, true, false, cond, ◌||◌, List, [], ◌∷◌, ◌++◌, map, Option, Some, None, refl, sym, ap, ◌∙◌, subst, arith, filter, find}
 use Rattle.std.specs.List.{AllByRecursion, list_any}
 use Rattle.std.specs.Option.{option_map_or}
 use Rattle.tp_base.specs.declared.ids.Who.{Who}
@@ -7,22 +7,19 @@ use Rattle.tp_base.specs.declared.ids.GroupId.{GroupId}
 use Rattle.tp_base.specs.declared.ids.ObjectId.{ObjectId}
 use Rattle.tp_base.specs.declared.plans.Change.TheVariants as change
 use Rattle.tp_base.specs.declared.rows.CallbackRow.{CallbackRow}
-use Rattle.tp_base.specs.declared.rows.Status.{Status}
-use Rattle.tp_base.specs.declared.rows.Status.TheVariants.{Expected, Issued, Pending, Running, Returned, Cancelled}
 use Rattle.tp_base.specs.declared.rows.WaitTarget.TheVariants.{Group}
 use Rattle.tp_base.specs.Actors.{is_same_actor}
 use Rattle.begun_waits.specs.Begun.{Begun, place_of, with_notices}
 use Rattle.tp_model.specs.World.{World, BegunWait}
-use Rattle.tp_model.specs.Counts.{has_number, is_live, is_running}
+use Rattle.tp_model.specs.Counts.{has_number}
 use Rattle.tp_model.specs.Changes.{give_notice, new_close, notified}
 use Rattle.tp_model.specs.Groups.{is_object_that}
 use Rattle.tp_model.specs.Laws.Once.{is_left}
-use Rattle.tp_model.specs.Waits.{covered_of as covers_among, is_cancelled_by, is_covered_by, is_held_for, is_of}
+use Rattle.tp_model.specs.Waits.{is_cancelled_by, is_of}
 use Rattle.tp_model.specs.Support.Allowed.{IsAllowed, MayClose}
-use Rattle.tp_model.specs.Support.Remembered.{lives}
-use Rattle.tp_model.specs.Support.Sound.{IsRising, IsSound, IsWaitSound, is_left_of, is_told}
+use Rattle.tp_model.specs.Support.Sound.{IsSound, IsWaitSound, is_left_of, is_told}
 use Rattle.tp_model.proofs.Cancelling.{cancelled_pending}
-use Rattle.tp_model.proofs.Lists.{all_along, all_append, all_filter}
+use Rattle.tp_model.proofs.Lists.{all_append}
 use Rattle.tp_model.proofs.SoundWaits.{closed_cut, sound_begun, sound_waits}
 use Rattle.tp_model.proofs.Refusals.{and_false, both, false_true, is_own_actor, neither}
 use Rattle.tp_model.proofs.Waits.{new_close_sound}
@@ -31,11 +28,10 @@ use Rattle.live_world.specs.Closing.{MayHaveNotices, MayNote, begin_close_wait, 
 use Rattle.live_world.specs.Live.{Live, with_world, moved}
 use Rattle.begun_waits.specs.Covers.{Covering, listed_of, with_cover}
 use Rattle.live_world.specs.View.{shown, IsLiveWorld}
-use Rattle.live_world.proofs.Along.{number_of}
 use Rattle.live_world.proofs.Beginnings.{begins_with, covers_given}
 use Rattle.live_world.proofs.Cancelled.{none_where}
 use Rattle.live_world.proofs.Covered.{covered_noted}
-use Rattle.live_world.proofs.Lists.{all_pass, filter_all, filter_alike, none_passes}
+use Rattle.live_world.proofs.Lists.{none_passes}
 use Rattle.live_world.proofs.Moving.{After, Becomes, became_by, moved_by, waits_after}
 
 -- ---- the wait begins

@@ -21,7 +21,7 @@ use Rattle.tp_base.specs.declared.plans.Change.TheVariants as change
 use Rattle.tp_model.specs.Support.Remembered.{lives, forget}
 use Rattle.tp_model.proofs.Forgetting.{over_not_covered, over_not_cancelled}
 use Rattle.tp_model.specs.Waits.{is_held_for, is_outstanding_for, is_cancelled_by, is_covered_by, is_object_target, cancelled, cancel_where, covered_of}
-use Rattle.tp_model.proofs.Lists.{all_along, all_filter, filter_agree, filter_filter}
+use Rattle.tp_model.proofs.Lists.{filter_agree, filter_filter}
 use Rattle.tp_model.proofs.Callbacks.{found_bounds}
 use Rattle.tp_model.proofs.Sound.{sound_begin_wait}
 use Rattle.tp_model.proofs.Refusals.{and_false, false_true}

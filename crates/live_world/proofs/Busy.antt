@@ -1,5 +1,5 @@
 -- How many workers run a callback, told by their numbers.
-use Rattle.std.proofs.Common.{◌≡◌, ℕ, suc, zero, ◌+◌, ◌-◌, ◌<◌, ◌==◌, nat_lt, List, cond, filter, get_or, length, map, option_map, slice_get, Option, None, Some, is_some, false, refl, sym, ap, ◌∙◌, arith, ne_eqb, lt-ltb}
+use Rattle.std.proofs.Common.{◌≡◌, ℕ, suc, zero, ◌+◌, ◌-◌, ◌<◌, ◌==◌, nat_lt, List, cond, filter, get_or, length, map, option_map, slice_get, None, Some, is_some, false, refl, sym, ap, ◌∙◌, arith, ne_eqb, lt-ltb}
 use Rattle.std.specs.List.{range_with_len}
 use Rattle.std.specs.Option.{option_map_or}
 use Rattle.std.proofs.lemmas.List.{length-map}
@@ -15,7 +15,7 @@ use Rattle.pool_rows.specs.Workers.{runs, unattached}
 use Rattle.pool_rows.specs.declared.WorkerRow as kept
 use Rattle.live_world.specs.Parts.{shown_worker}
 
-shows : (n : ℕ) → nat_lt 0 n ≡ is_some (cond (n == 0) None (Some n))
+pub shows : (n : ℕ) → nat_lt 0 n ≡ is_some (cond (n == 0) None (Some n))
 shows zero = refl
 shows (suc n) = lt-ltb 0 (suc n) (omega arith) ∙ ap (λ b. is_some (cond b None (Some (suc n)))) (sym (ne_eqb (suc n) 0 (λ e. omega (arith, e))))
 

@@ -1,5 +1,5 @@
 -- What the parts show after each change of a callback, and that they keep their invariant.
-use Rattle.std.proofs.Common.{◌≡◌, ◌≢◌, ℕ, ◌+◌, ◌-◌, ◌≤◌, Bool, true, false, cond, List, [], ◌∷◌, ◌++◌, map, slice_get, slice_set, Option, Some, None, refl, sym, ap, ap₂, ◌∙◌, subst, arith, find, option_map, ne_eqb}
+use Rattle.std.proofs.Common.{◌≡◌, ◌≢◌, ℕ, ◌+◌, ◌-◌, ◌≤◌, Bool, true, false, cond, ◌||◌, List, [], ◌∷◌, ◌++◌, map, slice_get, slice_set, Option, Some, None, refl, sym, ap, ap₂, ◌∙◌, subst, arith, find, option_map, ne_eqb}
 use Rattle.std.proofs.lemmas.List.{map-set}
 use Rattle.std.proofs.lemmas.Option.{slice_get-map}
 use Rattle.tp_base.specs.declared.ids.PoolId.{PoolId}
@@ -15,6 +15,7 @@ use Rattle.tp_base.specs.declared.rows.CallbackRow.{CallbackRow}
 use Rattle.tp_base.specs.declared.rows.WorkerRow.{WorkerRow}
 use Rattle.live_callbacks.specs.Callbacks.{Callbacks, is_tied}
 use Rattle.pool_rows.specs.Pools.{Pools, with_worker as with_kept_worker}
+use Rattle.pool_rows.specs.Workers.{after_take}
 use Rattle.pool_rows.specs.declared.WorkerRow as kept
 use Rattle.tp_base.specs.declared.rows.Status.TheVariants.{Running}
 use Rattle.tp_base.specs.declared.rows.WaitTarget.TheVariants as target
@@ -47,20 +48,23 @@ queued_by i l c callbacks is k allowed rows_now =
 -- ---- a callback begins
 
 pub taken_by : (i : Inside) (l : Live) (by : Idle) (c : CallbackRow) (pools : Pools) (callbacks : Callbacks) → shown i ≡ l → IsLiveWorld i → IsAllowed (l.made + 1) l.world (change.Take by c)
-    → pools ≡ with_kept_worker by.worker (λ w. record w { callback = c.number; long = c.long }) i.pools
+    → pools ≡ with_kept_worker by.worker (after_take c.number c.long c.persistent) i.pools
     → callbacks ≡ record i.callbacks { rows = replaced (taken c by.worker) i.callbacks.rows } → Becomes (record i { pools = pools; callbacks = callbacks }) (moved l (change.Take by c))
 taken_by i l by c pools callbacks is k allowed pools_now rows_now =
     moved_by i (record i { pools = pools; callbacks = callbacks }) l (change.Take by c) is k allowed (omega arith) (λ a.
-    let b = is_behind i.pools.workers by.worker (Some by.pool) None a.idles in
+    let b = is_behind i.pools.workers by.worker (Some by.pool) None by.persistent a.idles in
     let r : CallbackRow = taken c by.worker in
-    let new : kept.WorkerRow = record b.row { callback = c.number; long = c.long } in
-    let target : WorkerRow = record { pool = Some by.pool; callback = Some c.number } in
+    let new : kept.WorkerRow = after_take c.number c.long c.persistent b.row in
+    let target : WorkerRow = record { pool = Some by.pool; callback = Some c.number; persistent = by.persistent || c.persistent } in
     let above : 1 ≤ c.number = (found_bounds c.number 1 (i.made + 1) c i.callbacks.rows k.sound.numbers a.found).0 in
     let busy : c.number ≢ 0 = λ z. omega (arith, z, above) in
     let idle : b.row.callback ≡ 0 = runs_nothing b.row.callback b.same_callback in
-    let shows : shown_worker new ≡ target = ap₂ (λ (p : Option PoolId) (z : Bool). record { pool = p; callback = cond z None (Some c.number) }) b.same_pool (ne_eqb c.number 0 busy) in
+    let shows : shown_worker new ≡ target =
+    ap₂ (λ (p : Option PoolId) (z : Bool). record { pool = p; callback = cond z None (Some c.number); persistent = b.row.persistent || c.persistent }) b.same_pool (ne_eqb c.number 0 busy)
+    ∙ ap (λ (m : Bool). record { pool = Some by.pool; callback = Some c.number; persistent = m || c.persistent }) b.same_persistent
+    in
     goes_on i r pools (slice_set i.pools.workers (by.worker - 1) new) callbacks (slice_set (shown i).world.workers (by.worker - 1) target) k refl
-    (pools_now ∙ worker_changed i.pools by.worker b.row (λ w. record w { callback = c.number; long = c.long }) b.at_place b.from_one)
+    (pools_now ∙ worker_changed i.pools by.worker b.row (after_take c.number c.long c.persistent) b.at_place b.from_one)
     rows_now (set_shown i.pools.workers by.worker new target shows)
     (sized_worker i.pools (by.worker - 1) new (same_home i.pools (by.worker - 1) b.row new b.at_place refl k.sized) k.sized)
     (tallied_both (i.made + 1) r c i.callbacks.rows i.pools.workers (by.worker - 1) b.row new k.sound.numbers a.found b.at_place
@@ -78,6 +82,7 @@ record IsRun (i : Inside) (by : Busy) : Type 0 where
   at_place : slice_get i.pools.workers (by.worker - 1) ≡ Some row
   from_one : 1 ≤ by.worker
   joined : row.pool ≡ Some by.pool
+  same_persistent : row.persistent ≡ by.persistent
   runs : row.callback ≡ by.callback.number
   busy : row.callback ≢ 0
   ran : is_running by.callback.status ≡ true
@@ -87,7 +92,7 @@ record IsRun (i : Inside) (by : Busy) : Type 0 where
 
 is_run : (i : Inside) (by : Busy) → IsLiveWorld i → Runs (shown i).world by → IsRun i by
 is_run i by k a =
-    let b = is_behind i.pools.workers by.worker (Some by.pool) (Some by.callback.number) a.stands in
+    let b = is_behind i.pools.workers by.worker (Some by.pool) (Some by.callback.number) by.persistent a.stands in
     let this = runs_this b.row.callback by.callback.number b.same_callback in
     let mark = all_get (IsMarked i.callbacks.rows) i.pools.workers (by.worker - 1) b.row k.tallied.marked b.at_place this.1 in
     record {
@@ -95,6 +100,7 @@ is_run i by k a =
       at_place = b.at_place;
       from_one = b.from_one;
       joined = b.same_pool;
+      same_persistent = b.same_persistent;
       runs = this.0;
       busy = this.1;
       ran = ap is_running a.running;
@@ -143,8 +149,8 @@ ended_by i l by pools callbacks is k running pools_now rows_now =
     let c : CallbackRow = by.callback in
     let r : CallbackRow = returned c in
     let new : kept.WorkerRow = record on.row { callback = 0; long = false } in
-    let target : WorkerRow = record { pool = Some by.pool; callback = None } in
-    let shows : shown_worker new ≡ target = ap (λ (p : Option PoolId). record { pool = p; callback = None }) on.joined in
+    let target : WorkerRow = record { pool = Some by.pool; callback = None; persistent = by.persistent } in
+    let shows : shown_worker new ≡ target = ap₂ (λ (p : Option PoolId) (m : Bool). record { pool = p; callback = None; persistent = m }) on.joined on.same_persistent in
     let workers : List kept.WorkerRow = slice_set i.pools.workers (by.worker - 1) new in
     let before : AreMarked i.callbacks.rows workers = marked_set i.callbacks.rows i.pools.workers (by.worker - 1) new (λ busy. absurd (busy refl)) k.tallied.marked in
     let b = became_by (record i { pools = pools; callbacks = callbacks }) (without_run (shown i).world by)

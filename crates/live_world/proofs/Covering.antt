@@ -1,6 +1,5 @@
 -- Things by rising keys are gone along, and the keys of those that pass a test are listed.
-use Rattle.std.proofs.Common.{◌≡◌, ℕ, ◌+◌, ◌<◌, ◌≤◌, Bool, true, false, cond, List, [], ◌∷◌, ◌++◌, length, map, slice_get, slice_set, nat_lt, None, Option, Some, refl, sym, ap, ◌∙◌, subst, arith, filter, find, append_assoc, append-nil, length-append, get_or-set_same}
-use Rattle.tp_model.proofs.Lists.{all_along}
+use Rattle.std.proofs.Common.{◌≡◌, ℕ, ◌<◌, Bool, true, false, cond, List, [], ◌∷◌, ◌++◌, length, map, slice_get, slice_set, nat_lt, None, Option, Some, refl, sym, ap, ◌∙◌, subst, arith, filter, find, append_assoc, length-append, get_or-set_same}
 use Rattle.begun_waits.specs.Covers.{Covering, listed_of, with_cover}
 use Rattle.live_world.proofs.Lists.{set_twice}
 use Rattle.live_world.proofs.Walks.{IsAmong, Onward, Rises, first_among, onward, rest, rest_first}

@@ -1,18 +1,15 @@
 -- What the parts show after a wait begins and after one ends.
-use Rattle.std.proofs.Common.{◌≡◌, ◌+◌, true, List, is_some, sym, ap, ◌∙◌, subst, arith}
+use Rattle.std.proofs.Common.{◌≡◌, ◌+◌, List, ap, ◌∙◌, arith}
 use Rattle.tp_base.specs.declared.ids.Who.{Who}
 use Rattle.tp_base.specs.declared.plans.WaitEnd.{WaitEnd}
 use Rattle.tp_base.specs.declared.plans.Change.TheVariants as change
 use Rattle.sources.specs.Rows.{SourceRows, with_sources}
 use Rattle.tp_base.specs.declared.rows.KernelRow.{KernelRow}
 use Rattle.tp_model.specs.Changes.{given_up_after, kernels_left}
-use Rattle.tp_model.specs.Support.Allowed.{IsAllowed, MayEnd}
+use Rattle.tp_model.specs.Support.Allowed.{IsAllowed}
 use Rattle.live_world.specs.declared.LiveWorld.TheInside.{Inside}
 use Rattle.live_world.specs.Live.{Live, moved}
-use Rattle.tp_base.specs.Actors.{is_same_actor}
-use Rattle.tp_model.specs.World.{BegunWait}
-use Rattle.begun_waits.proofs.Actors.{some_found}
-use Rattle.begun_waits.specs.Begun.{Begun, is_waiting, wait_among, wanted_by, without_waits}
+use Rattle.begun_waits.specs.Begun.{Begun, wait_among, wanted_by, without_waits}
 use Rattle.live_world.specs.Taking.{rows_left}
 use Rattle.live_world.specs.View.{shown, IsLiveWorld}
 use Rattle.live_world.proofs.Covered.{covered_ended}

@@ -34,3 +34,4 @@ pub mod Operations
 pub mod Fired
 pub mod Firings
 pub mod Busy
+pub mod Takeable

@@ -163,33 +163,41 @@ pub attached : (i : Inside) (l : Live) (worker : ℕ) (pool : PoolId) (pools : P
     → pools ≡ with_kept_worker worker (λ _. idle_in pool) i.pools → Becomes (record i { pools = pools }) (moved l (change.Attach worker pool))
 attached i l worker pool pools is k allowed now =
     moved_by i (record i { pools = pools }) l (change.Attach worker pool) is k allowed (omega arith) (λ a.
-    let b = is_behind i.pools.workers worker None None a.stands in
+    let b = is_behind i.pools.workers worker a.row.pool a.row.callback a.row.persistent a.stands in
     subst (λ (p : Pools). After (record i { pools = p }) (changed (shown i).world (change.Attach worker pool)))
     (sym (now ∙ worker_changed i.pools worker b.row (λ _. idle_in pool) b.at_place b.from_one))
-    (free_after i worker b.row (idle_in pool) (record { pool = Some pool; callback = None }) k b.at_place (runs_nothing b.row.callback b.same_callback) refl a.home refl))
+    (free_after i worker b.row (idle_in pool) (record { pool = Some pool; callback = None; persistent = false }) k b.at_place (runs_nothing b.row.callback (b.same_callback ∙ a.idle)) refl a.home refl))
 
 pub detached : (i : Inside) (l : Live) (by : Idle) (pools : Pools) → shown i ≡ l → IsLiveWorld i → IsAllowed (l.made + 1) l.world (change.Detach by)
     → pools ≡ with_kept_worker by.worker (λ _. unattached_row) i.pools → Becomes (record i { pools = pools }) (moved l (change.Detach by))
 detached i l by pools is k allowed now =
     moved_by i (record i { pools = pools }) l (change.Detach by) is k allowed (omega arith) (λ a.
-    let b = is_behind i.pools.workers by.worker (Some by.pool) None a in
+    let b = is_behind i.pools.workers by.worker (Some by.pool) None by.persistent a.idles in
     subst (λ (p : Pools). After (record i { pools = p }) (changed (shown i).world (change.Detach by)))
     (sym (now ∙ worker_changed i.pools by.worker b.row (λ _. unattached_row) b.at_place b.from_one))
-    (free_after i by.worker b.row unattached_row (record { pool = None; callback = None }) k b.at_place (runs_nothing b.row.callback b.same_callback) refl tt refl))
+    (free_after i by.worker b.row unattached_row (record { pool = None; callback = None; persistent = false }) k b.at_place (runs_nothing b.row.callback b.same_callback) refl tt refl))
 
 -- ---- what a worker is asked for
 
 -- it idles
 pub idles_here : (i : Inside) (l : Live) (by : Idle) → shown i ≡ l → Idles l.world by → IsSomeAnd (worker_of by.worker i.pools) IsIdle
 idles_here i l by is idles =
-    let b = is_behind i.pools.workers by.worker (Some by.pool) None (subst (λ (x : Live). Idles x.world by) (sym is) idles) in
+    let b = is_behind i.pools.workers by.worker (Some by.pool) None by.persistent (subst (λ (x : Live). Idles x.world by) (sym is) idles) in
     let idle : IsIdle b.row = record { attached = ap is_some b.same_pool; nothing = runs_nothing b.row.callback b.same_callback } in
     subst (λ (o : Option kept.WorkerRow). IsSomeAnd o IsIdle) (sym (numbered_at i.pools.workers by.worker b.row b.from_one b.at_place)) idle
+
+-- it is attached to no pool
+pub away_here : (i : Inside) (l : Live) (worker : ℕ) (pool : PoolId) → shown i ≡ l → IsAllowed (l.made + 1) l.world (change.Attach worker pool) → IsSomeAnd (worker_of worker i.pools) (λ (w : kept.WorkerRow). w.pool ≡ None)
+away_here i l worker pool is allowed =
+    let a = subst (λ (x : Live). IsAllowed (x.made + 1) x.world (change.Attach worker pool)) (sym is) allowed in
+    let b = is_behind i.pools.workers worker a.row.pool a.row.callback a.row.persistent a.stands in
+    let away : b.row.pool ≡ None = b.same_pool ∙ a.away in
+    subst (λ (o : Option kept.WorkerRow). IsSomeAnd o (λ (w : kept.WorkerRow). w.pool ≡ None)) (sym (numbered_at i.pools.workers worker b.row b.from_one b.at_place)) away
 
 -- it runs a callback
 pub runs_here : (i : Inside) (l : Live) (by : Busy) → shown i ≡ l → Runs l.world by → IsSomeAnd (worker_of by.worker i.pools) (λ (w : kept.WorkerRow). 0 < w.callback)
 runs_here i l by is runs =
-    let b = is_behind i.pools.workers by.worker (Some by.pool) (Some by.callback.number) (subst (λ (x : Live). Runs x.world by) (sym is) runs).stands in
+    let b = is_behind i.pools.workers by.worker (Some by.pool) (Some by.callback.number) by.persistent (subst (λ (x : Live). Runs x.world by) (sym is) runs).stands in
     let busy : b.row.callback ≢ 0 = (runs_this b.row.callback by.callback.number b.same_callback).1 in
     let above : 0 < b.row.callback = omega (arith, busy) in
     subst (λ (o : Option kept.WorkerRow). IsSomeAnd o (λ (w : kept.WorkerRow). 0 < w.callback)) (sym (numbered_at i.pools.workers by.worker b.row b.from_one b.at_place)) above
@@ -318,7 +326,7 @@ comes i c callbacks k number live still room ec =
 pub goes_with : (c : CallbackRow) (long : Bool) (result : TakeResult) (status : Status) → (is_held_for (target.Object c.object) status ≡ true → is_tied c ≡ true) → (is_expected status ≡ true → is_expected c.status ≡ true) → (is_operating status ≡ true → is_operating c.status ≡ true)
     → MovesOn c (record c { long = long; result = result; status = status })
 goes_with c long result status outstanding expected operating =
-    record { number = refl; object = refl; pool = refl; group = refl; priority = refl; outstanding = outstanding; expected = expected; operating = operating }
+    record { number = refl; object = refl; pool = refl; group = refl; priority = refl; persistent = refl; outstanding = outstanding; expected = expected; operating = operating }
 
 -- the callback that is asked for is kept
 pub found_here : (i : Inside) (l : Live) (c : CallbackRow) → shown i ≡ l → callback_of l.world c.number ≡ Some c → find (has_number c.number) i.callbacks.rows ≡ Some c

@@ -1,17 +1,9 @@
 -- Objects of callbacks.
-use Rattle.std.proofs.Common.{◌≡◌, ◌-◌, ◌<◌, ◌≤◌, true, false, List, length, is_some, Some, refl, sym, ap, subst, arith, ⊎_elim, ℕ}
+use Rattle.std.proofs.Common.{◌-◌, ◌<◌, ◌≤◌, List, length, is_some, ap, arith, ⊎_elim}
 use Rattle.std.proofs.lemmas.Bool.{cases_eq}
-use Rattle.tp_base.specs.declared.ids.ObjectId.{ObjectId}
-use Rattle.tp_base.specs.declared.answers.TakeResult.{TakeResult}
 use Rattle.tp_base.specs.declared.rows.CallbackRow.{CallbackRow}
 use Rattle.tp_base.specs.declared.rows.ObjectRow.{ObjectRow}
-use Rattle.tp_model.specs.World.{World}
-use Rattle.tp_model.specs.Counts.{numbered}
-use Rattle.tp_model.specs.Conditions.{lacks_slots_for}
-use Rattle.tp_model.specs.Sources.{new_callback}
-use Rattle.tp_model.specs.Support.Allowed.{IsNewCallback}
-use Rattle.tp_model.specs.Support.Sound.{IsCallbackSound, IsSound, is_standing}
-use Rattle.tp_model.proofs.Lists.{all_get}
+use Rattle.tp_model.specs.Support.Sound.{IsCallbackSound}
 use Rattle.tp_model.proofs.Refusals.{made, numbered_some}
 
 -- the object of a callback was made, or is 0

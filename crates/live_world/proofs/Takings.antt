@@ -1,17 +1,14 @@
 -- The kernel objects, as they are made and changed and as waits for them end.
-use Rattle.std.proofs.Common.{◌≡◌, ℕ, ◌+◌, ◌<◌, ◌≤◌, ◌^◌, ◌-◌, true, List, length, Option, Some, None, IfSome, is_some, refl, sym, ap, subst, arith, length-set}
+use Rattle.std.proofs.Common.{◌≡◌, ◌+◌, ◌<◌, ◌≤◌, ◌^◌, ◌-◌, true, Option, Some, None, IfSome, is_some, refl, sym, ap, subst, arith}
 use Rattle.tp_base.specs.declared.ids.Who.{Who}
 use Rattle.tp_base.specs.declared.ids.KernelId.{KernelId}
 use Rattle.tp_base.specs.declared.plans.WaitEnd.{WaitEnd}
 use Rattle.tp_base.specs.declared.plans.WaitEnd.TheVariants.{Free, Exhausted, Stalled}
-use Rattle.tp_base.specs.declared.rows.KernelState.{KernelState}
 use Rattle.tp_base.specs.declared.rows.KernelRow.{KernelRow}
 use Rattle.tp_base.specs.declared.rows.WaitTarget.{WaitTarget}
 use Rattle.tp_base.specs.declared.rows.WaitTarget.TheVariants.{Object, Group, Kernel}
 use Rattle.tp_base.specs.Kernels.{may_take, takings_of}
 use Rattle.tp_model.specs.World.{World, BegunWait}
-use Rattle.tp_model.specs.Counts.{numbered}
-use Rattle.tp_model.specs.Kernels.{with_row, kernel_changed}
 use Rattle.tp_model.specs.Waits.{wait_of}
 use Rattle.tp_model.specs.Changes.{kernels_taken, kernels_left}
 use Rattle.tp_model.specs.Support.Allowed.{MayEnd, IsTakeable}

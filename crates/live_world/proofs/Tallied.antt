@@ -24,24 +24,26 @@ use Rattle.live_world.proofs.Lists.{none_more, length_same, one_if}
 
 -- ---- the row here behind a row of the world
 
-pub record IsBehind (workers : List kept.WorkerRow) (number : ℕ) (pool : Option PoolId) (callback : Option ℕ) : Type 0 where
+pub record IsBehind (workers : List kept.WorkerRow) (number : ℕ) (pool : Option PoolId) (callback : Option ℕ) (persistent : Bool) : Type 0 where
   pub row : kept.WorkerRow
   pub at_place : slice_get workers (number - 1) ≡ Some row
   pub from_one : 1 ≤ number
   pub same_pool : row.pool ≡ pool
   pub same_callback : cond (row.callback == 0) None (Some row.callback) ≡ callback
+  pub same_persistent : row.persistent ≡ persistent
 
-pub is_behind : (workers : List kept.WorkerRow) (number : ℕ) (pool : Option PoolId) (callback : Option ℕ) → numbered (map shown_worker workers) number ≡ Some (record { pool = pool; callback = callback }) → IsBehind workers number pool callback
-is_behind workers number pool callback is =
-    let shown : WorkerRow = record { pool = pool; callback = callback } in
+pub is_behind : (workers : List kept.WorkerRow) (number : ℕ) (pool : Option PoolId) (callback : Option ℕ) (persistent : Bool)
+    → numbered (map shown_worker workers) number ≡ Some (record { pool = pool; callback = callback; persistent = persistent }) → IsBehind workers number pool callback persistent
+is_behind workers number pool callback persistent is =
+    let shown : WorkerRow = record { pool = pool; callback = callback; persistent = persistent } in
     let place = numbered_some (map shown_worker workers) number shown is in
     at (slice_get workers (number - 1)) refl (sym (slice_get-map shown_worker workers (number - 1)) ∙ place.0) place.1
   where
-    at : (o : Option kept.WorkerRow) → slice_get workers (number - 1) ≡ o → option_map shown_worker (slice_get workers (number - 1)) ≡ Some (record { pool = pool; callback = callback }) → 1 ≤ number → IsBehind workers number pool callback
-    at None e shows from_one = let h : option_map shown_worker None ≡ Some (record { pool = pool; callback = callback }) = ap (option_map shown_worker) (sym e) ∙ shows in absurd cc
+    at : (o : Option kept.WorkerRow) → slice_get workers (number - 1) ≡ o → option_map shown_worker (slice_get workers (number - 1)) ≡ Some (record { pool = pool; callback = callback; persistent = persistent }) → 1 ≤ number → IsBehind workers number pool callback persistent
+    at None e shows from_one = let h : option_map shown_worker None ≡ Some (record { pool = pool; callback = callback; persistent = persistent }) = ap (option_map shown_worker) (sym e) ∙ shows in absurd cc
     at (Some row) e shows from_one =
-        let same : shown_worker row ≡ record { pool = pool; callback = callback } = some_same (shown_worker row) (record { pool = pool; callback = callback }) (ap (option_map shown_worker) (sym e) ∙ shows) in
-        record { row = row; at_place = e; from_one = from_one; same_pool = ap (λ (x : WorkerRow). x.pool) same; same_callback = ap (λ (x : WorkerRow). x.callback) same }
+        let same : shown_worker row ≡ record { pool = pool; callback = callback; persistent = persistent } = some_same (shown_worker row) (record { pool = pool; callback = callback; persistent = persistent }) (ap (option_map shown_worker) (sym e) ∙ shows) in
+        record { row = row; at_place = e; from_one = from_one; same_pool = ap (λ (x : WorkerRow). x.pool) same; same_callback = ap (λ (x : WorkerRow). x.callback) same; same_persistent = ap (λ (x : WorkerRow). x.persistent) same }
       where
         some_same : (x y : WorkerRow) → Some x ≡ Some y → x ≡ y
         some_same x y h = cc

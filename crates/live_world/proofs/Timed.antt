@@ -1,15 +1,12 @@
 -- What may be set, after an object is made and after one is released.
-use Rattle.std.proofs.Common.{◌≡◌, ◌≢◌, ℕ, zero, suc, ◌+◌, ◌-◌, ◌<◌, ◌≤◌, Bool, true, false, cond, not, ◌&&◌, ◌==◌, List, [], ◌∷◌, ◌++◌, length, set, get_or, slice_get, slice_set, Option, Some, None, refl, sym, ap, ap₂, ◌∙◌, arith, eqb-true, ne_eqb, eq-eqb, length-set}
+use Rattle.std.proofs.Common.{◌≡◌, ◌≢◌, ℕ, zero, suc, ◌+◌, ◌-◌, ◌<◌, ◌≤◌, Bool, true, false, cond, not, ◌&&◌, ◌==◌, List, [], ◌∷◌, ◌++◌, length, set, get_or, slice_get, slice_set, Option, Some, None, refl, sym, ap, ◌∙◌, arith, eqb-true, ne_eqb, eq-eqb, length-set}
 use Rattle.std.specs.Option.{option_map_or}
 use Rattle.std.proofs.lemmas.List.{get_or-set_same, get_or-set_other}
 use Rattle.tp_base.specs.declared.limits.Limits.{Limits}
 use Rattle.tp_base.specs.declared.ids.ObjectId.{ObjectId}
-use Rattle.tp_base.specs.declared.calls.Kind.{Kind}
 use Rattle.tp_base.specs.declared.rows.ObjectRow.{ObjectRow}
 use Rattle.object_rows.specs.Objects.{is_timed_kind}
 use Rattle.sources.specs.Rows.{SourceRows, is_there, without_object}
-use Rattle.tp_model.specs.World.{World}
-use Rattle.tp_model.specs.Support.Allowed.{IsObjectOf}
 use Rattle.tp_model.proofs.Lists.{get_set_other}
 use Rattle.tp_model.proofs.Refusals.{false_true}
 use Rattle.live_world.specs.Parts.{is_timed}

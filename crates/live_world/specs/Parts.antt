@@ -1,6 +1,6 @@
 -- The world that the parts of an engine show.
-use Rattle.std.specs.Prelude.{ℕ, Option, ◌==◌, ◌&&◌, Bool, false, not, List, [], map, if◌then◌else◌, None, Some}
-use Rattle.std.specs.List.{filter, find}
+use Rattle.std.specs.Prelude.{ℕ, ◌==◌, ◌&&◌, Bool, false, not, List, map, if◌then◌else◌, None, Some}
+use Rattle.std.specs.List.{find}
 use Rattle.std.specs.Option.{option_map_or}
 use Rattle.tp_base.specs.declared.rows.WaitTarget.{WaitTarget}
 use Rattle.tp_base.specs.declared.limits.Limits.{Limits}
@@ -19,7 +19,7 @@ use Rattle.tp_model.specs.Waits.{is_outstanding_for}
 
 -- callback 0 stands for none
 abbrev pub shown_worker : kept.WorkerRow → WorkerRow
-shown_worker r = record { pool = r.pool; callback = if r.callback == 0 then None else Some r.callback }
+shown_worker r = record { pool = r.pool; callback = if r.callback == 0 then None else Some r.callback; persistent = r.persistent }
 
 abbrev pub world_of : Limits → Pools → ObjectTable → List CallbackRow → Sources → List ClientRow → List BegunWait → ℕ → World
 world_of limits pools rows callbacks sources clients waits given_up = record {

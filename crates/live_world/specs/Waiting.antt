@@ -1,5 +1,5 @@
 -- What is outstanding for an object, and how far a wait has come.
-use Rattle.std.specs.Prelude.{ℕ, Bool, not, ◌&&◌, ◌||◌, ◌==◌, List, [], ◌∷◌, if◌then◌else◌, Option, None, Some}
+use Rattle.std.specs.Prelude.{ℕ, Bool, ◌&&◌, ◌==◌, List, [], ◌∷◌, if◌then◌else◌, Option, None, Some}
 use Rattle.std.specs.List.{filter}
 use Rattle.std.specs.Option.{option_map_or}
 use Rattle.tp_base.specs.declared.ids.Who.{Who}
@@ -13,7 +13,6 @@ use Rattle.tp_model.specs.Counts.{is_pending}
 use Rattle.tp_model.specs.Waits.{wait_of, held}
 use Rattle.tp_model.specs.Sources.{object_row}
 use Rattle.tp_model.specs.Calls.Waits.{holds_starved}
-use Rattle.live_world.specs.Invariant.{is_running_callback}
 use Rattle.live_world.specs.declared.waits.Progress.{Progress}
 use Rattle.live_world.specs.declared.waits.Progress.TheVariants.{NotBegun, Free, Notifies, Starved, Holds, Acquires}
 

@@ -45,6 +45,7 @@ impl LiveWorld {
                 } else {
                     Some(worker.callback)
                 },
+                persistent: worker.persistent,
             }),
         }
     }

@@ -31,6 +31,7 @@ pub fn new_callback(number: u64, object: ObjectId, row: &ObjectRow, told: TakeRe
         group: row.env.group,
         priority: row.env.priority,
         long: row.env.long,
+        persistent: row.env.persistent,
         result: told,
         status: Status::Pending,
     }

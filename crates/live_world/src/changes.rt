@@ -13,8 +13,8 @@ use tp_base::plans::Change;
 impl LiveWorld {
     /// Makes a change that the world allows. It takes no memory.
     ///
-    /// `steps` counts the nodes that a take reads: two at most, however many callbacks there are. Of any
-    /// other change it counts none.
+    /// `steps` counts the nodes that a take reads: two at most, however many callbacks there are. What it counts of
+    /// another change is not said.
     pub fn apply(&mut self, change: &Change, steps: &mut Steps)
         requires allowed { IsAllowed (self.old.made + 1) self.old.world change.now }
         requires young { self.old.made + 65536 ≤ 2 ^ 63 }

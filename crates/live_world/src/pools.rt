@@ -1,15 +1,22 @@
 //! Pools: what is counted of each; a pool is made or changed, and a worker joins one or leaves it.
 
-ghost use Rattle.std.specs.Prelude.{◌≡◌, ◌+◌, length, slice_get};
+ghost use Rattle.std.specs.Prelude.{◌≡◌, ◌+◌, ◌≤◌, ◌||◌, ◌==◌, false, filter, length, not, slice_get, true};
+ghost use Rattle.std.specs.List.{list_any};
+ghost use Rattle.std.specs.Option.{option_copied};
+ghost use Rattle.live_callbacks.specs.Callbacks.{is_open, is_waiting_persistent};
+ghost use Rattle.tp_model.specs.Counts.{has_persistent, next as next_of, takeable as takeable_of};
+ghost use Rattle.tp_model.specs.Stalled.{is_free};
 ghost use Rattle.tp_model.specs.Support.Allowed.{IsAllowed};
 ghost use Rattle.live_world.specs.Live.{moved};
 ghost use Rattle.live_world.specs.Tally.{tally_shown as tally_shown_of};
 
 use crate::LiveWorld;
+use live_callbacks::LiveCallbacks;
 use pool_rows::Counts;
+use steps::Steps;
 use tp_base::ids::PoolId;
 use tp_base::plans::{Change, Idle, PoolChange};
-use tp_base::rows::PoolRow;
+use tp_base::rows::{CallbackRow, PoolRow};
 
 /// What is counted of a pool.
 #[derive(Clone, Copy)]
@@ -19,36 +26,57 @@ pub struct Tally {
     /// How many of its callbacks may run at once.
     pub maximum: u32,
     pub pending: u32,
+    /// How many of those that are pending a further worker could take.
+    pub takeable: u32,
     pub running: u32,
     pub attached: u32,
     /// The attached workers that run nothing.
     pub idle: u32,
     /// The attached workers that don't run a callback with the long mark.
     pub available: u32,
+    /// Its persistent worker runs a callback.
+    pub occupied: bool,
 }
 
 const NOT_MADE: Tally = Tally {
     minimum: 0,
     maximum: 0,
     pending: 0,
+    takeable: 0,
     running: 0,
     attached: 0,
     idle: 0,
     available: 0,
+    occupied: false,
 };
 
-// What is counted of a pool that was made, where so many callbacks wait.
-fn tally_shown(waiting: u32, counts: Counts) -> Tally
-    ensures { result ≡ tally_shown_of waiting counts }
+// What is counted of a pool that was made, where so many callbacks wait, and so many of them for any worker.
+fn tally_shown(waiting: u32, takeable: u32, counts: Counts) -> Tally
+    ensures { result ≡ tally_shown_of waiting takeable counts }
 {
     Tally {
         minimum: if counts.closed { 0 } else { counts.minimum },
         maximum: counts.maximum,
         pending: waiting,
+        takeable,
         running: counts.running,
         attached: counts.attached,
         idle: counts.attached.saturating_sub(counts.running),
         available: counts.attached.saturating_sub(counts.long),
+        occupied: 0 < counts.occupied,
+    }
+}
+
+// How many of so many pending callbacks of a pool a further worker could take: all, unless the pool has a
+// persistent worker.
+fn open_to_others(callbacks: &LiveCallbacks, pool: PoolId, pending: u32, counts: Counts) -> u32
+    requires { pending ≡ length (filter (is_open pool.0 true) callbacks.now.rows) }
+    ensures { result ≡ length (filter (is_open pool.0 (counts.persistent == 0)) callbacks.now.rows) }
+{
+    if counts.persistent == 0 {
+        pending
+    } else {
+        callbacks.takeable(pool, false)
     }
 }
 
@@ -61,8 +89,57 @@ impl LiveWorld {
     {
         match self.pools.counts(pool) {
             None => NOT_MADE,
-            Some(counts) => tally_shown(self.callbacks.pending(pool), counts),
+            Some(counts) => {
+                let waiting = self.callbacks.pending(pool);
+                let takeable = open_to_others(&self.callbacks, pool, waiting, counts);
+                tally_shown(waiting, takeable, counts)
+            }
         }
+    }
+
+    // Whether a worker of the pool takes what is persistent: it is the pool's persistent worker, or the pool has
+    // none.
+    #[inline(always)]
+    fn takes_all(&self, pool: PoolId, persistent: bool) -> bool
+        ensures { result ≡ (persistent || not (has_persistent self.now.world pool.0)) }
+    {
+        if persistent {
+            return true;
+        }
+        match self.pools.counts(pool) {
+            None => true,
+            Some(counts) => counts.persistent == 0,
+        }
+    }
+
+    /// How many pending callbacks of a pool a worker of it may take, who is its persistent worker or isn't.
+    pub fn takeable(&self, pool: PoolId, persistent: bool) -> u32
+        ensures { result ≡ takeable_of self.now.world pool.0 persistent }
+    {
+        self.callbacks
+            .takeable(pool, self.takes_all(pool, persistent))
+    }
+
+    /// The callback that a worker of the pool takes next, who is its persistent worker or isn't, if it may take
+    /// one. `steps` counts the nodes that are read to find it: two at most, and one where none is persistent that
+    /// is pending.
+    #[inline(always)]
+    pub fn next(&self, pool: PoolId, persistent: bool, steps: &mut Steps) -> Option<&CallbackRow>
+        ensures value { option_copied result ≡ next_of self.now.world pool.0 persistent }
+        ensures counted { steps.old ≤ steps.new }
+        ensures bound { steps.new ≤ steps.old + 2 }
+        ensures fewer { list_any is_waiting_persistent self.now.world.callbacks ≡ false → steps.new ≤ steps.old + 1 }
+    {
+        self.callbacks
+            .next(pool, self.takes_all(pool, persistent), steps)
+    }
+
+    /// Whether a worker is free: it runs nothing, and isn't the persistent worker of a pool that is open. Walks the
+    /// pools.
+    pub fn is_any_free(&self) -> bool
+        ensures { result ≡ list_any (is_free self.now.world) self.now.world.workers }
+    {
+        self.pools.is_any_free()
     }
 
     /// How many pools were made, the default pool among them, which is also the number that the

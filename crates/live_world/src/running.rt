@@ -88,7 +88,12 @@ impl LiveWorld {
             ..callback
         };
         self.callbacks.change(&callback, running, steps);
-        self.pools.take(by.worker, callback.number, callback.long);
+        self.pools.take(
+            by.worker,
+            callback.number,
+            callback.long,
+            callback.persistent,
+        );
     }
 
     // Notes what a running callback says of itself.

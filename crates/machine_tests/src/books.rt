@@ -28,6 +28,7 @@ fn create() -> Call
             cancel: RoutineId(0),
             priority: Priority::Normal,
             long: false,
+            persistent: false,
         },
     }
 }

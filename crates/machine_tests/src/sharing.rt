@@ -312,6 +312,7 @@ fn close_two<B: Recorded, Rt: Wait>(
         cancel: RoutineId(9),
         priority: Priority::Normal,
         long: false,
+        persistent: false,
     };
     pool.create_group(&mut seat);
     pool.create_work(&mut seat, RoutineId(1), 5, env);
@@ -486,6 +487,7 @@ fn try_by_name<B: Recorded>(rt: &impl Abort, pool: &SharedPool<B>, client: Seat<
         cancel: RoutineId(0),
         priority: Priority::Normal,
         long: false,
+        persistent: false,
     };
     expect_answer(
         rt,

@@ -32,6 +32,7 @@ fn submit() -> Call
             cancel: RoutineId(0),
             priority: Priority::Normal,
             long: false,
+            persistent: false,
         },
     }
 }
@@ -53,10 +54,10 @@ fn check_step(
     expect_eq(rt, told, Outcome::Done(wanted));
 }
 
-// What the take of worker 1 comes to. However many callbacks are pending, its steps are three at most.
+// What the take of worker 1 comes to. However many callbacks are pending, its steps are four at most.
 fn counted_take(engine: &mut Engine, change: &mut Change, steps: &mut Steps) -> Outcome
     requires { engine.old.age < 2 ^ 47 }
-    ensures { steps.new ≤ steps.old + 3 }
+    ensures { steps.new ≤ steps.old + 4 }
 {
     let mut told = Outcome::Look(Look::Stay);
     engine.step_counted(Who::Worker(1), &Call::Take, ROOM, &mut told, change, steps);

@@ -84,7 +84,7 @@ fn alternatives(field: &str) -> &str {
         "KIND" => "work|timer|wait|io",
         "HOW" => "keep|cancel",
         "PRIORITY" => "high|normal|low",
-        "LENGTH" => "short|long",
+        "LENGTH" => "short|long|persistent|persistent-long",
         "RESET" => "manual|auto",
         "SIGNAL" => "set|clear",
         "LOCK" => "mutex|section",

@@ -10,6 +10,7 @@ fn setters_set_their_own_fields(rt: HostRuntime) {
     env.set_cleanup_group(GroupId(3), Some(RoutineId(4)));
     env.set_priority(Priority::High);
     env.set_runs_long();
+    env.set_persistent();
     expect_eq(
         &rt,
         env.plain(),
@@ -19,6 +20,7 @@ fn setters_set_their_own_fields(rt: HostRuntime) {
             cancel: RoutineId(4),
             priority: Priority::High,
             long: true,
+            persistent: true,
         },
     );
 }

@@ -23,8 +23,8 @@ c1 close-group 7 -> refused has-members 12
 c1 close-members 12 cancel y18446744073709551615 -> closing 1 2 3
 c1 create work r1 x18446744073709551615 p3 high long g65535 q9 -> made 1
 c1 create timer r2 x7 p0 normal short g0 q0 -> refused no-such
-c1 create wait r2 x7 p2 low short g0 q0 -> refused group-closed
-c1 submit-simple r65535 x0 p0 high long g1 q0 -> refused callback-limit
+c1 create wait r2 x7 p2 low persistent g0 q0 -> refused group-closed
+c1 submit-simple r65535 x0 p0 high persistent-long g1 q0 -> refused callback-limit
 c1 submit 12 -> queued 4 1
 c1 close io 3 -> refused operations-outstanding 3
 c1 close wait 3 -> later

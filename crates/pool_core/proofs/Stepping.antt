@@ -73,7 +73,7 @@ take_callback_takes w by (Some c) = full (nat_le (maximum w by.pool.0) (running 
 
 take_takes : (w : World) (by : Option Idle) → does_take (take w by) ≡ true
 take_takes w None = refl
-take_takes w (Some by) = take_callback_takes w by (next w by.pool.0)
+take_takes w (Some by) = take_callback_takes w by (next w by.pool.0 by.persistent)
 
 take_plan_takes : (w : World) (who : Who) → does_take (take_plan w who) ≡ true
 unfolding take_plan

@@ -1,9 +1,11 @@
 //! Each call in a function of its own: what is decided of it is settled where it is decided, so that a call keeps only
 //! what it needs itself.
 
-ghost use Rattle.std.specs.Prelude.{◌≡◌, ◌+◌, ◌^◌, ◌<◌, ◌≤◌};
+ghost use Rattle.std.specs.Prelude.{◌≡◌, ◌+◌, ◌^◌, ◌<◌, ◌≤◌, ◌&&◌, false};
+ghost use Rattle.std.specs.List.{list_any};
 ghost use Rattle.pool_core.specs.Made.{IsMade};
 ghost use Rattle.tp_base.specs.Ranges.{IsCallInRange};
+ghost use Rattle.tp_model.specs.Counts.{is_pending};
 
 use crate::Engine;
 use pool_plans::{
@@ -36,8 +38,9 @@ macro_rules! settled {
 }
 
 impl Engine {
-    /// As `step_into`, and counts the nodes that a Take reads of the lists of callbacks: three at most, however many
-    /// callbacks are pending. Of any other call it counts none.
+    /// As `step_into`, and counts the nodes that a Take reads of the lists of callbacks, however many callbacks are
+    /// pending: four at most, and three where none is persistent that is pending. What it counts of
+    /// another call is not said.
     #[inline(always)]
     pub fn step_counted(
         &mut self,
@@ -52,7 +55,8 @@ impl Engine {
         requires young { self.old.age < 2 ^ 47 }
         ensures made { IsMade self.old self.new room who call.now outcome.new }
         ensures counted { steps.old ≤ steps.new }
-        ensures bound { call.now ≡ Call.Take → steps.new ≤ steps.old + 3 }
+        ensures bound { call.now ≡ Call.Take → steps.new ≤ steps.old + 4 }
+        ensures fewer { call.now ≡ Call.Take → list_any (λ c. is_pending c.status && c.persistent) self.old.world.callbacks ≡ false → steps.new ≤ steps.old + 3 }
     {
         one_of!(self, who, call, room, outcome, change, steps:
             CreatePool => create_pool;
@@ -604,7 +608,8 @@ impl Engine {
         requires young { self.old.age < 2 ^ 47 }
         ensures made { IsMade self.old self.new room who Call.Take outcome.new }
         ensures counted { steps.old ≤ steps.new }
-        ensures bound { steps.new ≤ steps.old + 3 }
+        ensures bound { steps.new ≤ steps.old + 4 }
+        ensures fewer { list_any (λ c. is_pending c.status && c.persistent) self.old.world.callbacks ≡ false → steps.new ≤ steps.old + 3 }
     {
         let decision = workers::take(self.world(), who, change, outcome, steps);
         self.settle(who, Call::Take, decision, change, room, outcome, steps);

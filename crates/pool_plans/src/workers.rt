@@ -2,9 +2,9 @@
 //! leave.
 
 ghost use Rattle.pool_plans.specs.Decided.{decided};
-ghost use Rattle.std.specs.Prelude.{◌≡◌, ◌+◌, ◌^◌, ◌<◌, ◌≤◌, Some};
-ghost use Rattle.std.specs.Option.{option_copied};
-ghost use Rattle.tp_model.specs.Counts.{next as next_of};
+ghost use Rattle.std.specs.Prelude.{◌≡◌, ◌+◌, ◌^◌, ◌<◌, ◌≤◌, Some, false};
+ghost use Rattle.std.specs.List.{list_any};
+ghost use Rattle.live_callbacks.specs.Callbacks.{is_waiting_persistent};
 ghost use Rattle.tp_model.specs.Refusing.{first_refusal};
 ghost use Rattle.tp_model.specs.Calls.Workers.{idle_refusals, attach_plan, detach_plan, take_plan, return_plan};
 
@@ -17,7 +17,6 @@ use steps::Steps;
 use tp_base::answers::{Answer, Look, Outcome, Refusal};
 use tp_base::ids::{PoolId, Who};
 use tp_base::plans::{Busy, Change};
-use tp_base::rows::CallbackRow;
 
 /// A worker joins a pool that needs one.
 #[tactic(auto, unfolding(tp_model::specs::Calls::Workers::attach_plan))]
@@ -74,14 +73,14 @@ pub fn detach(world: &LiveWorld, who: Who, change: &mut Change, outcome: &mut Ou
     let Some(by) = idle(world, who) else {
         return Decision::Refused(Refusal::NotAttached);
     };
-    if !may_leave(world, by.pool) {
+    if !may_leave(world, &by) {
         return Decision::Looked(Look::Stay);
     }
     accept(change, outcome, Answer::Done, Change::Detach(by))
 }
 
-/// A worker begins the next callback of its pool. `steps` counts the nodes that are read to find that: one at
-/// most.
+/// A worker begins the next callback of its pool that it may take. `steps` counts the nodes that are read to find
+/// that: two at most, and one where none is persistent that is pending.
 #[tactic(auto, unfolding(tp_model::specs::Calls::Workers::take_plan))]
 pub fn take(
     world: &LiveWorld,
@@ -92,7 +91,8 @@ pub fn take(
 ) -> Decision
     ensures plan { decided result outcome.new change.new ≡ Some (take_plan world.now.world who) }
     ensures counted { steps.old ≤ steps.new }
-    ensures bound { steps.new ≤ steps.old + 1 }
+    ensures bound { steps.new ≤ steps.old + 2 }
+    ensures fewer { list_any is_waiting_persistent world.now.world.callbacks ≡ false → steps.new ≤ steps.old + 1 }
 {
     if let Some(refusal) = idle_refusal(world, who) {
         return Decision::Refused(refusal);
@@ -100,7 +100,7 @@ pub fn take(
     let Some(by) = idle(world, who) else {
         return Decision::Refused(Refusal::NotAttached);
     };
-    let Some(callback) = next(world, by.pool, steps) else {
+    let Some(callback) = world.next(by.pool, by.persistent, steps) else {
         return Decision::Looked(Look::Empty);
     };
     let tally = world.tally(by.pool);
@@ -124,15 +124,6 @@ pub fn take(
             callback: *callback,
         },
     )
-}
-
-// The callback of a pool that is taken next, if one is pending.
-fn next<'a>(world: &'a LiveWorld, pool: PoolId, steps: &mut Steps) -> Option<&'a CallbackRow>
-    ensures value { option_copied result ≡ next_of world.now.world pool.0 }
-    ensures counted { steps.old ≤ steps.new }
-    ensures bound { steps.new ≤ steps.old + 1 }
-{
-    world.callbacks().next(pool, steps)
 }
 
 /// A worker's callback returns, and its actions are performed. Each armed wait that takes what they
@@ -180,6 +171,7 @@ pub fn return_callback(
                 worker: by.worker,
                 pool: by.pool,
                 callback: *by.callback,
+                persistent: by.persistent,
             },
             words,
             first,

@@ -4,7 +4,7 @@ use Rattle.std.specs.Prelude.{filter}
 use Rattle.std.specs.Int.{from_bool}
 
 -- an element that passes makes a list longer by one
-length-kept : {X : Type 0} (b : Bool) (x : X) (xs : List X) → length (cond b (x ∷ xs) xs) ≡ from_bool b + length xs
+pub length-kept : {X : Type 0} (b : Bool) (x : X) (xs : List X) → length (cond b (x ∷ xs) xs) ≡ from_bool b + length xs
 length-kept true x xs = omega arith
 length-kept false x xs = omega arith
 

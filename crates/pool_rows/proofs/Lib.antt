@@ -1,3 +1,4 @@
 mod Counting
 mod Entries
+mod Free
 mod Turns

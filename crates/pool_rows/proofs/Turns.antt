@@ -9,7 +9,7 @@ use Rattle.std.proofs.lemmas.List.{length-map, length-set}
 use Rattle.tp_base.specs.declared.ids.PoolId.{PoolId}
 use Rattle.pool_rows.specs.declared.WorkerRow.{WorkerRow}
 use Rattle.pool_rows.specs.declared.tallies.PoolEntry.{PoolEntry}
-use Rattle.pool_rows.specs.Workers.{is_attached_to, runs, runs_in, runs_long_in, unattached}
+use Rattle.pool_rows.specs.Workers.{is_attached_to, is_occupied_in, is_persistent_in, runs, runs_in, runs_long_in, unattached}
 use Rattle.pool_rows.specs.Tallies.{AreTallied, FitsTally, IsWithinTally, no_workers, tally_at, tally_of, with_one}
 use Rattle.pool_rows.proofs.Counting.{length-filter_le, length-filter_one, length-filter_set}
 use Rattle.pool_rows.proofs.Entries.{tally_at_past}
@@ -52,6 +52,8 @@ module _ (es : List PoolEntry) (ws : List WorkerRow) (tallied : AreTallied es ws
     attached = omega (arith, counts (is_attached_to p));
     running = omega (arith, counts (runs_in p));
     long = omega (arith, counts (runs_long_in p));
+    persistent = omega (arith, counts (is_persistent_in p));
+    occupied = omega (arith, counts (is_occupied_in p));
   })
 
   module _ (new : WorkerRow) (without : List PoolEntry) (left : (p : ℕ) → tally_at es p ≡ with_one p old (tally_at without p)) where
@@ -65,6 +67,10 @@ module _ (es : List PoolEntry) (ws : List WorkerRow) (tallied : AreTallied es ws
         omega (arith, ap (λ t. t.running) before, changes (runs_in p) new) in
         let long : (tally_at without p).long + from_bool (runs_long_in p new) ≡ length (filter (runs_long_in p) (set ws i new)) =
         omega (arith, ap (λ t. t.long) before, changes (runs_long_in p) new) in
+        let persistent : (tally_at without p).persistent + from_bool (is_persistent_in p new) ≡ length (filter (is_persistent_in p) (set ws i new)) =
+        omega (arith, ap (λ t. t.persistent) before, changes (is_persistent_in p) new) in
+        let occupied : (tally_at without p).occupied + from_bool (is_occupied_in p new) ≡ length (filter (is_occupied_in p) (set ws i new)) =
+        omega (arith, ap (λ t. t.occupied) before, changes (is_occupied_in p) new) in
         cc
 
     pub fits : length ws < 2 ^ 32 → (p : ℕ) → FitsTally (with_one p new (tally_at without p))
@@ -72,6 +78,8 @@ module _ (es : List PoolEntry) (ws : List WorkerRow) (tallied : AreTallied es ws
       attached = omega (arith, length-filter_le (is_attached_to p) (set ws i new), length-set ws i new);
       running = omega (arith, length-filter_le (runs_in p) (set ws i new), length-set ws i new);
       long = omega (arith, length-filter_le (runs_long_in p) (set ws i new), length-set ws i new);
+      persistent = omega (arith, length-filter_le (is_persistent_in p) (set ws i new), length-set ws i new);
+      occupied = omega (arith, length-filter_le (is_occupied_in p) (set ws i new), length-set ws i new);
     })
 
     pub retallied : (after : List PoolEntry) → ((p : ℕ) → tally_at after p ≡ with_one p new (tally_at without p)) → (p : ℕ) → tally_at after p ≡ tally_of p (set ws i new)
@@ -91,6 +99,16 @@ none_at_first test fails (suc n) = rw fails (none_at_first test fails n)
 pub busy_at_first : (n : ℕ) → 0 ≡ length (filter runs (replicate n unattached))
 busy_at_first n = sym (none_at_first runs refl n)
 
+none_of : (p n : ℕ) → tally_of p (replicate n unattached) ≡ no_workers
+none_of p n =
+    rw (
+      none_at_first (is_attached_to p) refl n,
+      none_at_first (runs_in p) refl n,
+      none_at_first (runs_long_in p) refl n,
+      none_at_first (is_persistent_in p) refl n,
+      none_at_first (is_occupied_in p) refl n,
+    )
+
 pub tallied_at_first : (e : PoolEntry) → e.tally ≡ no_workers → (n : ℕ) → AreTallied (e ∷ []) (replicate n unattached)
-tallied_at_first e none n zero = rw (none_at_first (is_attached_to 0) refl n, none_at_first (runs_in 0) refl n, none_at_first (runs_long_in 0) refl n) none
-tallied_at_first e none n (suc p) = rw (none_at_first (is_attached_to (suc p)) refl n, none_at_first (runs_in (suc p)) refl n, none_at_first (runs_long_in (suc p)) refl n)
+tallied_at_first e none n zero = none ∙ sym (none_of zero n)
+tallied_at_first e none n (suc p) = sym (none_of (suc p) n)

@@ -2,3 +2,4 @@ pub mod Workers
 pub mod Pools
 pub mod Tallies
 pub mod Tallied
+pub mod Free

@@ -4,7 +4,7 @@ use Rattle.std.specs.Option.{option_map, option_map_or}
 use Rattle.tp_base.specs.declared.rows.PoolRow.{PoolRow}
 use Rattle.pool_rows.specs.declared.Counts.{Counts}
 use Rattle.pool_rows.specs.declared.WorkerRow.{WorkerRow}
-use Rattle.pool_rows.specs.Workers.{is_attached_to, runs_in, runs_long_in}
+use Rattle.pool_rows.specs.Workers.{is_attached_to, is_occupied_in, is_persistent_in, runs_in, runs_long_in}
 
 -- how many pools may be made; pool p at place p; worker n at place n - 1
 pub record Pools : Type 0 where
@@ -29,6 +29,8 @@ counts_of pool rows = option_map (λ (row : PoolRow). record {
   running = length (filter (runs_in pool) rows.workers);
   attached = length (filter (is_attached_to pool) rows.workers);
   long = length (filter (runs_long_in pool) rows.workers);
+  persistent = length (filter (is_persistent_in pool) rows.workers);
+  occupied = length (filter (is_occupied_in pool) rows.workers);
 }) (slice_get rows.pools pool)
 
 -- the row of this pool is changed by f, and nothing else

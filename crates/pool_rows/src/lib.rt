@@ -5,8 +5,10 @@
 //! one callback or nothing. `attach`, `take`, `mark_long`, `give_back` (its callback returns) and
 //! `detach` are the turns of a worker's life, in that order; `create`, `close`, `set_maximum` and
 //! `set_minimum` are a pool's. `counts` answers what a pool allows, and how many workers are attached
-//! to it and at work in it, and `busy` how many workers run a callback in any.
-//! After `attach(2, pool)` and `take(2, 9, true)` worker 2 runs callback 9, and the pool's counts
+//! to it and at work in it, `busy` how many workers run a callback in any, and `is_any_free` whether a
+//! worker could join another pool. A worker that takes a persistent callback is its pool's persistent
+//! worker from then on, until it detaches: it has a mark, as it has that of a long callback.
+//! After `attach(2, pool)` and `take(2, 9, true, false)` worker 2 runs callback 9, and the pool's counts
 //! have one more `attached`, `running` and `long`.
 //!
 //! `open` takes all the memory. The counts are kept as the workers change, so that no call goes over
@@ -16,7 +18,7 @@
 //! let mut rows = PoolRows::open(alloc, 4, 2)?;    // at most four pools, and two workers
 //! rows.create()                                   // Ok(PoolId(1))
 //! rows.attach(2, PoolId(1));
-//! rows.take(2, 9, true);                          // worker 2 runs callback 9, which is long
+//! rows.take(2, 9, true, false);                   // worker 2 runs callback 9, which is long
 //! rows.counts(PoolId(1))                          // Some: attached 1, running 1, long 1
 //! ```
 
@@ -24,7 +26,9 @@
 
 ghost use Rattle.std.specs.Prelude.{false, true, ◌≡◌, ◌+◌, ◌<◌, ◌≤◌, ◌++◌, ◌∷◌, [], ◌↔◌, IfOk, IfErr, IfSome, IsErr, IsSome, IsSomeAnd, None, OnErr, OnOk, filter, length, replicate};
 ghost use Rattle.pool_rows.specs.Pools.{IsMade, counts_of, made_pool, with_maximum, with_minimum, with_pool, with_worker, worker_of};
-ghost use Rattle.pool_rows.specs.Workers.{IsIdle, idle_in, runs, unattached};
+ghost use Rattle.std.specs.List.{list_any};
+ghost use Rattle.pool_rows.specs.Free.{is_free};
+ghost use Rattle.pool_rows.specs.Workers.{IsIdle, after_take, idle_in, runs, unattached};
 
 use std::alloc::{AllocError, Global};
 use std::marker::Model;
@@ -34,7 +38,7 @@ use tp_base::rows::PoolRow;
 
 mod tallies;
 
-use tallies::{PoolEntry, write_worker};
+use tallies::{PoolEntry, any_free, write_worker};
 
 /// What a pool allows, and how many workers it has.
 #[derive(Clone, Copy, Debug, PartialEq)]
@@ -48,6 +52,10 @@ pub struct Counts {
     pub attached: u32,
     /// The workers that run a callback with the long mark.
     pub long: u32,
+    /// The attached workers with the mark of a persistent worker.
+    pub persistent: u32,
+    /// Of these, those that run a callback.
+    pub occupied: u32,
 }
 
 /// A worker thread.
@@ -59,6 +67,8 @@ pub struct WorkerRow {
     pub callback: u64,
     /// Its callback is expected to run long.
     pub long: bool,
+    /// It took a persistent callback of its pool, and so takes those that come.
+    pub persistent: bool,
 }
 
 /// The pools that were made, and all workers.
@@ -88,6 +98,7 @@ const UNATTACHED: WorkerRow = WorkerRow {
     pool: None,
     callback: 0,
     long: false,
+    persistent: false,
 };
 
 impl PoolRows {
@@ -176,6 +187,14 @@ impl PoolRows {
         self.busy
     }
 
+    /// Whether a worker is free: it runs nothing, and isn't the persistent worker of a pool that is open.
+    /// Goes over the pools.
+    pub fn is_any_free(&self) -> bool
+        ensures { result ≡ list_any (is_free self.now.pools) self.now.workers }
+    {
+        any_free(&self.pools, &self.workers, self.busy)
+    }
+
     /// Closes the pool: `CloseThreadpool`. What it allows stays as it was.
     pub fn close(&mut self, pool: PoolId)
         requires { IsMade pool.0 self.old }
@@ -221,6 +240,7 @@ impl PoolRows {
                 pool: Some(pool),
                 callback: 0,
                 long: false,
+                persistent: false,
             },
         );
     }
@@ -233,12 +253,12 @@ impl PoolRows {
         self.put(number, UNATTACHED);
     }
 
-    /// Lets a worker that is attached and runs nothing run this callback, which has a number above 0.
-    pub fn take(&mut self, number: u32, callback: u64, long: bool)
+    /// Lets a worker that is attached and runs nothing run this callback, which has a number above 0. From a
+    /// persistent callback on it has the mark.
+    pub fn take(&mut self, number: u32, callback: u64, long: bool, persistent: bool)
         requires idle { IsSomeAnd (worker_of number self.old) IsIdle }
         requires a_callback { 0 < callback }
-        ensures { self.new
-            ≡ with_worker number (λ worker. record worker { callback = callback; long = long }) self.old }
+        ensures { self.new ≡ with_worker number (after_take callback long persistent) self.old }
     {
         let worker = self.worker(number).unwrap();
         self.put(
@@ -246,6 +266,7 @@ impl PoolRows {
             WorkerRow {
                 callback,
                 long,
+                persistent: worker.persistent || persistent,
                 ..worker
             },
         );
@@ -266,7 +287,8 @@ impl PoolRows {
         );
     }
 
-    /// Ends the callback of a worker that runs one. The worker stays attached and runs nothing.
+    /// Ends the callback of a worker that runs one. The worker stays attached and runs nothing, and keeps the mark
+    /// of a persistent worker.
     pub fn give_back(&mut self, number: u32)
         requires { IsSomeAnd (worker_of number self.old) (λ worker. 0 < worker.callback) }
         ensures { self.new

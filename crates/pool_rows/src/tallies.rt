@@ -1,6 +1,8 @@
 //! How many workers each pool has, kept as workers come and go.
 
 ghost use Rattle.std.specs.Prelude.{◌≡◌, ◌<◌, ◌^◌, ℕ, IfSome, filter, length, map, slice_set};
+ghost use Rattle.std.specs.List.{list_any};
+ghost use Rattle.pool_rows.specs.Free.{is_free};
 ghost use Rattle.pool_rows.specs.Pools.{made_pool};
 ghost use Rattle.pool_rows.specs.Workers.{runs};
 ghost use Rattle.pool_rows.specs.Tallies.{AreTallied, FitsTally, IsWithinTally, no_workers, tally_at, with_one, with_own};
@@ -9,12 +11,15 @@ use crate::{Counts, WorkerRow};
 use std::mem;
 use tp_base::rows::PoolRow;
 
-// How many workers are attached to a pool, run a callback in it, and run one with the long mark.
+// How many workers are attached to a pool, run a callback in it, and run one with the long mark; and how many
+// of those that are attached have the mark of a persistent worker, and of these run a callback.
 #[derive(Clone, Copy)]
 pub struct Tally {
     pub attached: u32,
     pub running: u32,
     pub long: u32,
+    pub persistent: u32,
+    pub occupied: u32,
 }
 
 // A pool and the tally of its workers.
@@ -34,6 +39,8 @@ impl Tally {
             attached: self.attached + 1,
             running: self.running + u32::from(worker.callback > 0),
             long: self.long + u32::from(worker.callback > 0 && worker.long),
+            persistent: self.persistent + u32::from(worker.persistent),
+            occupied: self.occupied + u32::from(worker.persistent && worker.callback > 0),
         }
     }
 
@@ -46,6 +53,8 @@ impl Tally {
             attached: self.attached - 1,
             running: self.running - u32::from(worker.callback > 0),
             long: self.long - u32::from(worker.callback > 0 && worker.long),
+            persistent: self.persistent - u32::from(worker.persistent),
+            occupied: self.occupied - u32::from(worker.persistent && worker.callback > 0),
         }
     }
 }
@@ -65,6 +74,8 @@ impl PoolEntry {
                 attached: 0,
                 running: 0,
                 long: 0,
+                persistent: 0,
+                occupied: 0,
             },
         }
     }
@@ -77,6 +88,8 @@ impl PoolEntry {
           running = self.now.tally.running;
           attached = self.now.tally.attached;
           long = self.now.tally.long;
+          persistent = self.now.tally.persistent;
+          occupied = self.now.tally.occupied;
         } }
     {
         Counts {
@@ -86,6 +99,8 @@ impl PoolEntry {
             running: self.tally.running,
             attached: self.tally.attached,
             long: self.tally.long,
+            persistent: self.tally.persistent,
+            occupied: self.tally.occupied,
         }
     }
 }
@@ -147,4 +162,20 @@ pub fn write_worker(
     leave(entries, old);
     join(entries, worker);
     busy - u32::from(old.callback > 0) + u32::from(worker.callback > 0)
+}
+
+// Whether a worker is free, where so many run a callback: of the others some aren't held by their pool.
+pub fn any_free(entries: &[PoolEntry], workers: &[WorkerRow], busy: u32) -> bool
+    requires few { length workers.now < 2 ^ 32 }
+    requires tallied { AreTallied entries.now workers.now }
+    requires busy { busy ≡ length (filter runs workers.now) }
+    ensures { result ≡ list_any (is_free (map (λ e. e.row) entries.now)) workers.now }
+{
+    let mut held = 0;
+    for entry in entries {
+        if !entry.row.closed {
+            held += entry.tally.persistent - entry.tally.occupied;
+        }
+    }
+    held < workers.len() as u32 - busy
 }

@@ -131,9 +131,10 @@ pub trait Recorded: Drop {
     fn room(&self) -> u64
         ensures { result ≡ room_of (recording self.now) };
 
-    /// Whether nothing more is to be done: every client has finished, no callback runs, and there is no
-    /// room for a pending one to be run. That takes a room of 2, and of 4 where no worker of its pool is
-    /// idle, which then attaches and detaches.
+    /// Whether nothing more is to be done: every client has finished, no callback runs, and no pending
+    /// one can be run. That takes a room of 2; and where no worker of its pool is idle, a room of 4 and a
+    /// free worker, which attaches and detaches. A worker is free if it runs nothing and isn't the
+    /// persistent worker of a pool that isn't closed.
     ///
     /// A player of workers stops where this holds. It takes no memory.
     fn is_over(&self) -> bool

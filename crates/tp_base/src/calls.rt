@@ -40,6 +40,8 @@ pub struct Environ {
     pub priority: Priority,
     /// Callbacks are expected to run long (`SetThreadpoolCallbackRunsLong`).
     pub long: bool,
+    /// Callbacks run on the pool's persistent worker (`SetThreadpoolCallbackPersistent`).
+    pub persistent: bool,
 }
 
 /// The kind of a lock. Both belong to one actor at a time, who may take them again.

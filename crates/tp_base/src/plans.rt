@@ -9,6 +9,8 @@ use crate::rows::{Action, CallbackRow, KernelState, ObjectRow};
 pub struct Idle {
     pub worker: u32,
     pub pool: PoolId,
+    /// It is the pool's persistent worker.
+    pub persistent: bool,
 }
 
 /// A worker that runs a callback of its pool.
@@ -17,6 +19,8 @@ pub struct Busy {
     pub worker: u32,
     pub pool: PoolId,
     pub callback: CallbackRow,
+    /// It is the pool's persistent worker.
+    pub persistent: bool,
 }
 
 /// Where an actor stands between two of its calls: one of two stages for a client, of three for a

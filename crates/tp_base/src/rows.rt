@@ -82,6 +82,8 @@ pub struct CallbackRow {
     pub status: Status,
     pub priority: Priority,
     pub long: bool,
+    /// It runs on the pool's persistent worker.
+    pub persistent: bool,
 }
 
 /// What an event, semaphore or lock is at.
@@ -124,6 +126,8 @@ pub struct Arming {
 pub struct WorkerRow {
     pub pool: Option<PoolId>,
     pub callback: Option<u64>,
+    /// It is its pool's persistent worker: it has run a persistent callback since it attached.
+    pub persistent: bool,
 }
 
 /// A client thread.

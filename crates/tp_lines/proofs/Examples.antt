@@ -39,26 +39,34 @@ unfolding digits
 calls_of_groups = refl
 
 in_group : Environ
-in_group = record { pool = record { 0 = 3 }; group = record { 0 = 65535 }; cancel = record { 0 = 9 }; priority = High; long = true }
+in_group = record { pool = record { 0 = 3 }; group = record { 0 = 65535 }; cancel = record { 0 = 9 }; priority = High; long = true; persistent = false }
 
 plain : Environ
-plain = record { pool = record { 0 = 0 }; group = record { 0 = 0 }; cancel = record { 0 = 0 }; priority = Normal; long = false }
+plain = record { pool = record { 0 = 0 }; group = record { 0 = 0 }; cancel = record { 0 = 0 }; priority = Normal; long = false; persistent = false }
 
 slow : Environ
-slow = record { pool = record { 0 = 2 }; group = record { 0 = 0 }; cancel = record { 0 = 0 }; priority = Low; long = false }
+slow = record { pool = record { 0 = 2 }; group = record { 0 = 0 }; cancel = record { 0 = 0 }; priority = Low; long = false; persistent = false }
+
+lasting : Environ
+lasting = record { pool = record { 0 = 2 }; group = record { 0 = 0 }; cancel = record { 0 = 0 }; priority = Normal; long = false; persistent = true }
+
+lasting_long : Environ
+lasting_long = record { pool = record { 0 = 2 }; group = record { 0 = 0 }; cancel = record { 0 = 0 }; priority = Normal; long = true; persistent = true }
 
 calls_of_objects : AreTexts (line_of_call (Client 1))
     ((call.Create kind.Work (record { 0 = 1 }) 18446744073709551615 in_group, codes "c1 create work r1 x18446744073709551615 p3 high long g65535 q9")
     ∷ (call.Create kind.Timer (record { 0 = 2 }) 7 plain, codes "c1 create timer r2 x7 p0 normal short g0 q0")
     ∷ (call.Create kind.Wait (record { 0 = 2 }) 7 slow, codes "c1 create wait r2 x7 p2 low short g0 q0")
     ∷ (call.Create kind.Io (record { 0 = 2 }) 7 plain, codes "c1 create io r2 x7 p0 normal short g0 q0")
+    ∷ (call.Create kind.Work (record { 0 = 2 }) 7 lasting, codes "c1 create work r2 x7 p2 normal persistent g0 q0")
+    ∷ (call.SubmitSimple (record { 0 = 2 }) 7 lasting_long, codes "c1 submit-simple r2 x7 p2 normal persistent-long g0 q0")
     ∷ (call.SubmitSimple (record { 0 = 65535 }) 0 in_group, codes "c1 submit-simple r65535 x0 p3 high long g65535 q9")
     ∷ (call.SubmitWork (record { 0 = 12 }), codes "c1 submit 12")
     ∷ (call.CloseObject kind.Wait (record { 0 = 3 }), codes "c1 close wait 3")
     ∷ (call.BeginWait kind.Io (record { 0 = 3 }) true, codes "c1 wait io 3 cancel")
     ∷ (call.BeginWait kind.Timer (record { 0 = 3 }) false, codes "c1 wait timer 3 keep")
     ∷ (call.End, codes "c1 end") ∷ [])
-unfolding digits in_group plain slow
+unfolding digits in_group plain slow lasting lasting_long
 calls_of_objects = refl
 
 -- a due time may be none, a moment, or an interval behind a sign

@@ -13,7 +13,7 @@ use Rattle.tp_lines.specs.declared.words.Word.{Word}
 use Rattle.tp_lines.specs.declared.words.Word.TheVariants as word
 use Rattle.tp_lines.specs.Parts.{AreFit, Fits, FitsForm, IsWordPart, after, form_of, instead_of, number_of, number_part}
 use Rattle.tp_lines.specs.Shapes.{fields_of, table_of}
-use Rattle.tp_lines.specs.Values.{part_at, small_of, large_of, due_of, named_of, word_of, kind_of, priority_of, length_of, how_of, reset_of, signal_of, lock_of, owner_of, flag_of, slot_of, action_of}
+use Rattle.tp_lines.specs.Values.{part_at, small_of, large_of, due_of, named_of, word_of, kind_of, priority_of, length_of, persistent_of, how_of, reset_of, signal_of, lock_of, owner_of, flag_of, slot_of, action_of}
 
 -- the part of a field, told from a part that stands there
 abbrev pub field_part : Field → Part → Part
@@ -36,7 +36,7 @@ field_part field.Cancel p = part.Cancel (small_of p)
 field_part field.NoCancel p = part.Cancel (small_of p)
 field_part field.Kind p = part.Word (word.Kind (kind_of p))
 field_part field.Priority p = part.Word (word.Priority (priority_of p))
-field_part field.Length p = part.Word (word.Length (length_of p))
+field_part field.Length p = part.Word (word.Length (length_of p) (persistent_of p))
 field_part field.How p = part.Word (word.How (how_of p))
 field_part field.Reset p = part.Word (word.Reset (reset_of p))
 field_part field.Signal p = part.Word (word.Signal (signal_of p))

@@ -13,11 +13,11 @@ use Rattle.tp_lines.specs.declared.words.Word.{Word}
 use Rattle.tp_lines.specs.declared.words.Word.TheVariants as word
 use Rattle.tp_lines.specs.Parts.{AreFit, parts_of, row_text}
 use Rattle.tp_lines.specs.Rows.{RowTexts}
-use Rattle.tp_lines.specs.Values.{part_at, small_of, large_of, due_of, named_of, kind_of, priority_of, length_of, how_of, reset_of, signal_of, lock_of, owner_of, action_of}
+use Rattle.tp_lines.specs.Values.{part_at, small_of, large_of, due_of, named_of, kind_of, priority_of, length_of, persistent_of, how_of, reset_of, signal_of, lock_of, owner_of, action_of}
 use Rattle.tp_lines.specs.Words.{text_of_who}
 
 abbrev pub environ_parts : Environ → List Part
-environ_parts env = part.Pool env.pool.0 ∷ part.Word (word.Priority env.priority) ∷ part.Word (word.Length env.long) ∷ part.Group env.group.0 ∷ part.Cancel env.cancel.0 ∷ []
+environ_parts env = part.Pool env.pool.0 ∷ part.Word (word.Priority env.priority) ∷ part.Word (word.Length env.long env.persistent) ∷ part.Group env.group.0 ∷ part.Cancel env.cancel.0 ∷ []
 
 -- the word and the parts of a call
 abbrev pub row_of : Call → Word × List Part
@@ -103,6 +103,7 @@ environ_at parts index = record {
   cancel = record { 0 = small_of (part_at parts (index + 4)) };
   priority = priority_of (part_at parts (index + 1));
   long = length_of (part_at parts (index + 2));
+  persistent = persistent_of (part_at parts (index + 2));
 }
 
 -- the call of a row, whose word stands at index 0

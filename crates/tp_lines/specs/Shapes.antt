@@ -4,7 +4,7 @@ use Rattle.tp_lines.specs.declared.words.Field.{Field}
 use Rattle.tp_lines.specs.declared.words.Field.TheVariants as field
 use Rattle.tp_lines.specs.declared.words.Word.{Word}
 use Rattle.tp_lines.specs.declared.words.Word.TheVariants as word
-use Rattle.tp_lines.specs.Words.{text_of_kind, text_of_priority, text_of_long, text_of_how, text_of_reset, text_of_signal, text_of_lock, text_of_owner, text_of_flag, text_of_slot, text_of_action}
+use Rattle.tp_lines.specs.Words.{text_of_kind, text_of_priority, text_of_length, text_of_how, text_of_reset, text_of_signal, text_of_lock, text_of_owner, text_of_flag, text_of_slot, text_of_action}
 
 pub record Shape : Type 0 where
   pub table : Field
@@ -112,7 +112,7 @@ shape_of word.Callback = record { table = field.Target; text = codes "callback";
 shape_of word.Kernel = record { table = field.Target; text = codes "kernel"; fields = field.Short ∷ [] }
 shape_of (word.Kind kind) = record { table = field.Kind; text = text_of_kind kind; fields = [] }
 shape_of (word.Priority priority) = record { table = field.Priority; text = text_of_priority priority; fields = [] }
-shape_of (word.Length long) = record { table = field.Length; text = text_of_long long; fields = [] }
+shape_of (word.Length long persistent) = record { table = field.Length; text = text_of_length long persistent; fields = [] }
 shape_of (word.How cancel) = record { table = field.How; text = text_of_how cancel; fields = [] }
 shape_of (word.Reset manual) = record { table = field.Reset; text = text_of_reset manual; fields = [] }
 shape_of (word.Signal signalled) = record { table = field.Signal; text = text_of_signal signalled; fields = [] }

@@ -63,8 +63,13 @@ priority_of _ = Normal
 
 -- whether callbacks may run long
 abbrev pub length_of : Part → Bool
-length_of (part.Word (word.Length long)) = long
+length_of (part.Word (word.Length long persistent)) = long
 length_of _ = false
+
+-- whether callbacks are persistent
+abbrev pub persistent_of : Part → Bool
+persistent_of (part.Word (word.Length long persistent)) = persistent
+persistent_of _ = false
 
 -- whether a wait cancels what is pending
 abbrev pub how_of : Part → Bool

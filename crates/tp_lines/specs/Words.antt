@@ -26,10 +26,12 @@ text_of_priority High = codes "high"
 text_of_priority Normal = codes "normal"
 text_of_priority Low = codes "low"
 
--- whether callbacks may run long
-abbrev pub text_of_long : Bool → List ℕ
-text_of_long true = codes "long"
-text_of_long false = codes "short"
+-- whether callbacks may run long, and whether they are persistent
+abbrev pub text_of_length : Bool → Bool → List ℕ
+text_of_length true false = codes "long"
+text_of_length false false = codes "short"
+text_of_length false true = codes "persistent"
+text_of_length true true = codes "persistent-long"
 
 -- whether a wait cancels what is pending
 abbrev pub text_of_how : Bool → List ℕ

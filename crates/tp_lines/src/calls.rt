@@ -163,6 +163,7 @@ fn environ_at(parts: &Parts, index: usize) -> Environ
         cancel: RoutineId(parts.at(index + 4).small()),
         priority: parts.at(index + 1).priority(),
         long: parts.at(index + 2).long(),
+        persistent: parts.at(index + 2).persistent(),
     }
 }
 
@@ -431,5 +432,5 @@ fn put_routine(routine: RoutineId, context: u64, env: &Environ, out: &mut [u8], 
     requires { at + 172 ≤ length out.old }
     ensures { IsPut at out.old result out.new (parts_text (Part.Routine routine.0 ∷ Part.Context context ∷ environ_parts env.now)) 172 }
 {
-    parts!(out, at; lettered(b'r', u64::from(routine.0)) lettered(b'x', context) lettered(b'p', u64::from(env.pool.0)) word(Word::Priority(env.priority)) word(Word::Length(env.long)) lettered(b'g', u64::from(env.group.0)) lettered(b'q', u64::from(env.cancel.0)))
+    parts!(out, at; lettered(b'r', u64::from(routine.0)) lettered(b'x', context) lettered(b'p', u64::from(env.pool.0)) word(Word::Priority(env.priority)) word(Word::Length { long: env.long, persistent: env.persistent }) lettered(b'g', u64::from(env.group.0)) lettered(b'q', u64::from(env.cancel.0)))
 }

@@ -6,7 +6,7 @@ ghost use Rattle.tp_lines.specs.declared.parts.Part.{Part};
 ghost use Rattle.tp_lines.specs.declared.words.Word.{Word};
 ghost use Rattle.tp_lines.specs.Choices.{BodyTexts, ChoiceTexts, DueTexts, KernelTexts, Met, NamedTexts, PartTexts, default_word};
 ghost use Rattle.tp_lines.specs.Parts.{after, form_of, instead_of, most_of, number_part};
-ghost use Rattle.tp_lines.specs.Values.{action_of, due_of, flag_of, how_of, kind_of, large_of, length_of, lock_of, named_of, owner_of, part_at, priority_of, reset_of, signal_of, slot_of, small_of, word_of};
+ghost use Rattle.tp_lines.specs.Values.{action_of, due_of, flag_of, how_of, kind_of, large_of, length_of, lock_of, named_of, owner_of, part_at, persistent_of, priority_of, reset_of, signal_of, slot_of, small_of, word_of};
 
 use crate::words::{Field, WORDS, Word, fields_of, find_word, stands_in, word_text};
 use line_grammar::numbers::{read_number, read_prefixed, read_signed};
@@ -143,7 +143,17 @@ impl Part {
         ensures { result ≡ length_of self }
     {
         match self {
-            Part::Word(Word::Length(long)) => long,
+            Part::Word(Word::Length { long, .. }) => long,
+            _ => false,
+        }
+    }
+
+    /// Whether callbacks are persistent, or false where this doesn't say.
+    pub fn persistent(self) -> bool
+        ensures { result ≡ persistent_of self }
+    {
+        match self {
+            Part::Word(Word::Length { persistent, .. }) => persistent,
             _ => false,
         }
     }
@@ -408,7 +418,10 @@ fn default_word(field: Field) -> Word
         Field::Target => Word::Kernel,
         Field::Kind => Word::Kind(Kind::Work),
         Field::Priority => Word::Priority(Priority::Normal),
-        Field::Length => Word::Length(false),
+        Field::Length => Word::Length {
+            long: false,
+            persistent: false,
+        },
         Field::How => Word::How(false),
         Field::Reset => Word::Reset(false),
         Field::Signal => Word::Signal(false),

@@ -58,7 +58,7 @@ pub enum Field {
     /// A kind of objects.
     Kind,
     Priority,
-    /// Whether callbacks may run long.
+    /// Whether callbacks may run long, and whether they are persistent.
     Length,
     /// Whether a wait cancels what is pending: `cancel` or `keep`.
     How,
@@ -181,7 +181,7 @@ pub enum Word {
     Kernel,
     Kind(Kind),
     Priority(Priority),
-    Length(bool),
+    Length { long: bool, persistent: bool },
     How(bool),
     Reset(bool),
     Signal(bool),
@@ -322,8 +322,10 @@ macro_rules! words {
                 (Word::Priority(Priority::Low)) b"low" [];
             }
             Length {
-                (Word::Length(true)) b"long" [];
-                (Word::Length(false)) b"short" [];
+                (Word::Length { long: true, persistent: false }) b"long" [];
+                (Word::Length { long: false, persistent: false }) b"short" [];
+                (Word::Length { long: false, persistent: true }) b"persistent" [];
+                (Word::Length { long: true, persistent: true }) b"persistent-long" [];
             }
             How {
                 (Word::How(true)) b"cancel" [];
@@ -389,7 +391,7 @@ macro_rules! all_words {
 }
 
 /// All words.
-pub static WORDS: [Word; 127] = words!(all_words, ());
+pub static WORDS: [Word; 129] = words!(all_words, ());
 
 // What is known of a word.
 struct Known {

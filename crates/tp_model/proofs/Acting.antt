@@ -1,5 +1,5 @@
 -- The law Actions: what a worker's entries have asked for since it took its callback is in the callback's slots.
-use Rattle.std.proofs.Common.{◌≡◌, ◌≢◌, ℕ, ◌+◌, ◌-◌, ◌≤◌, Bool, true, false, cond, ◌&&◌, ◌==◌, List, [], ◌∷◌, ◌++◌, length, Option, Some, None, is_some, is_none, not, option_map, refl, sym, ap, ap₂, ◌∙◌, subst, arith, filter, find, ne_eqb, eqb-true, eq-eqb, length-append}
+use Rattle.std.proofs.Common.{◌||◌, ◌≡◌, ◌≢◌, ℕ, ◌+◌, ◌-◌, ◌≤◌, Bool, true, false, cond, ◌&&◌, ◌==◌, List, [], ◌∷◌, ◌++◌, length, Option, Some, None, is_some, is_none, not, option_map, refl, sym, ap, ap₂, ◌∙◌, subst, arith, filter, find, ne_eqb, eqb-true, eq-eqb, length-append}
 use Rattle.std.specs.List.{list_any}
 use Rattle.std.specs.Option.{option_map_or}
 use Rattle.std.proofs.lemmas.List.Elements.{filter-append}
@@ -122,18 +122,18 @@ module _ (w : World) (entry : Entry) (kept : List CallbackRow) (staff : List Wor
   slots_step (Attach m) =
       let apart = free_other m.worker m.actor.row m.actor.stands m.actor.free in
       Same (silent (ap (λ (d : Deed). d.asked) m.tells)) (goes_on (ap (λ (d : Deed). d.returned) m.tells))
-      (with_rows kept (ap (find (has_number f.number)) m.callbacks ∙ f.found) (ap (λ ws. numbered ws worker) m.workers ∙ still_stands m.worker m.actor.row (record { pool = Some m.pool; callback = None }) m.actor.stands apart))
+      (with_rows kept (ap (find (has_number f.number)) m.callbacks ∙ f.found) (ap (λ ws. numbered ws worker) m.workers ∙ still_stands m.worker m.actor.row (record { pool = Some m.pool; callback = None; persistent = false }) m.actor.stands apart))
   slots_step (Detach m) =
       let apart = free_other m.worker m.actor.row m.actor.stands m.actor.free in
       Same (silent (ap (λ (d : Deed). d.asked) m.tells)) (goes_on (ap (λ (d : Deed). d.returned) m.tells))
-      (with_rows kept (ap (find (has_number f.number)) m.callbacks ∙ f.found) (ap (λ ws. numbered ws worker) m.workers ∙ still_stands m.worker m.actor.row (record { pool = None; callback = None }) m.actor.stands apart))
+      (with_rows kept (ap (find (has_number f.number)) m.callbacks ∙ f.found) (ap (λ ws. numbered ws worker) m.workers ∙ still_stands m.worker m.actor.row (record { pool = None; callback = None; persistent = false }) m.actor.stands apart))
   slots_step (Take m) =
       let apart = free_other m.worker m.actor.row m.actor.stands m.actor.free in
       Same (silent (ap (λ (d : Deed). d.asked) m.tells)) (goes_on (ap (λ (d : Deed). d.returned) m.tells))
       (with_rows kept
       (ap (find (has_number f.number)) m.callbacks
       ∙ beside (taken_row m.callback m.worker) m.callback m.found (λ same. false_true (sym (pending_not_running m.callback.status m.waits) ∙ ap (λ (x : CallbackRow). is_running x.status) same ∙ ap is_running f.running)))
-      (ap (λ ws. numbered ws worker) m.workers ∙ still_stands m.worker m.actor.row (record { pool = Some m.pool; callback = Some m.callback.number }) m.actor.stands apart))
+      (ap (λ ws. numbered ws worker) m.workers ∙ still_stands m.worker m.actor.row (record { pool = Some m.pool; callback = Some m.callback.number; persistent = m.actor.row.persistent || m.callback.persistent }) m.actor.stands apart))
   slots_step (Operate m) =
       Same (silent (ap (λ (d : Deed). d.asked) m.tells)) (goes_on (ap (λ (d : Deed). d.returned) m.tells))
       (with_rows kept
@@ -284,18 +284,20 @@ module _ (next_number : ℕ) (history : List Entry) (w : World) (x : Entry) (aft
       of_move (Operate m) = untaken (ap (λ (d : Deed). d.taken) m.tells)
       of_move (Cancel m) = untaken (ap (λ (d : Deed). d.taken) m.tells)
       of_move (Take m) =
+          let new : WorkerRow = record { pool = Some m.pool; callback = Some m.callback.number; persistent = m.actor.row.persistent || m.callback.persistent } in
+          let at = numbered_some w.workers m.worker m.actor.row m.actor.stands in
           record {
             worker = m.worker;
             by = m.actor.by;
             slots = no_actions;
             runs = in_after m.worker no_actions (record {
-              row = record { pool = Some m.pool; callback = Some m.callback.number };
+              row = new;
               number = m.callback.number;
               callback = taken_row m.callback m.worker;
               associated = true;
               stands = ap (λ ws. numbered ws m.worker) m.workers
-                  ∙ numbered_at (put w m.worker (record { pool = Some m.pool; callback = Some m.callback.number })) m.worker (record { pool = Some m.pool; callback = Some m.callback.number }) (numbered_some w.workers m.worker m.actor.row m.actor.stands).1
-                  (get_set w.workers (m.worker - 1) m.actor.row (record { pool = Some m.pool; callback = Some m.callback.number }) (numbered_some w.workers m.worker m.actor.row m.actor.stands).0);
+                  ∙ numbered_at (put w m.worker new) m.worker new at.1
+                  (get_set w.workers (m.worker - 1) m.actor.row new at.0);
               busy = refl;
               found = ap (find (has_number m.callback.number)) m.callbacks ∙ find_replaced (taken_row m.callback m.worker) m.callback w.callbacks m.found;
               running = refl;

@@ -29,7 +29,7 @@ limits : Limits
 limits = record { clients = 1; workers = 4; pools = 64; groups = 255; objects = 4095; kernels = 1024; slots = 8192 }
 
 environ : Environ
-environ = record { pool = record { 0 = 0 }; group = record { 0 = 0 }; cancel = record { 0 = 0 }; priority = Normal; long = false }
+environ = record { pool = record { 0 = 0 }; group = record { 0 = 0 }; cancel = record { 0 = 0 }; priority = Normal; long = false; persistent = false }
 
 -- a callback runs, and there are an event, a full semaphore, and a mutex of the client's own
 begun : List Entry

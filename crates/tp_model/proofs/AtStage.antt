@@ -60,14 +60,14 @@ module _ (w : World) (waits : Bool) where
   runs_row : (number : ℕ) (row : WorkerRow) → numbered w.workers number ≡ Some row → runs_callback w (Worker number) ≡ is_some row.callback
   runs_row number row is = ap (λ (o : Option WorkerRow). option_map_or (λ (x : WorkerRow). is_some x.callback) o false) is
 
-  worker_at_stage : (number : ℕ) (pool : Option PoolId) (callback : Option ℕ) (at : Stage) → numbered w.workers number ≡ Some (record { pool = pool; callback = callback }) → worker_stage w.callbacks pool callback ≡ Some at
+  worker_at_stage : (number : ℕ) (pool : Option PoolId) (callback : Option ℕ) (persistent : Bool) (at : Stage) → numbered w.workers number ≡ Some (record { pool = pool; callback = callback; persistent = persistent }) → worker_stage w.callbacks pool callback ≡ Some at
       → is_in_wait w (Worker number) ≡ waits → IsAtStage w (Worker number) at waits
-  worker_at_stage number None None at is e wait =
+  worker_at_stage number None None persistent at is e wait =
       let same : stage.Away ≡ at = cc in
       subst (λ s. IsAtStage w (Worker number) s waits) same
       (record { actor = actor_row number _ is; finished = refl; attached = attached_row number _ is; runs = runs_row number _ is; idle = λ h. absurd cc; busy = λ routine h. absurd cc; wait = wait })
-  worker_at_stage number None (Some n) at is e wait = absurd cc
-  worker_at_stage number (Some pool) None at is e wait =
+  worker_at_stage number None (Some n) persistent at is e wait = absurd cc
+  worker_at_stage number (Some pool) None persistent at is e wait =
       let same : stage.Idle ≡ at = cc in
       subst (λ s. IsAtStage w (Worker number) s waits) same
       (record {
@@ -75,11 +75,11 @@ module _ (w : World) (waits : Bool) where
         finished = refl;
         attached = attached_row number _ is;
         runs = runs_row number _ is;
-        idle = λ h. record { by = record { worker = number; pool = pool }; is = ap (λ (o : Option WorkerRow). idle_in number o) is };
+        idle = λ h. record { by = record { worker = number; pool = pool; persistent = persistent }; is = ap (λ (o : Option WorkerRow). idle_in number o) is };
         busy = λ routine h. absurd cc;
         wait = wait;
       })
-  worker_at_stage number (Some pool) (Some n) at is e wait = of_row (find (has_number n) w.callbacks) refl e
+  worker_at_stage number (Some pool) (Some n) persistent at is e wait = of_row (find (has_number n) w.callbacks) refl e
     where
       of_row : (o : Option CallbackRow) → callback_of w n ≡ o → option_map (λ (routine : RoutineId). stage.Busy routine) (option_map (λ (c : CallbackRow). c.routine) o) ≡ Some at → IsAtStage w (Worker number) at waits
       of_row None there h = absurd cc
@@ -94,8 +94,8 @@ module _ (w : World) (waits : Bool) where
             idle = λ g. absurd cc;
             busy = λ routine g.
                 record {
-                  by = record { worker = number; pool = pool; callback = c };
-                  is = ap (λ (o : Option WorkerRow). busy_in w number o) is ∙ ap (option_map (λ (x : CallbackRow). record { worker = number; pool = pool; callback = x })) there;
+                  by = record { worker = number; pool = pool; callback = c; persistent = persistent };
+                  is = ap (λ (o : Option WorkerRow). busy_in w number o) is ∙ ap (option_map (λ (x : CallbackRow). record { worker = number; pool = pool; callback = x; persistent = persistent })) there;
                   routine_is = cc;
                 };
             wait = wait;
@@ -111,7 +111,7 @@ module _ (w : World) (waits : Bool) where
     where
       of_row : (o : Option WorkerRow) → numbered w.workers number ≡ o → stage_at w.callbacks o ≡ Some at → IsAtStage w (Worker number) at waits
       of_row None there e = absurd cc
-      of_row (Some row) there e = worker_at_stage number row.pool row.callback at there e wait
+      of_row (Some row) there e = worker_at_stage number row.pool row.callback row.persistent at there e wait
 
 -- a worker neither plays nor has finished, and a client is at no stage of a worker
 pub worker_stages : (w : World) (number : ℕ) (at : Stage) → stage_in w (Worker number) ≡ Some at → (at ≡ stage.Playing → ⊥) × (at ≡ stage.Over → ⊥)

@@ -23,14 +23,14 @@ use Rattle.tp_base.specs.declared.rows.Status.TheVariants.{Running, Pending}
 use Rattle.std.specs.List.{range_with_len, AllByRecursion}
 use Rattle.tp_base.specs.declared.ids.ObjectId.{ObjectId}
 use Rattle.tp_model.specs.Sources.{Job, firing, sources_of, rows_of}
-use Rattle.tp_model.specs.World.{World, unattached}
+use Rattle.tp_model.specs.World.{World}
 use Rattle.tp_model.specs.Counts.{is_expected, is_pending, numbered}
 use Rattle.tp_model.specs.Changes.{returned, change_pool, pool_after, with_pool, marked, changed, replaced, loosened, release_object, end_wait}
 use Rattle.tp_model.specs.Waits.{target_of, is_cancelled_by}
 use Rattle.tp_model.specs.Support.Sound.{IsSound, is_wait_at, may_be_armed, count_armed, is_standing}
 use Rattle.tp_model.specs.Support.Allowed.{IsAllowed, IsMadeBy, Runs, MayMark}
-use Rattle.tp_model.specs.Laws.Entries.{made_by, queued_new, started_by, Sets, sets_by, set_on, simple_by, is_for_group}
-use Rattle.tp_model.specs.Support.Told.{Told, deed_by, nothing, silent, told_by_change, told_by, simple_group}
+use Rattle.tp_model.specs.Laws.Entries.{made_by, queued_new, started_by, Sets, sets_by, set_on, Simple, simple_by, is_for_group}
+use Rattle.tp_model.specs.Support.Told.{Told, deed_by, nothing, silent, told_by_change, told_by, simple_of}
 use Rattle.tp_model.specs.Support.Moves.{Move, Stay, Mark as Marking, Attach, Detach, Take, Return, Moves, AreNew, is_new, numbers_of, Amend, Operate, Asking, IsFreeFor, asked_slots, Cancel, ArmsMove, count_rows, count_allowed}
 use Rattle.tp_model.proofs.Firing.{IsFiringIn, numbers_rows, waiting_rows, expecting_rows, new_rows, fired_in, AreJobsOf, armable_stands}
 use Rattle.tp_model.proofs.Arming.{armed_fewer}
@@ -45,6 +45,9 @@ none_front : (xs ys : List ℕ) → xs ++ ys ≡ [] → xs ≡ []
 none_front [] ys e = refl
 none_front (x ∷ xs) ys e = absurd cc
 
+abbrev made_with : CallbackRow → Simple
+made_with c = record { group = c.group; pool = c.pool; persistent = c.persistent }
+
 -- the callbacks of jobs are of objects that aren't released
 homes_rows : (objects : List ObjectRow) (next_number : ℕ) (jobs : List Job) → AreJobsOf (λ n. is_standing objects n ≡ true) jobs → AllByRecursion (λ (c : CallbackRow). c.object.0 ≢ 0 → is_standing objects c.object.0 ≡ true) (rows_of objects next_number jobs)
 homes_rows objects next_number [] all = tt
@@ -55,10 +58,13 @@ module _ (next_number : ℕ) (w : World) (entry : Entry) where
   unsimple : simple_by entry ≡ None → (cs : List CallbackRow) (group : ℕ) → is_for_group group (simple_by entry) ≡ true → AllByRecursion (λ (c : CallbackRow). (c.object.0 ≡ 0) × (c.group.0 ≡ group)) cs
   unsimple none cs group e = absurd (false_true (sym (ap (is_for_group group) none) ∙ e))
 
+  unplaced : simple_by entry ≡ None → (cs : List CallbackRow) (s : Simple) → simple_by entry ≡ Some s → AllByRecursion (λ (c : CallbackRow). (c.pool ≡ s.pool) × (c.persistent ≡ s.persistent)) cs
+  unplaced none cs s e = absurd (let no_simple = sym none ∙ e in cc)
+
   -- nothing is made
   unmade : (after : World) → made_by entry ≡ [] → queued_new entry ≡ [] → ArmsMove w entry after [] → Move w entry after.callbacks after.workers → Moves next_number w entry after
   unmade after made queued arms move =
-      record { kept = after.callbacks; new = []; move = move; rows = tt; made = made; queued = queued; started = none_front (started_by entry.answer) (queued_new entry) made; callbacks = sym (append-nil after.callbacks); arms = arms; homes = tt; simples = λ group e. tt }
+      record { kept = after.callbacks; new = []; move = move; rows = tt; made = made; queued = queued; started = none_front (started_by entry.answer) (queued_new entry) made; callbacks = sym (append-nil after.callbacks); arms = arms; homes = tt; simples = λ group e. tt; placed = λ s e. tt }
 
   -- and no more is armed
   quiet : (after : World) → sets_by entry ≡ None → ((object : ℕ) → count_armed object after.armings ≤ count_armed object w.armings) → ArmsMove w entry after []
@@ -82,7 +88,7 @@ module _ (next_number : ℕ) (w : World) (entry : Entry) where
   amends by runs actor loose asks free new tells is =
       Amend (record {
         worker = by.worker;
-        row = record { pool = Some by.pool; callback = Some by.callback.number };
+        row = record { pool = Some by.pool; callback = Some by.callback.number; persistent = by.persistent };
         callback = by.callback;
         associated = runs.associated;
         slots = runs.slots;
@@ -102,7 +108,7 @@ module _ (next_number : ℕ) (w : World) (entry : Entry) where
   mark_moves : (by : Busy) (mark : Mark) → MayMark w by mark → entry.who ≡ Worker by.worker → told_by entry ≡ told_by_change next_number w (change.Mark by mark) → Moves next_number w entry (changed w (change.Mark by mark))
   mark_moves by Long may actor tells =
       unmade (changed w (change.Mark by Long)) (ap (λ (t : Told). t.made) tells) (ap (λ (t : Told). t.queued) tells) (same_armed (changed w (change.Mark by Long)) (ap (λ (t : Told). t.sets) tells) refl)
-      (Marking (record { old = by.callback; new = marked Long by.callback; tells = ap (λ (t : Told). t.deed) tells; found = may.runs.found; status = refl; object = refl; group = refl; pool = refl; result = refl; callbacks = refl; workers = refl }))
+      (Marking (record { old = by.callback; new = marked Long by.callback; tells = ap (λ (t : Told). t.deed) tells; found = may.runs.found; status = refl; object = refl; group = refl; pool = refl; result = refl; persistent = refl; callbacks = refl; workers = refl }))
   mark_moves by Loose may actor tells =
       unmade (changed w (change.Mark by Loose)) (ap (λ (t : Told). t.made) tells) (ap (λ (t : Told). t.queued) tells) (same_armed (changed w (change.Mark by Loose)) (ap (λ (t : Told). t.sets) tells) refl)
       (amends by may.runs actor true None tt (record by.callback { status = loosened by.callback.status }) (ap (λ (t : Told). t.deed) tells)
@@ -121,13 +127,20 @@ module _ (next_number : ℕ) (w : World) (entry : Entry) where
       (quiet (release_object w object (Some row)) (ap (λ (t : Told). t.sets) tells) (λ other. armed_fewer other object (sources_of w)))
       (Stay (record { tells = ap (λ (t : Told). t.deed) tells; callbacks = refl; workers = refl }))
 
-  -- what is queued without an object is of the group that is told
-  simple_made : (c : CallbackRow) → simple_by entry ≡ simple_group c → (group : ℕ) → is_for_group group (simple_by entry) ≡ true → (c.object.0 ≡ 0) × (c.group.0 ≡ group)
+  -- what is queued without an object is of the group that is told, and of the pool
+  simple_made : (c : CallbackRow) → simple_by entry ≡ simple_of c → (group : ℕ) → is_for_group group (simple_by entry) ≡ true → (c.object.0 ≡ 0) × (c.group.0 ≡ group)
   simple_made c tells group e = of_object (c.object.0 == 0) refl
     where
       of_object : (b : Bool) → (c.object.0 == 0) ≡ b → (c.object.0 ≡ 0) × (c.group.0 ≡ group)
-      of_object true is = (eqb-true c.object.0 0 is, eqb-true c.group.0 group (sym (ap (is_for_group group) (tells ∙ ap (λ b. cond b (Some c.group) None) is)) ∙ e))
-      of_object false is = absurd (false_true (sym (ap (is_for_group group) (tells ∙ ap (λ b. cond b (Some c.group) None) is)) ∙ e))
+      of_object true is = (eqb-true c.object.0 0 is, eqb-true c.group.0 group (sym (ap (is_for_group group) (tells ∙ ap (λ b. cond b (Some (made_with c)) None) is)) ∙ e))
+      of_object false is = absurd (false_true (sym (ap (is_for_group group) (tells ∙ ap (λ b. cond b (Some (made_with c)) None) is)) ∙ e))
+
+  simple_placed : (c : CallbackRow) → simple_by entry ≡ simple_of c → (s : Simple) → simple_by entry ≡ Some s → (c.pool ≡ s.pool) × (c.persistent ≡ s.persistent)
+  simple_placed c tells s e = of_object (c.object.0 == 0) (sym tells ∙ e)
+    where
+      of_object : (b : Bool) → cond b (Some (made_with c)) None ≡ Some s → (c.pool ≡ s.pool) × (c.persistent ≡ s.persistent)
+      of_object true h = let is : made_with c ≡ s = cc in (ap (λ (x : Simple). x.pool) is, ap (λ (x : Simple). x.persistent) is)
+      of_object false h = absurd cc
 
   pub change_moves : (ch : Change) → IsSound next_number w → IsAllowed next_number w ch → IsMadeBy w entry.who ch → told_by entry ≡ told_by_change next_number w ch → Moves next_number w entry (changed w ch)
   change_moves change.Keep s a by tells = still w tells refl refl refl
@@ -154,6 +167,7 @@ module _ (next_number : ℕ) (w : World) (entry : Entry) where
             omega (arith, none, ap (λ (x : Option Sets). count_allowed (set_on object x) (count_armed object w.armings)) (ap (λ (t : Told). t.sets) tells));
         homes = (a.stands, tt);
         simples = λ group named. (simple_made c (ap (λ (t : Told). t.simple) tells) group named, tt);
+        placed = λ made is. (simple_placed c (ap (λ (t : Told). t.simple) tells) made is, tt);
       }
     where
       apart : (object : ℕ) → is_wait_at w.objects object ≡ true → (b : Bool) → (c.object.0 == object) ≡ b → (c.object.0 == object) ≡ false
@@ -182,6 +196,7 @@ module _ (next_number : ℕ) (w : World) (entry : Entry) where
             omega (arith, none, ap (λ (x : Option Sets). count_allowed (set_on object x) (count_armed object w.armings)) (ap (λ (t : Told). t.sets) tells));
         homes = ((λ _. a.stands), tt);
         simples = unsimple (ap (λ (t : Told). t.simple) tells) (c ∷ []);
+        placed = unplaced (ap (λ (t : Told). t.simple) tells) (c ∷ []);
       }
     where
       apart : (object : ℕ) → is_wait_at w.objects object ≡ true → (b : Bool) → (c.object.0 == object) ≡ b → (c.object.0 == object) ≡ false
@@ -211,27 +226,38 @@ module _ (next_number : ℕ) (w : World) (entry : Entry) where
             );
         homes = homes_rows w.objects first jobs (fired_in w trigger a.ready (sources_in next_number w s)).jobs;
         simples = unsimple (ap (λ (t : Told). t.simple) tells) (rows_of w.objects first jobs);
+        placed = unplaced (ap (λ (t : Told). t.simple) tells) (rows_of w.objects first jobs);
       }
   change_moves (change.CreateKernel state) s a by tells = still (changed w (change.CreateKernel state)) tells refl refl refl
   change_moves (change.ChangeKernel kernel how) s a by tells = still (changed w (change.ChangeKernel kernel how)) tells refl refl refl
   change_moves (change.Attach worker pool) s a by tells =
       unmade (changed w (change.Attach worker pool)) (ap (λ (t : Told). t.made) tells) (ap (λ (t : Told). t.queued) tells) (same_armed (changed w (change.Attach worker pool)) (ap (λ (t : Told). t.sets) tells) refl)
-      (Attach (record { worker = worker; pool = pool; actor = record { row = unattached; by = by; stands = a.stands; free = refl }; tells = ap (λ (t : Told). t.deed) tells; callbacks = refl; workers = refl }))
+      (Attach (record { worker = worker; pool = pool; actor = record { row = a.row; by = by; stands = a.stands; free = a.idle }; away = a.away; tells = ap (λ (t : Told). t.deed) tells; callbacks = refl; workers = refl }))
   change_moves (change.Detach at) s a by tells =
       unmade (changed w (change.Detach at)) (ap (λ (t : Told). t.made) tells) (ap (λ (t : Told). t.queued) tells) (same_armed (changed w (change.Detach at)) (ap (λ (t : Told). t.sets) tells) refl)
-      (Detach (record { worker = at.worker; actor = record { row = record { pool = Some at.pool; callback = None }; by = by; stands = a; free = refl }; tells = ap (λ (t : Told). t.deed) tells; callbacks = refl; workers = refl }))
+      (Detach (record {
+        worker = at.worker;
+        pool = at.pool;
+        actor = record { row = record { pool = Some at.pool; callback = None; persistent = at.persistent }; by = by; stands = a.idles; free = refl };
+        home = refl;
+        let_go = a.let_go;
+        tells = ap (λ (t : Told). t.deed) tells;
+        callbacks = refl;
+        workers = refl;
+      }))
   change_moves (change.Take at c) s a by tells =
       unmade (changed w (change.Take at c)) (ap (λ (t : Told). t.made) tells) (ap (λ (t : Told). t.queued) tells) (same_armed (changed w (change.Take at c)) (ap (λ (t : Told). t.sets) tells) refl)
       (Take (record {
         worker = at.worker;
         pool = at.pool;
         callback = c;
-        actor = record { row = record { pool = Some at.pool; callback = None }; by = by; stands = a.idles; free = refl };
+        actor = record { row = record { pool = Some at.pool; callback = None; persistent = at.persistent }; by = by; stands = a.idles; free = refl };
         home = refl;
         tells = ap (λ (t : Told). t.deed) tells;
         found = a.found;
         waits = a.pending;
         pool_same = a.home;
+        open_to = a.open_to;
         below = a.below;
         callbacks = refl;
         workers = refl;
@@ -248,7 +274,7 @@ module _ (next_number : ℕ) (w : World) (entry : Entry) where
         new = rows_of w.objects first jobs;
         move = Return (record {
           worker = at.worker;
-          row = record { pool = Some at.pool; callback = Some at.callback.number };
+          row = record { pool = Some at.pool; callback = Some at.callback.number; persistent = at.persistent };
           pool = at.pool;
           callback = at.callback;
           by = by;
@@ -280,6 +306,7 @@ module _ (next_number : ℕ) (w : World) (entry : Entry) where
             );
         homes = homes_rows w.objects first jobs made.jobs;
         simples = unsimple (ap (λ (t : Told). t.simple) tells) (rows_of w.objects first jobs);
+        placed = unplaced (ap (λ (t : Told). t.simple) tells) (rows_of w.objects first jobs);
       }
   change_moves (change.BeginWait who awaited cancel) s a by tells =
       let after : World = changed w (change.BeginWait who awaited cancel) in

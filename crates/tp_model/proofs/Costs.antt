@@ -1,5 +1,5 @@
 -- What changes cost.
-use Rattle.std.proofs.Common.{◌≡◌, ℕ, ◌+◌, ◌-◌, Bool, true, false, cond, not, List, [], ◌∷◌, ◌++◌, length, Option, Some, None, is_some, refl, sym, ap, ◌∙◌, subst, arith, slice_get, filter, find, sum_by, length-append, drop}
+use Rattle.std.proofs.Common.{◌||◌, ◌≡◌, ℕ, ◌+◌, ◌-◌, Bool, true, false, cond, not, List, [], ◌∷◌, ◌++◌, length, Option, Some, None, is_some, refl, sym, ap, ◌∙◌, subst, arith, slice_get, filter, find, sum_by, length-append, drop}
 use Rattle.std.proofs.lemmas.List.Elements.{filter-append}
 use Rattle.tp_base.specs.declared.ids.PoolId.{PoolId}
 use Rattle.tp_base.specs.declared.plans.Change.{Change}
@@ -80,18 +80,18 @@ owed_client w number old new is =
     omega (arith, changed)
 
 -- a worker that joins a pool will leave it
-pub owed_attached : (w : World) (number : ℕ) (old : WorkerRow) (pool : PoolId) → numbered w.workers number ≡ Some old → old.pool ≡ None → owed (with_worker w number (record { pool = Some pool; callback = None })) ≡ owed w + 1
+pub owed_attached : (w : World) (number : ℕ) (old : WorkerRow) (pool : PoolId) → numbered w.workers number ≡ Some old → old.pool ≡ None → owed (with_worker w number (record { pool = Some pool; callback = None; persistent = false })) ≡ owed w + 1
 owed_attached w number old pool is free =
-    let new : WorkerRow = record { pool = Some pool; callback = None } in
+    let new : WorkerRow = record { pool = Some pool; callback = None; persistent = false } in
     let changed : owed (with_worker w number new) + one_if (has_pool old) ≡ owed w + one_if (has_pool new) = owed_worker w number old new is in
     let none : one_if (has_pool old) ≡ 0 = ap (λ (p : Option PoolId). one_if (is_some p)) free in
     omega (arith, changed, none)
 
 -- a callback that begins will return
-pub owed_taken : (next_number : ℕ) (w : World) (number : ℕ) (row : WorkerRow) (pool : PoolId) (c : CallbackRow) → IsSound next_number w → numbered w.workers number ≡ Some row → row.pool ≡ Some pool → find (has_number c.number) w.callbacks ≡ Some c → is_pending c.status ≡ true
-    → owed (with_worker (with_callback w (taken c number)) number (record { pool = Some pool; callback = Some c.number })) ≡ owed w + 1
-owed_taken next_number w number row pool c s is at found waits =
-    let new : WorkerRow = record { pool = Some pool; callback = Some c.number } in
+pub owed_taken : (next_number : ℕ) (w : World) (number : ℕ) (row : WorkerRow) (pool : PoolId) (persistent : Bool) (c : CallbackRow) → IsSound next_number w → numbered w.workers number ≡ Some row → row.pool ≡ Some pool → find (has_number c.number) w.callbacks ≡ Some c → is_pending c.status ≡ true
+    → owed (with_worker (with_callback w (taken c number)) number (record { pool = Some pool; callback = Some c.number; persistent = persistent })) ≡ owed w + 1
+owed_taken next_number w number row pool persistent c s is at found waits =
+    let new : WorkerRow = record { pool = Some pool; callback = Some c.number; persistent = persistent } in
     let moved : owed (with_worker (with_callback w (taken c number)) number new) + one_if (has_pool row) ≡ owed (with_callback w (taken c number)) + one_if (has_pool new)
     = owed_worker (with_callback w (taken c number)) number row new is in
     let begun : owed (with_callback w (taken c number)) + one_if (runs c) ≡ owed w + one_if (runs (taken c number)) = owed_callback next_number w c (taken c number) s found in
@@ -101,9 +101,9 @@ owed_taken next_number w number row pool c s is at found waits =
 
 -- a callback that returns owes nothing more
 pub owed_returned : (next_number : ℕ) (w : World) (number : ℕ) (row : WorkerRow) (c : CallbackRow) → IsSound next_number w → numbered w.workers number ≡ Some row → find (has_number c.number) w.callbacks ≡ Some c → is_running c.status ≡ true
-    → owed (with_worker (with_callback w (returned c)) number (record { pool = row.pool; callback = None })) + 1 ≡ owed w
+    → owed (with_worker (with_callback w (returned c)) number (record row { callback = None })) + 1 ≡ owed w
 owed_returned next_number w number row c s is found ran =
-    let new : WorkerRow = record { pool = row.pool; callback = None } in
+    let new : WorkerRow = record row { callback = None } in
     let moved : owed (with_worker (with_callback w (returned c)) number new) + one_if (has_pool row) ≡ owed (with_callback w (returned c)) + one_if (has_pool new)
     = owed_worker (with_callback w (returned c)) number row new is in
     let ended : owed (with_callback w (returned c)) + one_if (runs c) ≡ owed w + one_if (runs (returned c)) = owed_callback next_number w c (returned c) s found in
@@ -285,18 +285,18 @@ paid next_number w (change.Fire trigger first count) s a =
     omega (arith, ap length (running_appended w.callbacks w.objects first (firing trigger (sources_of w)).jobs))
 paid next_number w (change.CreateKernel state) s a = omega arith
 paid next_number w (change.ChangeKernel kernel how) s a = omega arith
-paid next_number w (change.Attach worker pool) s a = omega (arith, owed_attached w worker unattached pool a.stands refl)
+paid next_number w (change.Attach worker pool) s a = omega (arith, owed_attached w worker a.row pool a.stands a.away)
 paid next_number w (change.Detach by) s a =
-    let changed : owed (with_worker w by.worker unattached) + one_if (has_pool (record { pool = Some by.pool; callback = None })) ≡ owed w + one_if (has_pool unattached)
-    = owed_worker w by.worker (record { pool = Some by.pool; callback = None }) unattached a in
+    let changed : owed (with_worker w by.worker unattached) + one_if (has_pool (record { pool = Some by.pool; callback = None; persistent = by.persistent })) ≡ owed w + one_if (has_pool unattached)
+    = owed_worker w by.worker (record { pool = Some by.pool; callback = None; persistent = by.persistent }) unattached a.idles in
     omega (arith, changed)
-paid next_number w (change.Take by c) s a = omega (arith, owed_taken next_number w by.worker (record { pool = Some by.pool; callback = None }) by.pool c s a.idles refl a.found a.pending)
+paid next_number w (change.Take by c) s a = omega (arith, owed_taken next_number w by.worker (record { pool = Some by.pool; callback = None; persistent = by.persistent }) by.pool (by.persistent || c.persistent) c s a.idles refl a.found a.pending)
 paid next_number w (change.Mark by mark) s a = omega (arith, owed_marked next_number w mark by.callback s a.runs.found)
 paid next_number w (change.Return by words first count) s a =
     omega (
       arith,
       ap length (running_appended (replaced (returned by.callback) w.callbacks) w.objects first (returning w words (slots_of by.callback.status)).jobs),
-      owed_returned next_number w by.worker (record { pool = Some by.pool; callback = Some by.callback.number }) by.callback s a.runs.stands a.runs.found (ap is_running a.runs.running),
+      owed_returned next_number w by.worker (record { pool = Some by.pool; callback = Some by.callback.number; persistent = by.persistent }) by.callback s a.runs.stands a.runs.found (ap is_running a.runs.running),
     )
 paid next_number w (change.BeginWait who awaited cancel) s a = omega (arith, owed_begin_wait w who awaited cancel)
 paid next_number w change.CreateGroup s a = omega arith

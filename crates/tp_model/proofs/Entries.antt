@@ -28,6 +28,7 @@ use Rattle.tp_model.specs.Refusing.{first_refusal, unless_refused}
 use Rattle.tp_model.specs.Waits.{wait_of, held}
 use Rattle.tp_model.specs.Calls.Waits.{end_for, end_held, end_wait, holds_starved, end_notices, notice_of}
 use Rattle.tp_model.specs.Calls.End.{end_plan, end_refusals, end_unless_stalled}
+use Rattle.tp_model.specs.Conditions.{is_closed_pool}
 use Rattle.tp_model.specs.Stalled.{is_stalled}
 use Rattle.tp_base.specs.declared.answers.Look.TheVariants as look
 use Rattle.tp_base.specs.declared.plans.WaitEnd.TheVariants as how
@@ -65,6 +66,7 @@ refused_leads w who call refusal =
         arms = λ object wait. omega arith;
         homes = tt;
         simples = λ group e. tt;
+        placed = λ s e. tt;
       };
       waits = Keep (record { begins = refl; ends = and_false (is_end_call call); quiet = refl; stay = λ other wait found. found; was = λ other wait found. inl found });
       limits = refl;
@@ -78,6 +80,7 @@ refused_leads w who call refusal =
         dues = λ group. refl;
       };
       maxima = λ pool. refl;
+      closings = λ pool. sym (or_false (is_closed_pool w pool));
     }
   where
     none_either : (b : Bool) → ◌≡◌ {A = List ℕ} (cond b [] []) []

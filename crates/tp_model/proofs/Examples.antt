@@ -23,7 +23,7 @@ limits : Limits
 limits = record { clients = 1; workers = 4; pools = 64; groups = 255; objects = 4095; kernels = 1024; slots = 8192 }
 
 environ : Priority → Environ
-environ priority = record { pool = record { 0 = 0 }; group = record { 0 = 0 }; cancel = record { 0 = 0 }; priority = priority; long = false }
+environ priority = record { pool = record { 0 = 0 }; group = record { 0 = 0 }; cancel = record { 0 = 0 }; priority = priority; long = false; persistent = false }
 
 plain_path : play limits 65536
     ((Client 1, Create Work (record { 0 = 1 }) 7 (environ Normal)) ∷ (Client 1, SubmitWork (record { 0 = 1 })) ∷ (Worker 1, Attach) ∷ (Worker 1, Take) ∷ (Worker 1, Return) ∷ [])

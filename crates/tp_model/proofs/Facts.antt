@@ -115,8 +115,8 @@ module _ (limits : Limits) (history : List Entry) (p : AreStanding limits histor
   takes (Worker number) actor at left told e =
       let h = here (Worker number) actor in
       let i = h.idle at in
-      telling w left (Worker number) Take p.sound (λ a. is_some (taken_by a) ≡ true) (take_callback w i.by (next w i.by.pool.0)) told
-      (take_is w number h.actor (h.runs ∙ ap is_busy_stage at) (h.attached ∙ ap is_at_pool at) ∙ ap (take w) i.is) (of_next i.by (next w i.by.pool.0)) e
+      telling w left (Worker number) Take p.sound (λ a. is_some (taken_by a) ≡ true) (take_callback w i.by (next w i.by.pool.0 i.by.persistent)) told
+      (take_is w number h.actor (h.runs ∙ ap is_busy_stage at) (h.attached ∙ ap is_at_pool at) ∙ ap (take w) i.is) (of_next i.by (next w i.by.pool.0 i.by.persistent)) e
     where
       of_next : (by : Idle) (c : Option CallbackRow) → IsTelling w left (Worker number) Take p.sound (λ a. is_some (taken_by a) ≡ true) (take_callback w by c)
       of_next by None = tt
@@ -136,7 +136,7 @@ module _ (limits : Limits) (history : List Entry) (p : AreStanding limits histor
       (detach_is w number h.actor (h.runs ∙ ap is_busy_stage at) (h.attached ∙ ap is_at_pool at) ∙ ap (detach w) i.is) (of_pool i.by) e
     where
       of_pool : (by : Idle) → IsTelling w left (Worker number) Detach p.sound (λ a. a ≡ answer.Done) (detach w (Some by))
-      of_pool by = elim (may_leave w by.pool.0) as (λ b. IsTelling w left (Worker number) Detach p.sound (λ a. a ≡ answer.Done) (cond b (plans.Does answer.Done (change.Detach by)) (plans.Looked look.Stay))) [ true ↦ refl | false ↦ tt ]
+      of_pool by = elim (may_leave w by) as (λ b. IsTelling w left (Worker number) Detach p.sound (λ a. a ≡ answer.Done) (cond b (plans.Does answer.Done (change.Detach by)) (plans.Looked look.Stay))) [ true ↦ refl | false ↦ tt ]
 
   over_clients : (left : ℕ) → is_over w left ≡ true → (number : ℕ) → IsActor limits (Client number) → stage_of (Client number) history ≡ stage.Over
   over_clients left over number actor = of_row (numbered w.clients number) refl (p.stages (Client number) actor)

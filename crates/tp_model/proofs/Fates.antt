@@ -86,19 +86,22 @@ operating_left Cancelled e = absurd (false_true e)
 follows_operating : (old new : Status) → is_operating old ≡ true → Follows old new
 follows_operating old new e = record { held = λ target _. operating_held target old e; left = λ _. operating_left old e; operating = λ _. e }
 
--- the row of a number was there before, with the same object and group
+-- the row of a number was there before, with the same object, group and pool, and as persistent
 pub record WasRow (w : World) (n : ℕ) (c : CallbackRow) : Type 0 where
   pub old : CallbackRow
   pub found : find (has_number n) w.callbacks ≡ Some old
   pub object : c.object ≡ old.object
   pub group : c.group ≡ old.group
+  pub pool : c.pool ≡ old.pool
+  pub persistent : c.persistent ≡ old.persistent
   pub follows : Follows old.status c.status
 
 same_found : (w : World) (n : ℕ) (cs : List CallbackRow) (c : CallbackRow) → cs ≡ w.callbacks → find (has_number n) cs ≡ Some c → WasRow w n c
-same_found w n cs c same found = record { old = c; found = ap (find (has_number n)) (sym same) ∙ found; object = refl; group = refl; follows = follows_same c.status c.status refl }
+same_found w n cs c same found = record { old = c; found = ap (find (has_number n)) (sym same) ∙ found; object = refl; group = refl; pool = refl; persistent = refl; follows = follows_same c.status c.status refl }
 
-replaced_found : (w : World) (n : ℕ) (r old c : CallbackRow) → find (has_number r.number) w.callbacks ≡ Some old → r.object ≡ old.object → r.group ≡ old.group → Follows old.status r.status → find (has_number n) (replaced r w.callbacks) ≡ Some c → WasRow w n c
-replaced_found w n r old c was object group follows found =
+replaced_found : (w : World) (n : ℕ) (r old c : CallbackRow) → find (has_number r.number) w.callbacks ≡ Some old → r.object ≡ old.object → r.group ≡ old.group → r.pool ≡ old.pool → r.persistent ≡ old.persistent → Follows old.status r.status
+    → find (has_number n) (replaced r w.callbacks) ≡ Some c → WasRow w n c
+replaced_found w n r old c was object group pool persistent follows found =
     elim (has_number n r) as (λ b. has_number n r ≡ b → WasRow w n c) [
       | true ↦ λ e.
           let is : r.number ≡ n = eqb-true r.number n e in
@@ -108,6 +111,8 @@ replaced_found w n r old c was object group follows found =
             found = ap (λ k. find (has_number k) w.callbacks) (sym is) ∙ was;
             object = ap (λ (x : CallbackRow). x.object) (sym same) ∙ object;
             group = ap (λ (x : CallbackRow). x.group) (sym same) ∙ group;
+            pool = ap (λ (x : CallbackRow). x.pool) (sym same) ∙ pool;
+            persistent = ap (λ (x : CallbackRow). x.persistent) (sym same) ∙ persistent;
             follows = subst (λ (x : CallbackRow). Follows old.status x.status) same follows;
           }
       | false ↦ λ e. same_found w n w.callbacks c refl (sym (find_replaced_other r n w.callbacks e) ∙ found)
@@ -121,8 +126,8 @@ cancelled_was w n test c found = of_row (find (has_number n) w.callbacks) refl (
   where
     of_test : (d : CallbackRow) (b : Bool) → find (has_number n) w.callbacks ≡ Some d → cond b (cancelled d) d ≡ c → WasRow w n c
     of_test d true was is =
-        subst (WasRow w n) is (record { old = d; found = was; object = refl; group = refl; follows = follows_over d.status Cancelled (λ target. refl) refl refl })
-    of_test d false was is = subst (WasRow w n) is (record { old = d; found = was; object = refl; group = refl; follows = follows_same d.status d.status refl })
+        subst (WasRow w n) is (record { old = d; found = was; object = refl; group = refl; pool = refl; persistent = refl; follows = follows_over d.status Cancelled (λ target. refl) refl refl })
+    of_test d false was is = subst (WasRow w n) is (record { old = d; found = was; object = refl; group = refl; pool = refl; persistent = refl; follows = follows_same d.status d.status refl })
 
     of_row : (o : Option CallbackRow) → find (has_number n) w.callbacks ≡ o → cancelled_found test o ≡ Some c → WasRow w n c
     of_row None was e = absurd cc
@@ -130,17 +135,17 @@ cancelled_was w n test c found = of_row (find (has_number n) w.callbacks) refl (
 
 pub move_was : (w : World) (entry : Entry) (kept : List CallbackRow) (staff : List WorkerRow) (n : ℕ) (c : CallbackRow) → Move w entry kept staff → find (has_number n) kept ≡ Some c → WasRow w n c
 move_was w entry kept staff n c (Stay m) found = same_found w n kept c m.callbacks found
-move_was w entry kept staff n c (Mark m) found = replaced_found w n m.new m.old c m.found m.object m.group (follows_same m.old.status m.new.status m.status) (ap (find (has_number n)) (sym m.callbacks) ∙ found)
+move_was w entry kept staff n c (Mark m) found = replaced_found w n m.new m.old c m.found m.object m.group m.pool m.persistent (follows_same m.old.status m.new.status m.status) (ap (find (has_number n)) (sym m.callbacks) ∙ found)
 move_was w entry kept staff n c (Attach m) found = same_found w n kept c m.callbacks found
 move_was w entry kept staff n c (Detach m) found = same_found w n kept c m.callbacks found
 move_was w entry kept staff n c (Take m) found =
-    replaced_found w n (taken m.callback m.worker) m.callback c m.found refl refl
+    replaced_found w n (taken m.callback m.worker) m.callback c m.found refl refl refl refl
     (record { held = λ target _. pending_held target m.callback.status m.waits; left = λ h. absurd (false_true h); operating = λ h. absurd (false_true h) })
     (ap (find (has_number n)) (sym m.callbacks) ∙ found)
 move_was w entry kept staff n c (Return m) found =
-    replaced_found w n (returned m.callback) m.callback c m.found refl refl (follows_over m.callback.status Returned (λ target. refl) refl refl) (ap (find (has_number n)) (sym m.callbacks) ∙ found)
+    replaced_found w n (returned m.callback) m.callback c m.found refl refl refl refl (follows_over m.callback.status Returned (λ target. refl) refl refl) (ap (find (has_number n)) (sym m.callbacks) ∙ found)
 move_was w entry kept staff n c (Amend m) found =
-    replaced_found w n (record m.callback { status = Running m.worker (m.associated && not m.loose) (asked_slots m.asks m.slots) }) m.callback c m.found refl refl
+    replaced_found w n (record m.callback { status = Running m.worker (m.associated && not m.loose) (asked_slots m.asks m.slots) }) m.callback c m.found refl refl refl refl
     (record { held = λ target h. still_held target h; left = λ h. absurd (false_true h); operating = λ h. absurd (false_true h) })
     (ap (find (has_number n)) (sym m.callbacks) ∙ found)
   where
@@ -149,7 +154,7 @@ move_was w entry kept staff n c (Amend m) found =
     still_held (Group group) h = ap (is_held_for (Group group)) m.running
     still_held (Kernel kernel) h = absurd (false_true h)
 move_was w entry kept staff n c (Operate m) found =
-    replaced_found w n (operated m.how m.callback) m.callback c m.found refl refl
+    replaced_found w n (operated m.how m.callback) m.callback c m.found refl refl refl refl
     (follows_operating m.callback.status (operated m.how m.callback).status (before_operates m.how m.callback.status m.status)) (ap (find (has_number n)) (sym m.callbacks) ∙ found)
 move_was w entry kept staff n c (Cancel m) found = cancelled_was w n m.test c (ap (find (has_number n)) (sym m.callbacks) ∙ found)
 

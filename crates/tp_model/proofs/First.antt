@@ -1,11 +1,11 @@
--- What is taken next comes first of what is pending.
+-- What a worker takes next comes first of what it may take.
 use Rattle.std.proofs.Common.{◌≡◌, ℕ, ◌+◌, ◌≤◌, Bool, true, false, cond, ◌&&◌, ◌||◌, ◌==◌, nat_lt, nat_le, List, [], ◌∷◌, ◌++◌, slice_get, Option, Some, None, refl, sym, ap, ap₂, ◌∙◌, subst, find, filter, arith, is_some}
 use Rattle.std.proofs.lemmas.Bool.{le-leb}
 use Rattle.tp_base.specs.declared.calls.Priority.{Priority}
 use Rattle.tp_base.specs.declared.calls.Priority.TheVariants.{High, Normal, Low}
 use Rattle.tp_base.specs.declared.rows.CallbackRow.{CallbackRow}
 use Rattle.tp_model.specs.World.{World}
-use Rattle.tp_model.specs.Counts.{callback_of, has_number, is_pending_in, is_high, is_normal, is_low, waiting, next}
+use Rattle.tp_model.specs.Counts.{callback_of, has_number, is_open_to, is_high, is_normal, is_low, waiting, next}
 use Rattle.tp_model.specs.Next.{rank, comes_first, IsNext, IsNextOrNone}
 use Rattle.tp_model.specs.Support.Sound.{IsSound, IsRising}
 use Rattle.tp_model.proofs.Callbacks.{found_bounds, kept_found}
@@ -72,41 +72,41 @@ none_of_all High h n l = false_true (sym h)
 none_of_all Normal h n l = false_true (sym n)
 none_of_all Low h n l = false_true (sym l)
 
-module _ (next_number : ℕ) (w : World) (pool : ℕ) (s : IsSound next_number w) where
-  kept_first : (of : Priority → Bool) (c : CallbackRow) → slice_get (waiting w pool of) 0 ≡ Some c → (callback_of w c.number ≡ Some c) × ((is_pending_in pool c && of c.priority) ≡ true)
-  kept_first of c e = kept_found (λ x. is_pending_in pool x && of x.priority) 1 next_number w.callbacks 0 c s.numbers e
+module _ (next_number : ℕ) (w : World) (pool : ℕ) (persistent : Bool) (s : IsSound next_number w) where
+  kept_first : (of : Priority → Bool) (c : CallbackRow) → slice_get (waiting w pool persistent of) 0 ≡ Some c → (callback_of w c.number ≡ Some c) × ((is_open_to w pool persistent c && of c.priority) ≡ true)
+  kept_first of c e = kept_found (λ x. is_open_to w pool persistent x && of x.priority) 1 next_number w.callbacks 0 c s.numbers e
 
-  least_of : (of : Priority → Bool) (c d : CallbackRow) → slice_get (waiting w pool of) 0 ≡ Some c → callback_of w d.number ≡ Some d → is_pending_in pool d ≡ true → of d.priority ≡ true → c.number ≤ d.number
-  least_of of c d e found pending own = head_least (λ x. is_pending_in pool x && of x.priority) 1 next_number w.callbacks c d s.numbers e found (ap₂ (λ a b. a && b) pending own)
+  least_of : (of : Priority → Bool) (c d : CallbackRow) → slice_get (waiting w pool persistent of) 0 ≡ Some c → callback_of w d.number ≡ Some d → is_open_to w pool persistent d ≡ true → of d.priority ≡ true → c.number ≤ d.number
+  least_of of c d e found may own = head_least (λ x. is_open_to w pool persistent x && of x.priority) 1 next_number w.callbacks c d s.numbers e found (ap₂ (λ a b. a && b) may own)
 
-  none_of : (of : Priority → Bool) (d : CallbackRow) → slice_get (waiting w pool of) 0 ≡ None → callback_of w d.number ≡ Some d → is_pending_in pool d ≡ true → of d.priority ≡ false
-  none_of of d none found pending = sym (ap (λ b. b && of d.priority) pending) ∙ none_kept (λ c. is_pending_in pool c && of c.priority) w.callbacks d.number d none found
+  none_of : (of : Priority → Bool) (d : CallbackRow) → slice_get (waiting w pool persistent of) 0 ≡ None → callback_of w d.number ≡ Some d → is_open_to w pool persistent d ≡ true → of d.priority ≡ false
+  none_of of d none found may = sym (ap (λ b. b && of d.priority) may) ∙ none_kept (λ c. is_open_to w pool persistent c && of c.priority) w.callbacks d.number d none found
 
-  is_next : (of : Priority → Bool) (c : CallbackRow) → slice_get (waiting w pool of) 0 ≡ Some c
-      → ((d : CallbackRow) → callback_of w d.number ≡ Some d → is_pending_in pool d ≡ true → of c.priority ≡ true → comes_first c d ≡ true) → IsNext w pool c
+  is_next : (of : Priority → Bool) (c : CallbackRow) → slice_get (waiting w pool persistent of) 0 ≡ Some c
+      → ((d : CallbackRow) → callback_of w d.number ≡ Some d → is_open_to w pool persistent d ≡ true → of c.priority ≡ true → comes_first c d ≡ true) → IsNext w pool persistent c
   is_next of c e first =
       let here = kept_first of c e in
-      let apart = both (is_pending_in pool c) (of c.priority) here.1 in
-      record { found = here.0; pending = apart.0; first = λ d found pending. first d found pending apart.1 }
+      let apart = both (is_open_to w pool persistent c) (of c.priority) here.1 in
+      record { found = here.0; open_to = apart.0; first = λ d found may. first d found may apart.1 }
 
-  of_high : (o : Option CallbackRow) → slice_get (waiting w pool is_high) 0 ≡ o → is_some o ≡ true → IsNextOrNone w pool o
+  of_high : (o : Option CallbackRow) → slice_get (waiting w pool persistent is_high) 0 ≡ o → is_some o ≡ true → IsNextOrNone w pool persistent o
   of_high None e there = absurd (false_true there)
-  of_high (Some c) e there = is_next is_high c e (λ d found pending own. high_first c.priority d.priority c.number d.number own (least_of is_high c d e found pending))
+  of_high (Some c) e there = is_next is_high c e (λ d found may own. high_first c.priority d.priority c.number d.number own (least_of is_high c d e found may))
 
-  of_normal : (o : Option CallbackRow) → slice_get (waiting w pool is_high) 0 ≡ None → slice_get (waiting w pool is_normal) 0 ≡ o → is_some o ≡ true → IsNextOrNone w pool o
+  of_normal : (o : Option CallbackRow) → slice_get (waiting w pool persistent is_high) 0 ≡ None → slice_get (waiting w pool persistent is_normal) 0 ≡ o → is_some o ≡ true → IsNextOrNone w pool persistent o
   of_normal None none e there = absurd (false_true there)
   of_normal (Some c) none e there =
-      is_next is_normal c e (λ d found pending own. normal_first c.priority d.priority c.number d.number own (none_of is_high d none found pending) (least_of is_normal c d e found pending))
+      is_next is_normal c e (λ d found may own. normal_first c.priority d.priority c.number d.number own (none_of is_high d none found may) (least_of is_normal c d e found may))
 
-  of_low : (o : Option CallbackRow) → slice_get (waiting w pool is_high) 0 ≡ None → slice_get (waiting w pool is_normal) 0 ≡ None → slice_get (waiting w pool is_low) 0 ≡ o → IsNextOrNone w pool o
-  of_low None none also e = λ d found pending. none_of_all d.priority (none_of is_high d none found pending) (none_of is_normal d also found pending) (none_of is_low d e found pending)
+  of_low : (o : Option CallbackRow) → slice_get (waiting w pool persistent is_high) 0 ≡ None → slice_get (waiting w pool persistent is_normal) 0 ≡ None → slice_get (waiting w pool persistent is_low) 0 ≡ o → IsNextOrNone w pool persistent o
+  of_low None none also e = λ d found may. none_of_all d.priority (none_of is_high d none found may) (none_of is_normal d also found may) (none_of is_low d e found may)
   of_low (Some c) none also e =
-      is_next is_low c e (λ d found pending own. low_first c.priority d.priority c.number d.number own (none_of is_high d none found pending) (none_of is_normal d also found pending) (least_of is_low c d e found pending))
+      is_next is_low c e (λ d found may own. low_first c.priority d.priority c.number d.number own (none_of is_high d none found may) (none_of is_normal d also found may) (least_of is_low c d e found may))
 
-  of_queue : (hs ns ls : List CallbackRow) → waiting w pool is_high ≡ hs → waiting w pool is_normal ≡ ns → waiting w pool is_low ≡ ls → (o : Option CallbackRow) → slice_get (hs ++ ns ++ ls) 0 ≡ o → IsNextOrNone w pool o
+  of_queue : (hs ns ls : List CallbackRow) → waiting w pool persistent is_high ≡ hs → waiting w pool persistent is_normal ≡ ns → waiting w pool persistent is_low ≡ ls → (o : Option CallbackRow) → slice_get (hs ++ ns ++ ls) 0 ≡ o → IsNextOrNone w pool persistent o
   of_queue (h ∷ hs) ns ls eh en el o e = of_high o (ap (λ l. slice_get l 0) eh ∙ e) (ap is_some (sym e))
   of_queue [] (n ∷ ns) ls eh en el o e = of_normal o (ap (λ l. slice_get l 0) eh) (ap (λ l. slice_get l 0) en ∙ e) (ap is_some (sym e))
   of_queue [] [] ls eh en el o e = of_low o (ap (λ l. slice_get l 0) eh) (ap (λ l. slice_get l 0) en) (ap (λ l. slice_get l 0) el ∙ e)
 
-  pub next_first : IsNextOrNone w pool (next w pool)
-  next_first = of_queue (waiting w pool is_high) (waiting w pool is_normal) (waiting w pool is_low) refl refl refl (next w pool) refl
+  pub next_first : IsNextOrNone w pool persistent (next w pool persistent)
+  next_first = of_queue (waiting w pool persistent is_high) (waiting w pool persistent is_normal) (waiting w pool persistent is_low) refl refl refl (next w pool persistent) refl

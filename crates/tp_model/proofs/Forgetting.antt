@@ -25,7 +25,7 @@ use Rattle.tp_base.specs.declared.rows.WorkerRow.{WorkerRow}
 use Rattle.tp_base.specs.declared.ids.ObjectId.{ObjectId}
 use Rattle.tp_model.specs.Sources.{Firing, firing, sources_of, rows_of}
 use Rattle.tp_model.specs.World.{World, BegunWait}
-use Rattle.tp_model.specs.Counts.{numbered, has_number, is_live, is_running, is_pending_in, is_running_in, is_running_long_in, is_high, is_normal, is_low, waiting, queue, next, pending, running, running_long, slots, owed, is_in_need, is_below_minimum, is_operating}
+use Rattle.tp_model.specs.Counts.{numbered, has_number, is_live, is_running, is_open_to, is_pending_in, has_persistent, is_running_in, is_running_long_in, is_high, is_normal, is_low, waiting, queue, next, pending, takeable, running, running_long, slots, owed, is_in_need, is_below_minimum, is_operating}
 use Rattle.tp_model.specs.Conditions.{busy_row, busy_in, busy_of}
 use Rattle.tp_model.specs.Refusing.{first_refusal, unless_refused}
 use Rattle.tp_model.specs.Changes.{with_new_pool, with_object, with_worker, with_client, change_pool, pool_after, with_pool, replaced, taken, marked, operated, returned, finished, changed, release_object, without_wait, end_wait, kernels_taken, kernels_left}
@@ -55,8 +55,14 @@ over_not_pending_in pool c e = ap (λ b. b && (c.pool.0 == pool)) (over_not_pend
 over_not_running_in : (pool : ℕ) (c : CallbackRow) → lives c ≡ false → is_running_in pool c ≡ false
 over_not_running_in pool c e = ap (λ b. b && (c.pool.0 == pool)) (over_not_running c.status e)
 
+over_not_open : (w : World) (pool : ℕ) (persistent : Bool) (c : CallbackRow) → lives c ≡ false → is_open_to w pool persistent c ≡ false
+over_not_open w pool persistent c e = ap (λ b. b && (not c.persistent || persistent || not (has_persistent w pool))) (over_not_pending_in pool c e)
+
 pub pending_forget : (w : World) (pool : ℕ) → pending (forget w) pool ≡ pending w pool
 pending_forget w pool = ap length (filter_filter (is_pending_in pool) lives (over_not_pending_in pool) w.callbacks)
+
+pub takeable_forget : (w : World) (pool : ℕ) (persistent : Bool) → takeable (forget w) pool persistent ≡ takeable w pool persistent
+takeable_forget w pool persistent = ap length (filter_filter (is_open_to w pool persistent) lives (over_not_open w pool persistent) w.callbacks)
 
 pub running_forget : (w : World) (pool : ℕ) → running (forget w) pool ≡ running w pool
 running_forget w pool = ap length (filter_filter (is_running_in pool) lives (over_not_running_in pool) w.callbacks)
@@ -64,15 +70,16 @@ running_forget w pool = ap length (filter_filter (is_running_in pool) lives (ove
 pub running_long_forget : (w : World) (pool : ℕ) → running_long (forget w) pool ≡ running_long w pool
 running_long_forget w pool = ap length (filter_filter (is_running_long_in pool) lives (λ c e. ap (λ b. b && c.long) (over_not_running_in pool c e)) w.callbacks)
 
-waiting_forget : (w : World) (pool : ℕ) (test : Priority → Bool) → waiting (forget w) pool test ≡ waiting w pool test
-waiting_forget w pool test = filter_filter (λ c. is_pending_in pool c && test c.priority) lives (λ c e. ap (λ b. b && test c.priority) (over_not_pending_in pool c e)) w.callbacks
+waiting_forget : (w : World) (pool : ℕ) (persistent : Bool) (test : Priority → Bool) → waiting (forget w) pool persistent test ≡ waiting w pool persistent test
+waiting_forget w pool persistent test =
+    filter_filter (λ c. is_open_to w pool persistent c && test c.priority) lives (λ c e. ap (λ b. b && test c.priority) (over_not_open w pool persistent c e)) w.callbacks
 
-pub queue_forget : (w : World) (pool : ℕ) → queue (forget w) pool ≡ queue w pool
-queue_forget w pool =
-    ap₂ (λ hn l. hn ++ l) (ap₂ (λ h n. h ++ n) (waiting_forget w pool is_high) (waiting_forget w pool is_normal)) (waiting_forget w pool is_low)
+pub queue_forget : (w : World) (pool : ℕ) (persistent : Bool) → queue (forget w) pool persistent ≡ queue w pool persistent
+queue_forget w pool persistent =
+    ap₂ (λ hn l. hn ++ l) (ap₂ (λ h n. h ++ n) (waiting_forget w pool persistent is_high) (waiting_forget w pool persistent is_normal)) (waiting_forget w pool persistent is_low)
 
-pub next_forget : (w : World) (pool : ℕ) → next (forget w) pool ≡ next w pool
-next_forget w pool = ap (λ q. slice_get q 0) (queue_forget w pool)
+pub next_forget : (w : World) (pool : ℕ) (persistent : Bool) → next (forget w) pool persistent ≡ next w pool persistent
+next_forget w pool persistent = ap (λ q. slice_get q 0) (queue_forget w pool persistent)
 
 pub owed_forget : (w : World) → owed (forget w) ≡ owed w
 owed_forget w =
@@ -81,7 +88,7 @@ owed_forget w =
     rw same
 
 pub in_need_forget : (w : World) (pool : ℕ) → is_in_need (forget w) pool ≡ is_in_need w pool
-in_need_forget w pool = rw (filter_filter (is_pending_in pool) lives (over_not_pending_in pool) w.callbacks)
+in_need_forget w pool = rw (filter_filter (is_open_to w pool false) lives (over_not_open w pool false) w.callbacks)
 
 pub below_minimum_forget : (w : World) (pool : ℕ) → is_below_minimum (forget w) pool ≡ is_below_minimum w pool
 below_minimum_forget w pool = rw (filter_filter (is_running_long_in pool) lives (λ c e. ap (λ b. b && c.long) (over_not_running_in pool c e)) w.callbacks)
@@ -143,17 +150,18 @@ forget_sound next_number w s =
 
 -- ---- running callbacks
 
-busy_row_forget : (next_number : ℕ) (w : World) (number : ℕ) (pool : Option PoolId) (callback : Option ℕ) → IsSound next_number w → numbered w.workers number ≡ Some (record { pool = pool; callback = callback }) → busy_row (forget w) number pool callback ≡ busy_row w number pool callback
-busy_row_forget next_number w number (Some pool) (Some callback) s stands =
-    let at = numbered_some w.workers number (record { pool = Some pool; callback = Some callback }) stands in
-    let on : RunsOn w.callbacks (1 + (number - 1)) pool callback = worker_at w.callbacks 1 (number - 1) w.workers (record { pool = Some pool; callback = Some callback }) s.workers at.0 in
-    ap (option_map (λ (c : CallbackRow). record { worker = number; pool = pool; callback = c })) (find_kept (has_number callback) lives on.callback (ap is_live on.runs) w.callbacks on.found ∙ sym on.found)
-busy_row_forget next_number w number (Some pool) None s stands = refl
-busy_row_forget next_number w number None callback s stands = refl
+busy_row_forget : (next_number : ℕ) (w : World) (number : ℕ) (pool : Option PoolId) (callback : Option ℕ) (persistent : Bool) → IsSound next_number w → numbered w.workers number ≡ Some (record { pool = pool; callback = callback; persistent = persistent })
+    → busy_row (forget w) number pool callback persistent ≡ busy_row w number pool callback persistent
+busy_row_forget next_number w number (Some pool) (Some callback) persistent s stands =
+    let at = numbered_some w.workers number (record { pool = Some pool; callback = Some callback; persistent = persistent }) stands in
+    let on : RunsOn w.callbacks (1 + (number - 1)) pool callback = worker_at w.callbacks 1 (number - 1) w.workers (record { pool = Some pool; callback = Some callback; persistent = persistent }) s.workers at.0 in
+    ap (option_map (λ (c : CallbackRow). record { worker = number; pool = pool; callback = c; persistent = persistent })) (find_kept (has_number callback) lives on.callback (ap is_live on.runs) w.callbacks on.found ∙ sym on.found)
+busy_row_forget next_number w number (Some pool) None persistent s stands = refl
+busy_row_forget next_number w number None callback persistent s stands = refl
 
 busy_in_forget : (next_number : ℕ) (w : World) (number : ℕ) (row : Option WorkerRow) → IsSound next_number w → numbered w.workers number ≡ row → busy_in (forget w) number row ≡ busy_in w number row
 busy_in_forget next_number w number None s stands = refl
-busy_in_forget next_number w number (Some row) s stands = busy_row_forget next_number w number row.pool row.callback s stands
+busy_in_forget next_number w number (Some row) s stands = busy_row_forget next_number w number row.pool row.callback row.persistent s stands
 
 pub busy_forget : (next_number : ℕ) (w : World) (who : Who) → IsSound next_number w → busy_of (forget w) who ≡ busy_of w who
 busy_forget next_number w (Client number) s = refl
@@ -273,7 +281,7 @@ changed_forget next_number w (change.Attach worker pool) s a = live_forgotten (c
 changed_forget next_number w (change.Detach by) s a = live_forgotten (changed w (change.Detach by))
 changed_forget next_number w (change.Take by c) s a =
     let r : CallbackRow = taken c by.worker in
-    as_live (with_worker w by.worker (record { pool = Some by.pool; callback = Some c.number })) (replaced r (filter lives w.callbacks)) (replaced r w.callbacks)
+    as_live (with_worker w by.worker (record { pool = Some by.pool; callback = Some c.number; persistent = by.persistent || c.persistent })) (replaced r (filter lives w.callbacks)) (replaced r w.callbacks)
     (replaced_forget next_number w r c s refl a.found (pending_lives c.status a.pending))
 changed_forget next_number w (change.Mark by mark) s a =
     let r : CallbackRow = marked mark by.callback in
@@ -284,7 +292,7 @@ changed_forget next_number w (change.Return by words first count) s a =
     let rows : List CallbackRow = rows_of w.objects first f.jobs in
     let same : filter lives (replaced r (filter lives w.callbacks)) ≡ filter lives (replaced r w.callbacks)
     = filter_replaced_out lives r (filter lives w.callbacks) refl ∙ ap (filter (λ (x : CallbackRow). not (has_number by.callback.number x))) (live_again w.callbacks) ∙ sym (filter_replaced_out lives r w.callbacks refl) in
-    as_live (record (with_worker w by.worker (record { pool = Some by.pool; callback = None })) { settings = f.sources.settings; armings = f.sources.armings; kernels = f.sources.kernels; now = f.sources.now })
+    as_live (record (with_worker w by.worker (record { pool = Some by.pool; callback = None; persistent = by.persistent })) { settings = f.sources.settings; armings = f.sources.armings; kernels = f.sources.kernels; now = f.sources.now })
     (replaced r (filter lives w.callbacks) ++ rows) (replaced r w.callbacks ++ rows)
     (filter-append lives (replaced r (filter lives w.callbacks)) rows ∙ ap (λ t. t ++ filter lives rows) same ∙ sym (filter-append lives (replaced r w.callbacks) rows))
 changed_forget next_number w (change.BeginWait who awaited cancel) s a =

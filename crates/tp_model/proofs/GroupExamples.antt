@@ -31,12 +31,12 @@ limits : Limits
 limits = record { clients = 3; workers = 4; pools = 64; groups = 255; objects = 4095; kernels = 1024; slots = 8192 }
 
 plain : Environ
-plain = record { pool = record { 0 = 0 }; group = record { 0 = 0 }; cancel = record { 0 = 0 }; priority = Normal; long = false }
+plain = record { pool = record { 0 = 0 }; group = record { 0 = 0 }; cancel = record { 0 = 0 }; priority = Normal; long = false; persistent = false }
 
 -- a callback that was disassociated is waited for by a close of its group, and by no wait for its object
 disassociated : play limits 65536
     (((Client 1), call.CreateGroup)
-    ∷ ((Client 1), (call.Create Work (record { 0 = 1 }) 0 (record { pool = record { 0 = 0 }; group = record { 0 = 1 }; cancel = record { 0 = 2 }; priority = Normal; long = false })))
+    ∷ ((Client 1), (call.Create Work (record { 0 = 1 }) 0 (record { pool = record { 0 = 0 }; group = record { 0 = 1 }; cancel = record { 0 = 2 }; priority = Normal; long = false; persistent = false })))
     ∷ ((Client 1), (call.SubmitWork (record { 0 = 1 })))
     ∷ ((Worker 1), call.Attach)
     ∷ ((Worker 1), call.Take)
@@ -65,9 +65,9 @@ disassociated = refl
 -- a close with cancel cancels what is pending, and gives a notice of each member, also of one that runs nothing, once nothing that it covers is outstanding
 with_cancel : play limits 65536
     (((Client 1), call.CreateGroup)
-    ∷ ((Client 1), (call.Create Work (record { 0 = 1 }) 11 (record { pool = record { 0 = 0 }; group = record { 0 = 1 }; cancel = record { 0 = 9 }; priority = Normal; long = false })))
-    ∷ ((Client 1), (call.Create Work (record { 0 = 1 }) 12 (record { pool = record { 0 = 0 }; group = record { 0 = 1 }; cancel = record { 0 = 9 }; priority = Normal; long = false })))
-    ∷ ((Client 1), (call.Create Work (record { 0 = 1 }) 13 (record { pool = record { 0 = 0 }; group = record { 0 = 1 }; cancel = record { 0 = 9 }; priority = Normal; long = false })))
+    ∷ ((Client 1), (call.Create Work (record { 0 = 1 }) 11 (record { pool = record { 0 = 0 }; group = record { 0 = 1 }; cancel = record { 0 = 9 }; priority = Normal; long = false; persistent = false })))
+    ∷ ((Client 1), (call.Create Work (record { 0 = 1 }) 12 (record { pool = record { 0 = 0 }; group = record { 0 = 1 }; cancel = record { 0 = 9 }; priority = Normal; long = false; persistent = false })))
+    ∷ ((Client 1), (call.Create Work (record { 0 = 1 }) 13 (record { pool = record { 0 = 0 }; group = record { 0 = 1 }; cancel = record { 0 = 9 }; priority = Normal; long = false; persistent = false })))
     ∷ ((Client 1), (call.SubmitWork (record { 0 = 1 })))
     ∷ ((Worker 1), call.Attach)
     ∷ ((Worker 1), call.Take)
@@ -104,15 +104,15 @@ with_cancel = refl
 -- of two closes at once the second finds no member, and waits for the same callbacks; neither is for what is made later
 two_closers : play limits 65536
     (((Client 1), call.CreateGroup)
-    ∷ ((Client 1), (call.Create Work (record { 0 = 1 }) 1 (record { pool = record { 0 = 0 }; group = record { 0 = 1 }; cancel = record { 0 = 9 }; priority = Normal; long = false })))
-    ∷ ((Client 1), (call.Create Work (record { 0 = 1 }) 2 (record { pool = record { 0 = 0 }; group = record { 0 = 1 }; cancel = record { 0 = 9 }; priority = Normal; long = false })))
+    ∷ ((Client 1), (call.Create Work (record { 0 = 1 }) 1 (record { pool = record { 0 = 0 }; group = record { 0 = 1 }; cancel = record { 0 = 9 }; priority = Normal; long = false; persistent = false })))
+    ∷ ((Client 1), (call.Create Work (record { 0 = 1 }) 2 (record { pool = record { 0 = 0 }; group = record { 0 = 1 }; cancel = record { 0 = 9 }; priority = Normal; long = false; persistent = false })))
     ∷ ((Client 1), (call.SubmitWork (record { 0 = 1 })))
     ∷ ((Worker 1), call.Attach)
     ∷ ((Worker 1), call.Take)
     ∷ ((Client 1), (call.CloseObject Work (record { 0 = 1 })))
     ∷ ((Client 1), (call.BeginClose (record { 0 = 1 }) true 1))
     ∷ ((Client 2), (call.BeginClose (record { 0 = 1 }) true 2))
-    ∷ ((Client 3), (call.Create Work (record { 0 = 1 }) 3 (record { pool = record { 0 = 0 }; group = record { 0 = 1 }; cancel = record { 0 = 9 }; priority = Normal; long = false })))
+    ∷ ((Client 3), (call.Create Work (record { 0 = 1 }) 3 (record { pool = record { 0 = 0 }; group = record { 0 = 1 }; cancel = record { 0 = 9 }; priority = Normal; long = false; persistent = false })))
     ∷ ((Client 2), call.End)
     ∷ ((Worker 1), call.Return)
     ∷ ((Client 2), call.End)
@@ -141,11 +141,11 @@ two_closers = refl
 -- a group that has a member is not closed, and a closed one gets none
 a_member : play limits 65536
     (((Client 1), call.CreateGroup)
-    ∷ ((Client 1), (call.Create Timer (record { 0 = 1 }) 0 (record { pool = record { 0 = 0 }; group = record { 0 = 1 }; cancel = record { 0 = 0 }; priority = Normal; long = false })))
+    ∷ ((Client 1), (call.Create Timer (record { 0 = 1 }) 0 (record { pool = record { 0 = 0 }; group = record { 0 = 1 }; cancel = record { 0 = 0 }; priority = Normal; long = false; persistent = false })))
     ∷ ((Client 1), (call.CloseGroup (record { 0 = 1 })))
     ∷ ((Client 1), (call.CloseObject Timer (record { 0 = 1 })))
     ∷ ((Client 1), (call.CloseGroup (record { 0 = 1 })))
-    ∷ ((Client 1), (call.Create Work (record { 0 = 1 }) 0 (record { pool = record { 0 = 0 }; group = record { 0 = 1 }; cancel = record { 0 = 0 }; priority = Normal; long = false }))) ∷ [])
+    ∷ ((Client 1), (call.Create Work (record { 0 = 1 }) 0 (record { pool = record { 0 = 0 }; group = record { 0 = 1 }; cancel = record { 0 = 0 }; priority = Normal; long = false; persistent = false }))) ∷ [])
     ≡ outcome.Done (answer.Made 1)
     ∷ outcome.Done (answer.Made 1)
     ∷ outcome.Done (answer.Refused (refusal.HasMembers (record { 0 = 1 })))
@@ -158,7 +158,7 @@ a_member = refl
 -- a simple callback of a group is a member as long as it is outstanding, and gets no notice
 simple : play limits 65536
     (((Client 1), call.CreateGroup)
-    ∷ ((Client 1), (call.SubmitSimple (record { 0 = 4 }) 8 (record { pool = record { 0 = 0 }; group = record { 0 = 1 }; cancel = record { 0 = 2 }; priority = Normal; long = false })))
+    ∷ ((Client 1), (call.SubmitSimple (record { 0 = 4 }) 8 (record { pool = record { 0 = 0 }; group = record { 0 = 1 }; cancel = record { 0 = 2 }; priority = Normal; long = false; persistent = false })))
     ∷ ((Client 1), (call.CloseGroup (record { 0 = 1 })))
     ∷ ((Client 1), (call.BeginClose (record { 0 = 1 }) true 0))
     ∷ ((Client 1), call.End)
@@ -175,7 +175,7 @@ simple = refl
 -- a callback does not close its own group, disassociated or not
 own_group : play limits 65536
     (((Client 1), call.CreateGroup)
-    ∷ ((Client 1), (call.Create Work (record { 0 = 1 }) 0 (record { pool = record { 0 = 0 }; group = record { 0 = 1 }; cancel = record { 0 = 0 }; priority = Normal; long = false })))
+    ∷ ((Client 1), (call.Create Work (record { 0 = 1 }) 0 (record { pool = record { 0 = 0 }; group = record { 0 = 1 }; cancel = record { 0 = 0 }; priority = Normal; long = false; persistent = false })))
     ∷ ((Client 1), (call.SubmitWork (record { 0 = 1 })))
     ∷ ((Worker 1), call.Attach)
     ∷ ((Worker 1), call.Take)
@@ -202,8 +202,8 @@ own_group = refl
 -- a close without cancel leaves what is pending, covers it, and gives no notice; a member that was closed before is covered too
 kept : play limits 65536
     (((Client 1), call.CreateGroup)
-    ∷ ((Client 1), (call.Create Work (record { 0 = 1 }) 1 (record { pool = record { 0 = 0 }; group = record { 0 = 1 }; cancel = record { 0 = 9 }; priority = Normal; long = false })))
-    ∷ ((Client 1), (call.Create Work (record { 0 = 2 }) 2 (record { pool = record { 0 = 0 }; group = record { 0 = 1 }; cancel = record { 0 = 9 }; priority = Normal; long = false })))
+    ∷ ((Client 1), (call.Create Work (record { 0 = 1 }) 1 (record { pool = record { 0 = 0 }; group = record { 0 = 1 }; cancel = record { 0 = 9 }; priority = Normal; long = false; persistent = false })))
+    ∷ ((Client 1), (call.Create Work (record { 0 = 2 }) 2 (record { pool = record { 0 = 0 }; group = record { 0 = 1 }; cancel = record { 0 = 9 }; priority = Normal; long = false; persistent = false })))
     ∷ ((Client 1), (call.SubmitWork (record { 0 = 1 })))
     ∷ ((Client 1), (call.SubmitWork (record { 0 = 2 })))
     ∷ ((Client 1), (call.CloseObject Work (record { 0 = 2 })))
@@ -235,8 +235,8 @@ kept = refl
 -- a close unsets timers and disarms waits
 sources : play limits 65536
     (((Client 1), call.CreateGroup)
-    ∷ ((Client 1), (call.Create Timer (record { 0 = 1 }) 1 (record { pool = record { 0 = 0 }; group = record { 0 = 1 }; cancel = record { 0 = 0 }; priority = Normal; long = false })))
-    ∷ ((Client 1), (call.Create Wait (record { 0 = 2 }) 2 (record { pool = record { 0 = 0 }; group = record { 0 = 1 }; cancel = record { 0 = 3 }; priority = Normal; long = false })))
+    ∷ ((Client 1), (call.Create Timer (record { 0 = 1 }) 1 (record { pool = record { 0 = 0 }; group = record { 0 = 1 }; cancel = record { 0 = 0 }; priority = Normal; long = false; persistent = false })))
+    ∷ ((Client 1), (call.Create Wait (record { 0 = 2 }) 2 (record { pool = record { 0 = 0 }; group = record { 0 = 1 }; cancel = record { 0 = 3 }; priority = Normal; long = false; persistent = false })))
     ∷ ((Client 1), (call.CreateEvent false false))
     ∷ ((Client 1), (call.SetTimer (record { 0 = 1 }) (Some (negsuc 99)) 0 0))
     ∷ ((Client 1), (call.SetWait (record { 0 = 2 }) (Some (record { 0 = 1 })) (Some (negsuc 99))))
@@ -262,9 +262,9 @@ sources = refl
 -- a member with an operation under way is not closed with its group; the least such is named
 operations : play limits 65536
     (((Client 1), call.CreateGroup)
-    ∷ ((Client 1), (call.Create Work (record { 0 = 1 }) 0 (record { pool = record { 0 = 0 }; group = record { 0 = 1 }; cancel = record { 0 = 0 }; priority = Normal; long = false })))
-    ∷ ((Client 1), (call.Create Io (record { 0 = 1 }) 0 (record { pool = record { 0 = 0 }; group = record { 0 = 1 }; cancel = record { 0 = 4 }; priority = Normal; long = false })))
-    ∷ ((Client 1), (call.Create Io (record { 0 = 1 }) 5 (record { pool = record { 0 = 0 }; group = record { 0 = 1 }; cancel = record { 0 = 4 }; priority = Normal; long = false })))
+    ∷ ((Client 1), (call.Create Work (record { 0 = 1 }) 0 (record { pool = record { 0 = 0 }; group = record { 0 = 1 }; cancel = record { 0 = 0 }; priority = Normal; long = false; persistent = false })))
+    ∷ ((Client 1), (call.Create Io (record { 0 = 1 }) 0 (record { pool = record { 0 = 0 }; group = record { 0 = 1 }; cancel = record { 0 = 4 }; priority = Normal; long = false; persistent = false })))
+    ∷ ((Client 1), (call.Create Io (record { 0 = 1 }) 5 (record { pool = record { 0 = 0 }; group = record { 0 = 1 }; cancel = record { 0 = 4 }; priority = Normal; long = false; persistent = false })))
     ∷ ((Client 1), (call.StartIo (record { 0 = 3 })))
     ∷ ((Client 1), (call.StartIo (record { 0 = 2 })))
     ∷ ((Client 1), (call.BeginClose (record { 0 = 1 }) true 0))
@@ -297,8 +297,8 @@ operations = refl
 -- a close asks for room for its notices
 priced : play limits 9
     (((Client 1), call.CreateGroup)
-    ∷ ((Client 1), (call.Create Work (record { 0 = 1 }) 0 (record { pool = record { 0 = 0 }; group = record { 0 = 1 }; cancel = record { 0 = 4 }; priority = Normal; long = false })))
-    ∷ ((Client 1), (call.Create Work (record { 0 = 1 }) 0 (record { pool = record { 0 = 0 }; group = record { 0 = 1 }; cancel = record { 0 = 4 }; priority = Normal; long = false })))
+    ∷ ((Client 1), (call.Create Work (record { 0 = 1 }) 0 (record { pool = record { 0 = 0 }; group = record { 0 = 1 }; cancel = record { 0 = 4 }; priority = Normal; long = false; persistent = false })))
+    ∷ ((Client 1), (call.Create Work (record { 0 = 1 }) 0 (record { pool = record { 0 = 0 }; group = record { 0 = 1 }; cancel = record { 0 = 4 }; priority = Normal; long = false; persistent = false })))
     ∷ ((Client 1), (call.BeginClose (record { 0 = 1 }) true 0))
     ∷ ((Client 1), (call.CloseObject Work (record { 0 = 1 })))
     ∷ ((Client 1), (call.BeginClose (record { 0 = 1 }) true 0))

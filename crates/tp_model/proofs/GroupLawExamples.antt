@@ -19,7 +19,7 @@ use Rattle.tp_base.specs.declared.rows.WaitTarget.TheVariants.{Group}
 -- ---- the law Closed refuses
 
 in_group : Environ
-in_group = record { pool = record { 0 = 0 }; group = record { 0 = 1 }; cancel = record { 0 = 9 }; priority = Normal; long = false }
+in_group = record { pool = record { 0 = 0 }; group = record { 0 = 1 }; cancel = record { 0 = 9 }; priority = Normal; long = false; persistent = false }
 
 client : ℕ → Call → Answer → Entry
 client n made told = record { who = Client n; call = made; answer = told }

@@ -78,7 +78,7 @@ module _ (next_number : ℕ) (w : World) (entry : Entry) where
         creates = λ c e.
             let both_told : Some (creation_of (length w.objects + 1) row) ≡ Some c = sym makes ∙ e in
             let is : creation_of (length w.objects + 1) row ≡ c = cc in
-            subst (IsCreated (w.objects ++ row ∷ [])) is (record { row = row; stands = appended_own w.objects row; group = refl });
+            subst (IsCreated (w.objects ++ row ∷ [])) is (record { row = row; stands = appended_own w.objects row; env = refl });
         closes = λ object e. absurd (let nothing_closed = sym (ap (λ (t : Told). t.closed) tells) ∙ e in cc);
         counts = subst (λ (o : Option Creation). HasCreated o (length w.objects) (length (w.objects ++ row ∷ []))) (sym makes) (refl, length-append w.objects (row ∷ []));
         clears = λ b group e. absurd (let nothing_begun = sym (ap (λ (t : Told). t.begun) tells) ∙ e in cc);

@@ -30,7 +30,7 @@ pool : ℕ → PoolId
 pool number = record { 0 = number }
 
 environ : Environ
-environ = record { pool = record { 0 = 1 }; group = record { 0 = 0 }; cancel = record { 0 = 0 }; priority = Normal; long = false }
+environ = record { pool = record { 0 = 1 }; group = record { 0 = 0 }; cancel = record { 0 = 0 }; priority = Normal; long = false; persistent = false }
 
 -- two callbacks of a pool that runs one at a time
 begun : List Entry

@@ -1,5 +1,5 @@
 -- Every legal history keeps the laws.
-use Rattle.std.proofs.Common.{◌≡◌, ℕ, List, [], ◌∷◌, ◌++◌, refl, sym, subst, find, Some, true, cond, Bool, false, None, ap₂, ◌∙◌, ◌||◌, ap, append_assoc, append-nil, ◌≤◌, map, length, arith, ◌&&◌}
+use Rattle.std.proofs.Common.{◌≡◌, ◌≢◌, ℕ, List, [], ◌∷◌, ◌++◌, refl, sym, subst, find, Some, true, cond, Bool, false, None, ap₂, ◌∙◌, ◌||◌, ap, append_assoc, append-nil, ◌≤◌, map, length, arith, ◌&&◌}
 use Rattle.tp_model.proofs.First.{next_first}
 use Rattle.tp_model.specs.Next.{IsNextOrNone}
 use Rattle.tp_model.specs.Waits.{is_held_for, wait_of, held}
@@ -15,7 +15,7 @@ use Rattle.tp_model.proofs.Covered.{Promises, promises_more, run_at, NoneHeld, G
 use Rattle.tp_model.specs.Laws.Covered.{AreCovered, AreClosed, is_spoken_for, is_spoken_of, lets_go, end_in, ends, IsCovered, AllLetGo, returns, loosens, NoneTakes}
 use Rattle.tp_model.proofs.Running.{runs_on_more, AreRunning, IsRunning}
 use Rattle.tp_model.proofs.Places.{no_place, any_either, find_behind}
-use Rattle.tp_model.specs.Laws.Entries.{Run, run_by, Begins, is_taken, begins_by, Notice, notice_by, is_ending, is_freeing, is_end_call, is_ended_answer, is_last_answer}
+use Rattle.tp_model.specs.Laws.Entries.{closes_pool, Run, run_by, Begins, is_taken, begins_by, Notice, notice_by, is_ending, is_freeing, is_end_call, is_ended_answer, is_last_answer}
 use Rattle.tp_base.specs.declared.answers.Entry.{Entry}
 use Rattle.tp_base.specs.declared.limits.Limits.{Limits}
 use Rattle.tp_base.specs.declared.answers.Answer.TheVariants as answer
@@ -45,6 +45,8 @@ use Rattle.tp_model.proofs.Few.{AreFew, few_actor, few_more, rows_same}
 use Rattle.tp_model.specs.Laws.Notices.{numbers_created, IsClosing, AreNoticed, IsFront, IsSettled, given, given_by, notices_due, due_to}
 use Rattle.tp_model.proofs.Notices.{IsNoticing, AreDue, AreNumbered, AreNoticing, AreClosings, due_more, numbered_more, noticing_more, closings_more, AreClosedMade, closed_more}
 use Rattle.tp_model.proofs.Tied.{IsTied, tied_more}
+use Rattle.tp_model.specs.Laws.Persistent.{ArePersistent, RunsPersistent, detaches}
+use Rattle.tp_model.proofs.Persistent.{ArePersistentIn, IsFirst, any_front, first_any, leaves_closed, opening_persistent, persistent_more, takes_again}
 use Rattle.tp_model.specs.Support.Moves.{left_notices, GivesNotice, WaitsMove, End, Keep, Begin, Notify}
 use Rattle.tp_model.specs.Support.Told.{notice_at}
 use Rattle.std.proofs.lemmas.List.FromFn.{length-range_with_len}
@@ -70,6 +72,7 @@ pub record Holds (limits : Limits) (history : List Entry) (w : World) : Type 0 w
   pub armed : ArmedAfter history w
   pub on_their_way : AreOnTheirWay history w
   pub few : AreFew limits w
+  pub persistent : ArePersistentIn history w
 
 -- before an entry that takes a callback, the callback is pending
 record TakesPending (limits : Limits) (before : List Entry) (entry : Entry) (run : Run) : Type 0 where
@@ -99,6 +102,7 @@ opening_holds limits =
       armed = opening_armed limits;
       on_their_way = λ n. refl;
       few = record { limits_same = refl; objects = omega arith; clients = length-replicate limits.clients unfinished; workers = length-replicate limits.workers unattached };
+      persistent = opening_persistent limits;
     }
 
 keeps : (limits : Limits) → IsKept (Holds limits)
@@ -122,6 +126,7 @@ keeps limits before w left entry h told =
       armed = armed_more before w entry (led_to w entry) h.sound on.sound h.agrees h.armed on.leads;
       on_their_way = on_their_way_more before w entry (led_to w entry) h.sound.numbers h.on_their_way on.leads.moves;
       few = few_more limits w left entry (led_to w entry) on.leads (rows_same w left entry h.sound told) h.few told;
+      persistent = persistent_more before w entry (led_to w entry) h.sound h.ready h.persistent on.leads;
     }
 
 module _ (limits : Limits) (capacity : ℕ) (history : List Entry) (legal : IsLegal limits capacity history) where
@@ -387,8 +392,49 @@ module _ (limits : Limits) (capacity : ℕ) (history : List Entry) (legal : IsLe
   pub are_operated : AreOperated history
   are_operated = are_operated_after history (after limits history) at_end.on_their_way
 
+  -- ---- the persistent callbacks of pools
+
+  -- a worker that leaves for the first time since its run leaves a closed pool
+  leaves_at : (before between later : List Entry) (run leave : Entry) (worker pool : ℕ) → (before ++ run ∷ between) ++ leave ∷ later ≡ history → RunsPersistent before run worker pool → detaches worker leave ≡ true → list_any (detaches worker) between ≡ false
+      → list_any (closes_pool pool) (before ++ run ∷ between) ≡ true
+  leaves_at before between later run leave worker pool split runs leaves stayed =
+      let r = at_entry (before ++ run ∷ between) later leave split in
+      leaves_closed (before ++ run ∷ between) r.world leave (led_to r.world leave) r.holds.sound r.holds.ready r.holds.persistent (leads_on (before ++ run ∷ between) leave r).leads worker pool
+      (r.holds.persistent.kept before between run worker pool refl runs stayed) leaves
+
+  pub are_persistent : ArePersistent history
+  are_persistent = record { one = one; stays = stays }
+    where
+      one : (before between later : List Entry) (first second : Entry) (a b pool : ℕ) → (before ++ first ∷ between) ++ second ∷ later ≡ history → RunsPersistent before first a pool → RunsPersistent (before ++ first ∷ between) second b pool → a ≢ b
+          → list_any (detaches a) between ≡ true
+      one before between later first second a b pool split runs again apart = of_case (list_any (detaches a) between) refl
+        where
+          of_case : (t : Bool) → list_any (detaches a) between ≡ t → list_any (detaches a) between ≡ true
+          of_case true e = e
+          of_case false e =
+              let r = at_entry (before ++ first ∷ between) later second split in
+              absurd (apart
+              (takes_again (before ++ first ∷ between) r.world second (led_to r.world second) r.holds.sound r.holds.ready r.holds.persistent (leads_on (before ++ first ∷ between) second r).leads a b pool
+              (r.holds.persistent.kept before between first a pool refl runs e) again))
+
+      stays : (before between later : List Entry) (run leave : Entry) (worker pool : ℕ) → (before ++ run ∷ between) ++ leave ∷ later ≡ history → RunsPersistent before run worker pool → detaches worker leave ≡ true → list_any (closes_pool pool) (before ++ run ∷ between) ≡ true
+      stays before between later run leave worker pool split runs leaves = of_case (list_any (detaches worker) between) refl
+        where
+          earlier : IsFirst (detaches worker) between → list_any (closes_pool pool) (before ++ run ∷ between) ≡ true
+          earlier f =
+              let whole : (before ++ run ∷ f.front) ++ f.entry ∷ (f.rest ++ leave ∷ later) ≡ history =
+              sym (append_assoc (before ++ run ∷ f.front) (f.entry ∷ f.rest) (leave ∷ later)) ∙ ap (λ l. l ++ leave ∷ later) (append_assoc before (run ∷ f.front) (f.entry ∷ f.rest))
+              ∙ ap (λ l. (before ++ run ∷ l) ++ leave ∷ later) f.split ∙ split in
+              let closed : list_any (closes_pool pool) (before ++ run ∷ f.front) ≡ true = leaves_at before f.front (f.rest ++ leave ∷ later) run f.entry worker pool whole runs f.passes f.none in
+              ap (list_any (closes_pool pool)) (sym (append_assoc before (run ∷ f.front) (f.entry ∷ f.rest) ∙ ap (λ l. before ++ run ∷ l) f.split))
+              ∙ any_front (closes_pool pool) (before ++ run ∷ f.front) (f.entry ∷ f.rest) closed
+
+          of_case : (t : Bool) → list_any (detaches worker) between ≡ t → list_any (closes_pool pool) (before ++ run ∷ between) ≡ true
+          of_case true e = earlier (first_any (detaches worker) between e)
+          of_case false e = leaves_at before between later run leave worker pool split runs leaves e
+
   pub keeps_laws : KeepsLaws limits history
-  keeps_laws = record { once = are_once; maximum = is_within_maximum; covered = are_covered; closed = are_closed; noticed = are_noticed; actions = are_actions; armed = are_armed; operated = are_operated }
+  keeps_laws = record { once = are_once; maximum = is_within_maximum; covered = are_covered; closed = are_closed; noticed = are_noticed; actions = are_actions; armed = are_armed; operated = are_operated; persistent = are_persistent }
 
   -- who has begun a close with cancel and not ended it is in a wait
   pub closing_waits : (who : Who) → IsClosing history who → is_in_wait (after limits history) who ≡ true
@@ -413,6 +459,6 @@ module _ (limits : Limits) (capacity : ℕ) (history : List Entry) (legal : IsLe
   pub few_created : length (numbers_created history) ≤ limits.objects
   few_created = omega (arith, ap length at_end.numbered ∙ length-range_with_len 1 (length (after limits history).objects), at_end.few.objects)
 
-  -- what a pool's worker takes next comes first of what is pending there
-  pub next_is_first : (pool : ℕ) → IsNextOrNone (after limits history) pool (next (after limits history) pool)
-  next_is_first pool = next_first (next_number_in (after limits history)) (after limits history) pool at_end.sound
+  -- what a pool's worker takes next comes first of what it may take
+  pub next_is_first : (pool : ℕ) (persistent : Bool) → IsNextOrNone (after limits history) pool persistent (next (after limits history) pool persistent)
+  next_is_first pool persistent = next_first (next_number_in (after limits history)) (after limits history) pool persistent at_end.sound

@@ -13,6 +13,7 @@ pub mod CallbackMoves
 pub mod Callbacks
 pub mod Calls
 pub mod Cancelling
+pub mod Closings
 pub mod Costs
 pub mod Counted
 pub mod Covered
@@ -47,6 +48,8 @@ pub mod Once
 pub mod Over
 mod OverExamples
 pub mod Performing
+pub mod Persistent
+mod PersistentExamples
 pub mod Places
 pub mod Ranged
 pub mod Ready
@@ -54,6 +57,7 @@ pub mod Refusals
 pub mod Releasing
 pub mod Remembered
 pub mod Running
+pub mod Sole
 pub mod Sound
 pub mod SoundCallbacks
 pub mod SoundObjects

@@ -266,38 +266,38 @@ module _ (limits : Limits) (before : List Entry) (w : World) (entry : Entry) (ke
       (λ pool. running_callbacks (cancel_where m.test w.callbacks) m.callbacks pool
       ∙ count_uncancelled (is_running_in pool) m.test (λ c e. sym (ap (λ b. b && (c.pool.0 == pool)) (pending_not_running c.status (m.waits c e)))) w.callbacks)
   staffed_on (Attach m) =
-      staffed_put m.worker m.actor.row (record { pool = Some m.pool; callback = None }) m.actor.by m.actor.stands m.workers
+      staffed_put m.worker m.actor.row (record { pool = Some m.pool; callback = None; persistent = false }) m.actor.by m.actor.stands m.workers
       (λ old. record {
         within = run_same before entry m.worker (ap (λ (t : Deed). t.taken) m.tells) (ap (λ (t : Deed). t.returned) m.tells) ∙ old.within ∙ ap (λ (o : Option ℕ). is_some o) m.actor.free;
         joined = λ pool home. joined_told m.worker (Some m.pool.0) m.actor.by (ap (λ (t : Deed). t.attached) m.tells) ∙ ap (λ (p : PoolId). Some p.0) (same_pool m.pool pool home);
       })
-      (idle_put m.worker m.actor (record { pool = Some m.pool; callback = None }) refl m.callbacks)
+      (idle_put m.worker m.actor (record { pool = Some m.pool; callback = None; persistent = false }) refl m.callbacks)
     where
       same_pool : (p q : PoolId) → Some p ≡ Some q → p ≡ q
       same_pool p q e = cc
   staffed_on (Detach m) =
-      staffed_put m.worker m.actor.row (record { pool = None; callback = None }) m.actor.by m.actor.stands m.workers
+      staffed_put m.worker m.actor.row (record { pool = None; callback = None; persistent = false }) m.actor.by m.actor.stands m.workers
       (λ old. record {
         within = run_same before entry m.worker (ap (λ (t : Deed). t.taken) m.tells) (ap (λ (t : Deed). t.returned) m.tells) ∙ old.within ∙ ap (λ (o : Option ℕ). is_some o) m.actor.free;
         joined = λ pool home. absurd (none_some pool home);
       })
-      (idle_put m.worker m.actor (record { pool = None; callback = None }) refl m.callbacks)
+      (idle_put m.worker m.actor (record { pool = None; callback = None; persistent = false }) refl m.callbacks)
     where
       none_some : (p : PoolId) → None ≡ Some p → ⊥
       none_some p e = cc
   staffed_on (Take m) =
-      staffed_put m.worker m.actor.row (record { pool = Some m.pool; callback = Some m.callback.number }) m.actor.by m.actor.stands m.workers
+      staffed_put m.worker m.actor.row (record { pool = Some m.pool; callback = Some m.callback.number; persistent = m.actor.row.persistent || m.callback.persistent }) m.actor.by m.actor.stands m.workers
       (λ old. record {
         within = run_begun m.worker m.callback.number m.actor.by (ap (λ (t : Deed). t.taken) m.tells);
         joined = λ pool home. pool_same before entry m.worker (ap (λ (t : Deed). t.attached) m.tells) ∙ old.joined pool (m.home ∙ home);
       })
       more_run
     where
-      more_run : (pool : ℕ) → count_runs pool kept + one_if (is_busy_in pool m.actor.row) ≡ running w pool + one_if (is_busy_in pool (record { pool = Some m.pool; callback = Some m.callback.number }))
+      more_run : (pool : ℕ) → count_runs pool kept + one_if (is_busy_in pool m.actor.row) ≡ running w pool + one_if (is_busy_in pool (record { pool = Some m.pool; callback = Some m.callback.number; persistent = m.actor.row.persistent || m.callback.persistent }))
       more_run pool =
           let d : CallbackRow = taken_row m.callback m.worker in
           let was : one_if (is_busy_in pool m.actor.row) ≡ 0 = ap one_if (idle_not_busy pool m.actor.row m.actor.free) in
-          let now : one_if (is_busy_in pool (record { pool = Some m.pool; callback = Some m.callback.number })) ≡ one_if (m.pool.0 == pool) = ap one_if (and_true (m.pool.0 == pool)) in
+          let now : one_if (is_busy_in pool (record { pool = Some m.pool; callback = Some m.callback.number; persistent = m.actor.row.persistent || m.callback.persistent })) ≡ one_if (m.pool.0 == pool) = ap one_if (and_true (m.pool.0 == pool)) in
           let begins : one_if (is_running_in pool d) ≡ one_if (m.pool.0 == pool) = ap (λ (p : PoolId). one_if (p.0 == pool)) m.pool_same in
           let still : one_if (is_running_in pool m.callback) ≡ 0 = ap (λ b. one_if (b && (m.callback.pool.0 == pool))) (pending_not_running m.callback.status m.waits) in
           omega (arith, was, now, begins, still, running_callbacks (replaced d w.callbacks) m.callbacks pool, length_filter_replaced (is_running_in pool) d m.callback 1 (length w.callbacks + 1) w.callbacks s.numbers m.found)

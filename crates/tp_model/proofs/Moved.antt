@@ -1,5 +1,5 @@
 -- Each change moves its actor as its entry tells: the stage that the rows give it, and its wait.
-use Rattle.std.proofs.Common.{◌≡◌, ℕ, ◌+◌, ◌-◌, Bool, true, false, cond, not, ◌||◌, ◌==◌, List, [], ◌∷◌, ◌++◌, slice_get, slice_set, Option, Some, None, option_map, refl, sym, ap, ◌∙◌, subst, filter, find, eqb-true, eq-eqb}
+use Rattle.std.proofs.Common.{◌≡◌, ℕ, ◌+◌, ◌-◌, Bool, true, false, cond, not, ◌||◌, ◌==◌, List, [], ◌∷◌, ◌++◌, slice_get, slice_set, Option, Some, None, option_map, refl, sym, ap, ap₂, ◌∙◌, subst, filter, find, eqb-true, eq-eqb}
 use Rattle.std.specs.List.{list_any}
 use Rattle.std.proofs.lemmas.List.Folds.{list_any-append}
 use Rattle.tp_base.specs.Actors.{is_same_actor}
@@ -261,20 +261,21 @@ change_moved next_number w actor (change.ChangeKernel kernel how) s a by = kept 
 change_moved next_number w actor (change.Attach worker pool) s a by =
     let after : World = changed w (change.Attach worker pool) in
     record {
-      stages = stage_put w next_number actor after s worker unattached (record { pool = Some pool; callback = None }) Joins stage.Away by a.stands refl refl (same_routines w) refl refl;
+      stages = stage_put w next_number actor after s worker a.row (record { pool = Some pool; callback = None; persistent = false }) Joins stage.Away by a.stands refl refl (same_routines w) (ap₂ (worker_stage w.callbacks) a.away a.idle) refl;
       waits = waits_kept w next_number actor after s refl;
     }
 change_moved next_number w actor (change.Detach at) s a by =
     let after : World = changed w (change.Detach at) in
     record {
-      stages = stage_put w next_number actor after s at.worker (record { pool = Some at.pool; callback = None }) unattached Leaves stage.Idle by a refl refl (same_routines w) refl refl;
+      stages = stage_put w next_number actor after s at.worker (record { pool = Some at.pool; callback = None; persistent = at.persistent }) unattached Leaves stage.Idle by a.idles refl refl (same_routines w) refl refl;
       waits = waits_kept w next_number actor after s refl;
     }
 change_moved next_number w actor (change.Take at c) s a by =
     let after : World = changed w (change.Take at c) in
     let keeps = replaced_routines w (taken c at.worker) c a.found refl in
     record {
-      stages = stage_put w next_number actor after s at.worker (record { pool = Some at.pool; callback = None }) (record { pool = Some at.pool; callback = Some c.number }) (Starts c.routine) stage.Idle by a.idles refl refl keeps refl
+      stages = stage_put w next_number actor after s at.worker (record { pool = Some at.pool; callback = None; persistent = at.persistent })
+          (record { pool = Some at.pool; callback = Some c.number; persistent = at.persistent || c.persistent }) (Starts c.routine) stage.Idle by a.idles refl refl keeps refl
           (ap (option_map (λ (routine : RoutineId). stage.Busy routine)) (keeps c.number c a.found));
       waits = waits_kept w next_number actor after s refl;
     }
@@ -286,7 +287,8 @@ change_moved next_number w actor (change.Return at words first count) s a by =
     let after : World = changed w (change.Return at words first count) in
     let jobs = (returning w words (slots_of at.callback.status)).jobs in
     record {
-      stages = stage_put w next_number actor after s at.worker (record { pool = Some at.pool; callback = Some at.callback.number }) (record { pool = Some at.pool; callback = None }) Returns (stage.Busy at.callback.routine) by a.runs.stands refl refl
+      stages = stage_put w next_number actor after s at.worker (record { pool = Some at.pool; callback = Some at.callback.number; persistent = at.persistent })
+          (record { pool = Some at.pool; callback = None; persistent = at.persistent }) Returns (stage.Busy at.callback.routine) by a.runs.stands refl refl
           (more_routines w (replaced (returned at.callback) w.callbacks) (rows_of w.objects first jobs) (replaced_routines w (returned at.callback) at.callback a.runs.found refl))
           (ap (option_map (λ (routine : RoutineId). stage.Busy routine)) (same_routines w at.callback.number at.callback a.runs.found)) refl;
       waits = waits_kept w next_number actor after s refl;

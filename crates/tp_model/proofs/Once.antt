@@ -49,7 +49,7 @@ move_agrees made taken cancelled count next_number w entry kept staff rising a m
         to nothing (replaced m.new w.callbacks) m.tells m.callbacks
         (agrees_put made taken cancelled count w.callbacks next_number m.old m.new rising m.found a (ap has_begun m.status) (ap is_cancelled m.status))
     of_move (Attach m) = to (record nothing { attached = Some m.pool.0 }) w.callbacks m.tells m.callbacks still
-    of_move (Detach m) = to nothing w.callbacks m.tells m.callbacks still
+    of_move (Detach m) = to (record nothing { left = true }) w.callbacks m.tells m.callbacks still
     of_move (Take m) =
         let d : CallbackRow = taken_row m.callback m.worker in
         to (record nothing { taken = Some m.callback.number; run = Some (run_of m.callback); event = event m.callback.number (Taking m.callback.result) }) (replaced d w.callbacks) m.tells m.callbacks

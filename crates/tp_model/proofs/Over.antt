@@ -6,8 +6,8 @@ use Rattle.tp_base.specs.declared.rows.CallbackRow.{CallbackRow}
 use Rattle.tp_base.specs.declared.rows.ClientRow.{ClientRow}
 use Rattle.tp_base.specs.declared.rows.Status.{Status}
 use Rattle.tp_model.specs.Laws.Once.{is_left, left}
-use Rattle.tp_model.specs.Counts.{lacks_room_to_run}
 use Rattle.tp_model.specs.Over.{goes_on, is_over, left_after}
+use Rattle.tp_model.specs.Stalled.{lacks_room_to_run}
 use Rattle.tp_model.specs.Support.Remembered.{forget, lives}
 use Rattle.tp_model.specs.World.{World}
 use Rattle.tp_model.proofs.Callbacks.{over_not_left, over_not_pending, over_not_running}

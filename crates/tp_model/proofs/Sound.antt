@@ -1,6 +1,6 @@
 -- Each change keeps what is true of all worlds that can be reached. Pools, clients, groups and kernel objects are here,
 -- and the rest in SoundObjects, SoundWorkers, SoundCallbacks, SoundWaits and SoundSources.
-use Rattle.std.proofs.Common.{◌≡◌, ℕ, suc, zero, ◌+◌, ◌-◌, ◌<◌, ◌≤◌, true, false, List, [], ◌∷◌, ◌++◌, length, slice_get, slice_set, replicate, Option, Some, None, refl, sym, ◌∙◌, subst, arith, length-append, length-set}
+use Rattle.std.proofs.Common.{◌||◌, ◌≡◌, ℕ, suc, zero, ◌+◌, ◌-◌, ◌<◌, ◌≤◌, true, false, List, [], ◌∷◌, ◌++◌, length, slice_get, slice_set, replicate, Option, Some, None, refl, sym, ◌∙◌, subst, arith, length-append, length-set}
 use Rattle.std.specs.List.{AllByRecursion}
 use Rattle.tp_base.specs.declared.limits.Limits.{Limits}
 use Rattle.tp_base.specs.declared.plans.Change.{Change}
@@ -186,10 +186,10 @@ changed_sound next_number w (change.Operate c how) s a = none_made next_number (
 changed_sound next_number w (change.Fire trigger first count) s a = renumbered w (firing trigger (sources_of w)) next_number first count a.number a.counted (sound_fired next_number w trigger a.ready s)
 changed_sound next_number w (change.CreateKernel state) s a = none_made next_number (changed w (change.CreateKernel state)) (sound_kernels next_number w (w.kernels ++ new_kernel state ∷ []) s)
 changed_sound next_number w (change.ChangeKernel kernel how) s a = none_made next_number (changed w (change.ChangeKernel kernel how)) (sound_kernels next_number w (kernel_changed (state_after how) w.kernels kernel.0) s)
-changed_sound next_number w (change.Attach worker pool) s a = none_made next_number (changed w (change.Attach worker pool)) (sound_free_worker next_number w worker (record { pool = Some pool; callback = None }) refl s)
+changed_sound next_number w (change.Attach worker pool) s a = none_made next_number (changed w (change.Attach worker pool)) (sound_free_worker next_number w worker (record { pool = Some pool; callback = None; persistent = false }) refl s)
 changed_sound next_number w (change.Detach by) s a = none_made next_number (changed w (change.Detach by)) (sound_free_worker next_number w by.worker unattached refl s)
 changed_sound next_number w (change.Take by c) s a =
-    none_made next_number (changed w (change.Take by c)) (sound_taken next_number w by.worker by.pool c (numbered_some w.workers by.worker (record { pool = Some by.pool; callback = None }) a.idles).1 a.found a.pending a.home s)
+    none_made next_number (changed w (change.Take by c)) (sound_taken next_number w by.worker by.pool (by.persistent || c.persistent) c (numbered_some w.workers by.worker (record { pool = Some by.pool; callback = None; persistent = by.persistent }) a.idles).1 a.found a.pending a.home s)
 changed_sound next_number w (change.Mark by mark) s a = none_made next_number (changed w (change.Mark by mark)) (sound_marked next_number w mark by.callback a.runs.found s)
 changed_sound next_number w (change.Return by words first count) s a =
     let runs = a.runs in
@@ -197,8 +197,8 @@ changed_sound next_number w (change.Return by words first count) s a =
     let f : Firing = returning w words of in
     let v : World = without_run w by in
     let sound : IsSound next_number v
-    = sound_returned next_number w by.worker (record { pool = Some by.pool; callback = None }) by.pool by.callback
-    (numbered_some w.workers by.worker (record { pool = Some by.pool; callback = Some by.callback.number }) runs.stands).1 refl
+    = sound_returned next_number w by.worker (record { pool = Some by.pool; callback = None; persistent = by.persistent }) by.pool by.callback
+    (numbered_some w.workers by.worker (record { pool = Some by.pool; callback = Some by.callback.number; persistent = by.persistent }) runs.stands).1 refl
     (record { callback = by.callback; associated = runs.associated; slots = runs.slots; found = runs.found; runs = runs.running; at_home = runs.home }) runs.found s in
     let made : IsFiringIn w.objects f = returning_of (λ n. is_standing w.objects n ≡ true) (λ n. may_be_armed w.objects n ≡ true) (λ n may. armable_stands w.objects n may) w words of (sources_in next_number w s) in
     renumbered v f next_number first count a.number a.counted

@@ -58,23 +58,24 @@ pools_replaced : (pools : ℕ) (r c : CallbackRow) (cs : List CallbackRow) → r
 pools_replaced pools r c cs pool found all =
     all_replaced (λ x. x.pool.0 < pools) r cs (subst (λ (p : PoolId). p.0 < pools) (sym pool) (find_all (λ (x : CallbackRow). x.pool.0 < pools) (has_number c.number) c cs all found)) all
 
-objects_replaced : (objects : List ObjectRow) (r c : CallbackRow) (cs : List CallbackRow) → r.pool ≡ c.pool → r.group ≡ c.group → r.object ≡ c.object → find (has_number c.number) cs ≡ Some c → AllByRecursion (IsCallbackSound objects) cs → AllByRecursion (IsCallbackSound objects) (replaced r cs)
-objects_replaced objects r c cs pool group object found all =
+objects_replaced : (objects : List ObjectRow) (r c : CallbackRow) (cs : List CallbackRow) → r.pool ≡ c.pool → r.group ≡ c.group → r.object ≡ c.object → r.persistent ≡ c.persistent → find (has_number c.number) cs ≡ Some c
+    → AllByRecursion (IsCallbackSound objects) cs → AllByRecursion (IsCallbackSound objects) (replaced r cs)
+objects_replaced objects r c cs pool group object persistent found all =
     all_replaced (IsCallbackSound objects) r cs (λ named.
     let of : HasObject objects c = find_all (IsCallbackSound objects) (has_number c.number) c cs all found (λ none. named (ap (λ (o : ObjectId). o.0) object ∙ none)) in
-    record { row = of.row; stands = ap (λ (o : ObjectId). numbered objects o.0) object ∙ of.stands; home = pool ∙ of.home; group = group ∙ of.group }) all
+    record { row = of.row; stands = ap (λ (o : ObjectId). numbered objects o.0) object ∙ of.stands; home = pool ∙ of.home; group = group ∙ of.group; persistent = persistent ∙ of.persistent }) all
 
 operations_replaced : (objects : List ObjectRow) (r : CallbackRow) (cs : List CallbackRow) → OperationStands objects r → AllByRecursion (OperationStands objects) cs → AllByRecursion (OperationStands objects) (replaced r cs)
 operations_replaced objects r cs here all = all_replaced (OperationStands objects) r cs here all
 
 -- a worker begins a pending callback of its pool
-pub sound_taken : (next_number : ℕ) (w : World) (worker : ℕ) (pool : PoolId) (c : CallbackRow) → 1 ≤ worker → find (has_number c.number) w.callbacks ≡ Some c → is_pending c.status ≡ true → c.pool ≡ pool → IsSound next_number w
-    → IsSound next_number (with_worker (with_callback w (taken c worker)) worker (record { pool = Some pool; callback = Some c.number }))
-sound_taken next_number w worker pool c from_one found waits home s =
+pub sound_taken : (next_number : ℕ) (w : World) (worker : ℕ) (pool : PoolId) (persistent : Bool) (c : CallbackRow) → 1 ≤ worker → find (has_number c.number) w.callbacks ≡ Some c → is_pending c.status ≡ true → c.pool ≡ pool → IsSound next_number w
+    → IsSound next_number (with_worker (with_callback w (taken c worker)) worker (record { pool = Some pool; callback = Some c.number; persistent = persistent }))
+sound_taken next_number w worker pool persistent c from_one found waits home s =
     let r : CallbackRow = taken c worker in
     record {
       numbers = rising_replaced r 1 next_number w.callbacks s.numbers;
-      workers = workers_changed r w.callbacks (record { pool = Some pool; callback = Some c.number }) 1 (worker - 1) w.workers
+      workers = workers_changed r w.callbacks (record { pool = Some pool; callback = Some c.number; persistent = persistent }) 1 (worker - 1) w.workers
           (λ other _ p number runs. ne_eqb c.number number (λ e. not_pending runs.callback.status other runs.associated runs.slots runs.runs
           (let same : runs.callback ≡ c = same_found number c.number runs.callback c w.callbacks e runs.found found in ap (λ (x : CallbackRow). is_pending x.status) same ∙ waits)))
           (record { callback = r; associated = true; slots = no_actions; found = find_replaced r c w.callbacks found; runs = ap (λ n. Running n true no_actions) (omega (arith, from_one)); at_home = home })
@@ -87,7 +88,7 @@ sound_taken next_number w worker pool c from_one found waits home s =
       clock = s.clock;
       waits = waits_still next_number w.callbacks (replaced r w.callbacks) (left_replaced r c w.callbacks found (λ target left. absurd (false_true (sym (and_false (is_of target r)) ∙ left)))) w.waits s.waits;
       callback_pools = pools_replaced (length w.pools) r c w.callbacks refl found s.callback_pools;
-      callback_objects = objects_replaced w.objects r c w.callbacks refl refl refl found s.callback_objects;
+      callback_objects = objects_replaced w.objects r c w.callbacks refl refl refl refl found s.callback_objects;
       operations = operations_replaced w.objects r w.callbacks (λ operates. absurd (false_true operates)) s.operations;
       notices = s.notices;
     }
@@ -119,7 +120,7 @@ sound_returned next_number w worker row pool c from_one free runs found s =
       clock = s.clock;
       waits = waits_still next_number w.callbacks (replaced r w.callbacks) (left_replaced r c w.callbacks found (λ target left. absurd (false_true (sym (and_false (is_of target r)) ∙ left)))) w.waits s.waits;
       callback_pools = pools_replaced (length w.pools) r c w.callbacks refl found s.callback_pools;
-      callback_objects = objects_replaced w.objects r c w.callbacks refl refl refl found s.callback_objects;
+      callback_objects = objects_replaced w.objects r c w.callbacks refl refl refl refl found s.callback_objects;
       operations = operations_replaced w.objects r w.callbacks (λ operates. absurd (false_true operates)) s.operations;
       notices = s.notices;
     }
@@ -131,11 +132,11 @@ sound_returned next_number w worker row pool c from_one free runs found s =
     same_found m n x y cs e fx fy =
         let both_found : Some x ≡ Some y = sym fx ∙ ap (λ k. find (has_number k) cs) (sym e) ∙ fy in cc
 
--- a row of the same number, pool and object, which runs where the one before it ran, and may be run only where that might
-sound_same : (next_number : ℕ) (w : World) (r c : CallbackRow) → r.number ≡ c.number → r.pool ≡ c.pool → r.group ≡ c.group → r.object ≡ c.object → (is_operating r.status ≡ true → is_operating c.status ≡ true)
+-- a row of the same number, pool and object, and as persistent, which runs where the one before it ran, and may be run only where that might
+sound_same : (next_number : ℕ) (w : World) (r c : CallbackRow) → r.number ≡ c.number → r.pool ≡ c.pool → r.group ≡ c.group → r.object ≡ c.object → r.persistent ≡ c.persistent → (is_operating r.status ≡ true → is_operating c.status ≡ true)
     → RunsWhere c.status r.status → ((target : WaitTarget) → is_left_of target r ≡ true → is_left_of target c ≡ true) → find (has_number c.number) w.callbacks ≡ Some c → IsSound next_number w
     → IsSound next_number (with_callback w r)
-sound_same next_number w r c number pool group object operating status left found s =
+sound_same next_number w r c number pool group object persistent operating status left found s =
     let there : find (has_number r.number) w.callbacks ≡ Some c = ap (λ n. find (has_number n) w.callbacks) number ∙ found in
     record {
       numbers = rising_replaced r 1 next_number w.callbacks s.numbers;
@@ -148,7 +149,7 @@ sound_same next_number w r c number pool group object operating status left foun
       clock = s.clock;
       waits = waits_still next_number w.callbacks (replaced r w.callbacks) (left_replaced r c w.callbacks there left) w.waits s.waits;
       callback_pools = pools_replaced (length w.pools) r c w.callbacks pool found s.callback_pools;
-      callback_objects = objects_replaced w.objects r c w.callbacks pool group object found s.callback_objects;
+      callback_objects = objects_replaced w.objects r c w.callbacks pool group object persistent found s.callback_objects;
       operations = operations_replaced w.objects r w.callbacks (λ operates. ap (λ (x : ObjectId). is_standing w.objects x.0) object ∙ find_all (OperationStands w.objects) (has_number c.number) c w.callbacks s.operations found (operating operates)) s.operations;
       notices = s.notices;
     }
@@ -156,7 +157,7 @@ sound_same next_number w r c number pool group object operating status left foun
 -- a pending callback is cancelled
 pub sound_cancelled : (next_number : ℕ) (w : World) (c : CallbackRow) → find (has_number c.number) w.callbacks ≡ Some c → is_pending c.status ≡ true → IsSound next_number w → IsSound next_number (with_callback w (cancelled c))
 sound_cancelled next_number w c found pends s =
-    sound_same next_number w (cancelled c) c refl refl refl refl (λ e. absurd (false_true e)) (λ worker associated slots e. absurd (false_true (sym (ap is_pending e) ∙ pends))) (λ target left. absurd (false_true (sym (and_false (is_of target (cancelled c))) ∙ left))) found s
+    sound_same next_number w (cancelled c) c refl refl refl refl refl (λ e. absurd (false_true e)) (λ worker associated slots e. absurd (false_true (sym (ap is_pending e) ∙ pends))) (λ target left. absurd (false_true (sym (and_false (is_of target (cancelled c))) ∙ left))) found s
 
 -- a row with another status that may be run where that of before may
 left_same : (c : CallbackRow) (status : Status) → is_left status ≡ is_left c.status → (target : WaitTarget) → is_left_of target (record c { status = status }) ≡ true → is_left_of target c ≡ true
@@ -166,13 +167,13 @@ left_same c status same (Kernel kernel) left = left
 
 -- what a callback says of itself leaves it running where it ran
 pub sound_marked : (next_number : ℕ) (w : World) (mark : Mark) (c : CallbackRow) → find (has_number c.number) w.callbacks ≡ Some c → IsSound next_number w → IsSound next_number (with_callback w (marked mark c))
-sound_marked next_number w Long c found s = sound_same next_number w (marked Long c) c refl refl refl refl (λ e. e) (λ worker associated slots e. (associated, slots, e)) (λ target left. same_left target left) found s
+sound_marked next_number w Long c found s = sound_same next_number w (marked Long c) c refl refl refl refl refl (λ e. e) (λ worker associated slots e. (associated, slots, e)) (λ target left. same_left target left) found s
   where
     same_left : (target : WaitTarget) → is_left_of target (marked Long c) ≡ true → is_left_of target c ≡ true
     same_left (Object object) left = left
     same_left (Group group) left = left
     same_left (Kernel kernel) left = left
-sound_marked next_number w Loose c found s = sound_same next_number w (marked Loose c) c refl refl refl refl (λ e. sym (idle c.status) ∙ e) (λ worker associated slots e. (false, slots, ap loosened e)) (λ target left. same_left target left) found s
+sound_marked next_number w Loose c found s = sound_same next_number w (marked Loose c) c refl refl refl refl refl (λ e. sym (idle c.status) ∙ e) (λ worker associated slots e. (false, slots, ap loosened e)) (λ target left. same_left target left) found s
   where
     idle : (status : Status) → is_operating (loosened status) ≡ is_operating status
     idle (Running worker associated slots) = refl
@@ -189,7 +190,7 @@ sound_marked next_number w Loose c found s = sound_same next_number w (marked Lo
     same_left : (target : WaitTarget) → is_left_of target (marked Loose c) ≡ true → is_left_of target c ≡ true
     same_left = left_same c (loosened c.status) (still c.status)
 sound_marked next_number w (Asks kind action) c found s =
-    sound_same next_number w (marked (Asks kind action) c) c refl refl refl refl (λ e. sym (idle c.status) ∙ e)
+    sound_same next_number w (marked (Asks kind action) c) c refl refl refl refl refl (λ e. sym (idle c.status) ∙ e)
     (λ worker associated slots e. (associated, filled kind action slots, ap (asking kind action) e))
     (λ target left. left_same c (asking kind action c.status) (still c.status) target left) found s
   where
@@ -208,7 +209,7 @@ sound_marked next_number w (Asks kind action) c found s =
 -- an operation that goes a step runs nowhere, and its callback might be run before
 pub sound_operated : (next_number : ℕ) (w : World) (how : IoStep) (c : CallbackRow) → find (has_number c.number) w.callbacks ≡ Some c → c.status ≡ status_before how → IsSound next_number w → IsSound next_number (with_callback w (operated how c))
 sound_operated next_number w how c found comes s =
-    sound_same next_number w (operated how c) c refl refl refl refl (λ _. ap is_operating comes ∙ operates how) (λ worker associated slots e. absurd (idle how (sym comes ∙ e)))
+    sound_same next_number w (operated how c) c refl refl refl refl refl (λ _. ap is_operating comes ∙ operates how) (λ worker associated slots e. absurd (idle how (sym comes ∙ e)))
     (λ target left. might target (ap is_left comes ∙ left_before how) left) found s
   where
     idle : {worker : ℕ} {associated : Bool} {slots : Slots} → (step : IoStep) → status_before step ≡ Running worker associated slots → ⊥

@@ -27,7 +27,7 @@ numbered_append objects o n row is =
 
 object_appended : (objects : List ObjectRow) (o : ObjectRow) (c : CallbackRow) → HasObject objects c → HasObject (objects ++ o ∷ []) c
 object_appended objects o c of =
-    record { row = of.row; stands = numbered_append objects o c.object.0 of.row of.stands; home = of.home; group = of.group }
+    record { row = of.row; stands = numbered_append objects o c.object.0 of.row of.stands; home = of.home; group = of.group; persistent = of.persistent }
 
 object_releasing : (gone : ℕ → Bool) (objects after : List ObjectRow) (c : CallbackRow) → Releases gone objects after → HasObject objects c → HasObject after c
 object_releasing gone objects after c rel of =
@@ -36,6 +36,7 @@ object_releasing gone objects after c rel of =
       stands = rel c.object.0 ∙ ap (option_map (released_if (gone c.object.0))) of.stands;
       home = of.home ∙ elim (gone c.object.0) as (λ b. of.row.env.pool ≡ (released_if b of.row).env.pool) [ true ↦ refl | false ↦ refl ];
       group = of.group ∙ elim (gone c.object.0) as (λ b. of.row.env.group ≡ (released_if b of.row).env.group) [ true ↦ refl | false ↦ refl ];
+      persistent = of.persistent ∙ elim (gone c.object.0) as (λ b. of.row.env.persistent ≡ (released_if b of.row).env.persistent) [ true ↦ refl | false ↦ refl ];
     }
 
 -- ---- wait objects

@@ -17,7 +17,7 @@ use Rattle.tp_model.proofs.Firing.{AreJobsOf, AreSourcesIn, IsFiringIn, row_of_m
 use Rattle.tp_model.proofs.Counted.{IsApart, IsCounted, firing_counted}
 use Rattle.tp_model.specs.World.{World}
 use Rattle.tp_model.specs.Changes.{with_new_callback}
-use Rattle.tp_model.specs.Support.Sound.{IsSound, IsMade, is_wait_at, count_armed, IsTimedOut}
+use Rattle.tp_model.specs.Support.Sound.{HasObject, IsSound, IsMade, is_wait_at, count_armed, IsTimedOut}
 use Rattle.tp_model.proofs.Refusals.{false_true}
 use Rattle.tp_model.proofs.SoundCallbacks.{sound_new_callback}
 use Rattle.tp_model.proofs.SoundObjects.{wait_row}
@@ -29,8 +29,9 @@ sound_rows next_number w [] made s =
 sound_rows next_number w (j ∷ js) made s =
     let c : CallbackRow = new_callback next_number j.object (object_row w.objects j.object) j.result in
     let home : c.pool.0 < length w.pools = row_of_made (λ (o : ObjectRow). o.env.pool.0 < length w.pools) w.objects j.object s.object_pools made.0.0 in
+    let own : HasObject w.objects c = record { row = object_row w.objects j.object; stands = made_stands w.objects j.object made.0.0; home = refl; group = refl; persistent = refl } in
     let more : IsSound (next_number + 1 + length js) (record w { callbacks = (w.callbacks ++ c ∷ []) ++ rows_of w.objects (next_number + 1) js })
-    = sound_rows (next_number + 1) (with_new_callback w c) js made.1 (sound_new_callback next_number w c refl home (λ _. record { row = object_row w.objects j.object; stands = made_stands w.objects j.object made.0.0; home = refl; group = refl }) (λ operates. absurd (false_true operates)) s) in
+    = sound_rows (next_number + 1) (with_new_callback w c) js made.1 (sound_new_callback next_number w c refl home (λ _. own) (λ operates. absurd (false_true operates)) s) in
     subst (λ (cs : List CallbackRow). IsSound (next_number + length (j ∷ js)) (record w { callbacks = cs })) (append_assoc w.callbacks (c ∷ []) (rows_of w.objects (next_number + 1) js))
     (subst (λ n. IsSound n (record w { callbacks = (w.callbacks ++ c ∷ []) ++ rows_of w.objects (next_number + 1) js })) (omega arith) more)
 

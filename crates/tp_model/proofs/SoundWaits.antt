@@ -59,7 +59,7 @@ sound_begun next_number w test b only none sound named s =
       clock = s.clock;
       waits = all_append (IsWaitSound next_number (cancel_where test w.callbacks)) w.waits b (waits_still next_number w.callbacks (cancel_where test w.callbacks) (left_cancelled test w.callbacks) w.waits s.waits) sound;
       callback_pools = all_cancelled (λ (c : CallbackRow). c.pool.0 < length w.pools) test (λ c h. h) w.callbacks s.callback_pools;
-      callback_objects = all_cancelled (IsCallbackSound w.objects) test (λ c home named. let of = home named in record { row = of.row; stands = of.stands; home = of.home; group = of.group }) w.callbacks s.callback_objects;
+      callback_objects = all_cancelled (IsCallbackSound w.objects) test (λ c home named. let of = home named in record { row = of.row; stands = of.stands; home = of.home; group = of.group; persistent = of.persistent }) w.callbacks s.callback_objects;
       operations = all_cancelled (OperationStands w.objects) test (λ c h operates. absurd (false_true operates)) w.callbacks s.operations;
       notices = all_append (λ (x : BegunWait). AreNamed w.objects x.notices) w.waits b s.notices named;
     }

@@ -36,7 +36,7 @@ limits : ℕ → ℕ → Limits
 limits clients workers = record { clients = clients; workers = workers; pools = 64; groups = 255; objects = 4095; kernels = 1024; slots = 8192 }
 
 environ : Environ
-environ = record { pool = record { 0 = 0 }; group = record { 0 = 0 }; cancel = record { 0 = 0 }; priority = Normal; long = false }
+environ = record { pool = record { 0 = 0 }; group = record { 0 = 0 }; cancel = record { 0 = 0 }; priority = Normal; long = false; persistent = false }
 
 -- a worker takes a callback of the first of two work objects, which submits the second and waits for it
 waits_inside : List (Who × Call)

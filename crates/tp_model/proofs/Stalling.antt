@@ -45,6 +45,7 @@ use Rattle.tp_model.proofs.Costs.{paid}
 use Rattle.tp_model.proofs.Entries.{Accepts, Entered, IsAccepted, Refuses, entered, entry_leads, next_number_in}
 use Rattle.tp_model.proofs.Refusals.{false_true, or_true}
 use Rattle.tp_model.proofs.Sound.{opening_sound}
+use Rattle.tp_model.proofs.Sole.{AreSole, opening_sole, sole_more}
 use Rattle.tp_model.proofs.Steps.{cost_is}
 use Rattle.tp_model.proofs.Stuck.{IsStuck, stalled_stuck, stuck_less, stuck_attached, stuck_detached, none_free, none_taken, ends_given_up}
 
@@ -67,7 +68,7 @@ record IsIdled (capacity entries : ℕ) (entry : Entry) (after : World) : Type 0
 abbrev IsAnswered : World → ℕ → Entry → Type 0
 IsAnswered w left entry = outcome_of (step w left entry.who entry.call) ≡ outcome.Done entry.answer
 
-module _ (w : World) (capacity entries : ℕ) (entry : Entry) (sound : IsSound (next_number_in w) w) (stuck : IsStuck w (room capacity w entries)) (answers : IsAnswered w (room capacity w entries) entry) (goes_on : is_given_up entry.answer ≡ false) where
+module _ (w : World) (capacity entries : ℕ) (entry : Entry) (sound : IsSound (next_number_in w) w) (sole : AreSole w.workers) (stuck : IsStuck w (room capacity w entries)) (answers : IsAnswered w (room capacity w entries) entry) (goes_on : is_given_up entry.answer ≡ false) where
   abbrev left : ℕ
   left = room capacity w entries
 
@@ -105,7 +106,7 @@ module _ (w : World) (capacity entries : ℕ) (entry : Entry) (sound : IsSound (
         let ch : Change = change.Attach n (record { 0 = pool }) in
         let same : Makes ch = cc in
         let may : MayAttach w n (record { 0 = pool }) = allowed ch same in
-        moves is ch same (stuck_attached w n (record { 0 = pool }) left (room capacity (changed w ch) (entries + 1)) may.stands (omega (arith, pays ch same, costs ch same)) stuck)
+        moves is ch same (stuck_attached w n may.row (record { 0 = pool }) left (room capacity (changed w ch) (entries + 1)) may.stands may.away may.idle (omega (arith, pays ch same, costs ch same)) stuck)
     attaches is (Worker n) None h = absurd cc
     attaches is (Client n) (Some pool) h = absurd cc
     attaches is (Client n) None h = absurd cc
@@ -113,7 +114,7 @@ module _ (w : World) (capacity entries : ℕ) (entry : Entry) (sound : IsSound (
     detaches : is_move entry.call ≡ true → (o : Option Idle) → Plans (detach w o) → Idled
     detaches is None h = absurd cc
     detaches is (Some by) h =
-        elim (may_leave w by.pool.0) as (λ b. Plans (cond b (plans.Does answer.Done (change.Detach by)) (plans.Looked look.Stay)) → Idled) [
+        elim (may_leave w by) as (λ b. Plans (cond b (plans.Does answer.Done (change.Detach by)) (plans.Looked look.Stay)) → Idled) [
           | true ↦ λ g.
               let ch : Change = change.Detach by in
               let same : Makes ch = cc in
@@ -123,7 +124,7 @@ module _ (w : World) (capacity entries : ℕ) (entry : Entry) (sound : IsSound (
 
     takes : (o : Option Idle) → Plans (take w o) → ⊥
     takes None h = cc
-    takes (Some by) h = of_next (next w by.pool.0) h
+    takes (Some by) h = of_next (next w by.pool.0 by.persistent) h
       where
         of_next : (o : Option CallbackRow) → Plans (take_callback w by o) → ⊥
         of_next None g = cc
@@ -131,7 +132,7 @@ module _ (w : World) (capacity entries : ℕ) (entry : Entry) (sound : IsSound (
             elim (nat_le (maximum w by.pool.0) (running w by.pool.0))
             as (λ b. Plans (cond b (plans.Looked (look.AtMaximum (running w by.pool.0))) (plans.Does (answer.Taken c.number c.object c.routine c.context c.result) (change.Take by c))) → ⊥) [
               | true ↦ λ f. cc
-              | false ↦ λ f. let same : Makes (change.Take by c) = cc in none_taken w left entry.who sound stuck by c (allowed (change.Take by c) same) (costs (change.Take by c) same)
+              | false ↦ λ f. let same : Makes (change.Take by c) = cc in none_taken w left entry.who sound stuck sole by c (allowed (change.Take by c) same) (costs (change.Take by c) same)
             ] g
 
     of_apart : (made : Call) → entry.call ≡ made → is_apart made ≡ true → Plans (plan w left entry.who made) → Idled
@@ -159,24 +160,26 @@ module _ (w : World) (capacity entries : ℕ) (entry : Entry) (sound : IsSound (
 
 -- ---- along a history
 
-stays : (capacity entries : ℕ) (w : World) (more : List Entry) → IsSound (next_number_in w) w → IsStuck w (room capacity w entries) → IsLegalFrom w capacity entries more → list_all moves_only (before_the_end more) ≡ true
-stays capacity entries w [] sound stuck legal = refl
-stays capacity entries w (entry ∷ more) sound stuck legal =
+stays : (capacity entries : ℕ) (w : World) (more : List Entry) → IsSound (next_number_in w) w → AreSole w.workers → IsStuck w (room capacity w entries) → IsLegalFrom w capacity entries more → list_all moves_only (before_the_end more) ≡ true
+stays capacity entries w [] sound sole stuck legal = refl
+stays capacity entries w (entry ∷ more) sound sole stuck legal =
     elim (is_given_up entry.answer) as (λ b. is_given_up entry.answer ≡ b → list_all moves_only (cond b [] (entry ∷ before_the_end more)) ≡ true) [
       | true ↦ λ _. refl
       | false ↦ λ on.
-          let next = idled w capacity entries entry sound stuck legal.0 on (entered w (room capacity w entries) entry sound legal.0) in
+          let next = idled w capacity entries entry sound sole stuck legal.0 on (entered w (room capacity w entries) entry sound legal.0) in
+          let led = entry_leads w (room capacity w entries) entry sound legal.0 in
           ap (λ b. b && list_all moves_only (before_the_end more)) next.only
-          ∙ stays capacity (entries + 1) (led_to w entry) more (entry_leads w (room capacity w entries) entry sound legal.0).sound next.stuck legal.1
+          ∙ stays capacity (entries + 1) (led_to w entry) more led.sound (sole_more w entry led.leads.moves.kept (led_to w entry).workers led.leads.moves.move sole) next.stuck legal.1
     ] refl
 
 -- a history that goes on is legal up to a place, and on from the world there
-split : (capacity entries : ℕ) (w : World) (before more : List Entry) → IsSound (next_number_in w) w → IsLegalFrom w capacity entries (before ++ more)
-    → IsSound (next_number_in (after_from w before)) (after_from w before) × IsLegalFrom (after_from w before) capacity (entries + length before) more
-split capacity entries w [] more sound legal = (sound, subst (λ n. IsLegalFrom w capacity n more) (omega arith) legal)
-split capacity entries w (entry ∷ before) more sound legal =
-    let rest = split capacity (entries + 1) (led_to w entry) before more (entry_leads w (room capacity w entries) entry sound legal.0).sound legal.1 in
-    (rest.0, subst (λ n. IsLegalFrom (after_from (led_to w entry) before) capacity n more) (omega arith) rest.1)
+split : (capacity entries : ℕ) (w : World) (before more : List Entry) → IsSound (next_number_in w) w → AreSole w.workers → IsLegalFrom w capacity entries (before ++ more)
+    → IsSound (next_number_in (after_from w before)) (after_from w before) × (AreSole (after_from w before).workers × IsLegalFrom (after_from w before) capacity (entries + length before) more)
+split capacity entries w [] more sound sole legal = (sound, (sole, subst (λ n. IsLegalFrom w capacity n more) (omega arith) legal))
+split capacity entries w (entry ∷ before) more sound sole legal =
+    let led = entry_leads w (room capacity w entries) entry sound legal.0 in
+    let rest = split capacity (entries + 1) (led_to w entry) before more led.sound (sole_more w entry led.leads.moves.kept (led_to w entry).workers led.leads.moves.move sole) legal.1 in
+    (rest.0, (rest.1.0, subst (λ n. IsLegalFrom (after_from (led_to w entry) before) capacity n more) (omega arith) rest.1.1))
 
 -- ---- an End that is answered with Stalled
 
@@ -229,7 +232,7 @@ module _ (w : World) (left : ℕ) (who : Who) where
 
 pub stays_stalled : (limits : Limits) (capacity : ℕ) (history more : List Entry) → IsLegal limits capacity (history ++ more) → StaysStalled limits capacity history more
 stays_stalled limits capacity history more legal who stalled =
-    let here = split capacity 0 (opening limits) history more (opening_sound limits) legal in
+    let here = split capacity 0 (opening limits) history more (opening_sound limits) (opening_sole limits.workers) legal in
     let left : ℕ = room capacity (after limits history) (length history) in
-    stays capacity (length history) (after limits history) more here.0 (stalled_stuck (after limits history) left (answered_stalled (after limits history) left who stalled))
-    (subst (λ n. IsLegalFrom (after limits history) capacity n more) (omega arith) here.1)
+    stays capacity (length history) (after limits history) more here.0 here.1.0 (stalled_stuck (after limits history) left (answered_stalled (after limits history) left who stalled))
+    (subst (λ n. IsLegalFrom (after limits history) capacity n more) (omega arith) here.1.1)

@@ -3,7 +3,7 @@
 use Rattle.std.specs.List.{list_all, list_any, range_with_len}
 use Rattle.std.specs.Option.{option_map_or}
 use Rattle.std.proofs.Common.{◌≡◌, ◌≢◌, ℕ, suc, zero, ◌+◌, ◌-◌, ◌<◌, ◌≤◌, Bool, true, false, cond, not, ◌&&◌, ◌||◌, ◌==◌, nat_le, nat_lt, inl, inr, ◌⊎◌}
-use Rattle.std.proofs.Common.{List, [], ◌∷◌, length, filter, find, Option, Some, None, is_none, is_some, refl, sym, ap, ◌∙◌, subst, arith, lt-ltb, ltb-true, eqb-true, eq-eqb, slice_get}
+use Rattle.std.proofs.Common.{List, [], ◌∷◌, length, filter, find, Option, Some, None, is_none, is_some, refl, sym, ap, ap₂, ◌∙◌, subst, arith, lt-ltb, ltb-true, eqb-true, eq-eqb, slice_get, slice_set}
 use Rattle.std.proofs.lemmas.Bool.{leb-true, or_cases}
 use Rattle.std.proofs.lemmas.Option.{slice_get_within}
 use Rattle.tp_base.specs.Actors.{is_same_actor}
@@ -28,20 +28,21 @@ use Rattle.tp_base.specs.declared.rows.WorkerRow.{WorkerRow}
 use Rattle.tp_model.specs.Calls.End.{end_plan, end_refusals, end_unless_stalled, stall_or_look}
 use Rattle.tp_model.specs.Calls.Waits.{end_for, end_held, end_notices, end_wait, holds_starved}
 use Rattle.tp_model.specs.Changes.{with_worker}
-use Rattle.tp_model.specs.Conditions.{is_actor, is_finished, is_without_callback, runs_callback}
-use Rattle.tp_model.specs.Counts.{has_number, idle, is_idle_in, is_pending_in, lacks_room_to_run, maximum, numbered, pending, running}
+use Rattle.tp_model.specs.Conditions.{is_actor, is_closed_pool, is_finished, is_without_callback, runs_callback}
+use Rattle.tp_model.specs.Counts.{has_number, has_persistent, idle, is_idle_in, is_open_to, is_pending_in, is_persistent_in, maximum, numbered, pending, running, takeable}
 use Rattle.tp_model.specs.Kernels.{is_kernel_that}
-use Rattle.tp_model.specs.Stalled.{are_all_busy, is_client_stuck, is_look, is_pool_stuck, is_stalled, is_worker_stuck, waits_on}
+use Rattle.tp_model.specs.Stalled.{is_client_stuck, is_free, is_kept_waiting, is_look, is_pool_stuck, is_stalled, is_worker_stuck, lacks_room_to_run, waits_on}
 use Rattle.tp_model.specs.Stalling.{is_given_up}
-use Rattle.tp_model.specs.Support.Allowed.{Idles, MayTake}
+use Rattle.tp_model.specs.Support.Allowed.{MayDetach, MayTake}
 use Rattle.tp_model.specs.Support.Sound.{IsSound}
 use Rattle.tp_model.specs.Waits.{held, wait_of}
 use Rattle.tp_model.specs.World.{BegunWait, World, unattached}
 use Rattle.tp_model.proofs.Barred.{IsFree, passed}
 use Rattle.tp_model.proofs.Entries.{next_number_in}
 use Rattle.tp_model.proofs.Lists.{find_all, find_passes, get_set, length_filter_set}
-use Rattle.tp_model.proofs.Refusals.{both, false_true, not_false, numbered_at, numbered_some, or_false, or_true}
+use Rattle.tp_model.proofs.Refusals.{and_false, both, false_true, not_false, numbered_at, numbered_some, or_false, or_true}
 use Rattle.tp_model.proofs.Releasing.{numbered_set_other}
+use Rattle.tp_model.proofs.Sole.{AreSole, any_at}
 
 -- ---- a world in which nobody can go on, whatever the room
 
@@ -97,6 +98,45 @@ all_in_range test first (suc n) k all low high =
     above : (first == k) ≡ false → first + 1 ≤ k
     above apart = let other : first ≢ k = λ e. false_true (sym apart ∙ eq-eqb first k e) in omega (arith, low, other)
 
+or_else : (a b : Bool) → (a || b) ≡ true → a ≡ false → b ≡ true
+or_else true b e free = absurd (false_true (sym free))
+or_else false b e free = e
+
+-- a row that is put in the place of one that doesn't pass the test leaves one that does
+any_put : {X : Type 0} (test : X → Bool) (xs : List X) (i : ℕ) (old new : X) → slice_get xs i ≡ Some old → test old ≡ false → list_any test xs ≡ true → list_any test (slice_set xs i new) ≡ true
+any_put test [] i old new at out any = absurd (false_true any)
+any_put test (x ∷ xs) zero old new at out any =
+    let same : x ≡ old = cc in
+    ap (λ b. test new || b) (or_else (test x) (list_any test xs) any (ap test same ∙ out)) ∙ or_true (test new)
+any_put test (x ∷ xs) (suc i) old new at out any =
+    elim (test x) as (λ b. (b || list_any test xs) ≡ true → (b || list_any test (slice_set xs i new)) ≡ true) [
+      | true ↦ λ h. refl
+      | false ↦ λ h. any_put test xs i old new at out h
+    ] any
+
+any_also : {X : Type 0} (p q : X → Bool) → ((x : X) → p x ≡ true → q x ≡ true) → (xs : List X) → list_any p xs ≡ true → list_any q xs ≡ true
+any_also p q f [] e = e
+any_also p q f (x ∷ xs) e = of_first (any_also p q f xs) (p x) refl e
+  where
+    of_first : (list_any p xs ≡ true → list_any q xs ≡ true) → (b : Bool) → p x ≡ b → (b || list_any p xs) ≡ true → (q x || list_any q xs) ≡ true
+    of_first later true is h = ap (λ b. b || list_any q xs) (f x is)
+    of_first later false is h = ap (λ b. q x || b) (later h) ∙ or_true (q x)
+
+-- a worker that passes a test
+record IsPassing (test : WorkerRow → Bool) (rows : List WorkerRow) : Type 0 where
+  place : ℕ
+  row : WorkerRow
+  at : slice_get rows place ≡ Some row
+  passes : test row ≡ true
+
+any_passing : (test : WorkerRow → Bool) (rows : List WorkerRow) → list_any test rows ≡ true → IsPassing test rows
+any_passing test [] e = absurd (false_true e)
+any_passing test (r ∷ rs) e = of_first (any_passing test rs) (test r) refl e
+  where
+    of_first : (list_any test rs ≡ true → IsPassing test rs) → (b : Bool) → test r ≡ b → (b || list_any test rs) ≡ true → IsPassing test (r ∷ rs)
+    of_first later true is h = record { place = 0; row = r; at = refl; passes = is }
+    of_first later false is h = let on = later h in record { place = suc on.place; row = on.row; at = on.at; passes = on.passes }
+
 -- the number of a row
 in_rows : {X : Type 0} (rows : List X) (n : ℕ) → is_some (numbered rows n) ≡ true → (1 ≤ n) × (n < 1 + length rows)
 in_rows {X} rows n e = of_row (numbered rows n) refl e
@@ -104,10 +144,6 @@ in_rows {X} rows n e = of_row (numbered rows n) refl e
     of_row : (o : Option X) → numbered rows n ≡ o → is_some o ≡ true → (1 ≤ n) × (n < 1 + length rows)
     of_row None is h = absurd (false_true h)
     of_row (Some x) is h = let at = numbered_some rows n x is in (at.1, omega (arith, at.1, slice_get_within rows (n - 1) x at.0))
-
-or_else : (a b : Bool) → (a || b) ≡ true → a ≡ false → b ≡ true
-or_else true b e free = absurd (false_true (sym free))
-or_else false b e free = e
 
 -- ---- a stalled world is one
 
@@ -166,27 +202,48 @@ pool_kept true b b' l l' f g e = refl
 pool_kept false true b' l l' f g e = ap (λ x. x || l') (f refl)
 pool_kept false false b' l l' f g e = ap (λ x. b' || x) (g e) ∙ or_true b'
 
--- the room lacks for two entries, or for four where no worker of the pool is idle
-lacks : (w : World) (left pool : ℕ) → lacks_room_to_run w left pool ≡ true → (left < 2) ⊎ ((left < 4) × (idle w pool ≡ 0))
-lacks w left pool e = of_or (or_cases (nat_lt left 2) (nat_lt left 4 && (idle w pool == 0)) e)
+-- the room lacks for two entries, or, where no worker of the pool is idle, for four, or nobody is free
+abbrev any_free : World → Bool
+any_free w = list_any (is_free w) w.workers
+
+lacks : (w : World) (left pool : ℕ) → lacks_room_to_run w left pool ≡ true → (left < 2) ⊎ ((idle w pool ≡ 0) × ((left < 4) ⊎ (any_free w ≡ false)))
+lacks w left pool e = of_or (or_cases (nat_lt left 2) ((idle w pool == 0) && (nat_lt left 4 || not (any_free w))) e)
   where
-    of_or : (nat_lt left 2 ≡ true) ⊎ ((nat_lt left 4 && (idle w pool == 0)) ≡ true) → (left < 2) ⊎ ((left < 4) × (idle w pool ≡ 0))
+    not_true : (b : Bool) → not b ≡ true → b ≡ false
+    not_true false h = refl
+    not_true true h = absurd (false_true h)
+
+    of_rest : (nat_lt left 4 ≡ true) ⊎ (not (any_free w) ≡ true) → (left < 4) ⊎ (any_free w ≡ false)
+    of_rest (inl h) = inl (ltb-true left 4 h)
+    of_rest (inr h) = inr (not_true (any_free w) h)
+
+    of_or : (nat_lt left 2 ≡ true) ⊎ (((idle w pool == 0) && (nat_lt left 4 || not (any_free w))) ≡ true) → (left < 2) ⊎ ((idle w pool ≡ 0) × ((left < 4) ⊎ (any_free w ≡ false)))
     of_or (inl h) = inl (ltb-true left 2 h)
-    of_or (inr h) = let two = both (nat_lt left 4) (idle w pool == 0) h in inr (ltb-true left 4 two.0, eqb-true (idle w pool) 0 two.1)
+    of_or (inr h) =
+        let two = both (idle w pool == 0) (nat_lt left 4 || not (any_free w)) h in
+        inr (eqb-true (idle w pool) 0 two.0, of_rest (or_cases (nat_lt left 4) (not (any_free w)) two.1))
 
 lacks_two : (w : World) (left pool : ℕ) → left < 2 → lacks_room_to_run w left pool ≡ true
-lacks_two w left pool short = ap (λ b. b || (nat_lt left 4 && (idle w pool == 0))) (lt-ltb left 2 short)
+lacks_two w left pool short = ap (λ b. b || ((idle w pool == 0) && (nat_lt left 4 || not (any_free w)))) (lt-ltb left 2 short)
 
 lacks_four : (w : World) (left pool : ℕ) → left < 4 → idle w pool ≡ 0 → lacks_room_to_run w left pool ≡ true
 lacks_four w left pool short none =
-    ap (λ b. nat_lt left 2 || b) (ap (λ b. b && (idle w pool == 0)) (lt-ltb left 4 short) ∙ eq-eqb (idle w pool) 0 none) ∙ or_true (nat_lt left 2)
+    ap (λ b. nat_lt left 2 || b) (ap₂ (λ a b. a && (b || not (any_free w))) (eq-eqb (idle w pool) 0 none) (lt-ltb left 4 short)) ∙ or_true (nat_lt left 2)
+
+lacks_worker : (w : World) (left pool : ℕ) → idle w pool ≡ 0 → any_free w ≡ false → lacks_room_to_run w left pool ≡ true
+lacks_worker w left pool none busy =
+    ap (λ b. nat_lt left 2 || b) (ap₂ (λ a b. a && (nat_lt left 4 || not b)) (eq-eqb (idle w pool) 0 none) busy ∙ or_true (nat_lt left 4)) ∙ or_true (nat_lt left 2)
 
 lacks_less : (w : World) (left less pool : ℕ) → less ≤ left → lacks_room_to_run w left pool ≡ true → lacks_room_to_run w less pool ≡ true
 lacks_less w left less pool fewer e = of_case (lacks w left pool e)
   where
-    of_case : (left < 2) ⊎ ((left < 4) × (idle w pool ≡ 0)) → lacks_room_to_run w less pool ≡ true
+    of_case : (left < 2) ⊎ ((idle w pool ≡ 0) × ((left < 4) ⊎ (any_free w ≡ false))) → lacks_room_to_run w less pool ≡ true
     of_case (inl h) = lacks_two w less pool (omega (arith, h, fewer))
-    of_case (inr h) = lacks_four w less pool (omega (arith, h.0, fewer)) h.1
+    of_case (inr h) = of_rest h.1
+      where
+        of_rest : (left < 4) ⊎ (any_free w ≡ false) → lacks_room_to_run w less pool ≡ true
+        of_rest (inl short) = lacks_four w less pool (omega (arith, short, fewer)) h.0
+        of_rest (inr busy) = lacks_worker w less pool h.0 busy
 
 -- no pending callback of the pool could be taken in any room
 abbrev is_barred : World → ℕ → Bool
@@ -195,60 +252,97 @@ is_barred w pool = (pending w pool == 0) || nat_le (maximum w pool) (running w p
 pub stuck_less : (w : World) (left less : ℕ) → less ≤ left → IsStuck w left → IsStuck w less
 stuck_less w left less fewer s = record {
   actors = s.actors;
-  pools = λ pool made. pool_kept (is_barred w pool) (are_all_busy w) (are_all_busy w) (lacks_room_to_run w left pool) (lacks_room_to_run w less pool) (λ h. h) (lacks_less w left less pool fewer) (s.pools pool made);
+  pools = λ pool made. pool_kept (is_barred w pool) (is_kept_waiting w pool) (is_kept_waiting w pool) (lacks_room_to_run w left pool) (lacks_room_to_run w less pool) (λ h. h) (lacks_less w left less pool fewer) (s.pools pool made);
 }
 
-not_all_busy : (w : World) (number : ℕ) (pool : Option PoolId) → numbered w.workers number ≡ Some (record { pool = pool; callback = None }) → are_all_busy w ≡ true → ⊥
-not_all_busy w number pool there all = false_true (all_at (λ (r : WorkerRow). is_some r.callback) w.workers (number - 1) (record { pool = pool; callback = None }) all (numbered_some w.workers number _ there).0)
+-- a worker that is free
+free_there : (w : World) (number : ℕ) (row : WorkerRow) → numbered w.workers number ≡ Some row → is_free w row ≡ true → any_free w ≡ true
+free_there w number row there free = any_at (is_free w) w.workers (number - 1) row (numbered_some w.workers number row there).0 free
 
-module _ (w : World) (number : ℕ) (before after : Option PoolId) (there : numbered w.workers number ≡ Some (record { pool = before; callback = None })) where
-  -- the worker is of another pool, or of none
+-- the persistent worker of the pool runs a callback
+abbrev is_at_work : ℕ → WorkerRow → Bool
+is_at_work pool r = is_persistent_in pool r && is_some r.callback
+
+work_marks : (w : World) (pool : ℕ) → list_any (is_at_work pool) w.workers ≡ true → has_persistent w pool ≡ true
+work_marks w pool e = any_also (is_at_work pool) (is_persistent_in pool) (λ r h. (both (is_persistent_in pool r) (is_some r.callback) h).0) w.workers e
+
+module _ (w : World) (number : ℕ) (before after : WorkerRow) (there : numbered w.workers number ≡ Some before) (idles : before.callback ≡ None) (rests : after.callback ≡ None) where
+  -- the worker, who runs nothing, is of another pool, or of none
   abbrev moved : World
-  moved = with_worker w number (record { pool = after; callback = None })
+  moved = with_worker w number after
+
+  place : (slice_get w.workers (number - 1) ≡ Some before) × (1 ≤ number)
+  place = numbered_some w.workers number before there
+
+  -- a persistent worker that runs a callback is another one
+  waiting_moved : (pool : ℕ) → is_kept_waiting w pool ≡ true → is_kept_waiting moved pool ≡ true
+  waiting_moved pool e =
+      let two = both (takeable w pool false == 0) (list_any (is_at_work pool) w.workers) e in
+      let works : list_any (is_at_work pool) moved.workers ≡ true
+      = any_put (is_at_work pool) w.workers (number - 1) before after place.0 (ap (λ (o : Option ℕ). is_persistent_in pool before && is_some o) idles ∙ and_false (is_persistent_in pool before)) two.1 in
+      ap₂ (λ a b. a && b)
+      (ap (λ b. length (filter (λ (c : CallbackRow). is_pending_in pool c && (not c.persistent || false || not b)) w.callbacks) == 0) (work_marks moved pool works ∙ sym (work_marks w pool two.1)) ∙ two.0) works
 
   stuck_moved : (left less : ℕ) → ((pool : ℕ) → lacks_room_to_run w left pool ≡ true → lacks_room_to_run moved less pool ≡ true) → IsStuck w left → IsStuck moved less
   stuck_moved left less keeps s =
       record {
         actors = actors;
-        pools = λ pool made. pool_kept (is_barred w pool) (are_all_busy w) (are_all_busy moved) (lacks_room_to_run w left pool) (lacks_room_to_run moved less pool) (λ h. absurd (not_all_busy w number before there h)) (keeps pool) (s.pools pool made);
+        pools = λ pool made. pool_kept (is_barred w pool) (is_kept_waiting w pool) (is_kept_waiting moved pool) (lacks_room_to_run w left pool) (lacks_room_to_run moved less pool) (waiting_moved pool) (keeps pool) (s.pools pool made);
       }
     where
-      at : (slice_get w.workers (number - 1) ≡ Some (record { pool = before; callback = None })) × (1 ≤ number)
-      at = numbered_some w.workers number (record { pool = before; callback = None }) there
-
       actors : (who : Who) → is_actor moved who ≡ true → is_finished moved who ≡ false → is_without_callback moved who ≡ false → IsHeldUp moved who (wait_of moved who)
       actors (Client n) actor finished without = s.actors (Client n) actor finished without
       actors (Worker n) actor finished without =
           elim (n == number) as (λ b. (n == number) ≡ b → IsHeldUp moved (Worker n) (wait_of moved (Worker n))) [
             | true ↦ λ is.
-                let put : numbered moved.workers number ≡ Some (record { pool = after; callback = None }) = numbered_at moved.workers number _ at.1 (get_set w.workers (number - 1) _ _ at.0) in
-                let same : numbered moved.workers n ≡ Some (record { pool = after; callback = None }) = ap (numbered moved.workers) (eqb-true n number is) ∙ put in
-                absurd (false_true (sym without ∙ ap (λ (o : Option WorkerRow). option_map_or (λ (r : WorkerRow). is_none r.callback) o false) same))
+                let put : numbered moved.workers number ≡ Some after = numbered_at moved.workers number _ place.1 (get_set w.workers (number - 1) _ _ place.0) in
+                let same : numbered moved.workers n ≡ Some after = ap (numbered moved.workers) (eqb-true n number is) ∙ put in
+                absurd (false_true (sym without ∙ ap (λ (o : Option WorkerRow). option_map_or (λ (r : WorkerRow). is_none r.callback) o false) same ∙ ap (λ (o : Option ℕ). is_none o) rests))
             | false ↦ λ apart.
-                let same : numbered moved.workers n ≡ numbered w.workers n = numbered_set_other w.workers number n _ at.1 apart in
+                let same : numbered moved.workers n ≡ numbered w.workers n = numbered_set_other w.workers number n _ place.1 apart in
                 s.actors (Worker n) (sym (ap (λ (o : Option WorkerRow). is_some o) same) ∙ actor) finished (sym (ap (λ (o : Option WorkerRow). option_map_or (λ (r : WorkerRow). is_none r.callback) o false) same) ∙ without)
           ] refl
 
--- a worker that joins a pool pays two entries
-pub stuck_attached : (w : World) (worker : ℕ) (pool : PoolId) (left less : ℕ) → numbered w.workers worker ≡ Some unattached → less + 2 ≤ left → IsStuck w left → IsStuck (with_worker w worker (record { pool = Some pool; callback = None })) less
-stuck_attached w worker pool left less there fewer s = stuck_moved w worker None (Some pool) there left less (λ p e. of_case p (lacks w left p e)) s
+-- a worker that joins a pool was free, and pays two entries
+pub stuck_attached : (w : World) (worker : ℕ) (row : WorkerRow) (pool : PoolId) (left less : ℕ) → numbered w.workers worker ≡ Some row → row.pool ≡ None → row.callback ≡ None → less + 2 ≤ left → IsStuck w left
+    → IsStuck (with_worker w worker (record { pool = Some pool; callback = None; persistent = false })) less
+stuck_attached w worker row pool left less there away idles fewer s = stuck_moved w worker row new there idles refl left less (λ p e. of_case p (lacks w left p e)) s
   where
-    of_case : (p : ℕ) → (left < 2) ⊎ ((left < 4) × (idle w p ≡ 0)) → lacks_room_to_run (with_worker w worker (record { pool = Some pool; callback = None })) less p ≡ true
-    of_case p (inl h) = lacks_two (with_worker w worker (record { pool = Some pool; callback = None })) less p (omega (arith, h, fewer))
-    of_case p (inr h) = lacks_two (with_worker w worker (record { pool = Some pool; callback = None })) less p (omega (arith, h.0, fewer))
+    new : WorkerRow
+    new = record { pool = Some pool; callback = None; persistent = false }
 
--- and one that leaves a pool leaves fewer idle
-pub stuck_detached : (w : World) (by : Idle) (left less : ℕ) → Idles w by → less ≤ left → IsStuck w left → IsStuck (with_worker w by.worker unattached) less
-stuck_detached w by left less there fewer s = stuck_moved w by.worker (Some by.pool) None there left less (λ p e. of_case p (lacks w left p e)) s
+    free : any_free w ≡ true
+    free =
+        free_there w worker row there
+        (ap₂ (λ (c : Option ℕ) (q : Option PoolId). is_none c && (not row.persistent || option_map_or (λ (x : PoolId). is_closed_pool w x.0) q true)) idles away ∙ or_true (not row.persistent))
+
+    of_case : (p : ℕ) → (left < 2) ⊎ ((idle w p ≡ 0) × ((left < 4) ⊎ (any_free w ≡ false))) → lacks_room_to_run (with_worker w worker new) less p ≡ true
+    of_case p (inl h) = lacks_two (with_worker w worker new) less p (omega (arith, h, fewer))
+    of_case p (inr h) = of_rest h.1
+      where
+        of_rest : (left < 4) ⊎ (any_free w ≡ false) → lacks_room_to_run (with_worker w worker new) less p ≡ true
+        of_rest (inl short) = lacks_two (with_worker w worker new) less p (omega (arith, short, fewer))
+        of_rest (inr busy) = absurd (false_true (sym busy ∙ free))
+
+-- and one that leaves a pool was free, too, and leaves fewer idle
+pub stuck_detached : (w : World) (by : Idle) (left less : ℕ) → MayDetach w by → less ≤ left → IsStuck w left → IsStuck (with_worker w by.worker unattached) less
+stuck_detached w by left less may fewer s = stuck_moved w by.worker old unattached may.idles refl refl left less (λ p e. of_case p (lacks w left p e)) s
   where
+    old : WorkerRow
+    old = record { pool = Some by.pool; callback = None; persistent = by.persistent }
+
     gone : World
     gone = with_worker w by.worker unattached
 
-    of_case : (p : ℕ) → (left < 2) ⊎ ((left < 4) × (idle w p ≡ 0)) → lacks_room_to_run gone less p ≡ true
+    of_case : (p : ℕ) → (left < 2) ⊎ ((idle w p ≡ 0) × ((left < 4) ⊎ (any_free w ≡ false))) → lacks_room_to_run gone less p ≡ true
     of_case p (inl h) = lacks_two gone less p (omega (arith, h, fewer))
-    of_case p (inr h) =
-        let set = length_filter_set (is_idle_in p) w.workers (by.worker - 1) (record { pool = Some by.pool; callback = None }) unattached (numbered_some w.workers by.worker _ there).0 in
-        lacks_four gone less p (omega (arith, h.0, fewer)) (omega (arith, set, h.1))
+    of_case p (inr h) = of_rest h.1
+      where
+        of_rest : (left < 4) ⊎ (any_free w ≡ false) → lacks_room_to_run gone less p ≡ true
+        of_rest (inl short) =
+            let set = length_filter_set (is_idle_in p) w.workers (by.worker - 1) old unattached (numbered_some w.workers by.worker _ may.idles).0 in
+            lacks_four gone less p (omega (arith, short, fewer)) (omega (arith, set, h.0))
+        of_rest (inr busy) = absurd (false_true (sym busy ∙ free_there w by.worker old may.idles may.let_go))
 
 -- ---- what it accepts
 
@@ -264,8 +358,8 @@ module _ (w : World) (left : ℕ) (who : Who) (sound : IsSound (next_number_in w
           false_true (sym f.waits ∙ found_any own own b w.waits is (find_passes own b w.waits is))
 
   -- no worker takes a callback
-  pub none_taken : (by : Idle) (c : CallbackRow) → MayTake w by c → 2 ≤ left → ⊥
-  none_taken by c may fits = of_case (or_cases (is_barred w by.pool.0 || are_all_busy w) (lacks_room_to_run w left by.pool.0) (stuck.pools by.pool.0 made))
+  pub none_taken : AreSole w.workers → (by : Idle) (c : CallbackRow) → MayTake w by c → 2 ≤ left → ⊥
+  none_taken sole by c may fits = of_case (or_cases (is_barred w by.pool.0 || is_kept_waiting w by.pool.0) (lacks_room_to_run w left by.pool.0) (stuck.pools by.pool.0 made))
     where
       home : c.pool.0 ≡ by.pool.0
       home = ap (λ (p : PoolId). p.0) may.home
@@ -273,30 +367,64 @@ module _ (w : World) (left : ℕ) (who : Who) (sound : IsSound (next_number_in w
       made : by.pool.0 < length w.pools
       made = subst (λ n. n < length w.pools) home (find_all (λ (x : CallbackRow). x.pool.0 < length w.pools) (has_number c.number) c w.callbacks sound.callback_pools may.found)
 
-      waits : 1 ≤ pending w by.pool.0
-      waits = any_counts (is_pending_in by.pool.0) w.callbacks (found_any (has_number c.number) (is_pending_in by.pool.0) c w.callbacks may.found (ap (λ b. b && (c.pool.0 == by.pool.0)) may.pending ∙ eq-eqb c.pool.0 by.pool.0 home))
+      waits : is_pending_in by.pool.0 c ≡ true
+      waits = (both (is_pending_in by.pool.0 c) (not c.persistent || by.persistent || not (has_persistent w by.pool.0)) may.open_to).0
+
+      some : 1 ≤ pending w by.pool.0
+      some = any_counts (is_pending_in by.pool.0) w.callbacks (found_any (has_number c.number) (is_pending_in by.pool.0) c w.callbacks may.found waits)
+
+      row : WorkerRow
+      row = record { pool = Some by.pool; callback = None; persistent = by.persistent }
 
       idles : 1 ≤ idle w by.pool.0
       idles =
-          let set = length_filter_set (is_idle_in by.pool.0) w.workers (by.worker - 1) (record { pool = Some by.pool; callback = None }) unattached (numbered_some w.workers by.worker _ may.idles).0 in
-          let own : cond {A = ℕ} (is_idle_in by.pool.0 (record { pool = Some by.pool; callback = None })) 1 0 ≡ 1 = ap (λ b. cond {A = ℕ} (b && true) 1 0) (eq-eqb by.pool.0 by.pool.0 refl) in
+          let set = length_filter_set (is_idle_in by.pool.0) w.workers (by.worker - 1) row unattached (numbered_some w.workers by.worker _ may.idles).0 in
+          let own : cond {A = ℕ} (is_idle_in by.pool.0 row) 1 0 ≡ 1 = ap (λ b. cond {A = ℕ} (b && true) 1 0) (eq-eqb by.pool.0 by.pool.0 refl) in
           omega (arith, set, own)
 
-      of_barred : (is_barred w by.pool.0 ≡ true) ⊎ (are_all_busy w ≡ true) → ⊥
+      -- where the persistent worker runs a callback, and nothing is for others, the worker would be a second one
+      of_waiting : is_kept_waiting w by.pool.0 ≡ true → ⊥
+      of_waiting h = of_mark by.persistent refl (any_passing (is_at_work by.pool.0) w.workers two.1)
+        where
+          two : ((takeable w by.pool.0 false == 0) ≡ true) × (list_any (is_at_work by.pool.0) w.workers ≡ true)
+          two = both (takeable w by.pool.0 false == 0) (list_any (is_at_work by.pool.0) w.workers) h
+
+          -- what a worker without the mark may take is takeable
+          closed_to : is_open_to w by.pool.0 false c ≡ true → ⊥
+          closed_to open_to =
+              omega (
+                arith,
+                any_counts (is_open_to w by.pool.0 false) w.callbacks (found_any (has_number c.number) (is_open_to w by.pool.0 false) c w.callbacks may.found open_to),
+                eqb-true (takeable w by.pool.0 false) 0 two.0,
+              )
+
+          of_mark : (b : Bool) → by.persistent ≡ b → IsPassing (is_at_work by.pool.0) w.workers → ⊥
+          of_mark false is on = closed_to (sym (ap (λ b. is_open_to w by.pool.0 b c) is) ∙ may.open_to)
+          of_mark true is on =
+              let works = both (is_persistent_in by.pool.0 on.row) (is_some on.row.callback) on.passes in
+              let back : on.place ≡ on.place + 1 - 1 = omega arith in
+              let its : numbered w.workers (on.place + 1) ≡ Some on.row = numbered_at w.workers (on.place + 1) on.row (omega arith) (subst (λ i. slice_get w.workers i ≡ Some on.row) back on.at) in
+              let own : is_persistent_in by.pool.0 row ≡ true = ap₂ (λ a b. a && b) (eq-eqb by.pool.0 by.pool.0 refl) is in
+              let same : by.worker ≡ on.place + 1 = sole by.pool.0 by.worker (on.place + 1) row on.row may.idles its own works.0 in
+              let rows : Some row ≡ Some on.row = sym may.idles ∙ ap (numbered w.workers) same ∙ its in
+              let one : row ≡ on.row = cc in
+              false_true (ap (λ (r : WorkerRow). is_some r.callback) one ∙ works.1)
+
+      of_barred : (is_barred w by.pool.0 ≡ true) ⊎ (is_kept_waiting w by.pool.0 ≡ true) → ⊥
       of_barred (inl h) = of_count (or_cases (pending w by.pool.0 == 0) (nat_le (maximum w by.pool.0) (running w by.pool.0)) h)
         where
           of_count : ((pending w by.pool.0 == 0) ≡ true) ⊎ (nat_le (maximum w by.pool.0) (running w by.pool.0) ≡ true) → ⊥
-          of_count (inl g) = omega (arith, waits, eqb-true (pending w by.pool.0) 0 g)
+          of_count (inl g) = omega (arith, some, eqb-true (pending w by.pool.0) 0 g)
           of_count (inr g) = omega (arith, may.below, leb-true (maximum w by.pool.0) (running w by.pool.0) g)
-      of_barred (inr h) = not_all_busy w by.worker (Some by.pool) may.idles h
+      of_barred (inr h) = of_waiting h
 
-      of_case : ((is_barred w by.pool.0 || are_all_busy w) ≡ true) ⊎ (lacks_room_to_run w left by.pool.0 ≡ true) → ⊥
-      of_case (inl h) = of_barred (or_cases (is_barred w by.pool.0) (are_all_busy w) h)
+      of_case : ((is_barred w by.pool.0 || is_kept_waiting w by.pool.0) ≡ true) ⊎ (lacks_room_to_run w left by.pool.0 ≡ true) → ⊥
+      of_case (inl h) = of_barred (or_cases (is_barred w by.pool.0) (is_kept_waiting w by.pool.0) h)
       of_case (inr h) = of_lack (lacks w left by.pool.0 h)
         where
-          of_lack : (left < 2) ⊎ ((left < 4) × (idle w by.pool.0 ≡ 0)) → ⊥
+          of_lack : (left < 2) ⊎ ((idle w by.pool.0 ≡ 0) × ((left < 4) ⊎ (any_free w ≡ false))) → ⊥
           of_lack (inl g) = omega (arith, g, fits)
-          of_lack (inr g) = omega (arith, g.1, idles)
+          of_lack (inr g) = omega (arith, g.0, idles)
 
   -- an End ends its wait as stalled or exhausted
   pub ends_given_up : (a : Answer) (ch : Change) → end_plan w left who ≡ plans.Does a ch → is_given_up a ≡ true

@@ -31,7 +31,7 @@ pub record IsTied (history : List Entry) (w : World) : Type 0 where
   pub simples : (group n : ℕ) (c : CallbackRow) → is_among n (simples_of group history) ≡ true → find (has_number n) w.callbacks ≡ Some c → (c.object.0 ≡ 0) × (c.group.0 ≡ group)
 
 -- a SubmitSimple completes no operation
-simple_new : (group : ℕ) (call : Call) (a : Answer) → is_for_group group (cond (is_refusal a) None (simple_call call)) ≡ true → cond (is_complete_call call) [] (queued_by a) ≡ queued_by a
+pub simple_new : (group : ℕ) (call : Call) (a : Answer) → is_for_group group (cond (is_refusal a) None (simple_call call)) ≡ true → cond (is_complete_call call) [] (queued_by a) ≡ queued_by a
 simple_new group (CompleteIo callback error bytes) a e = absurd (none (is_refusal a) e)
   where
     none : (b : Bool) → is_for_group group (cond b None None) ≡ true → ⊥
@@ -82,14 +82,14 @@ module _ (before : List Entry) (w : World) (x : Entry) (after : World) (rising :
 
       created_in : (group n : ℕ) (c : Option Creation) → created_by x ≡ c → is_among n (object_in group c) ≡ true → IsInGroup after.objects group n
       created_in group n None is e = absurd (false_true e)
-      created_in group n (Some c) is e = of_group (c.group.0 == group) refl e
+      created_in group n (Some c) is e = of_group (c.env.group.0 == group) refl e
         where
-          of_group : (b : Bool) → (c.group.0 == group) ≡ b → is_among n (cond b (c.object ∷ []) []) ≡ true → IsInGroup after.objects group n
+          of_group : (b : Bool) → (c.env.group.0 == group) ≡ b → is_among n (cond b (c.object ∷ []) []) ≡ true → IsInGroup after.objects group n
           of_group false _ h = absurd (false_true h)
           of_group true its h =
               let made = leads.groups.creates c is in
               let same : c.object ≡ n = eqb-true c.object n (only (c.object == n) h) in
-              subst (IsInGroup after.objects group) same (record { row = made.row; stands = made.stands; group_is = ap (λ g. g.0) made.group ∙ eqb-true c.group.0 group its })
+              subst (IsInGroup after.objects group) same (record { row = made.row; stands = made.stands; group_is = ap (λ e. e.group.0) made.env ∙ eqb-true c.env.group.0 group its })
             where
               only : (b : Bool) → (b || false) ≡ true → b ≡ true
               only true k = refl

@@ -29,7 +29,7 @@ limits = record { clients = 2; workers = 4; pools = 64; groups = 255; objects = 
 
 -- a wait with cancel covers the two callbacks that run, and cancels the one that waits
 wait_with_cancel : play limits 65536
-    (((Client 1), (call.Create Work (record { 0 = 1 }) 0 (record { pool = record { 0 = 0 }; group = record { 0 = 0 }; cancel = record { 0 = 0 }; priority = Normal; long = false })))
+    (((Client 1), (call.Create Work (record { 0 = 1 }) 0 (record { pool = record { 0 = 0 }; group = record { 0 = 0 }; cancel = record { 0 = 0 }; priority = Normal; long = false; persistent = false })))
     ∷ ((Client 1), (call.SubmitWork (record { 0 = 1 })))
     ∷ ((Client 1), (call.SubmitWork (record { 0 = 1 })))
     ∷ ((Client 1), (call.SubmitWork (record { 0 = 1 })))
@@ -64,7 +64,7 @@ wait_with_cancel = refl
 
 -- what is submitted after the wait began is not waited for
 later_submit : play limits 65536
-    (((Client 1), (call.Create Work (record { 0 = 1 }) 0 (record { pool = record { 0 = 0 }; group = record { 0 = 0 }; cancel = record { 0 = 0 }; priority = Normal; long = false })))
+    (((Client 1), (call.Create Work (record { 0 = 1 }) 0 (record { pool = record { 0 = 0 }; group = record { 0 = 0 }; cancel = record { 0 = 0 }; priority = Normal; long = false; persistent = false })))
     ∷ ((Client 1), (call.SubmitWork (record { 0 = 1 })))
     ∷ ((Worker 1), call.Attach)
     ∷ ((Worker 1), call.Take)
@@ -87,7 +87,7 @@ later_submit = refl
 
 -- a callback waits for its own object only where it was disassociated from it
 own_object : play limits 65536
-    (((Client 1), (call.Create Work (record { 0 = 1 }) 0 (record { pool = record { 0 = 0 }; group = record { 0 = 0 }; cancel = record { 0 = 0 }; priority = Normal; long = false })))
+    (((Client 1), (call.Create Work (record { 0 = 1 }) 0 (record { pool = record { 0 = 0 }; group = record { 0 = 0 }; cancel = record { 0 = 0 }; priority = Normal; long = false; persistent = false })))
     ∷ ((Client 1), (call.SubmitWork (record { 0 = 1 })))
     ∷ ((Worker 1), call.Attach)
     ∷ ((Worker 1), call.Take)
@@ -124,7 +124,7 @@ own_object = refl
 
 -- where the history has no room for a pending callback to be run, the wait ends without it
 without_room : play limits 8
-    (((Client 1), (call.Create Work (record { 0 = 1 }) 0 (record { pool = record { 0 = 0 }; group = record { 0 = 0 }; cancel = record { 0 = 0 }; priority = Normal; long = false })))
+    (((Client 1), (call.Create Work (record { 0 = 1 }) 0 (record { pool = record { 0 = 0 }; group = record { 0 = 0 }; cancel = record { 0 = 0 }; priority = Normal; long = false; persistent = false })))
     ∷ ((Client 1), (call.SubmitWork (record { 0 = 1 })))
     ∷ ((Client 1), (call.BeginWait Work (record { 0 = 1 }) false))
     ∷ ((Client 1), call.End)
@@ -138,7 +138,7 @@ unfolding limits create_plan close_object_plan submit_work_plan submit_simple_pl
 without_room = refl
 
 with_room : play limits 10
-    (((Client 1), (call.Create Work (record { 0 = 1 }) 0 (record { pool = record { 0 = 0 }; group = record { 0 = 0 }; cancel = record { 0 = 0 }; priority = Normal; long = false })))
+    (((Client 1), (call.Create Work (record { 0 = 1 }) 0 (record { pool = record { 0 = 0 }; group = record { 0 = 0 }; cancel = record { 0 = 0 }; priority = Normal; long = false; persistent = false })))
     ∷ ((Client 1), (call.SubmitWork (record { 0 = 1 })))
     ∷ ((Client 1), (call.BeginWait Work (record { 0 = 1 }) false))
     ∷ ((Client 1), call.End) ∷ [])
@@ -151,14 +151,14 @@ with_room = refl
 
 -- a closed object takes no call, and what is pending still runs; a simple callback has object 0
 closing : play limits 65536
-    (((Client 1), (call.Create Work (record { 0 = 1 }) 0 (record { pool = record { 0 = 0 }; group = record { 0 = 0 }; cancel = record { 0 = 0 }; priority = Normal; long = false })))
+    (((Client 1), (call.Create Work (record { 0 = 1 }) 0 (record { pool = record { 0 = 0 }; group = record { 0 = 0 }; cancel = record { 0 = 0 }; priority = Normal; long = false; persistent = false })))
     ∷ ((Client 1), (call.SubmitWork (record { 0 = 1 })))
     ∷ ((Client 1), (call.CloseObject Work (record { 0 = 1 })))
     ∷ ((Client 1), (call.SubmitWork (record { 0 = 1 })))
     ∷ ((Client 1), (call.BeginWait Work (record { 0 = 1 }) false))
     ∷ ((Worker 1), call.Attach)
     ∷ ((Worker 1), call.Take)
-    ∷ ((Client 2), (call.SubmitSimple (record { 0 = 2 }) 3 (record { pool = record { 0 = 0 }; group = record { 0 = 0 }; cancel = record { 0 = 0 }; priority = High; long = false })))
+    ∷ ((Client 2), (call.SubmitSimple (record { 0 = 2 }) 3 (record { pool = record { 0 = 0 }; group = record { 0 = 0 }; cancel = record { 0 = 0 }; priority = High; long = false; persistent = false })))
     ∷ ((Worker 1), call.Return)
     ∷ ((Worker 1), call.Take) ∷ [])
     ≡ outcome.Done (answer.Made 1)
@@ -177,7 +177,7 @@ closing = refl
 -- ---- the law Covered refuses
 
 environ : Environ
-environ = record { pool = record { 0 = 0 }; group = record { 0 = 0 }; cancel = record { 0 = 0 }; priority = Normal; long = false }
+environ = record { pool = record { 0 = 0 }; group = record { 0 = 0 }; cancel = record { 0 = 0 }; priority = Normal; long = false; persistent = false }
 
 made : Entry
 made = record { who = Client 1; call = call.Create Work (record { 0 = 1 }) 0 environ; answer = answer.Made 1 }

@@ -1,5 +1,5 @@
 -- The world after a change.
-use Rattle.std.specs.Prelude.{ℕ, ◌+◌, ◌-◌, Bool, true, false, not, min, max, List, [], ◌∷◌, ◌++◌, length, map, drop, slice_get, slice_set, if◌then◌else◌, Option, None, Some}
+use Rattle.std.specs.Prelude.{ℕ, ◌+◌, ◌-◌, Bool, true, false, not, ◌||◌, min, max, List, [], ◌∷◌, ◌++◌, length, map, drop, slice_get, slice_set, if◌then◌else◌, Option, None, Some}
 use Rattle.std.specs.List.{filter}
 use Rattle.tp_base.specs.declared.plans.Change.{Change}
 use Rattle.tp_base.specs.declared.plans.Change.TheVariants as change
@@ -128,9 +128,9 @@ returned c = record c { status = Returned }
 abbrev pub finished : ClientRow
 finished = record { finished = true }
 
--- the callback that a worker runs returned; the worker stays attached
+-- the callback that a worker runs returned; the worker stays attached, and the persistent one if it was
 abbrev pub without_run : World → Busy → World
-without_run w by = with_worker (with_callback w (returned by.callback)) by.worker (record { pool = Some by.pool; callback = None })
+without_run w by = with_worker (with_callback w (returned by.callback)) by.worker (record { pool = Some by.pool; callback = None; persistent = by.persistent })
 
 -- with the number that the next callback gets
 abbrev pub return_callback : World → Busy → ActionWords → ℕ → World
@@ -203,10 +203,10 @@ changed w (change.Operate callback how) = with_callback w (operated how callback
 changed w (change.Fire trigger first count) = fired w first (firing trigger (sources_of w))
 changed w (change.CreateKernel state) = record w { kernels = w.kernels ++ new_kernel state ∷ [] }
 changed w (change.ChangeKernel kernel how) = record w { kernels = kernel_changed (state_after how) w.kernels kernel.0 }
-changed w (change.Attach worker pool) = with_worker w worker (record { pool = Some pool; callback = None })
+changed w (change.Attach worker pool) = with_worker w worker (record { pool = Some pool; callback = None; persistent = false })
 changed w (change.Detach by) = with_worker w by.worker unattached
 changed w (change.Take by callback) =
-    with_worker (with_callback w (taken callback by.worker)) by.worker (record { pool = Some by.pool; callback = Some callback.number })
+    with_worker (with_callback w (taken callback by.worker)) by.worker (record { pool = Some by.pool; callback = Some callback.number; persistent = by.persistent || callback.persistent })
 changed w (change.Mark by mark) = with_callback w (marked mark by.callback)
 changed w (change.Return by words first count) = return_callback w by words first
 changed w (change.BeginWait who awaited cancel) =

@@ -50,26 +50,27 @@ runs_callback w who = option_map_or (λ (r : WorkerRow). is_some r.callback) (wo
 abbrev pub is_attached : World → Who → Bool
 is_attached w who = option_map_or (λ (r : WorkerRow). is_some r.pool) (worker_of w who) false
 
-abbrev pub idle_row : ℕ → Option PoolId → Option ℕ → Option Idle
-idle_row worker (Some pool) None = Some (record { worker = worker; pool = pool })
-idle_row worker _ _ = None
+abbrev pub idle_row : ℕ → Option PoolId → Option ℕ → Bool → Option Idle
+idle_row worker (Some pool) None persistent = Some (record { worker = worker; pool = pool; persistent = persistent })
+idle_row worker _ _ persistent = None
 
 abbrev pub idle_in : ℕ → Option WorkerRow → Option Idle
 idle_in worker None = None
-idle_in worker (Some row) = idle_row worker row.pool row.callback
+idle_in worker (Some row) = idle_row worker row.pool row.callback row.persistent
 
 -- the actor as an attached worker that runs nothing, if it is one
 abbrev pub idle_of : World → Who → Option Idle
 idle_of w (Client number) = None
 idle_of w (Worker number) = idle_in number (numbered w.workers number)
 
-abbrev pub busy_row : World → ℕ → Option PoolId → Option ℕ → Option Busy
-busy_row w worker (Some pool) (Some callback) = option_map (λ (c : CallbackRow). record { worker = worker; pool = pool; callback = c }) (callback_of w callback)
-busy_row w worker _ _ = None
+abbrev pub busy_row : World → ℕ → Option PoolId → Option ℕ → Bool → Option Busy
+busy_row w worker (Some pool) (Some callback) persistent =
+    option_map (λ (c : CallbackRow). record { worker = worker; pool = pool; callback = c; persistent = persistent }) (callback_of w callback)
+busy_row w worker _ _ persistent = None
 
 abbrev pub busy_in : World → ℕ → Option WorkerRow → Option Busy
 busy_in w worker None = None
-busy_in w worker (Some row) = busy_row w worker row.pool row.callback
+busy_in w worker (Some row) = busy_row w worker row.pool row.callback row.persistent
 
 -- the actor as a worker that runs a callback, if it is one
 abbrev pub busy_of : World → Who → Option Busy

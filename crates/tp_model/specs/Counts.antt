@@ -1,7 +1,7 @@
 -- What is counted in a world. Each count is the length of a filtered list.
 use Rattle.std.specs.Prelude.{ℕ, ◌+◌, ◌-◌, Bool, true, false, not, ◌&&◌, ◌||◌, ◌==◌, nat_lt, List, ◌++◌, length, slice_get, is_some, is_none, if◌then◌else◌, None}
 use Rattle.std.specs.Prelude.{Option}
-use Rattle.std.specs.List.{filter, find, range_with_len}
+use Rattle.std.specs.List.{filter, find, list_any, range_with_len}
 use Rattle.std.specs.Option.{option_map_or}
 use Rattle.std.specs.List.{sum_by}
 use Rattle.tp_base.specs.declared.calls.Priority.{Priority}
@@ -86,8 +86,25 @@ is_attached_to pool worker = option_map_or (λ (p : PoolId). p.0 == pool) worker
 abbrev pub is_idle_in : ℕ → WorkerRow → Bool
 is_idle_in pool worker = is_attached_to pool worker && is_none worker.callback
 
+-- the worker is attached to the pool as its persistent worker
+abbrev pub is_persistent_in : ℕ → WorkerRow → Bool
+is_persistent_in pool worker = is_attached_to pool worker && worker.persistent
+
+-- the pool has a persistent worker
+abbrev pub has_persistent : World → ℕ → Bool
+has_persistent w pool = list_any (is_persistent_in pool) w.workers
+
+-- a worker of the pool may take the pending callback: a persistent one is for the pool's persistent worker, and where the
+-- pool has none for each of its workers. The third argument says whether the worker is the persistent one
+abbrev pub is_open_to : World → ℕ → Bool → CallbackRow → Bool
+is_open_to w pool persistent c = is_pending_in pool c && (not c.persistent || persistent || not (has_persistent w pool))
+
 abbrev pub pending : World → ℕ → ℕ
 pending w pool = length (filter (is_pending_in pool) w.callbacks)
+
+-- the pending callbacks that a worker of the pool may take, who is the persistent one or isn't. A further worker isn't
+abbrev pub takeable : World → ℕ → Bool → ℕ
+takeable w pool persistent = length (filter (is_open_to w pool persistent) w.callbacks)
 
 abbrev pub running : World → ℕ → ℕ
 running w pool = length (filter (is_running_in pool) w.callbacks)
@@ -113,34 +130,29 @@ maximum w pool = option_map_or (λ (p : PoolRow). p.maximum) (slice_get w.pools 
 abbrev pub minimum : World → ℕ → ℕ
 minimum w pool = option_map_or (λ (p : PoolRow). if p.closed then 0 else p.minimum) (slice_get w.pools pool) 0
 
--- callbacks wait, no attached worker is free, and the pool may have another
+-- callbacks wait that a further worker may take, no attached worker is free, and the pool may have another
 abbrev pub is_in_need : World → ℕ → Bool
-is_in_need w pool = nat_lt 0 (pending w pool) && (idle w pool == 0) && nat_lt (attached w pool) (maximum w pool)
+is_in_need w pool = nat_lt 0 (takeable w pool false) && (idle w pool == 0) && nat_lt (attached w pool) (maximum w pool)
 
 -- the pool has fewer workers for short callbacks than its minimum, and may have another
 abbrev pub is_below_minimum : World → ℕ → Bool
 is_below_minimum w pool = nat_lt (available w pool) (minimum w pool) && nat_lt (attached w pool) (maximum w pool)
 
--- the history has no room for a callback of the pool to be run: that takes two entries, and two more where no worker of the
--- pool is idle, so that one has to attach and to detach
-abbrev pub lacks_room_to_run : World → ℕ → ℕ → Bool
-lacks_room_to_run w room pool = nat_lt room 2 || (nat_lt room 4 && (idle w pool == 0))
-
 -- the pool of least number that passes the test
 abbrev pub least_pool : World → (ℕ → Bool) → Option ℕ
 least_pool w test = find test (range_with_len 0 (length w.pools))
 
--- a pool's pending callbacks of the priorities that pass the test, by rising number
-abbrev pub waiting : World → ℕ → (Priority → Bool) → List CallbackRow
-waiting w pool test = filter (λ c. is_pending_in pool c && test c.priority) w.callbacks
+-- those of the priorities that pass the test, by rising number
+abbrev pub waiting : World → ℕ → Bool → (Priority → Bool) → List CallbackRow
+waiting w pool persistent test = filter (λ c. is_open_to w pool persistent c && test c.priority) w.callbacks
 
--- a pool's pending callbacks in the order in which they are taken
-abbrev pub queue : World → ℕ → List CallbackRow
-queue w pool = waiting w pool is_high ++ waiting w pool is_normal ++ waiting w pool is_low
+-- all of them in the order in which they are taken
+abbrev pub queue : World → ℕ → Bool → List CallbackRow
+queue w pool persistent = waiting w pool persistent is_high ++ waiting w pool persistent is_normal ++ waiting w pool persistent is_low
 
--- the callback that is taken next: of the highest priority, and of these the one of least number
-abbrev pub next : World → ℕ → Option CallbackRow
-next w pool = slice_get (queue w pool) 0
+-- the callback that the worker takes next: of the highest priority, and of these the one of least number
+abbrev pub next : World → ℕ → Bool → Option CallbackRow
+next w pool persistent = slice_get (queue w pool persistent) 0
 
 -- callbacks that may still run or are being run, and armed waits, each of which holds a place for its callback
 abbrev pub slots : World → ℕ

@@ -10,6 +10,7 @@ pub mod Notices
 pub mod Actions
 pub mod Armed
 pub mod Io
+pub mod Persistent
 use Once.{AreOnce}
 use Maximum.{IsWithinMaximum}
 use Covered.{AreCovered, AreClosed}
@@ -17,6 +18,7 @@ use Notices.{AreNoticed}
 use Actions.{AreActions}
 use Armed.{AreArmed}
 use Io.{AreOperated}
+use Persistent.{ArePersistent}
 
 pub record KeepsLaws (limits : Limits) (history : List Entry) : Type 0 where
   pub once : AreOnce limits history
@@ -27,3 +29,4 @@ pub record KeepsLaws (limits : Limits) (history : List Entry) : Type 0 where
   pub actions : AreActions history
   pub armed : AreArmed history
   pub operated : AreOperated history
+  pub persistent : ArePersistent history

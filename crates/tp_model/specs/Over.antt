@@ -8,8 +8,9 @@ use Rattle.tp_base.specs.declared.rows.Status.{Status}
 use Rattle.tp_base.specs.declared.rows.Status.TheVariants as status
 use Rattle.tp_model.specs.declared.Left.{Left}
 use Rattle.tp_model.specs.declared.Left.TheVariants.{Expected, Issued, Pending}
-use Rattle.tp_model.specs.Counts.{is_pending, is_running, lacks_room_to_run}
+use Rattle.tp_model.specs.Counts.{is_pending, is_running}
 use Rattle.tp_model.specs.Laws.Once.{left}
+use Rattle.tp_model.specs.Stalled.{lacks_room_to_run}
 use Rattle.tp_model.specs.World.{World}
 
 -- the callback runs, or waits for a worker and can still be run

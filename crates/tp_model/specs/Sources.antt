@@ -152,13 +152,14 @@ new_callback number object row result = record {
   group = row.env.group;
   priority = row.env.priority;
   long = row.env.long;
+  persistent = row.env.persistent;
   result = result;
   status = Pending;
 }
 
 -- in place of the row of an object that was never made: each job is of one that was
 abbrev pub no_object : ObjectRow
-no_object = new_object Work (record { 0 = 0 }) 0 (record { pool = record { 0 = 0 }; group = record { 0 = 0 }; cancel = record { 0 = 0 }; priority = Normal; long = false })
+no_object = new_object Work (record { 0 = 0 }) 0 (record { pool = record { 0 = 0 }; group = record { 0 = 0 }; cancel = record { 0 = 0 }; priority = Normal; long = false; persistent = false })
 
 abbrev pub object_row : List ObjectRow → ObjectId → ObjectRow
 object_row objects object = unwrap_or (numbered objects object.0) no_object

@@ -46,7 +46,7 @@ abbrev pub new_pool : Limits → PoolRow
 new_pool limits = record { minimum = 0; maximum = limits.workers; closed = false }
 
 abbrev pub unattached : WorkerRow
-unattached = record { pool = None; callback = None }
+unattached = record { pool = None; callback = None; persistent = false }
 
 abbrev pub unfinished : ClientRow
 unfinished = record { finished = false }

@@ -6,12 +6,13 @@
 //! no callback of it was taken twice, none above its pool's maximum, none that a wait or a close of a
 //! group was for after that has ended, and none of an operation but with the error and the bytes with
 //! which it had completed; each return tells of exactly the actions that its callback asked for; no
-//! wait object got two callbacks for one time that it was set; and a close of a group gave a notice of
-//! exactly the members that were to get one, each once and in order.
+//! wait object got two callbacks for one time that it was set; a close of a group gave a notice of
+//! exactly the members that were to get one, each once and in order; and the persistent callbacks of a
+//! pool were run by one worker, which left the pool only once it was closed.
 
 #![tactic(auto)]
 
-ghost use Rattle.std.specs.Prelude.{◌≡◌, ℕ, ◌+◌, ◌≤◌, true, List, ◌++◌, length};
+ghost use Rattle.std.specs.Prelude.{Bool, ◌≡◌, ℕ, ◌+◌, ◌≤◌, true, List, ◌++◌, length};
 ghost use Rattle.tp_base.specs.declared.answers.Entry.{Entry};
 ghost use Rattle.tp_base.specs.declared.ids.Who.{Who};
 ghost use Rattle.tp_base.specs.declared.limits.Limits.{Limits};
@@ -58,11 +59,12 @@ pub fn legal_fits()
     ensures { (limits : Limits) (capacity most : ℕ) (history : List Entry) → capacity ≤ most → limits.clients ≤ most → IsLegal limits capacity history → length history + owed (after limits history) ≤ most }
 {}
 
-/// The callback that a pool's worker takes next is pending there, and of those that are it is of the
-/// highest priority, and of these of the least number. It does nothing: who calls it knows this.
+/// The callback that a pool's worker takes next is pending there and one that this worker may take, and
+/// of those it is of the highest priority, and of these of the least number. It does nothing: who calls
+/// it knows this.
 #[tactic(auto, using(crate::proofs::Laws::next_is_first))]
 pub fn next_comes_first()
-    ensures { (limits : Limits) (capacity : ℕ) (history : List Entry) → IsLegal limits capacity history → (pool : ℕ) → IsNextOrNone (after limits history) pool (next (after limits history) pool) }
+    ensures { (limits : Limits) (capacity : ℕ) (history : List Entry) → IsLegal limits capacity history → (pool : ℕ) (persistent : Bool) → IsNextOrNone (after limits history) pool persistent (next (after limits history) pool persistent) }
 {}
 
 /// Of a legal history: who has begun a close of a group with cancel and not ended it is in a wait, its

@@ -29,7 +29,7 @@ limits : Limits
 limits = record { clients = 1; workers = 2; pools = 1; groups = 0; objects = 2; kernels = 0; slots = 8 }
 
 environ : Environ
-environ = record { pool = record { 0 = 0 }; group = record { 0 = 0 }; cancel = record { 0 = 0 }; priority = Normal; long = false }
+environ = record { pool = record { 0 = 0 }; group = record { 0 = 0 }; cancel = record { 0 = 0 }; priority = Normal; long = false; persistent = false }
 
 entry : Who → Call → Answer → Entry
 entry who call answer = record { who = who; call = call; answer = answer }

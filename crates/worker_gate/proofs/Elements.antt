@@ -1,7 +1,7 @@
 -- Elements of lists, with their places.
 use Rattle.std.proofs.Common.{◌≡◌, ℕ, zero, suc, ◌+◌, ◌-◌, ◌<◌, ◌≤◌, Bool, true, false, cond, ◌&&◌, ◌||◌, ◌==◌, List, [], ◌∷◌, length, Some, is_some, slice_get, refl, sym, ap, ◌∙◌, arith, filter, find}
 use Rattle.std.specs.List.{list_all, list_any, range_with_len}
-use Rattle.std.proofs.lemmas.Bool.{and_from}
+use Rattle.std.proofs.lemmas.Bool.{and_from, or_right}
 use Rattle.tp_model.specs.Counts.{numbered}
 use Rattle.tp_model.proofs.Refusals.{false_true, numbered_at}
 
@@ -71,6 +71,13 @@ any_at {X} test (x ∷ xs) some = by (test x) refl (any_at test xs) some
     by : (b : Bool) → test x ≡ b → (list_any test xs ≡ true → IsAt test true xs) → (b || list_any test xs) ≡ true → IsAt test true (x ∷ xs)
     by true is later e = record { place = 0; element = x; there = refl; tests = is }
     by false is later e = further test true x xs (later e)
+
+pub passes_any : {X : Type 0} (test : X → Bool) (xs : List X) (i : ℕ) (x : X) → slice_get xs i ≡ Some x → test x ≡ true → list_any test xs ≡ true
+passes_any test [] i x there passes = absurd (cc)
+passes_any test (y ∷ ys) zero x there passes =
+    let same : y ≡ x = cc in
+    ap (λ (b : Bool). b || list_any test ys) (ap test same ∙ passes)
+passes_any test (y ∷ ys) (suc i) x there passes = or_right (test y) (list_any test ys) (passes_any test ys i x there passes)
 
 -- a place counts from 0, and a number from 1
 pub row_at : {X : Type 0} (rows : List X) (i : ℕ) (row : X) → slice_get rows i ≡ Some row → numbered rows (i + 1) ≡ Some row

@@ -64,18 +64,19 @@ not_done : (o : Outcome) → is_done o ≡ true → is_done o ≡ false → ⊥
 not_done o is out = let e : true ≡ false = sym is ∙ out in cc
 
 -- the row of a worker that is idle
-idle_row_of : (w : World) (number : ℕ) (by : Idle) → idle_of w (Worker number) ≡ Some by → (pool : PoolId) × (numbered w.workers number ≡ Some (idle_at pool))
+idle_row_of : (w : World) (number : ℕ) (by : Idle) → idle_of w (Worker number) ≡ Some by → (pool : PoolId) × (mark : Bool) × (numbered w.workers number ≡ Some (idle_at pool mark))
 idle_row_of w number by is = of_row (numbered w.workers number) is
   where
-    of_parts : (pool : Option PoolId) (callback : Option ℕ) → idle_row number pool callback ≡ Some by → (p : PoolId) × (◌≡◌ {A = Option WorkerRow} (Some (record { pool = pool; callback = callback })) (Some (idle_at p)))
-    of_parts None None e = absurd (cc)
-    of_parts None (Some n) e = absurd (cc)
-    of_parts (Some p) (Some n) e = absurd (cc)
-    of_parts (Some p) None e = (p, refl)
+    of_parts : (pool : Option PoolId) (callback : Option ℕ) (mark : Bool) → idle_row number pool callback mark ≡ Some by
+        → (p : PoolId) × (m : Bool) × (◌≡◌ {A = Option WorkerRow} (Some (record { pool = pool; callback = callback; persistent = mark })) (Some (idle_at p m)))
+    of_parts None None mark e = absurd (cc)
+    of_parts None (Some n) mark e = absurd (cc)
+    of_parts (Some p) (Some n) mark e = absurd (cc)
+    of_parts (Some p) None mark e = (p, (mark, refl))
 
-    of_row : (o : Option WorkerRow) → idle_in number o ≡ Some by → (p : PoolId) × (o ≡ Some (idle_at p))
+    of_row : (o : Option WorkerRow) → idle_in number o ≡ Some by → (p : PoolId) × (m : Bool) × (o ≡ Some (idle_at p m))
     of_row None e = absurd (cc)
-    of_row (Some row) e = of_parts row.pool row.callback e
+    of_row (Some row) e = of_parts row.pool row.callback row.persistent e
 
 module _ (g : Given) (limits : Limits) (capacity : ℕ) (history : List Entry) (facts : MachineFacts limits history) (sound : IsSound (next_number_in (after limits history)) (after limits history)) (who : Who) (actor : IsActor limits who) where
   abbrev pub left : ℕ
@@ -123,7 +124,7 @@ module _ (g : Given) (limits : Limits) (capacity : ℕ) (history : List Entry) (
   unfilled (Worker number) is rests =
       let i = (facts.stands who actor).idle (sym rests) in
       let row = idle_row_of w number i.by (sym (ap (idle_of w) is) ∙ i.is) in
-      ap (λ (x : Who). is_full (comes_to limits capacity history x Detach)) is ∙ leaves_unfilled w left sound number row.0 row.1
+      ap (λ (x : Who). is_full (comes_to limits capacity history x Detach)) is ∙ leaves_unfilled w left sound number row.0 row.1.0 row.1.1
 
   playing_held : (at : Who) → is_stage_of at Playing ≡ true → is_held w at ≡ true
   playing_held (Client number) sorted = refl

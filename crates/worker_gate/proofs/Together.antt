@@ -12,20 +12,20 @@ use Rattle.tp_base.specs.declared.plans.Stage.TheVariants.{Away, Busy, Idle, Ove
 use Rattle.tp_base.specs.declared.rows.CallbackRow.{CallbackRow}
 use Rattle.tp_base.specs.declared.rows.ClientRow.{ClientRow}
 use Rattle.tp_base.specs.declared.rows.WorkerRow.{WorkerRow}
-use Rattle.tp_model.specs.Counts.{is_attached_to, is_pending, is_pending_in, is_running, is_running_in, lacks_room_to_run, maximum, numbered, pending, running}
+use Rattle.tp_model.specs.Counts.{is_attached_to, is_pending, is_pending_in, is_persistent_in, is_running, is_running_in, maximum, numbered, pending, running, takeable}
 use Rattle.tp_model.specs.History.{after, IsLegal}
 use Rattle.tp_model.specs.Over.{goes_on, is_over}
 use Rattle.tp_model.specs.Stages.{is_busy_stage, is_in_part, stage_of, IsActor, MachineFacts}
-use Rattle.tp_model.specs.Stalled.{are_all_busy, is_client_stuck, is_pool_stuck, is_stalled, is_worker_stuck, waits_on}
+use Rattle.tp_model.specs.Stalled.{is_client_stuck, is_kept_waiting, is_pool_stuck, is_stalled, is_worker_stuck, lacks_room_to_run, waits_on}
 use Rattle.tp_model.specs.Support.Standing.{client_stage, stage_at, AreStanding}
-use Rattle.tp_model.specs.World.{unattached, World}
+use Rattle.tp_model.specs.World.{World}
 use Rattle.tp_model.proofs.Facts.{machine_facts}
 use Rattle.tp_model.proofs.Few.{few_actor}
 use Rattle.tp_model.proofs.Lists.{all_get}
 use Rattle.tp_model.proofs.Refusals.{both}
 use Rattle.tp_model.proofs.Standing.{standing}
 use Rattle.worker_gate.proofs.Elements.{all_in_range, any_at, counted, one_fails, one_passes, row_at}
-use Rattle.worker_gate.proofs.Going.{idle_at, some_goes, Joins, SomeGoes, Works}
+use Rattle.worker_gate.proofs.Going.{away_at, idle_at, some_goes, Joins, SomeGoes, Works}
 use Rattle.worker_gate.proofs.Manned.{attached_is, manned, some_may_run, IsManned}
 use Rattle.worker_gate.proofs.Staying.{StaysAt}
 
@@ -60,14 +60,14 @@ module _ (limits : Limits) (capacity : ℕ) (history : List Entry) (legal : IsLe
   module _ (stays : (who : Who) → IsActor limits who → StaysAt w room who (stage_of who history)) where
     -- so no worker goes
     none_goes : SomeGoes w room → ⊥
-    none_goes (number, Joins is done) =
-        let s = subst (StaysAt w room (Worker number)) (stage_by_row number unattached Away is refl) (stays (Worker number) (worker_of_row number unattached is)) in
+    none_goes (number, Joins mark is done) =
+        let s = subst (StaysAt w room (Worker number)) (stage_by_row number (away_at mark) Away is refl) (stays (Worker number) (worker_of_row number (away_at mark) is)) in
         both_ways _ s done
-    none_goes (number, Works pool is (inl done)) =
-        let s = subst (StaysAt w room (Worker number)) (stage_by_row number (idle_at pool) Idle is refl) (stays (Worker number) (worker_of_row number (idle_at pool) is)) in
+    none_goes (number, Works pool mark is (inl done)) =
+        let s = subst (StaysAt w room (Worker number)) (stage_by_row number (idle_at pool mark) Idle is refl) (stays (Worker number) (worker_of_row number (idle_at pool mark) is)) in
         both_ways _ s.0 done
-    none_goes (number, Works pool is (inr done)) =
-        let s = subst (StaysAt w room (Worker number)) (stage_by_row number (idle_at pool) Idle is refl) (stays (Worker number) (worker_of_row number (idle_at pool) is)) in
+    none_goes (number, Works pool mark is (inr done)) =
+        let s = subst (StaysAt w room (Worker number)) (stage_by_row number (idle_at pool mark) Idle is refl) (stays (Worker number) (worker_of_row number (idle_at pool mark) is)) in
         both_ways _ s.1 done
 
     pools_stuck : list_all (is_pool_stuck w room) (range_with_len 0 (length w.pools)) ≡ true
@@ -156,16 +156,15 @@ module _ (limits : Limits) (capacity : ℕ) (history : List Entry) (legal : IsLe
             absurd (none_in_part (Client (at.place + 1)) actor (ap is_in_part playing))
 
     module _ (workers : 1 ≤ limits.workers) where
-      not_all_busy : are_all_busy w ≡ false
-      not_all_busy = of_rows w.workers refl (let many = crew.few.workers in omega (arith, many, workers))
+      -- who runs nothing keeps nobody waiting
+      not_kept : (pool : ℕ) → is_kept_waiting w pool ≡ false
+      not_kept pool = of_test (is_kept_waiting w pool) refl
         where
-          of_rows : (rows : List WorkerRow) → w.workers ≡ rows → 1 ≤ length rows → list_all (λ (r : WorkerRow). is_some r.callback) rows ≡ false
-          of_rows [] are some = absurd (omega (arith, some))
-          of_rows (r ∷ rows) are some = of_first (is_some r.callback) refl
-            where
-              of_first : (b : Bool) → is_some r.callback ≡ b → (b && list_all (λ (x : WorkerRow). is_some x.callback) rows) ≡ false
-              of_first false is = refl
-              of_first true is = absurd (none_busy 0 r (ap (λ (xs : List WorkerRow). slice_get xs 0) are) is)
+          of_test : (b : Bool) → is_kept_waiting w pool ≡ b → b ≡ false
+          of_test false is = refl
+          of_test true is =
+              let at = any_at (λ (r : WorkerRow). is_persistent_in pool r && is_some r.callback) w.workers (both (takeable w pool false == 0) _ is).1 in
+              absurd (none_busy at.place at.element at.there (both (is_persistent_in pool at.element) (is_some at.element.callback) at.tests).1)
 
       none_goes_on : (i : ℕ) (c : CallbackRow) → slice_get w.callbacks i ≡ Some c → goes_on w room c ≡ true → ⊥
       none_goes_on i c there goes = of_cases (or_cases (is_running c.status) _ goes)
@@ -194,7 +193,7 @@ module _ (limits : Limits) (capacity : ℕ) (history : List Entry) (legal : IsLe
           of_cases (inr waits) =
               let parts = both (is_pending c.status) _ waits in
               none_goes (some_goes w room crew.sound (attached_is limits history w crew) c.pool.0
-              (or_from _ (lacks_room_to_run w room c.pool.0) (or_from _ (are_all_busy w) (or_from (pending w c.pool.0 == 0) _ (some_pends parts.0) below) not_all_busy) (not-true (lacks_room_to_run w room c.pool.0) parts.1)))
+              (or_from _ (lacks_room_to_run w room c.pool.0) (or_from _ (is_kept_waiting w c.pool.0) (or_from (pending w c.pool.0 == 0) _ (some_pends parts.0) below) (not_kept c.pool.0)) (not-true (lacks_room_to_run w room c.pool.0) parts.1)))
 
       nothing_goes_on : list_any (goes_on w room) w.callbacks ≡ false
       nothing_goes_on = of_any (list_any (goes_on w room) w.callbacks) refl

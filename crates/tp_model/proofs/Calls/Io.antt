@@ -54,7 +54,7 @@ module _ (next_number : ℕ) (w : World) (who : Who) (object : ObjectId) where
         allowed = record {
           number = refl;
           expected = refl;
-          object = λ _. record { row = of.row; stands = of.stands; home = refl; group = refl };
+          object = λ _. record { row = of.row; stands = of.stands; home = refl; group = refl; persistent = refl };
           home = home;
           room = none.1.1.1.1.1.0;
           stands = row_stands w.objects object.0 of.row of.stands (neither (is_finished w who) (is_released w object.0) none.1.1.0).1;

@@ -1,8 +1,9 @@
 -- The facts of waits for callbacks.
-use Rattle.std.proofs.Common.{◌≡◌, ℕ, ◌<◌, Bool, true, false, cond, not, ◌||◌, ◌==◌, List, [], ◌∷◌, length, Option, Some, None, refl, ap, ◌∙◌, arith, eqb-true, ◌&&◌, nat_lt, ap₂, filter, ◌≤◌, ◌^◌, subst, sym, eq-eqb, ltb-true, ◌-◌, nat_le}
+use Rattle.std.proofs.Common.{◌≡◌, ℕ, ◌<◌, is_some, Bool, true, false, cond, not, ◌||◌, ◌==◌, List, [], ◌∷◌, length, Option, Some, None, refl, ap, ◌∙◌, arith, eqb-true, ◌&&◌, nat_lt, ap₂, filter, ◌≤◌, ◌^◌, subst, sym, eq-eqb, ltb-true, ◌-◌, nat_le}
 use Rattle.std.specs.Option.{option_map_or, unwrap_or}
 use Rattle.std.proofs.lemmas.List.{length-map}
 use Rattle.tp_base.specs.declared.ids.Who.{Who}
+use Rattle.tp_base.specs.declared.rows.WorkerRow.{WorkerRow}
 use Rattle.tp_base.specs.declared.ids.KernelId.{KernelId}
 use Rattle.tp_base.specs.declared.ids.ObjectId.{ObjectId}
 use Rattle.tp_base.specs.declared.calls.Kind.{Kind}
@@ -24,13 +25,13 @@ use Rattle.tp_base.specs.Actors.{is_same_actor}
 use Rattle.tp_base.specs.Kernels.{may_take}
 use Rattle.tp_model.specs.Kernels.{is_kernel, is_kernel_that}
 use Rattle.tp_model.specs.World.{World, BegunWait}
-use Rattle.tp_model.specs.Counts.{has_number, attached, callback_of, is_pending, lacks_room_to_run, maximum}
+use Rattle.tp_model.specs.Counts.{has_number, attached, callback_of, is_pending, is_persistent_in, maximum}
 use Rattle.tp_base.specs.Actors.{is_same_actor}
 use Rattle.tp_model.specs.Conditions.{is_actor, is_finished, is_object, is_released, is_associated, is_in_wait, is_object_of, is_without_callback, runs_callback}
 use Rattle.tp_model.specs.Refusing.{first_refusal, unless_refused}
 use Rattle.tp_model.specs.Calls.Waits.{begin_wait_refusals, begin_wait_plan, begin_acquire_refusals, begin_acquire_plan, end_for, end_held, end_wait, holds_starved, count_covered, count_cancelled_by, is_starved, end_notices}
 use Rattle.tp_model.specs.Calls.End.{end_plan, end_refusals, end_unless_stalled}
-use Rattle.tp_model.specs.Stalled.{are_all_busy, is_client_stuck, is_look, is_pool_stuck, is_stalled, is_worker_stuck, waits_on}
+use Rattle.tp_model.specs.Stalled.{is_client_stuck, is_look, lacks_room_to_run, is_pool_stuck, is_stalled, is_worker_stuck, waits_on}
 use Rattle.tp_model.specs.Waits.{wait_of, held, is_outstanding_for, is_cancelled_by, cancelled, cancel_where, is_covered_by, covered_of, is_held, is_group_target, is_of, is_held_for}
 use Rattle.tp_model.specs.Support.Sound.{IsSound, IsWaitSound, is_left_of, is_told}
 use Rattle.tp_model.specs.Support.Allowed.{IsTakeable}
@@ -42,10 +43,10 @@ use Rattle.tp_model.proofs.Lists.{find_all, filter_filter, filter_agree, length_
 use Rattle.tp_model.proofs.Refusals.{neither, not_false, false_true, numbered_some, both}
 use Rattle.tp_model.proofs.Callbacks.{over_not_pending}
 use Rattle.tp_model.proofs.Cancelling.{cancelled_if}
-use Rattle.tp_model.proofs.Forgetting.{over_not_cancelled, over_not_covered, covered_forget, busy_forget, over_forget, over_not_outstanding, pending_forget, running_forget}
+use Rattle.tp_model.proofs.Forgetting.{over_not_cancelled, over_not_covered, covered_forget, busy_forget, over_forget, over_not_outstanding, pending_forget, running_forget, takeable_forget}
 use Rattle.tp_model.proofs.Allowed.{safe_unless}
 use Rattle.tp_model.proofs.Ranged.{ranged_unless}
-use Rattle.std.specs.List.{AllByRecursion, range_with_len}
+use Rattle.std.specs.List.{AllByRecursion, list_any, range_with_len}
 use Rattle.tp_base.specs.declared.rows.ObjectRow.{ObjectRow}
 use Rattle.tp_model.specs.Laws.Entries.{Notice, is_among}
 use Rattle.tp_model.proofs.Fates.{pending_left}
@@ -291,7 +292,8 @@ stalled_forget next_number room w s =
 
     pool : (number : ℕ) → is_pool_stuck (forget w) room number ≡ is_pool_stuck w room number
     pool number =
-        ap₂ (λ (waiting : ℕ) (at_work : ℕ). (waiting == 0) || nat_le (maximum w number) at_work || are_all_busy w || lacks_room_to_run w room number) (pending_forget w number) (running_forget w number)
+        ap₂ (λ (barred : Bool) (open_to : ℕ). barred || ((open_to == 0) && list_any (λ (r : WorkerRow). is_persistent_in number r && is_some r.callback) w.workers) || lacks_room_to_run w room number)
+        (ap₂ (λ (waiting : ℕ) (at_work : ℕ). (waiting == 0) || nat_le (maximum w number) at_work) (pending_forget w number) (running_forget w number)) (takeable_forget w number false)
 
 pub end_forget : (next_number room : ℕ) (w : World) (who : Who) → IsSound next_number w → end_plan (forget w) room who ≡ end_plan w room who
 unfolding end_plan

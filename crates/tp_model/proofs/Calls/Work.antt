@@ -57,10 +57,10 @@ submit_work_safe next_number w who object s =
         let at = numbered_some w.objects object.0 row is in
         let home = all_get (λ (o : ObjectRow). o.env.pool.0 < length w.pools) w.objects _ row s.object_pools at.0 in
         record {
-          allowed = record { number = refl; pending = refl; object = λ _. record { row = row; stands = is; home = refl; group = refl }; home = home; room = fits; stands = λ _. row_stands w.objects object.0 row is live };
+          allowed = record { number = refl; pending = refl; object = λ _. record { row = row; stands = is; home = refl; group = refl; persistent = refl }; home = home; room = fits; stands = λ _. row_stands w.objects object.0 row is live };
           made_by = (apart, refl);
           accepted = refl;
-          tells = ap (λ b. record silent { made = next_number ∷ []; queued = next_number ∷ []; simple = cond b (Some row.env.group) None }) (sym (ne_eqb object.0 0 (λ e. omega (arith, e, at.1))));
+          tells = ap (λ b. record silent { made = next_number ∷ []; queued = next_number ∷ []; simple = cond b (Some (record { group = row.env.group; pool = row.env.pool; persistent = row.env.persistent })) None }) (sym (ne_eqb object.0 0 (λ e. omega (arith, e, at.1))));
         }
 
 pub submit_work_forget : (next_number : ℕ) (w : World) (who : Who) (object : ObjectId) → submit_work_plan (forget w) next_number who object ≡ submit_work_plan w next_number who object

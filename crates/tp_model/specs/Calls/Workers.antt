@@ -18,8 +18,8 @@ use Rattle.tp_base.specs.declared.rows.CallbackRow.{CallbackRow}
 use Rattle.tp_model.specs.World.{World}
 use Rattle.tp_model.specs.Actions.{slots_of, words_of, returning}
 use Rattle.tp_model.specs.Calls.Timers.{first_of}
-use Rattle.tp_model.specs.Counts.{attached, available, is_below_minimum, is_in_need, least_pool, maximum, minimum, next, pending, running}
-use Rattle.tp_model.specs.Conditions.{is_worker, is_actor, is_finished, is_attached, is_in_wait, runs_callback, idle_of, busy_of}
+use Rattle.tp_model.specs.Counts.{attached, available, is_below_minimum, is_in_need, least_pool, maximum, minimum, next, running, takeable}
+use Rattle.tp_model.specs.Conditions.{is_worker, is_actor, is_finished, is_attached, is_closed_pool, is_in_wait, runs_callback, idle_of, busy_of}
 use Rattle.tp_model.specs.Refusing.{first_refusal, unless_refused}
 
 -- ---- Attach: a worker joins a pool
@@ -60,21 +60,26 @@ idle_refusals w who =
 abbrev pub another_in_need : World → ℕ → Bool
 another_in_need w pool = is_some (least_pool w (λ other. not (other == pool) && is_in_need w other))
 
--- the pool has more workers than its maximum, or it has nothing to do and more workers than its minimum, or
--- another pool needs the worker
-abbrev pub may_leave : World → ℕ → Bool
-may_leave w pool =
-    nat_lt (maximum w pool) (attached w pool)
-    || ((pending w pool == 0) && (nat_lt (minimum w pool) (available w pool) || another_in_need w pool))
+-- it isn't the persistent worker of a pool that isn't closed
+abbrev pub is_let_go : World → Idle → Bool
+is_let_go w by = not by.persistent || is_closed_pool w by.pool.0
+
+-- it is let go, and its pool has more workers than its maximum, or nothing that the worker may take, and then more workers
+-- than its minimum, or another pool needs the worker
+abbrev pub may_leave : World → Idle → Bool
+may_leave w by =
+    is_let_go w by
+    && (nat_lt (maximum w by.pool.0) (attached w by.pool.0)
+    || ((takeable w by.pool.0 by.persistent == 0) && (nat_lt (minimum w by.pool.0) (available w by.pool.0) || another_in_need w by.pool.0)))
 
 abbrev pub detach : World → Option Idle → Plan
 detach w None = Refused NotAttached
-detach w (Some by) = if may_leave w by.pool.0 then Does answer.Done (change.Detach by) else Looked look.Stay
+detach w (Some by) = if may_leave w by then Does answer.Done (change.Detach by) else Looked look.Stay
 
 unfoldable pub detach_plan : World → Who → Plan
 detach_plan w who = unless_refused (first_refusal (idle_refusals w who)) (detach w (idle_of w who))
 
--- ---- Take: a worker begins the next callback of its pool
+-- ---- Take: a worker begins the next callback of its pool that it may take
 
 abbrev pub take_callback : World → Idle → Option CallbackRow → Plan
 take_callback w by None = Looked look.Empty
@@ -85,7 +90,7 @@ take_callback w by (Some c) =
 
 abbrev pub take : World → Option Idle → Plan
 take w None = Refused NotAttached
-take w (Some by) = take_callback w by (next w by.pool.0)
+take w (Some by) = take_callback w by (next w by.pool.0 by.persistent)
 
 unfoldable pub take_plan : World → Who → Plan
 take_plan w who = unless_refused (first_refusal (idle_refusals w who)) (take w (idle_of w who))

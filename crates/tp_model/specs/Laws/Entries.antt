@@ -5,11 +5,13 @@ use Rattle.std.specs.List.{filter, list_any, position, range_with_len, flat_map,
 use Rattle.tp_base.specs.declared.ids.Who.TheVariants.{Worker}
 use Rattle.tp_base.specs.declared.ids.GroupId.{GroupId}
 use Rattle.tp_base.specs.declared.ids.ObjectId.{ObjectId}
+use Rattle.tp_base.specs.declared.ids.PoolId.{PoolId}
 use Rattle.tp_base.specs.declared.ids.RoutineId.{RoutineId}
 use Rattle.tp_base.specs.declared.rows.WaitTarget.{WaitTarget}
 use Rattle.tp_base.specs.declared.rows.WaitTarget.TheVariants.{Object, Group}
 use Rattle.tp_base.specs.declared.calls.Call.{Call}
-use Rattle.tp_base.specs.declared.calls.Call.TheVariants.{OnReturn, Return, SetMaximum, SetMinimum, BeginWait, BeginClose, End, Disassociate, Create, CloseObject, SubmitSimple, SetWait, CompleteIo}
+use Rattle.tp_base.specs.declared.calls.Environ.{Environ}
+use Rattle.tp_base.specs.declared.calls.Call.TheVariants.{OnReturn, Return, SetMaximum, SetMinimum, BeginWait, BeginClose, End, Disassociate, Create, CloseObject, ClosePool, Detach, SubmitSimple, SetWait, CompleteIo}
 use Rattle.tp_base.specs.declared.answers.ActionKind.{ActionKind}
 use Rattle.tp_base.specs.declared.plans.ActionWords.{ActionWords}
 use Rattle.tp_base.specs.declared.calls.Kind.{Kind}
@@ -157,6 +159,14 @@ pool_after worker pool entry = if is_by worker entry then option_or (attached_by
 abbrev pub last_pool : List Entry → ℕ → Option ℕ
 last_pool history worker = fold (pool_after worker) None history
 
+abbrev pub is_detach_call : Call → Bool
+is_detach_call Detach = true
+is_detach_call _ = false
+
+-- an accepted Detach
+abbrev pub is_detached : Entry → Bool
+is_detached entry = not (is_refusal entry.answer) && is_detach_call entry.call
+
 -- ---- actions on return
 
 abbrev pub asked_call : Call → Option ActionKind
@@ -186,6 +196,17 @@ maximum_after pool maximum entry = if is_refusal entry.answer then maximum else 
 -- minimum above it
 abbrev pub told_maximum : Limits → List Entry → ℕ → ℕ
 told_maximum limits history pool = fold (maximum_after pool) limits.workers history
+
+abbrev pub shut_call : Call → Option PoolId
+shut_call (ClosePool pool) = Some pool
+shut_call _ = None
+
+-- the pool that an accepted ClosePool closes
+abbrev pub shut_by : Entry → Option PoolId
+shut_by entry = if is_refusal entry.answer then None else shut_call entry.call
+
+abbrev pub closes_pool : ℕ → Entry → Bool
+closes_pool pool entry = option_map_or (λ (p : PoolId). p.0 == pool) (shut_by entry) false
 
 -- ---- waits
 
@@ -239,12 +260,11 @@ is_loosened entry = is_disassociate_call entry.call && not (is_refusal entry.ans
 -- an object that is made, and with what
 pub record Creation : Type 0 where
   pub object : ℕ
-  pub group : GroupId
-  pub routine : RoutineId
   pub context : ℕ
+  pub env : Environ
 
 abbrev pub created_call : Call → ℕ → Option Creation
-created_call (Create kind routine context env) number = Some (record { object = number; group = env.group; routine = env.cancel; context = context })
+created_call (Create kind routine context env) number = Some (record { object = number; context = context; env = env })
 created_call _ number = None
 
 abbrev pub created_answer : Answer → Call → Option Creation
@@ -263,21 +283,27 @@ closed_call _ = None
 abbrev pub closed_by : Entry → Option ObjectId
 closed_by entry = if is_refusal entry.answer then None else closed_call entry.call
 
-abbrev pub simple_call : Call → Option GroupId
-simple_call (SubmitSimple routine context env) = Some env.group
+-- a callback that is made without an object: in which group and pool, and whether it is persistent
+pub record Simple : Type 0 where
+  pub group : GroupId
+  pub pool : PoolId
+  pub persistent : Bool
+
+abbrev pub simple_call : Call → Option Simple
+simple_call (SubmitSimple routine context env) = Some (record { group = env.group; pool = env.pool; persistent = env.persistent })
 simple_call _ = None
 
--- the group of the callback that an accepted SubmitSimple makes
-abbrev pub simple_by : Entry → Option GroupId
+-- with what an accepted SubmitSimple makes its callback
+abbrev pub simple_by : Entry → Option Simple
 simple_by entry = if is_refusal entry.answer then None else simple_call entry.call
 
-abbrev pub is_for_group : ℕ → Option GroupId → Bool
-is_for_group group named = option_map_or (λ (g : GroupId). g.0 == group) named false
+abbrev pub is_for_group : ℕ → Option Simple → Bool
+is_for_group group made = option_map_or (λ (s : Simple). s.group.0 == group) made false
 
 -- the objects that were made with a group
 abbrev pub object_in : ℕ → Option Creation → List ℕ
 object_in group None = []
-object_in group (Some c) = if c.group.0 == group then c.object ∷ [] else []
+object_in group (Some c) = if c.env.group.0 == group then c.object ∷ [] else []
 
 abbrev pub objects_of : ℕ → List Entry → List ℕ
 objects_of group history = flat_map (λ entry. object_in group (created_by entry)) history

@@ -18,7 +18,7 @@ use Rattle.tp_model.specs.Laws.Covered.{ends, end_in, is_spoken_of, AllLetGo, No
 
 -- the object is made with the group and a cancel routine
 abbrev pub is_due : ℕ → Creation → Bool
-is_due group c = (c.group.0 == group) && nat_lt 0 c.routine.0
+is_due group c = (c.env.group.0 == group) && nat_lt 0 c.env.cancel.0
 
 -- an accepted CloseObject of the object
 abbrev pub closes : ℕ → Entry → Bool
@@ -51,7 +51,7 @@ due group before = due_among group before before
 -- ---- notices
 
 abbrev pub notice_for : ℕ → Creation → Notice
-notice_for cleanup c = record { object = record { 0 = c.object }; routine = c.routine; context = c.context; cleanup = cleanup }
+notice_for cleanup c = record { object = record { 0 = c.object }; routine = c.env.cancel; context = c.context; cleanup = cleanup }
 
 abbrev pub due_to : WaitTarget → ℕ → List Entry → List Notice
 due_to (Group group) cleanup before = map (notice_for cleanup) (due group.0 before)

@@ -35,13 +35,15 @@ use Rattle.tp_base.specs.declared.rows.Slots.{Slots}
 use Rattle.tp_base.specs.declared.rows.Status.TheVariants.{Expected, Running}
 use Rattle.tp_base.specs.declared.rows.ObjectRow.{ObjectRow}
 use Rattle.tp_base.specs.declared.rows.CallbackRow.{CallbackRow}
+use Rattle.tp_base.specs.declared.rows.WorkerRow.{WorkerRow}
 use Rattle.tp_base.specs.Timers.{clock_end}
 use Rattle.tp_model.specs.Changes.{status_before}
 use Rattle.tp_base.specs.Kernels.{is_waitable, may_take, is_event, is_semaphore, passes_by, takings_of}
 use Rattle.tp_model.specs.Kernels.{is_kernel, is_kernel_that}
 use Rattle.tp_model.specs.Sources.{count_fired, slots_after}
-use Rattle.tp_model.specs.World.{World, BegunWait, unattached, unfinished}
-use Rattle.tp_model.specs.Counts.{numbered, callback_of, is_pending, maximum, running, slots}
+use Rattle.tp_model.specs.World.{World, BegunWait, unfinished}
+use Rattle.tp_model.specs.Counts.{numbered, callback_of, is_open_to, is_pending, maximum, running, slots}
+use Rattle.tp_model.specs.Calls.Workers.{is_let_go}
 use Rattle.tp_model.specs.Conditions.{is_actor, is_in_wait, is_object, lacks_slots_for, has_operations}
 use Rattle.tp_model.specs.Groups.{is_group, first_operating, notices_of}
 use Rattle.tp_model.specs.Waits.{wait_of, held}
@@ -131,24 +133,33 @@ pub record MayFire (next_number : ℕ) (w : World) (trigger : Trigger) (first co
 
 -- an unattached worker, and a pool that was made
 pub record MayAttach (w : World) (worker : ℕ) (pool : PoolId) : Type 0 where
-  pub stands : numbered w.workers worker ≡ Some unattached
+  pub row : WorkerRow
+  pub stands : numbered w.workers worker ≡ Some row
+  pub away : row.pool ≡ None
+  pub idle : row.callback ≡ None
   pub home : pool.0 < length w.pools
 
 -- a worker that is attached to this pool and runs nothing
 abbrev pub Idles : World → Idle → Type 0
-Idles w by = numbered w.workers by.worker ≡ Some (record { pool = Some by.pool; callback = None })
+Idles w by = numbered w.workers by.worker ≡ Some (record { pool = Some by.pool; callback = None; persistent = by.persistent })
 
--- a pending callback of the worker's pool, in which fewer run than its maximum
+-- that isn't kept as the pool's persistent worker
+pub record MayDetach (w : World) (by : Idle) : Type 0 where
+  pub idles : Idles w by
+  pub let_go : is_let_go w by ≡ true
+
+-- a pending callback of the worker's pool that the worker may take, and fewer run there than the maximum
 pub record MayTake (w : World) (by : Idle) (callback : CallbackRow) : Type 0 where
   pub idles : Idles w by
   pub found : callback_of w callback.number ≡ Some callback
   pub pending : is_pending callback.status ≡ true
   pub home : callback.pool ≡ by.pool
+  pub open_to : is_open_to w by.pool.0 by.persistent callback ≡ true
   pub below : running w by.pool.0 < maximum w by.pool.0
 
 -- a worker that is attached to this pool and runs this callback
 pub record Runs (w : World) (by : Busy) : Type 0 where
-  pub stands : numbered w.workers by.worker ≡ Some (record { pool = Some by.pool; callback = Some by.callback.number })
+  pub stands : numbered w.workers by.worker ≡ Some (record { pool = Some by.pool; callback = Some by.callback.number; persistent = by.persistent })
   pub found : callback_of w by.callback.number ≡ Some by.callback
   pub associated : Bool
   pub slots : Slots
@@ -241,7 +252,7 @@ IsAllowed next_number w (change.Fire trigger first count) = MayFire next_number 
 IsAllowed next_number w (change.CreateKernel state) = IsNewKernel w state
 IsAllowed next_number w (change.ChangeKernel object how) = MayChange w object how
 IsAllowed next_number w (change.Attach worker pool) = MayAttach w worker pool
-IsAllowed next_number w (change.Detach by) = Idles w by
+IsAllowed next_number w (change.Detach by) = MayDetach w by
 IsAllowed next_number w (change.Take by callback) = MayTake w by callback
 IsAllowed next_number w (change.Mark by mark) = MayMark w by mark
 IsAllowed next_number w (change.Return by words first count) = MayReturn next_number w by words first count

@@ -22,15 +22,15 @@ use Rattle.tp_base.specs.declared.rows.ObjectRow.{ObjectRow}
 use Rattle.tp_base.specs.declared.rows.PoolRow.{PoolRow}
 use Rattle.tp_base.specs.declared.rows.CallbackRow.{CallbackRow}
 use Rattle.tp_base.specs.declared.rows.WorkerRow.{WorkerRow}
-use Rattle.tp_model.specs.World.{World, BegunWait}
-use Rattle.tp_model.specs.Counts.{numbered, has_number, is_operating, is_expected, is_pending, running, maximum}
+use Rattle.tp_model.specs.World.{World, BegunWait, unattached}
+use Rattle.tp_model.specs.Counts.{numbered, has_number, is_operating, is_expected, is_open_to, is_pending, running, maximum}
 use Rattle.tp_base.specs.Actors.{is_same_actor}
-use Rattle.tp_model.specs.Conditions.{is_in_wait}
+use Rattle.tp_model.specs.Conditions.{is_closed_pool, is_in_wait}
 use Rattle.tp_model.specs.Waits.{is_group_target, cancel_where, is_covered_by, is_of, held, wait_of}
 use Rattle.tp_model.specs.Groups.{gets_notice}
 use Rattle.tp_model.specs.Laws.Notices.{is_due, is_close_of, notice_for}
 use Rattle.tp_model.specs.Changes.{give_notice, replaced, taken, returned, status_before, operated}
-use Rattle.tp_model.specs.Laws.Entries.{Run, Begins, Creation, Notice, created_by, closed_by, simple_by, notice_by, is_for_group, begins_by, is_among, is_ending, is_freeing, made_by, queued_new, started_by, event, Runs as Taking, is_completion, maximum_after, set_by, makes_wait}
+use Rattle.tp_model.specs.Laws.Entries.{Run, Begins, Creation, Notice, created_by, closed_by, Simple, simple_by, closes_pool, notice_by, is_for_group, begins_by, is_among, is_ending, is_freeing, made_by, queued_new, started_by, event, Runs as Taking, is_completion, maximum_after, set_by, makes_wait}
 use Rattle.tp_model.specs.Support.Sound.{is_wait_at, is_standing, count_armed}
 use Rattle.tp_model.specs.Support.Told.{deed_by, deed_of, nothing, creation_of, notice_at}
 
@@ -42,7 +42,7 @@ pub record Stays (w : World) (entry : Entry) (kept : List CallbackRow) (staff : 
   pub callbacks : kept ≡ w.callbacks
   pub workers : staff ≡ w.workers
 
--- a callback changes, and its status, its object, its group, its pool and its result stay the same
+-- a callback changes, and its status, its object, its group, its pool, its result and whether it is persistent stay the same
 pub record Marks (w : World) (entry : Entry) (kept : List CallbackRow) (staff : List WorkerRow) : Type 0 where
   pub old : CallbackRow
   pub new : CallbackRow
@@ -53,6 +53,7 @@ pub record Marks (w : World) (entry : Entry) (kept : List CallbackRow) (staff : 
   pub group : new.group ≡ old.group
   pub pool : new.pool ≡ old.pool
   pub result : new.result ≡ old.result
+  pub persistent : new.persistent ≡ old.persistent
   pub callbacks : kept ≡ replaced new w.callbacks
   pub workers : staff ≡ w.workers
 
@@ -71,22 +72,26 @@ pub record Attaches (w : World) (entry : Entry) (kept : List CallbackRow) (staff
   pub worker : ℕ
   pub pool : PoolId
   pub actor : IsFree w entry worker
+  pub away : actor.row.pool ≡ None
   pub tells : deed_by entry ≡ record nothing { attached = Some pool.0 }
   pub callbacks : kept ≡ w.callbacks
-  pub workers : staff ≡ put w worker (record { pool = Some pool; callback = None })
+  pub workers : staff ≡ put w worker (record { pool = Some pool; callback = None; persistent = false })
 
--- a worker leaves its pool
+-- a worker leaves its pool, which doesn't keep it
 pub record Detaches (w : World) (entry : Entry) (kept : List CallbackRow) (staff : List WorkerRow) : Type 0 where
   pub worker : ℕ
+  pub pool : PoolId
   pub actor : IsFree w entry worker
-  pub tells : deed_by entry ≡ nothing
+  pub home : actor.row.pool ≡ Some pool
+  pub let_go : (not actor.row.persistent || is_closed_pool w pool.0) ≡ true
+  pub tells : deed_by entry ≡ record nothing { left = true }
   pub callbacks : kept ≡ w.callbacks
-  pub workers : staff ≡ put w worker (record { pool = None; callback = None })
+  pub workers : staff ≡ put w worker unattached
 
 abbrev pub run_of : CallbackRow → Run
 run_of c = record { number = c.number; object = c.object }
 
--- a worker begins a pending callback of its pool
+-- a worker begins a pending callback of its pool that it may take
 pub record Takes (w : World) (entry : Entry) (kept : List CallbackRow) (staff : List WorkerRow) : Type 0 where
   pub worker : ℕ
   pub pool : PoolId
@@ -97,9 +102,10 @@ pub record Takes (w : World) (entry : Entry) (kept : List CallbackRow) (staff : 
   pub found : find (has_number callback.number) w.callbacks ≡ Some callback
   pub waits : is_pending callback.status ≡ true
   pub pool_same : callback.pool ≡ pool
+  pub open_to : is_open_to w pool.0 actor.row.persistent callback ≡ true
   pub below : running w pool.0 < maximum w pool.0
   pub callbacks : kept ≡ replaced (taken callback worker) w.callbacks
-  pub workers : staff ≡ put w worker (record { pool = Some pool; callback = Some callback.number })
+  pub workers : staff ≡ put w worker (record { pool = Some pool; callback = Some callback.number; persistent = actor.row.persistent || callback.persistent })
 
 -- a worker's callback returns
 pub record Returns (w : World) (entry : Entry) (kept : List CallbackRow) (staff : List WorkerRow) : Type 0 where
@@ -232,11 +238,11 @@ pub record IsObjectStill (objects : List ObjectRow) (n : ℕ) (row : ObjectRow) 
   pub context : new.context ≡ row.context
   pub released : row.released ≡ true → new.released ≡ true
 
--- the object of a creation stands, with its group
+-- the object of a creation stands, with its environment
 pub record IsCreated (objects : List ObjectRow) (c : Creation) : Type 0 where
   pub row : ObjectRow
   pub stands : numbered objects c.object ≡ Some row
-  pub group : row.env.group ≡ c.group
+  pub env : row.env ≡ c.env
 
 -- the objects of a group that have a cancel routine and aren't released, as they were made, from a number on
 abbrev pub due_from : ℕ → ℕ → List ObjectRow → List Creation
@@ -291,8 +297,9 @@ pub record Moves (next_number : ℕ) (w : World) (entry : Entry) (after : World)
   pub arms : ArmsMove w entry after new
   -- what is made is of no object that is released
   pub homes : AllByRecursion (λ (c : CallbackRow). c.object.0 ≢ 0 → is_standing w.objects c.object.0 ≡ true) new
-  -- and what a SubmitSimple makes, of no object and of its group
+  -- and what a SubmitSimple makes, of no object and of its group, in its pool and as persistent as it says
   pub simples : (group : ℕ) → is_for_group group (simple_by entry) ≡ true → AllByRecursion (λ (c : CallbackRow). (c.object.0 ≡ 0) × (c.group.0 ≡ group)) new
+  pub placed : (s : Simple) → simple_by entry ≡ Some s → AllByRecursion (λ (c : CallbackRow). (c.pool ≡ s.pool) × (c.persistent ≡ s.persistent)) new
 
 -- ---- waits
 
@@ -376,3 +383,4 @@ pub record Leads (next_number : ℕ) (w : World) (entry : Entry) (after : World)
   pub objects : ObjectsMove w entry after
   pub groups : GroupsMove w entry after
   pub maxima : (pool : ℕ) → maximum_at after pool ≡ maximum_after pool (maximum_at w pool) entry
+  pub closings : (pool : ℕ) → is_closed_pool after pool ≡ (is_closed_pool w pool || closes_pool pool entry)

@@ -50,12 +50,13 @@ abbrev pub AreWorkersSound : List CallbackRow → ℕ → List WorkerRow → Typ
 AreWorkersSound callbacks worker [] = Unit {0}
 AreWorkersSound callbacks worker (r ∷ rs) = IsWorkerSound callbacks worker r.pool r.callback × AreWorkersSound callbacks (worker + 1) rs
 
--- the callback's object was made, and is of the callback's pool and group
+-- the callback's object was made, and is of the callback's pool and group, and as persistent as the callback is
 pub record HasObject (objects : List ObjectRow) (c : CallbackRow) : Type 0 where
   pub row : ObjectRow
   pub stands : numbered objects c.object.0 ≡ Some row
   pub home : c.pool ≡ row.env.pool
   pub group : c.group ≡ row.env.group
+  pub persistent : c.persistent ≡ row.env.persistent
 
 -- simple callbacks have none
 abbrev pub IsCallbackSound : List ObjectRow → CallbackRow → Type 0

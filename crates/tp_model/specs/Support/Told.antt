@@ -22,15 +22,15 @@ use Rattle.tp_base.specs.declared.plans.Trigger.{Trigger}
 use Rattle.tp_base.specs.declared.plans.Trigger.TheVariants.{SetWait}
 use Rattle.tp_base.specs.declared.plans.Change.{Change}
 use Rattle.tp_base.specs.declared.plans.Change.TheVariants as change
-use Rattle.tp_base.specs.declared.ids.GroupId.{GroupId}
 use Rattle.tp_base.specs.declared.ids.ObjectId.{ObjectId}
+use Rattle.tp_base.specs.declared.ids.PoolId.{PoolId}
 use Rattle.tp_base.specs.declared.rows.ObjectRow.{ObjectRow}
 use Rattle.tp_base.specs.declared.rows.CallbackRow.{CallbackRow}
 use Rattle.tp_model.specs.World.{World, BegunWait}
 use Rattle.tp_model.specs.Sources.{object_row}
 use Rattle.tp_model.specs.Waits.{target_of, is_cancelled_by, wait_of}
-use Rattle.tp_model.specs.Laws.Entries.{Begins, begins_by, is_ending, is_freeing, Notice, notice_by, Creation, created_by, closed_by, simple_by, wait_made, wait_numbered, Sets, sets_by}
-use Rattle.tp_model.specs.Laws.Entries.{Run, run_by, made_by, queued_new, completed_by, started_by, taken_by, cancelled_by, cancelled_count, attached_by, is_returned, maximum_after, is_loosened, asked_by, words_by}
+use Rattle.tp_model.specs.Laws.Entries.{Begins, begins_by, is_ending, is_freeing, Notice, notice_by, Creation, created_by, closed_by, Simple, simple_by, shut_by, wait_made, wait_numbered, Sets, sets_by}
+use Rattle.tp_model.specs.Laws.Entries.{Run, run_by, made_by, queued_new, completed_by, started_by, taken_by, cancelled_by, cancelled_count, attached_by, is_returned, is_detached, maximum_after, is_loosened, asked_by, words_by}
 use Rattle.tp_model.specs.Laws.Entries.{Happening, Event, event, event_by, Issues, GivesUp, Completes, Runs as Taking}
 
 -- of callbacks that were there before, and of the worker
@@ -41,6 +41,7 @@ pub record Deed : Type 0 where
   pub count : ℕ
   pub attached : Option ℕ
   pub returned : Bool
+  pub left : Bool
   pub loosened : Bool
   pub asked : Option ActionKind
   pub words : Option ActionWords
@@ -55,6 +56,7 @@ deed_by entry = record {
   count = cancelled_count entry.answer;
   attached = attached_by entry.answer;
   returned = is_returned entry;
+  left = is_detached entry;
   loosened = is_loosened entry;
   asked = asked_by entry;
   words = words_by entry.answer;
@@ -63,7 +65,7 @@ deed_by entry = record {
 }
 
 abbrev pub nothing : Deed
-nothing = record { taken = None; run = None; cancelled = None; count = 0; attached = None; returned = false; loosened = false; asked = None; words = None; completed = []; event = None }
+nothing = record { taken = None; run = None; cancelled = None; count = 0; attached = None; returned = false; left = false; loosened = false; asked = None; words = None; completed = []; event = None }
 
 pub record Told : Type 0 where
   -- the callbacks that are made, and of these those that are pending and those that expect an operation
@@ -77,17 +79,18 @@ pub record Told : Type 0 where
   -- a wait object that is made, and one that is set
   pub wait : Option ℕ
   pub sets : Option Sets
-  -- an object that is made, and one that is closed; the group of a simple callback that is made; a notice that is given
+  -- an object that is made, and one that is closed; with what a simple callback is made; a notice that is given
   pub created : Option Creation
   pub closed : Option ObjectId
-  pub simple : Option GroupId
+  pub simple : Option Simple
   pub notice : Option Notice
   -- what becomes of the actor's stage, and whether it has a wait begun from then on; and whether the call begins one
   pub stage : StageStep
   pub waiting : Option Bool
   pub begins : Bool
-  -- the maximum of each pool after the entry, by what it was before
+  -- the maximum of each pool after the entry, by what it was before; and a pool that is closed
   pub maxima : ℕ → ℕ → ℕ
+  pub shut : Option PoolId
 
 -- a call that begins a wait
 abbrev pub is_begin_call : Call → Bool
@@ -118,15 +121,21 @@ told_by entry = record {
   waiting = waits_step entry.answer entry.call;
   begins = is_beginning entry;
   maxima = λ pool maximum. maximum_after pool maximum entry;
+  shut = shut_by entry;
 }
 
 abbrev pub silent : Told
-silent = record { made = []; queued = []; started = []; deed = nothing; begun = None; ending = false; freeing = false; wait = None; sets = None; created = None; closed = None; simple = None; notice = None; stage = Same; waiting = None; begins = false; maxima = λ pool maximum. maximum }
+silent = record { made = []; queued = []; started = []; deed = nothing; begun = None; ending = false; freeing = false; wait = None; sets = None; created = None; closed = None; simple = None; notice = None; stage = Same; waiting = None; begins = false; maxima = λ pool maximum. maximum; shut = None }
 
 abbrev pub maxima_by : ℕ → PoolChange → ℕ → ℕ → ℕ
 maxima_by pool Close other maximum = maximum
 maxima_by pool (Maximum value) other maximum = if pool == other then max value 1 else maximum
 maxima_by pool (Minimum value) other maximum = if pool == other then max maximum value else maximum
+
+abbrev pub shut_of : PoolId → PoolChange → Option PoolId
+shut_of pool Close = Some pool
+shut_of pool (Maximum value) = None
+shut_of pool (Minimum value) = None
 
 -- a wait for a kernel object is for no callbacks
 abbrev pub begins_of : Awaited → Bool → Option Begins
@@ -135,11 +144,11 @@ begins_of (awaited.Kernel kernel) cancel = None
 
 -- an object of a number with this row
 abbrev pub creation_of : ℕ → ObjectRow → Creation
-creation_of number row = record { object = number; group = row.env.group; routine = row.env.cancel; context = row.context }
+creation_of number row = record { object = number; context = row.context; env = row.env }
 
--- the group of a callback that has no object
-abbrev pub simple_group : CallbackRow → Option GroupId
-simple_group c = if c.object.0 == 0 then Some c.group else None
+-- what a callback that has no object was made with
+abbrev pub simple_of : CallbackRow → Option Simple
+simple_of c = if c.object.0 == 0 then Some (record { group = c.group; pool = c.pool; persistent = c.persistent }) else None
 
 -- the notice of an object, and the first one that a wait has left
 abbrev pub notice_at : List ObjectRow → ℕ → ObjectId → Notice
@@ -181,15 +190,15 @@ deed_of number how = record nothing { cancelled = cancelled_of number how; compl
 
 -- what the entry of a change tells, with the number that the next callback gets
 abbrev pub told_by_change : ℕ → World → Change → Told
-told_by_change next_number w (change.ChangePool pool how) = record silent { maxima = maxima_by pool.0 how }
+told_by_change next_number w (change.ChangePool pool how) = record silent { maxima = maxima_by pool.0 how; shut = shut_of pool how }
 told_by_change next_number w (change.CreateObject row) = record silent { wait = wait_numbered row.kind (length w.objects + 1); created = Some (creation_of (length w.objects + 1) row) }
 told_by_change next_number w (change.ReleaseObject object) = record silent { closed = Some object }
-told_by_change next_number w (change.QueueCallback callback) = record silent { made = next_number ∷ []; queued = next_number ∷ []; simple = simple_group callback }
+told_by_change next_number w (change.QueueCallback callback) = record silent { made = next_number ∷ []; queued = next_number ∷ []; simple = simple_of callback }
 told_by_change next_number w (change.ExpectCallback callback) = record silent { made = next_number ∷ []; started = next_number ∷ [] }
 told_by_change next_number w (change.Operate callback how) = record silent { deed = deed_of callback.number how }
 told_by_change next_number w (change.Fire trigger first count) = record silent { made = range_with_len first count; queued = range_with_len first count; sets = sets_of trigger }
 told_by_change next_number w (change.Attach worker pool) = record silent { deed = record nothing { attached = Some pool.0 }; stage = Joins }
-told_by_change next_number w (change.Detach by) = record silent { stage = Leaves }
+told_by_change next_number w (change.Detach by) = record silent { deed = record nothing { left = true }; stage = Leaves }
 told_by_change next_number w (change.Take by callback) =
     record silent { deed = record nothing { taken = Some callback.number; run = Some (record { number = callback.number; object = callback.object }); event = event callback.number (Taking callback.result) }; stage = Starts callback.routine }
 told_by_change next_number w (change.Mark by Loose) = record silent { deed = record nothing { loosened = true } }

@@ -7,18 +7,20 @@ use Rattle.tp_base.specs.declared.rows.CallbackRow.{CallbackRow}
 use Rattle.tp_base.specs.declared.rows.Status.{Status}
 use Rattle.tp_base.specs.declared.rows.Status.TheVariants.{Expected, Issued, Pending, Running, Returned, Cancelled}
 use Rattle.linked_lists.specs.Linked.{owner_of}
+use Rattle.tp_model.specs.Changes.{replaced}
 use Rattle.tp_model.specs.Counts.{has_number, is_operating, is_pending}
-use Rattle.tp_model.proofs.Callbacks.{length_filter_replaced, rising_replaced}
+use Rattle.tp_model.proofs.Callbacks.{length_filter_replaced, length_replaced, rising_replaced}
+use Rattle.std.proofs.lemmas.List.{length-map}
 use Rattle.tp_model.proofs.Lists.{all_map, find_all}
-use Rattle.live_callbacks.specs.Callbacks.{MovesOn, is_tied}
+use Rattle.live_callbacks.specs.Callbacks.{MovesOn, is_tied, is_waiting_persistent}
 use Rattle.live_callbacks.specs.Held.{AreApart, Held, rows_of}
 use Rattle.live_callbacks.specs.Kept.{IsKept}
-use Rattle.live_callbacks.specs.Lists.{IsAtHome, group_of, has_list, line_by, lines, object_of, priority_number}
+use Rattle.live_callbacks.specs.Lists.{IsAtHome, group_of, has_list, line_by, lines, object_of, queue_number}
 use Rattle.live_callbacks.specs.declared.LiveCallbacks.TheInside.{Inside}
 use Rattle.live_callbacks.proofs.Found.{owner_is}
-use Rattle.live_callbacks.proofs.Lines.{priority_most}
+use Rattle.live_callbacks.proofs.Lines.{queue_most}
 use Rattle.live_callbacks.proofs.Parts.{changed}
-use Rattle.live_callbacks.proofs.Standing.{IsAmong, among, key_found, key_is, may_group, may_line, may_object, of_row, put_among, rows_put, stand}
+use Rattle.live_callbacks.proofs.Standing.{IsAmong, among, count_fewer, count_most, key_found, key_is, may_group, may_line, may_object, of_row, put_among, rows_put, stand}
 use Rattle.live_callbacks.proofs.LiveCallbacks.change.Goals as goal
 
 -- the row before is among the rows, and that after is of a pool and an object that there may be
@@ -60,8 +62,8 @@ near-near-requires-clause-line c pending =
     let i = c.self.inside in
     let r = c.args.after in
     let m = moving i c.args.before.now r c.self.invariant c.len-known.ensures.apart c.len-known.ensures.within c.requires.goes (rw (← c.self.view_is) at c.requires.found) in
-    let queue = queue_line i.lists.pools i.lists.objects (3 * r.pool.0 + priority_number r.priority) r.object.0 r.status pending in
-    omega (arith, c.stands-to.ensures.line, queue, m.home.0, priority_most r.priority, c.self.invariant.standing.by_line.many)
+    let queue = queue_line i.lists.pools i.lists.objects (6 * r.pool.0 + queue_number r.persistent r.priority) r.object.0 r.status pending in
+    omega (arith, c.stands-to.ensures.line, queue, m.home.0, queue_most r.persistent r.priority, c.self.invariant.standing.by_line.many)
   where
     queue_line : (pools objects queue object : ℕ) (s : Status) → is_pending s ≡ true → line_by pools objects queue object s ≡ queue
     queue_line pools objects queue object Expected pending = absurd (cc)
@@ -86,6 +88,34 @@ overflow_sub-self-2 c =
     let r = c.args.after in
     let m = moving i b r k c.len-known.ensures.apart c.len-known.ensures.within c.requires.goes (rw (← c.self.view_is) at c.requires.found) in
     omega (arith, k.counted, c.operations.ensures, c.operations-2.ensures, length_filter_replaced (λ (x : CallbackRow). is_operating x.status) r b 0 k.rising.0 (rows_of i.rows.held) k.rising.1 m.found)
+
+pub overflow_sub-self-3 : goal.overflow_sub-self-3
+overflow_sub-self-3 c =
+    let k = c.self.invariant in
+    let b = c.args.before.now in
+    omega (arith, k.counted_persistent, c.waiting_persistent.ensures, count_fewer is_waiting_persistent k.rising.0 b 0 (rows_of c.self.inside.rows.held) k.rising.1 (rw (← c.self.view_is) at c.requires.found))
+
+pub overflow_add-self : goal.overflow_add-self
+overflow_add-self c =
+    let i = c.self.inside in
+    let k = c.self.invariant in
+    let b = c.args.before.now in
+    let r = c.args.after in
+    let m = moving i b r k c.len-known.ensures.apart c.len-known.ensures.within c.requires.goes (rw (← c.self.view_is) at c.requires.found) in
+    let after = length_filter_replaced is_waiting_persistent r b 0 k.rising.0 (rows_of i.rows.held) k.rising.1 m.found in
+    let most = count_most is_waiting_persistent (replaced r (rows_of i.rows.held)) in
+    omega (
+      arith,
+      k.counted_persistent,
+      c.waiting_persistent.ensures,
+      c.waiting_persistent-2.ensures,
+      after,
+      most,
+      length_replaced r (rows_of i.rows.held),
+      length-map i.rows.held (λ (h : Held). h.row),
+      c.len-known.ensures.limited,
+      c.len-known.ensures.fits,
+    )
 
 pub settle-requires-clause-line : goal.settle-requires-clause-line
 settle-requires-clause-line c =
@@ -137,6 +167,16 @@ invariant_of-self c =
             fewer (is_operating b.status) (is_operating r.status) c.requires.goes.operating,
             length_filter_replaced (λ (x : CallbackRow). is_operating x.status) r b 0 k.rising.0 (rows_of hs) k.rising.1 m.found,
           ));
+      counted_persistent =
+          rw rows
+          (omega (
+            arith,
+            k.counted_persistent,
+            c.waiting_persistent.ensures,
+            c.waiting_persistent-2.ensures,
+            count_fewer is_waiting_persistent k.rising.0 b 0 (rows_of hs) k.rising.1 (rw (← c.self.view_is) at c.requires.found),
+            length_filter_replaced is_waiting_persistent r b 0 k.rising.0 (rows_of hs) k.rising.1 m.found,
+          ));
     })
 
 pub returns-clause-moved : goal.returns-clause-moved
@@ -159,7 +199,7 @@ returns-clause-bound c pending operating =
     let cost : c.settle.new.steps ≤ c.near-near.new.steps + 2 =
     c.settle.ensures.cost
     (record {
-      line = to.line ∙ no_line i.lists.pools i.lists.objects (3 * r.pool.0 + priority_number r.priority) r.object.0 r.status pending operating;
+      line = to.line ∙ no_line i.lists.pools i.lists.objects (6 * r.pool.0 + queue_number r.persistent r.priority) r.object.0 r.status pending operating;
       object =
           elim (is_tied r) as (λ x. is_tied r ≡ x → (c.stands-to.result.object ≡ i.lists.objects + 1) ⊎ (owner_of i.lists.outstanding (i.lists.objects + 1 + c.unwrap-key.result) ≡ c.stands-to.result.object)) [
             | true ↦ λ tied.

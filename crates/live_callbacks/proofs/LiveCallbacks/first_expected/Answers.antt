@@ -19,7 +19,7 @@ pub lent_behind-requires : goal.lent_behind-requires
 lent_behind-requires c =
     let i = c.self.inside in
     let line = line_of i.lists.pools i.lists.objects in
-    let list = 3 * i.lists.pools + c.args.object.0 in
+    let list = 6 * i.lists.pools + c.args.object.0 in
     let first = c.first_in-place.ensures ∙ first_is (lines i.lists.pools i.lists.objects) line list i.rows.held c.self.invariant.standing.by_line (omega (arith, c.if-object-self.false)) in
     rw c.lines.ensures (place_held (lines i.lists.pools i.lists.objects) i.rows.held c.len-known.ensures.apart (λ x. line x == list) c.first_in-place.result first)
 
@@ -27,7 +27,7 @@ pub returns : goal.returns
 returns c =
     let i = c.self.inside in
     let line = line_of i.lists.pools i.lists.objects in
-    let list = 3 * i.lists.pools + c.args.object.0 in
+    let list = 6 * i.lists.pools + c.args.object.0 in
     let first = c.first_in-place.ensures ∙ first_is (lines i.lists.pools i.lists.objects) line list i.rows.held c.self.invariant.standing.by_line (omega (arith, c.if-object-self.false)) in
     rw (← c.self.view_is)
     (c.copied.ensures ∙ c.lent_behind.ensures

@@ -23,8 +23,8 @@ returns-then-len-ne0 c =
     let i = c.self.inside in
     let cs = rows_of i.rows.held in
     let line = line_of i.lists.pools i.lists.objects in
-    let expected = 3 * i.lists.pools + c.args.object.0 in
-    let issued = 3 * i.lists.pools + (i.lists.objects + 1) + c.args.object.0 in
+    let expected = 6 * i.lists.pools + c.args.object.0 in
+    let issued = 6 * i.lists.pools + (i.lists.objects + 1) + c.args.object.0 in
     let any = any_line (lines i.lists.pools i.lists.objects) line expected i.rows.held c.self.invariant.standing.by_line (omega (arith, c.if-object-self.false)) in
     let some : not (c.len.result == 0) ≡ true = ap not (ne_eqb c.len.result 0 c.if-len-ne0.true) in
     let known : list_any (λ x. line x == expected) cs ≡ true = sym any ∙ ap (λ n. not (n == 0)) (sym c.len.ensures) ∙ some in
@@ -36,8 +36,8 @@ returns-else-len-ne0 c =
     let i = c.self.inside in
     let cs = rows_of i.rows.held in
     let line = line_of i.lists.pools i.lists.objects in
-    let expected = 3 * i.lists.pools + c.args.object.0 in
-    let issued = 3 * i.lists.pools + (i.lists.objects + 1) + c.args.object.0 in
+    let expected = 6 * i.lists.pools + c.args.object.0 in
+    let issued = 6 * i.lists.pools + (i.lists.objects + 1) + c.args.object.0 in
     let none = any_line (lines i.lists.pools i.lists.objects) line expected i.rows.held c.self.invariant.standing.by_line (omega (arith, c.if-object-self.false)) in
     let any = any_line (lines i.lists.pools i.lists.objects) line issued i.rows.held c.self.invariant.standing.by_line (omega (arith, c.if-object-self.false)) in
     let known : list_any (λ x. line x == expected) cs ≡ false = sym none ∙ ap (λ n. not (n == 0)) (sym c.len.ensures ∙ c.if-len-ne0.false) in

@@ -1,55 +1,34 @@
-use Rattle.std.proofs.Common.{◌≡◌, ◌∙◌, ◌*◌, ◌<◌, ◌≤◌, ◌==◌, ℕ, IfSome, None, Option, ap, slice_get, subst, sym}
-use Rattle.linked_lists.specs.Linked.{list_of}
-use Rattle.tp_base.specs.declared.rows.CallbackRow.{CallbackRow}
-use Rattle.tp_model.specs.Counts.{is_pending}
-use Rattle.live_callbacks.specs.Callbacks.{queue_among}
-use Rattle.live_callbacks.specs.Held.{AreApart, IsHeldAt, row_behind, rows_of}
-use Rattle.live_callbacks.specs.Kept.{IsKept}
-use Rattle.live_callbacks.specs.Lists.{first_queue_of, line_of, lines}
-use Rattle.live_callbacks.specs.declared.LiveCallbacks.TheInside.{Inside}
-use Rattle.live_callbacks.proofs.Found.{first_is, place_held, place_row}
-use Rattle.live_callbacks.proofs.Lines.{no_pool}
-use Rattle.live_callbacks.proofs.Queues.{nowhere_first, queue_first, queue_within}
+use Rattle.std.proofs.Common.{◌≡◌, ◌∙◌, ◌⊎◌, true, false, inl, inr, ap₂}
+use Rattle.live_callbacks.specs.Held.{rows_of}
+use Rattle.live_callbacks.specs.Queues.{sooner_of}
+use Rattle.live_callbacks.proofs.Halves.{first_of_both, first_alone, no_waiting, when_alone}
 use Rattle.live_callbacks.proofs.LiveCallbacks.next.Goals as goal
-use Rattle.live_callbacks.proofs.LiveCallbacks.next.Goals.{then-pool-self, else-pool-self}
+use Rattle.live_callbacks.proofs.LiveCallbacks.next.Goals.{then-not-all-via-then-not-all, then-not-all-via-else-not-all+then-self-eq0}
 
--- what this place leads to is the row that is taken next
-record LeadsToNext (i : Inside) (pool : ℕ) (place : Option ℕ) : Type 0 where
-  held : IfSome place (IsHeldAt (lines i.lists.pools i.lists.objects) i.rows.held)
-  next : row_behind (lines i.lists.pools i.lists.objects) i.rows.held place ≡ slice_get (queue_among (rows_of i.rows.held) pool) 0
-
-module _ (i : Inside) (k : IsKept i) (apart : AreApart i.rows.held) (pool : ℕ) (place : Option ℕ) where
-  first_leads : (line : ℕ) → pool < i.lists.pools → line ≡ first_queue_of i.lists.lines (3 * pool) → place ≡ slice_get (list_of i.lists.lines line) 0 → LeadsToNext i pool place
-  first_leads line there is first =
-      let heads = lines i.lists.pools i.lists.objects in
-      let of = line_of i.lists.pools i.lists.objects in
-      let queue = first_queue_of i.lists.lines (3 * pool) in
-      let found = first ∙ ap (λ l. slice_get (list_of i.lists.lines l) 0) is ∙ first_is heads of queue i.rows.held k.standing.by_line (queue_within i.lists.pools i.lists.objects pool there i.rows.held k.standing.by_line) in
-      record {
-        held = place_held heads i.rows.held apart (λ x. of x == queue) place found;
-        next = place_row heads i.rows.held apart (λ x. of x == queue) place found ∙ queue_first i.lists.pools i.lists.objects pool there i.rows.held k.standing.by_line;
-      }
-
-  none_leads : i.lists.pools ≤ pool → place ≡ None → LeadsToNext i pool place
-  none_leads past none =
-      let nowhere = nowhere_first pool (rows_of i.rows.held) (no_pool i.lists.pools i.lists.objects pool past (λ (x : CallbackRow). is_pending x.status) (rows_of i.rows.held) k.homes) in
-      subst (LeadsToNext i pool) (sym none) (record { held = tt; next = sym nowhere })
-
-pub lent_behind-requires : goal.lent_behind-requires
-lent_behind-requires c =
-    let i = c.self.inside in
-    rw c.lines.ensures
-    (elim c.if-pool-self.branch [
-      | then-pool-self w ↦ (first_leads i c.self.invariant c.len-known.ensures.apart c.args.pool.0 c.if-pool-self.place w.first_queue-line.result w.if-pool-self.true w.first_queue-line.ensures (w.place-is ∙ w.first-place.ensures.value)).held
-      | else-pool-self w ↦ (none_leads i c.self.invariant c.len-known.ensures.apart c.args.pool.0 c.if-pool-self.place w.if-pool-self.false w.place-is).held
-    ])
+pub returns-then-not-all-clause-value : goal.returns-then-not-all-clause-value
+returns-then-not-all-clause-value c =
+    let k = c.self.invariant in
+    let rows = rows_of c.self.inside.rows.held in
+    let first = rw (← c.self.view_is) at c.first_of_half-first.ensures.value in
+    let others : (c.args.all ≡ false) ⊎ ((c.args.all ≡ true) × (c.self.inside.persistent ≡ 0)) =
+    elim c.then-not-all.branch [
+      | then-not-all-via-then-not-all w ↦ inl w.if-not-all.true
+      | then-not-all-via-else-not-all+then-self-eq0 w ↦ inr (w.if-not-all.false, w.if-self-eq0.true)
+    ]
+    in
+    rw (← c.self.view_is) (first ∙ first_alone c.args.pool.0 c.args.all rows (when_alone c.args.all c.self.inside.persistent rows k.counted_persistent others))
 
 pub returns-clause-value : goal.returns-clause-value
 returns-clause-value c =
-    let i = c.self.inside in
-    let behind = c.lent_behind.ensures ∙ ap (λ heads. row_behind heads i.rows.held c.if-pool-self.place) c.lines.ensures in
-    rw (← c.self.view_is)
-    (elim c.if-pool-self.branch [
-      | then-pool-self w ↦ behind ∙ (first_leads i c.self.invariant c.len-known.ensures.apart c.args.pool.0 c.if-pool-self.place w.first_queue-line.result w.if-pool-self.true w.first_queue-line.ensures (w.place-is ∙ w.first-place.ensures.value)).next
-      | else-pool-self w ↦ behind ∙ (none_leads i c.self.invariant c.len-known.ensures.apart c.args.pool.0 c.if-pool-self.place w.if-pool-self.false w.place-is).next
-    ])
+    let k = c.self.invariant in
+    let rows = rows_of c.self.inside.rows.held in
+    let first = rw (← c.self.view_is) at c.first_of_half-first.ensures.value in
+    let other = rw (← c.self.view_is) at c.first_of_half.ensures.value in
+    rw (← c.self.view_is, c.if-not-all.false) (c.sooner.ensures ∙ ap₂ sooner_of first other ∙ first_of_both c.args.pool.0 k.rising.0 rows k.rising.1)
+
+pub returns-clause-fewer : goal.returns-clause-fewer
+returns-clause-fewer c none =
+    let k = c.self.invariant in
+    let nowhere = no_waiting (rows_of c.self.inside.rows.held) (rw (← c.self.view_is) at none) in
+    let some = c.if-self-eq0.false in
+    absurd (some (k.counted_persistent ∙ nowhere))

@@ -9,6 +9,7 @@ invariant_of-result c =
       homes = tt;
       standing = rw c.places.ensures at c.in_ok-lists.ensures.empty;
       counted = refl;
+      counted_persistent = refl;
     })
 
 pub returns : goal.returns

@@ -7,7 +7,7 @@ use Rattle.tp_model.specs.Counts.{is_operating}
 use Rattle.tp_model.specs.Support.Sound.{IsRising}
 use Rattle.tp_model.proofs.Callbacks.{rising_append}
 use Rattle.tp_model.proofs.Lists.{all_append}
-use Rattle.live_callbacks.specs.Callbacks.{Callbacks}
+use Rattle.live_callbacks.specs.Callbacks.{Callbacks, is_waiting_persistent}
 use Rattle.live_callbacks.specs.Held.{Held, rows_of}
 use Rattle.live_callbacks.specs.Lists.{IsAtHome}
 use Rattle.live_callbacks.specs.declared.LiveCallbacks.TheInside.{Inside}
@@ -34,6 +34,10 @@ coming i r old is room pool object last =
     of_held [] all = tt
     of_held (h ∷ hs) all = (all.0, of_held hs all.1)
 
+one : (b : Bool) → (if b then 1 else 0) ≤ 1
+one true = omega arith
+one false = omega arith
+
 -- rising numbers that are below one rise up to it
 rising_below : (low number next_number : ℕ) (hs : List Held) → low ≤ number → IsRising low next_number (rows_of hs) → AllByRecursion (λ (h : Held). h.row.number < number) hs → IsRising low number (rows_of hs)
 rising_below low number next_number [] le rising below = le
@@ -51,10 +55,13 @@ overflow_add-self c =
     let new = coming i c.args.row c.args.self.now c.self.view_is c.requires.room c.requires.pool c.requires.object c.requires.last in
     let most = count_most (λ (x : CallbackRow). is_operating x.status) (rows_of i.rows.held) in
     omega (arith, new.room, most, c.self.invariant.counted, length-map i.rows.held (λ (h : Held). h.row), c.len-known.ensures.fits, one (is_operating c.args.row.status), c.operations.ensures)
-  where
-    one : (b : Bool) → (if b then 1 else 0) ≤ 1
-    one true = omega arith
-    one false = omega arith
+
+pub overflow_add-self-2 : goal.overflow_add-self-2
+overflow_add-self-2 c =
+    let i = c.self.inside in
+    let new = coming i c.args.row c.args.self.now c.self.view_is c.requires.room c.requires.pool c.requires.object c.requires.last in
+    let most = count_most is_waiting_persistent (rows_of i.rows.held) in
+    omega (arith, new.room, most, c.self.invariant.counted_persistent, length-map i.rows.held (λ (h : Held). h.row), c.len-known.ensures.fits, one (is_waiting_persistent c.args.row), c.waiting_persistent.ensures)
 
 pub settle-requires-clause-line : goal.settle-requires-clause-line
 settle-requires-clause-line c =
@@ -85,6 +92,7 @@ invariant_of-self c =
       homes = rw (done.pools, done.objects, rows) (all_append (IsAtHome i.lists.pools i.lists.objects) (rows_of hs) r k.homes new.home);
       standing = standing;
       counted = rw rows (omega (arith, k.counted, c.operations.ensures, count_more (λ (x : CallbackRow). is_operating x.status) r (rows_of hs)));
+      counted_persistent = rw rows (omega (arith, k.counted_persistent, c.waiting_persistent.ensures, count_more is_waiting_persistent r (rows_of hs)));
     })
 
 pub returns : goal.returns

@@ -1,8 +1,9 @@
-use Rattle.std.proofs.Common.{◌≡◌, ℕ, ◌<◌, Bool, List, filter, is_some, map, not, refl, sym, ap, ◌∙◌, arith, subst, ◌==◌, ◌++◌}
+use Rattle.std.proofs.Common.{◌≡◌, ℕ, ◌<◌, Bool, is_some, not, refl, ap, ◌∙◌, arith, subst, ◌==◌, ◌++◌}
 use Rattle.tp_base.specs.declared.rows.CallbackRow.{CallbackRow}
 use Rattle.tp_model.specs.Counts.{is_operating}
 use Rattle.tp_model.proofs.Callbacks.{rising_filter}
 use Rattle.tp_model.proofs.Lists.{all_filter, find_all}
+use Rattle.live_callbacks.specs.Callbacks.{is_waiting_persistent}
 use Rattle.live_callbacks.specs.Held.{Held, rows_of}
 use Rattle.live_callbacks.specs.Lists.{IsAtHome, marks}
 use Rattle.live_callbacks.proofs.Parts.{left}
@@ -22,6 +23,12 @@ overflow_sub-self c =
     let i = c.self.inside in
     let row = c.args.row.now in
     omega (arith, c.self.invariant.counted, c.operations.ensures, count_fewer (λ (x : CallbackRow). is_operating x.status) c.self.invariant.rising.0 row 0 (rows_of i.rows.held) c.self.invariant.rising.1 (rw (← c.self.view_is) at c.requires))
+
+pub overflow_sub-self-2 : goal.overflow_sub-self-2
+overflow_sub-self-2 c =
+    let i = c.self.inside in
+    let row = c.args.row.now in
+    omega (arith, c.self.invariant.counted_persistent, c.waiting_persistent.ensures, count_fewer is_waiting_persistent c.self.invariant.rising.0 row 0 (rows_of i.rows.held) c.self.invariant.rising.1 (rw (← c.self.view_is) at c.requires))
 
 pub settle-requires-clause-line : goal.settle-requires-clause-line
 settle-requires-clause-line c =
@@ -76,6 +83,7 @@ invariant_of-self c =
       homes = rw (done.pools, done.objects, rows) (all_filter (IsAtHome i.lists.pools i.lists.objects) others (rows_of hs) k.homes);
       standing = rw out standing;
       counted = rw rows (omega (arith, k.counted, c.operations.ensures, count_fewer (λ (x : CallbackRow). is_operating x.status) k.rising.0 row 0 (rows_of hs) k.rising.1 found));
+      counted_persistent = rw rows (omega (arith, k.counted_persistent, c.waiting_persistent.ensures, count_fewer is_waiting_persistent k.rising.0 row 0 (rows_of hs) k.rising.1 found));
     })
 
 pub returns : goal.returns

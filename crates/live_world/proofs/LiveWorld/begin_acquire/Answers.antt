@@ -1,4 +1,4 @@
-use Rattle.std.proofs.Common.{◌+◌, Some, sym, subst, arith, ◌∙◌}
+use Rattle.std.proofs.Common.{Some, sym, subst, arith, ◌∙◌}
 use Rattle.tp_base.specs.declared.plans.Awaited.TheVariants as awaited
 use Rattle.tp_model.specs.Support.Allowed.{MayBegin}
 use Rattle.live_world.specs.Live.{Live}

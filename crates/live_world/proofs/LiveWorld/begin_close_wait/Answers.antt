@@ -1,4 +1,4 @@
-use Rattle.std.proofs.Common.{◌+◌, length, Some, sym, subst, arith, ◌∙◌}
+use Rattle.std.proofs.Common.{length, Some, sym, subst, arith, ◌∙◌}
 use Rattle.tp_model.specs.Groups.{notices_of}
 use Rattle.tp_model.specs.Support.Allowed.{MayClose}
 use Rattle.live_world.specs.Closing.{MayNote}

@@ -1,4 +1,4 @@
-use Rattle.std.proofs.Common.{◌≡◌, ◌+◌, ◌&&◌, Some, None, true, refl, sym, subst, ap, arith, ◌∙◌}
+use Rattle.std.proofs.Common.{◌+◌, ◌&&◌, Some, None, true, refl, sym, subst, ap, arith, ◌∙◌}
 use Rattle.tp_base.specs.declared.plans.Awaited.TheVariants as awaited
 use Rattle.tp_base.specs.declared.rows.WaitTarget.TheVariants.{Object}
 use Rattle.tp_model.specs.Changes.{begin_wait, new_wait}

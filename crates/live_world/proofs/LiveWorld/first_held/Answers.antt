@@ -1,4 +1,4 @@
-use Rattle.std.proofs.Common.{None, Some, ap, find, sym, ◌∙◌}
+use Rattle.std.proofs.Common.{ap, find, sym, ◌∙◌}
 use Rattle.live_world.specs.Parts.{is_held_among}
 use Rattle.live_world.proofs.Covered.{nowhere, place_within}
 use Rattle.live_world.proofs.Held.{listed_where, nothing_where, past_where, within_where}

@@ -1,4 +1,4 @@
-use Rattle.std.proofs.Common.{sym, ◌∙◌}
+use Rattle.std.proofs.Common.{sym}
 use Rattle.live_world.specs.Waiting.{held_by}
 use Rattle.live_world.proofs.Starving.{not_starved}
 use Rattle.live_world.proofs.LiveWorld.is_wait_starved.Goals as goal

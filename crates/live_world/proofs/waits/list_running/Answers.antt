@@ -1,4 +1,4 @@
-use Rattle.std.proofs.Common.{◌≡◌, ◌∙◌, ◌==◌, ◌<◌, ◌≤◌, List, None, ◌++◌, Option, filter, find, length, map, true, sym, ap, append-nil, arith, length-set, nat_lt}
+use Rattle.std.proofs.Common.{◌≡◌, ◌∙◌, List, None, ◌++◌, filter, length, map, true, sym, ap, append-nil, arith, length-set}
 use Rattle.std.specs.Option.{option_copied}
 use Rattle.std.proofs.lemmas.List.{length-map}
 use Rattle.std.proofs.lemmas.List.Sums.{length-filter, count_by-le-length}
