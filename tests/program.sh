@@ -109,6 +109,13 @@ for trace in "$here/tests/traces"/*; do
     try "the trace ${trace##*/}" 0 "$(sed 's/.* -> //' "$trace")"$'\n' '' "$program" trace
 done
 
+# The default pool is never closed, so its persistent worker is never free for what is pending in another pool.
+last_line() { "$@" | tail -n 1; }
+input=$'c1 create-pool\nc1 create work r1 x0 p0 normal persistent g0 q0\nc1 create work r2 x0 p1 normal short g0 q0\n'
+input+=$'c1 submit 1\nw1 attach\nw1 take\nw1 return\nc1 submit 2\nw1 detach\nc1 wait work 2 keep\nc1 end\n'
+try 'the only worker serves one pool' 0 $'stalled\n' '' last_line "$program" trace --workers 1
+try 'a second worker serves another' 0 $'look not-yet callback 2\n' '' last_line "$program" trace --workers 2
+
 # verdict NAME VERDICT CLIENTS WORKERS ENTRY..: what `check` says of a history with room for 16 entries.
 verdict() {
     local name=$1 wanted=$2 clients=$3 workers=$4

@@ -9,8 +9,8 @@ own_counters() {
 try 'what a take can reach makes no counter of its own' 0 '' '' inside "$here" own_counters
 
 # make_takes PENDING POOLS GROUPS KERNELS OBJECTS TAKES LOOKS: a trace in which so much is made, and so many callbacks are
-# pending in pool 1. Then one is taken, returns and is submitted anew, so many times. Last, with the pool at its maximum,
-# two workers look in turn.
+# pending in pool 1; those of each second object are persistent. Then one is taken, returns and is submitted anew, so many
+# times. Last, with the pool at its maximum, two workers look in turn.
 make_takes() {
     awk -v pending="$1" -v pools="$2" -v groups="$3" -v kernels="$4" -v objects="$5" -v takes="$6" -v looks="$7" '
         function submit() { print "c1 submit " 1 + made++ % objects }
@@ -18,7 +18,7 @@ make_takes() {
             for (at = 1; at <= pools; at++) print "c1 create-pool"
             for (at = 1; at <= groups; at++) print "c1 create-group"
             for (at = 1; at <= kernels; at++) print "c1 create-event auto clear"
-            for (at = 1; at <= objects; at++) print "c1 create work r1 x0 p1 normal short g" (groups ? 1 + at % groups : 0) " q0"
+            for (at = 1; at <= objects; at++) print "c1 create work r1 x0 p1 normal " (at % 2 ? "short" : "persistent") " g" (groups ? 1 + at % groups : 0) " q0"
             while (made < pending) submit()
             print "c1 set-minimum 1 3\nw1 attach\nw2 attach\nw3 attach"
             for (at = 1; at <= takes; at++) { print "w1 take\nw1 return"; submit() }

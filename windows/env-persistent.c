@@ -20,7 +20,8 @@ int main(void)
     LONG round, each;
     begin();
     make_pool(&env, 4);
-    SetThreadpoolCallbackPersistent(&env);
+    /* What SetThreadpoolCallbackPersistent is; the headers of mingw have no function of that name. */
+    TpSetCallbackPersistent(&env);
     work = CreateThreadpoolWork(run, "a persistent callback", &env);
     for (round = 1; round <= 2; round++) {
         for (each = 0; each < 4; each++)

@@ -44,6 +44,21 @@ const SOME_LEFT: [&[u8]; 18] = [
     b"c1 end",
 ];
 
+/// The worker that took a persistent callback of the default pool never leaves it. Another pool has a callback pending.
+const ONE_STAYS: [&[u8]; 11] = [
+    b"c1 create-pool",
+    b"c1 create work r1 x0 p0 normal persistent g0 q0",
+    b"c1 create work r2 x0 p1 normal short g0 q0",
+    b"c1 submit 1",
+    b"w1 attach",
+    b"w1 take",
+    b"w1 return",
+    b"c1 submit 2",
+    b"w1 detach",
+    b"c1 finish",
+    b"c2 finish",
+];
+
 // A machine on which these calls were made.
 fn played<B: Recorded>(rt: &impl Abort, alloc: Global, workers: u32, lines: &[&[u8]]) -> B {
     assert!(rt; workers == 1 || workers == 2);
@@ -147,5 +162,31 @@ refused 2
 {\"callbacks\":6,\"cancelled\":1,\"entries\":17,\"left\":4,\"left_callbacks\":[3,4,5,6],\"refused\":2,\"taken\":1}
 ",
     );
+    drop(book);
+}
+
+/// A callback is left where nobody is free for it. Beside a second worker all isn't over.
+#[test]
+fn a_persistent_worker_serves_no_other_pool(rt: HostRuntime) {
+    let alloc = rt.alloc();
+    let two = played::<Book>(&rt, alloc, 2, &ONE_STAYS);
+    expect_eq(&rt, two.is_over(), false);
+    let book = played::<Counted<Book>>(&rt, alloc, 1, &ONE_STAYS);
+    expect_eq(&rt, book.is_over(), true);
+    let mut text = Vec::new(alloc);
+    expect_ok(&rt, print_summary(alloc, &book, &mut text));
+    expect_text(
+        &rt,
+        &text,
+        "entries 10
+callbacks 2
+taken 1
+cancelled 0
+left 1
+left-callback 2 o2 pending
+refused 0
+",
+    );
+    drop(two);
     drop(book);
 }

@@ -20,7 +20,7 @@ const TAKES: u64 = 2_000_000;
 const ROOM: u64 = 65_536;
 
 // A callback of the default pool, without an object.
-fn submit() -> Call
+fn submit(persistent: bool) -> Call
     ensures { IsCallInRange result }
 {
     Call::SubmitSimple {
@@ -32,7 +32,7 @@ fn submit() -> Call
             cancel: RoutineId(0),
             priority: Priority::Normal,
             long: false,
-            persistent: false,
+            persistent,
         },
     }
 }
@@ -64,13 +64,14 @@ fn counted_take(engine: &mut Engine, change: &mut Change, steps: &mut Steps) -> 
     told
 }
 
-// Submits the callback of this number, behind all that are pending.
+// Submits the callback of this number, behind all that are pending. Those of even numbers are persistent, so that of the two
+// queues now the one and now the other has the older callback.
 fn check_submit(rt: &impl Abort, engine: &mut Engine, change: &mut Change, number: u64) {
     let queued = Answer::Queued {
         first: number,
         count: 1,
     };
-    check_step(rt, engine, change, Who::Client(1), submit(), queued);
+    check_step(rt, engine, change, Who::Client(1), submit(number % 2 == 0), queued);
 }
 
 // The callback of this number is the first: worker 1 takes it.
@@ -88,7 +89,7 @@ fn check_take(rt: &impl Abort, engine: &mut Engine, change: &mut Change, number:
 }
 
 #[test]
-fn two_million_are_taken_in_three_steps_each(rt: HostRuntime) {
+fn two_million_are_taken_in_four_steps_each(rt: HostRuntime) {
     let mut engine = expect_ok(&rt, Engine::open(rt.alloc(), program_limits(1, 1)));
     let mut change = Change::Keep;
     let worker = Who::Worker(1);
