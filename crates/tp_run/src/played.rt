@@ -149,7 +149,7 @@ fn whole_output<B: Recorded>(
     ensures output { IfOk result (λ output. IsOutputOf (record { history = true; json = json }) played.cut played.book output) }
 {
     legal_keeps_laws();
-    let Run { book, cut } = played;
+    let Run { book, cut, .. } = played;
     let _len = book.len();
     let (counted, history) = into_history(alloc, book)?;
     output_behind(alloc, history, json, cut, &counted)

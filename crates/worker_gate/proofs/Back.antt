@@ -21,7 +21,7 @@ use Rattle.shared_pool.specs.Pools.{setup_at, IsSeatOf}
 use Rattle.worker_gate.specs.declared.actor.Actor.{Actor}
 use Rattle.worker_gate.specs.declared.role.Role.{Role}
 use Rattle.worker_gate.specs.Acting.{role_in, seat_in, IsReady}
-use Rattle.worker_gate.specs.Closing.{AllBack, BeginsAsSeen, FirstTold, IsFirstPlayed}
+use Rattle.worker_gate.specs.Closing.{AllBack, BeginsAsMade, FirstTold, IsFirstPlayed}
 use Rattle.worker_gate.specs.Places.{Given}
 use Rattle.worker_gate.specs.Roles.{IsOf}
 use Rattle.worker_gate.specs.Rounds.{AllOf, HaveAllRoles}
@@ -91,10 +91,6 @@ module _ {B : Type 0} where
     ready_at : (k : ℕ) (a : Actor B) → slice_get actors k ≡ Some a → IsReady g pool a
     ready_at k a is = at_all (IsReady g pool) actors k a back.ready is
 
-    -- what each has seen stands at the beginning of a history that goes on from there
-    pub seen_last : (later : List Entry) → StartsWith later last.history → BeginsAsSeen later actors
-    seen_last later more k d inside = let l = last_at k (get_or actors k d) (slice_get-get_or actors k d inside) in starts_through later last.history (seen_of (get_or actors k d).seat) more l.seen
-
     setup_same : (k : ℕ) (a : Actor B) → slice_get actors k ≡ Some a → setup_in a.seat ≡ setup_at pool
     setup_same k a is = (ready_at k a is).player.of.setup_is
 
@@ -142,16 +138,19 @@ module _ {B : Type 0} where
         let seated = (last_at one.0 one.1 one.2).seated k d inside in
         seated_known (get_or last.history k d).who (subst (λ (s : Setup). IsSeated s (get_or last.history k d).who) (setup_same one.0 one.1 one.2) seated)
 
+    -- what it has made is what the history has of its actor
+    mine_last : (k : ℕ) (a : Actor B) → slice_get actors k ≡ Some a → mine_of a.seat ≡ own a.role.who last.history
+    mine_last k a is = (last_at k a is).mine (ready_at k a is).player.numbered ∙ ap (λ (w : Who). own w last.history) (sym a.is_its)
+
     -- a role stands for what the history has of its actor
     role_last : (k : ℕ) (a : Actor B) → slice_get actors k ≡ Some a → IsOf g last.limits last.capacity last.history (own a.role.who last.history) a.role
     role_last k a is =
         let l = last_at k a is in
         let r = ready_at k a is in
-        let mine : mine_of a.seat ≡ own a.role.who last.history = l.mine r.player.numbered ∙ ap (λ (w : Who). own w last.history) (sym a.is_its) in
         let grown = of_grows g (setup_in a.seat).limits (setup_in a.seat).capacity (seen_of a.seat) last.history (mine_of a.seat) a.role l.seen r.of in
         subst (λ (x : Limits). IsOf g x last.capacity last.history (own a.role.who last.history) a.role) (sym l.limits) (
         subst (λ (n : ℕ). IsOf g (setup_in a.seat).limits n last.history (own a.role.who last.history) a.role) (sym l.capacity) (
-        subst (λ (m : List Entry). IsOf g (setup_in a.seat).limits (setup_in a.seat).capacity last.history m a.role) mine grown))
+        subst (λ (m : List Entry). IsOf g (setup_in a.seat).limits (setup_in a.seat).capacity last.history m a.role) (mine_last k a is) grown))
 
     once_last : (i j : ℕ) (r q : Role) → slice_get (map role_in actors) i ≡ Some r → slice_get (map role_in actors) j ≡ Some q → r.who ≡ q.who → i ≡ j
     once_last i j r q at_i at_j same =
@@ -175,6 +174,17 @@ module _ {B : Type 0} where
         let role = mapped role_in actors at.0 a at.2 in
         let is : a.role.who ≡ who = a.is_its ∙ (ap (λ (s : Setup). actor_of s.limits (number_of a.seat)) (setup_same at.0 a at.2) ∙ (ap (actor_of (setup_at pool).limits) at.3 ∙ n.is)) in
         (at.0, a.role, slice_get_within (map role_in actors) at.0 a.role role, get_or_from_slice_get (map role_in actors) at.0 a.role a.role role, is)
+
+    -- a history that goes on from there begins with what all of them have made
+    pub made_last : (later : List Entry) → StartsWith later last.history → BeginsAsMade (setup_at pool).limits later actors
+    made_last later more = record {
+      each = subst (λ (l : Limits). HaveAllRoles l (map role_in actors)) limits_last has_last;
+      once = back.once;
+      front = last.history;
+      starts = more;
+      made = λ k d inside. mine_last k (get_or actors k d) (slice_get-get_or actors k d inside);
+      seen = λ k d inside. (last_at k (get_or actors k d) (slice_get-get_or actors k d inside)).seen;
+    }
 
     pub first_last : FirstTold (setup_at pool).limits actors → IsFirstPlayed last.limits last.history (map role_in actors)
     first_last first =

@@ -1,5 +1,5 @@
 -- Actors that are dealt into crews, and gathered.
-use Rattle.std.proofs.Common.{◌≡◌, ℕ, zero, suc, ◌+◌, ◌-◌, ◌<◌, ◌≤◌, Bool, true, false, eqb, eq-eqb, eqb-true, List, [], ◌∷◌, ◌++◌, Some, length, map, set, get_or, slice_get, refl, sym, ap, subst, ◌∙◌, append_assoc, arith, remove, All, IsPermutation}
+use Rattle.std.proofs.Common.{◌≡◌, ℕ, zero, suc, ◌+◌, ◌-◌, ◌<◌, ◌≤◌, inl, inr, Bool, true, false, eqb, eq-eqb, eqb-true, List, [], ◌∷◌, ◌++◌, Some, length, map, set, get_or, slice_get, refl, sym, ap, subst, ◌∙◌, append_assoc, arith, remove, All, IsPermutation}
 use Rattle.std.specs.List.{flat_map, range_with_len, AllByRecursion, Contains, IsDistinct}
 use Rattle.std.proofs.lemmas.List.{length-map, map-append}
 use Rattle.std.proofs.lemmas.List.Elements.{All-append, All-cons, All-from_recursion, All-head, All-tail, recursion_from_All}
@@ -22,9 +22,9 @@ use Rattle.shared_pool.specs.declared.pool.SharedPool.{SharedPool}
 use Rattle.shared_pool.specs.Pools.{lock_in, pool_setup, setup_at, IsPlayer}
 use Rattle.worker_gate.specs.declared.actor.Actor.{Actor}
 use Rattle.worker_gate.specs.declared.role.Role.{Role}
-use Rattle.worker_gate.specs.Acting.{seat_in, GoesOn, IsReady}
+use Rattle.worker_gate.specs.Acting.{has_ended, seat_in, GoesOn, IsReady}
 use Rattle.worker_gate.specs.Closing.{AllBack, FirstTold, HasHeard, HasTold, HaveHeard}
-use Rattle.worker_gate.specs.Crews.{AllReady, AreCrewsBack, GoOn}
+use Rattle.worker_gate.specs.Crews.{AllReady, AreCrewsBack, GoOn, HasCause, HasStopped, HaveCauses}
 use Rattle.worker_gate.specs.Crowds.{number_in, AreNew, IsNewActor, IsNewSeat}
 use Rattle.worker_gate.specs.Places.{Given}
 use Rattle.worker_gate.specs.Roles.{new_role, IsOf}
@@ -175,6 +175,25 @@ module _ {B : Type 0} where
       ∙ (ap (λ (l : List ℕ). map number_in crew ++ l) (crews_numbers g crews laters back.1) ∙ sym (map-append number_in crew (joined crews))))
   crews_numbers g [] (later ∷ laters) back = absurd back
   crews_numbers g (crew ∷ crews) [] back = absurd back
+
+  -- ---- why they make no call
+
+  has_stopped : (g : Given) (a b : Actor B) → HasCause g a b → HasStopped g b
+  has_stopped g a b (inl ended) = inl ended
+  has_stopped g a b (inr (inl met)) = inr (inl (omega (arith, met)))
+  has_stopped g a b (inr (inr held)) = inr (inr held)
+
+  crew_stopped : (g : Given) (crew later : List (Actor B)) → HaveCauses g crew later → AllByRecursion (HasStopped g) later
+  crew_stopped g [] [] causes = tt
+  crew_stopped g (a ∷ crew) (b ∷ later) causes = (has_stopped g a b causes.0, crew_stopped g crew later causes.1)
+  crew_stopped g [] (b ∷ later) causes = absurd causes
+  crew_stopped g (a ∷ crew) [] causes = absurd causes
+
+  crews_stopped : (g : Given) (crews laters : List (List (Actor B))) → AreCrewsBack g crews laters → AllByRecursion (All (HasStopped g)) laters
+  crews_stopped g [] [] back = tt
+  crews_stopped g (crew ∷ crews) (later ∷ laters) back = (All-from_recursion (HasStopped g) later (crew_stopped g crew later back.0.causes), crews_stopped g crews laters back.1)
+  crews_stopped g [] (later ∷ laters) back = absurd back
+  crews_stopped g (crew ∷ crews) [] back = absurd back
 
   -- ---- new actors
 
@@ -400,6 +419,11 @@ module _ {B : Type 0} where
           all_ready : All (IsReady g pool) actors
           all_ready =
               All-permutation (IsReady g pool) (told ∷ flat_map f laters) actors gathered (All-cons (IsReady g pool) told (flat_map f laters) told_is_ready (parts_all f (IsReady g pool) laters later_ready))
+
+          pub all_stopped : has_ended finished ≡ true → All (HasStopped g) actors
+          all_stopped over =
+              let crews_all = parts_all f (HasStopped g) laters (All-from_recursion (All (HasStopped g)) (map f laters) (crews_stopped g (map f crews) (map f laters) back)) in
+              All-permutation (HasStopped g) (told ∷ flat_map f laters) actors gathered (All-cons (HasStopped g) told (flat_map f laters) (inl (ap (λ (r : Role). r.ended) tells.role_is ∙ over)) crews_all)
 
           its_actor : (k : ℕ) (a : Actor B) → slice_get actors k ≡ Some a → a.role.who ≡ actor_of limits (number_in a)
           its_actor k a at =

@@ -72,7 +72,7 @@ idle_row_of w number by is = of_row (numbered w.workers number) is
     of_parts None None mark e = absurd (cc)
     of_parts None (Some n) mark e = absurd (cc)
     of_parts (Some p) (Some n) mark e = absurd (cc)
-    of_parts (Some p) None mark e = (p, (mark, refl))
+    of_parts (Some p) None mark e = (p, mark, refl)
 
     of_row : (o : Option WorkerRow) → idle_in number o ≡ Some by → (p : PoolId) × (m : Bool) × (o ≡ Some (idle_at p m))
     of_row None e = absurd (cc)
@@ -124,7 +124,7 @@ module _ (g : Given) (limits : Limits) (capacity : ℕ) (history : List Entry) (
   unfilled (Worker number) is rests =
       let i = (facts.stands who actor).idle (sym rests) in
       let row = idle_row_of w number i.by (sym (ap (idle_of w) is) ∙ i.is) in
-      ap (λ (x : Who). is_full (comes_to limits capacity history x Detach)) is ∙ leaves_unfilled w left sound number row.0 row.1.0 row.1.1
+      ap (λ (x : Who). is_full (comes_to limits capacity history x Detach)) is ∙ leaves_unfilled w left sound number row.0 row.1 row.2
 
   playing_held : (at : Who) → is_stage_of at Playing ≡ true → is_held w at ≡ true
   playing_held (Client number) sorted = refl

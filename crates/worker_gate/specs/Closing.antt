@@ -11,8 +11,9 @@ use Rattle.shared_pool.specs.declared.pool.SharedPool.{SharedPool}
 use Rattle.shared_pool.specs.Pools.{pool_setup, setup_at, HaveAll}
 use Rattle.worker_gate.specs.declared.actor.Actor.{Actor}
 use Rattle.worker_gate.specs.declared.role.Role.{Role}
-use Rattle.worker_gate.specs.Acting.{seat_in, GoesOn, IsReady}
+use Rattle.worker_gate.specs.Acting.{role_in, seat_in, GoesOn, IsReady}
 use Rattle.worker_gate.specs.Places.{Given}
+use Rattle.worker_gate.specs.Rounds.{HaveAllRoles}
 
 module _ {B : Type 0} where
   -- ---- what client 1 has told the others
@@ -39,9 +40,19 @@ module _ {B : Type 0} where
 
   -- ---- all are back
 
-  -- the history begins with what each of them has seen
-  abbrev pub BeginsAsSeen : List Entry → List (Actor B) → Type 0
-  BeginsAsSeen history actors = All (λ (a : Actor B). StartsWith history (seen_of a.seat)) actors
+  -- no two of them are one
+  abbrev pub AreApart : List (Actor B) → Type 0
+  AreApart actors = (i j : ℕ) (a b : Actor B) → slice_get actors i ≡ Some a → slice_get actors j ≡ Some b → a.role.who ≡ b.role.who → i ≡ j
+
+  -- the history begins with what these actors have made: they are one of each client and worker, and `front`, of which each has
+  -- seen a beginning, has of each just what it has made
+  pub record BeginsAsMade (limits : Limits) (history : List Entry) (actors : List (Actor B)) : Type 0 where
+    pub each : HaveAllRoles limits (map role_in actors)
+    pub once : AreApart actors
+    pub front : List Entry
+    pub starts : StartsWith history front
+    pub made : All (λ (a : Actor B). mine_of a.seat ≡ own a.role.who front) actors
+    pub seen : All (λ (a : Actor B). StartsWith front (seen_of a.seat)) actors
 
   -- client 1 has finished, when no other had made an entry: `front` is the history of that time
   pub record FirstTold (limits : Limits) (actors : List (Actor B)) : Type 0 where
@@ -62,7 +73,7 @@ module _ {B : Type 0} where
     pub some_worker : 0 < (setup_at pool).limits.workers
     pub ready : All (IsReady g pool) actors
     pub all : HaveAll pool (map seat_in actors)
-    pub once : (i j : ℕ) (a b : Actor B) → slice_get actors i ≡ Some a → slice_get actors j ≡ Some b → a.role.who ≡ b.role.who → i ≡ j
+    pub once : AreApart actors
 
 -- a part of the role was cut
 abbrev pub IsCutIn : Role → Type 0

@@ -1,6 +1,7 @@
 -- Actors that one thread plays.
-use Rattle.std.specs.Prelude.{◌≡◌, ℕ, ◌-◌, ◌<◌, Bool, true, List, [], ◌∷◌, ◌⊎◌, All}
+use Rattle.std.specs.Prelude.{◌≡◌, ℕ, ◌-◌, ◌<◌, Bool, true, List, [], ◌∷◌, ◌⊎◌, length, All}
 use Rattle.std.specs.List.{sum_by}
+use Rattle.turn_lock.specs.Seats.{met_of}
 use Rattle.shared_pool.specs.declared.pool.SharedPool.{SharedPool}
 use Rattle.worker_gate.specs.declared.actor.Actor.{Actor}
 use Rattle.worker_gate.specs.declared.role.Turn.{Turn}
@@ -23,6 +24,10 @@ module _ {B : Type 0} where
   -- Full behind what it has seen
   abbrev pub HasCause : Given → Actor B → Actor B → Type 0
   HasCause g a b = (has_ended b ≡ true) ⊎ (HasMet a b ⊎ ((marked : Bool) × (holds_up b (due_by g b marked) ≡ true)))
+
+  -- the same, wherever it began
+  abbrev pub HasStopped : Given → Actor B → Type 0
+  HasStopped g b = (has_ended b ≡ true) ⊎ ((0 < length (met_of b.seat)) ⊎ ((marked : Bool) × (holds_up b (due_by g b marked) ≡ true)))
 
   -- the same actors, in their order
   abbrev pub GoOn : List (Actor B) → List (Actor B) → Type 0

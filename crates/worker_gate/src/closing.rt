@@ -2,7 +2,7 @@
 
 ghost use Rattle.std.specs.Prelude.{◌≡◌, ◌≤◌, ◌↔◌, true, map, Any, IfOk, OnOk};
 ghost use Rattle.worker_gate.specs.Acting.{role_in, seat_in};
-ghost use Rattle.worker_gate.specs.Closing.{AllBack, BeginsAsSeen, FirstTold, IsCutIn, IsFirstPlayed};
+ghost use Rattle.worker_gate.specs.Closing.{AllBack, BeginsAsMade, FirstTold, IsCutIn, IsFirstPlayed};
 ghost use Rattle.worker_gate.specs.Drawn.{AreDrawn};
 ghost use Rattle.worker_gate.specs.Places.{given};
 ghost use Rattle.worker_gate.specs.Rounds.{scene, AllOf, EndedWell, HasPlayed, HaveAllRoles, HaveEnded, IsSameMachine};
@@ -14,6 +14,7 @@ use crate::actor::Actor;
 use crate::drawn::play_drawn;
 use crate::role::{Gate, Role};
 use crate::rounds::play_alone;
+use ghost_copy::GhostCopy;
 use recorded::Recorded;
 use shared_pool::SharedPool;
 use std::alloc::{AllocError, Global};
@@ -28,11 +29,13 @@ pub struct Run<B> {
     /// Whether the calls of a client or of a callback were cut short, since the history had no room for
     /// the next one.
     pub cut: bool,
+    /// The actors as they came back from the threads, for contracts alone. Nobody, where one thread played
+    /// all.
+    pub actors: GhostCopy<Vec<Actor<B>>>,
 }
 
 /// Closes a pool whose actors have all come back, plays what they still have to do, and gives the
-/// machine: its history is a run of these routines, and begins with what each actor has seen, in which
-/// stands all that the actor has made.
+/// machine: its history is a run of these routines, and begins with what the actors have made.
 ///
 /// Client 1 has to have finished before any other made a call (`finish`, `tell_all`). An `AllocError`
 /// comes where memory for the seats and the roles isn't there; all is lost then.
@@ -48,14 +51,20 @@ pub fn close_run<B: Recorded, R: Routines, G: Gate>(
     ensures limits { IfOk result (λ run. (B.recording run.book).limits ≡ (setup_at pool).limits) }
     ensures capacity { IfOk result (λ run. (B.recording run.book).capacity ≡ (setup_at pool).capacity) }
     ensures legal { IfOk result (λ run. IsLegal (B.recording run.book).limits (B.recording run.book).capacity (B.recording run.book).history) }
-    ensures seen { IfOk result (λ run. BeginsAsSeen (B.recording run.book).history actors.items) }
+    ensures actors { IfOk result (λ run. run.actors.value ≡ actors) }
+    ensures made { IfOk result (λ run. BeginsAsMade (setup_at pool).limits (B.recording run.book).history run.actors.value.items) }
     ensures runs { IfOk result (λ run. Runs (given R.next_of R.after_of routines.now) (B.recording run.book).limits (B.recording run.book).capacity (B.recording run.book).history) }
     ensures cut { IfOk result (λ run. (run.cut ≡ true) ↔ IsCutShort (given R.next_of R.after_of routines.now) (B.recording run.book).limits (B.recording run.book).history) }
 {
+    let back = GhostCopy::of(&actors);
     let (seats, mut roles) = apart(alloc, actors)?;
     let mut book = pool.close(seats);
     let cut = end_run(&mut book, &mut roles, routines, gate);
-    Ok(Run { book, cut })
+    Ok(Run {
+        book,
+        cut,
+        actors: back,
+    })
 }
 
 // Whether one of them is cut.

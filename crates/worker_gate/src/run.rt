@@ -1,6 +1,6 @@
 //! Routines are played on so many threads as are wanted, by all actors of a machine.
 
-ghost use Rattle.std.specs.Prelude.{◌≡◌, ℕ, ◌≤◌, ◌↔◌, ◌∷◌, [], true, length, map, vec_items, All, IfOk, IsPermutation, List};
+ghost use Rattle.std.specs.Prelude.{◌≡◌, ℕ, ◌<◌, ◌≤◌, ◌↔◌, ◌∷◌, [], true, length, map, vec_items, All, IfOk, IsPermutation, List};
 ghost use Rattle.std.specs.List.{flat_map};
 ghost use Rattle.tp_base.specs.declared.answers.Entry.{Entry};
 ghost use Rattle.tp_base.specs.declared.limits.Limits.{Limits as Bounds};
@@ -11,6 +11,8 @@ ghost use Rattle.turn_lock.specs.Histories.{actor_of};
 ghost use Rattle.shared_pool.specs.Pools.{pool_setup, setup_at};
 ghost use Rattle.worker_gate.specs.Acting.{seat_in};
 ghost use Rattle.worker_gate.specs.Alone.{all_roles, IsAlone};
+ghost use Rattle.worker_gate.specs.Closing.{BeginsAsMade};
+ghost use Rattle.worker_gate.specs.Crews.{HasStopped};
 ghost use Rattle.worker_gate.specs.Crowds.{AreNew, IsNewActor, IsNewSeat};
 ghost use Rattle.worker_gate.specs.Drawn.{IsDrawn};
 ghost use Rattle.worker_gate.specs.Places.{given, Given};
@@ -24,6 +26,7 @@ use crate::crew::play_crews;
 use crate::role::{Gate, Role};
 use crate::rounds::set_up;
 use crate::telling::{finish, tell_all};
+use ghost_copy::GhostCopy;
 use recorded::{OpenFault, Recorded};
 use shared_pool::SharedPool;
 use std::alloc::{AllocError, Global};
@@ -42,6 +45,9 @@ use turn_lock::Seat;
 /// of each, and there is one history alone that comes of it (`one_history_alone`). Where it is more,
 /// the others are dealt into so many crews, one after another; each crew plays in a thread of its own,
 /// and what the crews leave is played behind them. `gate` is asked before each callback.
+///
+/// On more than one thread the history begins with what the actors have made by the time at which their
+/// threads are done. By then each has ended, has met another one at its turn, or is held up.
 ///
 /// Where no thread can be made, this one plays that crew. An `AllocError` comes where memory isn't
 /// there; all is lost then. On more than one thread it may wait for ever: for the threads, and for
@@ -71,6 +77,8 @@ pub fn play_routines<
     ensures runs { IfOk result (λ run. Runs (given R.next_of R.after_of routines.now) (B.recording run.book).limits (B.recording run.book).capacity (B.recording run.book).history) }
     ensures alone { threads ≡ 1 → IfOk result (λ run. IsAlone (given R.next_of R.after_of routines.now) limits capacity (B.recording run.book).history) }
     ensures cut { IfOk result (λ run. (run.cut ≡ true) ↔ IsCutShort (given R.next_of R.after_of routines.now) (B.recording run.book).limits (B.recording run.book).history) }
+    ensures made { 1 < threads → IfOk result (λ run. BeginsAsMade limits (B.recording run.book).history run.actors.value.items) }
+    ensures stopped { 1 < threads → IfOk result (λ run. All (HasStopped (given R.next_of R.after_of routines.now)) run.actors.value.items) }
 {
     match threads {
         1 => play_routines_alone(alloc, limits, capacity, routines, gate),
@@ -103,12 +111,18 @@ pub fn play_routines_alone<B: Recorded, R: Routines, G: Gate>(
     ensures runs { IfOk result (λ run. Runs (given R.next_of R.after_of routines.now) (B.recording run.book).limits (B.recording run.book).capacity (B.recording run.book).history) }
     ensures alone { IfOk result (λ run. IsAlone (given R.next_of R.after_of routines.now) limits capacity (B.recording run.book).history) }
     ensures cut { IfOk result (λ run. (run.cut ≡ true) ↔ IsCutShort (given R.next_of R.after_of routines.now) (B.recording run.book).limits (B.recording run.book).history) }
+    ensures nobody { IfOk result (λ run. run.actors.value.items ≡ []) }
 {
     let mut book = B::open(alloc, limits, capacity)?;
     let mut roles = new_roles(alloc, limits)?;
     set_up(&mut book, &mut roles[0], routines, gate);
     let cut = end_run(&mut book, &mut roles, routines, gate);
-    Ok(Run { book, cut })
+    let nobody = GhostCopy::of(&Vec::new(alloc));
+    Ok(Run {
+        book,
+        cut,
+        actors: nobody,
+    })
 }
 
 /// What turns that are drawn from a seed make of given routines, limits and capacity is one history: no two
@@ -140,12 +154,18 @@ pub fn play_routines_drawn<B: Recorded, R: Routines, G: Gate>(
     ensures runs { IfOk result (λ run. Runs (given R.next_of R.after_of routines.now) (B.recording run.book).limits (B.recording run.book).capacity (B.recording run.book).history) }
     ensures drawn { IfOk result (λ run. IsDrawn seed (given R.next_of R.after_of routines.now) limits capacity (B.recording run.book).history) }
     ensures cut { IfOk result (λ run. (run.cut ≡ true) ↔ IsCutShort (given R.next_of R.after_of routines.now) (B.recording run.book).limits (B.recording run.book).history) }
+    ensures nobody { IfOk result (λ run. run.actors.value.items ≡ []) }
 {
     let mut book = B::open(alloc, limits, capacity)?;
     let mut roles = new_roles(alloc, limits)?;
     set_up(&mut book, &mut roles[0], routines, gate);
     let cut = end_drawn_run(alloc, &mut book, &mut roles, seed, routines, gate)?;
-    Ok(Run { book, cut })
+    let nobody = GhostCopy::of(&Vec::new(alloc));
+    Ok(Run {
+        book,
+        cut,
+        actors: nobody,
+    })
 }
 
 // The roles of all actors, in the order of their numbers.
@@ -197,6 +217,8 @@ fn play_on_several<
     ensures legal { IfOk result (λ run. IsLegal limits capacity (B.recording run.book).history) }
     ensures runs { IfOk result (λ run. Runs (given R.next_of R.after_of routines.now) (B.recording run.book).limits (B.recording run.book).capacity (B.recording run.book).history) }
     ensures cut { IfOk result (λ run. (run.cut ≡ true) ↔ IsCutShort (given R.next_of R.after_of routines.now) (B.recording run.book).limits (B.recording run.book).history) }
+    ensures made { IfOk result (λ run. BeginsAsMade limits (B.recording run.book).history run.actors.value.items) }
+    ensures stopped { IfOk result (λ run. All (HasStopped (given R.next_of R.after_of routines.now)) run.actors.value.items) }
 {
     let (pool, mut others) = open_pool(alloc, limits, capacity)?;
     let mut first = others.remove(0);

@@ -1,13 +1,14 @@
-use Rattle.std.proofs.Common.{List, All, map, sym, subst, ◌∙◌}
+use Rattle.std.proofs.Common.{List, All, ap, map, sym, subst, vec_items, ◌∙◌}
 use Rattle.turn_lock.specs.declared.seats.Seat.{Seat}
 use Rattle.turn_lock.specs.Seats.{IsLast}
-use Rattle.shared_pool.specs.Pools.{HaveAll, IsSeatOf}
+use Rattle.shared_pool.specs.Pools.{setup_at, HaveAll, IsSeatOf}
+use Rattle.worker_gate.specs.declared.actor.Actor.{Actor}
 use Rattle.worker_gate.specs.declared.role.Role.{Role}
 use Rattle.worker_gate.specs.Acting.{seat_in}
-use Rattle.worker_gate.specs.Closing.{IsFirstPlayed}
+use Rattle.worker_gate.specs.Closing.{BeginsAsMade, IsFirstPlayed}
 use Rattle.worker_gate.specs.Places.{given}
 use Rattle.worker_gate.specs.Rounds.{AllOf, HaveAllRoles}
-use Rattle.worker_gate.proofs.Back.{all_last, capacity_last, client_last, first_last, has_last, known_last, legal_last, limits_last, seats_of, seen_last, worker_last}
+use Rattle.worker_gate.proofs.Back.{all_last, capacity_last, client_last, first_last, has_last, known_last, legal_last, limits_last, made_last, seats_of, worker_last}
 use Rattle.worker_gate.proofs.Ending.{rounds_more}
 use Rattle.worker_gate.proofs.closing.close_run.Goals as goal
 
@@ -82,8 +83,8 @@ returns-clause-capacity g c =
     let lasts : All (IsLast last) (map seat_in c.args.actors.items) = subst (λ (seats : List (Seat g.row.B.Denot)). All (IsLast last) seats) c.in_ok-seats.ensures.seats c.close-book.ensures.last in
     c.end_run-cut.ensures.same.capacity ∙ capacity_last γ c.args.pool c.args.actors.items c.requires.back last lasts
 
-pub returns-clause-seen : goal.returns-clause-seen
-returns-clause-seen g c =
+pub returns-clause-made : goal.returns-clause-made
+returns-clause-made g c =
     let γ = given g.R.Routines.next_of g.R.Routines.after_of c.args.routines.now in
     let last = g.B.Recorded.recording c.close-book.result in
     let now = g.B.Recorded.recording c.end_run-cut.new.book in
@@ -91,4 +92,5 @@ returns-clause-seen g c =
     let all : AllOf γ last.limits last.capacity last.history c.in_ok-seats.roles.items =
     subst (λ (roles : List Role). AllOf γ last.limits last.capacity last.history roles) (sym c.in_ok-seats.ensures.roles) (all_last γ c.args.pool c.args.actors.items c.requires.back last lasts) in
     let more = rounds_more γ last.limits last.capacity last.history now.history c.in_ok-seats.roles.items c.end_run-cut.new.roles.items c.end_run-cut.ensures.played all in
-    seen_last γ c.args.pool c.args.actors.items c.requires.back last lasts now.history (record { rest = more.more; is = more.is })
+    subst (λ (actors : List (Actor g.row.B.Denot)). BeginsAsMade (setup_at c.args.pool).limits now.history actors) (sym (ap vec_items c.of-back.ensures))
+    (made_last γ c.args.pool c.args.actors.items c.requires.back last lasts now.history (record { rest = more.more; is = more.is }))
