@@ -3,7 +3,6 @@
 use crate::expect::{expect_eq, expect_ok};
 use crate::program::run_program;
 use std::alloc::Global;
-use std::hint;
 use std::process::Abort;
 use std::sync::Wait;
 use std::sync::atomic::{AtomicBool, AtomicU32, Ordering};
@@ -33,7 +32,7 @@ const MOST: u32 = 6;
 
 // So often the first callback looks whether they are taken. That is long enough for another thread to come, and ends the
 // test soon where there is none.
-const MOST_LOOKS: u32 = 5_000_000;
+const MOST_LOOKS: u32 = 20_000_000;
 
 // Holds the first worker that it is told until the other one has taken most of the callbacks, but not for ever.
 #[derive(Drop)]
@@ -104,7 +103,6 @@ impl Gate for Meeting {
                 self.met.store(true, Ordering::SeqCst);
                 return;
             }
-            hint::spin_loop();
         }
     }
 }

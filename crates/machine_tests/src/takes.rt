@@ -71,7 +71,14 @@ fn check_submit(rt: &impl Abort, engine: &mut Engine, change: &mut Change, numbe
         first: number,
         count: 1,
     };
-    check_step(rt, engine, change, Who::Client(1), submit(number % 2 == 0), queued);
+    check_step(
+        rt,
+        engine,
+        change,
+        Who::Client(1),
+        submit(number % 2 == 0),
+        queued,
+    );
 }
 
 // The callback of this number is the first: worker 1 takes it.
