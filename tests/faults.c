@@ -6,7 +6,8 @@
 //   short-read, short-write      of several bytes one is read or written
 //   thread        no thread is started
 //
-// For each call that it fails it writes a byte to descriptor 9. A program that runs for a minute is ended.
+// For each call that it fails it writes a byte to descriptor 9. Where PIECE in the environment is above 0, no read and
+// no write is of more bytes than that. A program that runs for a minute is ended.
 #define _GNU_SOURCE
 #include <dlfcn.h>
 #include <errno.h>
@@ -25,12 +26,17 @@ typedef int Start(pthread_t *, const pthread_attr_t *, void *(*)(void *), void *
 
 static const char *kind = "";
 static unsigned long first, last;
+static size_t piece;
 static atomic_ulong calls;
 static Start *start_thread;
 
 __attribute__((constructor)) static void read_fault(void) {
     static char words[64];
-    const char *fault = getenv("FAULT");
+    const char *fault = getenv("FAULT"), *most = getenv("PIECE");
+    if (most)
+        piece = strtoul(most, NULL, 10);
+    if (!piece)
+        piece = -1;
     start_thread = (Start *)dlsym(RTLD_NEXT, "pthread_create");
     alarm(60);
     if (!fault || strlen(fault) >= sizeof words)
@@ -78,13 +84,13 @@ void *realloc(void *block, size_t size) {
 ssize_t read(int from, void *bytes, size_t size) {
     if (fails_with("read", EIO))
         return -1;
-    return syscall(SYS_read, from, bytes, size > 1 && fails("short-read") ? 1 : size);
+    return syscall(SYS_read, from, bytes, size > 1 && fails("short-read") ? 1 : size < piece ? size : piece);
 }
 
 ssize_t write(int to, const void *bytes, size_t size) {
     if (fails_with("write", EIO))
         return -1;
-    return syscall(SYS_write, to, bytes, size > 1 && fails("short-write") ? 1 : size);
+    return syscall(SYS_write, to, bytes, size > 1 && fails("short-write") ? 1 : size < piece ? size : piece);
 }
 
 ssize_t __write(int to, const void *bytes, size_t size) {

@@ -6,10 +6,12 @@ faults=$room/faults.so
 # By what it is told that a run ended as without a fault, and which part of the calls so far one that fails is behind the last.
 same=is_same
 sparse=1000000
+# The most bytes of a read or a write, if it isn't 0.
+PIECE=0
 
 # run_with FAULT COMMAND..: sets `status`, `out` and `err`. The file `failed` has a byte for each call that failed.
 run_with() {
-    FAULT=$1 LD_PRELOAD=$faults "${@:2}" <"$room/input" >"$room/out" 2>"$room/err" 9>"$room/failed"
+    FAULT=$1 PIECE=$PIECE LD_PRELOAD=$faults "${@:2}" <"$room/input" >"$room/out" 2>"$room/err" 9>"$room/failed"
     status=$?
     IFS= read -r -d '' out <"$room/out"
     IFS= read -r -d '' err <"$room/err"
@@ -20,12 +22,13 @@ is_same() { [[ $status == "$whole_status" && $out == "$whole_out" && $err == "$w
 # Threads make another history each time.
 is_legal_run() { [[ $status == 0 && $out == *$'\nrefused '* && -z $err ]] && "$program" check <"$room/out" >"$room/verdict"; }
 
-# Whether a part of the output in front was written, and the end is a write fault. The line that says so is lost where all
-# further writes fail, and so is that of any other end.
+# Whether a part of the output in front was written, all the pieces before the one that fails, and the end is a write fault.
+# The line that says so is lost where all further writes fail, and so is that of any other end.
 is_cut() {
     local line=$'tpool: write fault\n'
     [[ -z $on ]] || line=
-    [[ $status == 4 && $out != "$whole_out" && $whole_out == "$out"* && $err == "$line" ]] ||
+    [[ $status == 4 && $out != "$whole_out" && $whole_out == "$out"* && $err == "$line" &&
+        ($PIECE == 0 || ${#out} == $((PIECE * (number - 1)))) ]] ||
         [[ $status == "$whole_status" && $out == "$whole_out" && $err != "$whole_err" && $whole_err == "$err"* ]]
 }
 
@@ -66,6 +69,7 @@ fail_commands() {
     local streams='read write short-read short-write'
     input=$(<"$here/examples/shutdown.trace")$'\n'
     fail_all 'a trace' "memory $streams" "$program" trace
+    PIECE=16 fail_all 'a trace in pieces' 'read write' "$program" trace
     input=$'c1 submit 01\n'
     fail_all 'a bad line' "memory $streams" "$program" trace
     input=$(<"$here/examples/shutdown.history")$'\n'

@@ -97,10 +97,20 @@ counted() { uniq -c | awk '{ $1 = $1; print }'; }
 longest() { takes 16777216 | "$program" trace | counted; }
 # The client comes behind the bytes where the greatest is looked for first.
 far_client() { { takes 72000 && echo 'c2 finish'; } | "$program" trace | counted; }
+# An armed wait has a slot for its callback, of which there are 8,192, and is armed anew with the same one.
+last_slot() {
+    local wait='create wait r1 x0 p0 normal short g0 q0'
+    {
+        echo 'c1 create work r1 x0 p0 normal short g0 q0'
+        yes 'c1 submit 1' | head -n 8191
+        printf 'c1 %s\n' 'create-event auto clear' "$wait" "$wait" 'set-wait 2 1 none' 'set-wait 3 1 none' 'set-wait 2 1 none' 'set-event 1' 'set-wait 2 1 none'
+    } | "$program" trace | tail -n 5
+}
 short_of_memory() { takes 16000000 | (ulimit -v 20000 && "$program" trace); }
 try 'an input that is too long' 6 '' $'tpool: input too long\n' too_long
 try 'the longest input' 0 $'65536 refused not-attached\n2031616 full 0 1\n' '' longest
 try 'a client far behind' 0 $'9000 refused not-attached\n1 ok\n' '' far_client
+try 'an armed wait in the last slot' 0 $'queued 0 0\nrefused callback-limit\nqueued 0 0\nqueued 8192 1\nrefused callback-limit\n' '' last_slot
 try 'memory is refused' 5 '' $'tpool: want of memory\n' short_of_memory
 
 # Each file is a trace, with what each call comes to behind ` -> `.

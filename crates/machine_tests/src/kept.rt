@@ -1,17 +1,15 @@
 //! Entries that are read back.
 
-ghost use Rattle.tp_base.specs.Ranges.{AreLimitsInRange, IsCallInRange};
+ghost use Rattle.tp_base.specs.Ranges.{IsCallInRange};
 
 use crate::expect::{expect_eq, expect_ok};
 use kept_book::Kept;
 use pool_book::Book;
-use recorded::{OpenFault, Recorded, program_limits};
-use std::alloc::Global;
+use recorded::{Recorded, program_limits};
 use std::process::Abort;
 use tp_base::answers::Answer;
 use tp_base::calls::Call;
 use tp_base::ids::Who;
-use tp_base::limits::Limits;
 
 // The entry at this place is of this actor, of a finish or of another call, and has this answer; `None`: there is none.
 fn check_entry(
@@ -50,23 +48,4 @@ fn entries_are_read_back(rt: HostRuntime) {
     check_entry(&rt, &kept, 1, Some((client, true, Answer::Done)));
     check_entry(&rt, &kept, 2, None);
     drop(kept);
-}
-
-// What a book of this capacity is refused with, its capacity and its number of clients; `None`: it is opened.
-fn refused(alloc: Global, limits: Limits, capacity: u32) -> Option<(u32, u32)>
-    requires { AreLimitsInRange limits }
-{
-    match Kept::<Book>::try_open(alloc, limits, capacity) {
-        Err(OpenFault::TooSmall { capacity, clients }) => Some((capacity, clients)),
-        Err(OpenFault::NoMemory) => Some((0, 0)),
-        Ok(_) => None,
-    }
-}
-
-/// A history has room for the finish of each client.
-#[test]
-fn a_capacity_is_no_less_than_the_clients(rt: HostRuntime) {
-    let limits = program_limits(3, 1);
-    expect_eq(&rt, refused(rt.alloc(), limits, 2), Some((2, 3)));
-    expect_eq(&rt, refused(rt.alloc(), limits, 3), None);
 }

@@ -18,6 +18,4 @@ mod reports;
 #[cfg(test)]
 mod sharing;
 #[cfg(test)]
-mod streams;
-#[cfg(test)]
 mod takes;

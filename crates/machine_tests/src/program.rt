@@ -7,20 +7,11 @@ use std::process::Abort;
 use std::sync::Wait;
 use std::thread::Threads;
 use tp_edge::{MemorySink, MemorySource};
-use tp_run::{Status, WordList, tp_main, tp_main_alone};
+use tp_run::{Status, WordList, tp_main};
 use worker_gate::Gate;
 
-/// A gate that stands open.
-#[derive(Drop)]
-pub struct Open;
-
-impl Gate for Open {
-    fn before(&self, _worker: u32, _callback: u64) {}
-}
-
 /// How the program ends by the words of a line, and what the sink then holds. A take from the input has 16 bytes, and a
-/// give 4. The take and the give of these numbers fail, or none where it is 0. What is for one thread is done by the program
-/// that has no others.
+/// give 4. The take and the give of these numbers fail, or none where it is 0.
 pub fn run_program<Rt: Abort + Threads + Wait + Sync, G: Gate + Sync>(
     rt: &Rt,
     alloc: Global,
@@ -36,11 +27,7 @@ pub fn run_program<Rt: Abort + Threads + Wait + Sync, G: Gate + Sync>(
     let mut source = expect_ok(rt, MemorySource::new(alloc, bytes, 16, failing));
     let failing = expect_ok(rt, vec![in alloc; failing_give]);
     let mut sink = expect_ok(rt, MemorySink::new(alloc, 10_000, 4, failing));
-    let status = if line.contains("--threads 1 ") {
-        tp_main_alone::<Book, _, _, _>(alloc, &words, &mut source, &mut sink, gate)
-    } else {
-        tp_main::<_, Book, _, _, _>(rt, alloc, &words, &mut source, &mut sink, gate)
-    };
+    let status = tp_main::<_, Book, _, _, _>(rt, alloc, &words, &mut source, &mut sink, gate);
     let held = expect_ok(rt, sink.bytes().to_vec(alloc));
     drop(words);
     drop(source);

@@ -11,15 +11,11 @@
 #[cfg(test)]
 mod checks;
 #[cfg(test)]
-mod columns;
-#[cfg(test)]
 mod drawn_scripts;
 #[cfg(test)]
 mod edge;
 #[cfg(test)]
 mod environments;
-#[cfg(test)]
-mod grammar;
 #[cfg(test)]
 mod heap;
 #[cfg(test)]

@@ -6,12 +6,11 @@ use crate::checks::{expect_eq, expect_line, expect_ok};
 use frequent_lines::{read_good_call, read_good_entry, read_rare_call, read_rare_entry};
 use std::alloc::Global;
 use std::process::Abort;
-use tp_base::answers::{Answer, Entry, Look, Outcome};
+use tp_base::answers::{Answer, Entry};
 use tp_base::calls::Call;
 use tp_base::ids::Who;
 use tp_lines::calls::read_call_line;
 use tp_lines::entries::read_entry;
-use tp_lines::print::{Lines, print_outcome};
 
 // A line of each call and of each answer: one text, which costs the check the same however long it is.
 const ENTRIES: &str = "c1 create-pool -> made 65535
@@ -155,19 +154,4 @@ fn rare_lines_are_found(rt: HostRuntime) {
         let found = read_rare_entry(line.as_bytes(), &mut entry).is_some();
         expect_eq(&rt, (line, found), (line, true));
     }
-}
-
-#[test]
-fn outcomes_are_printed(rt: HostRuntime) {
-    let mut lines = Lines::new(rt.alloc());
-    expect_ok(&rt, lines.outcome(&Outcome::Done(Answer::Ended)));
-    expect_ok(&rt, lines.outcome(&Outcome::Look(Look::Stay)));
-    expect_ok(&rt, lines.outcome(&Outcome::Full { room: 1, cost: 3 }));
-    let mut text = lines.into_text();
-    expect_ok(&rt, print_outcome(&Outcome::Look(Look::Empty), &mut text));
-    expect_eq(
-        &rt,
-        text.as_slice(),
-        "ended\nlook stay\nfull 1 3\nlook empty".as_bytes(),
-    );
 }
