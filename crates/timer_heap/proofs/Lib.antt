@@ -1,3 +1,4 @@
+pub mod Behind
 pub mod Entries
 pub mod Held
 pub mod Order

@@ -1,15 +1,18 @@
 //! The places of a heap: which key stands at each, and at which each key stands.
 
-ghost use Rattle.std.specs.Prelude.{◌≡◌, ℕ, ◌+◌, ◌-◌, ◌^◌, ◌<◌, ◌≤◌, ◌++◌, [], ◌∷◌, IfNone, IfOk, IfSome, length, slice_index};
+ghost use Rattle.std.specs.Prelude.{◌≡◌, ℕ, ◌+◌, ◌-◌, ◌^◌, ◌<◌, ◌≤◌, ◌++◌, [], ◌∷◌, IfNone, IfOk, IfSome, length, max, slice_index};
 ghost use Rattle.timer_heap.specs.Held.{exchanged, times};
 
+use crate::filled::fill_to;
 use std::alloc::{AllocError, Global};
 use std::marker::Model;
 use steps::Steps;
 
-/// Keys in places, seen as the list of those that are held, by place. No key is held twice.
+/// Keys in places, seen as the list of those that are held, by place. No key is held twice. The keys are
+/// those below the greatest that was reached.
 #[derive(Drop)]
 pub struct Places {
+    room: u32,
     held: Vec<u32>,
     // For each key its place, if it is held.
     places: Vec<Option<u32>>,
@@ -24,21 +27,29 @@ impl Model for Places {
     ghost use Rattle.std.specs.Vec.{vec_capacity};
     ghost use Rattle.timer_heap.specs.Held.{IsPlaced};
 
-    ghost view = { λ a. record { keys = length a.places.items; held = a.held.items } };
+    ghost view = { λ a. record { room = a.room; keys = length a.places.items; held = a.held.items } };
 
-    ghost invariant = { λ a. IsPlaced (vec_capacity a.held) a.held.items a.places.items };
+    ghost invariant = { λ a. IsPlaced a.room (vec_capacity a.held) (vec_capacity a.places) a.held.items a.places.items };
 }
 
 impl Places {
-    /// No keys, with the memory for all below `keys`.
+    /// No keys, with the memory for all below `room`.
     ///
     /// An `AllocError` comes where that memory can't be had.
-    pub fn open(alloc: Global, keys: u32) -> Result<Places, AllocError>
-        ensures { IfOk result (λ places. places ≡ record { keys = keys; held = [] }) }
+    pub fn open(alloc: Global, room: u32) -> Result<Places, AllocError>
+        ensures { IfOk result (λ places. places ≡ record { room = room; keys = 0; held = [] }) }
     {
-        let held = Vec::with_capacity(alloc, keys as usize)?;
-        let places = vec![in alloc; None; keys as usize]?;
-        Ok(Places { held, places })
+        let held = Vec::with_capacity(alloc, room as usize)?;
+        let places = Vec::with_capacity(alloc, room as usize)?;
+        Ok(Places { room, held, places })
+    }
+
+    /// Makes all up to this one keys, none of which is held that wasn't. There is room for them.
+    pub fn reach(&mut self, key: u32)
+        requires { key < self.old.room }
+        ensures { self.new ≡ record self.old { keys = max self.old.keys (key + 1) } }
+    {
+        fill_to(&mut self.places, key, None);
     }
 
     /// How many keys are held. There are never more than keys.
@@ -107,6 +118,7 @@ impl Places {
         requires { 0 < length self.old.held }
         ensures held { self.old.held ≡ self.new.held ++ slice_index self.old.held (length self.old.held - 1) ∷ [] }
         ensures keys { self.new.keys ≡ self.old.keys }
+        ensures room { self.new.room ≡ self.old.room }
     {
         if let Some(key) = self.held.pop() {
             self.places[key as usize] = None;

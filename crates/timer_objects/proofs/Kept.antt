@@ -9,35 +9,63 @@ use Rattle.timer_heap.specs.Dues.{Entry, Dues, entry, with_entry, without_key, H
 use Rattle.timer_heap.proofs.Entries.{all_with}
 use Rattle.timer_heap.proofs.Told.{true_or_false, free_without}
 use Rattle.timer_objects.specs.declared.Pace.{Pace}
-use Rattle.timer_objects.specs.Settings.{Timers, is_there, is_set}
+use Rattle.timer_objects.specs.Settings.{Timers, is_set}
 use Rattle.timer_objects.specs.Kept.{IsKept, pace_of, settings_of}
 use Rattle.timer_objects.proofs.Shown.{IsUnset, popped, unset_free}
 
-module _ (there : List Bool) (dues : Dues) (paces : List Pace) (kept : IsKept there dues paces) (key : ℕ) where
+module _ (capacity : ℕ) (there : List Bool) (dues : Dues) (paces : List Pace) (kept : IsKept capacity there dues paces) (key : ℕ) where
   left_alive : All (λ e. get_or there (e.key + 1) false ≡ true) (without_key key dues.entries)
   left_alive = All-filter (λ e. not (e.key == key)) (λ e. get_or there (e.key + 1) false ≡ true) dues.entries kept.alive
 
-  -- a timer isn't set any more
-  pub kept_unset : (new : Dues) → new ≡ record dues { entries = without_key key dues.entries } → IsKept there new paces
-  kept_unset new is = rw is (record { places = kept.places; paced = kept.paced; none_0 = kept.none_0; alive = left_alive; fits = kept.fits })
+  left_paced : All (λ e. e.key < length paces) (without_key key dues.entries)
+  left_paced = All-filter (λ e. not (e.key == key)) (λ e. e.key < length paces) dues.entries kept.paced
 
-  -- the timer of an object that is there is set
-  pub kept_set : (due : ℕ) (new : Dues) (now : List Pace) → get_or there (key + 1) false ≡ true → new ≡ record dues { entries = with_entry (entry key due) (without_key key dues.entries) } → length now ≡ length paces → IsKept there new now
-  kept_set due new now alive is same =
+  -- a timer isn't set any more
+  pub kept_unset : (new : Dues) → new ≡ record dues { entries = without_key key dues.entries } → IsKept capacity there new paces
+  kept_unset new is =
       rw is (record {
         places = kept.places;
-        paced = same ∙ kept.paced;
+        paced = left_paced;
+        many = kept.many;
+        reserved = kept.reserved;
+        none_0 = kept.none_0;
+        alive = left_alive;
+        fits = kept.fits;
+      })
+
+  -- there are more paces
+  pub kept_paced : (now : List Pace) → length paces ≤ length now → length now ≤ dues.keys → IsKept capacity there dues now
+  kept_paced now more few = record {
+    places = kept.places;
+    paced = λ k d lt. omega (arith, more, kept.paced k d lt);
+    many = few;
+    reserved = kept.reserved;
+    none_0 = kept.none_0;
+    alive = kept.alive;
+    fits = kept.fits;
+  }
+
+  -- the timer of an object that is there is set
+  pub kept_set : (due : ℕ) (new : Dues) (now : List Pace) → get_or there (key + 1) false ≡ true → new ≡ record dues { entries = with_entry (entry key due) (without_key key dues.entries) } → length now ≡ length paces → key < length paces → IsKept capacity there new now
+  kept_set due new now alive is same within =
+      rw is (record {
+        places = kept.places;
+        paced = all_with (λ e. e.key < length now) (entry key due) (without_key key dues.entries) (omega (arith, same, within)) (λ k d lt. omega (arith, same, left_paced k d lt));
+        many = omega (arith, same, kept.many);
+        reserved = kept.reserved;
         none_0 = kept.none_0;
         alive = all_with (λ e. get_or there (e.key + 1) false ≡ true) (entry key due) (without_key key dues.entries) alive left_alive;
         fits = kept.fits;
       })
 
   -- an object goes, and isn't set any more
-  pub kept_closed : (object : ℕ) (new : Dues) → object ≡ key + 1 → new ≡ record dues { entries = without_key key dues.entries } → IsKept (set there object false) new paces
+  pub kept_closed : (object : ℕ) (new : Dues) → object ≡ key + 1 → new ≡ record dues { entries = without_key key dues.entries } → IsKept capacity (set there object false) new paces
   kept_closed object new is without =
       rw without (record {
         places = length-set there object false ∙ kept.places;
-        paced = kept.paced;
+        paced = left_paced;
+        many = kept.many;
+        reserved = kept.reserved;
         none_0 = get_or-set_other there object 0 false false (omega arith) ∙ kept.none_0;
         alive = λ k d lt.
             let apart = free_without key dues.entries k d lt in
@@ -46,8 +74,8 @@ module _ (there : List Bool) (dues : Dues) (paces : List Pace) (kept : IsKept th
       })
 
 -- the key of an object that is there
-pub key_within : (there : List Bool) (dues : Dues) (paces : List Pace) (key : ℕ) → IsKept there dues paces → get_or there (key + 1) false ≡ true → key < dues.keys
-key_within there dues paces key kept alive =
+pub key_within : (capacity : ℕ) (there : List Bool) (dues : Dues) (paces : List Pace) (key : ℕ) → IsKept capacity there dues paces → get_or there (key + 1) false ≡ true → key < dues.keys
+key_within capacity there dues paces key kept alive =
     ⊎_elim
     (λ (within : key < dues.keys). within)
     (λ (past : dues.keys ≤ key).
@@ -56,47 +84,53 @@ key_within there dues paces key kept alive =
     absurd cc)
     (cases_lt key dues.keys)
 
+-- what is so of each entry is so of those behind the first
+left_first : (P : Entry → Type 0) (now : ℕ) (es : List Entry) → All P es → All P (after_first now es)
+left_first P now [] all = all
+left_first P now (x ∷ xs) all =
+    ⊎_elim
+    (λ (due : is_due now x ≡ true). rw due (All-tail P x xs all))
+    (λ (later : is_due now x ≡ false). rw later all)
+    (true_or_false (is_due now x))
+
 -- the first entry goes
-pub kept_popped : (there : List Bool) (dues : Dues) (paces : List Pace) (now : ℕ) (new : Dues) → IsKept there dues paces → new ≡ record dues { entries = after_first now dues.entries } → IsKept there new paces
-kept_popped there dues paces now new kept is =
+pub kept_popped : (capacity : ℕ) (there : List Bool) (dues : Dues) (paces : List Pace) (now : ℕ) (new : Dues) → IsKept capacity there dues paces → new ≡ record dues { entries = after_first now dues.entries } → IsKept capacity there new paces
+kept_popped capacity there dues paces now new kept is =
     rw is (record {
       places = kept.places;
-      paced = kept.paced;
+      paced = left_first (λ e. e.key < length paces) now dues.entries kept.paced;
+      many = kept.many;
+      reserved = kept.reserved;
       none_0 = kept.none_0;
-      alive = left dues.entries kept.alive;
+      alive = left_first (λ e. get_or there (e.key + 1) false ≡ true) now dues.entries kept.alive;
       fits = kept.fits;
     })
-  where
-    left : (es : List Entry) → All (λ e. get_or there (e.key + 1) false ≡ true) es → All (λ e. get_or there (e.key + 1) false ≡ true) (after_first now es)
-    left [] alive = alive
-    left (x ∷ xs) alive =
-        ⊎_elim
-        (λ (due : is_due now x ≡ true). rw due (All-tail (λ e. get_or there (e.key + 1) false ≡ true) x xs alive))
-        (λ (later : is_due now x ≡ false). rw later alive)
-        (true_or_false (is_due now x))
 
 -- the first timer, where it is due, has an object that is there
-module _ (there : List Bool) (dues : Dues) (paces : List Pace) (now key due : ℕ) (kept : IsKept there dues paces) (distinct : HasDistinctKeys dues.entries) (found : first_due now dues.entries ≡ Some (due, key)) where
-  pub first_alive : get_or there (key + 1) false ≡ true
-  first_alive =
+module _ (capacity : ℕ) (there : List Bool) (dues : Dues) (paces : List Pace) (now key due : ℕ) (kept : IsKept capacity there dues paces) (distinct : HasDistinctKeys dues.entries) (found : first_due now dues.entries ≡ Some (due, key)) where
+  first_is : (P : Entry → Type 0) → All P dues.entries → P (entry key due)
+  first_is P all =
       let is = popped now key due dues.entries distinct found in
-      let P : Entry → Type 0 = λ e. get_or there (e.key + 1) false ≡ true in
-      All-head P (entry key due) (after_first now dues.entries) (All-same P (entry key due ∷ after_first now dues.entries) dues.entries (sym is.first) kept.alive)
+      All-head P (entry key due) (after_first now dues.entries) (All-same P (entry key due ∷ after_first now dues.entries) dues.entries (sym is.first) all)
+
+  pub first_alive : get_or there (key + 1) false ≡ true
+  first_alive = first_is (λ e. get_or there (e.key + 1) false ≡ true) kept.alive
+
+  pub first_paced : key < length paces
+  first_paced = first_is (λ e. e.key < length paces) kept.paced
 
   pub first_within : key < dues.keys
-  first_within = key_within there dues paces key kept first_alive
+  first_within = key_within capacity there dues paces key kept first_alive
 
   pub first_pace : (pace : Pace) → pace ≡ get_or paces key pace → pace_of paces key ≡ pace
-  first_pace pace here = get_or_default paces key _ pace (omega (arith, first_within, kept.paced)) ∙ sym here
+  first_pace pace here = get_or_default paces key _ pace first_paced ∙ sym here
 
--- a timer whose object is there, and which isn't set, can be set
-pub can_begin : (there : List Bool) (dues : Dues) (paces : List Pace) (old : Timers) (key : ℕ) (setting : TimerSetting) → IsKept there dues paces
+-- a timer whose object is there, and which isn't set, can be set once there is a pace for it
+pub can_begin : (there : List Bool) (dues : Dues) (paces : List Pace) (old : Timers) (key : ℕ) (setting : TimerSetting) → key < length paces
     → ◌≡◌ {A = Timers} (record { limit = dues.keys; there = there; settings = settings_of paces dues.entries }) old → setting.object.0 ≡ key + 1
-    → is_there old setting.object.0 ≡ true → is_set setting.object.0 old.settings ≡ false → IsUnset paces key setting dues.entries
-can_begin there dues paces old key setting kept shown named alive unset = record {
+    → is_set setting.object.0 old.settings ≡ false → IsUnset paces key setting dues.entries
+can_begin there dues paces old key setting within shown named unset = record {
   named = named;
-  within =
-      let here : get_or there (key + 1) false ≡ true = rw (← shown, named) at alive in
-      omega (arith, kept.paced, key_within there dues paces key kept here);
+  within = within;
   free = unset_free paces key setting.object.0 dues.entries named (rw (← shown) at unset);
 }

@@ -116,6 +116,11 @@ none_of : (o : Option ℕ) → is_some o ≡ false → o ≡ None
 none_of None none = refl
 none_of (Some n) none = cc
 
+-- the settings are told by the paces that are found
+pub shown_filled : (paces new : List Pace) → ((key : ℕ) → pace_of new key ≡ pace_of paces key) → (es : List Entry) → settings_of new es ≡ settings_of paces es
+shown_filled paces new same [] = refl
+shown_filled paces new same (x ∷ xs) = rw (same x.key, shown_filled paces new same xs) refl
+
 -- a timer that isn't set has no entry
 pub unset_free : (paces : List Pace) (key object : ℕ) (es : List Entry) → object ≡ key + 1 → is_set object (settings_of paces es) ≡ false → IsFree key es
 unset_free paces key object es is unset = untold_free key es (none_of _ (shown_set paces key object es is ∙ unset))

@@ -1,5 +1,5 @@
 -- What timer objects keep between calls.
-use Rattle.std.specs.Prelude.{◌≡◌, ℕ, ◌+◌, ◌<◌, ◌^◌, Bool, true, false, List, All, length, map, slice_index_or}
+use Rattle.std.specs.Prelude.{◌≡◌, ℕ, ◌+◌, ◌≤◌, ◌<◌, ◌^◌, Bool, true, false, List, All, length, map, slice_index_or}
 use Rattle.tp_base.specs.declared.rows.TimerSetting.{TimerSetting}
 use Rattle.timer_heap.specs.Dues.{Entry, Dues}
 use Rattle.timer_objects.specs.declared.Pace.{Pace}
@@ -19,10 +19,13 @@ setting_of paces e = record {
 abbrev pub settings_of : List Pace → List Entry → List TimerSetting
 settings_of paces entries = map (setting_of paces) entries
 
--- there is a place for each number, no object 0, a key for each object, and only objects have due times
-pub record IsKept (there : List Bool) (dues : Dues) (paces : List Pace) : Type 0 where
+-- there is a place for each number, no object 0, a key for each object, only objects have due times, each of these has a
+-- pace, and there is memory for the paces of all
+pub record IsKept (capacity : ℕ) (there : List Bool) (dues : Dues) (paces : List Pace) : Type 0 where
   pub places : length there ≡ dues.keys + 1
-  pub paced : length paces ≡ dues.keys
+  pub paced : All (λ e. e.key < length paces) dues.entries
+  pub many : length paces ≤ dues.keys
+  pub reserved : dues.keys ≤ capacity
   pub none_0 : slice_index_or there 0 false ≡ false
   pub alive : All (λ e. slice_index_or there (e.key + 1) false ≡ true) dues.entries
   pub fits : dues.keys < 2 ^ 32

@@ -39,7 +39,7 @@ pub use moments::{moment_of, next_due};
 use std::alloc::{AllocError, Global};
 use std::marker::Model;
 use steps::Steps;
-use timer_heap::DueHeap;
+use timer_heap::{DueHeap, fill_to};
 use tp_base::ids::ObjectId;
 use tp_base::rows::TimerSetting;
 
@@ -50,7 +50,7 @@ pub struct TimerObjects {
     there: Vec<bool>,
     // The due time of each timer that is set, under the key of its object.
     dues: DueHeap,
-    // What is to be after that, at the place of the key.
+    // What is to be after that, at the place of the key, for each that was reached.
     paces: Vec<Pace>,
 }
 
@@ -60,6 +60,12 @@ struct Pace {
     period: u32,
     window: u32,
 }
+
+// That of a timer that was never set.
+const NO_PACE: Pace = Pace {
+    period: 0,
+    window: 0,
+};
 
 /// What `TimerObjects::set` tells: whether the timer was set before, and whether it expires at once.
 #[derive(Clone, Copy)]
@@ -73,11 +79,12 @@ impl Model for TimerObjects {
 
     ghost Value = { Timers };
 
+    ghost use Rattle.std.specs.Vec.{vec_capacity};
     ghost use Rattle.timer_objects.specs.Kept.{IsKept, settings_of};
 
     ghost view = { λ a. record { limit = a.dues.keys; there = a.there.items; settings = settings_of a.paces.items a.dues.entries } };
 
-    ghost invariant = { λ a. IsKept a.there.items a.dues a.paces.items };
+    ghost invariant = { λ a. IsKept (vec_capacity a.paces) a.there.items a.dues a.paces.items };
 }
 
 // The key of an object: its number, counted from 0.
@@ -95,14 +102,10 @@ impl TimerObjects {
     pub fn open(alloc: Global, limit: u32) -> Result<TimerObjects, AllocError>
         ensures { IfOk result (λ timers. timers ≡ record { limit = limit; there = replicate (limit + 1) false; settings = [] }) }
     {
-        let none = Pace {
-            period: 0,
-            window: 0,
-        };
         Ok(TimerObjects {
             there: vec![in alloc; false; limit as usize + 1]?,
             dues: DueHeap::open(alloc, limit)?,
-            paces: vec![in alloc; none; limit as usize]?,
+            paces: Vec::with_capacity(alloc, limit as usize)?,
         })
     }
 
@@ -213,6 +216,7 @@ impl TimerObjects {
             window,
         } = setting;
         let key = key_of(object);
+        fill_to(&mut self.paces, key, NO_PACE);
         self.paces[key as usize] = Pace { period, window };
         let fires = due <= now;
         if !fires {

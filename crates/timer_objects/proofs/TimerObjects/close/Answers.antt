@@ -6,7 +6,7 @@ use Rattle.timer_objects.proofs.Shown.{shown_without, absent_without}
 use Rattle.timer_objects.proofs.TimerObjects.close.Goals as goal
 
 pub invariant_of-self : goal.invariant_of-self
-invariant_of-self c = kept_closed _ _ _ c.self.invariant c.key_of.result _ _ c.key_of.ensures c.unset.ensures.after
+invariant_of-self c = kept_closed _ _ _ _ c.self.invariant c.key_of.result _ _ c.key_of.ensures c.unset.ensures.after
 
 -- where there is no object, nothing changes
 pub returns-then-not-is_there-clause-after : goal.returns-then-not-is_there-clause-after

@@ -4,7 +4,7 @@ use Rattle.timer_objects.proofs.Shown.{shown_set, shown_without}
 use Rattle.timer_objects.proofs.TimerObjects.unset.Goals as goal
 
 pub invariant_of-self : goal.invariant_of-self
-invariant_of-self c = kept_unset _ _ _ c.self.invariant c.key_of.result _ c.unset.ensures.after
+invariant_of-self c = kept_unset _ _ _ _ c.self.invariant c.key_of.result _ c.unset.ensures.after
 
 pub returns-clause-was : goal.returns-clause-was
 returns-clause-was c =

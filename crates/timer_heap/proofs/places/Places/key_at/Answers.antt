@@ -7,4 +7,4 @@ pub returns-clause-keyed : goal.returns-clause-keyed
 returns-clause-keyed c =
     let within : c.args.place < length c.self.inside.held.items = search rules in
     let is : c.index.result.now ≡ get_or c.self.inside.held.items c.args.place 0 = c.index.ensures ∙ get_or_default_zero _ _ _ within in
-    rw (← c.self.view_is, is) (key_in_range _ _ _ c.self.invariant c.args.place within)
+    rw (← c.self.view_is, is) (key_in_range _ _ _ _ _ c.self.invariant c.args.place within)

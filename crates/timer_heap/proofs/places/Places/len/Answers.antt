@@ -3,7 +3,7 @@ use Rattle.timer_heap.proofs.Held.{limited}
 use Rattle.timer_heap.proofs.places.Places.len.Goals as goal
 
 pub overflow_cast-result : goal.overflow_cast-result
-overflow_cast-result c = omega (arith, c.len.ensures, limited _ _ _ c.self.invariant, c.self.invariant.fits)
+overflow_cast-result c = omega (arith, c.len.ensures, limited _ _ _ _ _ c.self.invariant, c.self.invariant.made, c.self.invariant.fits)
 
 pub returns-clause-limited : goal.returns-clause-limited
-returns-clause-limited c = rw (← c.self.view_is) (limited _ _ _ c.self.invariant)
+returns-clause-limited c = rw (← c.self.view_is) (limited _ _ _ _ _ c.self.invariant)
