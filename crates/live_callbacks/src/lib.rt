@@ -381,9 +381,9 @@ impl LiveCallbacks {
 
     /// A callback moves on: `after` comes in the place of `before`, which is its row as it stands.
     ///
-    /// It stays of its number, object, pool, group and priority, and persistent if it was. It leaves the lists that its status is no longer
-    /// for, and comes to the queue of its pool where it is pending now. Outstanding, expected or operating it is
-    /// afterwards only if it was so before.
+    /// It stays of its number, object, pool, group and priority, and persistent if it was. It leaves the lists that
+    /// its status is no longer for, and comes to the queue of its pool where it is pending now. Outstanding,
+    /// expected or operating it is afterwards only if it was so before.
     ///
     /// It counts the nodes that it reads: two at most where the callback is neither pending then nor has its
     /// operation under way, however many others there are.

@@ -39,6 +39,7 @@ pub fn has_spare(world: &LiveWorld, pool: PoolId) -> bool
 }
 
 // Whether callbacks wait that a further worker may take, no attached worker is free, and the pool may have another.
+#[inline(always)]
 fn is_in_need(world: &LiveWorld, pool: PoolId) -> bool
     ensures { result ≡ is_in_need world.now.world pool.0 }
 {

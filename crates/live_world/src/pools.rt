@@ -84,6 +84,7 @@ impl LiveWorld {
     ghost use Rattle.live_world.specs.Tally.{tally_of};
 
     /// What is counted of a pool, whether it was made or not.
+    #[inline(always)]
     pub fn tally(&self, pool: PoolId) -> Tally
         ensures { result ≡ tally_of self.now.world pool.0 }
     {

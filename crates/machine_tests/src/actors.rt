@@ -127,7 +127,7 @@ fn expect_take(rt: &impl Abort, alloc: Global, worker: u32, callback: u32, writt
 fn workers_meet(rt: &(impl Abort + Threads + Wait + Sync), alloc: Global) -> bool {
     let gate = Meeting::new(rt, alloc);
     let line = "run --threads 4 --workers 2";
-    let (status, written) = run_program(rt, alloc, line, EIGHT_CALLBACKS, 0, 0, &gate);
+    let (status, written) = run_program(rt, alloc, line, EIGHT_CALLBACKS, &gate);
     expect_eq(rt, status, Status::Fine);
     expect_takes(rt, alloc, &gate, expect_ok(rt, str::from_utf8(&written)));
     gate.met.load(Ordering::SeqCst)

@@ -11,22 +11,18 @@ use tp_run::{Status, WordList, tp_main};
 use worker_gate::Gate;
 
 /// How the program ends by the words of a line, and what the sink then holds. A take from the input has 16 bytes, and a
-/// give 4. The take and the give of these numbers fail, or none where it is 0.
+/// give 4.
 pub fn run_program<Rt: Abort + Threads + Wait + Sync, G: Gate + Sync>(
     rt: &Rt,
     alloc: Global,
     line: &str,
     input: &str,
-    failing_take: u32,
-    failing_give: u32,
     gate: &G,
 ) -> (Status, Vec<u8>) {
     let words = words_of(rt, alloc, line);
     let bytes = expect_ok(rt, input.as_bytes().to_vec(alloc));
-    let failing = expect_ok(rt, vec![in alloc; failing_take]);
-    let mut source = expect_ok(rt, MemorySource::new(alloc, bytes, 16, failing));
-    let failing = expect_ok(rt, vec![in alloc; failing_give]);
-    let mut sink = expect_ok(rt, MemorySink::new(alloc, 10_000, 4, failing));
+    let mut source = expect_ok(rt, MemorySource::new(alloc, bytes, 16, Vec::new(alloc)));
+    let mut sink = expect_ok(rt, MemorySink::new(alloc, 10_000, 4, Vec::new(alloc)));
     let status = tp_main::<_, Book, _, _, _>(rt, alloc, &words, &mut source, &mut sink, gate);
     let held = expect_ok(rt, sink.bytes().to_vec(alloc));
     drop(words);

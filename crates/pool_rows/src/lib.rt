@@ -306,6 +306,7 @@ impl PoolRows {
     }
 
     // Writes the row of a worker anew, and counts it in the pool that it names.
+    #[inline(always)]
     fn put(&mut self, number: u32, worker: WorkerRow)
         requires there { IsSome (worker_of number self.old) }
         requires pool_made { IfSome worker.pool (λ pool. IsMade pool.0 self.old) }

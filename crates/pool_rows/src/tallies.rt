@@ -141,6 +141,7 @@ fn join(entries: &mut [PoolEntry], worker: WorkerRow)
 
 // Writes the row of a worker anew, and counts it in the pool that it names and no more in the one
 // that it named before. Tells how many workers run a callback then, where so many did before.
+#[inline(always)]
 pub fn write_worker(
     entries: &mut [PoolEntry],
     workers: &mut [WorkerRow],

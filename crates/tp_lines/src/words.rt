@@ -402,6 +402,7 @@ struct Known {
 
 // A reference to what is known in each arm, and one equation of all of it, are proved several times faster than texts
 // and fields in matches of their own. Where the word is known, so is the size of its text then.
+#[inline(always)]
 fn known_of(word: Word) -> &'static Known
     ensures { let known : Shape = record { table = result.now.table; text = result.now.text.now; fields = result.now.fields.now } in known ≡ shape_of word }
 {
