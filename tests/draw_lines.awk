@@ -1,5 +1,6 @@
 # Draws texts from the number `seed`, `count` for each line of the kind `of`, with `@` behind each: up to eight such lines,
-# of answers each behind a drawn call, one more with a change in it, and `.`, so that no text is without a fault.
+# of answers each behind a drawn call, and with a moment in front where they are `timed`; one more with a change in it; and
+# `.`, so that no text is without a fault.
 
 END {
     state = seed % 2147483646 + 1
@@ -19,7 +20,7 @@ function draw_text(which, whole) {
 }
 
 function draw_line(which,    drawn) {
-    drawn = draw_word("WHO") " "
+    drawn = (timed ? draw_number("TICKS") " " : "") draw_word("WHO") " "
     if (of == "answer") drawn = drawn draw_words(calls[1 + draw(call_count)]) " -> "
     return drawn draw_words(which)
 }

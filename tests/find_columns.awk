@@ -1,5 +1,5 @@
 # Finds the first fault of each text, behind which stands `@`: what the program tells of it. The lines of a text are of the
-# kind `of`, and `before` lines stand in front of them. The fault is at the first byte up to which none of the lines that
+# kind `of`, with a moment in front of each where they are `timed`, and `before` lines stand in front of them. The fault is at the first byte up to which none of the lines that
 # may stand there goes along.
 #
 # How far something goes is the place behind it, or with a minus the place of the first byte that doesn't go along.
@@ -18,7 +18,9 @@ function column_of(said,    reach) {
 }
 
 function along_line(    reach) {
-    reach = then_kind(then_text(along_word("WHO", 1), " "), "call")
+    reach = timed ? then_text(along_number("TICKS", 1), " ") : 1
+    if (reach > 0) reach = along_word("WHO", reach)
+    reach = then_kind(then_text(reach, " "), "call")
     if (of == "call") return reach
     reach = then_kind(then_text(reach, " -> "), "answer")
     return further(reach, along_text("end " row - 1, 1))

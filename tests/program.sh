@@ -184,6 +184,28 @@ closing+=('c1 close-members 1 cancel y9 -> closing 1 0 1' 'c1 end -> stalled' 'c
 verdict 'a close that stalls: room for two' 'legal 11' 1 1 "${closing[@]}"
 verdict 'a close that stalls: room for no third' 'not legal at 12: full 0 1' 1 1 "${closing[@]}" 'c1 submit 1 -> refused released'
 
+# timed NAME VERDICT OBJECTS LINE..: the same of lines with moments, on a machine of so many objects.
+timed() {
+    local name=$1 wanted=$2 objects=$3
+    shift 3
+    input=$(printf '%s\n' "history 2 clients 1 workers 4 events 65536 objects $objects" "$@" "end $#")$'\n'
+    local status=7
+    [[ $wanted != legal* ]] || status=0
+    try "$name" "$status" "$wanted"$'\n' '' "$program" check
+}
+advanced='5 c1 advance 5 -> advanced 5 0 0'
+timed 'moments' 'legal 4' 65535 '0 c1 create-pool -> made 1' "$advanced" '5 c1 advance 0 -> advanced 5 0 0' '5 c1 finish -> ok'
+timed 'a moment before that of the line above' 'not legal at 2: moment 5' 65535 "$advanced" '0 c1 finish -> ok'
+timed 'a moment of a later advance' 'not legal at 1: moment 0' 65535 '5 c1 create-pool -> made 1' "$advanced"
+timed 'the moment before an advance' 'not legal at 1: moment 5' 65535 "0 ${advanced#5 }"
+timed 'a wrong answer with a wrong moment' 'not legal at 2: made 1' 65535 "$advanced" '9 c1 create-pool -> made 2'
+timed 'a wrong answer of an advance' 'not legal at 1: advanced 5 0 0' 65535 '6 c1 advance 5 -> advanced 6 0 0'
+end=9223372036854775807
+timed 'the last moment' 'legal 2' 65535 "$end c1 advance $end -> advanced $end 0 0" "$end c1 advance 1 -> refused clock-end"
+mapfile -t five < <(for number in 1 2 3 4 5; do echo "0 c1 ${create/made 1/made $number}"; done)
+timed 'five objects of five' 'legal 6' 5 "${five[@]}" "0 c1 ${create/made 1/refused object-limit}"
+timed 'five objects of six' 'not legal at 6: made 6' 6 "${five[@]}" "0 c1 ${create/made 1/refused object-limit}"
+
 input=$'history 1 clients 0 workers 1 events 16\nend 0\nand more'
 try 'what stands behind the end line is ignored' 0 $'legal 0\n' '' "$program" check
 
@@ -203,7 +225,7 @@ fault trace 2 6 $'w1 take\nw1 tale\nw1 tale\n'
 fault trace 2 1 $'w1 take\n\n'
 fault trace 2 7 $'c1 create-pool\nc1 finsh\n'
 fault check 1 1 ''
-fault check 1 9 'history 2 clients 1'
+fault check 1 9 'history 3 clients 1'
 fault check 1 20 $'history 1 clients 17 workers 1 events 16\n'
 fault check 1 29 $'history 1 clients 1 workers 0 events 16\n'
 fault check 1 40 $'history 1 clients 1 workers 4 events 15\n'
@@ -213,6 +235,19 @@ fault check 1 40 "$first_line"
 fault check 2 1 "$first_line"$'\n'
 fault check 2 6 "$first_line"$'\nend 01\n'
 fault check 2 6 "$first_line"$'\nend 0'
+fault check 2 1 "$first_line"$'\n0 c1 finish -> ok\n'
+fault check 1 40 "$first_line objects 5"$'\n'
+first_line=${first_line/1/2}
+fault check 1 40 "$first_line"$'\n'
+fault check 1 49 "$first_line objects 0"$'\n'
+fault check 1 53 "$first_line objects 65536"$'\n'
+first_line+=' objects 5'
+fault check 2 1 "$first_line"$'\nc1 finish -> ok\n'
+fault check 2 2 "$first_line"$'\n00 c1 finish -> ok\n'
+fault check 2 19 "$first_line"$'\n9223372036854775808 c1 finish -> ok\n'
+fault check 2 3 "$first_line"$'\n0 end 0\n'
+fault check 3 1 "$first_line"$'\n0 c1 finish -> ok\nc1 finish -> ok\n'
+fault check 3 3 "$first_line"$'\n0 c1 finish -> ok\n0  c1 finish -> ok\n'
 fault check 2 16 "$first_line"$'\nc1 finish -> ok \n'
 fault check 3 19 "$first_line"$'\nc1 '"$create"$'\nc1 submit 1 -> que'
 # A fault further down comes before an entry with a wrong answer.

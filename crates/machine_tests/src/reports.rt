@@ -110,7 +110,7 @@ end 9
 fn legal_len(verdict: Verdict) -> Option<u32> {
     match verdict {
         Verdict::Legal { len } => Some(len),
-        Verdict::NotLegal { .. } => None,
+        Verdict::NotLegal { .. } | Verdict::WrongMoment { .. } => None,
     }
 }
 

@@ -12,8 +12,8 @@ use Rattle.line_grammar.proofs.Readings.{part_renamed, read_renamed, stuck_renam
 use Rattle.tp_report.specs.Readings.{Keyed}
 
 -- one word is a part
-word_part : (separator : ℕ) (word : List ℕ) → IsPart separator (Word {V = ℕ} 0 word)
-word_part separator word = record {
+pub word_part : {V : Type 0} (meaning : V) (separator : ℕ) (word : List ℕ) → IsPart separator (Word meaning word)
+word_part meaning separator word = record {
   unique = λ v w text a b. a.means ∙ sym b.means;
   apart = λ v w text more a b. omega (arith, ap length a.split, ap length b.split, length-append text (separator ∷ more));
 }
@@ -60,23 +60,23 @@ module _ (word : List ℕ) (least most : ℕ) (room : least ≤ most) (bound : m
   pub keyed_stuck_word : (text : List ℕ) (k : ℕ) → IsStuck (Word {V = ℕ} 0 word) text k → IsStuck (Keyed word least most) text k
   keyed_stuck_word text k stuck =
       stuck_renamed Parts (Keyed word least most) keyed_any text k to_any
-      (pairs_stuck_first 32 (Word {V = ℕ} 0 word) Behind (word_part 32 word) behind_tail text k stuck)
+      (pairs_stuck_first 32 (Word {V = ℕ} 0 word) Behind (word_part 0 32 word) behind_tail text k stuck)
 
   pub keyed_stuck : (text : List ℕ) (before n : ℕ) → IsReadTo (Word {V = ℕ} 0 word) text before n → (rest : List ℕ) → rest ≡ drop n text
       → (k : ℕ) → IsStuck (Led 32 (Numbers least most)) rest k → IsStuck (Keyed word least most) text (n + k)
   keyed_stuck text before n first rest e k stuck =
       stuck_renamed Parts (Keyed word least most) keyed_any text (n + k) to_any
-      (pairs_stuck_second 32 (Word {V = ℕ} 0 word) Behind (word_part 32 word) behind_tail text before n first k (subst (λ l. IsStuck (Led 32 (Numbers least most)) l k) e stuck))
+      (pairs_stuck_second 32 (Word {V = ℕ} 0 word) Behind (word_part 0 32 word) behind_tail text before n first k (subst (λ l. IsStuck (Led 32 (Numbers least most)) l k) e stuck))
 
   pub keyed_read : (text : List ℕ) (before n : ℕ) → IsReadTo (Word {V = ℕ} 0 word) text before n → (rest : List ℕ) → rest ≡ drop n text
       → (value m : ℕ) → IsReadTo (Led 32 (Numbers least most)) rest value m → IsReadTo (Keyed word least most) text value (n + m)
   keyed_read text before n first rest e value m second =
       read_renamed Parts (Keyed word least most) keyed_any text (before, value) value (n + m) (keyed_to (before, value))
-      (pairs_read 32 (Word {V = ℕ} 0 word) Behind (word_part 32 word) behind_tail text before n first value m (subst (λ l. IsReadTo (Led 32 (Numbers least most)) l value m) e second))
+      (pairs_read 32 (Word {V = ℕ} 0 word) Behind (word_part 0 32 word) behind_tail text before n first value m (subst (λ l. IsReadTo (Led 32 (Numbers least most)) l value m) e second))
 
   pub keyed_part : IsPart 32 (Keyed word least most)
   keyed_part = part_renamed 32 Parts (Keyed word least most) (λ p. p.1) keyed_back
-      (pairs_part 32 (Word {V = ℕ} 0 word) Behind (word_part 32 word) behind_tail behind_part)
+      (pairs_part 32 (Word {V = ℕ} 0 word) Behind (word_part 0 32 word) behind_tail behind_part)
 
   pub keyed_tail : (more : List ℕ) → word ≡ 32 ∷ more → IsTail 32 (Keyed word least most)
   keyed_tail more e = record {

@@ -9,6 +9,7 @@ pub mod HeaderFacts
 pub mod Judging
 pub mod Keeping
 pub mod Keys
+pub mod LineFacts
 pub mod NoneLost
 pub mod Places
 pub mod SoFar

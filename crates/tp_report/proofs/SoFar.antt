@@ -1,152 +1,152 @@
--- How far the entries of a history have been read.
+-- How far the lines of a history have been read.
 use Rattle.std.proofs.Common.{◌≡◌, ℕ, suc, ◌+◌, ◌<◌, ◌≤◌, ◌^◌, List, [], ◌∷◌, ◌++◌, length, take, drop, refl, sym, ap, ◌∙◌, subst, arith, zero-add, add-zero}
 use Rattle.std.specs.Prelude.{All, map, None, Some, Result, Ok, Err, IfOk, IfErr}
 use Rattle.std.proofs.lemmas.List.{append_assoc, append-nil, length-append, length-map, take-append-drop, length-take-le}
-use Rattle.std.proofs.lemmas.List.Elements.{All-push, All-head, All-tail}
+use Rattle.std.proofs.lemmas.List.Elements.{All-nil, All-push, All-head, All-tail}
 use Rattle.line_grammar.specs.Language.{IsReadTo, IsStuck}
 use Rattle.line_grammar.specs.Parts.{IsPart}
 use Rattle.line_grammar.specs.Traces.{trace_text}
-use Rattle.tp_base.specs.declared.answers.Entry.{Entry}
-use Rattle.tp_lines.specs.Answers.{IsEntryLine, line_of_entry}
+use Rattle.tp_report.specs.declared.headers.Format.{Format}
 use Rattle.tp_report.specs.declared.headers.Header.{Header}
+use Rattle.tp_report.specs.declared.lines.Line.{Line}
 use Rattle.tp_report.specs.declared.faults.TextFault.{TextFault}
 use Rattle.tp_report.specs.declared.faults.TextFault.TheVariants.{NoMemory, At}
 use Rattle.tp_report.specs.declared.verdict.Verdict.{Verdict}
-use Rattle.tp_report.specs.declared.verdict.Verdict.TheVariants.{Legal, NotLegal}
+use Rattle.tp_report.specs.declared.verdict.Verdict.TheVariants.{Legal, NotLegal, WrongMoment}
 use Rattle.recorded.specs.Recordings.{Recording}
-use Rattle.tp_report.specs.Histories.{HasHeaderLine, HasLine, HeaderLines, IsHistory, IsHistoryFault, NextLines, end_line, header_line}
+use Rattle.tp_report.specs.Histories.{HasHeaderLine, HasLine, HeaderLines, IsHistory, IsHistoryFault, IsLine, NextLines, end_line, entries_of, header_line, line_of}
 use Rattle.tp_report.specs.Readings.{Ended, IsNext}
 use Rattle.tp_report.specs.declared.lines.Next.TheVariants.{Another, End, Fault}
 use Rattle.tp_base.specs.declared.limits.Limits.{Limits}
 use Rattle.tp_model.specs.Laws.{KeepsLaws}
 use Rattle.tp_model.proofs.Laws.{keeps_laws}
 use Rattle.tp_report.specs.Faults.{IsOrNoMemory, IsPlace}
-use Rattle.tp_report.specs.Judging.{AreEntries, AreRest, IsEntriesFault, IsJudgedTo, IsSameMachine, IsVerdictBehind, entries_text, len_told}
+use Rattle.tp_report.specs.Judging.{AreLines, AreRest, IsJudgedTo, IsLinesFault, IsSameMachine, IsVerdictBehind, len_told, lines_text}
 use Rattle.tp_report.specs.Verdicts.{IfLegal, IsJudged, IsVerdict, limits_of}
 use Rattle.tp_report.proofs.EndedFacts.{read_first, stuck_first, reaches_line, absent_line}
 use Rattle.tp_report.proofs.Places.{header_part, next_part}
 
-pub entries_text-append : (entries more : List Entry) → entries_text (entries ++ more) ≡ entries_text entries ++ entries_text more
-entries_text-append [] more = refl
-entries_text-append (entry ∷ entries) more =
-    ap (λ t. line_of_entry entry ++ 10 ∷ t) (entries_text-append entries more)
-    ∙ sym (append_assoc (line_of_entry entry) (10 ∷ entries_text entries) (entries_text more))
+pub lines_text-append : (lines more : List Line) → lines_text (lines ++ more) ≡ lines_text lines ++ lines_text more
+lines_text-append [] more = refl
+lines_text-append (added ∷ lines) more =
+    ap (λ t. line_of added ++ 10 ∷ t) (lines_text-append lines more)
+    ∙ sym (append_assoc (line_of added) (10 ∷ lines_text lines) (lines_text more))
 
--- these entries were read, and this is left; and a history's entries begin with them
-pub record IsReadBehind (events : ℕ) (text : List ℕ) (entries : List Entry) (rest : List ℕ) : Type 0 where
-  pub have_lines : All HasLine entries
-  pub few : length entries ≤ events
-  pub split : text ≡ entries_text entries ++ rest
-  pub only : (all : List Entry) → AreRest events 0 text all → (tail : List Entry) × (all ≡ entries ++ tail) × AreRest events (length entries) rest tail
+-- these lines were read, and this is left; and a history's lines begin with them
+pub record IsReadBehind (header : Header) (text : List ℕ) (lines : List Line) (rest : List ℕ) : Type 0 where
+  pub have_lines : All (HasLine header.format) lines
+  pub few : length lines ≤ header.events
+  pub split : text ≡ lines_text lines ++ rest
+  pub only : (all : List Line) → AreRest header 0 text all → (tail : List Line) × (all ≡ lines ++ tail) × AreRest header (length lines) rest tail
 
 bound_of : (events len : ℕ) → events ≤ 131072 → len ≤ events → len < 2 ^ 64
 bound_of events len most few = omega arith
 
--- what an entry's line is
-line_is : (entry : Entry) (line : List ℕ) → IsEntryLine entry line → HasLine entry
-line_is entry line h = subst (λ l. IsEntryLine entry l) h.split h
+-- what a line's text is
+line_is : (format : Format) (line : Line) (text : List ℕ) → IsLine format line text → HasLine format line
+line_is format line text h = subst (λ l. IsLine format line l) h.split h
 
-module _ (events : ℕ) (text : List ℕ) (entries : List Entry) (rest : List ℕ) (r : IsReadBehind events text entries rest) (most : events ≤ 131072) where
+module _ (header : Header) (text : List ℕ) (lines : List Line) (rest : List ℕ) (r : IsReadBehind header text lines rest) (most : header.events ≤ 131072) where
   -- the first line of what follows, from what is left
-  first_entry : (m : Entry) (tail : List Entry) → AreRest events (length entries) rest (m ∷ tail) → NextLines events (length entries) (Some m) (line_of_entry m)
-  first_entry m tail a = (omega (arith, a.few), All-head HasLine m tail a.have_lines)
+  first_entry : (m : Line) (tail : List Line) → AreRest header (length lines) rest (m ∷ tail) → NextLines header (length lines) (Some m) (line_of m)
+  first_entry m tail a = (omega (arith, a.few), All-head (HasLine header.format) m tail a.have_lines)
 
-  one_more : (m : Entry) (tail : List Entry) (a : AreRest events (length entries) rest (m ∷ tail)) →
-      rest ≡ line_of_entry m ++ 10 ∷ (entries_text tail ++ (end_line (length entries + suc (length tail)) ++ 10 ∷ a.rest))
-  one_more m tail a = a.split ∙ append_assoc (line_of_entry m) (10 ∷ entries_text tail) (end_line (length entries + suc (length tail)) ++ 10 ∷ a.rest)
+  one_more : (m : Line) (tail : List Line) (a : AreRest header (length lines) rest (m ∷ tail)) →
+      rest ≡ line_of m ++ 10 ∷ (lines_text tail ++ (end_line (length lines + suc (length tail)) ++ 10 ∷ a.rest))
+  one_more m tail a = a.split ∙ append_assoc (line_of m) (10 ∷ lines_text tail) (end_line (length lines + suc (length tail)) ++ 10 ∷ a.rest)
 
-  pub read_next : (entry : Entry) (size : ℕ) → IsReadTo (Ended (NextLines events (length entries))) rest (Some entry) size → IsReadBehind events text (entries ++ entry ∷ []) (drop size rest)
-  read_next entry size read =
+  pub read_next : (added : Line) (size : ℕ) → IsReadTo (Ended (NextLines header (length lines))) rest (Some added) size → IsReadBehind header text (lines ++ added ∷ []) (drop size rest)
+  read_next added size read =
       let t = read.text_of in
-      let has = line_is entry t.line t.is_line.1 in
-      let longer : length (entries ++ entry ∷ []) ≡ length entries + 1 = length-append entries (entry ∷ []) in
-      let line_split : t.line ≡ line_of_entry entry = t.is_line.1.split in
+      let has = line_is header.format added t.line t.is_line.1 in
+      let longer : length (lines ++ added ∷ []) ≡ length lines + 1 = length-append lines (added ∷ []) in
+      let line_split : t.line ≡ line_of added = t.is_line.1.split in
       record {
-        have_lines = All-push HasLine entries entry r.have_lines has;
+        have_lines = All-push (HasLine header.format) lines added r.have_lines has;
         few = omega (arith, t.is_line.0, longer);
-        split = r.split ∙ ap (λ l. entries_text entries ++ l) (sym (take-append-drop size rest) ∙ ap (λ l. l ++ drop size rest) (t.split ∙ ap (λ l. l ++ 10 ∷ []) line_split))
-            ∙ sym (append_assoc (entries_text entries) (line_of_entry entry ++ 10 ∷ []) (drop size rest))
-            ∙ ap (λ l. l ++ drop size rest) (sym (entries_text-append entries (entry ∷ [])));
+        split = r.split ∙ ap (λ l. lines_text lines ++ l) (sym (take-append-drop size rest) ∙ ap (λ l. l ++ drop size rest) (t.split ∙ ap (λ l. l ++ 10 ∷ []) line_split))
+            ∙ sym (append_assoc (lines_text lines) (line_of added ++ 10 ∷ []) (drop size rest))
+            ∙ ap (λ l. l ++ drop size rest) (sym (lines_text-append lines (added ∷ [])));
         only = λ all a. (let behind = r.only all a in next_only all behind.0 behind.1 behind.2);
       }
     where
-      part : IsPart 10 (NextLines events (length entries))
-      part = next_part events (length entries) (bound_of events (length entries) most r.few)
+      part : IsPart 10 (NextLines header (length lines))
+      part = next_part header (length lines) (bound_of header.events (length lines) most r.few)
 
-      next_only : (all tail : List Entry) → all ≡ entries ++ tail → AreRest events (length entries) rest tail
-          → (more : List Entry) × (all ≡ (entries ++ entry ∷ []) ++ more) × AreRest events (length (entries ++ entry ∷ [])) (drop size rest) more
+      next_only : (all tail : List Line) → all ≡ lines ++ tail → AreRest header (length lines) rest tail
+          → (more : List Line) × (all ≡ (lines ++ added ∷ []) ++ more) × AreRest header (length (lines ++ added ∷ [])) (drop size rest) more
       next_only all [] e a =
-          let line : NextLines events (length entries) None (end_line (length entries + 0)) = ap (λ n. end_line n) (add-zero (length entries)) in
-          let s = read_first (NextLines events (length entries)) part rest (Some entry) size read None (end_line (length entries + 0)) a.rest line a.split in
+          let line : NextLines header (length lines) None (end_line (length lines + 0)) = ap (λ n. end_line n) (add-zero (length lines)) in
+          let s = read_first (NextLines header (length lines)) part rest (Some added) size read None (end_line (length lines + 0)) a.rest line a.split in
           let none : ⊥ = cc (s.0) in absurd none
       next_only all (m ∷ tail) e a =
-          let behind = entries_text tail ++ (end_line (length entries + suc (length tail)) ++ 10 ∷ a.rest) in
-          let s = read_first (NextLines events (length entries)) part rest (Some entry) size read (Some m) (line_of_entry m) behind (first_entry m tail a) (one_more m tail a) in
-          let same : entry ≡ m = cc (s.0) in
-          let longer : length (entries ++ entry ∷ []) ≡ length entries + 1 = length-append entries (entry ∷ []) in
-          let sum : length entries + suc (length tail) ≡ length (entries ++ entry ∷ []) + length tail = omega (arith, longer) in (
+          let behind = lines_text tail ++ (end_line (length lines + suc (length tail)) ++ 10 ∷ a.rest) in
+          let s = read_first (NextLines header (length lines)) part rest (Some added) size read (Some m) (line_of m) behind (first_entry m tail a) (one_more m tail a) in
+          let same : added ≡ m = cc (s.0) in
+          let longer : length (lines ++ added ∷ []) ≡ length lines + 1 = length-append lines (added ∷ []) in
+          let sum : length lines + suc (length tail) ≡ length (lines ++ added ∷ []) + length tail = omega (arith, longer) in (
             tail,
-            e ∙ ap (λ x. entries ++ x ∷ tail) (sym same) ∙ sym (append_assoc entries (entry ∷ []) tail),
+            e ∙ ap (λ x. lines ++ x ∷ tail) (sym same) ∙ sym (append_assoc lines (added ∷ []) tail),
             record {
-              have_lines = All-tail HasLine m tail a.have_lines;
+              have_lines = All-tail (HasLine header.format) m tail a.have_lines;
               few = omega (arith, a.few, longer);
               rest = a.rest;
-              split = s.1 ∙ ap (λ n. entries_text tail ++ (end_line n ++ 10 ∷ a.rest)) sum;
+              split = s.1 ∙ ap (λ n. lines_text tail ++ (end_line n ++ 10 ∷ a.rest)) sum;
             },
           )
 
-  read_end_text : (size : ℕ) → IsReadTo (Ended (NextLines events (length entries))) rest None size → rest ≡ end_line (0 + length entries) ++ 10 ∷ drop size rest
+  read_end_text : (size : ℕ) → IsReadTo (Ended (NextLines header (length lines))) rest None size → rest ≡ end_line (0 + length lines) ++ 10 ∷ drop size rest
   read_end_text size read =
       let t = read.text_of in
-      sym (take-append-drop size rest) ∙ ap (λ l. l ++ drop size rest) (t.split ∙ ap (λ l. l ++ 10 ∷ []) (t.is_line ∙ ap (λ n. end_line n) (sym (zero-add (length entries)))))
-      ∙ append_assoc (end_line (0 + length entries)) (10 ∷ []) (drop size rest)
+      sym (take-append-drop size rest) ∙ ap (λ l. l ++ drop size rest) (t.split ∙ ap (λ l. l ++ 10 ∷ []) (t.is_line ∙ ap (λ n. end_line n) (sym (zero-add (length lines)))))
+      ∙ append_assoc (end_line (0 + length lines)) (10 ∷ []) (drop size rest)
 
-  pub read_all : (size : ℕ) → IsReadTo (Ended (NextLines events (length entries))) rest None size → AreRest events 0 text entries
+  pub read_all : (size : ℕ) → IsReadTo (Ended (NextLines header (length lines))) rest None size → AreRest header 0 text lines
   read_all size read = record {
     have_lines = r.have_lines;
     few = omega (arith, r.few);
     rest = drop size rest;
-    split = r.split ∙ ap (λ l. entries_text entries ++ l) (read_end_text size read);
+    split = r.split ∙ ap (λ l. lines_text lines ++ l) (read_end_text size read);
   }
 
-  last_line : AreRest events (length entries) rest [] → NextLines events (length entries) None (end_line (length entries + 0))
-  last_line a = ap (λ n. end_line n) (add-zero (length entries))
+  last_line : AreRest header (length lines) rest [] → NextLines header (length lines) None (end_line (length lines + 0))
+  last_line a = ap (λ n. end_line n) (add-zero (length lines))
 
-  pub read_only : (size : ℕ) → IsReadTo (Ended (NextLines events (length entries))) rest None size → (all : List Entry) → AreRest events 0 text all → entries ≡ all
+  pub read_only : (size : ℕ) → IsReadTo (Ended (NextLines header (length lines))) rest None size → (all : List Line) → AreRest header 0 text all → lines ≡ all
   read_only size read all a = let behind = r.only all a in of_tail behind.0 behind.1 behind.2
     where
-      of_tail : (tail : List Entry) → all ≡ entries ++ tail → AreRest events (length entries) rest tail → entries ≡ all
-      of_tail [] e b = sym (e ∙ append-nil entries)
+      of_tail : (tail : List Line) → all ≡ lines ++ tail → AreRest header (length lines) rest tail → lines ≡ all
+      of_tail [] e b = sym (e ∙ append-nil lines)
       of_tail (m ∷ tail) e b =
-          let behind = entries_text tail ++ (end_line (length entries + suc (length tail)) ++ 10 ∷ b.rest) in
-          let part = next_part events (length entries) (bound_of events (length entries) most r.few) in
-          let s = read_first (NextLines events (length entries)) part rest None size read (Some m) (line_of_entry m) behind (first_entry m tail b) (one_more m tail b) in
+          let behind = lines_text tail ++ (end_line (length lines + suc (length tail)) ++ 10 ∷ b.rest) in
+          let part = next_part header (length lines) (bound_of header.events (length lines) most r.few) in
+          let s = read_first (NextLines header (length lines)) part rest None size read (Some m) (line_of m) behind (first_entry m tail b) (one_more m tail b) in
           let none : ⊥ = cc (s.0) in absurd none
 
-  pub read_no : (place : ℕ) → IsStuck (Ended (NextLines events (length entries))) rest place → (all : List Entry) → AreRest events 0 text all → ⊥
+  pub read_no : (place : ℕ) → IsStuck (Ended (NextLines header (length lines))) rest place → (all : List Line) → AreRest header 0 text all → ⊥
   read_no place stuck all a = let behind = r.only all a in of_tail behind.0 behind.2
     where
-      part : IsPart 10 (NextLines events (length entries))
-      part = next_part events (length entries) (bound_of events (length entries) most r.few)
+      part : IsPart 10 (NextLines header (length lines))
+      part = next_part header (length lines) (bound_of header.events (length lines) most r.few)
 
-      of_tail : (tail : List Entry) → AreRest events (length entries) rest tail → ⊥
-      of_tail [] b = stuck_first (NextLines events (length entries)) part rest place stuck None (end_line (length entries + 0)) b.rest (last_line b) b.split
+      of_tail : (tail : List Line) → AreRest header (length lines) rest tail → ⊥
+      of_tail [] b = stuck_first (NextLines header (length lines)) part rest place stuck None (end_line (length lines + 0)) b.rest (last_line b) b.split
       of_tail (m ∷ tail) b =
-          let behind = entries_text tail ++ (end_line (length entries + suc (length tail)) ++ 10 ∷ b.rest) in
-          stuck_first (NextLines events (length entries)) part rest place stuck (Some m) (line_of_entry m) behind (first_entry m tail b) (one_more m tail b)
+          let behind = lines_text tail ++ (end_line (length lines + suc (length tail)) ++ 10 ∷ b.rest) in
+          stuck_first (NextLines header (length lines)) part rest place stuck (Some m) (line_of m) behind (first_entry m tail b) (one_more m tail b)
 
-  pub read_fault : (place line column : ℕ) → IsStuck (Ended (NextLines events (length entries))) rest place → line ≡ length entries + 2 → column ≡ place + 1 → IsEntriesFault events text line column
+  pub read_fault : (place line column : ℕ) → IsStuck (Ended (NextLines header (length lines))) rest place → line ≡ length lines + 2 → column ≡ place + 1 → IsLinesFault header text line column
   read_fault place line column stuck e f =
-      let W = NextLines events (length entries) in
-      let part = next_part events (length entries) (bound_of events (length entries) most r.few) in
+      let W = NextLines header (length lines) in
+      let part = next_part header (length lines) (bound_of header.events (length lines) most r.few) in
       let size : length (take place rest) ≡ place = length-take-le place rest stuck.within in
       record {
-        entries = entries;
+        lines = lines;
         front = take place rest;
         back = drop place rest;
         have_lines = r.have_lines;
         few = r.few;
-        split = r.split ∙ ap (λ l. entries_text entries ++ l) (sym (take-append-drop place rest));
+        split = r.split ∙ ap (λ l. lines_text lines ++ l) (sym (take-append-drop place rest));
         open_line = absent_line W part (take place rest) stuck.absent;
         reaches = reaches_line W part (take place rest) (drop place rest) stuck.reaches;
         line_of = e;
@@ -164,41 +164,41 @@ module _ (bytes : List ℕ) (header : Header) (size : ℕ) (read : IsReadTo (End
       sym (take-append-drop size bytes) ∙ ap (λ l. l ++ drop size bytes) (t.split ∙ ap (λ l. l ++ 10 ∷ []) t.is_line.split)
       ∙ append_assoc (header_line header) (10 ∷ []) (drop size bytes)
 
-  behind_header : (entries : List Entry) (more : List ℕ) → drop size bytes ≡ entries_text entries ++ more → bytes ≡ trace_text (header_line header ∷ map line_of_entry entries) ++ more
-  behind_header entries more e =
-      header_split ∙ ap (λ l. header_line header ++ 10 ∷ l) e ∙ sym (append_assoc (header_line header) (10 ∷ entries_text entries) more)
+  behind_header : (lines : List Line) (more : List ℕ) → drop size bytes ≡ lines_text lines ++ more → bytes ≡ trace_text (header_line header ∷ map line_of lines) ++ more
+  behind_header lines more e =
+      header_split ∙ ap (λ l. header_line header ++ 10 ∷ l) e ∙ sym (append_assoc (header_line header) (10 ∷ lines_text lines) more)
 
-  pub history_read : (entries : List Entry) → AreRest header.events 0 (drop size bytes) entries → IsHistory bytes header entries
-  history_read entries a = record {
+  pub history_read : (lines : List Line) → AreRest header 0 (drop size bytes) lines → IsHistory bytes header lines
+  history_read lines a = record {
     has_header_line = header_has;
     have_lines = a.have_lines;
     few = omega (arith, a.few);
     rest = a.rest;
-    split = behind_header entries (end_line (length entries) ++ 10 ∷ a.rest) (a.split ∙ ap (λ n. entries_text entries ++ (end_line n ++ 10 ∷ a.rest)) (zero-add (length entries)));
+    split = behind_header lines (end_line (length lines) ++ 10 ∷ a.rest) (a.split ∙ ap (λ n. lines_text lines ++ (end_line n ++ 10 ∷ a.rest)) (zero-add (length lines)));
   }
 
-  pub history_only : (other : Header) (entries : List Entry) → IsHistory bytes other entries → (header ≡ other) × AreRest header.events 0 (drop size bytes) entries
-  history_only other entries h =
-      let more = end_line (length entries) ++ 10 ∷ h.rest in
-      let whole : bytes ≡ header_line other ++ 10 ∷ (entries_text entries ++ more) = h.split ∙ append_assoc (header_line other) (10 ∷ entries_text entries) more in
-      let s = read_first HeaderLines header_part bytes header size read other (header_line other) (entries_text entries ++ more) h.has_header_line whole in (
+  pub history_only : (other : Header) (lines : List Line) → IsHistory bytes other lines → (header ≡ other) × AreRest header 0 (drop size bytes) lines
+  history_only other lines h =
+      let more = end_line (length lines) ++ 10 ∷ h.rest in
+      let whole : bytes ≡ header_line other ++ 10 ∷ (lines_text lines ++ more) = h.split ∙ append_assoc (header_line other) (10 ∷ lines_text lines) more in
+      let s = read_first HeaderLines header_part bytes header size read other (header_line other) (lines_text lines ++ more) h.has_header_line whole in (
         s.0,
         record {
-          have_lines = h.have_lines;
+          have_lines = subst (λ (x : Header). All (HasLine x.format) lines) (sym s.0) h.have_lines;
           few = omega (arith, h.few, ap (λ x. x.events) s.0);
           rest = h.rest;
-          split = s.1 ∙ ap (λ n. entries_text entries ++ (end_line n ++ 10 ∷ h.rest)) (sym (zero-add (length entries)));
+          split = s.1 ∙ ap (λ n. lines_text lines ++ (end_line n ++ 10 ∷ h.rest)) (sym (zero-add (length lines)));
         },
       )
 
-  pub history_fault : (line column : ℕ) → IsEntriesFault header.events (drop size bytes) line column → IsHistoryFault bytes line column
+  pub history_fault : (line column : ℕ) → IsLinesFault header (drop size bytes) line column → IsHistoryFault bytes line column
   history_fault line column f =
-      let count = length-map f.entries line_of_entry in record {
-        above = Some (header, f.entries);
+      let count = length-map f.lines line_of in record {
+        above = Some (header, f.lines);
         front = f.front;
         back = f.back;
         are_above = (header_has, f.have_lines, f.few);
-        split = behind_header f.entries (f.front ++ f.back) f.split;
+        split = behind_header f.lines (f.front ++ f.back) f.split;
         open_line = f.open_line;
         reaches = f.reaches;
         line_of = omega (arith, f.line_of, count);
@@ -210,23 +210,23 @@ module _ (bytes : List ℕ) (header : Header) (size : ℕ) (read : IsReadTo (End
     pub result_ok : (r : Result Verdict TextFault) → IfOk r (λ verdict. IsVerdictBehind header text verdict) → IfOk r (λ verdict. IsJudged bytes verdict)
     result_ok (Ok verdict) h = record {
       header = header;
-      entries = h.entries;
-      is_history = history_read h.entries (subst (λ t. AreEntries header.events t h.entries) behind h.are_entries);
+      lines = h.lines;
+      is_history = history_read h.lines (subst (λ t. AreLines header t h.lines) behind h.are_lines);
       is_verdict = h.is_verdict;
     }
     result_ok (Err fault) h = h
 
-    pub result_only : (r : Result Verdict TextFault) → ((entries : List Entry) → AreEntries header.events text entries → IsOrNoMemory (IsVerdict (limits_of header) header.events entries) r)
-        → (other : Header) (entries : List Entry) → IsHistory bytes other entries → IsOrNoMemory (IsVerdict (limits_of other) other.events entries) r
-    result_only r h other entries history =
-        let o = history_only other entries history in
-        subst (λ (x : Header). IsOrNoMemory (IsVerdict (limits_of x) x.events entries) r) o.0 (h entries (subst (λ t. AreEntries header.events t entries) (sym behind) o.1))
+    pub result_only : (r : Result Verdict TextFault) → ((lines : List Line) → AreLines header text lines → IsOrNoMemory (IsVerdict (limits_of header) header.events lines) r)
+        → (other : Header) (lines : List Line) → IsHistory bytes other lines → IsOrNoMemory (IsVerdict (limits_of other) other.events lines) r
+    result_only r h other lines history =
+        let o = history_only other lines history in
+        subst (λ (x : Header). IsOrNoMemory (IsVerdict (limits_of x) x.events lines) r) o.0 (h lines (subst (λ t. AreLines header t lines) (sym behind) o.1))
 
-    place_in : (fault : TextFault) → IsPlace (IsEntriesFault header.events text) fault → IsPlace (IsHistoryFault bytes) fault
+    place_in : (fault : TextFault) → IsPlace (IsLinesFault header text) fault → IsPlace (IsHistoryFault bytes) fault
     place_in NoMemory h = tt
-    place_in (At line column) h = history_fault line column (subst (λ t. IsEntriesFault header.events t line column) behind h)
+    place_in (At line column) h = history_fault line column (subst (λ t. IsLinesFault header t line column) behind h)
 
-    pub result_err : (r : Result Verdict TextFault) → IfErr r (λ fault. IsPlace (IsEntriesFault header.events text) fault) → IfErr r (λ fault. IsPlace (IsHistoryFault bytes) fault)
+    pub result_err : (r : Result Verdict TextFault) → IfErr r (λ fault. IsPlace (IsLinesFault header text) fault) → IfErr r (λ fault. IsPlace (IsHistoryFault bytes) fault)
     result_err (Ok verdict) h = h
     result_err (Err fault) h = place_in fault h
 
@@ -246,64 +246,76 @@ header_fault bytes place column stuck e =
       column_of = omega (arith, e, size);
     }
 
-pub header_no : (bytes : List ℕ) (place : ℕ) → IsStuck (Ended HeaderLines) bytes place → (header : Header) (entries : List Entry) → IsHistory bytes header entries → ⊥
-header_no bytes place stuck header entries h =
-    let more = end_line (length entries) ++ 10 ∷ h.rest in
-    stuck_first HeaderLines header_part bytes place stuck header (header_line header) (entries_text entries ++ more) h.has_header_line
-    (h.split ∙ append_assoc (header_line header) (10 ∷ entries_text entries) more)
+pub header_no : (bytes : List ℕ) (place : ℕ) → IsStuck (Ended HeaderLines) bytes place → (header : Header) (lines : List Line) → IsHistory bytes header lines → ⊥
+header_no bytes place stuck header lines h =
+    let more = end_line (length lines) ++ 10 ∷ h.rest in
+    stuck_first HeaderLines header_part bytes place stuck header (header_line header) (lines_text lines ++ more) h.has_header_line
+    (h.split ∙ append_assoc (header_line header) (10 ∷ lines_text lines) more)
 
 -- what is called legal keeps the laws
-pub legal_keeps : (limits : Limits) (capacity : ℕ) (entries : List Entry) (r : Result Verdict TextFault) → IsOrNoMemory (IsVerdict limits capacity entries) r → IfLegal r (KeepsLaws limits entries)
-legal_keeps limits capacity entries (Ok (Legal len)) v = keeps_laws limits capacity entries v.0
-legal_keeps limits capacity entries (Ok (NotLegal position outcome)) v = tt
-legal_keeps limits capacity entries (Err fault) v = tt
+pub legal_keeps : (limits : Limits) (capacity : ℕ) (lines : List Line) (r : Result Verdict TextFault) → IsOrNoMemory (IsVerdict limits capacity lines) r → IfLegal r (KeepsLaws limits (entries_of lines))
+legal_keeps limits capacity lines (Ok (Legal len)) v = keeps_laws limits capacity (entries_of lines) v.0
+legal_keeps limits capacity lines (Ok (NotLegal position outcome)) v = tt
+legal_keeps limits capacity lines (Ok (WrongMoment position now)) v = tt
+legal_keeps limits capacity lines (Err fault) v = tt
 
 -- ---- read and judged
 
-pub record IsCheckedTo (header : Header) (text : List ℕ) (book : Recording) (verdict : Verdict) (len : ℕ) (rest : List ℕ) : Type 0 where
-  pub entries : List Entry
-  pub read : IsReadBehind header.events text entries rest
-  pub counts : len ≡ length entries
-  pub judged : IsJudgedTo book entries verdict
+pub record IsCheckedTo (header : Header) (text : List ℕ) (book : Recording) (now : ℕ) (verdict : Verdict) (len : ℕ) (rest : List ℕ) : Type 0 where
+  pub lines : List Line
+  pub read : IsReadBehind header text lines rest
+  pub counts : len ≡ length lines
+  pub judged : IsJudgedTo book lines now verdict
   pub limits : book.limits ≡ limits_of header
   pub capacity : book.capacity ≡ header.events
 
-pub told_len : (limits : Limits) (capacity : ℕ) (entries : List Entry) (verdict : Verdict) → IsVerdict limits capacity entries verdict → len_told verdict ≤ length entries
-told_len limits capacity entries (Legal len) v = omega (arith, v.1)
-told_len limits capacity entries (NotLegal position outcome) v = omega arith
+pub checked_first : (header : Header) (text : List ℕ) (book : Recording) → book.limits ≡ limits_of header → book.capacity ≡ header.events → book.history ≡ [] → IsCheckedTo header text book 0 (Legal 0) 0 text
+checked_first header text book limits capacity empty = record {
+  lines = [];
+  read = record { have_lines = All-nil (HasLine header.format); few = omega arith; split = refl; only = λ all a. (all, refl, a) };
+  counts = refl;
+  judged = record { written = (empty, refl); is_verdict = (tt, tt, refl) };
+  limits = limits;
+  capacity = capacity;
+}
 
-module _ (header : Header) (text : List ℕ) (book : Recording) (verdict : Verdict) (len : ℕ) (rest : List ℕ) (c : IsCheckedTo header text book verdict len rest) (most : header.events ≤ 131072) where
+pub told_len : (limits : Limits) (capacity : ℕ) (lines : List Line) (verdict : Verdict) → IsVerdict limits capacity lines verdict → len_told verdict ≤ length lines
+told_len limits capacity lines (Legal len) v = omega (arith, v.2)
+told_len limits capacity lines (NotLegal position outcome) v = omega arith
+told_len limits capacity lines (WrongMoment position now) v = omega arith
+
+module _ (header : Header) (text : List ℕ) (book : Recording) (now : ℕ) (verdict : Verdict) (len : ℕ) (rest : List ℕ) (c : IsCheckedTo header text book now verdict len rest) (most : header.events ≤ 131072) where
   pub checked_few : (len ≤ 131072) × (len_told verdict ≤ 131072) × (len ≤ header.events)
-  checked_few = (omega (arith, c.counts, c.read.few), omega (arith, c.read.few, told_len book.limits book.capacity c.entries verdict c.judged.is_verdict), omega (arith, c.counts, c.read.few))
+  checked_few = (omega (arith, c.counts, c.read.few), omega (arith, c.read.few, told_len book.limits book.capacity c.lines verdict c.judged.is_verdict), omega (arith, c.counts, c.read.few))
 
-  pub checked_next : (new : Recording) (next : Verdict) (entry : Entry) (size : ℕ) → IsNext header.events len rest entry (Another size)
-      → IsSameMachine book new → ((entries : List Entry) → IsJudgedTo book entries verdict → IsJudgedTo new (entries ++ entry ∷ []) next) → IsCheckedTo header text new next (len + 1) (drop size rest)
-  checked_next new next entry size is same judged = record {
-    entries = c.entries ++ entry ∷ [];
-    read = read_next header.events text c.entries rest c.read most entry size (subst (λ n. IsNext header.events n rest entry (Another size)) c.counts is);
-    counts = omega (arith, c.counts, length-append c.entries (entry ∷ []));
-    judged = judged c.entries c.judged;
+  pub checked_next : (new : Recording) (then : ℕ) (next : Verdict) (added : Line) (size : ℕ) → IsNext header len rest added (Another size)
+      → IsSameMachine book new → ((lines : List Line) → IsJudgedTo book lines now verdict → IsJudgedTo new (lines ++ added ∷ []) then next) → IsCheckedTo header text new then next (len + 1) (drop size rest)
+  checked_next new then next added size is same judged = record {
+    lines = c.lines ++ added ∷ [];
+    read = read_next header text c.lines rest c.read most added size (subst (λ n. IsNext header n rest added (Another size)) c.counts is);
+    counts = omega (arith, c.counts, length-append c.lines (added ∷ []));
+    judged = judged c.lines c.judged;
     limits = same.limits ∙ c.limits;
     capacity = same.capacity ∙ c.capacity;
   }
 
-  pub checked_verdict : IsVerdict (limits_of header) header.events c.entries verdict
-  checked_verdict = subst (λ n. IsVerdict (limits_of header) n c.entries verdict) c.capacity (subst (λ l. IsVerdict l book.capacity c.entries verdict) c.limits c.judged.is_verdict)
+  pub checked_verdict : IsVerdict (limits_of header) header.events c.lines verdict
+  checked_verdict = subst (λ n. IsVerdict (limits_of header) n c.lines verdict) c.capacity (subst (λ l. IsVerdict l book.capacity c.lines verdict) c.limits c.judged.is_verdict)
 
-  pub checked_all : (entry : Entry) → IsNext header.events len rest entry End → IsVerdictBehind header text verdict
-  checked_all entry is =
-      let end = subst (λ n. IsNext header.events n rest entry End) c.counts is in
-      record { entries = c.entries; are_entries = read_all header.events text c.entries rest c.read most end.0 end.1; is_verdict = checked_verdict }
+  pub checked_all : (added : Line) → IsNext header len rest added End → IsVerdictBehind header text verdict
+  checked_all added is =
+      let end = subst (λ n. IsNext header n rest added End) c.counts is in
+      record { lines = c.lines; are_lines = read_all header text c.lines rest c.read most end.0 end.1; is_verdict = checked_verdict }
 
-  pub checked_only : (entry : Entry) → IsNext header.events len rest entry End → (all : List Entry) → AreEntries header.events text all → IsVerdict (limits_of header) header.events all verdict
-  checked_only entry is all a =
-      let end = subst (λ n. IsNext header.events n rest entry End) c.counts is in
-      subst (λ es. IsVerdict (limits_of header) header.events es verdict) (read_only header.events text c.entries rest c.read most end.0 end.1 all a) checked_verdict
+  pub checked_only : (added : Line) → IsNext header len rest added End → (all : List Line) → AreLines header text all → IsVerdict (limits_of header) header.events all verdict
+  checked_only added is all a =
+      let end = subst (λ n. IsNext header n rest added End) c.counts is in
+      subst (λ es. IsVerdict (limits_of header) header.events es verdict) (read_only header text c.lines rest c.read most end.0 end.1 all a) checked_verdict
 
-  pub checked_no : (entry : Entry) (place : ℕ) → IsNext header.events len rest entry (Fault place) → (all : List Entry) → AreEntries header.events text all → ⊥
-  checked_no entry place is = read_no header.events text c.entries rest c.read most place (subst (λ n. IsNext header.events n rest entry (Fault place)) c.counts is)
+  pub checked_no : (added : Line) (place : ℕ) → IsNext header len rest added (Fault place) → (all : List Line) → AreLines header text all → ⊥
+  checked_no added place is = read_no header text c.lines rest c.read most place (subst (λ n. IsNext header n rest added (Fault place)) c.counts is)
 
-  pub checked_fault : (entry : Entry) (place : ℕ) → IsNext header.events len rest entry (Fault place) → IsEntriesFault header.events text (len + 1 + 1) (place + 1)
-  checked_fault entry place is =
-      read_fault header.events text c.entries rest c.read most place (len + 1 + 1) (place + 1) (subst (λ n. IsNext header.events n rest entry (Fault place)) c.counts is)
+  pub checked_fault : (added : Line) (place : ℕ) → IsNext header len rest added (Fault place) → IsLinesFault header text (len + 1 + 1) (place + 1)
+  checked_fault added place is =
+      read_fault header text c.lines rest c.read most place (len + 1 + 1) (place + 1) (subst (λ n. IsNext header n rest added (Fault place)) c.counts is)
       (omega (arith, c.counts)) refl

@@ -4,6 +4,7 @@ pub mod Faults
 pub mod Histories
 pub mod Json
 pub mod Judging
+pub mod Moments
 pub mod Playing
 pub mod Readings
 pub mod Summaries

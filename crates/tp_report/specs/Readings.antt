@@ -1,12 +1,19 @@
 -- What readers of histories find at the front of a text.
 use Rattle.std.specs.Prelude.{◌≡◌, ℕ, ◌≤◌, List, [], ◌∷◌, ◌++◌, Option, None, Some, decimal, codes, Result, Ok, Err}
 use Rattle.line_grammar.specs.Language.{IsReadTo, IsStuck}
-use Rattle.line_grammar.specs.Parts.{Pairs}
-use Rattle.line_grammar.specs.Words.{Word}
+use Rattle.line_grammar.specs.Numbers.{Numbers}
+use Rattle.line_grammar.specs.Parts.{Led, Pairs}
+use Rattle.line_grammar.specs.Words.{Either, Word}
 use Rattle.tp_base.specs.declared.answers.Entry.{Entry}
-use Rattle.tp_report.specs.Histories.{NextLines, end_line}
+use Rattle.tp_lines.specs.Answers.{EntryLines}
+use Rattle.tp_report.specs.Histories.{NextLines, end_line, mark_of}
+use Rattle.tp_report.specs.declared.headers.Format.{Format}
+use Rattle.tp_report.specs.declared.headers.Format.TheVariants.{One, Two}
+use Rattle.tp_report.specs.declared.headers.Header.{Header}
+use Rattle.tp_report.specs.declared.lines.Line.{Line}
 use Rattle.tp_report.specs.declared.lines.Next.{Next}
 use Rattle.tp_report.specs.declared.lines.Next.TheVariants.{Another, End, Fault}
+use Rattle.tp_report.specs.declared.moments.Stamp.{Stamp}
 
 -- a word, a space and a number
 pub record IsKeyed (word : List ℕ) (least most value : ℕ) (text : List ℕ) : Type 0 where
@@ -17,9 +24,23 @@ pub record IsKeyed (word : List ℕ) (least most value : ℕ) (text : List ℕ) 
 abbrev pub Keyed : List ℕ → ℕ → ℕ → ℕ → List ℕ → Type 0
 Keyed word least most value text = IsKeyed word least most value text
 
--- the second and the third number of a header
-abbrev pub Sizes : (ℕ × ℕ) → List ℕ → Type 0
-Sizes = Pairs (Keyed (codes " workers") 1 64) (λ workers. Keyed (codes " events") 16 131072)
+-- what the first line of a history begins with
+abbrev pub Marks : Format → List ℕ → Type 0
+Marks = Either (Word One (mark_of One)) (Word Two (mark_of Two))
+
+-- the numbers behind it: of clients, of workers, of events, and of objects, which one format doesn't tell
+abbrev pub Objects : Format → ℕ → List ℕ → Type 0
+Objects One = Word 4095 []
+Objects Two = Keyed (codes " objects") 1 65535
+
+abbrev pub Rooms : Format → (ℕ × ℕ) → List ℕ → Type 0
+Rooms format = Pairs (Keyed (codes " events") 16 131072) (λ events. Objects format)
+
+abbrev pub Sizes : Format → (ℕ × (ℕ × ℕ)) → List ℕ → Type 0
+Sizes format = Pairs (Keyed (codes " workers") 1 64) (λ workers. Rooms format)
+
+abbrev pub Counts : Format → (ℕ × (ℕ × (ℕ × ℕ))) → List ℕ → Type 0
+Counts format = Pairs (Keyed (codes " clients") 0 16) (λ clients. Sizes format)
 
 -- a text of the language, and a line feed
 pub record IsEnded {V : Type 0} (W : V → List ℕ → Type 0) (value : V) (text : List ℕ) : Type 0 where
@@ -30,8 +51,21 @@ pub record IsEnded {V : Type 0} (W : V → List ℕ → Type 0) (value : V) (tex
 abbrev pub Ended : {V : Type 0} → (V → List ℕ → Type 0) → V → List ℕ → Type 0
 Ended W value text = IsEnded W value text
 
+-- the number of a moment
+abbrev pub Moments : ℕ → List ℕ → Type 0
+Moments = Numbers 0 9223372036854775807
+
+-- a moment, a space, and the line of an entry with its line feed
+abbrev pub MomentLines : (ℕ × Entry) → List ℕ → Type 0
+MomentLines = Pairs Moments (λ moment. Led 32 (Ended EntryLines))
+
+-- the text is that of the moment, and a space
+pub record IsStamp (stamp : Stamp) : Type 0 where
+  pub in_range : stamp.moment ≤ 9223372036854775807
+  pub text_is : stamp.text.now ≡ decimal stamp.moment ++ 32 ∷ []
+
 -- the end line and its line feed, where there is no further entry
-abbrev pub Ends : ℕ → Option Entry → List ℕ → Type 0
+abbrev pub Ends : ℕ → Option Line → List ℕ → Type 0
 Ends len = Word None (end_line len ++ 10 ∷ [])
 
 -- the text begins with that line, or goes along with it up to a place
@@ -44,8 +78,8 @@ abbrev pub read_as : {V : Type 0} → V → Result ℕ ℕ → Result (V × ℕ)
 read_as value (Ok size) = Ok (value, size)
 read_as value (Err place) = Err place
 
--- what the line behind the header and `len` entries is, where the entry was written down if it is one
-abbrev pub IsNext : ℕ → ℕ → List ℕ → Entry → Next → Type 0
-IsNext events len text entry (Another size) = IsReadTo (Ended (NextLines events len)) text (Some entry) size
-IsNext events len text entry End = (size : ℕ) × IsReadTo (Ended (NextLines events len)) text None size
-IsNext events len text entry (Fault place) = IsStuck (Ended (NextLines events len)) text place
+-- what the line behind the header and `len` entries is, where the line of one more was written down if it is one
+abbrev pub IsNext : Header → ℕ → List ℕ → Line → Next → Type 0
+IsNext header len text line (Another size) = IsReadTo (Ended (NextLines header len)) text (Some line) size
+IsNext header len text line End = (size : ℕ) × IsReadTo (Ended (NextLines header len)) text None size
+IsNext header len text line (Fault place) = IsStuck (Ended (NextLines header len)) text place

@@ -1,9 +1,10 @@
 //! Reports on histories of the thread pool machine, from texts.
 //!
 //! `trace` plays the calls of a text, a line each, and answers the line of what each comes to. `check`
-//! reads a history and says whether each answer in it is the machine's; `print_verdict` appends the
-//! text of that. A history as a text is its first line, which says how large the machine was; its
-//! entries, a line each; and the end line, with their number.
+//! reads a history and says whether each answer in it is the machine's, and each moment right;
+//! `print_verdict` appends the text of that. A history as a text is its first line, which says how large
+//! the machine was; its entries, a line each, in format 2 with the time of the clock before each; and the
+//! end line, with their number.
 //!
 //! Both take a text line by line: what is read is played at once on a machine that keeps its history, a
 //! `recorded::Recorded` of the caller's choice, and no list of the lines is kept. Both answer the place
@@ -32,6 +33,7 @@ mod history;
 mod json;
 mod left;
 mod lines;
+mod moments;
 mod playing;
 mod summary;
 mod verdict;

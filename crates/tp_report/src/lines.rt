@@ -2,13 +2,15 @@
 
 ghost use Rattle.std.specs.Prelude.{◌≡◌, ◌≤◌, ◌++◌, ◌∷◌, [], IfOk, string_bytes};
 ghost use Rattle.line_grammar.specs.Language.{IsRead};
-ghost use Rattle.tp_base.specs.declared.answers.Entry.{Entry as Line};
 ghost use Rattle.tp_lines.specs.Answers.{EntryLines};
 ghost use Rattle.tp_lines.specs.Calls.{CallLines};
-ghost use Rattle.tp_report.specs.Histories.{end_line, HeaderLines};
-ghost use Rattle.tp_report.specs.Readings.{Ended, IsEndRead, IsNext, read_as};
+ghost use Rattle.tp_report.specs.declared.headers.Format.TheVariants.{Two};
+ghost use Rattle.tp_report.specs.declared.lines.Line.{Line as Written};
+ghost use Rattle.tp_report.specs.Histories.{end_line, HeaderLines, Lines};
+ghost use Rattle.tp_report.specs.Readings.{Ended, IsEndRead, IsNext, IsStamp, read_as};
 
-use crate::headers::{Header, read_header};
+use crate::headers::{Format, Header, read_header};
+use crate::moments::{Stamp, read_moment};
 use frequent_lines::{read_good_call, read_good_entry, read_rare_call, read_rare_entry};
 use line_grammar::words::{behind, read_bytes};
 use std::alloc::{AllocError, Global};
@@ -17,6 +19,13 @@ use tp_base::calls::Call;
 use tp_base::ids::Who;
 use tp_lines::calls::read_call_line;
 use tp_lines::entries::read_entry;
+
+/// The line of an entry: the entry, and in format 2 the time of the clock behind it.
+#[derive(Clone, Copy)]
+pub struct Line {
+    pub moment: Option<u64>,
+    pub entry: Entry,
+}
 
 /// What a line behind the header is.
 #[derive(Clone, Copy)]
@@ -111,12 +120,53 @@ fn read_any_entry(text: &[u8]) -> Result<(Entry, usize), usize>
     ended!(text, read_entry(text))
 }
 
+// Reads a line of a history in this format, writes it down, and tells its size.
+#[inline(always)]
+fn read_line<'a>(
+    format: Format,
+    text: &'a [u8],
+    stamp: &mut Stamp<'a>,
+    line: &mut Line,
+) -> Result<usize, usize>
+    requires { IsStamp stamp.old }
+    ensures stamp { IsStamp stamp.new }
+    ensures read { IsRead (Ended (Lines format)) text.now (read_as line.new result) }
+{
+    match format {
+        Format::One => {
+            line.moment = None;
+            read_entry_line(text, &mut line.entry)
+        }
+        Format::Two => read_moment_line(text, stamp, line),
+    }
+}
+
+// Reads the line of an entry with its moment before it.
+#[inline(always)]
+fn read_moment_line<'a>(
+    text: &'a [u8],
+    stamp: &mut Stamp<'a>,
+    line: &mut Line,
+) -> Result<usize, usize>
+    requires { IsStamp stamp.old }
+    ensures stamp { IsStamp stamp.new }
+    ensures read { IsRead (Ended (Lines Two)) text.now (read_as line.new result) }
+{
+    let rest = read_moment(text, stamp)?;
+    line.moment = Some(stamp.moment);
+    let size = stamp.text.len();
+    match read_entry_line(rest, &mut line.entry) {
+        Ok(more) => Ok(size + more),
+        Err(place) => Err(size + place),
+    }
+}
+
 // Where the text stops going along with the end line behind `len` entries, if it doesn't begin with it.
 fn read_end_line(alloc: Global, text: &[u8], len: u32) -> Result<Option<usize>, AllocError>
     ensures { IfOk result (IsEndRead len text.now) }
 {
     let line = end_text(alloc, len)?;
-    let none: Option<Entry> = None;
+    let none: Option<Line> = None;
     match read_bytes(none, line.as_bytes(), text) {
         Ok(_) => Ok(None),
         Err(place) => Ok(Some(place)),
@@ -130,22 +180,26 @@ fn end_text(alloc: Global, len: u32) -> Result<String, AllocError>
     format!(in alloc; "end {len}\n")
 }
 
-/// Reads the line behind the header of a history for `events` entries, and `len` of these. Where it is one more
-/// entry, that is written down.
-pub fn read_next_line(
+/// Reads the line behind the header of a history and `len` entries. Where it is that of one more entry, it is written
+/// down.
+#[inline(always)]
+pub fn read_next_line<'a>(
     alloc: Global,
-    text: &[u8],
-    events: u32,
+    text: &'a [u8],
+    header: &Header,
     len: u32,
-    entry: &mut Entry,
+    stamp: &mut Stamp<'a>,
+    line: &mut Line,
 ) -> Result<Next, AllocError>
-    requires { len ≤ events }
-    ensures { IfOk result (IsNext events len text.now entry.new) }
+    requires few { len ≤ header.now.events }
+    requires stamp { IsStamp stamp.old }
+    ensures stamp { IsStamp stamp.new }
+    ensures next { IfOk result (IsNext header.now len text.now line.new) }
 {
-    if len == events {
-        return read_last_line(alloc, text, len);
+    if len == header.events {
+        return read_last_line(alloc, text, header, len);
     }
-    match read_entry_line(text, entry) {
+    match read_line(header.format, text, stamp, line) {
         Ok(size) => Ok(Next::Another { size }),
         Err(place) => match read_end_line(alloc, text, len)? {
             None => Ok(Next::End),
@@ -157,8 +211,9 @@ pub fn read_next_line(
 }
 
 // Reads the line behind as many entries as the history has room for.
-fn read_last_line(alloc: Global, text: &[u8], len: u32) -> Result<Next, AllocError>
-    ensures { (entry : Line) → IfOk result (IsNext len len text.now entry) }
+fn read_last_line(alloc: Global, text: &[u8], header: &Header, len: u32) -> Result<Next, AllocError>
+    requires { len ≡ header.now.events }
+    ensures { (line : Written) → IfOk result (IsNext header.now len text.now line) }
 {
     match read_end_line(alloc, text, len)? {
         None => Ok(Next::End),

@@ -1,57 +1,93 @@
 //! Verdicts on histories.
 
 ghost use Rattle.std.specs.Prelude.{◌≡◌, ◌↔◌, ◌<◌, ◌-◌, ◌^◌, ◌++◌, ◌∷◌, [], List, IfOk, IsTrue, OnErr, OnOk};
-ghost use Rattle.tp_base.specs.declared.answers.Entry.{Entry as Written};
 ghost use Rattle.tp_base.specs.Ranges.{IsCallInRange};
 ghost use Rattle.tp_report.specs.Judging.{IsJudgedTo, IsSameMachine, len_told};
-ghost use Rattle.tp_report.specs.Verdicts.{verdict_text};
+ghost use Rattle.tp_report.specs.Verdicts.{IsMoment, verdict_text};
+ghost use Rattle.tp_report.specs.declared.lines.Line.{Line as Written};
 ghost use Rattle.tp_report.specs.declared.verdict.Verdict.{Verdict};
 
+use crate::lines::Line;
+use crate::moments::clock_after;
 use recorded::Recorded;
 use std::alloc::{AllocError, Global};
-use tp_base::answers::{Answer, Entry, Outcome};
+use tp_base::answers::{Answer, Outcome};
 use tp_lines::print::print_outcome;
 
 /// What is said of a history.
 #[derive(Clone, Copy)]
 pub enum Verdict {
-    /// Each of its `len` entries has the machine's answer.
+    /// Each of its `len` entries has the machine's answer, and each moment that it tells is right.
     Legal { len: u32 },
     /// The entry at this position, counted from 1, is the first whose answer isn't the machine's. The
     /// machine's outcome there is this.
     NotLegal { position: u32, outcome: Outcome },
+    /// The entry at this position, counted from 1, is the first whose moment is wrong. Its answer is the
+    /// machine's, and its moment should be `now`.
+    WrongMoment { position: u32, now: u64 },
 }
 
-/// Makes the verdict on a history that on the history with one more entry. As long as the answers
-/// are the machine's, the book goes along with the history; behind a wrong one nothing more is played.
-/// `place` is where the machine's outcome is put, and says nothing else.
-pub fn judge<B: Recorded>(book: &mut B, verdict: &mut Verdict, entry: &Entry, place: &mut Outcome)
-    requires in_range { IsCallInRange entry.now.call }
+/// Makes the verdict on a history that on the history with one more line. As long as the answers
+/// are the machine's and the moments are right, the book goes along with the history, and `now` is the time of the
+/// clock behind it; behind a wrong line nothing more is played. `place` is where the machine's outcome is put, and says
+/// nothing else.
+pub fn judge<B: Recorded>(
+    book: &mut B,
+    now: &mut u64,
+    verdict: &mut Verdict,
+    line: &Line,
+    place: &mut Outcome,
+)
+    requires in_range { IsCallInRange line.now.entry.call }
     requires few { len_told verdict.old < 2 ^ 32 - 1 }
     ensures same { IsSameMachine (B.recording book.old) (B.recording book.new) }
-    ensures judged { (entries : List Written) → IsJudgedTo (B.recording book.old) entries verdict.old → IsJudgedTo (B.recording book.new) (entries ++ entry.now ∷ []) verdict.new }
+    ensures judged { (lines : List Written) → IsJudgedTo (B.recording book.old) lines now.old verdict.old → IsJudgedTo (B.recording book.new) (lines ++ line.now ∷ []) now.new verdict.new }
 {
     let Verdict::Legal { len } = *verdict else {
         return;
     };
-    *verdict = judge_next(book, len, entry, place);
+    *verdict = judge_next(book, now, len, line, place);
 }
 
-// The same, where the answers of the `len` entries before are the machine's.
-fn judge_next<B: Recorded>(book: &mut B, len: u32, entry: &Entry, place: &mut Outcome) -> Verdict
-    requires in_range { IsCallInRange entry.now.call }
+// The same, where the `len` lines before are right.
+fn judge_next<B: Recorded>(
+    book: &mut B,
+    now: &mut u64,
+    len: u32,
+    line: &Line,
+    place: &mut Outcome,
+) -> Verdict
+    requires in_range { IsCallInRange line.now.entry.call }
     requires few { len < 2 ^ 32 - 1 }
     ensures same { IsSameMachine (B.recording book.old) (B.recording book.new) }
-    ensures judged { (entries : List Written) → IsJudgedTo (B.recording book.old) entries (Verdict.Legal len) → IsJudgedTo (B.recording book.new) (entries ++ entry.now ∷ []) result }
+    ensures judged { (lines : List Written) → IsJudgedTo (B.recording book.old) lines now.old (Verdict.Legal len) → IsJudgedTo (B.recording book.new) (lines ++ line.now ∷ []) now.new result }
 {
+    let entry = &line.entry;
     book.step_into(entry.who, &entry.call, place);
-    if is_answer(place, &entry.answer) {
-        Verdict::Legal { len: len + 1 }
-    } else {
-        Verdict::NotLegal {
+    if !is_answer(place, &entry.answer) {
+        return Verdict::NotLegal {
             position: len + 1,
             outcome: *place,
+        };
+    }
+    *now = clock_after(*now, entry);
+    if is_moment(line.moment, *now) {
+        Verdict::Legal { len: len + 1 }
+    } else {
+        Verdict::WrongMoment {
+            position: len + 1,
+            now: *now,
         }
+    }
+}
+
+// Whether a line that tells this moment, if any, tells this time.
+fn is_moment(moment: Option<u64>, now: u64) -> bool
+    ensures { IsTrue result ↔ IsMoment moment now }
+{
+    match moment {
+        Some(moment) => moment == now,
+        None => true,
     }
 }
 
@@ -73,6 +109,7 @@ pub fn print_verdict(alloc: Global, verdict: &Verdict, out: &mut Vec<u8>) -> Res
     let text = match verdict {
         Verdict::Legal { len } => legal_text(alloc, *len)?,
         Verdict::NotLegal { position, outcome } => not_legal_text(alloc, *position, outcome)?,
+        Verdict::WrongMoment { position, now } => moment_text(alloc, *position, *now)?,
     };
     out.extend_from_slice(&text)?;
     Ok(())
@@ -93,4 +130,11 @@ fn not_legal_text(alloc: Global, position: u32, outcome: &Outcome) -> Result<Vec
     print_outcome(outcome, &mut text)?;
     text.push(b'\n')?;
     Ok(text)
+}
+
+fn moment_text(alloc: Global, position: u32, now: u64) -> Result<Vec<u8>, AllocError>
+    ensures { IfOk result (λ text. text.items ≡ verdict_text (Verdict.WrongMoment position now)) }
+{
+    let line = format!(in alloc; "not legal at {position}: moment {now}\n")?;
+    Vec::from_slice(alloc, line.as_bytes())
 }

@@ -11,12 +11,12 @@ use Rattle.tp_run.specs.declared.command.Command.TheVariants.{Trace, Check, Gen,
 use Rattle.tp_run.specs.declared.played.Layout.{Layout}
 use Rattle.tp_run.specs.declared.status.Ending.{Ending}
 use Rattle.tp_run.specs.declared.status.Ending.TheVariants.{Fine, NotLegal}
-use Rattle.tp_base.specs.declared.answers.Entry.{Entry}
 use Rattle.tp_run.specs.Played.{IsPlayed, limits_for, long_script}
 use Rattle.tp_report.specs.Histories.{IsHistory, IsHistoryFault}
 use Rattle.tp_report.specs.Traces.{IsMachineSize, IsTraceOf, output_of}
 use Rattle.tp_report.specs.Verdicts.{IsVerdict, limits_of, verdict_text}
 use Rattle.tp_report.specs.declared.headers.Header.{Header}
+use Rattle.tp_report.specs.declared.lines.Line.{Line as HistoryLine}
 use Rattle.tp_report.specs.declared.playing.MachineSize.{MachineSize}
 use Rattle.tp_report.specs.declared.verdict.Verdict.{Verdict}
 use Rattle.tp_report.specs.declared.verdict.Verdict.TheVariants as verdict
@@ -27,14 +27,15 @@ use Rattle.tp_script.specs.Scripts.{IsFaultIn, IsScript}
 abbrev pub ending_of : Verdict → Ending
 ending_of (verdict.Legal len) = Fine
 ending_of (verdict.NotLegal position outcome) = NotLegal
+ending_of (verdict.WrongMoment position now) = NotLegal
 
 -- the bytes are a history, this is the text of the machine's verdict on it, and its ending
 pub record IsChecked (bytes output : List ℕ) (ending : Ending) : Type 0 where
   pub header : Header
-  pub entries : List Entry
+  pub lines : List HistoryLine
   pub told : Verdict
-  pub is_history : IsHistory bytes header entries
-  pub is_verdict : IsVerdict (limits_of header) header.events entries told
+  pub is_history : IsHistory bytes header lines
+  pub is_verdict : IsVerdict (limits_of header) header.events lines told
   pub output_is : output ≡ verdict_text told
   pub ending_is : ending ≡ ending_of told
 
@@ -104,7 +105,7 @@ IsDetermined _ = Unit {0}
 abbrev pub IsInGrammar : Option Command → List ℕ → Type 0
 IsInGrammar None bytes = ⊥
 IsInGrammar (Some (Trace machine)) bytes = (calls : List (Who × Call)) × IsTraceOf bytes calls
-IsInGrammar (Some Check) bytes = (header : Header) × (entries : List Entry) × IsHistory bytes header entries
+IsInGrammar (Some Check) bytes = (header : Header) × (lines : List HistoryLine) × IsHistory bytes header lines
 IsInGrammar (Some (Gen number)) bytes = Unit {0}
 IsInGrammar (Some (Run threads seed machine json)) bytes = (script : List Line) × IsScript bytes script
 IsInGrammar (Some (Big number machine json)) bytes = Unit {0}

@@ -12,7 +12,7 @@ use tp_script::ScriptFault;
 pub enum Ending {
     /// Nothing is wrong with it.
     Fine,
-    /// It is a history in which an answer isn't the machine's.
+    /// It is a history in which an answer isn't the machine's, or a moment is wrong.
     NotLegal,
     /// It is a script for whose run the history had too little room.
     Exhausted,
@@ -28,7 +28,7 @@ impl From<&Verdict> for Ending {
     fn from(verdict: &Verdict) -> Self {
         match verdict {
             Verdict::Legal { .. } => Ending::Fine,
-            Verdict::NotLegal { .. } => Ending::NotLegal,
+            Verdict::NotLegal { .. } | Verdict::WrongMoment { .. } => Ending::NotLegal,
         }
     }
 }
@@ -51,7 +51,7 @@ pub enum Status {
     NoMemory,
     /// The source gave 16,777,217 bytes. Nothing was written.
     TooLong,
-    /// The input, read to its end, is a history that isn't legal. The output is whole.
+    /// The input, read to its end, is a history that isn't legal, or in which a moment is wrong. The output is whole.
     NotLegal,
     /// The history of the run had too little room: calls of a client or of a callback were cut short, a
     /// wait ended with `exhausted`, or a callback is left pending. The output is whole.

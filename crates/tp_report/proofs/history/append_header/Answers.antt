@@ -1,14 +1,15 @@
-use Rattle.std.proofs.Common.{◌≡◌, ℕ, List, [], ◌∷◌, ◌++◌, ap, sym, ◌∙◌, append_assoc}
+use Rattle.std.proofs.Common.{◌≡◌, ℕ, List, [], ◌∷◌, ◌++◌, ap, sym, ◌∙◌, append_assoc, append-nil}
 use Rattle.std.specs.Prelude.{codes, decimal}
 use Rattle.tp_report.proofs.history.append_header.Goals as goal
 
 line_is : (clients workers events : List ℕ)
     → codes "history 1 clients " ++ (clients ++ (codes " workers " ++ (workers ++ (codes " events " ++ (events ++ 10 ∷ [])))))
-    ≡ (codes "history 1 clients " ++ (clients ++ (codes " workers " ++ (workers ++ (codes " events " ++ events))))) ++ 10 ∷ []
+    ≡ (codes "history 1 clients " ++ (clients ++ (codes " workers " ++ (workers ++ (codes " events " ++ (events ++ [])))))) ++ 10 ∷ []
 line_is clients workers events =
     ap (λ t. codes "history 1 clients " ++ t)
-    (ap (λ t. clients ++ (codes " workers " ++ t)) (sym (append_assoc workers (codes " events " ++ events) (10 ∷ [])))
-    ∙ sym (append_assoc clients (codes " workers " ++ (workers ++ (codes " events " ++ events))) (10 ∷ [])))
+    (ap (λ t. clients ++ (codes " workers " ++ t))
+    (ap (λ t. workers ++ (codes " events " ++ (t ++ 10 ∷ []))) (sym (append-nil events)) ∙ sym (append_assoc workers (codes " events " ++ (events ++ [])) (10 ∷ [])))
+    ∙ sym (append_assoc clients (codes " workers " ++ (workers ++ (codes " events " ++ (events ++ [])))) (10 ∷ [])))
 
 pub returns-clause-ok : goal.returns-clause-ok
 returns-clause-ok c =

@@ -1,0 +1,28 @@
+-- Moments of a history: the time of the clock behind each entry, as the entries tell it.
+use Rattle.std.specs.Prelude.{ℕ, List, [], ◌∷◌, Option, None, Some, fold, unwrap_or}
+use Rattle.tp_base.specs.declared.answers.Answer.{Answer}
+use Rattle.tp_base.specs.declared.answers.Answer.TheVariants.{Advanced}
+use Rattle.tp_base.specs.declared.answers.Entry.{Entry}
+use Rattle.tp_base.specs.declared.calls.Call.{Call}
+use Rattle.tp_base.specs.declared.calls.Call.TheVariants.{Advance}
+
+-- the time that the answer of an advance tells
+abbrev pub clock_by : Call → Answer → Option ℕ
+clock_by (Advance ticks) (Advanced now first count) = Some now
+clock_by _ _ = None
+
+-- the time behind an entry; none but an advance that was made changes it
+abbrev pub moment_after : ℕ → Entry → ℕ
+moment_after now entry = unwrap_or (clock_by entry.call entry.answer) now
+
+abbrev pub moments_from : ℕ → List Entry → List ℕ
+moments_from now [] = []
+moments_from now (entry ∷ entries) = moment_after now entry ∷ moments_from (moment_after now entry) entries
+
+-- those of all entries; the clock of a new machine stands at 0
+abbrev pub moments : List Entry → List ℕ
+moments history = moments_from 0 history
+
+-- the one behind them all
+abbrev pub moment_of : List Entry → ℕ
+moment_of history = fold moment_after 0 history
